@@ -1,6 +1,6 @@
 #!/usr/bin/env bash
-# Runs every benchmark of this folder, one after another, and says of each what it measured and whether it met its
-# yardstick. Nothing else should run beside it. What ./dabplan or 'rt lib' proved of the crates is not proved again.
+# Runs every benchmark of this folder, one after another, and prints the measurement of each and whether it met its
+# yardstick. Nothing else should run at the same time. Crates that ./dabplan or 'rt lib' proved are not proved again.
 set -uo pipefail
 cd "$(dirname "${BASH_SOURCE[0]}")"
 passed=0 failed=0

@@ -1,6 +1,6 @@
 #!/usr/bin/env bash
 # `dabplan check` on a day of frames, 345.6 MB, against md5sum on the same file in the same run: the best of five runs
-# each, turn by turn. At most 3 times as long is wanted, and at most 4 MB resident.
+# each, alternating. Required: at most 3 times as long, and at most 4 MB resident.
 #   contact   the plan of a contact that is closed at noon
 #   full      64 sub-channels, 64 services and 64 packet components, for a tenth of a day
 . "$(dirname "$0")/common.sh"

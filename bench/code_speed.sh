@@ -1,7 +1,7 @@
 #!/usr/bin/env bash
 # Reading and writing the largest code file, of 4,096 instructions, 1,024 labels and 256 configurations whose
 # tables are full, against md5sum on as many bytes times 20, in the same run: the best of 20 runs each.
-# Wanted: `decode` and `encode` each take no longer than md5sum.
+# Required: `decode` and `encode` each take no longer than md5sum.
 . "$(dirname "$0")/common.sh"
 
 awk 'BEGIN {

@@ -1,4 +1,4 @@
-# What the benchmarks share. A script takes it in by `. "$(dirname "$0")/common.sh"` and continues in the top folder
+# Shared by the benchmarks. A script sources it with `. "$(dirname "$0")/common.sh"` and continues in the top folder
 # of the repository, with a folder of its own in $work.
 set -euo pipefail
 cd "$(dirname "${BASH_SOURCE[0]}")/.."
@@ -6,8 +6,8 @@ cd "$(dirname "${BASH_SOURCE[0]}")/.."
 work=$(mktemp -d)
 trap 'rm -rf "$work"' EXIT
 
-# copy_crate CRATE: copies a crate to $work/top. What was proved of it here is linked, and holds there as long as its text
-# and that of the crates below it are the same; what was not is proved there.
+# copy_crate CRATE: copies a crate to $work/top. Its existing proofs are linked, and are valid there as long as its text
+# and that of the crates below it are unchanged; the others are proved there.
 copy_crate() {
   local crate=$1 part
   mkdir -p "$work/top/crates/$crate/out"
@@ -20,7 +20,7 @@ copy_crate() {
   fi
 }
 
-# crates_of CRATE..: these crates and all that their lines in crates.txt name from there on, in its order.
+# crates_of CRATE..: these crates and all their dependencies in crates.txt, in its order.
 crates_of() {
   awk -F: -v wanted="$*" '
     !/^#/ && NF > 1 { below[$1] = $2; order[++lines] = $1 }
@@ -40,8 +40,8 @@ crates_of() {
 }
 
 # run_program NAME INPUT CRATE..: proves, builds and runs the program on standard input, over copies of these
-# crates and those below them, and with INPUT as its own standard input. The modules that it names are those of modules.sh. What it prints is
-# printed; what the proof says only if it fails.
+# crates and those below them, and with INPUT as its own standard input. The modules that it names are those of modules.sh. Its output is
+# printed; that of the proof only if it fails.
 run_program() {
   local name=$1 input=$2 crate module
   shift 2
@@ -63,8 +63,8 @@ run_program() {
   fi
 }
 
-# stream FILE [FOLDER]: makes a file of 1,000,000 FIBs: those of real_fic.fib of the folder, or where that is missing
-# those of the example configuration at the counts of a second, over and over
+# stream FILE [FOLDER]: makes a file of 1,000,000 FIBs: those of real_fic.fib of the folder, or if that is missing
+# those of the example configuration at the counts of a second, repeated
 stream() {
   local file=$1 samples=${2:-bench/samples} count
   if [ -r "$samples/real_fic.fib" ]; then
@@ -95,7 +95,7 @@ best() {
   echo "$least"
 }
 
-# best_of_both RUNS FIRST SECOND: the shortest of this many runs of each of two commands, turn by turn, in microseconds.
+# best_of_both RUNS FIRST SECOND: the shortest of this many runs of each of two commands, alternating, in microseconds.
 # FIRST and SECOND name the arrays that hold the commands.
 best_of_both() {
   local runs=$1 least_first=999999999 least_second=999999999 run took
@@ -109,7 +109,7 @@ best_of_both() {
   echo "$least_first $least_second"
 }
 
-# thousandths NUMBER: a number of thousandths with a point, as 1.234
+# thousandths NUMBER: a number of thousandths with a decimal point, as 1.234
 thousandths() {
   echo "$(($1 / 1000)).$(printf %03d $(($1 % 1000)))"
 }

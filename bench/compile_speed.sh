@@ -1,11 +1,11 @@
 #!/usr/bin/env bash
 # Compiling a script near the limits of codes: 4,096 instructions, 1,024 labels, 256 configurations of 64 sub-channels,
 # 64 services of 5 components and 64 packet components, 500 commits, and a budget of 255, against md5sum on 200 copies
-# of its text, in the same run: the best of 10 runs each. It then says in how little memory the program still parses
-# and compiles the script. Wanted: `compile` takes no longer than md5sum.
+# of its text, in the same run: the best of 10 runs each. It then prints the smallest memory in which the program parses
+# and compiles the script. Required: `compile` takes no longer than md5sum.
 . "$(dirname "$0")/common.sh"
 
-# Sub-channel 63 stands at another place in each configuration. A round moves it, commits, tests two contacts twice
+# Sub-channel 63 has another start in each configuration. An iteration moves it, commits, tests two contacts twice
 # before and after the swap, and waits.
 awk 'BEGIN {
   print "ensemble E1C5 period 60 notice 248 budget 255"

@@ -1,5 +1,5 @@
-/* Reads a file of FIBs in pieces of 256 KB, and counts those whose CRC is right (EN 300 401 clause 5.2.1), a byte at a time
-   by a table: the plain loop that listen_speed.sh compares `dabplan listen` with. It looks into no FIG. */
+/* Reads a file of FIBs in pieces of 256 KB, and counts those with a correct CRC (EN 300 401 clause 5.2.1), a byte at a time
+   by a table: the plain loop that listen_speed.sh compares `dabplan listen` with. It decodes no FIG. */
 #include <stdint.h>
 #include <stdio.h>
 

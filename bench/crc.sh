@@ -1,7 +1,7 @@
 #!/usr/bin/env bash
-# The two bodies of the CRC on ten million blocks of 30 bytes, in one run: bit by bit, and by tables, in twenty turns, of
-# which the shortest of each counts. The blocks are 250 different ones without a pattern, over and over, each time with
-# another first byte. Wanted: the tables at least twenty times as fast.
+# The two CRC functions on ten million blocks of 30 bytes, in one run: bit by bit, and by tables, with twenty repetitions,
+# of which the shortest of each counts. The blocks are 250 different random ones, repeated, each time with
+# another first byte. Required: the tables at least twenty times as fast.
 . "$(dirname "$0")/common.sh"
 
 run_program crc_bench /dev/null mux_eep mux_types mux_entries fib_codec >"$work/times" <<'PROGRAM'
@@ -27,7 +27,7 @@ fn fill(blocks: &mut [[u8; 30]; BLOCKS]) {
     }
 }
 
-// the words are added up, so that each is wanted
+// the CRCs are summed, so that none is optimised away
 fn sum_by_bits(blocks: &mut [[u8; 30]; BLOCKS]) -> u32 {
     let mut sum = 0u32;
     for round in 0..ROUNDS {

@@ -1,8 +1,8 @@
 #!/usr/bin/env bash
 # Sends 10,000 pages of the largest pair of configurations, each of 64 sub-channels, 64 services of 12 components and
 # 64 packet components, by the plain `page` and by a cursor, and 1,000,000 pages of the example configuration by a
-# cursor, in one run; and computes as many CRCs of 30 bytes as those pages of the example have FIBs. It says how long
-# each took. Wanted: the cursor at least 8 times as fast, and a page of the example in under 0.6 microseconds.
+# cursor, in one run; and computes one CRC of 30 bytes for each FIB of those pages of the example. It prints the time of
+# each. Required: the cursor at least 8 times as fast, and a page of the example in under 0.6 microseconds.
 . "$(dirname "$0")/common.sh"
 
 # invariant FUNCTION CONFIGURATIONS: the loop of this function keeps its cursor at a page of these configurations
@@ -60,7 +60,7 @@ fn example() -> Option<Config> {
     Some(config)
 }
 
-// a byte of each page is added up, so that each page is wanted
+// a byte of each page is summed, so that no page is optimised away
 fn byte_of(bytes: &[u8], turn: u32) -> u32 {
     u32::from(bytes.get((turn % 96) as usize).copied().unwrap_or(0))
 }

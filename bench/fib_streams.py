@@ -1,8 +1,8 @@
 #!/usr/bin/env python3
 """Makes streams of FIBs for bench/listen_speed.sh: the pages of one configuration in transmission mode I, one after
 another, with FIG 0/0 in each fourth frame (EN 300 401 clauses 5.2, 6.2.1, 6.3.1, 6.3.2 and 6.4). In `swaps` two
-configurations take turns: every 300 frames there is a swap, and in the 48 frames before it the pages of the current
-and of the next configuration go out by turns, under change flags (clause 6.5).
+configurations alternate: every 300 frames there is a swap, and in the 48 frames before it the pages of the current
+and of the next configuration are sent alternately, with change flags (clause 6.5).
     fib_streams.py full|sixteen|scattered|swaps FIBS FILE
 """
 import binascii
@@ -14,7 +14,7 @@ def word(number):
 
 
 def sub_channel(id, size=6):
-    """Of 3-A, 8 kbit/s, six capacity units; or of more."""
+    """An entry of a sub-channel: 3-A, 8 kbit/s, six capacity units; or more."""
     return word(id << 10 | id * size) + word(0x8800 | size)
 
 
@@ -52,7 +52,7 @@ def configuration(kind):
 
 
 def pages_of(entries):
-    """Three lots of data bytes a page; the first leaves room for FIG 0/0."""
+    """The data bytes of three FIBs per page; the first leaves room for FIG 0/0."""
     pages = []
     rest = list(entries)
     while rest:
@@ -76,7 +76,7 @@ def fib(data):
 
 
 def frame_of(page, count, ensemble):
-    """A frame of three FIBs, with FIG 0/0 in front where the count is a multiple of four."""
+    """A frame of three FIBs, with FIG 0/0 first if the count is a multiple of four."""
     first = ensemble + page[0] if count % 4 == 0 else page[0]
     return b"".join(fib(data) for data in (first, *page[1:]))
 
@@ -102,7 +102,7 @@ def plain_frames(kind, frames):
 
 
 def swapping_frames(frames):
-    """Two configurations by turns, with a swap every 300 frames."""
+    """Two alternating configurations, with a swap every 300 frames."""
     both = [pages_of(configuration(kind)) for kind in ("sixteen", "wide")]
     for frame in range(frames):
         count, turn, place = frame % 5000, frame // 300, frame % 300

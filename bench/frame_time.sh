@@ -1,6 +1,6 @@
 #!/usr/bin/env bash
 # One frame of the example configuration: time and memory of a run of `dabplan frame`.
-# Wanted: under 10 ms and under 8 MB resident.
+# Required: under 10 ms and under 8 MB resident.
 . "$(dirname "$0")/common.sh"
 
 program=$(release/make --program)

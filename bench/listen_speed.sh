@@ -1,12 +1,12 @@
 #!/usr/bin/env bash
-# `dabplan listen` on five files of 1,000,000 FIBs, each against md5sum, and against a plain loop that checks the CRCs
-# alone (count_fibs.c), on the same file in the same run: the best of twenty runs each, turn by turn. Of each stream it
-# says how many times as long as md5sum it may take; and at most 4 MB resident.
-#   sample     what another multiplexer wrote, over and over
+# `dabplan listen` on five files of 1,000,000 FIBs, each against md5sum, and against a plain loop that only checks the
+# CRCs (count_fibs.c), on the same file in the same run: the best of twenty runs each, alternating. Each stream has a limit
+# relative to md5sum; and at most 4 MB resident.
+#   sample     the stream of another multiplexer, repeated
 #   full       the pages of 64 sub-channels, 64 services and 64 packet components, one after another
 #   sixteen    those of 30 services with SIds 16 apart
 #   scattered  those of 60 services with scattered SIds
-#   swaps      those of two configurations of 30 services that take turns, with a swap every 300 frames
+#   swaps      those of two alternating configurations of 30 services, with a swap every 300 frames
 #   bench/listen_speed.sh [FOLDER of real_fic.fib]
 . "$(dirname "$0")/common.sh"
 

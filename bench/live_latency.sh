@@ -1,11 +1,11 @@
 #!/usr/bin/env bash
-# The time from a line of one frame to its bytes, of a plan at the limits: 64 sub-channels, 64 services of 5 components and
+# The time from a line of one frame to its bytes, for a plan at the limits: 64 sub-channels, 64 services of 5 components and
 # 64 packet components, 251 or 252 instructions in the frame of each commit, and a swap every 300 frames. 3,000 lines, each
-# given when the frame of the one before is there; of each line the shortest of five runs, so that what else runs on the
-# machine does not count. Wanted: at most 1 ms for every line.
+# given when the frame of the one before has arrived; for each line the shortest of five runs, so that other load on the
+# machine does not count. Required: at most 1 ms for every line.
 . "$(dirname "$0")/common.sh"
 
-# large_plan: a code file. Sub-channel 63 is moved to and fro 124 times before each commit.
+# large_plan: a code file. Sub-channel 63 is moved back and forth 124 times before each commit.
 large_plan() {
   awk '
   function instr(hexadecimal) { printf "%04X%s", ++line, hexadecimal }

@@ -1,5 +1,5 @@
-# Modules of Rattle that the programs of several benchmarks share. run_program of common.sh writes those that a program
-# names beside it.
+# Rattle modules that the programs of several benchmarks share. run_program of common.sh writes those that a program
+# names next to it.
 
 # module_largest: the largest configuration
 module_largest() {
@@ -48,7 +48,7 @@ fn add_each(config: &mut Config, k: u8) -> Option<()>
         .ok()
 }
 
-/// The configuration, or none where an edit of it is refused.
+/// The configuration, or `None` if an edit is refused.
 pub fn largest_config() -> Option<Config> {
     let mut config = Config::new();
     for k in 0..64 {
@@ -59,13 +59,13 @@ pub fn largest_config() -> Option<Config> {
 MODULE
 }
 
-# module_row: bytes without a pattern, and their CRCs
+# module_row: random bytes, and their CRCs
 module_row() {
   cat <<'MODULE'
-//! Bytes without a pattern, and the CRCs of the blocks of 30 bytes among them.
+//! Random bytes, and the CRCs of the blocks of 30 bytes among them.
 use fib_codec::crc16;
 
-/// How many bytes a row has: a block of 30 begins at each of the first 4,096.
+/// The number of bytes in a row: a block of 30 begins at each of the first 4,096.
 pub const ROW: usize = 4096 + 30;
 
 /// A row of bytes of a linear congruential generator.
@@ -79,8 +79,8 @@ pub fn row_of_bytes() -> [u8; ROW] {
     row
 }
 
-/// The sum of the CRCs of this many blocks. Each block is the one before moved on by a byte of the row, so that all of it
-/// is another, and the words are added up, so that each is wanted.
+/// The sum of the CRCs of this many blocks. Each block is the one before moved on by a byte of the row, so that it
+/// differs completely, and the CRCs are summed, so that none is optimised away.
 pub fn crcs(row: &[u8; ROW], blocks: u32) -> u32 {
     let mut sum = 0u32;
     for turn in 0..blocks {

@@ -1,7 +1,7 @@
 #!/usr/bin/env bash
 # Packs all pages of the largest pair of configurations, each of 64 sub-channels, 64 services of 12 components and
-# 64 packet components, a thousand times over in mode I, and computes as many CRCs of 30 bytes as those pages
-# have FIBs, in one run. It says how long each took.
+# 64 packet components, a thousand times in mode I, and computes one CRC of 30 bytes for each FIB of those
+# pages, in one run. It prints the time of each.
 . "$(dirname "$0")/common.sh"
 
 run_program pack_bench /dev/null mux_eep mux_types mux_entries byte_fields mux_config fib_codec fib_carousel <<'PROGRAM'
@@ -22,7 +22,7 @@ use std::time::Instant;
 const ROUNDS: u32 = 1000;
 const FIBS: u32 = 3 * 81;
 
-// a byte of each page is added up, so that each page is wanted
+// a byte of each page is summed, so that no page is optimised away
 fn pack(current: &Config, next: &Config, round: u32) -> u32 {
     let mut sum = 0u32;
     for k in 0..pages(Mode::I, current, Some(next)) {

@@ -1,7 +1,7 @@
 #!/usr/bin/env bash
 # Parsing a script near the limits, of 8,192 items and statements, 64 defined blocks and braces 16 deep, about 200 KB,
 # against md5sum on 100 copies of it, in the same run: the best of 20 runs each.
-# Wanted: `parse` takes no longer than md5sum.
+# Required: `parse` takes no longer than md5sum.
 . "$(dirname "$0")/common.sh"
 
 awk 'BEGIN {

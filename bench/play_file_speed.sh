@@ -1,14 +1,14 @@
 #!/usr/bin/env bash
 # Playing 1,000,000 frames into a file on a RAM disk, against md5sum of that file in the same run: the best of twenty runs
-# each, turn by turn. A small plan, of one programme, and a large one, of 64 sub-channels, 64 services of 5 components and
-# 64 packet components, with a swap every 300 frames. Wanted: at most 0.5 times md5sum for the small plan, 1.0 times for
+# each, alternating. A small plan, of one programme, and a large one, of 64 sub-channels, 64 services of 5 components and
+# 64 packet components, with a swap every 300 frames. Required: at most 0.5 times md5sum for the small plan, 1.0 times for
 # the large one; at most 8 MB of memory, the same for 10,000,000 frames.
 . "$(dirname "$0")/common.sh"
 ram=$(mktemp -d /dev/shm/play_file_speed.XXXXXX)
 trap 'rm -rf "$work" "$ram"' EXIT
 failed=0
 
-# large_plan: a code file. Sub-channel 63 moves to and fro, each time after a notice of 248 frames.
+# large_plan: a code file. Sub-channel 63 moves back and forth, each time after a notice of 248 frames.
 large_plan() {
   awk '
   function instr(hexadecimal) { printf "%04X%s", ++line, hexadecimal }
@@ -37,7 +37,7 @@ memory() {
   tail -n 1 "$work/resident"
 }
 
-# measure NAME CODE MOST: plays the code, and says how long it took in thousandths of the time of md5sum, at most this many
+# measure NAME CODE MOST: plays the code, and prints its time in thousandths of that of md5sum, at most this many
 measure() {
   local name=$1 code=$2 most=$3 play md5 ratio small big
   local frames=("$program" play "$code" "$work/million.events" "$ram/out.fib") digest=(md5sum "$ram/out.fib")

@@ -1,13 +1,13 @@
 #!/usr/bin/env bash
 # Plays 1,000,000 frames of the example code, whose contact changes every 150 frames, and 1,000,000 of codes over
 # configurations of 64 sub-channels, 64 services and 64 packet components that swap every 300 frames, each in the modes I
-# and III, over `Tables`, into a sink that keeps nothing; and in the same run a loop that copies the bytes of as many
-# frames and computes the CRC of each of their FIBs: the best of 7 runs each, in nanoseconds a frame.
-# Wanted: the example at most 1.5 times as long as that loop, and services of one component at most 2.5 times. With 5
-# components a service, whose pages are near the most that a plan can have, it only says how long it takes.
+# and III, over `Tables`, into a sink that keeps nothing; and in the same run a loop that copies the bytes of the same number
+# of frames and computes the CRC of each of their FIBs: the best of 7 runs each, in nanoseconds per frame.
+# Required: the example at most 1.5 times as long as that loop, and services of one component at most 2.5 times. With 5
+# components per service, whose pages are near the maximum of a plan, it only prints the time.
 . "$(dirname "$0")/common.sh"
 
-# code NAME HEADER: a code file in hexadecimal digits from this header on, put behind its length
+# code NAME HEADER: a code file in hexadecimal digits from this header on, preceded by its length
 code() {
   local digits
   digits=$2$(cat)
@@ -18,7 +18,7 @@ example() {
   xxd -p examples/contact_lowers_a_rate.code | tr -d '\n' | cut -c 11-
 }
 
-# large COMPONENTS: sub-channel 63 is moved on and back, with a swap 248 frames after each commit and the next commit 52
+# large COMPONENTS: sub-channel 63 is moved back and forth, with a swap 248 frames after each commit and the next commit 52
 # frames after the swap
 large() {
   awk -v components="$1" 'BEGIN {
@@ -45,7 +45,7 @@ cat "$work"/{example,large,larger}_{i,iii} >"$work/codes"
 
 run_program play_bench "$work/codes" mux_eep mux_types mux_entries byte_fields mux_config mux_tables fib_codec fib_reader fib_carousel plan_code \
   plan_verifier plan_runs plan_listeners plan_player >"$work/times" <<'PROGRAM'
-//! Times `play` on the code files on standard input, each behind its length.
+//! Times `play` on the code files on standard input, each preceded by its length.
 #![tactic(auto)]
 
 ghost use Rattle.std.specs.Prelude.{◌≡◌, ◌+◌, ◌≤◌, None, false};
@@ -63,7 +63,7 @@ const FRAMES: u32 = 1_000_000;
 const RUNS: u32 = 7;
 const ROW: usize = 4096 + 128;
 
-/// Keeps nothing of what it takes. A byte of each frame is added up, so that each frame is wanted.
+/// Keeps nothing of what it takes. A byte of each frame is summed, so that no frame is optimised away.
 #[derive(Drop)]
 struct Nothing {
     frames: u32,
@@ -174,7 +174,7 @@ fn player(code: &Verified) -> Option<Player<'_, Tables>> {
     Player::new(code, start).ok()
 }
 
-/// How many swaps are made in the first 3,000 frames.
+/// The number of swaps in the first 3,000 frames.
 fn swaps(code: &Verified) -> u32 {
     let Some(mut player) = player(code) else {
         return 0;
@@ -272,7 +272,7 @@ if [ "$(wc -l <"$work/figures")" -ne 6 ]; then
   exit 1
 fi
 slow=0
-# report NAME TENTHS PLAY COPIES SWAPS: says how many nanoseconds a frame takes, and where they are more than this many
+# report NAME TENTHS PLAY COPIES SWAPS: prints the nanoseconds per frame, and fails if they are more than this many
 # tenths of those of the copies
 report() {
   echo "play: $1 $(thousandths "$3") ns a frame, copies and CRCs $(thousandths "$4") ns: $(thousandths $((1000 * $3 / $4))) times; $5 swaps in 3000 frames"

@@ -1,9 +1,9 @@
 #!/usr/bin/env bash
 # Checking and walking 1,000,000 FIBs held in memory against md5sum on the same 32 MB, in the same run: the best
-# of twenty runs each. For each FIB the reader tests the CRC and the grammar, and then lends each FIG with
-# its head and each entry with its bytes, whose lengths and first bytes are added up. Wanted: no more time than
-# md5sum takes. Beside it, with no yardstick: the same walk where each entry also gives its value, the fields of
-# which are added up; of the components of a service that is their number and the first one.
+# of twenty runs each. For each FIB the reader tests the CRC and the grammar, and then returns each FIG with
+# its head and each entry with its bytes, whose lengths and first bytes are summed. Required: no more time than
+# md5sum takes. Also, without a yardstick: the same walk with the value of each entry, the fields of
+# which are summed; for the components of a service their number and the first one.
 #   bench/reader_speed.sh [FOLDER of real_fic.fib]
 . "$(dirname "$0")/common.sh"
 
@@ -17,7 +17,7 @@ use mux_config::{ComponentEntry, Entry, Sid};
 use std::io::{self, Read};
 use std::time::Instant;
 
-/// All fields of a component, added up.
+/// The sum of all fields of a component.
 fn sum_of_component(component: &ComponentEntry) -> u32 {
     match component {
         ComponentEntry::Sound { ty, sub, primary, ca } => {
@@ -33,7 +33,7 @@ fn sum_of_component(component: &ComponentEntry) -> u32 {
     }
 }
 
-/// The fields of an entry, added up: of the components their number and the first one.
+/// The sum of the fields of an entry: of the components their number and the first one.
 fn sum_of(entry: Entry) -> u32 {
     match entry {
         Entry::Ensemble(e) => {
@@ -72,7 +72,7 @@ fn sum_of(entry: Entry) -> u32 {
     }
 }
 
-/// What a walk met: damaged FIBs, FIGs, entries, and the sum of the fields.
+/// The result of a walk: the numbers of damaged FIBs, FIGs and entries, and the sum of the fields.
 #[derive(Clone, Copy)]
 struct Met {
     damaged: u32,
@@ -81,7 +81,7 @@ struct Met {
     sum: u32,
 }
 
-/// Checks all FIBs, and adds up what their FIGs and entries are by their bytes.
+/// Checks all FIBs, and counts and sums their FIGs and entries by their bytes.
 fn walk(fibs: &[[u8; 32]]) -> Met {
     let mut met = Met { damaged: 0, figs: 0, entries: 0, sum: 0 };
     for fib in fibs {
@@ -104,7 +104,7 @@ fn walk(fibs: &[[u8; 32]]) -> Met {
     met
 }
 
-/// The same, and adds up the fields of the entries' values.
+/// Like the walk by bytes, and sums the fields of the entries' values.
 fn read(fibs: &[[u8; 32]]) -> Met {
     let mut met = Met { damaged: 0, figs: 0, entries: 0, sum: 0 };
     for fib in fibs {

@@ -1,6 +1,6 @@
 #!/usr/bin/env bash
-# `dabplan listen` on a stream that another multiplexer wrote: real_fic.fib of the folder handed in, by
-# ODR-DabMux 5.1. It must print exactly what stands beside it in real_fic.listen.
+# `dabplan listen` on a stream that another multiplexer wrote: real_fic.fib of the given folder, by
+# ODR-DabMux 5.1. It must print exactly the content of real_fic.listen.
 set -euo pipefail
 cd "$(dirname "$0")/.."
 samples=${1:-bench/samples}

@@ -1,8 +1,8 @@
 #!/usr/bin/env bash
 # Whether two of 64 sub-channels share a capacity unit, and whether a configuration of 64 sub-channels is sound:
-# over configurations in tables, which compare pairs, and over counted ones, in one run. 16 configurations take
-# turns; in four of them the two greatest sub-channels share a unit, which the pairs find last, and in the others
-# none do. Wanted: counted configurations answer `crowded` at least 20 times as fast.
+# over configurations in tables, which compare pairs, and over counted ones, in one run. 16 configurations are
+# used in turn; in four of them the two highest sub-channels share a unit, which the pairs find last, and in the others
+# none do. Required: counted configurations answer `crowded` at least 20 times as fast.
 . "$(dirname "$0")/common.sh"
 
 run_program tables_bench /dev/null mux_eep mux_types mux_entries byte_fields mux_config mux_tables >"$work/times" <<'PROGRAM'

@@ -1,11 +1,11 @@
 #!/usr/bin/env bash
 # Verifying a code near the limits: 4,096 instructions, 1,024 labels, 256 configurations of 64 sub-channels, 64
-# services of 5 components and 64 packet components, and 500 commits, each of a configuration of its own round; over
-# `Tables`, against md5sum on 20 copies of the code's file, in the same run: the best of 20 runs each. It then says on
-# how small a stack the program still reads and verifies the code. Wanted: `verify` takes no longer than md5sum.
+# services of 5 components and 64 packet components, and 500 commits, each of another configuration; over
+# `Tables`, against md5sum on 20 copies of the code file, in the same run: the best of 20 runs each. It then prints the
+# smallest stack with which the program reads and verifies the code. Required: `verify` takes no longer than md5sum.
 . "$(dirname "$0")/common.sh"
 
-# Sub-channel 63 stands at another place in each configuration. A round moves it, commits, tests two contacts twice
+# Sub-channel 63 has another start in each configuration. An iteration moves it, commits, tests two contacts twice
 # before and after the swap, and waits.
 awk '
 function instr(hexadecimal) { printf "%04X%s", ++line, hexadecimal }

@@ -1,8 +1,8 @@
 #!/usr/bin/env bash
-# Leads a plan for an hour of frames, line by line, kills it on the way, and takes it up again: what came out before and
-# after is, byte for byte, what 'play' makes of the same lines. It runs as fast as it can; a multiplexer would send
+# Drives a plan for an hour of frames, line by line, kills it on the way, and resumes it: the output before and
+# after is, byte for byte, that of 'play' for the same lines. It runs as fast as it can; a multiplexer would send
 # 'frames 1' every 24 ms.
-#   examples/live_hour.sh [FRAME]     kills it when the lines have come to this frame, 60000 where it is left out
+#   examples/live_hour.sh [FRAME]     kills it when the lines have reached this frame, default 60000
 set -euo pipefail
 dabplan=$(cd "$(dirname "$0")/.." && pwd)/dabplan
 code=$(cd "$(dirname "$0")" && pwd)/contact_lowers_a_rate.code
@@ -12,7 +12,7 @@ work=$(mktemp -d)
 trap 'rm -rf "$work"' EXIT
 cd "$work"
 
-# The lines from one frame of the hour to another: contact 3 is closed and opened once a minute.
+# The lines from one frame of the hour to another: contact 3 is closed and opened once per minute.
 lines() {
   local frame
   for ((frame = $1; frame < $2; frame++)); do
@@ -34,8 +34,8 @@ kill -KILL "$run"
 wait "$run" 2>killed.txt || true
 exec 3>&-
 
-# It is taken up again: the lines of today.log are played again, without the frames that are in hour.fib, and then it
-# runs on.
+# It is resumed: the lines of today.log are played again, without the frames that are in hour.fib, and then it
+# continues.
 frames=$(($(stat -c %s hour.fib) / 96))
 truncate -s $((96 * frames)) hour.fib
 {

@@ -1,5 +1,5 @@
 #!/usr/bin/env python3
-"""'dabplan check': what it finds in streams of FIBs, whole and broken, and how it refuses a file. The last line is 'N
+"""'dabplan check': its findings in valid and invalid streams of FIBs, and refused files. The last line is 'N
 passed, M failed'."""
 import pathlib
 import rows
@@ -14,7 +14,7 @@ RADIO, OTHER_RADIO = "02 C2 21 01 3F 06", "02 C2 21 01 05 06"
 
 
 def fig(entry, following=False):
-    """A FIG of one entry, which is given with its extension before it; with C/N 1 where it is of the next configuration."""
+    """A FIG of one entry, given with its extension before it; with C/N 1 if it is of the next configuration."""
     extension, rest = entry.split(" ", 1)
     second = int(extension, 16) | (0x80 if following else 0)
     return f"{1 + len(rest.split()):02X} {second:02X} {rest}"
@@ -27,14 +27,14 @@ def ensemble(count, flags=0, low=None, eid="E1C5"):
 
 
 def frame(figs, following):
-    """A frame of mode I: FIGs in the first FIB, those of the next configuration in the second, and one of the end marker."""
+    """A frame of mode I: FIGs in the first FIB, those of the next configuration in the second, and an empty third FIB."""
     return stream(" ".join([*figs, "FF"]), " ".join([*following, "FF"]), "FF")
 
 
 def run(frames, first=4, swap=28, flags=1, low=28, flagged=None, moved=None, before=(AT_128, RADIO), after=(AT_96, RADIO)):
-    """Frames from count 0 on, all entries in each. The notice begins at `first`, the flags are gone at `swap`.
+    """Frames from count 0 on, all entries in each. The notice begins at `first`, the flags end at `swap`.
 
-    `flagged` are the counts whose FIG 0/0 has the flags, all of the notice where none are given; from `moved[0]` on the
+    `flagged` are the counts whose FIG 0/0 has the flags, by default all of the notice; from `moved[0]` on the
     occurrence change is `moved[1]`."""
     out = b""
     for count in range(frames):
@@ -50,13 +50,13 @@ def run(frames, first=4, swap=28, flags=1, low=28, flagged=None, moved=None, bef
 
 
 def good_streams(rows):
-    """Streams that keep their word."""
+    """Streams without a fault."""
     for data, words, wanted in (
         (run(40), "", "0 0 ensemble E1C5\n4 4 announced 1 swap at low 28\n28 28 swap\n"
                       "frames 40 skipped 0 left over 0 damaged 0 swaps 1 faults 0\n"),
         (run(40), " --period 1", "0 0 ensemble E1C5\n4 4 announced 1 swap at low 28\n28 28 swap\n"
                                  "frames 40 skipped 0 left over 0 damaged 0 swaps 1 faults 0\n"),
-        # What comes before the first FIG 0/0 is skipped, and what follows the last whole frame is left over.
+        # FIBs before the first FIG 0/0 are skipped, and those after the last whole frame are left over.
         (run(40)[96:] + stream("FF"), "", "0 4 ensemble E1C5\n0 4 announced 1 swap at low 28\n24 28 swap\n"
                                           "frames 36 skipped 9 left over 1 damaged 0 swaps 1 faults 0\n"),
         (run(40, flags=3, after=(AT_96, OTHER_RADIO)), "", "0 0 ensemble E1C5\n4 4 announced 3 swap at low 28\n28 28 swap\n"
@@ -66,16 +66,16 @@ def good_streams(rows):
 
 
 def broken_announcements(rows):
-    """Streams whose announcement is at fault: its occurrence change, its flags, and what it hides."""
+    """Streams with a faulty announcement: its occurrence change, its flags, and unannounced changes."""
     first, last = "0 0 ensemble E1C5\n", "frames 40 skipped 0 left over 0 damaged 0 swaps 1 faults {}\n"
     for data, wanted in (
         # The occurrence change is four late.
         (run(40, low=32), "4 4 announced 1 swap at low 32\n28 28 swap\n28 28 fault: announced for low 32\n" + last.format(1)),
-        # The flags are sent once only: where they are gone, the swap is made, twenty frames too soon.
+        # The flags are sent only once: when they are gone, the swap is made, twenty frames too early.
         (run(40, flagged={4}), "4 4 announced 1 swap at low 28\n8 8 swap\n8 8 fault: announced for low 28\n"
          "8 8 fault: announced 1 times\n8 8 fault: changed: sub 1\n8 8 fault: next without change flags\n"
          "28 28 fault: changed: sub 1\n" + last.format(5)),
-        # It moves in the midst of the notice.
+        # It moves in the middle of the notice.
         (run(40, moved=(16, 32)), "4 4 announced 1 swap at low 28\n16 16 fault: announced again: 1 at low 32\n28 28 swap\n"
                                   "28 28 fault: announced for low 32\n" + last.format(2)),
         # The flags hide a change of services.
@@ -86,7 +86,7 @@ def broken_announcements(rows):
 
 
 def refusals(rows):
-    """Files that are refused, after what was found in them."""
+    """Files that are refused, after their findings."""
     for data, wanted in (
         (b"", "refused: no ensemble\n"),
         (stream("FF"), "refused: no ensemble\n"),
@@ -98,14 +98,14 @@ def refusals(rows):
 
 
 def changed(data, first, old, new):
-    """A stream with these bytes in the place of those, in each FIB from this one on, and its CRC made anew."""
+    """A stream with these bytes instead of those, in each FIB from this one on, and a new CRC."""
     fibs = [data[at:at + 32] for at in range(0, len(data), 32)]
     later = [front[:30].replace(old, new) for front in fibs[first:]]
     return b"".join(fibs[:first]) + b"".join(front + crc(front).to_bytes(2, "big") for front in later)
 
 
 def a_real_stream(rows):
-    """A stream that another multiplexer wrote: what is found in it is stored; and with a change that nobody announced."""
+    """A stream that another multiplexer wrote, with its stored findings; and with an unannounced change."""
     data, wanted = (SAMPLES / "real_fic.fib").read_bytes(), (SAMPLES / "real_fic.check").read_text()
     rows.answers("check x.fib", 0, wanted, {"x.fib": data})
     rows.answers("check -", 0, wanted, stdin=data)

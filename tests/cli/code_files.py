@@ -1,6 +1,6 @@
 #!/usr/bin/env python3
-"""'dabplan verify': the bytes of code files, field by field: each kind of fault at its place, each operand at its limits and
-just past them, and files that are cut. The last line is 'N passed, M failed'."""
+"""'dabplan verify': the bytes of code files, field by field: each kind of fault at its offset, each operand at its limits and
+just past them, and truncated files. The last line is 'N passed, M failed'."""
 import rows
 from rows import NOTHING_FILE, RATES_FILE, hexadecimal
 
@@ -30,12 +30,12 @@ SETTLED_FILE = """
     20 01 00 05 00 0A 01 00 01 00 0B 08 00 0B 07
 """
 
-# A code of version 2, in mode 3, that else is NOTHING_FILE.
+# NOTHING_FILE as a code of version 2, in mode 3.
 MODE_FILE = NOTHING_FILE.replace("42 50 01", "42 50 02 03", 1)
 
 
 def fault(rows, file):
-    """What is said of a code file that is none, without 'code: ' before it; nothing where it is one."""
+    """The reported fault of a code file, without the prefix 'code: '; nothing if it has none."""
     printed = rows.run("verify x.code", {"x.code": file}).printed.decode()
     return printed.strip().removeprefix("code: ") if printed.startswith("code: ") else ""
 
@@ -46,14 +46,14 @@ def judged(rows, file, wanted):
 
 
 def changed(text, place, byte):
-    """The bytes of a file, with another one at this place."""
+    """The bytes of a file, with another one at this offset."""
     file = bytearray(hexadecimal(text))
     file[place] = byte
     return bytes(file)
 
 
 def one_byte_is_changed(rows, text, table):
-    """A file in which one byte is another has this fault."""
+    """A file in which one byte is changed has this fault."""
     for place, byte, wanted in table:
         judged(rows, changed(text, place, byte), wanted)
 
@@ -137,8 +137,8 @@ def fields_of_labels(rows):
         (89, 0x02, "Field 88"),
         # whether a swap is pending, and the least bound of one that perhaps is
         (79, 0x03, "Field 79"), (79, 0x02, "Field 80"), (79, 0xFF, "Field 79"),
-        # the bounds of a swap: the least from 1, the greatest from the least on; zeros where none is pending, and
-        # the least is judged first
+        # the bounds of a swap: the least from 1, the greatest from the least on; zeros if none is pending, and
+        # the least is checked first
         (79, 0x00, "Field 80"), (81, 0x00, "Field 80"), (83, 0x17, "Field 82"), (92, 0x01, "Field 93"),
         (94, 0x01, "Field 93"), (96, 0x01, "Field 95"),
         # the cost
@@ -155,7 +155,7 @@ def fields_of_labels(rows):
 
 
 def limits_of_labels(rows):
-    """The last place, the greatest cost, and the bounds of a swap at their limits, in a code that is read."""
+    """The last pc, the greatest cost, and the bounds of a swap at their limits, in a valid code."""
     for label, wanted in (
         ("FF FF 00 00 00 00 00 00 00 00 00 00 FF", ""), ("00 00 00 00 00 00 01 00 01 00 01 00 01", ""),
         ("00 00 00 00 00 00 01 FF FF FF FF 00 01", ""), ("00 00 00 00 00 00 02 00 00 00 01 00 01", ""),
@@ -175,7 +175,7 @@ def limits_of_a_plan(rows):
 
 
 def modes(rows):
-    """Version 2 has a mode from 2 to 4; mode 1 has version 1 alone."""
+    """Version 2 has a mode from 2 to 4; mode 1 has only version 1."""
     one_byte_is_changed(rows, MODE_FILE, (
         (5, 2, ""), (5, 3, ""), (5, 4, ""), (5, 0, "Field 5"), (5, 1, "Field 5"), (5, 5, "Field 5"), (5, 255, "Field 5"),
         (4, 0, "Version"), (4, 3, "Version"), (4, 4, "Version"), (4, 255, "Version"),
@@ -183,7 +183,7 @@ def modes(rows):
 
 
 def cut_files(rows):
-    """A file that is cut anywhere is truncated, and one with a byte more is too long."""
+    """A file that is cut anywhere is truncated, and one with an extra byte is too long."""
     for text in (NOTHING_FILE, RATES_FILE, FULL_FILE, MODE_FILE):
         whole = hexadecimal(text)
         judged(rows, whole, "")
@@ -194,7 +194,7 @@ def cut_files(rows):
 
 
 def files_that_are_cut_at_a_fault(rows):
-    """A field is judged as soon as its bytes are there, and is missing before."""
+    """A field is checked as soon as its bytes are present, and is missing before."""
     for place, byte, end, wanted in (
         (0, 0x45, 4, "Magic"), (4, 0x03, 5, "Version"), (7, 0x00, 8, "Field 7"), (8, 0x0B, 9, "Field 8"),
         (9, 0x00, 10, "Field 9"), (11, 0x00, 12, "Field 10"), (10, 0x01, 12, "Limit"), (13, 0x00, 14, "Field 12"),
@@ -234,7 +234,7 @@ def operands_at_their_limits(rows):
 
 
 def operands_past_their_limits(rows):
-    """An instruction with an operand just past its range, which is at this place of its file."""
+    """An instruction with an operand just past its range, at this offset of its file."""
     for line, place in (
         ("00 01 01 00 00", 35), ("00 01 02 00 36 EE 80", 35), ("00 01 03 10 00", 35), ("00 01 03 0F 02", 36),
         ("00 01 04 00 00", 35), ("00 01 04 EA 61", 35), ("00 01 10 40 00 00 00 01 00 00", 35),

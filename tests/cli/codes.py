@@ -1,8 +1,8 @@
-"""Code files from texts: their configurations, labels and instructions in the words of scripts and by their numbers.
+"""Code files from texts: their configurations, labels and instructions in the notation of scripts and by their numbers.
 
-An instruction is a statement of the script language, or one of those that only code has: `until 42` (a frame of the day),
+An instruction is a statement of the script language, or one that only code has: `until 42` (a frame of the day),
 `test 3 5` (contact, target), `jump 0`, `set 0 3` (counter, times), `loop 0 1` (counter, target). Instructions and items
-are cut at commas. A label is its place, and then, each where it is not left out, `of 0 1` (its current and its next
+are separated by commas. A label is its pc, and then, each optional, `of 0 1` (its current and its next
 configuration), `within 24 27` or `perhaps 26` (a swap that is pending), `counters 81` and `cost 3`."""
 import struct
 
@@ -10,7 +10,7 @@ import struct
 PROGRAMME = "sub 1 at 0 eep 3-A 128, service C221, audio 63 sub 1 in C221"
 AT_64 = PROGRAMME.replace("128", "64")
 
-# 64 sub-channels of four capacity units, one beside the other.
+# 64 adjacent sub-channels of four capacity units.
 SMALL_SUBS = ", ".join(f"sub {number} at {4 * number} eep 4-A 8" for number in range(64))
 
 
@@ -30,7 +30,7 @@ def sub(words):
 
 
 def component(words):
-    """What carries a component: `audio 63 sub 1`, `data 5 sub 2` or `carry 7`."""
+    """A component: `audio 63 sub 1`, `data 5 sub 2` or `carry 7`."""
     if words[0] == "carry":
         return struct.pack(">BH", 3, int(words[1]))
     return bytes([words[0] == "data", int(words[1]), int(words[3])])
@@ -42,7 +42,7 @@ def packet(words):
 
 
 def record(text):
-    """The configuration record of items, each after those whose identifiers are less."""
+    """The configuration record of items, in ascending order of identifiers."""
     items = parts(text)
     subs = [sub(words) for words in items if words[0] == "sub"]
     packets = [packet(words) for words in items if words[0] == "packet"]
@@ -66,7 +66,7 @@ def dropped(words):
 
 
 def edited(words):
-    """An edit, but for those that drop."""
+    """An edit, except those that drop."""
     if words[0] == "sub":
         return b"\x10" + sub(words)
     if words[0] == "move":
@@ -114,7 +114,7 @@ def label(words):
 
 
 def code(instructions, labels="0 cost 1", configs=("",), mode=1, period=4, notice=24, budget=20, lines=None):
-    """The code file of these parts; its instructions are in the lines 1, 2 and on, where no others are given."""
+    """The code file of these parts; by default its instructions are in the lines 1, 2 and so on."""
     version = b"\x01" if mode == 1 else bytes([2, mode])
     table, each = parts(labels), [instruction(words) for words in parts(instructions)]
     numbers = lines or range(1, len(each) + 1)

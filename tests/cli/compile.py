@@ -14,7 +14,7 @@ def code_files(rows):
 
 
 def refused_scripts(rows):
-    """A script at fault, with its place or its line; no file is made."""
+    """A script at fault, with its position or its line; no file is created."""
     head = "ensemble E1C5 period 4 notice 24 budget 20 begin"
     nine = "repeat 2 { wait 1 " * 9 + "} " * 9
     for script, wanted in (
@@ -30,7 +30,7 @@ def refused_scripts(rows):
 
 
 def commits_that_are_refused(rows):
-    """A first programme that is committed too early, or at a count where no FIG 0/0 is sent."""
+    """A first programme that is committed too early, or at a count without FIG 0/0."""
     head = "ensemble E1C5 period 4 notice 24 budget 20\nbegin\n"
     edits = "sub 1 at 0 eep 3-A 128\nservice C221\naudio 63 sub 1 in C221"
     for commit, wanted in (("commit at 1002", "refused line 6: Count\n"), ("commit in 23", "refused line 6: Notice\n")):
@@ -38,7 +38,7 @@ def commits_that_are_refused(rows):
 
 
 def files_that_cannot_be_had(rows):
-    """A script that is no text or is not there, and a file that can't be made."""
+    """A script that is not text or doesn't exist, and a file that can't be created."""
     rows.answers("compile x.plan x.code", 1, "cannot read x.plan\n", {"x.plan": b"\xff"})
     rows.answers("compile y.plan x.code", 1, "cannot read y.plan\n", {"x.plan": RATES})
     rows.answers("compile x.plan y/x.code", 1, "cannot write y/x.code\n", {"x.plan": RATES})

@@ -1,5 +1,5 @@
 #!/usr/bin/env python3
-"""'dabplan debug': what it prints command by command, and how it refuses. The last line is 'N passed, M failed'."""
+"""'dabplan debug': its output command by command, and its refusals. The last line is 'N passed, M failed'."""
 import rows
 from codes import PROGRAMME, code
 from rows import NOTHING_FILE, RATES_FILE, REFUSED_FILE, hexadecimal
@@ -7,7 +7,7 @@ from verify import HEADER, START
 
 
 def led(rows, code, commands, options, status, wanted):
-    """A code file is led so by the commands of a file."""
+    """Debugging a code file with these commands gives this output."""
     rows.answers(f"debug x.code x.commands {options}", status, wanted,
                  {"x.code": hexadecimal(code), "x.commands": commands})
 
@@ -18,7 +18,7 @@ def line(frames, steps, pc, line_number, count, remaining="none"):
 
 
 def a_change_of_rate_led_by_commands(rows):
-    """A break line, a contact, the next line, and the announcements that went out."""
+    """A break line, a contact, the next line, and the announcements sent."""
     wanted = (
         line(0, 0, 0, 8, 0) + line(1, 1, 1, 9, 1) + "break\n" + line(0, 1, 1, 9, 1) + line(2, 0, 4, 12, 3, 25)
         + line(26, 1, 5, 13, 29) + line(0, 1, 5, 13, 29)
@@ -28,7 +28,7 @@ def a_change_of_rate_led_by_commands(rows):
 
 
 def few_commands(rows):
-    """A command file of no command prints nothing, and `run` alone one line."""
+    """A command file without commands prints nothing, and `run` alone one line."""
     for commands, options, wanted in (
         ("", "", ""),
         (" # nothing\n", "", ""),
@@ -40,7 +40,7 @@ def few_commands(rows):
 
 
 def contacts(rows):
-    """A contact that is closed at first, or by a command, lets the plan continue."""
+    """A contact that is closed at the start, or by a command, lets the plan continue."""
     led(rows, RATES_FILE, "run 2", "--contacts 0008", 0, line(2, 3, 4, 12, 2, 26))
     led(rows, RATES_FILE, "contact 3 closed contact 3 open run 2", "", 0,
         line(0, 0, 0, 8, 0) + line(0, 0, 0, 8, 0) + line(2, 0, 1, 9, 2))
@@ -63,7 +63,7 @@ def frames_of_the_day(rows):
 
 
 def break_lines(rows):
-    """A break line is met where the line changes to it, by `run` alone, and not once it is cleared."""
+    """A break line is reached when the line changes to it, only by `run`, and not after it is cleared."""
     at_start, at_rate = line(0, 0, 0, 8, 0), line(1, 1, 1, 9, 1)
     for commands, wanted in (
         ("next break 9 run 10", at_rate + line(0, 1, 1, 9, 1) + line(10, 0, 1, 9, 11)),
@@ -88,7 +88,7 @@ def announcements_are_kept(rows):
 
 
 def faults_in_their_order(rows):
-    """The line of a fault is printed alone: of the code first, then of the start, then of the commands."""
+    """Only the line of a fault is printed: of the code first, then of the start, then of the commands."""
     for code, commands, options, wanted in (
         ("", "@", "--count 5000", "code: Truncated\n"),
         ("45 41 42 50", "@", "--count 5000", "code: Magic\n"),
@@ -105,7 +105,7 @@ def faults_in_their_order(rows):
 
 
 def files_that_cannot_be_had(rows):
-    """Files that are not there or are no text."""
+    """Files that don't exist or are not text."""
     files = {"x.code": b"DABP", "x.commands": "run 1", "no_text": b"\xff"}
     rows.answers("debug y.code x.commands", 1, "cannot read y.code\n", files)
     rows.answers("debug x.code y.commands", 1, "cannot read y.commands\n", files)

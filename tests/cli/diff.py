@@ -1,6 +1,6 @@
 #!/usr/bin/env python3
-"""'dabplan diff': the plan between two configurations, its order and its waits, and its refusals. What is printed is compiled,
-and at the limits too. The last line is 'N passed, M failed'."""
+"""'dabplan diff': the plan between two configurations, its order and its waits, and its refusals. Printed plans are compiled,
+also at the limits. The last line is 'N passed, M failed'."""
 import rows
 
 HEADER = "ensemble E1C5\nperiod 4 notice 24 budget 20\n"
@@ -21,17 +21,17 @@ def plans(rows):
     packets = "sub 5 at 200 eep 3-A 64\npacket 1 groups type 60 sub 5 address 1\n"
     for old, new, edits in (
         (ONE, ONE.replace("128", "96"), "rate sub 1 96\n"),
-        # A rate that falls goes before the move; one that rises after it.
+        # A lower rate comes before the move; a higher one after it.
         (ONE, ONE.replace("at 0", "at 768").replace("128", "96"), "rate sub 1 96\nmove sub 1 at 768\n"),
         (ONE.replace("at 0", "at 768"), ONE.replace("128", "160"), "move sub 1 at 0\nrate sub 1 160\n"),
-        # Another profile takes the sub-channel away and adds it again.
+        # A change of profile removes the sub-channel and adds it again.
         (ONE, ONE.replace("3-A", "2-A"), "drop sub 1\nsub 1 at 0 eep 2-A 128\n"),
         # A component of another type is another one.
         (ONE, ONE.replace("audio 63", "audio 0"), "drop component sub 1 in C221\naudio 0 sub 1 in C221\n"),
         (ONE, ONE.replace("audio", "data"), "drop component sub 1 in C221\ndata 63 sub 1 in C221\n"),
         # A short SId is not the long one of its number.
         (ONE, ONE.replace("C221", "0000C221"), "drop service C221\nservice 0000C221\naudio 63 sub 1 in 0000C221\n"),
-        # Behind the longest common beginning components go, the last first, and come.
+        # After the longest common prefix components are dropped, the last first, and added.
         ("sub 2 at 96 eep 3-A 64\nsub 3 at 144 eep 3-A 64\n" + ONE + "data 5 sub 2 in C221\ndata 5 sub 3 in C221\n",
          "sub 2 at 96 eep 3-A 64\nsub 3 at 144 eep 3-A 64\n" + ONE + "data 5 sub 3 in C221\n",
          "drop component sub 3 in C221\ndrop component sub 2 in C221\ndata 5 sub 3 in C221\n"),
@@ -66,7 +66,7 @@ def paces(rows):
 
 
 def refusals(rows):
-    """All faults of FROM, then those of TO, then what is between them."""
+    """All faults of FROM, then those of TO, then those of the change between them."""
     good = script(ONE)
     other = script(ONE.replace("128", "96"))
     many = script("".join(f"sub {n} at {4 * n} eep 4-A 8\n" for n in range(64))
@@ -93,7 +93,8 @@ def refusals(rows):
 
 
 def full(kind):
-    """64 sub-channels, 64 services of 12 components each and 64 packet components, in two ways that share identifiers alone."""
+    """64 sub-channels, 64 services of 12 components each and 64 packet components, in two variants with the same identifiers
+    only."""
     subs = "".join(f"sub {n} at {12 * n} eep {'34'[kind]}-A 16\n" for n in range(64))
     services = "".join(f"service {n:04X}\n" + "".join(f"audio {kind} sub {(n + k) % 64} in {n:04X}\n" for k in range(12))
                        for n in range(64))
@@ -108,14 +109,14 @@ def many_components(order):
 
 
 def limits(rows):
-    """Pairs at the limits: what is printed is compiled."""
+    """Pairs at the limits: printed plans are compiled."""
     profiles = [f"{level}-{letter}" for letter in "AB" for level in range(1, 5)]
     pairs = [
         (full(0), full(1), WIDE.format(budget=255)),
         (full(0), full(1), WIDE.format(budget=2)),
         ("", full(1), WIDE.format(budget=20)),
         (full(1), "", WIDE.format(budget=20)),
-        # A full multiplex, and two sub-channels that change places.
+        # A full multiplex, and two sub-channels that are swapped.
         ("sub 1 at 0 eep 3-A 576\nsub 2 at 432 eep 3-A 576\n", "sub 1 at 432 eep 3-A 576\nsub 2 at 0 eep 3-A 576\n", HEADER),
         (many_components(range(12)), many_components(range(11, -1, -1)), HEADER),
     ]
@@ -130,7 +131,7 @@ def limits(rows):
 
 
 def command_lines(rows):
-    """Two scripts are wanted."""
+    """Two scripts are required."""
     for line in ("diff", "diff a.plan", "diff a.plan b.plan c.plan", "diff --mode 1 a.plan b.plan"):
         rows.tally.same(line, 2, rows.run(line, {"a.plan": script(ONE)}).lines()[0])
 

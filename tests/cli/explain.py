@@ -22,20 +22,20 @@ SID = "an SId: four or eight digits 0-9 A-F, in capitals and without 0x"
 
 
 def explained(rows, script, first, *rest):
-    """Counts that a script is refused with this line, and explained with these; and that the first line alone is what
-    comes without `--explain`."""
+    """Counts that a script is refused with this line, and explained with these; and that without `--explain` only the
+    first line is printed."""
     text = "".join(f"{line}\n" for line in rest)
     rows.answers("compile x.plan x.code --explain", 1, f"{first}\n{text}", {"x.plan": script})
     rows.answers("compile x.plan x.code", 1, f"{first}\n", {"x.plan": script})
 
 
 def after(statements, head=HEAD):
-    """A script with these statements behind `begin`, which stands in line 6."""
+    """A script with these statements after `begin`, which is in line 6."""
     return f"{head}begin\n{statements}\n"
 
 
 def faults(rows):
-    """Texts that are no scripts: where, what may stand there, and what may have been meant."""
+    """Texts that are not scripts: the position, what is valid there, and what may have been meant."""
     for script, first, *rest in (
         ("ensemble 0xE1C5\n", "1:10: Number", f"x.plan:1:10: expected {EID}; found '0xE1C5'",
          "    ensemble 0xE1C5", "             ^", "hint: write 'E1C5'"),
@@ -64,20 +64,20 @@ def faults(rows):
          "    comit in 250", "    ^", "hint: write 'commit'"),
         (after("forever {\n  wait 5"), "9:1: Expected",
          "x.plan:9:1: expected a statement or '}'; the script ends here", "    ", "    ^"),
-        (after("wait 5, 6"), "7:7: Byte", "x.plan:7:7: the byte 2C has no place in a script outside comments",
+        (after("wait 5, 6"), "7:7: Byte", "x.plan:7:7: the byte 2C is not allowed in a script outside comments",
          "    wait 5, 6", "          ^",
-         "hint: letters, digits, '_', ':', '-', '{', '}', blanks and ';' may stand there; '#' begins a comment"),
+         "hint: letters, digits, '_', ':', '-', '{', '}', blanks and ';' are allowed there; '#' begins a comment"),
         (after("apply night"), "7:7: NameUnknown", "x.plan:7:7: 'night' is not the name of a block that is defined before",
          "    apply night", "          ^",
-         "hint: 'define' the block above the place where it is applied; a block does not apply itself"),
+         "hint: 'define' the block above the line that applies it; a block does not apply itself"),
         (f"{HEAD}define a {{ wait 1 }}\ndefine a {{ wait 2 }}\nbegin\n", "7:8: NameUsed",
          "x.plan:7:8: 'a' is the name of a block that is defined before", "    define a { wait 2 }", "           ^",
          "hint: give one of both another name"),
         (after("if contact 1 " + "{ repeat 2 " * 16 + "{ }"), "7:190: Depth",
-         "x.plan:7:190: '{' would stand more than 16 braces deep",
+         "x.plan:7:190: '{' would be more than 16 braces deep",
          "    " + ("if contact 1 " + "{ repeat 2 " * 16 + "{ }")[:160],
          "hint: put an inner block into a 'define' and 'apply' it"),
-        (after("apply " + "a" * 33), "7:7: Limit", "x.plan:7:7: a word of 33 bytes; the longest has 32",
+        (after("apply " + "a" * 33), "7:7: Limit", "x.plan:7:7: a token of 33 bytes; the longest has 32",
          "    apply " + "a" * 33, "          ^"),
     ):
         explained(rows, script, first, *rest)
@@ -157,11 +157,11 @@ def swaps(rows):
         (after("rate sub 1 96\ncommit in 250\nrate sub 1 128"), "refused line 9: Pending",
          "x.plan:9: a swap is pending that comes after 250 to 253 frames, by the commit in line 8; until then the next"
          " configuration stays as it is",
-         "hint: 'join' behind the commit in line 8, or 'settle' before this line"),
+         "hint: 'join' after the commit in line 8, or 'settle' before this line"),
         (after("rate sub 1 96\ncommit in 250\nwait contact 3 closed\nrate sub 1 128"), "refused line 10: Pending",
          "x.plan:10: a swap may be pending, that comes after 252 frames at most, by the commit in line 8; until then the next"
          " configuration stays as it is",
-         "hint: 'join' behind the commit in line 8, or 'settle' before this line"),
+         "hint: 'join' after the commit in line 8, or 'settle' before this line"),
         (after("commit in 250"), "refused line 7: NoChange",
          "x.plan:7: nothing differs: the next configuration is the current one",
          "hint: leave the commit out, or edit before it"),
@@ -182,7 +182,7 @@ def swaps(rows):
 
 
 def ways(rows):
-    """Ways that do not meet, and statements that no way comes to."""
+    """Paths that can't be merged, and unreachable statements."""
     for script, first, *rest in (
         (after("forever {\n  wait 100\n  rate sub 1 96\n  commit in 250\n  join\n}"), "refused line 7: Mismatch",
          "x.plan:7: the loop does not come back as it began: in the current configuration sub 1 at 0 eep 3-A 96 at its end,"
@@ -193,11 +193,11 @@ def ways(rows):
          " no swap is pending at its beginning",
          "hint: 'join' at the end of the loop, or 'settle' where the swap may have come"),
         (after("if contact 3 {\n  rate sub 1 96\n}\nwait 5"), "refused line 7: Mismatch",
-         "x.plan:7: the two ways through the 'if' differ: in the next configuration sub 1 at 0 eep 3-A 96 on one way, sub 1 at"
+         "x.plan:7: the two paths through the 'if' differ: in the next configuration sub 1 at 0 eep 3-A 96 on one path, sub 1 at"
          " 0 eep 3-A 128 on the other",
          "hint: leave both branches with the same configurations, 'commit' and 'join' included"),
         (after("end\nwait 5"), "refused line 8: Table",
-         "x.plan:8: it can't be reached: nothing goes on behind the statement in line 7", "hint: leave it out"),
+         "x.plan:8: it can't be reached: the statement in line 7 does not continue to it", "hint: leave it out"),
     ):
         explained(rows, script, first, *rest)
 
@@ -211,8 +211,8 @@ def costs(rows):
         (long, "refused line 8: Cost", "x.plan:8: the longest path runs 8 instructions in one frame; the budget is 6",
          "hint: a budget of 8, or a 'wait 1' between the instructions that follow this line"),
         (after("forever {\n  if contact 3 { wait 1 }\n}"), "refused line 7: Cost",
-         "x.plan:7: the loop of lines 7 to 8 can go round without a wait, so that its instructions in one frame have no bound",
-         "hint: a 'wait 1' in the loop, on each way through it"),
+         "x.plan:7: the loop of lines 7 to 8 can repeat without a wait, so that its instructions in one frame have no bound",
+         "hint: a 'wait 1' in the loop, on each path through it"),
         (HEAD.replace("period 4", "period 1") + f"{many}begin\n", "refused line 90: Round",
          "x.plan:90: the configuration takes 4 pages, a frame each; the period is 1 frames",
          "hint: a period of 4, or fewer entries"),
@@ -225,7 +225,7 @@ def costs(rows):
 
 
 def limits(rows):
-    """Codes that would pass a limit: which, how much of it, and the line that passes it."""
+    """Codes that would exceed a limit: which, its value, and the line that exceeds it."""
     moves = "".join(f"move sub 1 at {n}\ncommit in 250\njoin\nif contact 1 {{ }}\nwait 1\n" for n in range(1, 257))
     for script, *rest in (
         (after("wait 1\n" * 4097),
@@ -249,14 +249,14 @@ def limits(rows):
 
 
 def without(name, line, count=1):
-    """An example without its comments and without these lines, from one that begins so on."""
+    """An example without its comments and without these lines, from the first line that begins with a text on."""
     lines = [text for text in (EXAMPLES / name).read_text(encoding="utf-8").splitlines() if not text.startswith("#")]
     at = next(number for number, text in enumerate(lines) if text.strip().startswith(line))
     return "\n".join(lines[:at] + lines[at + count:]) + "\n"
 
 
 def first_mistakes(rows):
-    """Plans of the examples with the mistakes that are made first."""
+    """Plans of the examples with common first mistakes."""
     night = without("night_rate.plan", "begin", 0)
     busy = without("regional_opt_out.plan", "begin", 0).replace("budget 20", "budget 6")
     busy = busy.replace("  audio 63 sub 2 in C222\n",
@@ -266,7 +266,7 @@ def first_mistakes(rows):
         (without("night_rate.plan", "join"), "refused line 12: Pending",
          "x.plan:12: a swap may be pending, that comes after 252 frames at most, by the commit in line 10; until then the next"
          " configuration stays as it is",
-         "hint: 'join' behind the commit in line 10, or 'settle' before this line"),
+         "hint: 'join' after the commit in line 10, or 'settle' before this line"),
         (without("part_time_service.plan", "drop service"), "refused line 15: Config Orphan",
          "x.plan:15: service C223 has a component on sub 2, which is not there; line 14 dropped it",
          "hint: 'drop service C223' as well, which has no other component; or 'drop component sub 2 in C223' and give it"
@@ -302,11 +302,11 @@ def codes(rows):
          "x.code:7: at the label of instruction 0: what is known does not fit the label: in the current configuration sub 1 at 0"
          " eep 3-A 144 as it is known, sub 1 at 0 eep 3-A 128 as the label declares"),
         (hexadecimal(RATES_FILE.replace("21 00 00", "21 00 01")), "refused at 8 line 7: Target",
-         "x.code:7: instruction 8 jumps to 1, where no label stands"),
+         "x.code:7: instruction 8 jumps to 1, which has no label"),
         (hexadecimal(RATES_FILE.replace("00 07 21 00 00", "00 07 01 00 01")), "refused at 8 line 7: FallsOff",
          "x.code:7: the last instruction, 8, continues to one that is not there"),
         (hexadecimal(RATES_FILE.replace("\n00 00 00 00 00", "\n00 01 00 00 00")), "refused at 0 line 8: Table",
-         "x.code:8: no label stands at instruction 0, where a code begins"),
+         "x.code:8: instruction 0, where a code begins, has no label"),
         (b"DABP", "code: Truncated"),
     ):
         text = "".join(f"{line}\n" for line in rest)
@@ -315,7 +315,7 @@ def codes(rows):
 
 
 def accepted(rows):
-    """What is accepted is printed as ever."""
+    """Accepted input prints the usual output."""
     rows.answers("compile x.plan x.code --explain", 0, "instructions 1 labels 1 configurations 1\n", {"x.plan": after("end")})
     rows.answers("verify x.code --explain", 0, "accepted\n", {"x.code": hexadecimal(NOTHING_FILE)})
 

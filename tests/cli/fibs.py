@@ -1,5 +1,5 @@
 #!/usr/bin/env python3
-"""'dabplan listen': FIBs byte by byte: which are damaged, what is passed over, and what a listener keeps. The last line is 'N
+"""'dabplan listen': FIBs byte by byte: which are damaged, what is skipped, and what a listener keeps. The last line is 'N
 passed, M failed'."""
 import rows
 from listen import ONE_PROGRAMME, fib, sixty_five, stream
@@ -8,20 +8,20 @@ from rows import hexadecimal
 # FIG 0/0 of ensemble E1C5 and count 0, and a notice at count 4 of a swap at 28.
 TUNED, NOTICED = "05 00 E1 C5 00 00", "06 00 E1 C5 40 04 1C"
 
-# Sub-channel 1 at 0 by 3-A with 96, 72 and 48 capacity units, and what is told of it.
+# Sub-channel 1 at 0 by 3-A with 96, 72 and 48 capacity units, and its listing lines.
 SUB_96, SUB_72, SUB_48 = "04 00 88 60", "04 00 88 48", "04 00 88 30"
 TOLD_96, TOLD_72, TOLD_48 = (f"sub 1 at 0 size {size} eep 3-A\n" for size in (96, 72, 48))
 RADIO = "service C221\n  audio 63 sub 1 primary\n"
 
 
 def told(rows, data, current, following="", swap="no swap", damaged=0):
-    """What is told of FIBs: these are current, and those are next."""
+    """The listing of FIBs: the current and the next lines."""
     wanted = f"fibs {len(data) // 32} damaged {damaged}\ncurrent\n{current}next\n{following}{swap}\n"
     rows.answers("listen x.fib", 0, wanted, {"x.fib": data})
 
 
 def whole_and_damaged(rows):
-    """Data bytes that are whole FIGs, and such that are not; what follows the end marker is not looked at."""
+    """Data bytes that are whole FIGs, and some that are not; bytes after the end marker are ignored."""
     filled = [f"{0xDF + place:02X} " + "00 " * (place - 1) if place else "" for place in range(30)]
     seven = " 01 " + "00 00 80 00 " * 7
     for data, damaged in (
@@ -55,7 +55,7 @@ def whole_and_damaged(rows):
 
 
 def each_turned_bit(rows):
-    """A FIB in which one bit is turned tells nothing, and what was told before stays, the swap that is awaited too."""
+    """A FIB in which one bit is inverted is ignored, and earlier entries are kept, the awaited swap too."""
     swap = f"05 00 E1 C5 00 1C 05 01 08 60 88 48 05 81 {SUB_48}"
     known = stream(f"{TUNED} 05 01 {SUB_96} {ONE_PROGRAMME[0][36:]}", f"{NOTICED} 05 81 {SUB_72} FF")
     good = fib(swap)
@@ -68,7 +68,7 @@ def each_turned_bit(rows):
 
 
 def passed_over(rows):
-    """Other ensembles, types and extensions, what follows the end marker, and entries before the first FIG 0/0."""
+    """Other ensembles, types and extensions, bytes after the end marker, and entries before the first FIG 0/0."""
     other = (f"05 41 {SUB_96} 02 09 00 23 00 E1 C5 FF 04 01 08 60 45",
              *(f"{header} 01 {SUB_96} FF" for header in ("25", "45", "65", "85", "A5", "C5", "E5")),
              *(f"05 {ext:02X} {SUB_96} FF" for ext in (*range(4, 32), *range(0x40, 0x44))))
@@ -82,7 +82,7 @@ def passed_over(rows):
 
 
 def each_field(rows):
-    """Entries as they are told: options, tables, TMIds, long identifiers, and fields that mean nothing here."""
+    """Entries in the listing: options, tables, TMIds, long identifiers, and fields without a meaning here."""
     for data, wanted in (
         ("05 01 FC DE 80 18", "sub 63 at 222 size 24 eep 1-A\n"), ("04 01 04 00 23", "sub 1 at 0 switch 0 table 35\n"),
         ("04 01 08 60 45", "sub 2 at 96 switch 1 table 5\n"), ("05 01 08 60 FC 60", "sub 2 at 96 size 96 option 7 level 4\n"),
@@ -104,7 +104,7 @@ def later_entries_replace_earlier_ones(rows):
 
 
 def no_configuration(rows):
-    """What is heard is told, and where a configuration can't have it, no script has it either."""
+    """Received entries are listed, and if a configuration can't have them, there is no script either."""
     for data in (
         "04 01 04 00 05", "05 01 04 00 A8 60", "05 01 04 00 88 61", "05 01 07 01 88 60", "06 02 C2 21 81 3F 06",
         "06 02 C2 21 11 3F 06", "06 02 C2 21 01 80 06", "06 02 C2 21 01 3F 07", "06 02 C2 21 01 3F 04",
@@ -115,7 +115,7 @@ def no_configuration(rows):
 
 
 def a_full_picture(rows):
-    """It takes what is known already and what is of another kind; of a FIB with one too many nothing is kept."""
+    """It accepts known entries and entries of another kind; of a FIB with one too many nothing is kept."""
     services = [f"04 02 C2 {number:02X} 00 FF" for number in range(64)]
     full, wanted = stream(f"{TUNED} FF", *services), "".join(f"service C2{number:02X}\n" for number in range(64))
     fits = f"06 02 C2 07 01 3F 06 05 01 {SUB_96} 06 03 00 10 3C 14 01 FF"
@@ -138,14 +138,14 @@ def a_full_picture(rows):
 
 
 def entries_ascend(rows):
-    """In whatever order they come."""
+    """In whatever order they are received."""
     numbers = [turn * 37 % 64 for turn in range(64)]
     data = stream(f"{TUNED} FF", *(f"04 02 {0xC0 | number // 16:02X} {number % 16 * 16:02X} 00 FF" for number in numbers))
     told(rows, data, "".join(f"service {0xC000 + 16 * number:04X}\n" for number in range(64)))
 
 
 def swaps(rows):
-    """A notice, a swap in whose frame another notice begins, a swap that is missed and seen by the flags that are gone, and
+    """A notice, a swap in whose frame another notice begins, a missed swap detected by the absence of flags, and
     two FIG 0/0 in one FIB."""
     first = ONE_PROGRAMME[0]
     notice = f"{NOTICED} 05 81 {SUB_72} FF"

@@ -1,5 +1,5 @@
 #!/usr/bin/env python3
-"""'dabplan frame': what it prints of a record, and how it refuses one. The last line is 'N passed, M failed'."""
+"""'dabplan frame': its output for a record, and refused records. The last line is 'N passed, M failed'."""
 import rows
 from rows import ONE_PROGRAMME, hexadecimal
 
@@ -10,8 +10,8 @@ EMPTY_FIB = "FF0000000000000000000000000000000000000000000000000000000000A8A8\n"
 
 
 def row_of_sub_channels(count, components):
-    """A record of the sub-channels 1 to `count`, each of 8 kbit/s at 4-A, one beside the other, and of one service with
-    audio of type 63 on the first `components` of them, where that is not 0."""
+    """A record of the sub-channels 1 to `count`, each of 8 kbit/s at 4-A, adjacent, and of one service with
+    audio of type 63 on the first `components` of them, if that is not 0."""
     record = [count, 1 if components else 0, 0]
     for number in range(1, count + 1):
         record += [number, 0, (number - 1) % 64 * 4, 0, 4, 0, 8]
@@ -23,7 +23,7 @@ def row_of_sub_channels(count, components):
 
 
 def records(rows):
-    """What is printed of a record."""
+    """The output for a record."""
     counted = "0500E1C500000501040088600602C221013F06FF000000000000000000002369\n"
     carried = "0501140088300602C22101C006060300103C1401FF00000000000000000062EF\n"
     for record, options, first in (
@@ -55,7 +55,7 @@ def modes(rows):
 
 
 def refused_records(rows):
-    """A record that is at fault, and the one line that says how. The faults are tested in order: the record, bytes after
+    """A record with a fault, and its line. The faults are tested in order: the record, bytes after
     it, soundness, the page."""
     overlap = "02 00 00 01 00 00 00 03 00 80 02 00 00 00 03 00 40"
     one_address = "01 00 02 05 00 00 00 03 00 40 00 01 00 3C 05 00 01 00 02 00 3C 05 00 01"
@@ -79,8 +79,8 @@ def refused_records(rows):
 
 
 def fields_of_records(rows):
-    """The first byte of the first field that is at fault. A field is judged as soon as its bytes are there: a rate that has
-    no size at the rate, an end past the multiplex at the start, a carrier that stands twice at its component."""
+    """The first byte of the first field at fault. A field is checked as soon as its bytes are present: a rate that has
+    no size at the rate, an end past the multiplex at the start, a carrier that occurs twice at its second component."""
     for record, wanted in (
         # the three numbers, and sub-channels
         ("41", "Field 0"), ("40", "Short"), ("01 41", "Field 1"), ("01 01 41", "Field 2"), ("01 00 00 40", "Field 3"),

@@ -6,7 +6,7 @@ from verdicts import judged
 
 
 def a_round_of_two_swaps(rows):
-    """A loop comes back to its label as it left it."""
+    """A loop returns to its label in the same state."""
     judged(rows, [PROGRAMME], (
         ("0 cost 1",
          "wait contact 3 closed, rate sub 1 96, commit in 24, join, wait contact 3 open, rate sub 1 128, "
@@ -17,7 +17,7 @@ def a_round_of_two_swaps(rows):
 
 
 def what_fits_a_label(rows):
-    """Configurations are compared by what they have; bounds may be wider, and the cost not more than what is left."""
+    """Configurations are compared by content; bounds may be wider, and the cost at most what is left."""
     judged(rows, [PROGRAMME, PROGRAMME, AT_64, AT_64], (
         ("0 cost 5, 3 of 0 2 within 24 27 cost 2", "rate sub 1 64, commit in 24, test 1 3, settle, end", None),
         ("0 cost 5, 3 of 1 3 within 24 27 cost 2", "rate sub 1 64, commit in 24, test 1 3, settle, end", None),
@@ -44,7 +44,7 @@ def what_does_not_fit_a_label(rows):
 
 
 def what_comes_from_the_instruction_before(rows):
-    """A label is met from the instruction before it too."""
+    """A label is also entered from the instruction before it."""
     judged(rows, [PROGRAMME, AT_64], (
         ("0 cost 2, 1 of 0 1 cost 1", "rate sub 1 64, wait 1, end", None),
         ("0 cost 2, 1 cost 1", "rate sub 1 64, wait 1, end", "1 Mismatch"),
@@ -56,7 +56,7 @@ def what_comes_from_the_instruction_before(rows):
 
 
 def labels_that_nothing_comes_to(rows):
-    """Parts of a code that only their own label reaches are judged as others are."""
+    """Parts of a code that only their own label reaches are checked like others."""
     judged(rows, [PROGRAMME, AT_64], (
         ("0 cost 1, 1 of 1 1 cost 2", "end, rate sub 1 96, end", None),
         ("0 cost 1, 1 of 1 1 cost 2", "end, rate sub 2 96, end", "1 Edit IdAbsent"),
@@ -83,7 +83,7 @@ def what_the_first_label_declares(rows):
 
 
 def no_label_where_one_is_needed(rows):
-    """At 0, and behind an instruction that never continues."""
+    """At 0, and after an instruction that never continues."""
     judged(rows, [""], (
         ("1 cost 1", "end", "0 Table"),
         ("0 cost 1", "end, end", "1 Table"),
@@ -93,7 +93,7 @@ def no_label_where_one_is_needed(rows):
 
 
 def labels_past_the_last_instruction(rows):
-    """They are refused at their place, which has no line."""
+    """They are refused at their pc, which has no line."""
     judged(rows, [""], (
         ("0 cost 1, 1 cost 1, 7 cost 1", "end", "1 Table"),
         ("0 cost 1, 1 cost 1, 65535 cost 1", "wait 1, end", "65535 Table"),
@@ -101,7 +101,7 @@ def labels_past_the_last_instruction(rows):
 
 
 def a_round_without_a_suspension(rows):
-    """No costs that a plan can name make it right."""
+    """It is refused with any cost."""
     judged(rows, [""], (
         ("0 cost 4, 1 counters 01 cost 3, 3 counters 01 cost 1", "set 0 5, test 1 3, jump 3, loop 0 1, end", "3 Cost"),
     ))
@@ -116,7 +116,7 @@ def a_round_without_a_suspension(rows):
 
 
 def a_round_with_a_wait(rows):
-    """It is accepted with the budget that it needs, and with one less it is not."""
+    """It is accepted with the budget that it needs, and refused with one less."""
     judged(rows, [""], (
         ("0 cost 4, 1 counters 01 cost 3, 3 counters 01 cost 1",
          "set 0 5, test 1 3, jump 3, wait 1, loop 0 1, end", None),
@@ -128,7 +128,7 @@ def a_round_with_a_wait(rows):
 
 
 def counters(rows):
-    """A counter is set where its loop is reached, on each way, and unset after it."""
+    """A counter is set when its loop is reached, on each path, and unset after it."""
     judged(rows, [""], (
         ("0 cost 2, 1 counters 01 cost 1", "set 0 3, wait 1, loop 0 1, end", None),
         ("0 cost 2, 1 cost 1", "set 0 3, wait 1, loop 0 1, end", "2 CounterUnset"),
@@ -139,7 +139,7 @@ def counters(rows):
 
 
 def one_loop_in_another(rows):
-    """The outer loop affords the way to the wait: two loops, and then the inner counter and the wait."""
+    """The cost of the outer loop covers the path to the wait: two loops, and then the inner counter and the wait."""
     judged(rows, [""], (
         ("0 cost 3, 1 counters 01 cost 2, 2 counters 81 cost 1",
          "set 0 3, set 7 2, wait 1, loop 7 2, loop 0 1, end", None),

@@ -1,5 +1,5 @@
 #!/usr/bin/env python3
-"""'dabplan listen': what it tells of FIBs, whole and damaged, and how it refuses a file. The last line is 'N passed, M
+"""'dabplan listen': its listing of valid and damaged FIBs, and refused files. The last line is 'N passed, M
 failed'."""
 import rows
 from rows import hexadecimal
@@ -9,7 +9,7 @@ ONE_PROGRAMME = ("05 00 E1 C5 00 00 05 01 04 00 88 60 06 02 C2 21 01 3F 06 FF", 
 
 
 def crc(data):
-    """The CRC of a FIB's data: the polynomial x^16 + x^12 + x^5 + 1, all ones at first, complemented (EN 300 401, 5.2.1)."""
+    """The CRC of a FIB's data: the polynomial x^16 + x^12 + x^5 + 1, all ones initially, complemented (EN 300 401, 5.2.1)."""
     word = 0xFFFF
     for byte in data:
         for place in range(7, -1, -1):
@@ -25,21 +25,21 @@ def fib(data):
 
 
 def stream(*data):
-    """FIBs of these data bytes, one behind the other."""
+    """FIBs of these data bytes, one after the other."""
     return b"".join(fib(each) for each in data)
 
 
 def listings(rows):
-    """What is told of whole FIBs."""
+    """The listing of valid FIBs."""
     for data, wanted in (
         ((), "fibs 0 damaged 0\ncurrent\nnext\nno swap\n"),
         (ONE_PROGRAMME, "fibs 3 damaged 0\ncurrent\nsub 1 at 0 size 96 eep 3-A\nservice C221\n"
                         "  audio 63 sub 1 primary\nnext\nno swap\n"),
-        # Entries before the first FIG 0/0 are passed over.
+        # Entries before the first FIG 0/0 are skipped.
         (("04 01 04 00 05 FF", "05 00 E1 C5 00 00 FF"), "fibs 2 damaged 0\ncurrent\nnext\nno swap\n"),
         (("05 00 E1 C5 00 00 04 01 04 00 05 FF",),
          "fibs 1 damaged 0\ncurrent\nsub 1 at 0 switch 0 table 5\nnext\nno swap\n"),
-        # A FIG that is no whole entry damages its FIB, earlier FIGs too.
+        # A FIG with an incomplete entry makes its FIB damaged, including earlier FIGs.
         (("05 00 E1 C5 00 00 04 01 04 00 88 FF",), "fibs 1 damaged 1\ncurrent\nnext\nno swap\n"),
     ):
         rows.answers("listen x.fib", 0, wanted, {"x.fib": stream(*data)})
@@ -47,7 +47,7 @@ def listings(rows):
 
 
 def damaged_fibs(rows):
-    """A FIB with a bit turned is counted, and tells nothing."""
+    """A FIB with an inverted bit is counted, and otherwise ignored."""
     for place in range(32):
         turned = bytearray(fib(ONE_PROGRAMME[0]))
         turned[place] ^= 1
@@ -94,7 +94,7 @@ def sixty_five(are_packets):
 
 
 def full_pictures(rows):
-    """64 services or packet components have room in a picture, and a 65th has none."""
+    """A picture has room for 64 services or packet components, and not for a 65th."""
     for are_packets in (False, True):
         whole = sixty_five(are_packets)
         rows.answers("listen x.fib", 1, "refused: Full\n", {"x.fib": whole})
@@ -103,7 +103,7 @@ def full_pictures(rows):
 
 
 def refused_files(rows):
-    """Files that are refused: of no whole FIBs, which is tested first, and one that can't be read."""
+    """Files that are refused: not whole FIBs, which is tested first, and one that can't be read."""
     whole = sixty_five(False)
     for part in (whole[:65], whole[:-1]):
         rows.answers("listen x.fib", 1, "refused: not whole FIBs\n", {"x.fib": part})
@@ -112,7 +112,7 @@ def refused_files(rows):
 
 
 def pieces(rows):
-    """Streams that end before, at and after the end of a piece of 8,192 FIBs, and what is full or not whole behind that."""
+    """Streams that end before, at and after the end of a piece of 8,192 FIBs, and full pictures or partial FIBs after it."""
     first, second = fib("05 00 E1 C5 00 00 05 01 04 00 88 60 FF"), fib("05 01 04 00 88 48 FF")
     for count in (8191, 8192, 8193, 16384, 16385):
         data = first + second * (count - 2) + first
@@ -124,7 +124,7 @@ def pieces(rows):
 
 
 def forgotten_fibs(rows):
-    """A FIB that told nothing new tells something again once another one, or a swap, has changed what it is about."""
+    """A FIB without new entries has new ones again after another one, or a swap, has changed the picture."""
     at_96, at_128 = "05 01 04 00 88 48 FF", "05 01 04 00 88 60 FF"
     tuned, next_at_96 = "05 00 E1 C5 00 00 FF", "05 81 04 00 88 48 FF"
     announced, swapped = "06 00 E1 C5 40 04 1C FF", "05 00 E1 C5 00 1C FF"

@@ -1,5 +1,5 @@
 #!/usr/bin/env python3
-"""'dabplan listen --script' and 'frame --script': a configuration that is heard as a script, and a frame of a script. The last
+"""'dabplan listen --script' and 'frame --script': a received configuration as a script, and a frame of a script. The last
 line is 'N passed, M failed'."""
 import rows
 from listen import ONE_PROGRAMME, stream
@@ -12,7 +12,7 @@ EMPTY_FIB = "FF0000000000000000000000000000000000000000000000000000000000A8A8\n"
 
 
 def scripts(rows):
-    """The script of what is heard; the EId is that of the last FIG 0/0 of this ensemble in a FIB that is not damaged."""
+    """The script of a received configuration; the EId is that of the last FIG 0/0 of this ensemble in an undamaged FIB."""
     other = "05 00 E1 C6 00 00 FF"
     for data, options, wanted in (
         (ONE_PROGRAMME, "", SCRIPT),
@@ -33,17 +33,17 @@ def scripts(rows):
 
 
 def refused_streams(rows):
-    """First what 'listen' refuses, then a stream without an ensemble, then the first entry that no configuration has."""
+    """First the refusals of 'listen', then a stream without an ensemble, then the first entry that no script can have."""
     short = "05 00 E1 C5 00 00 04 01 04 00 05 FF"
     for data, wanted in (
         ((), "refused: no ensemble\n"),
         (("04 01 04 00 05 FF",), "refused: no ensemble\n"),
         ((short,), "refused: cannot be written: sub 1 at 0 switch 0 table 5\n"),
-        # Option 2; a size that no rate has at 3-A; a sub-channel past the last capacity unit.
+        # Option 2; a size without a rate at 3-A; a sub-channel past the last capacity unit.
         (("05 00 E1 C5 00 00 05 01 04 00 A8 60 FF",), "refused: cannot be written: sub 1 at 0 size 96 option 2 level 3\n"),
         (("05 00 E1 C5 00 00 05 01 04 00 88 61 FF",), "refused: cannot be written: sub 1 at 0 size 97 eep 3-A\n"),
         (("05 00 E1 C5 00 00 05 01 07 5F 88 06 FF",), "refused: cannot be written: sub 1 at 863 size 6 eep 3-A\n"),
-        # A service of which a component is of TMId 10, with its first line alone.
+        # A service with a component of TMId 10, of which only the first line is printed.
         (("05 00 E1 C5 00 00 06 02 C2 21 01 80 01 FF",), "refused: cannot be written: service C221\n"),
         # Sub-channels come before services.
         (("05 00 E1 C5 00 00 06 02 C2 21 01 80 01 04 01 04 00 05 FF",),
@@ -55,7 +55,7 @@ def refused_streams(rows):
 
 
 def frames(rows):
-    """A frame of a script is that of its opening, of its ensemble and in its mode."""
+    """A frame of a script is that of its opening, with its ensemble and mode."""
     for script, options, wanted in (
         (SCRIPT, "--count 0", COUNTED + 2 * EMPTY_FIB),
         (SCRIPT + "end", "--count 0 --page 0", COUNTED + 2 * EMPTY_FIB),
@@ -84,7 +84,7 @@ def refused_frames(rows):
 
 
 def heard_again(rows):
-    """All pages of a script's opening, heard again, give the script."""
+    """All pages of a script's opening, decoded again, give the script."""
     subs = "".join(f"sub {n} at {4 * n} eep 4-A 8\n" for n in range(64))
     services = "".join(f"service {n:04X}\naudio 63 sub {n} in {n:04X}\n" for n in range(32))
     script = "ensemble F00D mode 2\nperiod 60 notice 248 budget 255\n" + subs + services + "begin\n"

@@ -1,28 +1,28 @@
 #!/usr/bin/env python3
-"""'dabplan play' and 'dabplan listen': listeners that are started at each frame of a playback in turn. The last line is 'N
+"""'dabplan play' and 'dabplan listen': listeners started at each frame of a playback. The last line is 'N
 passed, M failed'."""
 import rows
 from codes import AT_64, PROGRAMME, SMALL_SUBS, code
 from player import ADDED
 
-# Each mode: the FIBs of a frame, and on which counts FIG 0/0 is sent.
+# Each mode: the FIBs of a frame, and the counts at which FIG 0/0 is sent.
 MODES = ((1, 3, 4), (2, 3, 1), (3, 4, 1), (4, 3, 2))
 
 
 def listing(kbits):
-    """What is told of the programme at this rate, in kbit/s; nothing for 0."""
+    """The listing of the programme at this rate, in kbit/s; nothing for 0."""
     size = {128: 96, 96: 72, 64: 48}.get(kbits)
     return f"sub 1 at 0 size {size} eep 3-A\nservice C221\n  audio 63 sub 1 primary\n" if kbits else ""
 
 
 def subs(first):
-    """What is told of the small sub-channels from this one on."""
+    """The listing of the small sub-channels from this one on."""
     return "".join(f"sub {number} at {4 * number} size 4 eep 4-A\n" for number in range(first, 64))
 
 
 class Playback:
-    """The bytes of frames from a count on, and the frames at which notices begin and swaps are made, with what is current
-    from each swap on."""
+    """The bytes of frames from a count on, and the frames at which notices begin and swaps are made, with the current
+    configuration from each swap on."""
 
     def __init__(self, rows, mode, file, events, count, notices, swaps, period=4, day=0):
         self.rows, (_, self.fibs, self.step) = rows, next(each for each in MODES if each[0] == mode)
@@ -32,18 +32,18 @@ class Playback:
         self.frames = len(self.bytes) // (32 * self.fibs)
 
     def current(self, frame):
-        """What is current in this frame."""
+        """The current configuration in this frame."""
         return [told for first, told in self.swaps if first <= frame][-1]
 
     def hears(self, first, end):
-        """A listener of the frames from one up to another knows what is current in the last of them."""
+        """A listener of the frames from one up to another knows the current configuration in the last of them."""
         told = self.rows.run("listen x.fib", {"x.fib": self.bytes[32 * self.fibs * first:32 * self.fibs * end]})
         told = told.printed.decode().split("current\n")[-1].split("next\n")[0]
         self.rows.tally.same(f"frames {first} to {end} from count {self.count}", self.current(end - 1), told)
 
     def is_heard(self):
-        """A listener that is started at any frame knows what is current after each period of a phase that it was tuned in,
-        and from the frame of a swap on whose notice it heard whole."""
+        """A listener that is started at any frame knows the current configuration after each period of a phase that it was
+        tuned in, and from the frame of a swap on whose notice it heard completely."""
         begins = sorted({0, *self.notices, *(first for first, _ in self.swaps)})
         for first in range(self.frames - self.period - self.step + 1):
             tuned = next(frame for frame in range(first, self.frames) if (self.count + frame) % 5000 % self.step == 0)
@@ -63,7 +63,7 @@ def first_swaps(rows):
 
 
 def swaps_at_a_count(rows):
-    """The swap is a whole round of the count away: its last 80 frames are heard."""
+    """The swap is a whole cycle of the count away: its last 80 frames are heard."""
     for mode, *_ in MODES:
         file = code(f"{ADDED}, commit at 1000, join, end", "0 cost 6", mode=mode)
         playback = Playback(rows, mode, file, "frames 5020", 1000, [36], [(0, ""), (60, listing(128))])
@@ -83,8 +83,8 @@ def swaps_there_and_back(rows):
 
 
 def swaps_that_are_settled(rows):
-    """Contact 3 is waited for in a notice: it is closed at first, or after the swap. The second swap follows the first at
-    once, or the frame in which the contact was found closed."""
+    """The script waits for contact 3 in a notice: it is closed at the start, or after the swap. The second swap follows the
+    first at once, or the frame in which the contact is found closed."""
     for mode, late in ((1, 56), (2, 54), (3, 54), (4, 54)):
         file = code("rate sub 1 64, commit in 24, wait contact 3 closed, settle, rate sub 1 96, commit in 24, settle, end",
                     "0 cost 5", [PROGRAMME], mode=mode)
@@ -94,7 +94,7 @@ def swaps_that_are_settled(rows):
 
 
 def swaps_while_an_hour_comes(rows):
-    """A frame of the day is waited for in the notice; contact 1 is closed, or open."""
+    """The script waits for a frame of the day in the notice; contact 1 is closed, or open."""
     for mode, *_ in MODES:
         file = code("rate sub 1 64, commit in 24, until 3300000, test 1 5, wait 1, settle, end",
                     "0 cost 3, 5 of 0 1 perhaps 26 cost 2", [PROGRAMME, AT_64], mode=mode)

@@ -1,5 +1,5 @@
 #!/usr/bin/env python3
-"""'dabplan live': the frames of lines as they come, what is skipped, what is told, and how it refuses; and '--time' for
+"""'dabplan live': the frames of lines as they arrive, skipped frames, messages, and refusals; and '--time' for
 'play' and 'debug'. The last line is 'N passed, M failed'."""
 import subprocess
 
@@ -24,13 +24,13 @@ def played(rows, code, text, options=""):
 
 
 def live(rows, code, lines, options, status, written, told):
-    """A code led by these bytes ends so."""
+    """A code driven by these bytes ends with this output."""
     ended = rows.run(f"live x.code {options}", {"x.code": hexadecimal(code)}, lines)
     rows.tally.same(f"live {lines[:60]} {options}", (status, written, told), (*ended.lines(), ended.messages.decode()))
 
 
 def lines_are_played(rows):
-    """Steps over several lines, blank lines, comments, and a last line without its end."""
+    """Steps over several lines, blank lines, comments, and a last line without a line feed."""
     wanted = played(rows, RATES_FILE, " ".join(LINES))
     for lines in ("\n".join(LINES) + "\n", "\n".join(LINES), "# on\n\n" + "\n\r\n".join(LINES) + " # frames 3\n",
                   " ".join(LINES) + "\n", "frames 1\ncontact 3 closed\n" + "frames 1\n" * 39 + "contact 3 open\n" + "frames 1\n" * 30):
@@ -41,7 +41,7 @@ def lines_are_played(rows):
 
 
 def frames_are_skipped(rows):
-    """The first frames are made, counted and told, and not written."""
+    """The first frames are made, counted and reported, but not written."""
     wanted = played(rows, RATES_FILE, " ".join(LINES))
     lines = "\n".join(LINES).encode()
     for skip in (0, 1, 28, 69, 70, 71, 4294967295):
@@ -49,14 +49,14 @@ def frames_are_skipped(rows):
 
 
 def a_plan_ends(rows):
-    """The end is told once, in the frame in which it is run."""
+    """The end is reported once, in the frame that executes it."""
     for options, told in (("", "frame 0 count 0 end\n"), ("--count 4999", "frame 0 count 4999 end\n")):
         wanted = played(rows, NOTHING_FILE, "frames 3", options)
         live(rows, NOTHING_FILE, b"frames 1\nframes 2\n", f"{options} --status", 0, wanted, told)
 
 
 def bad_lines_do_nothing(rows):
-    """Each is told with its number and column, and the next one is read."""
+    """Each is reported with its number and column, and the next one is read."""
     wanted = played(rows, RATES_FILE, "frames 3")
     for line, fault in (
         (b"frames 0", "8: Number"), (b"frames 3600001", "8: Number"), (b"frames", "7: Expected"),
@@ -70,7 +70,7 @@ def bad_lines_do_nothing(rows):
 
 
 def it_does_not_begin(rows):
-    """The faults of `play`, in its order and words; no line is read."""
+    """The faults of `play`, in its order and with its texts; no line is read."""
     for code, options, told in (
         ("44 41 42 50", "", "code: Truncated"), (RATES_FILE.replace("44 41", "45 41", 1), "", "code: Magic"),
         (REFUSED_FILE, "--count 5000", "refused at 0 line 1: JoinIdle"),
@@ -82,7 +82,7 @@ def it_does_not_begin(rows):
 
 
 def the_output_fails(rows):
-    """The frames that went out are told, without those that were skipped; no further line is read."""
+    """The written frames are reported, not counting those skipped; no further line is read."""
     for options, told in (("", ""), ("--skip 3 --status", "")):
         rows.run("", {"x.code": hexadecimal(RATES_FILE)})
         with open("/dev/full", "wb") as full:
@@ -93,7 +93,7 @@ def the_output_fails(rows):
 
 
 def each_line_comes_out(rows):
-    """The frames of a line are there before the next line is given, and the end of the input is waited for."""
+    """The frames of a line are written before the next line is given, and the run waits for the end of the input."""
     wanted = played(rows, RATES_FILE, "frames 4")
     rows.run("", {"x.code": hexadecimal(RATES_FILE)})
     with subprocess.Popen([rows.program, "live", "x.code"], cwd=rows.folder, stdin=subprocess.PIPE, stdout=subprocess.PIPE,
@@ -118,7 +118,7 @@ def until(day):
 
 
 def a_time_is_a_day_frame(rows):
-    """`--time` is the first frame at that time or after it; three seconds have 125 frames."""
+    """`--time` is the first frame at or after that time; three seconds have 125 frames."""
     for time, day in (("00:00:00", 0), ("00:00:01", 42), ("00:00:02", 84), ("00:00:03", 125), ("12:00:00", 1800000),
                       ("11:59:59", 1799959), ("23:59:59", 3599959)):
         files = {"x.code": hexadecimal(until(day + 10)), "x.commands": "next next", "x.events": "frames 20"}
@@ -132,7 +132,7 @@ def a_time_is_a_day_frame(rows):
 
 
 def wrong_command_lines(rows):
-    """They are told on standard error, and nothing goes to standard output; help does."""
+    """They are reported on standard error, and nothing goes to standard output; help does."""
     for options in ("--time 24:00:00", "--time 12:60:00", "--time 12:00", "--time 1:00:00", "--time=", "--day 0 --time 00:00:00",
                     "--skip -1", "--skip 4294967296", "--skip x", "--status --status", "--page 1", "x", "--contacts 00g0"):
         ended = rows.run(f"live x.code {options}", {"x.code": hexadecimal(RATES_FILE)}, b"frames 1\n")

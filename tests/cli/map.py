@@ -8,7 +8,7 @@ from rows import RATES
 
 SVG = "{http://www.w3.org/2000/svg}"
 
-# Two sub-channels in one cell, a block that is applied twice, and ways that meet.
+# Two sub-channels in one cell, a block that is applied twice, and paths that merge.
 WAYS = """\
 ensemble E1C5
 period 4 notice 24 budget 20
@@ -33,7 +33,7 @@ def row(label, bar, free):
 
 
 def cells(*runs):
-    """The cells of a bar, of runs of a text and how many cells have it; the rest is free."""
+    """The cells of a bar, from pairs of a text and a number of cells; the rest is free."""
     text = "".join(text * count for text, count in runs)
     return text + "." * (144 - len(text))
 
@@ -56,7 +56,7 @@ def rows_of_plans(rows):
 
 
 def colours_of(drawing):
-    """The colours of the sub-channels of a drawing, each with the numbers that its titles name."""
+    """The colours of the sub-channels of a drawing, each with the numbers in its titles."""
     colours = {}
     for shape in drawing.iter(f"{SVG}rect"):
         title = shape.find(f"{SVG}title")
@@ -95,7 +95,7 @@ def colours_of_all(rows):
 
 
 def refused(rows):
-    """Scripts that are refused, as `compile` does, and files that can't be had; no drawing is made."""
+    """Scripts that are refused, as `compile` does, and inaccessible files; no drawing is created."""
     pending = RATES.replace("join\n", "", 1)
     for line, script, wanted in (
         ("map x.plan --svg x.svg", "ensemble e1c5", "1:10: Number\n"),

@@ -1,5 +1,5 @@
 #!/usr/bin/env python3
-"""'dabplan compile': the code files of plans, where plans are refused, and what is a limit. The last line is 'N passed, M
+"""'dabplan compile': the code files of plans, the lines of refusals, and the limits. The last line is 'N passed, M
 failed'."""
 import rows
 from codes import AT_64, PROGRAMME, SMALL_SUBS, code
@@ -18,7 +18,7 @@ def ends(rows, table):
 
 
 def sizes(instructions, labels=1, configurations=1):
-    """What is printed of a code of so many parts."""
+    """The line for a code of these sizes."""
     return f"instructions {instructions} labels {labels} configurations {configurations}"
 
 
@@ -52,7 +52,7 @@ def code_files(rows):
 
 
 def causes_of_commits(rows):
-    """Counts, notices, configurations, and a commit of nothing new."""
+    """Counts, notices, configurations, and a commit without a change."""
     ends(rows, (
         (ADDED, "commit at 1002\njoin\n", "refused line 4: Count"), (ADDED, "commit at 5000\njoin\n", "refused line 4: Count"),
         (ADDED, "commit in 23\njoin\n", "refused line 4: Notice"), (ADDED, "commit in 24\njoin\n", sizes(6)),
@@ -66,7 +66,7 @@ def causes_of_commits(rows):
 
 
 def waits_across_a_swap(rows):
-    """The swap has surely been made, surely not, or neither; and a contact or settling in between."""
+    """The swap has certainly been made, certainly not, or neither; and a contact or `settle` in between."""
     lowered, again = "rate sub 1 64\ncommit in 24\n", "rate sub 1 96\n"
     until_settled = f"{again}commit in 24\nsettle\n"
     ends(rows, (
@@ -86,7 +86,7 @@ def waits_across_a_swap(rows):
 
 
 def loops(rows):
-    """A loop comes back as it began, and has a suspension on each way round."""
+    """A loop restores the state at its beginning, and has a suspension on each path."""
     lowered = "wait contact 3 closed\nrate sub 1 96\ncommit in 24\njoin\nwait contact 3 open\n"
     choice = "if contact 1 { } else { }\n"
     ends(rows, (
@@ -101,7 +101,7 @@ def loops(rows):
 
 
 def edits(rows):
-    """Edits that can't be made, as items and as statements; a sub-channel that stands where another one stood."""
+    """Edits that can't be made, as items and as statements; a sub-channel in the units of a dropped one."""
     two = OPENED.replace("service C221\naudio 63 sub 1 in C221", "sub 2 at 96 eep 3-A 64")
     ends(rows, (
         (HEAD, "packet 1 groups type 60 sub 5 address 0\nbegin\n", "refused line 2: Edit BadAddress"),
@@ -122,7 +122,7 @@ def edits(rows):
 
 
 def statements_that_cannot_be_reached(rows):
-    """They are refused where they are applied; a block that is never applied is not looked at."""
+    """They are refused where they are applied; a block that is never applied is not checked."""
     ends(rows, (
         (HEAD, "begin\nif contact 1 { end } else { end }\nwait 1\n", "refused line 4: Table"),
         (HEAD, "begin\nforever { wait 1 }\nend\n", "refused line 4: Table"),

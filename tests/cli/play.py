@@ -1,5 +1,5 @@
 #!/usr/bin/env python3
-"""'dabplan play': what it counts, the bytes of its frames, and how it refuses. The last line is 'N passed, M failed'."""
+"""'dabplan play': its count of frames, their bytes, and its refusals. The last line is 'N passed, M failed'."""
 import rows
 from rows import NOTHING_FILE, RATES_FILE, REFUSED_FILE, hexadecimal
 from verify import HEADER, PROGRAMME, START
@@ -8,7 +8,7 @@ EVENTS = "frames 1 contact 3 closed contact 3 open contact 3 closed frames 39 co
 
 
 def played(rows, code, events, options, status, wanted):
-    """A code file and an event file are played so."""
+    """Playing a code file and an event file gives this output."""
     rows.answers(f"play x.code x.events x.fib {options}", status, wanted,
                  {"x.code": hexadecimal(code), "x.events": events})
 
@@ -23,7 +23,7 @@ def has(rows, places):
 
 
 def frames_are_counted(rows):
-    """Events, a start late in the day and at the last count, and contacts that are closed at first."""
+    """Events, a start late in the day and at the last count, and contacts that are closed at the start."""
     for code, events, options, count in (
         (RATES_FILE, EVENTS, "", 70),
         (RATES_FILE, "", "", 0),
@@ -64,7 +64,7 @@ def a_first_programme(rows):
 
 
 def faults_in_their_order(rows):
-    """The line of a fault is printed alone: of the code first, then of the start, then of the events."""
+    """Only the line of a fault is printed: of the code first, then of the start, then of the events."""
     for code, events, options, wanted in (
         ("", "@", "--count 5000", "code: Truncated\n"),
         (NOTHING_FILE, "@", "--count 5000 --day 3600000", "start: Count\n"),
@@ -78,7 +78,7 @@ def faults_in_their_order(rows):
 
 
 def files_that_cannot_be_had(rows):
-    """Files that are not there or are no text, and one that can't be made; the first of them is told."""
+    """Files that don't exist or are not text, and one that can't be created; the first of them is reported."""
     files = {"x.code": b"DABP", "x.events": "frames 1", "no_text": b"\xff"}
     for line, wanted in (
         ("y.code x.events x.fib", "cannot read y.code\n"),

@@ -1,6 +1,6 @@
 #!/usr/bin/env python3
-"""'dabplan debug' and 'dabplan play': how many instructions each frame carries out, how many frames are left until a swap,
-and what frames send. The last line is 'N passed, M failed'."""
+"""'dabplan debug' and 'dabplan play': the instructions that each frame executes, the frames left until a swap,
+and the bytes of frames. The last line is 'N passed, M failed'."""
 import re
 
 import rows
@@ -17,7 +17,7 @@ AT_128, AT_96, SERVICE = "05 01 04 00 88 60", "05 01 04 00 88 48", "06 02 C2 21 
 
 
 def reports(rows, file, commands, options=""):
-    """What `debug` reports of the commands: frames, steps, pc, line, count and the frames that are left until a swap."""
+    """The reports of `debug` for the commands: frames, steps, pc, line, count and the frames left until a swap."""
     ended = rows.run(f"debug x.code x.commands {options}", {"x.code": file, "x.commands": commands})
     rows.tally.same(f"debug of {commands[:40]}", 0, ended.status)
     return [tuple(None if word == "none" else int(word) for word in found)
@@ -25,7 +25,7 @@ def reports(rows, file, commands, options=""):
 
 
 def steps(rows, file, commands, wanted, options=""):
-    """The frames of these commands, each a `run 1` or a contact, carry out so many instructions."""
+    """The frames of these commands, each a `run 1` or a contact, execute these numbers of instructions."""
     found = [report[1] for report in reports(rows, file, commands, options) if report[0] == 1]
     rows.tally.same(f"steps of {commands[:40]}", list(wanted), found)
 
@@ -44,7 +44,7 @@ def begins(rows, frame, wanted):
 
 
 def waits_and_loops(rows):
-    """What each frame carries out where nothing is committed, from the last frame of a day on."""
+    """The instructions of each frame without a commit, from the last frame of a day on."""
     body = "0 cost 2, 1 counters 01 cost 1"
     for instructions, labels, wanted in (
         ("end", "0 cost 1", (1, 0, 0, 0, 0)),
@@ -59,7 +59,7 @@ def waits_and_loops(rows):
 
 
 def contacts_are_waited_for_and_tested(rows):
-    """A wait for a contact continues in a later frame; a test continues behind it where the contact is closed."""
+    """A wait for a contact continues in a later frame; a test continues after it if the contact is closed."""
     both = code("wait contact 3 closed, wait contact 3 open, end")
     steps(rows, both, "run 1 run 1 run 1 contact 3 open run 1 run 1 run 1", (1, 1, 0, 1, 0, 0), "--contacts 0008")
     tested = code("test 3 3, wait 1, jump 0, wait 2, jump 0", "0 cost 5, 3 cost 3")
@@ -69,14 +69,14 @@ def contacts_are_waited_for_and_tested(rows):
 
 
 def a_swap_falls_on_a_count_of_its_mode(rows):
-    """How many frames are left after the frame of a commit: the swap comes no earlier than the delay says."""
+    """The frames left after the frame of a commit: the swap is not before the delay."""
     for mode, delay, count, left in ((1, 25, 0, 27), (2, 25, 0, 24), (3, 25, 0, 24), (4, 25, 0, 25), (1, 60000, 4997, 60002)):
         file = code(f"rate sub 1 96, commit in {delay}, end", "0 cost 3", [PROGRAMME], mode=mode)
         rows.tally.same(f"left {delay}", left, reports(rows, file, "run 1", f"--count {count}")[0][5])
 
 
 def a_swap_at_a_count_leaves_a_whole_notice(rows):
-    """Where the count is nearer than the notice, the swap is a whole round of the count later."""
+    """If the count is nearer than the notice, the swap is a whole cycle of the count later."""
     for at, count, left in ((100, 76, 23), (100, 77, 5022), (0, 4999, 5000), (20, 4990, 29)):
         file = code(f"rate sub 1 96, commit at {at}, end", "0 cost 3", [PROGRAMME])
         rows.tally.same(f"left {at}", left, reports(rows, file, "run 1", f"--count {count}")[0][5])
@@ -94,8 +94,8 @@ def two_swaps_are_counted_down(rows):
 
 
 def two_swaps_are_announced_and_made(rows):
-    """FIG 0/0 is sent each fourth frame, flagged with the count of the swap in the notice; the next configuration goes beside
-    the current one, and takes its place."""
+    """FIG 0/0 is sent each fourth frame, flagged with the count of the swap in the notice; the next configuration is sent with
+    the current one, and then replaces it."""
     made = frames(rows, TWO_SWAPS, "frames 200")
     for count in range(120):
         low = 24 if count < 24 else 100 if 76 <= count < 100 else None
@@ -117,7 +117,7 @@ def two_swaps_are_announced_and_made(rows):
 
 
 def a_first_swap(rows):
-    """From count 4990 on, in 24 frames, and from 1000 on at count 1000: what is left, and where the code is."""
+    """From count 4990 on, in 24 frames, and from 1000 on at count 1000: the frames left, and the pc."""
     file = code(f"{ADDED}, commit in 24, join, end", "0 cost 6")
     wanted = [(1, 5, 5, 4991, 25), (25, 0, 5, 16, 0), (1, 1, 5, 17, None)]
     found = reports(rows, file, "run 1 run 25 run 1", "--count 4990")
@@ -133,7 +133,7 @@ def a_first_swap(rows):
 
 
 def a_contact_in_a_notice(rows):
-    """Two swaps; contact 3 is waited for in the notice of the first one, and is closed then, or after the swap."""
+    """Two swaps; the code waits for contact 3 in the notice of the first one, which is closed then, or after the swap."""
     file = code("rate sub 1 64, commit in 24, wait contact 3 closed, settle, rate sub 1 96, commit in 24, settle, end",
                 "0 cost 5", [PROGRAMME])
     early = {0: 3, 1: 1, 24: 3, 48: 1}
@@ -143,8 +143,8 @@ def a_contact_in_a_notice(rows):
 
 
 def modes(rows):
-    """Frames of mode 3 have four FIBs. In modes 2 and 3 each frame has FIG 0/0, in mode 4 every other one, and a swap comes
-    at such a count."""
+    """Frames of mode 3 have four FIBs. In modes 2 and 3 each frame has FIG 0/0, in mode 4 every other one, and a swap is at
+    such a count."""
     made = frames(rows, code("end", mode=3), "frames 100", size=128)
     rows.tally.same("frames of mode 3", [128] * 100, [len(frame) for frame in made])
     begins(rows, made[1], "05 00 E1 C5 00 01 FF")
@@ -162,7 +162,7 @@ def modes(rows):
 
 
 def frames_in_parts(rows):
-    """However many frames a step asks for, and with a contact that changes between them, the bytes are the same."""
+    """Whatever the number of frames per step, and with a contact that changes between them, the bytes are the same."""
     by_contact = code("wait contact 3 closed, rate sub 1 96, commit in 24, join, wait contact 3 open, rate sub 1 128,"
                       "commit in 24, join, jump 0", "0 cost 1", [PROGRAMME])
     by_day = code("until 20, wait 13, jump 0")

@@ -1,5 +1,5 @@
 #!/usr/bin/env python3
-"""'dabplan verify': each cause, each fault of an edit and of a configuration, and which of several comes first. The last
+"""'dabplan verify': each cause, each fault of an edit and of a configuration, and the first of several. The last
 line is 'N passed, M failed'."""
 import rows
 from codes import PROGRAMME, SMALL_SUBS
@@ -36,7 +36,7 @@ def pending_swaps(rows):
 
 
 def several_at_the_opening(rows):
-    """First what the first label declares, then its cost, then the configuration, its pages, and the instruction."""
+    """First the declarations of the first label, then its cost, then the configuration, its pages, and the instruction."""
     judged(rows, [SMALL_SUBS + ", service C221", "", SMALL_SUBS], (
         ("0 of 0 1 cost 21", "join", "0 Mismatch"),
         ("0 cost 21", "join", "0 Cost"),
@@ -49,7 +49,7 @@ def several_at_the_opening(rows):
 
 
 def several_at_a_label(rows):
-    """First what the label declares, then its cost, then the instruction."""
+    """First the declarations of the label, then its cost, then the instruction."""
     judged(rows, [""], (
         ("0 cost 1, 1 counters 01 cost 21", "wait 1, join", "1 Mismatch"),
         ("0 cost 1, 1 cost 21", "wait 1, join", "1 Cost"),
@@ -58,7 +58,7 @@ def several_at_a_label(rows):
 
 
 def several_at_a_jump(rows):
-    """First the counter, then the target, what the label there declares, and its cost."""
+    """First the counter, then the target, the declarations of its label, and its cost."""
     judged(rows, [""], (
         ("0 cost 1", "loop 0 9, end", "0 CounterUnset"),
         ("0 cost 1", "test 0 9", "0 Target"),
@@ -68,7 +68,7 @@ def several_at_a_jump(rows):
 
 
 def a_commit_of_nothing_before_its_pages(rows):
-    """Nothing is new, and both together would take seven pages."""
+    """Nothing has changed, and both together would take seven pages."""
     judged(rows, [SMALL_SUBS], (
         ("0 cost 2", "commit in 24, end", "0 NoChange"),
     ))
@@ -160,7 +160,7 @@ def one_too_many(rows):
 
 
 def unsound(rows):
-    """A fault of a configuration that a code begins with, and that edits make, where they are committed."""
+    """A fault of the configuration that a code begins with, and of one made by edits, at its commit."""
     for items, fault in (
         ("sub 1 at 0 eep 3-A 128, service C221, audio 63 sub 1 in C221", None),
         ("service C221, sub 1 at 0 eep 3-A 8, sub 2 at 96 eep 3-A 8", "EmptyService"),

@@ -1,4 +1,4 @@
-"""What the scripts of tests/cli/ share: a command line over its files, and the comparison with what has to come out."""
+"""Shared by the scripts of tests/cli/: runs a command line over its files, and compares the output with the expected one."""
 import pathlib
 import sys
 import tempfile
@@ -9,7 +9,7 @@ import common  # noqa: E402
 # Sub-channel 1 at 0, 3-A, 128 kbit/s, and service C221 with audio of type 63 on it.
 ONE_PROGRAMME = "01 01 00 01 00 00 00 03 00 80 00 C2 21 01 00 3F 01"
 
-# A rate is lowered and raised as contact 3 is closed and opened.
+# A rate is lowered and raised when contact 3 is closed and opened.
 RATES = """\
 ensemble E1C5
 period 4 notice 24 budget 20
@@ -29,7 +29,7 @@ join
 }
 """
 
-# Its code file, byte by byte as the format has it: header, configuration, label, nine instructions.
+# Its code file, byte by byte: header, configuration, label, nine instructions.
 RATES_FILE = f"""
 44 41 42 50 01 E1 C5 04 18 14 00 01 00 01 00 09
 {ONE_PROGRAMME}
@@ -45,17 +45,17 @@ NOTHING_FILE = """
 00 00 00  00 00 00 00 00 00 00 00 00 00 00 00 01  00 01 07
 """
 
-# A code whose only instruction joins where no swap is pending, in line 1.
+# A code whose only instruction is a join without a pending swap, in line 1.
 REFUSED_FILE = NOTHING_FILE.replace("00 01 07", "00 01 06")
 
 
 def hexadecimal(text):
-    """The bytes that a text of hexadecimal pairs writes."""
+    """The bytes of a text of hexadecimal pairs."""
     return bytes.fromhex(text)
 
 
 class Rows:
-    """The built program, the folder that its rows are run in, and what passed and failed."""
+    """The built program, the folder that its rows are run in, and the numbers passed and failed."""
 
     def __init__(self, folder):
         self.tally = common.Tally()
@@ -63,7 +63,7 @@ class Rows:
         self.folder = folder
 
     def run(self, line, files=None, stdin=b""):
-        """Runs `dabplan` with the words of a line, cut at blanks, where the folder holds these files and no other."""
+        """Runs `dabplan` with the arguments of a line, split at blanks, in a folder with exactly these files."""
         for path in pathlib.Path(self.folder).iterdir():
             path.unlink()
         for name, content in (files or {}).items():
@@ -72,12 +72,12 @@ class Rows:
         return common.run([self.program, *words], self.folder, stdin=stdin)
 
     def made(self, name):
-        """The bytes of a file that the last run left in the folder; None where there is none."""
+        """The bytes of a file that the last run left in the folder; None if there is none."""
         path = pathlib.Path(self.folder, name)
         return path.read_bytes() if path.exists() else None
 
     def answers(self, line, status, printed, files=None, stdin=b""):
-        """Counts that a command line ends with this status, prints this text and has no other message."""
+        """Counts that a command line ends with this status, prints this text and nothing on standard error."""
         ended = self.run(line, files, stdin)
         self.tally.same(f"dabplan {line}", (status, printed.encode(), b""), (*ended.lines(), ended.messages))
 

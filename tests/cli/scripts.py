@@ -1,12 +1,12 @@
 #!/usr/bin/env python3
-"""'dabplan compile': the texts of scripts: each fault at its place, limits, and what each item and statement is read as. The
+"""'dabplan compile': the texts of scripts: each fault at its position, limits, and the code of each item and statement. The
 last line is 'N passed, M failed'."""
 import re
 
 import rows
 from codes import PROGRAMME, code
 
-# A header, and `begin` is still to come.
+# A header, without `begin`.
 HEAD = "ensemble E1C5 period 4 notice 24 budget 20\n"
 
 # The first six lines of a script with one programme.
@@ -14,7 +14,7 @@ OPENED = f"ensemble E1C5\nperiod 4 notice 24 budget 20\n{PROGRAMME.replace(', ',
 
 
 def faults(rows, head, table):
-    """Texts behind a head have these faults; or none that a text can have, where it is the empty one."""
+    """Texts after a head have these faults; an empty fault means no fault of a text."""
     for text, wanted in table:
         printed = rows.run("compile x.plan x.code", {"x.plan": head + text}).printed.decode().strip()
         found = printed if re.match(r"\d+:\d+: ", printed) else ""
@@ -22,7 +22,7 @@ def faults(rows, head, table):
 
 
 def short_texts(rows):
-    """Headers; past the last byte is where a text ends."""
+    """Headers; the end of a text is just past its last byte."""
     faults(rows, "", (
         ("", "1:1: Expected"), ("@", "1:1: Byte"), ("ensemble e1c5", "1:10: Number"),
         ("ensemble E1C5 period 4 notice 11", "1:31: Number"), ("ensemble E1C5 period 4 notice 249", "1:31: Number"),
@@ -50,7 +50,7 @@ def after_a_header(rows):
 
 
 def in_statements_and_items(rows):
-    """Numbers out of range, and words that can't follow. A wrong byte anywhere, but in a comment, comes before them all."""
+    """Numbers out of range, and invalid tokens. An invalid byte anywhere, except in a comment, takes precedence."""
     faults(rows, HEAD, (
         ("begin wait 0", "2:12: Number"), ("begin wait 65536", "2:12: Number"),
         ("begin wait contact 16 open", "2:20: Number"), ("begin wait contact 15 shut", "2:23: Expected"),
@@ -92,7 +92,7 @@ def compiled(rows, script, wanted):
 
 
 def headers(rows):
-    """The identifier, the mode, the period, the notice and the budget, at their ends, on lines of their own."""
+    """The identifier, the mode, the period, the notice and the budget, at their limits, on lines of their own."""
     for text, wanted in (
         ("ensemble E1C5 period 1 notice 12 budget 1 begin", code("end", period=1, notice=12, budget=1)),
         ("ensemble E1C5 mode 2 period 1 notice 12 budget 1 begin", code("end", mode=2, period=1, notice=12, budget=1)),
@@ -105,7 +105,7 @@ def headers(rows):
 
 
 def items(rows):
-    """An opening with a member of each kind, at the ends of what it can be."""
+    """An opening with a member of each kind, at the limits of its fields."""
     opening = ("sub 0 at 0 eep 4-A 8, sub 5 at 768 eep 3-A 128, sub 6 at 4 eep 2-B 32, sub 9 at 96 eep 1-A 64, "
                "sub 63 at 200 eep 4-B 32, service 00C2, audio 0 sub 0 in 00C2, service C221, audio 63 sub 5 in C221, "
                "carry 4095 in C221, service 0000C221, carry 0 in 0000C221, service E1C20001, data 60 sub 6 in E1C20001, "
@@ -129,7 +129,7 @@ def edits(rows):
 
 
 def waits_and_commits(rows):
-    """Each other statement, at the ends of its numbers; three seconds have 125 frames."""
+    """Each other statement, at the limits of its numbers; three seconds have 125 frames."""
     for text, wanted, cost in (
         ("wait 65535", "wait 65535", 1), ("wait contact 15 closed", "wait contact 15 closed", 1),
         ("wait contact 0 open", "wait contact 0 open", 1), ("until 22:00:00", "until 3300000", 1),
@@ -143,7 +143,7 @@ def waits_and_commits(rows):
 
 
 def blocks(rows):
-    """Choices, loops and blocks, which keep the lines of their statements."""
+    """Branches, loops and blocks, which keep the lines of their statements."""
     text = ("define one { }\ndefine two { wait 2 apply one }\nbegin\nif contact 3 { wait 1 } else { }\nif contact 4 { }\n"
             "repeat 5 { apply two }\nforever { wait 3 } # end\n")
     instructions = "test 3 3, wait 1, jump 3, test 4 4, set 0 5, wait 2, loop 0 5, wait 3, jump 7"
@@ -152,7 +152,7 @@ def blocks(rows):
 
 
 def blanks_and_comments(rows):
-    """They do not matter, but for the lines."""
+    """They matter only for line numbers."""
     labels = "0 cost 3, 3 cost 2, 4 cost 1"
     for rest, lines in (
         ("begin if contact 1 { wait 1 } else { settle } end", [2] * 5),

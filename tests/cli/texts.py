@@ -1,5 +1,5 @@
 #!/usr/bin/env python3
-"""'dabplan play' and 'dabplan debug': event files and command files: each fault at its place, and texts that are none. The
+"""'dabplan play' and 'dabplan debug': event files and command files: each fault at its position, and files that are not text. The
 last line is 'N passed, M failed'."""
 import rows
 from codes import code
@@ -7,7 +7,7 @@ from rows import NOTHING_FILE, RATES_FILE, hexadecimal
 
 
 def event_files(rows):
-    """Steps, and how many frames they ask for; blanks, comments and line ends between them do not matter."""
+    """Steps, and their number of frames; blanks, comments and line ends between them do not matter."""
     for text, frames in (
         ("", 0), (" \t; # frames 1\n", 0), ("frames 1", 1), ("frames 2 frames 2", 4), ("frames 3600000\n", 3_600_000),
         ("frames 1 contact 3 closed contact 3 open contact 3 closed frames 39", 40),
@@ -18,7 +18,7 @@ def event_files(rows):
 
 
 def faults_of_event_files(rows):
-    """The first fault, at its place; a wrong byte anywhere comes before them all, and past the last byte a step ends early."""
+    """The first fault, at its position; an invalid byte anywhere takes precedence, and an incomplete step is at the end."""
     for text, wanted in (
         ("@", "1:1: Byte"), ("frames 0 @", "1:10: Byte"), ("frames 1\nfr\u00e4mes", "2:3: Byte"), ("frames 0", "1:8: Number"),
         ("frames 3600001", "1:8: Number"), ("frames 01", "1:8: Number"), ("frames 4294967296", "1:8: Number"),
@@ -37,7 +37,7 @@ def faults_of_event_files(rows):
 
 
 def faults_of_command_files(rows):
-    """The same of commands."""
+    """The same for commands."""
     for text, wanted in (
         ("run 0 @", "1:7: Byte"), ("run 0", "1:5: Number"), ("run 3600001", "1:5: Number"), ("run 01", "1:5: Number"),
         ("next\nbreak 0", "2:7: Number"), ("break 65536", "1:7: Number"), ("break next", "1:7: Number"),
@@ -51,7 +51,7 @@ def faults_of_command_files(rows):
 
 
 def command_files(rows):
-    """Commands at the ends of their numbers, each with its line; none in a text of none."""
+    """Commands at the limits of their numbers, each with its line; none for an empty text."""
     for text, frames in (
         ("", ()), (" \t; # run 1\n", ()), ("run 1\nrun 3600000", (1, 3_600_000)),
         ("break 1;break 65535#then\nclear", (0, 0, 0)),
@@ -63,7 +63,7 @@ def command_files(rows):
 
 
 def texts_that_are_none(rows):
-    """Bytes that are no UTF-8, wherever they are: before a wrong byte, behind it, in a comment and at the end."""
+    """Bytes that are not UTF-8, in any position: before an invalid byte, after it, in a comment and at the end."""
     for text in (
         b"\xff", b"\x80", b"frames 1 # \x80\n", b"frames 1 # \xc3", b"# \xe2\x82", b"# \xe2\x82 ", b"\xf0\x9f\x98",
         b"\xf0\x9f\x98\x80\x80", b"\xc0\x80", b"\xed\xa0\x80", b"\xf4\x90\x80\x80", b"@ \x80", b"\0\0\xc3",

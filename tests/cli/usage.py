@@ -1,5 +1,5 @@
 #!/usr/bin/env python3
-"""Command lines that are wrong, help, and the example that help shows. The last line is 'N passed, M failed'."""
+"""Invalid command lines, help, and the example in the help. The last line is 'N passed, M failed'."""
 import pathlib
 import re
 
@@ -13,7 +13,7 @@ TIME = "expected 00:00:00 to 23:59:59"
 
 
 def required(name):
-    """The message of a command line that lacks an argument."""
+    """The message of a command line without a required argument."""
     return f"the following required arguments were not provided: {name}"
 
 
@@ -23,12 +23,12 @@ def twice(name):
 
 
 def together(first, second):
-    """The message of a command line that has two options of which one alone may be given."""
+    """The message of a command line with two conflicting options."""
     return f"the argument '{first}' cannot be used with '{second}'"
 
 
 def wrong_command_lines(rows):
-    """Command lines that are wrong, each with its line; no file is read, or there would be another line."""
+    """Invalid command lines, each with its line; no file is read, or there would be another line."""
     for line, wanted in (
         ("", "missing command; expected one of frame, listen, check, diff, compile, verify, play, debug, live, map, help"),
         ("fram", "unrecognized subcommand 'fram'; tip: a similar subcommand exists: 'frame'"),
@@ -81,7 +81,7 @@ def wrong_options(rows):
 
 
 def wrong_live_lines(rows):
-    """Those of `live` are told on standard error, and nothing goes to standard output."""
+    """Those of `live` are reported on standard error, and nothing goes to standard output."""
     for options, wanted in (
         ("", required("<CODE>")),
         ("x.code y", "unexpected argument 'y' found"),
@@ -105,7 +105,7 @@ def wrong_live_lines(rows):
 
 
 def help_is_no_fault(rows):
-    """Help that is asked for names the whole command, and ends well."""
+    """Requested help names the whole command, and ends with 0."""
     for line, usage in (
         ("--help", "Usage: dabplan <COMMAND>"),
         ("--version", "dabplan 0.1.0\n"),
@@ -131,7 +131,7 @@ def help_is_no_fault(rows):
 
 
 def the_names_in_the_help(rows):
-    """Each name of a fault that a help page has stands in the document of the commands too."""
+    """Each name of a fault in a help page is in the document of the commands too."""
     document = (pathlib.Path(__file__).resolve().parents[2] / "docs/guide/COMMANDS.md").read_text(encoding="utf-8")
     for line in ("help", *(f"help {command}" for command in COMMANDS)):
         names = set(re.findall(r"\b[A-Za-z]*[a-z][A-Z][A-Za-z]*\b", rows.run(line).printed.decode()))
@@ -146,7 +146,7 @@ def the_width_of_the_help(rows):
 
 
 def the_example_of_the_help(rows):
-    """The example that help shows can be pasted: it prints one frame of one audio service."""
+    """The example in the help can be pasted: it prints one frame of one audio service."""
     first = b"0500E1C500000501040088600602C221013F06FF000000000000000000002369"
     for line in ("--help", "frame --help", "help frame"):
         shown = rows.run(line).printed.decode()

@@ -5,9 +5,9 @@ from codes import AT_64, PROGRAMME, SMALL_SUBS, code, parts
 
 
 def verdict(rows, wanted, instructions, **others):
-    """The code of these parts is accepted, where None is wanted; else it is refused with this place and cause.
+    """The code of these parts is accepted, if None is expected; else it is refused with this pc and cause.
 
-    Instructions are in the lines 1, 2 and on, so that the line is the place and one more; past the last it is 0."""
+    Instructions are in the lines 1, 2 and so on, so that the line is the pc plus one; past the last it is 0."""
     line = "accepted\n"
     if wanted is not None:
         place, cause = wanted.split(" ", 1)
@@ -17,7 +17,7 @@ def verdict(rows, wanted, instructions, **others):
 
 
 def judged(rows, configs, table, **plan):
-    """Codes of these configurations, each with its labels and its instructions, are judged so."""
+    """Codes of these configurations, each with its labels and its instructions, have these verdicts."""
     for labels, instructions, wanted in table:
         verdict(rows, wanted, instructions, labels=labels, configs=configs, **plan)
 
@@ -48,7 +48,7 @@ def a_longer_notice(rows):
 
 
 def a_label_pays_for_its_frame(rows):
-    """What a label costs covers the longest way from it to a suspension, and no more than the budget."""
+    """The cost of a label covers the longest path from it to a suspension, and is at most the budget."""
     judged(rows, [""], (
         ("0 cost 20", "sub 1 at 0 eep 3-A 128, service C221, audio 63 sub 1 in C221, commit in 24, join, end", None),
         ("0 cost 4", "sub 1 at 0 eep 3-A 128, service C221, audio 63 sub 1 in C221, commit in 24, join, end", "4 Cost"),
@@ -59,7 +59,7 @@ def a_label_pays_for_its_frame(rows):
 
 
 def a_commit_changes_something(rows):
-    """Nothing was edited, or edited there and back, or what was committed is current."""
+    """Nothing was edited, or the edits cancel out, or the committed configuration is current."""
     judged(rows, [""], (
         ("0 cost 2", "commit in 24, join, end", "0 NoChange"),
     ))
@@ -71,7 +71,7 @@ def a_commit_changes_something(rows):
 
 
 def bounds_after_a_delay(rows):
-    """A wait that ends surely before the swap, surely after it, or neither: after a commit in 24 frames."""
+    """A wait that ends certainly before the swap, certainly after it, or neither: after a commit in 24 frames."""
     judged(rows, [PROGRAMME], (
         ("0 cost 3", "rate sub 1 64, commit in 24, wait 1, rate sub 1 96, end", "3 Pending"),
         ("0 cost 3", "rate sub 1 64, commit in 24, wait 23, rate sub 1 96, end", "3 Pending"),
@@ -84,7 +84,7 @@ def bounds_after_a_delay(rows):
 
 
 def bounds_before_a_count(rows):
-    """The same after a commit at a count: the swap may be a whole round of the count away."""
+    """The same after a commit at a count: the swap may be a whole cycle of the count away."""
     judged(rows, [PROGRAMME], (
         ("0 cost 3", "rate sub 1 64, commit at 1000, wait 23, rate sub 1 96, end", "3 Pending"),
         ("0 cost 3", "rate sub 1 64, commit at 1000, wait 24, rate sub 1 96, end", "2 SwapUncertain"),
@@ -103,7 +103,7 @@ def one_wait_after_another(rows):
 
 
 def joins(rows):
-    """Where a swap is surely pending it is joined, and where it was surely made it is not."""
+    """A join is allowed if a swap is certainly pending, and refused if it was certainly made."""
     judged(rows, [PROGRAMME], (
         ("0 cost 3", "rate sub 1 64, commit in 24, wait 23, join, rate sub 1 96, end", None),
         ("0 cost 3", "rate sub 1 64, commit in 24, wait 27, join, rate sub 1 96, end", "3 JoinIdle"),
@@ -111,7 +111,7 @@ def joins(rows):
 
 
 def a_contact_during_a_notice(rows):
-    """After a wait for a contact the swap has perhaps been made: until it is settled, or surely over."""
+    """After a wait for a contact the swap has perhaps been made: until it is settled, or certainly over."""
     judged(rows, [PROGRAMME], (
         ("0 cost 3",
          "rate sub 1 64, commit in 24, wait contact 3 closed, settle, rate sub 1 96, commit in 24, settle, end", None),
@@ -140,7 +140,7 @@ def a_commit_where_a_swap_is_perhaps_pending(rows):
 
 
 def settling_alone(rows):
-    """Where nothing is pending, settling does nothing; it is no suspension."""
+    """If nothing is pending, settling does nothing; it is not a suspension."""
     judged(rows, [""], (
         ("0 cost 2", "settle, end", None),
         ("0 cost 1", "settle, end", "1 Cost"),
@@ -152,7 +152,7 @@ def settling_alone(rows):
 
 
 def the_head_of_a_loop(rows):
-    """What is known at a loop: a swap perhaps pending, of bounds as wide as on each way to it."""
+    """What is known at a loop: a swap perhaps pending, with bounds that cover each path to it."""
     judged(rows, [PROGRAMME, AT_64], (
         ("0 cost 3, 2 of 0 1 within 24 27 cost 1",
          "rate sub 1 64, commit in 24, wait contact 3 closed, jump 2", "3 Mismatch"),
@@ -165,7 +165,7 @@ def the_head_of_a_loop(rows):
 
 
 def an_hour_and_a_branch(rows):
-    """Where ways meet, the swap is perhaps pending."""
+    """Where paths merge, the swap is perhaps pending."""
     judged(rows, [PROGRAMME, AT_64], (
         ("0 cost 3, 5 of 0 1 perhaps 26 cost 2",
          "rate sub 1 64, commit in 24, until 3300000, test 1 5, wait 1, settle, end", None),
@@ -179,7 +179,7 @@ def an_hour_and_a_branch(rows):
 
 
 def a_swap_that_was_made_on_one_way(rows):
-    """Where it was made, the configuration has to be what it made."""
+    """On a path with the swap made, the configuration must be the one it made."""
     judged(rows, [PROGRAMME, AT_64], (
         ("0 cost 3, 5 of 0 1 perhaps 26 cost 2",
          "rate sub 1 64, commit in 24, wait contact 3 closed, test 1 5, settle, settle, end", None),
@@ -189,7 +189,7 @@ def a_swap_that_was_made_on_one_way(rows):
 
 
 def in_each_mode(rows, labels, instructions, wanted):
-    """A code of one programme is judged so in the modes 1 to 4."""
+    """A code of one programme has these verdicts in the modes 1 to 4."""
     for mode, each in enumerate(wanted, 1):
         verdict(rows, each, instructions, labels=labels, configs=[PROGRAMME], mode=mode)
 
@@ -222,7 +222,7 @@ def waits_in_each_mode(rows):
 
 
 def one_code_in_each_mode(rows):
-    """What does not depend on the mode."""
+    """Verdicts that do not depend on the mode."""
     in_each_mode(rows, "0 cost 3", "rate sub 1 64, commit in 24, join, end", [None] * 4)
     in_each_mode(rows, "0 cost 3", "end", [None] * 4)
     in_each_mode(rows, "0 cost 3", "join", ["0 JoinIdle"] * 4)
@@ -241,7 +241,7 @@ def pages_in_time(rows):
 
 
 def a_moved_sub_channel(rows):
-    """It may stand where another one was that is dropped before the commit."""
+    """It may take the units of another one that is dropped before the commit."""
     two = "sub 1 at 0 eep 3-A 128, sub 2 at 96 eep 3-A 64"
     judged(rows, [two], (
         ("0 cost 4", "move sub 2 at 0, drop sub 1, commit in 24, end", None),

@@ -3,10 +3,10 @@
 import rows
 from rows import NOTHING_FILE, ONE_PROGRAMME, RATES_FILE, hexadecimal
 
-# The header of a code of one configuration, one label and this many instructions, which is still to come.
+# The header of a code of one configuration, one label and a number of instructions to be appended.
 HEADER = "44 41 42 50 01 E1 C5 04 18 14 00 01 00 01 00"
 
-# The label at the start, with nothing pending and no counter set; its cost is still to come.
+# The label at the start, with nothing pending and no counter set; its cost is to be appended.
 START = "00 00 00 00 00 00 00 00 00 00 00 00"
 
 # The edits of a first programme, in lines 1 to 3.
@@ -14,13 +14,13 @@ PROGRAMME = "00 01 10 01 00 00 00 03 00 80 00 02 14 00 C2 21 00 03 16 00 C2 21 0
 
 
 def judged(rows, status, wanted, text):
-    """A code file of these bytes is judged so."""
+    """A code file of these bytes has this verdict."""
     rows.answers("verify x.code", status, wanted, {"x.code": hexadecimal(text)})
 
 
 def accepted_and_refused(rows):
-    """A rate is lowered and raised as contact 3 is closed and opened; without its last three edits and waits the code
-    comes back to its label with another configuration."""
+    """A rate is lowered and raised when contact 3 is closed and opened; without its last three edits and waits the code
+    returns to its label with another configuration."""
     judged(rows, 0, "accepted\n", RATES_FILE)
     judged(rows, 0, "accepted\n", NOTHING_FILE)
     lower = "00 08 03 03 01 00 09 13 01 00 60 00 0A 04 00 18 00 0B 06 00 0C 03 03 00 00 07 21 00 00"
@@ -51,7 +51,7 @@ def causes(rows):
 
 
 def costs_and_commits(rows):
-    """A first programme that is committed so, with this cost of the label."""
+    """A first programme with this commit, and this cost of the label."""
     for commit, cost, wanted in (
         ("04 00 18", "05", "accepted\n"),
         ("04 00 18", "04", "refused at 4 line 5: Cost\n"),
@@ -71,7 +71,7 @@ def a_label_past_the_end(rows):
 
 
 def files_of_no_code(rows):
-    """A code of one instruction, with a byte changed, one more, or none at all."""
+    """A code of one instruction, with a byte changed, an extra byte, or no bytes at all."""
     whole = hexadecimal(NOTHING_FILE)
     for place, byte, status, wanted in (
         (4, 1, 0, "accepted\n"),

@@ -1,16 +1,16 @@
 #!/usr/bin/env python3
-"""Worked examples from a script to what a receiver hears, frame by frame. The last line is 'N passed, M failed'.
+"""Worked examples from a script to a listener, frame by frame. The last line is 'N passed, M failed'.
 
-Each script is compiled and its code verified. `debug` then plays it to each of its moments, and has to say how many
-instructions ran in the last frame, the CIF count, and the frames until the swap; `play` makes the same frames, of which
-`listen` has to hear both configurations, and the swap that is announced.
+Each script is compiled and its code verified. `debug` then plays it to each of its moments, and must report the number of
+instructions in the last frame, the CIF count, and the frames until the swap; `play` makes the same frames, from which
+`listen` must decode both configurations, and the announced swap.
 """
 import re
 import typing
 
 import rows
 
-# What a script declares.
+# The declarations of a script.
 HEAD = "ensemble E1C5 period 4 notice 24 budget 20\n"
 
 # A script with one sound programme of 128 kbit/s, up to its statements.
@@ -19,32 +19,32 @@ PROGRAMME = HEAD + "sub 1 at 0 eep 3-A 128\nservice C221\naudio 63 sub 1 in C221
 # A change to 64 kbit/s, and once it has settled and contact 3 is closed one to 96.
 SETTLED = "rate sub 1 64\ncommit in 24\nwait contact 3 closed\nsettle\nrate sub 1 96\ncommit in 24\nsettle\n"
 
-# What is heard of the programme at 128, 96 and 64 kbit/s.
+# The listing of the programme at 128, 96 and 64 kbit/s.
 AT_128, AT_96, AT_64 = (f"sub 1 at 0 size {size} eep 3-A\nservice C221\n  audio 63 sub 1 primary\n" for size in (96, 72, 48))
 
 
 class Moment(typing.NamedTuple):
-    """What has become of a script this many frames later."""
+    """The state of a script this many frames later."""
 
     frames: int
-    # How many instructions ran in the last frame.
+    # The number of instructions in the last frame.
     steps: int
     # The CIF count of the next frame, and the frames until the swap.
     count: int
     remaining: int | None
-    # What is heard of the current configuration, and of the next one where it is announced.
+    # The listing of the current configuration, and of the next one if it is announced.
     current: str
     announced: str | None = None
-    # What becomes of contact 3 before these frames.
+    # The change of contact 3 before these frames.
     contact: str = ""
 
     def commands(self, word):
-        """The commands of `debug`, or with another word the events of `play`, that lead to it."""
+        """The commands of `debug`, or with another keyword the events of `play`, that lead to it."""
         contact = f"contact 3 {self.contact} " if self.contact else ""
         return f"{contact}{word} {self.frames}\n"
 
     def heard(self, frames):
-        """What `listen` prints after so many frames in all, three FIBs each."""
+        """The output of `listen` after this many frames in total, three FIBs each."""
         swap = "no swap" if self.announced is None else f"swap at low {(self.count + self.remaining) % 5000 % 250}"
         return f"fibs {3 * frames} damaged 0\ncurrent\n{self.current}next\n{self.announced or ''}{swap}\n"
 
@@ -57,7 +57,7 @@ def reports(printed):
 
 
 def plays(rows, script, options, moments):
-    """A script is compiled and played, and comes to each of the moments."""
+    """A script is compiled and played, and reaches each of the moments."""
     compiled = rows.run("compile x.plan x.code", {"x.plan": script})
     rows.tally.same(f"compile of {script!r}", (0, b"instructions"), (compiled.status, compiled.printed.split(b" ")[0]))
     code = rows.made("x.code") or b""
@@ -76,7 +76,7 @@ def plays(rows, script, options, moments):
 
 
 def a_first_programme(rows):
-    """It is committed on the air: in 24 frames, where the first count of FIG 0/0 after them is announced; at a count, almost
+    """It is committed: in 24 frames, where the first count of FIG 0/0 after them is announced; at a count, almost
     5,000 frames later; and in 24 frames at a count of FIG 0/0, where the notice begins at once."""
     edits = "sub 1 at 0 eep 3-A 128\nservice C221\naudio 63 sub 1 in C221"
     for commit, options, moments in (
@@ -98,7 +98,7 @@ def a_first_programme(rows):
 
 
 def a_rate_by_a_contact(rows):
-    """Lowered as contact 3 is closed, and raised as it is open."""
+    """Lowered when contact 3 is closed, and raised when it is open."""
     body = """forever {
 wait contact 3 closed rate sub 1 96 commit in 24 join
 wait contact 3 open rate sub 1 128 commit in 24 join
@@ -130,7 +130,7 @@ def a_wait_past_the_swap(rows):
 
 
 def five_rounds(rows):
-    """The instructions of a round, with contact 1 open and closed."""
+    """The instructions of an iteration, with contact 1 open and closed."""
     script = "ensemble E1C5 period 4 notice 24 budget 4\nbegin\nrepeat 5 { if contact 1 { } else { } wait 1 }\n"
     for contacts, steps in (("0000", 3), ("0002", 4)):
         plays(rows, script, f"--contacts {contacts}", (
@@ -154,7 +154,7 @@ def a_sub_channel_takes_the_place_of_another(rows):
 
 
 def a_change_that_settles(rows):
-    """In the frame of its swap, where the next notice then begins; after it; and with nothing to settle."""
+    """In the frame of its swap, in which the next notice then begins; after it; and with nothing to settle."""
     plays(rows, PROGRAMME + SETTLED, "--contacts 0008", (
         Moment(1, 3, 1, 23, AT_128, AT_64),
         Moment(1, 1, 2, 22, AT_128, AT_64),
@@ -176,7 +176,7 @@ def a_change_that_settles(rows):
 
 
 def ten_in_the_evening_during_a_notice(rows):
-    """The time comes before the swap, for which the script then waits."""
+    """The time is before the swap, for which the script then waits."""
     body = "rate sub 1 64\ncommit in 24\nuntil 22:00:00\nif contact 1 { wait 1 }\nsettle\n"
     plays(rows, PROGRAMME + body, "--day 3299995", (
         Moment(1, 3, 1, 23, AT_128, AT_64),

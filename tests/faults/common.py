@@ -1,4 +1,4 @@
-"""What the scripts of faults share: the built programs, how they are run, and what passed and failed."""
+"""Shared by the scripts of faults: the built programs, how they are run, and the count of passed and failed."""
 import pathlib
 import resource
 import shutil
@@ -12,14 +12,14 @@ SECONDS = 7200
 
 
 class Tally:
-    """Counts what held and what did not, and says what did not."""
+    """Counts what held and what did not, and prints what did not."""
 
     def __init__(self):
         self.passed = 0
         self.failed = 0
 
     def hold(self, holds, what):
-        """Counts one fact; `what` says it where it does not hold."""
+        """Counts one fact; `what` is printed if it does not hold."""
         if holds:
             self.passed += 1
         else:
@@ -31,7 +31,7 @@ class Tally:
         self.hold(wanted == found, f"{what}\n  wanted: {shown(wanted)}\n  found:  {shown(found)}")
 
     def end(self):
-        """Prints the count as the last line, and ends with 0 where nothing failed."""
+        """Prints the count as the last line, and ends with 0 if nothing failed."""
         print(f"{self.passed} passed, {self.failed} failed")
         sys.exit(1 if self.failed else 0)
 
@@ -43,7 +43,7 @@ def shown(value):
 
 
 def dabplan():
-    """The path of the program that ./dabplan runs, which is built where these sources are not those of the released one."""
+    """The path of the program that ./dabplan runs, which is built if the released one has other sources."""
     found = subprocess.run([TOP / "release" / "make", "--program"], check=True, stdout=subprocess.PIPE, text=True)
     return pathlib.Path(found.stdout.strip())
 
@@ -58,7 +58,7 @@ def is_stale(program):
 
 
 def trials():
-    """The path of the program of trials, which is built where it is missing or older than its sources."""
+    """The path of the program of trials, which is built if it is missing or older than its sources."""
     program = TOP / "crates" / "trials" / "out" / "trials"
     if not is_stale(program):
         return program
@@ -71,7 +71,7 @@ def trials():
 
 
 def c_compiler():
-    """The words that call a C compiler: that of the kit where there is one, else one on the path."""
+    """The command of a C compiler: that of the kit if there is one, else one on the path."""
     if shutil.which("rt"):
         kit = pathlib.Path(subprocess.run(["rt", "doc"], check=True, capture_output=True, text=True).stdout.strip()).parent
         return [kit / "toolchain" / "bin" / "clang", "-fuse-ld=lld"]
@@ -90,7 +90,7 @@ def preloaded(folder, name):
 
 
 class Ended:
-    """How a run ended: its exit status, negative for a signal, and what it printed."""
+    """How a run ended: its exit status, negative for a signal, and its output."""
 
     def __init__(self, status, printed, messages):
         self.status = status
@@ -98,12 +98,12 @@ class Ended:
         self.messages = messages
 
     def lines(self):
-        """The two facts of an ordinary run that are compared."""
+        """The two results of an ordinary run that are compared."""
         return self.status, self.printed
 
 
 def run(words, folder, stdin=b"", stack=None, memory=None, environment=None, pass_fds=()):
-    """Runs a program in a folder, with at most this many KB of stack and of memory where they are given."""
+    """Runs a program in a folder, with optional limits in KB for stack and memory."""
     def limit():
         if stack is not None:
             resource.setrlimit(resource.RLIMIT_STACK, (stack * 1024, stack * 1024))
@@ -117,6 +117,6 @@ def run(words, folder, stdin=b"", stack=None, memory=None, environment=None, pas
 
 
 def write(folder, name, content):
-    """Writes a file into a folder, and answers its name."""
+    """Writes a file into a folder, and returns its name."""
     pathlib.Path(folder, name).write_bytes(content if isinstance(content, bytes) else content.encode())
     return name

@@ -1,13 +1,13 @@
 #!/usr/bin/env python3
 """Damaged files.
 
-Code files cut at each length and with each byte changed to each other value: a named fault, or a code that `verify`
-judges, and what is accepted is played for 100 frames, each of whose FIBs has a right CRC and grammar. The code
+Code files truncated to each length and with each byte changed to each other value: a named fault, or a code that `verify`
+accepts or refuses; accepted ones are played for 100 frames, in which each FIB is valid in CRC and grammar. The code
 of a contact in version 1, and one of version 2 with a label at which a swap is perhaps pending.
 
 And files of each kind with random changes, from a seed that is printed: each command ends with 0 or 1, and prints one
-of the lines of docs/guide/COMMANDS.md and no other; where it can explain a refusal, the line and the status are the same with
-the explanation. Lines that `live` is given: what it does not tell as bad is what `play` makes frames of. The last line is
+of the lines of docs/guide/COMMANDS.md and no other; if it can explain a refusal, the line and the status are the same with
+the explanation. Lines of `live`: `play` makes the same frames of those that are not reported as bad. The last line is
 'N passed, M failed'.
 """
 import random
@@ -38,18 +38,18 @@ REPORTED = (r"(frames \d+ steps \d+ pc \d+ line \d+ count \d+ remaining (\d+|non
 
 
 def outcomes(printed):
-    """The counts that the trial of damaged code files printed, each under its name."""
+    """The counts printed by the trial of damaged code files, by name."""
     return {name: int(number) for name, number in re.findall(r"([A-Za-z]+) (\d+)", printed)}
 
 
 def try_codes(tally, program, trials, folder):
-    """Each cut and each change of two code files."""
+    """Each truncation and each change of two code files."""
     common.write(folder, "a.plan", PERHAPS)
     compiled = common.run([program, "compile", "a.plan", "perhaps.code"], folder)
     tally.same("the code of version 2", (0, b"instructions 7 labels 2 configurations 2\n"), compiled.lines())
     perhaps = open(f"{folder}/perhaps.code", "rb").read()
     tally.hold(bytes.fromhex("020000") + b"\x00" in perhaps and perhaps[4] == 2, "its label and its version")
-    # one change of the mode makes a code of mode III, which has a FIB more in each of its frames
+    # one change of the mode makes a code of mode III, which has an additional FIB in each of its frames
     for name, file, more in (("version 1", CONTACT, 0), ("version 2", perhaps, 100)):
         ended = common.run([trials, "damaged"], folder, file)
         cuts, changes, whole = re.split(r"^(?:each of .*|whole)\n", ended.printed.decode(), flags=re.M)
@@ -70,7 +70,7 @@ def try_codes(tally, program, trials, folder):
 
 
 def mutated(chance, content):
-    """A file with a few random changes: bits turned, bytes changed, pieces left out, doubled and exchanged."""
+    """A file with a few random changes: bits inverted, bytes changed, pieces removed, duplicated and exchanged."""
     content = bytearray(content)
     for _ in range(chance.choice((1, 1, 1, 2, 3, 8))):
         at = chance.randrange(len(content) + 1)
@@ -93,7 +93,7 @@ def mutated(chance, content):
 
 
 def resealed(chance, content):
-    """FIBs with random changes whose CRCs are right again, so that they are looked into."""
+    """FIBs with random changes and corrected CRCs, so that they are decoded."""
     content = bytearray(mutated(chance, content))
     del content[len(content) // 32 * 32:]
     for start in range(0, len(content), 32):
@@ -165,7 +165,7 @@ def try_random(tally, program, folder, seed, times):
 
 
 def try_lines(tally, program, folder, seed, times):
-    """Lines with random changes are played without those that are told as bad, as `play` plays the others."""
+    """Lines with random changes are played without those that are reported as bad, as `play` plays the others."""
     lines = b"frames 1\ncontact 3 closed # a comment\nframes 30\n\ncontact 3 open; frames 9\nframes 7 contact 4 open\n"
     chance = random.Random(seed)
     told = 0
@@ -185,7 +185,7 @@ def try_lines(tally, program, folder, seed, times):
 
 
 def main():
-    """Runs all of it: '[--program] [SEED [TIMES]]'. With --program, only what needs the program alone: the random changes."""
+    """Runs everything: '[--program] [SEED [TIMES]]'. With --program, only the random changes, which need only the program."""
     words = [word for word in sys.argv[1:] if word != "--program"]
     seed = int(words[0]) if words else 300401
     times = int(words[1]) if len(words) > 1 else 250

@@ -1,10 +1,10 @@
-/* Lets calls of the system fail: a library that is loaded before the C library, by LD_PRELOAD.
+/* Makes system calls fail: a library that is loaded before the C library, by LD_PRELOAD.
 
-   FAIL_AT      the number of the call that opens, makes or reads a file and fails, from 1
+   FAIL_AT      the number of the failing call among those that open, create or read a file, from 1
    FAIL_AFTER   the number of writes to standard output that succeed before each one fails
    FAIL_AS      the error with which a call fails; 0 lets a write take nothing
-   FAIL_TAKES   how many bytes a write to standard output takes at most
-   FAIL_TELLS   a file descriptor, to which a byte goes for each call: `o` opens a file, `c` makes one, `r` reads one or
+   FAIL_TAKES   the most bytes that a write to standard output takes
+   FAIL_TELLS   a file descriptor that gets a byte for each call: `o` opens a file, `c` creates one, `r` reads one or
                 standard input, `w` writes to standard output
 
    It needs no header, so that the compiler of the kit can make it. */

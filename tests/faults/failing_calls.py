@@ -1,13 +1,13 @@
 #!/usr/bin/env python3
-"""Each call of the system fails in turn, under every command: those that open, make and read its files, and each write
+"""Each system call fails in turn, under every command: those that open, create and read its files, and each write
 to standard output.
 
-Where a call for a file fails, the command prints the line of that file alone, or `no memory` where the system says so,
+If a call for a file fails, the command prints only the line of that file, or `no memory` if the system reports that,
 ends with 1, makes no other such call, and leaves no file; `check`, which prints as it reads, may have printed a
-beginning of its lines before. `live` tells that line on standard error, `cannot read -` for its lines, and may have written
-frames before. A call that is interrupted is made again. Where a write fails, takes nothing or is
-interrupted, what was printed before is all that is printed, nothing is written after it, and the status is 1; `live` tells
-how much that was. The last line is 'N passed, M failed'.
+part of its lines before. `live` reports that line on standard error, `cannot read -` for its lines, and may have written
+frames before. An interrupted call is retried. If a write fails, takes nothing or is
+interrupted, nothing is written after it, and the status is 1; `live` reports how much was written.
+The last line is 'N passed, M failed'.
 """
 import os
 import pathlib
@@ -18,7 +18,7 @@ import common
 # Errors of the system: an input or output error, an interrupted call, no memory.
 EIO, EINTR, ENOMEM = 5, 4, 12
 
-# A command, and what it says of its first, second and third file.
+# A command, and its lines for its first, second and third file.
 ROWS = [
     ("frame x.record --ensemble E1C5 --count 1", ["cannot read x.record\n"]),
     ("frame - --ensemble E1C5 --count 1", ["cannot read -\n"]),
@@ -32,14 +32,14 @@ ROWS = [
     ("debug x.code x.commands", ["cannot read x.code\n", "cannot read x.commands\n"]),
 ]
 
-# A plan led for 30 frames of 96 bytes, with a notice and a swap.
+# A plan driven for 30 frames of 96 bytes, with a notice and a swap.
 LIVE = "live x.code --status"
 LINES = b"frames 1\ncontact 3 closed\nframes 29\n"
 FRAME = 96
 
 
 class Failing:
-    """The program over its files, with a library that lets its calls fail."""
+    """The program over its files, with a library that makes its calls fail."""
 
     def __init__(self, folder):
         self.program = common.dabplan()
@@ -56,7 +56,7 @@ class Failing:
 
     def run(self, line, stdin=None, **settings):
         """How a command ends, and the calls that it made, a letter each. A setting is the end of the name of a variable.
-        Standard input is a record where it is not given."""
+        The default standard input is a record."""
         pathlib.Path(self.folder, "x.out").unlink(missing_ok=True)
         environment = dict(os.environ, LD_PRELOAD=str(self.library))
         environment.update({f"FAIL_{name.upper()}": str(value) for name, value in settings.items()})
@@ -74,12 +74,12 @@ class Failing:
 
 
 def try_files(tally, failing):
-    """Each call that opens, makes or reads a file fails, for want of memory too, or is interrupted."""
+    """Each call that opens, creates or reads a file fails, also with out of memory, or is interrupted."""
     for line, refusals in ROWS:
         ended, calls = failing.run(line)
         tally.same(f"{line}: status", 0, ended.status)
         printed, calls = ended.printed, calls.replace("w", "")
-        # standard input is open from the first
+        # standard input is open from the start
         files = [calls[:number].count("o") + calls[:number].count("c") for number in range(1, len(calls) + 1)]
         files = [max(file, 1) for file in files]
         tally.same(f"{line}: files", len(refusals), max(files, default=0))
@@ -99,7 +99,7 @@ def try_files(tally, failing):
 
 
 def try_writes(tally, failing, line, takes):
-    """Each write to standard output fails, where one takes this many bytes at most."""
+    """Each write to standard output fails, with a limit on the bytes per write."""
     whole, calls = failing.run(line, takes=takes)
     writes = calls.count("w")
     tally.same(f"{line}: writes", (len(whole.printed) + takes - 1) // takes, writes)
@@ -132,7 +132,7 @@ def try_live_reads(tally, failing):
 
 
 def try_live_writes(tally, failing):
-    """Each write of frames fails, where one takes 40 bytes at most, so that a frame takes three."""
+    """Each write of frames fails, with at most 40 bytes per write, so that a frame takes three."""
     whole, _ = failing.run(LIVE, LINES)
     notes = [(int(note.split()[1]), note) for note in whole.messages.splitlines(keepends=True)]
     for number in range(90):
@@ -158,7 +158,7 @@ def main():
             try_writes(tally, failing, line, 16)
         # a refusal that is explained: its status is 1 anyway
         try_writes(tally, failing, "compile x.wrong x.out --explain", 16)
-        # an answer, a fault of the input and one of the command line, a byte at a time
+        # a result, a fault of the input and one of the command line, a byte at a time
         for options in ("--count 1", "--count 1 --page 1", "--count 5000"):
             try_writes(tally, failing, f"frame - --ensemble E1C5 {options}", 1)
     tally.end()

@@ -1,8 +1,8 @@
 #!/usr/bin/env python3
-"""Files and outputs of the system that fail, as the program meets them.
+"""Failing files and outputs of the system.
 
-Output that takes nothing (`/dev/full`), that is closed, or that ends after this many bytes; files that can't be read or
-made; files that end the disk; no memory for the address space. The last line is 'N passed, M failed'.
+Output that takes nothing (`/dev/full`), that is closed, or that fails after some bytes; files that can't be read or
+created; files that fill the disk; too little address space. The last line is 'N passed, M failed'.
 """
 import pathlib
 import resource
@@ -18,7 +18,7 @@ FRAME = ["--ensemble", "E1C5", "--count", "0"]
 
 
 def try_outputs(tally, program, folder):
-    """`/dev/full` as the file that is made, and as standard output; standard output that is closed."""
+    """`/dev/full` as the output file, and as standard output; standard output that is closed."""
     common.write(folder, "a.events", "frames 5000")
     common.write(folder, "a.commands", "run 1 " * 5000)
     common.write(folder, "a.fib", b"")
@@ -35,7 +35,7 @@ def try_outputs(tally, program, folder):
 
 
 def try_pipes(tally, program, folder):
-    """A reader that goes away after this many bytes: nothing more is printed, and the status is 1."""
+    """A reader that closes the pipe after some bytes: nothing more is printed, and the status is 1."""
     for most in (0, 1, 2047, 2048, 2049, 100_000):
         script = f"set -o pipefail; '{program}' debug '{CODE}' a.commands | head -c {most} >b.text; echo ${{PIPESTATUS[0]}}"
         ended = common.run(["bash", "-c", f"trap '' PIPE; {script}"], folder)
@@ -44,7 +44,7 @@ def try_pipes(tally, program, folder):
 
 
 def try_small_disk(tally, program, folder):
-    """A file that takes this many bytes and no more: the numbers are those of what it took."""
+    """A file with a size limit: the reported numbers are those of the bytes that it took."""
     common.write(folder, "a.events", "frames 3000")
 
     def run(most):
@@ -64,7 +64,7 @@ def try_small_disk(tally, program, folder):
 
 
 def try_files(tally, program, folder):
-    """Files that can't be read or made, and what is left of those that would be made."""
+    """Files that can't be read or created, and what is left of output files."""
     common.write(folder, "latin.text", b"frames 1 # caf\xe9")
     common.write(folder, "kept", "kept")
     absent = [
@@ -102,7 +102,7 @@ def try_input(tally, program, folder):
 
 
 def try_address_space(tally, program, folder):
-    """Less and less address space: the answer, or `no memory`, and nothing between."""
+    """Less and less address space: the result, or `no memory`, and nothing between."""
     common.write(folder, "big.fib", bytes(4_000_000))
     common.write(folder, "big.events", "frames 1 " * 200_000)
     whole = {}

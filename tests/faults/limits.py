@@ -2,8 +2,8 @@
 """Every command at the limits of its input, within a stack of 1 MB.
 
 Scripts, codes, configurations and nesting at their limits and one past them; texts of 1,048,576 bytes of each kind of
-token, in scripts, events and commands; and events and commands of half a gigabyte in little memory. The lines that are wanted are those of docs/guide/COMMANDS.md, reasoned out beside
-each text. At the end it says on how small a stack each command still ends. The last line is 'N passed, M failed'.
+token, in scripts, events and commands; and events and commands of half a gigabyte in little memory. The expected
+lines are those of docs/guide/COMMANDS.md, derived next to each text. At the end it prints the smallest stack with which each command works. The last line is 'N passed, M failed'.
 """
 import os
 import tempfile
@@ -18,12 +18,12 @@ END = b"\x00\x01\x07"
 
 
 def word(number):
-    """Two bytes, the higher first."""
+    """Two bytes, the high one first."""
     return number.to_bytes(2, "big")
 
 
 def full_record():
-    """A record of 64 sub-channels, 64 services with as many components as they hold, and 64 packet components."""
+    """A record of 64 sub-channels, 64 services with the most components, and 64 packet components."""
     subs = b"".join(bytes([sub]) + word(4 * sub) + b"\x00\x04" + word(8) for sub in range(64))
     services = b""
     for service in range(64):
@@ -57,14 +57,14 @@ def crc_is_right(digits):
 
 
 def filled(start, part, size=MOST, end=""):
-    """A text of this many bytes: `start`, then `part` as often as it fits, then blanks, then `end`."""
+    """A text of this many bytes: `start`, then `part` repeated, then blanks, then `end`."""
     room = size - len(start) - len(end)
     text = start + part * (room // len(part))
     return text + " " * (size - len(end) - len(text)) + end
 
 
 def script_rows():
-    """Scripts with what `compile` says of them."""
+    """Scripts with the output of `compile`."""
     waits = "wait 1 "
     ways = "if contact 0 { wait 1 } wait 1\n"
     moves = "".join(f"move sub 1 at {place} commit in 24 join if contact 0 {{ wait 1 }} wait 1\n" for place in range(1, 257))
@@ -138,7 +138,7 @@ def event_rows():
 
 
 def command_rows():
-    """Texts of 1,048,576 bytes as commands, with how many lines `debug` prints; None: the one line given."""
+    """Texts of 1,048,576 bytes as commands, with the number of lines that `debug` prints; None: the one line given."""
     return [
         ("blanks", " " * MOST, 0, b""), ("commands of one word", filled("", "clear "), MOST // 6, None),
         ("runs", filled("", "run 1 ", 131_072), 131_072 // 6, None),
@@ -149,7 +149,7 @@ def command_rows():
 
 
 def try_scripts(tally, program, folder):
-    """Compiles scripts; what is compiled is verified, played and debugged."""
+    """Compiles scripts; compiled ones are verified, played and debugged."""
     for name, text, wanted in script_rows() + long_rows():
         common.write(folder, "a.plan", text)
         ended = common.run([program, "compile", "a.plan", "a.code"], folder, stack=STACK)
@@ -182,7 +182,7 @@ def try_code(tally, program, folder, name):
 
 
 def try_codes(tally, program, folder):
-    """Codes at the limits of the file: the largest one, and the most labels and instructions at one place."""
+    """Codes at the limits of the file: the largest one, and the most labels and instructions."""
     full = full_record()
     lines = [word(65535) + b"\x01\x00\x01"] * 4095 + [END]
     labels = [label(pc, pc % 256, pc % 256, 255) for pc in range(1024)]
@@ -205,7 +205,7 @@ def try_codes(tally, program, folder):
 
 
 def try_frames(tally, program, folder):
-    """All pages of a full configuration, and what a listener makes of them."""
+    """All pages of a full configuration, and their listing."""
     common.write(folder, "full.rec", full_record())
     fibs, page = [], 0
     while True:
@@ -257,7 +257,7 @@ def try_zeros(tally, program, folder):
 
 
 def try_stacks(tally, program, folder):
-    """How small a stack each command ends on, in steps of 16 KB, over the files that the other parts left."""
+    """The smallest stack with which each command works, in steps of 16 KB, over the files that the other parts left."""
     common.write(folder, "a.plan", PLAN + "wait 1 " * 4095)
     common.write(folder, "a.code", code([full_record()], [label(0, 0, 0, 1)], [word(9) + b"\x01\x00\x01"] * 4095 + [END]))
     common.write(folder, "a.events", "frames 1000")

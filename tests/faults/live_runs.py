@@ -1,8 +1,8 @@
 #!/usr/bin/env python3
-"""Live runs that are killed and taken up again, lines that hold nothing, and ends that fail.
+"""Live runs that are killed and resumed, lines without steps, and failing streams.
 
-A run that is killed a hundred times on its way, and taken up with the frames that are there skipped; a million lines
-of garbage; a million frames, and a line without an end, in flat memory; outputs that take this many bytes; messages that
+A hundred runs that are killed, and resumed with the written frames skipped; a million lines
+of garbage; a million frames, and a line without an end, in constant memory; outputs with a size limit; messages that
 nobody reads. The last line is 'N passed, M failed'.
 """
 import pathlib
@@ -25,7 +25,7 @@ def some_lines(source, count):
 
 
 def steps_of(lines):
-    """The text of an event file: the lines but for those that hold no steps."""
+    """The text of an event file: the lines that list steps."""
     return "\n".join(line for line in lines if line not in ("frame", "frames 0"))
 
 
@@ -37,7 +37,7 @@ def frames_of(program, folder, lines):
 
 
 def killed(program, lines, path, wanted):
-    """Gives these lines to a run that writes to a file, and kills it once this many bytes are there, or after a second."""
+    """Gives these lines to a run that writes to a file, and kills it when this many bytes are written, or after a second."""
     with open(path, "wb") as out, \
          subprocess.Popen([program, "live", CODE], stdin=subprocess.PIPE, stdout=out, stderr=subprocess.DEVNULL) as job:
         job.stdin.write("".join(line + "\n" for line in lines).encode())
@@ -50,7 +50,7 @@ def killed(program, lines, path, wanted):
 
 
 def try_kills(tally, program, folder, source):
-    """The stream of a run that was killed, and that of the run that takes it up, are the stream of one run."""
+    """The stream of a run that was killed, and that of the run that resumes it, are the stream of one run."""
     path = pathlib.Path(folder, "live.fib")
     cut = 0
     for trial in range(100):
@@ -83,18 +83,18 @@ def measured(program, folder, lines, *options):
 
 
 def least_memory(program, folder, lines, *options):
-    """The least of what five runs take at most, in KB: what runs of the same lines take differs by up to 330 KB."""
+    """The lowest peak memory of five runs, in KB: runs of the same lines differ by up to 330 KB."""
     return min(measured(program, folder, lines, *options)[3] for _ in range(5))
 
 
 def garbage(source):
-    """A line of random bytes that holds no steps."""
+    """A line of random bytes without steps."""
     line = bytes(source.choices(range(256), k=source.randrange(1, 40))).replace(b"\n", b"?").replace(b"#", b"?")
     return b"%" + line
 
 
 def try_garbage(tally, program, folder, source):
-    """A million lines of garbage change nothing, and each is told."""
+    """A million lines of garbage change nothing, and each is reported."""
     some = [garbage(source) for _ in range(1000)]
     lines = (b"\n".join(some) + b"\nframes 1\n") * 1000
     status, written, told, _ = measured(program, folder, lines)
@@ -123,7 +123,7 @@ def try_memory(tally, program, folder):
 
 
 def try_outputs(tally, program, folder):
-    """An output that takes this many bytes: the numbers are those of what it took, and no later line is told."""
+    """An output with a size limit: the reported numbers are those of the bytes that it took, and no later line is reported."""
     for skip in (0, 3):
         for most in (0, 1, 95, 96, 97, 480, 959):
             def limit(most=most):
@@ -137,7 +137,7 @@ def try_outputs(tally, program, folder):
 
 
 def try_ends(tally, program, folder):
-    """Messages that can't be written are lost; an input that can't be read, and a reader that goes away, end the run."""
+    """Messages that can't be written are lost; an input that can't be read, and a reader that closes the pipe, end the run."""
     lines = "frames 1\\nframe\\nframes 2\\n"
     wanted = frames_of(program, folder, ["frames 3"])
     for redirection in ("2>/dev/full", "2>&-"):

@@ -1,8 +1,8 @@
 #!/usr/bin/env python3
-"""Long runs, by hand and not by `./test`: it takes ten minutes.
+"""Long runs, started by hand and not by `./test`: they take ten minutes.
 
-A hundred million frames in as much memory as a hundred; a day of a plan with a swap every 300 frames, heard by a
-listener that is right throughout; and a text of events with more frames than a number of 32 bits counts. The last line
+A hundred million frames in the memory of a hundred; a day of a plan with a swap every 300 frames, heard by a
+listener that is always right; and an event file with more than 2^32 frames. The last line
 is 'N passed, M failed'.
 """
 import sys
@@ -20,12 +20,12 @@ forever { rate sub 1 96 commit in 24 join wait 276 rate sub 1 128 commit in 24 j
 
 
 def frames(count):
-    """A text of events of this many frames."""
+    """An event file of this many frames."""
     return "frames 3600000\n" * (count // 3_600_000) + (f"frames {count % 3_600_000}\n" if count % 3_600_000 else "")
 
 
 def measured(words, folder):
-    """What a run prints, the most memory that it takes in KB, and how many seconds it takes."""
+    """The output of a run, its peak memory in KB, and its time in seconds."""
     begin = time.monotonic()
     ended = common.run(["/usr/bin/time", "-f", "%M", "-o", "a.memory", *words], folder)
     with open(f"{folder}/a.memory", encoding="ascii") as memory:
@@ -33,7 +33,7 @@ def measured(words, folder):
 
 
 def try_frames(tally, program, folder, count, least):
-    """Plays this many frames into nothing, in as much memory as `least` KB and 256 more."""
+    """Plays this many frames to /dev/null, in at most `least` KB of memory plus 256."""
     common.write(folder, "a.events", frames(count))
     printed, memory, seconds = measured([program, "play", CODE, "a.events", "/dev/null"], folder)
     print(f"{count} frames: {memory} KB, {seconds:.0f} s", flush=True)
@@ -43,7 +43,7 @@ def try_frames(tally, program, folder, count, least):
 
 
 def try_day(tally, program, trials, folder):
-    """A day of swaps, heard. Each of the 12,000 swaps comes 300 frames after the one before; the first after 24."""
+    """A day of swaps with a listener. Each of the 12,000 swaps is 300 frames after the one before; the first after 24."""
     common.write(folder, "a.plan", SWAPS)
     compiled = common.run([program, "compile", "a.plan", "a.code"], folder)
     tally.same("the plan of swaps", 0, compiled.status)
@@ -55,7 +55,7 @@ def try_day(tally, program, trials, folder):
 
 
 def main():
-    """Runs all of it; 'short' leaves out the frames past 32 bits."""
+    """Runs everything; 'short' omits the frames past 32 bits."""
     tally = common.Tally()
     program, trials = common.dabplan(), common.trials()
     with tempfile.TemporaryDirectory() as folder:

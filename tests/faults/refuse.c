@@ -1,9 +1,9 @@
-/* Refuses requests for memory: a library that is loaded before the C library, by LD_PRELOAD.
+/* Makes allocations fail: a library that is loaded before the C library, by LD_PRELOAD.
 
-   REFUSE           the number of the request that is refused, from 1
-   REFUSE_GOES_ON   where it is set, every later request is refused too
-   REFUSE_BETWEEN   where it is set, only requests after the first `write` of the process and before the second count
-   REFUSE_TELLS     a file descriptor, to which one byte goes for each request that is refused
+   REFUSE           the number of the allocation that fails, from 1
+   REFUSE_GOES_ON   if set, every later allocation fails too
+   REFUSE_BETWEEN   if set, only allocations after the first `write` of the process and before the second count
+   REFUSE_TELLS     a file descriptor that gets one byte for each failed allocation
 
    It needs no header, so that the compiler of the kit can make it. */
 

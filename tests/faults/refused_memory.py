@@ -1,14 +1,14 @@
 #!/usr/bin/env python3
-"""Each request for memory is refused in turn: in every library call that takes memory, and in every command.
+"""Each allocation fails in turn: in every library call that allocates, and in every command.
 
-A run refuses the request of one number, from 1 on, until a run makes so few that none was refused. Each is made twice:
-once with that request alone refused, and once with it and all later ones. A call has to answer want of memory by its
-own name, with nothing lost, and the same call with memory then gives its answer; `run` has written nothing, and
-`Debugger::new` hands the player back. A command prints `no memory` alone, ends with 1 and leaves nothing in the file
-that it makes; or it does without what was refused, where that is one request alone, and ends as it does with memory. Where
-it was asked to explain a refusal, the line of the refusal may stand before `no memory`. `live` says `no memory` on standard
+A run lets the allocation of one number fail, from 1 on, until a run has no further allocation. Each is done twice:
+once with only that allocation failing, and once with all later ones too. A call must report out of memory by its
+own name, with nothing lost, and the same call with memory then gives its result; `run` has written nothing, and
+`Debugger::new` returns the player. A command prints `no memory` alone, ends with 1 and leaves nothing in its output
+file; or it tolerates a single failed allocation, and ends as it does with memory. If
+it was to explain a refusal, the line of the refusal may precede `no memory`. `live` reports `no memory` on standard
 error, and has written whole frames of lines before.
-The last line is 'N passed, M failed', where each refused run is one, and each whole run one more.
+The last line is 'N passed, M failed', where each failing run is one, and each complete run one more.
 """
 import os
 import pathlib
@@ -49,9 +49,9 @@ def remove(folder, names):
 
 
 def requests(library, words, folder, goes_on, between, stdin=b"", made=()):
-    """Runs a program with its first request refused, then its second, and so on, each time without the files that it
-    makes; yields each number, how it ended, and whether a request was refused. Ends after the first run in which none
-    was."""
+    """Runs a program with its first allocation failing, then its second, and so on, each time without its output
+    files; yields each number, how it ended, and whether an allocation failed. Ends after the first run in which none
+    did."""
     number, is_refused = 0, True
     while is_refused:
         number += 1
@@ -69,13 +69,13 @@ def requests(library, words, folder, goes_on, between, stdin=b"", made=()):
 
 
 def tokens(text):
-    """Where the tokens of a script begin and end, as the trial prints them."""
+    """The start and end of each token of a script, as the trial prints them."""
     bare = re.sub(r"#[^\n]*", lambda comment: " " * len(comment[0]), text)
     return "".join(f"{found.start()}-{found.end()} " for found in re.finditer(r"[{}]|[A-Za-z0-9_:-]+", bare)) + "\n"
 
 
 def answers(program, folder):
-    """What each call answers: from the examples and the words above, and of `run` what `play` writes."""
+    """The result of each call: from the examples and the texts above, and for `run` the output of `play`."""
     code = CODE.read_bytes().hex().upper() + "\n"
     common.write(folder, "a.events", EVENTS)
     played = common.run([program, "play", CODE, "a.events", "a.fib"], folder)
@@ -90,7 +90,7 @@ def answers(program, folder):
 
 
 def try_calls(tally, library, program, trials, folder):
-    """Refuses each request of each call."""
+    """Lets each allocation of each call fail."""
     for name, answer in answers(program, folder).items():
         for goes_on in (False, True):
             refused = 0
@@ -105,7 +105,7 @@ def try_calls(tally, library, program, trials, folder):
 
 
 def commands():
-    """Each command, with what it needs, and the files that it would make."""
+    """Each command, with its inputs and its output files."""
     return [
         (["frame", common.EXAMPLES / "one_programme.rec", "--ensemble", "E1C5", "--count", "0"], []),
         (["frame", "-", "--ensemble", "E1C5", "--count", "0", "--page", "1"], []),
@@ -132,13 +132,13 @@ def commands():
 
 
 def contents(folder, names):
-    """What the files of these names hold; nothing where they are not there."""
+    """The contents of the files of these names; nothing for missing ones."""
     return {name: pathlib.Path(folder, name).read_bytes() if pathlib.Path(folder, name).exists() else b""
             for name in names}
 
 
 def try_commands(tally, library, program, folder):
-    """Refuses each request of each command."""
+    """Lets each allocation of each command fail."""
     record = (common.EXAMPLES / "one_programme.rec").read_bytes()
     common.write(folder, "a.commands", COMMANDS)
     common.write(folder, "wrong.plan", SCRIPT.read_text().replace("wait contact 3 open", "join"))
@@ -172,8 +172,8 @@ def try_commands(tally, library, program, folder):
 
 
 def try_live(tally, library, program, folder):
-    """Refuses each request of `live`, over lines and of a wrong command line: `no memory` on standard error, status 1, and
-    the frames of the lines before; or it does without what was refused."""
+    """Lets each allocation of `live` fail, over lines and with an invalid command line: `no memory` on standard error,
+    status 1, and the frames of the lines before; or it tolerates the failure."""
     lines = b"frames 1\ncontact 3 closed frames 30\nframe\nframes 9\n"
     for words in (["live", CODE, "--status"], ["live", "wrong.code"], ["live", CODE, "--time", "24:00:00"]):
         shown = "dabplan " + " ".join(str(word).rsplit("/", 1)[-1] for word in words)

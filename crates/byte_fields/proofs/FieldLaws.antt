@@ -1,4 +1,4 @@
--- A field that is read is the field that is spelled, and what is spelled is read again.
+-- A field that is read is the field that was encoded, and what is encoded is read again.
 use Rattle.std.proofs.Common.{◌≡◌, ℕ, zero, suc, ◌+◌, ◌<◌, ◌≤◌, Bool, true, false, cond, ltb, eqb, List, [], ◌∷◌, ◌++◌, length, get_or, take, drop, Result, Ok, Err, refl, sym, ap, subst, ◌∙◌, append_assoc, arith, inl, inr}
 use Rattle.std.specs.Int.{Width, w16, w32, byte_len, from_be_bytes, to_be_bytes}
 use Rattle.std.proofs.lemmas.Bool.{cases_lt, ltb-false, le-ltb}
@@ -14,8 +14,8 @@ use Rattle.mux_types.specs.declared.numbers.Sid.TheVariants.{Short as ShortSid, 
 use Rattle.byte_fields.specs.declared.record.RecordFault.{RecordFault}
 use Rattle.byte_fields.specs.declared.record.RecordFault.TheVariants.{Short, Field}
 use Rattle.mux_types.specs.Configuration.{IsSid, IsComponent}
-use Rattle.byte_fields.specs.FieldSpelling.{word_bytes, set_byte, flag_byte, protection_bytes, sid_field, component_bytes}
-use Rattle.byte_fields.specs.FieldReading.{◌>>=◌, refuse, place, byte_at, number_at, judged, byte_within, word_within, flag_at, set_of, protection_at, sid_of_kind, sid_at, component_of, component_at}
+use Rattle.byte_fields.specs.FieldSpelling.{u16_bytes, set_byte, flag_byte, protection_bytes, sid_field, component_bytes}
+use Rattle.byte_fields.specs.FieldReading.{◌>>=◌, refuse, place, byte_at, number_at, judged, byte_within, u16_in_range, flag_at, set_of, protection_at, sid_of_kind, sid_at, component_of, component_at}
 
 abbrev pub IsBytes : List ℕ → Type 0
 IsBytes bytes = (i : ℕ) → get_or bytes i 0 < 256
@@ -53,7 +53,7 @@ done x = Ok x
 pub ok_is : {A : Type 0} (x y : A) → done x ≡ done y → x ≡ y
 ok_is x y e = cc
 
--- what a reading took from the front
+-- what a reading consumed from the front
 pub record Front (bytes text rest : List ℕ) : Type 0 where
   pub parts : bytes ≡ text ++ rest
   pub rest_fits : IsBytes rest
@@ -103,10 +103,10 @@ number_again w limit wide n rest lt =
     let long : ltb (length (to_be_bytes w n ++ rest)) (byte_len w) ≡ false = le-ltb _ _ (omega (arith, length-append (to_be_bytes w n) rest)) in
     rw (long, take_at (to_be_bytes w n) rest (byte_len w) len, drop_at (to_be_bytes w n) rest (byte_len w) len, wide.again n lt) refl
 
-pub word_front : (bytes : List ℕ) (x : ℕ × List ℕ) → IsBytes bytes → number_at w16 bytes ≡ Ok x → Front bytes (word_bytes x.0) x.1 × (x.0 < 65536)
+pub word_front : (bytes : List ℕ) (x : ℕ × List ℕ) → IsBytes bytes → number_at w16 bytes ≡ Ok x → Front bytes (u16_bytes x.0) x.1 × (x.0 < 65536)
 word_front bytes x fits e = number_front w16 65536 wide16 bytes x fits e
 
-pub word_again : (n : ℕ) (rest : List ℕ) → n < 65536 → number_at w16 (word_bytes n ++ rest) ≡ Ok (n, rest)
+pub word_again : (n : ℕ) (rest : List ℕ) → n < 65536 → number_at w16 (u16_bytes n ++ rest) ≡ Ok (n, rest)
 word_again n rest lt = number_again w16 65536 wide16 n rest lt
 
 pub long_front : (bytes : List ℕ) (x : ℕ × List ℕ) → IsBytes bytes → number_at w32 bytes ≡ Ok x → Front bytes (to_be_bytes w32 x.0) x.1 × (x.0 < 4294967296)
@@ -143,14 +143,14 @@ byte_within_front total low high bytes x fits e =
 pub byte_within_again : (total low high b : ℕ) (rest : List ℕ) → low ≤ b → b ≤ high → byte_within total low high (b ∷ rest) ≡ Ok (b, rest)
 byte_within_again total low high b rest from to = judged_again _ low high (b, rest) from to
 
-pub word_within_front : (total low high : ℕ) (bytes : List ℕ) (x : ℕ × List ℕ) → IsBytes bytes → word_within total low high bytes ≡ Ok x
-    → Front bytes (word_bytes x.0) x.1 × (low ≤ x.0) × (x.0 ≤ high)
+pub word_within_front : (total low high : ℕ) (bytes : List ℕ) (x : ℕ × List ℕ) → IsBytes bytes → u16_in_range total low high bytes ≡ Ok x
+    → Front bytes (u16_bytes x.0) x.1 × (low ≤ x.0) × (x.0 ≤ high)
 word_within_front total low high bytes x fits e =
     let b = bind_ok (number_at w16 bytes) (judged (place total bytes) low high) x e in
     let j = judged_ok (place total bytes) low high b.0 x b.2 in
     ((word_front bytes x fits (b.1 ∙ ap done j.0)).0, j.1, j.2)
 
-pub word_within_again : (total low high n : ℕ) (rest : List ℕ) → low ≤ n → n ≤ high → high < 65536 → word_within total low high (word_bytes n ++ rest) ≡ Ok (n, rest)
+pub word_within_again : (total low high n : ℕ) (rest : List ℕ) → low ≤ n → n ≤ high → high < 65536 → u16_in_range total low high (u16_bytes n ++ rest) ≡ Ok (n, rest)
 word_within_again total low high n rest from to small =
     rw (word_again n rest (omega (arith, to, small))) (judged_again _ low high (n, rest) from to)
 
@@ -210,7 +210,7 @@ sid_kind_front zero bytes x small fits e =
     let b = bind_ok (number_at w16 bytes) (λ n. Ok (ShortSid n.0, n.1)) x e in
     let f = word_front bytes b.0 fits b.1 in
     let made : Sid × List ℕ = (ShortSid b.0.0, b.0.1) in
-    subst (λ (y : Sid × List ℕ). (text : List ℕ) × Front bytes text y.1 × (sid_field y.0 ≡ 0 ∷ text) × IsSid y.0) (ok_is made x b.2) (word_bytes b.0.0, f.0, refl, f.1)
+    subst (λ (y : Sid × List ℕ). (text : List ℕ) × Front bytes text y.1 × (sid_field y.0 ≡ 0 ∷ text) × IsSid y.0) (ok_is made x b.2) (u16_bytes b.0.0, f.0, refl, f.1)
 sid_kind_front (suc zero) bytes x small fits e =
     let b = bind_ok (number_at w32 bytes) (λ n. Ok (LongSid n.0, n.1)) x e in
     let f = long_front bytes b.0 fits b.1 in
@@ -254,10 +254,10 @@ component_of_front total at (suc zero) bytes x fits e =
     subst (IsRest 1 bytes) (ok_is made x b.2) (a.0.0 ∷ b.0.0 ∷ [], front_then bytes (a.0.0 ∷ []) a.0.1 (b.0.0 ∷ []) b.0.1 f.0 g.0, refl, (omega (arith, f.2), omega (arith, g.2)))
 component_of_front total at (suc (suc zero)) bytes x fits e = absurd cc
 component_of_front total at (suc (suc (suc zero))) bytes x fits e =
-    let a = bind_ok (word_within total 0 4095 bytes) _ x e in
+    let a = bind_ok (u16_in_range total 0 4095 bytes) _ x e in
     let f = word_within_front total 0 4095 bytes a.0 fits a.1 in
     let made : Component × List ℕ = (InPackets a.0.0, a.0.1) in
-    subst (IsRest 3 bytes) (ok_is made x a.2) (word_bytes a.0.0, f.0, refl, omega (arith, f.2))
+    subst (IsRest 3 bytes) (ok_is made x a.2) (u16_bytes a.0.0, f.0, refl, omega (arith, f.2))
 component_of_front total at (suc (suc (suc (suc k)))) bytes x fits e = absurd cc
 
 pub component_front : (total : ℕ) (bytes : List ℕ) (x : Component × List ℕ) → IsBytes bytes → component_at total bytes ≡ Ok x

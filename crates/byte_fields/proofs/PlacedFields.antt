@@ -1,18 +1,18 @@
--- The offset of a field that is at fault is that of one of the bytes that are read.
+-- The offset of a field at fault is that of one of the bytes read.
 use Rattle.std.proofs.Common.{ℕ, zero, suc, ◌<◌, ◌≤◌, Bool, true, false, cond, ltb, List, [], ◌∷◌, length, take, drop, Ok, Err, arith}
 use Rattle.std.specs.Int.{Width, w16, w32, byte_len, from_be_bytes}
 use Rattle.std.proofs.lemmas.List.{length-drop}
 use Rattle.byte_fields.specs.declared.record.RecordFault.{RecordFault}
 use Rattle.byte_fields.specs.declared.record.RecordFault.TheVariants.{Short, Field, Order}
-use Rattle.byte_fields.specs.FieldReading.{Reads, ◌>>=◌, refuse, place, byte_at, number_at, judged, byte_within, word_within, flag_at, protection_at, sid_of_kind, sid_at, component_of, component_at}
+use Rattle.byte_fields.specs.FieldReading.{Reads, ◌>>=◌, refuse, place, byte_at, number_at, judged, byte_within, u16_in_range, flag_at, protection_at, sid_of_kind, sid_at, component_of, component_at}
 
--- the place in a fault is below `total`
+-- the offset in a fault is below `total`
 abbrev pub IsPlacedIn : ℕ → RecordFault → Type 0
 IsPlacedIn total Short = Unit {0}
 IsPlacedIn total (Field at) = at < total
 IsPlacedIn total Order = Unit {0}
 
--- a reading of some of `total` bytes leaves no more than those, and places its fault in them
+-- a reading of some of `total` bytes leaves no more than those, and the offset of its fault is below `total`
 abbrev pub Placed : {T : Type 0} → ℕ → Reads T → Type 0
 Placed total (Ok x) = length x.1 ≤ total
 Placed total (Err e) = IsPlacedIn total e
@@ -38,7 +38,7 @@ number_by total w bytes false left = omega (arith, left, length-drop (byte_len w
 pub placed_number : (total : ℕ) (w : Width) (bytes : List ℕ) → length bytes ≤ total → Placed total (number_at w bytes)
 placed_number total w bytes left = number_by total w bytes (ltb (length bytes) (byte_len w)) left
 
--- a word that is read, and what is read after it, where the place of the word may be at fault
+-- a u16 that is read, and what is read after it, if the u16 may be at fault at its offset
 pub placed_word : {B : Type 0} (total : ℕ) (bytes : List ℕ) (f : ℕ × List ℕ → Reads B) → length bytes ≤ total
     → (place total bytes < total → (n : ℕ) (rest : List ℕ) → length rest ≤ total → Placed total (f (n, rest))) → Placed total (number_at w16 bytes >>= f)
 placed_word total [] f left next = tt
@@ -56,7 +56,7 @@ pub placed_byte_within : (total low high : ℕ) (bytes : List ℕ) → length by
 placed_byte_within total low high [] left = tt
 placed_byte_within total low high (b ∷ rest) left = placed_judged total (place total (b ∷ rest)) low high b rest (omega (arith, left)) (omega (arith, left))
 
-pub placed_word_within : (total low high : ℕ) (bytes : List ℕ) → length bytes ≤ total → Placed total (word_within total low high bytes)
+pub placed_word_within : (total low high : ℕ) (bytes : List ℕ) → length bytes ≤ total → Placed total (u16_in_range total low high bytes)
 placed_word_within total low high bytes left =
     placed_word total bytes (judged (place total bytes) low high) left (λ within n rest after. placed_judged total (place total bytes) low high n rest within after)
 

@@ -1,17 +1,16 @@
--- Reading a field is steady: what is read of some bytes, and any fault but that they are short, is the same whatever
--- follows them.
+-- Reading a field is stable: what is read, and any fault but missing bytes, is the same whatever bytes follow.
 use Rattle.std.proofs.Common.{◌≡◌, ℕ, zero, suc, ◌+◌, ◌≤◌, Bool, true, false, cond, ltb, List, [], ◌∷◌, ◌++◌, length, take, drop, Ok, Err, refl, sym, ap, ◌∙◌, subst, arith}
 use Rattle.std.specs.Int.{Width, w16, w32, byte_len, from_be_bytes}
 use Rattle.std.proofs.lemmas.Bool.{ltb-false, le-ltb}
 use Rattle.std.proofs.lemmas.List.{length-append, take-append-le, drop-append-le}
 use Rattle.byte_fields.specs.declared.record.RecordFault.{RecordFault}
 use Rattle.byte_fields.specs.declared.record.RecordFault.TheVariants.{Short, Field, Order}
-use Rattle.byte_fields.specs.FieldReading.{Reads, ◌>>=◌, refuse, place, byte_at, number_at, judged, byte_within, word_within, flag_at, protection_at, sid_of_kind, sid_at, component_of, component_at}
+use Rattle.byte_fields.specs.FieldReading.{Reads, ◌>>=◌, refuse, place, byte_at, number_at, judged, byte_within, u16_in_range, flag_at, protection_at, sid_of_kind, sid_at, component_of, component_at}
 
--- ---- readings with more bytes behind
+-- ---- readings of more bytes
 
--- the second reading has these bytes more: where the first reads something so does it, and where the first meets a
--- fault other than that bytes are missing so does it
+-- the second reading has these bytes in addition: it reads what the first one reads, and has the fault of the first one
+-- unless that is missing bytes
 abbrev pub Goes : {T : Type 0} → List ℕ → Reads T → Reads T → Type 0
 Goes more (Ok x) r = r ≡ Ok (x.0, x.1 ++ more)
 Goes more (Err Short) r = Unit {0}
@@ -70,7 +69,7 @@ goes_byte_within total low high bytes more =
     goes_bind more (byte_at bytes) (byte_at (bytes ++ more)) (judged (place total bytes) low high) (judged (place (total + length more) (bytes ++ more)) low high)
     (goes_byte bytes more) (λ n rest. goes_judged more _ _ low high n rest (place_same total bytes more))
 
-pub goes_word_within : (total low high : ℕ) (bytes more : List ℕ) → Goes more (word_within total low high bytes) (word_within (total + length more) low high (bytes ++ more))
+pub goes_word_within : (total low high : ℕ) (bytes more : List ℕ) → Goes more (u16_in_range total low high bytes) (u16_in_range (total + length more) low high (bytes ++ more))
 goes_word_within total low high bytes more =
     goes_bind more (number_at w16 bytes) (number_at w16 (bytes ++ more)) (judged (place total bytes) low high) (judged (place (total + length more) (bytes ++ more)) low high)
     (goes_number w16 bytes more) (λ n rest. goes_judged more _ _ low high n rest (place_same total bytes more))

@@ -21,11 +21,11 @@ abbrev pub ◌>>=◌ : {A B : Type 0} → Result A RecordFault → (A → Result
 (Ok x) >>= f = f x
 (Err e) >>= f = Err e
 
--- a fault where the test holds
+-- a fault if the test is true
 abbrev pub refuse : Bool → RecordFault → Result (Unit {0}) RecordFault
 refuse test fault = if test then Err fault else Ok tt
 
--- the offset of the next byte, from the first byte of all, where `bytes` are left of `total`
+-- the offset of the next byte from the first one, if `bytes` of `total` are left
 abbrev pub place : (total : ℕ) → (bytes : List ℕ) → ℕ
 place total bytes = total - length bytes
 
@@ -48,8 +48,8 @@ judged at low high n =
 abbrev pub byte_within : (total low high : ℕ) → List ℕ → Reads ℕ
 byte_within total low high bytes = byte_at bytes >>= judged (place total bytes) low high
 
-abbrev pub word_within : (total low high : ℕ) → List ℕ → Reads ℕ
-word_within total low high bytes = number_at w16 bytes >>= judged (place total bytes) low high
+abbrev pub u16_in_range : (total low high : ℕ) → List ℕ → Reads ℕ
+u16_in_range total low high bytes = number_at w16 bytes >>= judged (place total bytes) low high
 
 abbrev pub flag_at : (total : ℕ) → List ℕ → Reads Bool
 flag_at total bytes = byte_within total 0 1 bytes >>= λ n. Ok (n.0 == 1, n.1)
@@ -77,7 +77,7 @@ sid_at total bytes = do
   kind ← byte_within total 0 1 bytes
   sid_of_kind kind.0 kind.1
 
--- a component of a TMId, of which `bytes` are left; the TMId itself is at the offset `at`
+-- a component with this TMId, with `bytes` left; the TMId itself is at offset `at`
 unfoldable pub component_of : (total at tmid : ℕ) → List ℕ → Reads Component
 component_of total at zero bytes = do
   ty ← byte_within total 0 63 bytes
@@ -89,7 +89,7 @@ component_of total at (suc zero) bytes = do
   Ok (Stream ty.0 sub.0, sub.1)
 component_of total at (suc (suc zero)) bytes = Err (Field at)
 component_of total at (suc (suc (suc zero))) bytes = do
-  scid ← word_within total 0 4095 bytes
+  scid ← u16_in_range total 0 4095 bytes
   Ok (InPackets scid.0, scid.1)
 component_of total at (suc (suc (suc (suc k)))) bytes = Err (Field at)
 
@@ -100,12 +100,12 @@ component_at total bytes = do
 
 -- ---- a reader
 
--- what a reader holds: how many bytes there were in all, and those that are left
+-- the state of a reader: the total number of bytes, and the remaining ones
 pub record Unread : Type 0 where
   pub total : ℕ
   pub rest : List ℕ
 
--- a call that reads: it returns what the reading gives, and leaves what the reading leaves
+-- a call that reads returns the result of the reading, and leaves the bytes that it leaves
 abbrev pub Takes : {T : Type 0} → Reads T → Result T RecordFault → Unread → Type 0
 Takes read (Ok x) left = read ≡ Ok (x, left.rest)
 Takes read (Err e) left = read ≡ Err e

@@ -1,4 +1,4 @@
--- The one spelling of a field as bytes. A number of two or four bytes is big-endian.
+-- The encoding of a field as bytes. A number of two or four bytes is big-endian.
 use Rattle.std.specs.Prelude.{ℕ, Bool, true, false, List, [], ◌∷◌}
 use Rattle.std.specs.Int.{w16, w32, to_be_bytes}
 use Rattle.mux_eep.specs.Sizes.{Profile}
@@ -9,8 +9,8 @@ use Rattle.mux_types.specs.declared.parts.Component.TheVariants.{Sound, Stream, 
 use Rattle.mux_types.specs.declared.numbers.Sid.{Sid}
 use Rattle.mux_types.specs.declared.numbers.Sid.TheVariants.{Short, Long}
 
-abbrev pub word_bytes : ℕ → List ℕ
-word_bytes n = to_be_bytes w16 n
+abbrev pub u16_bytes : ℕ → List ℕ
+u16_bytes n = to_be_bytes w16 n
 
 abbrev pub set_byte : EepSet → ℕ
 set_byte A = 0
@@ -33,4 +33,4 @@ sid_field (Long n) = 1 ∷ to_be_bytes w32 n
 abbrev pub component_bytes : Component → List ℕ
 component_bytes (Sound ty sub) = 0 ∷ ty ∷ sub ∷ []
 component_bytes (Stream ty sub) = 1 ∷ ty ∷ sub ∷ []
-component_bytes (InPackets scid) = 3 ∷ word_bytes scid
+component_bytes (InPackets scid) = 3 ∷ u16_bytes scid

@@ -1,17 +1,17 @@
-//! Reading the fields of a record from the front of its bytes.
+//! Reads the fields of a record from the front of its bytes.
 
 ghost use Rattle.std.specs.Prelude.{◌≡◌, ◌+◌, ◌^◌, ◌<◌, ◌≤◌, length, drop};
 ghost use Rattle.std.specs.Int.{w16, w32};
-ghost use Rattle.byte_fields.specs.FieldReading.{Unread, Takes, place, byte_at, number_at, byte_within, word_within, flag_at, protection_at, sid_at, component_at};
+ghost use Rattle.byte_fields.specs.FieldReading.{Unread, Takes, place, byte_at, number_at, byte_within, u16_in_range, flag_at, protection_at, sid_at, component_at};
 
 use crate::record::RecordFault;
 use mux_eep::{EepSet, Protection};
 use mux_types::{Component, ScId, ScTy, Sid, SubId};
 use std::marker::Model;
 
-/// Reads fields from the front of bytes, one after the other. Each call that reads returns the field, or its fault:
-/// `Short` where its bytes are missing, `Field` with the offset of its first byte where it is out of its range. Offsets
-/// are counted from the first byte that the reader was given. After a fault the reader is somewhere within the field.
+/// Reads fields from the front of bytes, one after the other. Each read returns the field or its fault: `Short` if
+/// bytes are missing, `Field` with the offset of its first byte if it is out of range. Offsets are counted from the
+/// first byte that the reader was given. After a fault the reader is somewhere within the field.
 #[derive(Drop)]
 pub struct Reader<'a> {
     total: usize,
@@ -50,7 +50,7 @@ impl<'a> Reader<'a> {
         self.total - self.rest.len()
     }
 
-    /// The bytes that are left.
+    /// The remaining bytes.
     pub fn rest(&self) -> &[u8]
         ensures value { result.now ≡ self.now.rest }
         ensures bound { length result.now ≤ self.now.total }
@@ -58,7 +58,7 @@ impl<'a> Reader<'a> {
         self.rest
     }
 
-    /// Skips this many bytes, which must be left.
+    /// Skips this many bytes, which must remain.
     pub fn skip(&mut self, count: usize)
         requires { count ≤ length self.old.rest }
         ensures rest { self.new.rest ≡ drop count self.old.rest }
@@ -81,7 +81,7 @@ impl<'a> Reader<'a> {
         }
     }
 
-    /// Reads a number of two bytes.
+    /// Reads a two-byte number.
     pub fn u16(&mut self) -> Result<u16, RecordFault>
         ensures read { Takes (number_at w16 self.old.rest) result self.new }
         ensures total { self.new.total ≡ self.old.total }
@@ -94,7 +94,7 @@ impl<'a> Reader<'a> {
         Ok(u16::from_be_bytes([front[0], front[1]]))
     }
 
-    /// Reads a number of four bytes.
+    /// Reads a four-byte number.
     pub fn u32(&mut self) -> Result<u32, RecordFault>
         ensures read { Takes (number_at w32 self.old.rest) result self.new }
         ensures total { self.new.total ≡ self.old.total }
@@ -107,7 +107,7 @@ impl<'a> Reader<'a> {
         Ok(u32::from_be_bytes([front[0], front[1], front[2], front[3]]))
     }
 
-    /// Reads a byte from `low` to `high`.
+    /// Reads a byte in the range `low` to `high`.
     pub fn byte_within(&mut self, low: u8, high: u8) -> Result<u8, RecordFault>
         ensures read { Takes (byte_within self.old.total low high self.old.rest) result self.new }
         ensures total { self.new.total ≡ self.old.total }
@@ -123,9 +123,9 @@ impl<'a> Reader<'a> {
         Ok(byte)
     }
 
-    /// Reads a number of two bytes from `low` to `high`.
+    /// Reads a two-byte number in the range `low` to `high`.
     pub fn u16_within(&mut self, low: u16, high: u16) -> Result<u16, RecordFault>
-        ensures read { Takes (word_within self.old.total low high self.old.rest) result self.new }
+        ensures read { Takes (u16_in_range self.old.total low high self.old.rest) result self.new }
         ensures total { self.new.total ≡ self.old.total }
     {
         let place = self.place();
@@ -169,7 +169,7 @@ impl<'a> Reader<'a> {
 
     /// Reads an SCId, two bytes, 0 to 4095.
     pub fn sc_id(&mut self) -> Result<ScId, RecordFault>
-        ensures read { Takes (word_within self.old.total 0 4095 self.old.rest) result self.new }
+        ensures read { Takes (u16_in_range self.old.total 0 4095 self.old.rest) result self.new }
         ensures total { self.new.total ≡ self.old.total }
     {
         let place = self.place();

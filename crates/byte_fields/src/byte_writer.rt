@@ -1,24 +1,24 @@
-//! Appending the fields of a record to bytes.
+//! Appends the fields of a record to bytes.
 
 ghost use Rattle.std.specs.Prelude.{◌≡◌, ◌++◌, OnOk};
 ghost use Rattle.std.specs.Int.{w32, to_be_bytes};
-ghost use Rattle.byte_fields.specs.FieldSpelling.{word_bytes, protection_bytes, sid_field, component_bytes};
+ghost use Rattle.byte_fields.specs.FieldSpelling.{u16_bytes, protection_bytes, sid_field, component_bytes};
 
 use byteorder::{BigEndian, ByteOrder};
 use mux_eep::{EepSet, Protection};
 use mux_types::{Component, Sid};
 use std::alloc::AllocError;
 
-/// Writes a number of two bytes.
+/// Writes a two-byte number.
 pub fn put_u16(out: &mut Vec<u8>, number: u16) -> Result<(), AllocError>
-    ensures { OnOk result (out.new.items ≡ out.old.items ++ word_bytes number) }
+    ensures { OnOk result (out.new.items ≡ out.old.items ++ u16_bytes number) }
 {
     let mut bytes = [0; 2];
     BigEndian::write_u16(&mut bytes, number);
     out.extend_from_slice(&bytes)
 }
 
-/// Writes a number of four bytes.
+/// Writes a four-byte number.
 pub fn put_u32(out: &mut Vec<u8>, number: u32) -> Result<(), AllocError>
     ensures { OnOk result (out.new.items ≡ out.old.items ++ to_be_bytes w32 number) }
 {

@@ -1,8 +1,8 @@
 //! The fields of records and files: numbers of one, two and four bytes, flags, protection profiles, SIds and
 //! components, read from the front of bytes and appended to bytes.
 //!
-//! Begin with `Reader`, whose calls return the field or its fault, a `RecordFault`; the calls that write are in
-//! `byte_writer`. What is read is defined in `specs/FieldReading.antt`, what is written in `specs/FieldSpelling.antt`.
+//! Begin with `Reader`, whose methods return the field or its fault, a `RecordFault`; the functions that write are in
+//! `byte_writer`. `specs/FieldReading.antt` defines what is read, `specs/FieldSpelling.antt` what is written.
 #![tactic(auto)]
 
 pub mod byte_reader;

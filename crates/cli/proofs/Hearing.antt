@@ -1,4 +1,4 @@
--- Hearing a stream FIB by FIB, and piece by piece.
+-- Decoding a stream FIB by FIB, and piece by piece.
 use Rattle.std.proofs.Common.{◌≡◌, ℕ, zero, suc, ◌+◌, ◌*◌, ◌/◌, ◌%◌, ◌<◌, ◌≤◌, Bool, true, false, List, [], ◌∷◌, ◌++◌, length, drop, drop-cons, add-one, get_or, Result, Ok, Err, inl, inr, refl, sym, ap, ◌∙◌, subst, arith}
 use Rattle.std.specs.Simd.{first_chunks}
 use Rattle.std.proofs.lemmas.List.{length-append, length-drop, take-append-le, drop-append-le}
@@ -16,20 +16,20 @@ use Rattle.cli.specs.Stream.{HearsTheStream, heard_more, damaged_more, fibs_of_s
 fib_by_fib : (fibs : List (List ℕ)) (i : ℕ) → i < length fibs → drop i fibs ≡ get_or fibs i [] ∷ drop (i + 1) fibs
 fib_by_fib fibs i lt = rw (add-one, drop-cons fibs i [] lt) refl
 
--- a FIB that is heard
+-- a received FIB
 pub one_heard : (fibs : List (List ℕ)) (i : ℕ) (old : Heard) (new : Listening) (given : Result Heard StreamFault) → i < length fibs → Hears (get_or fibs i []) old.listener new (Ok tt) → HearsTheStream (drop (i + 1) fibs) (heard_more old new) given → HearsTheStream (drop i fibs) old given
 one_heard fibs i old new given lt heard rest =
     subst (λ (fs : List (List ℕ)). HearsTheStream fs old given) (sym (fib_by_fib fibs i lt)) (inl (new, heard, rest))
 
--- a damaged one
+-- a damaged FIB
 pub one_damaged : (fibs : List (List ℕ)) (i : ℕ) (old : Heard) (new : Listening) (fault : ListenFault) (inner : FibFault) (given : Result Heard StreamFault) → i < length fibs → fault ≡ Fib inner → Hears (get_or fibs i []) old.listener new (Err fault)
     → HearsTheStream (drop (i + 1) fibs) (record { fibs = old.fibs + 1; damaged = old.damaged + 1; listener = new }) given → HearsTheStream (drop i fibs) old given
 one_damaged fibs i old new fault inner given lt is heard rest =
     let as_fib : Hears (get_or fibs i []) old.listener new (Err (Fib inner)) = subst (λ (f : ListenFault). Hears (get_or fibs i []) old.listener new (Err f)) is heard in
     let stays : HearsTheStream (drop (i + 1) fibs) (damaged_more old) given =
     subst (λ (l : Listening). HearsTheStream (drop (i + 1) fibs) (record { fibs = old.fibs + 1; damaged = old.damaged + 1; listener = l }) given) as_fib.1 rest in
-    let told : Hears (get_or fibs i []) old.listener old.listener (Err (Fib inner)) = (as_fib.0, refl) in
-    subst (λ (fs : List (List ℕ)). HearsTheStream fs old given) (sym (fib_by_fib fibs i lt)) (inr (inl (inner, told, stays)))
+    let reported : Hears (get_or fibs i []) old.listener old.listener (Err (Fib inner)) = (as_fib.0, refl) in
+    subst (λ (fs : List (List ℕ)). HearsTheStream fs old given) (sym (fib_by_fib fibs i lt)) (inr (inl (inner, reported, stays)))
 
 -- ---- piece by piece
 
@@ -39,14 +39,14 @@ no_room_is_none h e = absurd (cc)
 ok_is : (g h : Heard) (r : Result Heard StreamFault) → r ≡ Ok g → r ≡ Ok h → g ≡ h
 ok_is g h r e f = cc
 
--- what is heard after FIBs that were heard
+-- FIBs after others that were decoded
 heard_on : (xs ys : List (List ℕ)) (old mid : Heard) (given : Result Heard StreamFault) → HearsTheStream xs old (Ok mid) → HearsTheStream ys mid given → HearsTheStream (xs ++ ys) old given
 heard_on [] ys old mid given h more = subst (λ (s : Heard). HearsTheStream ys s given) (ok_is mid old (Ok mid) refl h) more
 heard_on (x ∷ xs) ys old mid given (inl (new, heard, rest)) more = inl (new, heard, heard_on xs ys (heard_more old new) mid given rest more)
 heard_on (x ∷ xs) ys old mid given (inr (inl (fault, wrong, rest))) more = inr (inl (fault, wrong, heard_on xs ys (damaged_more old) mid given rest more))
 heard_on (x ∷ xs) ys old mid given (inr (inr (full, ends))) more = absurd (no_room_is_none mid (sym ends))
 
--- and after FIBs that a picture had no room for
+-- FIBs after others that a picture had no room for
 full_on : (xs ys : List (List ℕ)) (old : Heard) → HearsTheStream xs old (Err Full) → HearsTheStream (xs ++ ys) old (Err Full)
 full_on [] ys old h = absurd (no_room_is_none old h)
 full_on (x ∷ xs) ys old (inl (new, heard, rest)) = inl (new, heard, full_on xs ys (heard_more old new) rest)
@@ -74,7 +74,7 @@ fibs_on s t whole =
     let exact : length s ≡ 32 * (length s / 32) = omega arith in
     ap (λ n. first_chunks 32 n (s ++ t)) count ∙ chunks_on (length s / 32) (length t / 32) s t exact
 
--- a piece of whole FIBs more
+-- one more piece of whole FIBs
 pub piece_heard : (s t : List ℕ) (start mid : Heard) (given : Result Heard StreamFault) → length s % 32 ≡ 0 → HearsTheStream (fibs_of_stream s) start (Ok mid) → HearsTheStream (fibs_of_stream t) mid given → HearsTheStream (fibs_of_stream (s ++ t)) start given
 piece_heard s t start mid given whole before more =
     subst (λ (fs : List (List ℕ)). HearsTheStream fs start given) (sym (fibs_on s t whole)) (heard_on (fibs_of_stream s) (fibs_of_stream t) start mid given before more)
@@ -83,12 +83,12 @@ pub piece_passed : (s t : List ℕ) (start : Heard) → length s % 32 ≡ 0 → 
 piece_passed s t start whole before =
     subst (λ (fs : List (List ℕ)). HearsTheStream fs start (Err Full)) (sym (fibs_on s t whole)) (full_on (fibs_of_stream s) (fibs_of_stream t) start before)
 
--- what FIBs end with
+-- the result after FIBs
 pub ends : (fibs : List (List ℕ)) (old mid : Heard) (all : Bool) → (all ≡ true → HearsTheStream fibs old (Ok mid)) → (all ≡ false → HearsTheStream fibs old (Err Full)) → HearsTheStream fibs old (ended all mid)
 ends fibs old mid true heard none = heard refl
 ends fibs old mid false heard none = none refl
 
--- what it is for a piece after others that left room, and after others that did not
+-- the result after a piece that follows others which left room, and others which did not
 pub piece_ends : (s t : List ℕ) (fibs : List (List ℕ)) (start old : Heard) (room : Bool) (given : Result Heard StreamFault) → room ≡ true → length s % 32 ≡ 0 → fibs ≡ fibs_of_stream t
     → HearsTheStream (fibs_of_stream s) start (ended room old) → HearsTheStream fibs old given → HearsTheStream (fibs_of_stream (s ++ t)) start given
 piece_ends s t fibs start old true given is whole are before more =

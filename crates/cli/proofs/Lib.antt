@@ -1,6 +1,6 @@
 mod Appending
 mod Hearing
-mod Leading
+mod Transcripts
 mod Naming
 mod OneAnswer
 mod PictureLines

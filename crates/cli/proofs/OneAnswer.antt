@@ -1,4 +1,4 @@
--- A stream has one answer at most.
+-- A stream has at most one result.
 use Rattle.std.proofs.Common.{◌≡◌, ℕ, ◌<◌, List, [], ◌∷◌, Result, Ok, Err, Some, None, inl, inr, refl, sym, ap, ◌∙◌, subst, arith}
 use Rattle.fib_codec.specs.Grammar.{Fig, OneList}
 use Rattle.fib_reader.specs.Laws.{FaultOrFigs}
@@ -14,7 +14,7 @@ some_of l m e = cc
 none_of : (l : Listening) → Some l ≡ None → ⊥
 none_of l e = absurd (cc)
 
--- what is heard of a FIB is settled by its FIGs
+-- a FIB's FIGs determine the listener after it
 heard_once : OneList → (fib : List ℕ) (now l m : Listening) (f g : List Fig) → hear_figs f now ≡ Some l → hear_figs g now ≡ Some m → f ≡ g → l ≡ m
 heard_once ones fib now l m f g to also same = some_of l m (sym to ∙ ap (λ (x : List Fig). hear_figs x now) same ∙ also)
 

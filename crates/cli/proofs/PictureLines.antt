@@ -1,4 +1,4 @@
--- The lines of a picture's entries, entry after entry, and the listing that they belong to.
+-- The lines of a picture's entries, entry after entry, and the listing that contains them.
 use Rattle.std.proofs.Common.{◌≡◌, ℕ, List, [], ◌∷◌, ◌++◌, Option, Result, Ok, Err, OnOk, codes, append_assoc, append-nil, refl, sym, subst}
 use Rattle.std.specs.Io.KnownBytes.{Appends}
 use Rattle.std.proofs.KnownBytes.{Appends-trans}
@@ -9,11 +9,11 @@ use Rattle.cli.specs.Lines.{entry_lines}
 use Rattle.cli.specs.Listing.{AreLinesOf, IsListing, counts_line, swap_line}
 use Rattle.cli.specs.declared.listings.listen.Heard.{Heard}
 
--- this text stands before the lines of the entries that are left, and both together are the lines of all
+-- this text precedes the lines of the remaining entries, and both together are the lines of all
 abbrev pub IsBefore : (text : List ℕ) (left all : List Raw) → Type 0
 IsBefore text left all = (rest : List ℕ) → AreLinesOf left rest → AreLinesOf all (text ++ rest)
 
--- an entry's lines more
+-- one more entry
 pub one_more : (text : List ℕ) (raw : Raw) (entry : Entry) (before left all : List Raw) → before ≡ raw ∷ left → IsValue raw entry → IsBefore text before all → IsBefore (text ++ entry_lines entry) left all
 one_more text raw entry before left all is value so_far rest lines =
     let these : AreLinesOf before (entry_lines entry ++ rest) = subst (λ raws. AreLinesOf raws (entry_lines entry ++ rest)) (sym is) (entry, rest, value, lines, refl) in
@@ -24,7 +24,7 @@ pub all_of : (text : List ℕ) (left all : List Raw) → left ≡ [] → IsBefor
 all_of text left all none so_far =
     subst (AreLinesOf all) (append-nil text) (so_far [] (subst (λ raws. AreLinesOf raws []) (sym none) refl))
 
--- the last line of a listing, after all that stands before it
+-- the last line of a listing, after all lines before it
 pub then_listed : {X E : Type 0} (r : Result X E) (h : Heard) (old mid new : Option (List ℕ)) (current next : List ℕ) → AreLinesOf (all_entries h.listener.current) current → AreLinesOf (all_entries h.listener.next) next → Appends old mid (counts_line h ++ codes "current\n" ++ current ++ codes "next\n" ++ next) → OnOk r (Appends mid new (swap_line h.listener.awaited)) → OnOk r ((text : List ℕ) × IsListing h text × Appends old new text)
 then_listed (Ok x) h old mid new current next are also before after = (
   counts_line h ++ codes "current\n" ++ current ++ codes "next\n" ++ next ++ swap_line h.listener.awaited,

@@ -1,4 +1,4 @@
--- What `compile` makes of a script, why it makes nothing, and the line that reports the numbers of a code.
+-- The result of `compile`, its refusals, and the line that reports the size of a code.
 use Rattle.std.specs.Prelude.{◌≡◌, ℕ, List, ◌++◌, codes, length}
 use Rattle.std.specs.Fmt.{decimal}
 use Rattle.plan_code.specs.Program.{Program}
@@ -14,8 +14,8 @@ use Rattle.cli.specs.declared.commands.compile.Compiled.{Compiled}
 use Rattle.cli.specs.declared.commands.compile.ScriptRefusal.{ScriptRefusal}
 use Rattle.cli.specs.declared.commands.compile.ScriptRefusal.TheVariants.{Script, Plan, Memory}
 
--- the text denotes this script, which is accepted, and this is its code: it is typed, each of its labels costs what the code
--- needs from there, and it does what the script says
+-- the text denotes this script, which is accepted, and this is its code: it is typed, the cost of each label is the
+-- need of the code from there, and it plays as the script reads
 pub record IsMadeOf (text : List ℕ) (tree : Tree) (code : Program) : Type 0 where
   pub script : IsScript tree
   pub denotes : IsScriptOf text tree
@@ -36,8 +36,8 @@ pub record IsFileOf (code : Program) (c : Compiled) : Type 0 where
 abbrev pub IsCompiled : List ℕ → Compiled → Type 0
 IsCompiled text c = (tree : Tree) × (code : Program) × IsMadeOf text tree code × IsFileOf code c
 
--- the text is that of no script; or that of one that is not accepted, which is refused at this line for this cause, if the
--- fault names one; want of memory aside
+-- the text is not a script; or it is one that is not accepted, and is refused at the line and for the cause that the
+-- fault names, if it names one; barring allocation failure
 abbrev pub IsUncompiled : List ℕ → ScriptRefusal → Type 0
 IsUncompiled text (Script fault) = IsNoScript text
 IsUncompiled text (Plan fault) =

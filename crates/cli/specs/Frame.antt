@@ -1,4 +1,4 @@
--- One frame of the configuration that a record holds, or the first fault that is met.
+-- One frame of the configuration in a record, or the first fault.
 use Rattle.std.specs.Prelude.{◌≡◌, ℕ, ◌/◌, ◌%◌, ◌==◌, nat_lt, Bool, if◌then◌else◌, List, ◌++◌, codes, length, Option, Some, None, Result, Ok, Err}
 use Rattle.std.specs.List.{flat_map}
 use Rattle.std.specs.Simd.{first_chunks}
@@ -19,7 +19,7 @@ use Rattle.fib_carousel.specs.Bytes.{page_bytes}
 use Rattle.cli.specs.declared.listings.frame.FrameFault.{FrameFault}
 use Rattle.cli.specs.declared.listings.frame.FrameFault.TheVariants.{Record, Trailing, Unsound, NoSuchPage}
 
--- FIG 0/0 goes out in the frames whose count the mode's step divides
+-- FIG 0/0 is sent in frames whose count is a multiple of the mode's step
 abbrev pub sent : Mode → EnsembleInformation → Option EnsembleInformation
 sent mode ensemble = if ensemble.count % count_step mode == 0 then Some ensemble else None
 
@@ -56,11 +56,11 @@ abbrev pub frame_text : (raw : Bool) → List ℕ → List ℕ
 frame_text raw frame = if raw then frame else fibs_text frame
 
 -- the longest record: three numbers, 64 sub-channels and packet components of 7 bytes, 64 services of 4 bytes with 12
--- components of 3; and a byte more, which tells that a file is longer
+-- components of 3; and one byte more, to detect a longer file
 abbrev pub most_bytes : ℕ
 most_bytes = 3460
 
--- the frame is shown, or it is refused, by a writer that had `old` and has `new`
+-- the frame is printed, or it is refused; `old` and `new` are the writer's bytes before and after
 abbrev pub ShowsFrame : (raw : Bool) → Result (List ℕ) FrameFault → (old new : Option (List ℕ)) → Status → Type 0
 ShowsFrame raw (Ok frame) old new status = (status ≡ Done) × Appends old new (frame_text raw frame)
 ShowsFrame raw (Err fault) old new status = status ≡ Refused

@@ -1,4 +1,4 @@
--- The lines that show entries of FIG 0/1 to 0/3.
+-- The printed lines of entries of FIG 0/1 to 0/3.
 use Rattle.std.specs.Prelude.{ℕ, ◌+◌, ◌==◌, Bool, if◌then◌else◌, List, [], ◌++◌, codes}
 use Rattle.std.specs.List.{flat_map}
 use Rattle.std.specs.Fmt.{decimal}
@@ -12,9 +12,9 @@ use Rattle.mux_entries.specs.declared.entry.ComponentEntry.{ComponentEntry}
 use Rattle.mux_entries.specs.declared.entry.ComponentEntry.TheVariants.{Sound, Stream, Other, Packet as InPackets}
 use Rattle.mux_entries.specs.declared.entry.ServiceEntry.{ServiceEntry}
 use Rattle.mux_entries.specs.declared.entry.PacketEntry.{PacketEntry}
-use Rattle.console.specs.Digits.{digits_of_word, digits_of_long}
+use Rattle.console.specs.Digits.{hex_of_u16, digits_of_long}
 
--- options 0 and 1 are the sets A and B; the level is sent one less
+-- options 0 and 1 are the sets A and B; the level is sent as one less
 abbrev pub protection_text : (option level : ℕ) → List ℕ
 protection_text option level =
     if option == 0 then codes "eep " ++ decimal (level + 1) ++ codes "-A\n"
@@ -37,21 +37,21 @@ short_line s =
     ++ codes " switch " ++ decimal (flag_digit s.switch) ++ codes " table " ++ decimal s.table ++ codes "\n"
 
 -- P/S
-abbrev pub place_word : Bool → List ℕ
-place_word primary = if primary then codes "primary" else codes "secondary"
+abbrev pub primary_text : Bool → List ℕ
+primary_text primary = if primary then codes "primary" else codes "secondary"
 
 -- a component; one of TMId 10 as its 16 bits
 abbrev pub component_line : ComponentEntry → List ℕ
 component_line (Sound ty sub primary ca) =
-    codes "  audio " ++ decimal ty ++ codes " sub " ++ decimal sub ++ codes " " ++ place_word primary ++ codes "\n"
+    codes "  audio " ++ decimal ty ++ codes " sub " ++ decimal sub ++ codes " " ++ primary_text primary ++ codes "\n"
 component_line (Stream ty sub primary ca) =
-    codes "  data " ++ decimal ty ++ codes " sub " ++ decimal sub ++ codes " " ++ place_word primary ++ codes "\n"
-component_line (Other bits) = codes "  other " ++ digits_of_word (32768 + bits) ++ codes "\n"
+    codes "  data " ++ decimal ty ++ codes " sub " ++ decimal sub ++ codes " " ++ primary_text primary ++ codes "\n"
+component_line (Other bits) = codes "  other " ++ hex_of_u16 (32768 + bits) ++ codes "\n"
 component_line (InPackets scid primary ca) =
-    codes "  packet " ++ decimal scid ++ codes " " ++ place_word primary ++ codes "\n"
+    codes "  packet " ++ decimal scid ++ codes " " ++ primary_text primary ++ codes "\n"
 
 abbrev pub sid_digits : Sid → List ℕ
-sid_digits (ShortSid n) = digits_of_word n
+sid_digits (ShortSid n) = hex_of_u16 n
 sid_digits (LongSid n) = digits_of_long n
 
 -- the first line of a service
@@ -63,12 +63,12 @@ abbrev pub service_lines : ServiceEntry → List ℕ
 service_lines s = codes "service " ++ sid_digits s.sid ++ codes "\n" ++ flat_map component_line s.components
 
 -- DG
-abbrev pub transport_word : Bool → List ℕ
-transport_word dg = if dg then codes "raw" else codes "groups"
+abbrev pub transport_text : Bool → List ℕ
+transport_text dg = if dg then codes "raw" else codes "groups"
 
--- what a packet component is, and where its packets are
+-- a packet component's SCId, transport and type; and its sub-channel and packet address
 abbrev pub groups_text : PacketEntry → List ℕ
-groups_text p = codes "packet " ++ decimal p.scid ++ codes " " ++ transport_word p.dg ++ codes " type " ++ decimal p.ty
+groups_text p = codes "packet " ++ decimal p.scid ++ codes " " ++ transport_text p.dg ++ codes " type " ++ decimal p.ty
 
 abbrev pub address_text : PacketEntry → List ℕ
 address_text p = codes " sub " ++ decimal p.sub ++ codes " address " ++ decimal p.address ++ codes "\n"
@@ -84,7 +84,7 @@ entry_lines (Short s) = short_line s
 entry_lines (Service s) = service_lines s
 entry_lines (Packet p) = packet_line p
 
--- the first of them
+-- the first line of an entry
 abbrev pub head_line : Entry → List ℕ
 head_line (Ensemble e) = []
 head_line (Sub s) = sub_line s

@@ -1,4 +1,4 @@
--- What `listen` prints of a stream of FIBs.
+-- The listing that `listen` prints of a stream of FIBs.
 use Rattle.std.specs.Prelude.{◌≡◌, ℕ, List, [], ◌∷◌, ◌++◌, codes, Option, Some, None, Result, Ok, Err}
 use Rattle.std.specs.Fmt.{decimal}
 use Rattle.std.specs.Io.KnownBytes.{Appends}
@@ -13,22 +13,22 @@ use Rattle.cli.specs.declared.listings.listen.StreamFault.{StreamFault}
 use Rattle.cli.specs.declared.listings.listen.StreamFault.TheVariants.{NotWhole, Full}
 use Rattle.cli.specs.declared.listings.listen.Heard.{Heard}
 
--- the lines of the entries that are sent so, one entry after the other
+-- the lines of the entries with these bytes, one entry after the other
 abbrev pub AreLinesOf : List Raw → List ℕ → Type 0
 AreLinesOf [] text = text ≡ []
 AreLinesOf (raw ∷ raws) text =
     (entry : Entry) × (rest : List ℕ) × IsValue raw entry × AreLinesOf raws rest × (text ≡ entry_lines entry ++ rest)
 
--- the numbers of FIBs, whole and damaged
+-- the numbers of FIBs and of damaged FIBs
 abbrev pub counts_line : Heard → List ℕ
 counts_line h = codes "fibs " ++ decimal h.fibs ++ codes " damaged " ++ decimal h.damaged ++ codes "\n"
 
--- the low part of the CIF count at which a swap is awaited
+-- the low part of the CIF count of the awaited swap
 abbrev pub swap_line : Option ℕ → List ℕ
 swap_line (Some low) = codes "swap at low " ++ decimal low ++ codes "\n"
 swap_line None = codes "no swap\n"
 
--- what was heard: how many FIBs, the current configuration, the next one, and the swap that is awaited
+-- a listing: the number of FIBs, the current configuration, the next one, and the awaited swap
 pub record IsListing (h : Heard) (text : List ℕ) : Type 0 where
   pub current : List ℕ
   pub next : List ℕ
@@ -40,12 +40,13 @@ abbrev pub refusal_line : StreamFault → List ℕ
 refusal_line NotWhole = codes "refused: not whole FIBs\n"
 refusal_line Full = codes "refused: Full\n"
 
--- the listing of a stream that was heard, or the line of its refusal
+-- the listing of a decoded stream, or the line of its refusal
 abbrev pub IsShown : Result Heard StreamFault → Status → List ℕ → Type 0
 IsShown (Ok heard) status text = (status ≡ Done) × IsListing heard text
 IsShown (Err fault) status text = (status ≡ Refused) × (text ≡ refusal_line fault)
 
--- what a new listener hears of the stream is shown, by a writer that had `old` and has `new`
+-- the result of decoding the stream with a new listener is printed; `old` and `new` are the writer's bytes before and
+-- after
 pub record ShowsStream (stream : List ℕ) (old new : Option (List ℕ)) (status : Status) : Type 0 where
   pub heard : Result Heard StreamFault
   pub text : List ℕ

@@ -1,4 +1,4 @@
--- How `live` ends where it does not come to the end of its lines.
+-- How `live` ends before the end of its lines.
 use Rattle.std.specs.Prelude.{◌≢◌, ℕ, List, []}
 use Rattle.plan_code.specs.declared.fault.CodeFault.TheVariants.{Memory as NoMemoryForCode}
 use Rattle.plan_code.specs.declared.flags.Contacts.{Contacts}
@@ -11,7 +11,7 @@ use Rattle.cli.specs.declared.args.start.StartOptions.{StartOptions}
 use Rattle.cli.specs.declared.commands.live.LiveEnding.{LiveEnding}
 use Rattle.cli.specs.declared.commands.live.LiveEnding.TheVariants.{Failed, Live}
 
--- the code in the file can be played from the start, and this is the player there
+-- the code in the file can be played from the start, and this is the player at the start
 abbrev pub BeginsWith : List ℕ → StartOptions → Playing → Type 0
 BeginsWith file start p = Begins (asked file [] start.count start.day start.contacts) p
 

@@ -6,7 +6,7 @@ use Rattle.plan_verifier.specs.Typing.{IsTyped}
 use Rattle.script_diff.specs.declared.opening.Opening.{Opening}
 use Rattle.script_diff.specs.declared.refusal.DiffFault.{DiffFault}
 use Rattle.script_diff.specs.Plan.{plan_acts}
-use Rattle.script_diff.specs.Refusals.{CanLead, IsInTheWay}
+use Rattle.script_diff.specs.Refusals.{CanBePlanned, IsInTheWay}
 use Rattle.cli.specs.declared.commands.diff.PlanFault.{PlanFault}
 use Rattle.cli.specs.declared.commands.diff.PlanFault.TheVariants.{Between, Refused, Memory}
 use Rattle.script_compiler.specs.declared.fault.CompileFault.{CompileFault}
@@ -17,8 +17,8 @@ use Rattle.script_front.specs.Tree.{Tree, IsScript}
 use Rattle.script_opening.specs.Plain.{IsPlain}
 use Rattle.script_meaning.specs.Compiled.{IsAccepted, IsCodeOf}
 
--- the text denotes the plan from one opening to another, laid out as scripts are printed; the plan is accepted, and its
--- code is typed
+-- the text denotes the plan from one opening to another, in the layout of printed scripts; the plan is accepted, and
+-- its code is typed
 pub record IsPlanText (from to : Opening) (text : List ℕ) : Type 0 where
   pub tree : Tree
   pub script : IsScript tree
@@ -30,15 +30,15 @@ pub record IsPlanText (from to : Opening) (text : List ℕ) : Type 0 where
   pub is : IsCodeOf tree code
   pub typed : IsTyped code
 
--- the plan from one opening to another is refused: it is not accepted, want of memory aside
+-- the plan from one opening to another is not accepted, barring allocation failure
 pub record IsRefusedPlan (from to : Opening) (fault : CompileFault) : Type 0 where
   pub tree : Tree
   pub script : IsScript tree
   pub plain : IsPlain to.header (edits_that_make from.config) (plan_acts to.header from.config to.config) tree
   pub refused : fault ≢ Unavailable → IsAccepted tree → ⊥
 
--- this is in the way of a plan; where nothing is, the plan itself is refused, or memory was
+-- this prevents a plan; where nothing does, the plan itself is refused, or an allocation failed
 abbrev pub IsPlanFault : Opening → Opening → PlanFault → Type 0
 IsPlanFault from to (Between fault) = IsInTheWay from to fault
-IsPlanFault from to (Refused fault) = CanLead from to × IsRefusedPlan from to fault
-IsPlanFault from to Memory = CanLead from to
+IsPlanFault from to (Refused fault) = CanBePlanned from to × IsRefusedPlan from to fault
+IsPlanFault from to Memory = CanBePlanned from to

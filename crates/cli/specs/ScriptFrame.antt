@@ -1,4 +1,4 @@
--- One frame of the configuration that a script begins with, or the first fault that is met.
+-- One frame of the initial configuration of a script, or the first fault.
 use Rattle.std.specs.Prelude.{◌≡◌, ℕ, false, List, None, Result, Ok, Err}
 use Rattle.mux_config.specs.Configuration.{Configuration, nothing}
 use Rattle.mux_config.specs.Sound.{sound_or_fault}
@@ -21,7 +21,7 @@ abbrev pub in_frame : Result (List ℕ) FrameFault → Result (List ℕ) ScriptF
 in_frame (Ok frame) = Ok frame
 in_frame (Err fault) = Err (Frame fault)
 
--- as of a record: the configuration's soundness, and then the page
+-- as for a record: the configuration's soundness, and then the page
 abbrev pub frame_of_made : Header → (count index : ℕ) → Result Configuration ItemFault → Result (List ℕ) ScriptFrameFault
 frame_of_made header count index (Err fault) = Err (Item fault)
 frame_of_made header count index (Ok c) =
@@ -30,7 +30,7 @@ frame_of_made header count index (Ok c) =
 abbrev pub frame_of_script : Tree → (count index : ℕ) → Result (List ℕ) ScriptFrameFault
 frame_of_script tree count index = frame_of_made tree.header count index (made_by tree.items nothing)
 
--- the text is that of a script whose frame this is, or it is that of none
+-- the text is a script with this frame, or it is not a script
 abbrev pub GivesFrame : List ℕ → (count index : ℕ) → Result (List ℕ) ScriptFrameFault → Type 0
 GivesFrame text count index (Err (Script fault)) = IsNoScript text
 GivesFrame text count index (Err Memory) = Unit {0}

@@ -1,4 +1,4 @@
--- What `debug` is asked for, the lines that it prints, and its faults.
+-- The session of `debug`, the lines that it prints, and its faults.
 use Rattle.std.specs.Prelude.{◌≡◌, ◌≢◌, ℕ, Bool, if◌then◌else◌, List, [], ◌∷◌, ◌++◌, codes, Option, None, Some, Result, Ok, Err}
 use Rattle.std.specs.List.{flat_map}
 use Rattle.std.specs.Fmt.{decimal}
@@ -24,7 +24,7 @@ abbrev pub remaining_text : Option ℕ → List ℕ
 remaining_text None = codes "none"
 remaining_text (Some frames) = decimal frames
 
--- what was played, and where the player stands
+-- the frames and steps played, the pc and the source line
 abbrev pub place_text : Report → List ℕ
 place_text r = codes "frames " ++ decimal r.frames ++ codes " steps " ++ decimal r.steps ++ codes " pc " ++ decimal r.pc ++ codes " line " ++ decimal r.line
 
@@ -41,7 +41,7 @@ report_lines r = place_text r ++ swap_text r ++ break_line r.broke
 abbrev pub announcement_line : Announcement → List ℕ
 announcement_line a = codes "announced " ++ decimal a.count ++ codes " swap " ++ decimal a.occurrence ++ codes " change " ++ decimal a.change ++ codes "\n"
 
--- `show` lists the announcements that are kept, oldest first
+-- `show` lists the recorded announcements, oldest first
 abbrev pub shown_lines : Command → List Announcement → List ℕ
 shown_lines (Contact c closed) all = []
 shown_lines (Run most) all = []
@@ -50,14 +50,14 @@ shown_lines (Break line) all = []
 shown_lines Clear all = []
 shown_lines Show all = flat_map announcement_line all
 
--- the lines of commands, one after another, from this debugger on, which becomes that one
+-- the lines of these commands, one after another, and the debugger before and after them
 abbrev pub Transcript : Debugging → List Command → List ℕ → Debugging → Type 0
 Transcript before [] lines after = (lines ≡ []) × (after ≡ before)
 Transcript before (command ∷ commands) lines after =
     (r : Report) × (mid : Debugging) × (rest : List ℕ) × Answers before command mid r
     × (lines ≡ report_lines r ++ shown_lines command mid.announcements ++ rest) × Transcript mid commands rest after
 
--- ---- what is asked for
+-- ---- the session
 
 -- the code in the file is typed, the start is in range and this is the player at it, and the text holds these commands
 pub record IsSession (r : Request) (p : Playing) (commands : List Command) : Type 0 where
@@ -65,7 +65,7 @@ pub record IsSession (r : Request) (p : Playing) (commands : List Command) : Typ
   pub begins : IsAtStart p.code (start_of p.code r) p
   pub holds : HoldsCommands r.text commands
 
--- all lines of the commands are printed; memory aside, and where the writer fails nothing is said
+-- the lines of all commands are printed; nothing is claimed where an allocation or the writer failed
 abbrev pub Prints : Playing → List Command → Option (List ℕ) → Option (List ℕ) → Result (Unit {0}) DebugFault → Type 0
 Prints p commands before after (Ok done) =
     (lines : List ℕ) × (end : Debugging) × Transcript (fresh p) commands lines end × Appends before after lines
@@ -80,7 +80,7 @@ Prints p commands before after (Err Output) = Unit {0}
 
 -- ---- faults
 
--- what holds where a fault comes: that it is one, and that none of those before it is
+-- this fault is present, and none before it is
 abbrev pub IsDebugFault : Request → DebugFault → Type 0
 IsDebugFault r (Playback (Code fault)) = IsRunFault r (Code fault)
 IsDebugFault r (Playback (Refused pc line cause)) = IsRunFault r (Refused pc line cause)
@@ -92,7 +92,7 @@ IsDebugFault r (Commands fault) = (p : Playing) × CanStart p.code r
 IsDebugFault r Memory = (p : Playing) × (commands : List Command) × IsSession r p commands
 IsDebugFault r Output = (p : Playing) × (commands : List Command) × IsSession r p commands
 
--- at every fault but that of the writer nothing was printed
+-- with every fault but that of the writer nothing was printed
 abbrev pub IsUnprinted : Option (List ℕ) → Option (List ℕ) → DebugFault → Type 0
 IsUnprinted before after (Playback fault) = Keeps before after
 IsUnprinted before after (Commands fault) = Keeps before after

@@ -1,4 +1,4 @@
--- Whether the code in a file is accepted, as the status of `verify` says.
+-- Whether the code in a file is accepted, by the exit status of `verify`.
 use Rattle.std.specs.Prelude.{List, ℕ}
 use Rattle.console.specs.declared.exit.Status.{Status}
 use Rattle.console.specs.declared.exit.Status.TheVariants.{Done, Refused, Misused}

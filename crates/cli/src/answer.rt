@@ -1,9 +1,9 @@
-//! The whole program, over its arguments, its files and its output.
+//! The program's entry: runs the command that the arguments name and returns its exit status.
 
 ghost use Rattle.std.specs.Prelude.{◌≡◌, ◌≤◌, IsErr};
 
 use crate::args::{Request, UsageError, request_of};
-use crate::commands::live::{answer_live, is_live, tell_mistake};
+use crate::commands::live::{answer_live, is_live, report_mistake};
 use crate::commands::{compile, debug, diff, map, play, verify};
 use crate::listings::{check, frame, frame_script, listen, listen_script};
 use console::exit::{Failure, Status};
@@ -13,12 +13,12 @@ use std::alloc::{AllocError, Global};
 use std::convert::AsStr;
 use std::io::{self, ErrorKind, Write};
 
-/// The program: does what the arguments after its name ask for, prints to `out`, and answers its exit status. What `live`
-/// writes goes to `out` as it comes, and its messages to standard error.
+/// Runs the command that the arguments after the program's name ask for, prints to `out`, and returns the exit status.
+/// `live` writes frames to `out` as they are made, and its messages to standard error.
 ///
-/// 0: done, or help was asked for. 1: refused, a file could not be read, there was no memory, or `out`
-/// failed, after which nothing more is printed. 2: the arguments are wrong, which is found before a file is
-/// read. What it prints is shown by tests alone.
+/// 0: done, or help was printed. 1: refused, a file could not be read, out of memory, or `out`
+/// failed, after which nothing more is printed. 2: the arguments are invalid, which is found before a file is
+/// read. What is printed is checked by tests alone.
 pub fn answer<S: AsStr, F: Files, W: Write>(
     alloc: Global,
     args: &[S],
@@ -35,8 +35,8 @@ pub fn answer<S: AsStr, F: Files, W: Write>(
     status_of(ended, &mut output)
 }
 
-/// The answer where the arguments themselves can't be read: prints why, and answers the exit status, 1 where there
-/// was no memory for them or `out` failed, and else 2. Where the first of them is `live` it goes to standard error.
+/// Reports arguments that could not be read, and returns the exit status: 1 if out of memory or if `out` failed,
+/// else 2. The report goes to standard error if the first argument is `live`.
 pub fn answer_without_args<F: Files, W: Write>(
     alloc: Global,
     error: &io::Error,
@@ -51,14 +51,14 @@ pub fn answer_without_args<F: Files, W: Write>(
         _ => UsageError::NoText,
     };
     if is_live {
-        return tell_mistake(alloc, unasked, files) as u8;
+        return report_mistake(alloc, unasked, files) as u8;
     }
     let mut output = Output::new(out);
     let ended = explain(alloc, unasked, &mut output);
     status_of(ended, &mut output)
 }
 
-/// The exit status, once all that is printed went out; 1 where printing failed.
+/// Flushes the output and returns the exit status; 1 if printing failed.
 fn status_of<W: Write>(ended: io::Result<Status>, out: &mut W) -> u8
     ensures bound { result ≤ 2 }
     ensures failed { IsErr ended → result ≡ 1 }
@@ -107,7 +107,7 @@ fn dispatch<S: AsStr, F: Files, W: Write>(
     }
 }
 
-/// Prints the one line of a failure.
+/// Prints the line of a failure.
 fn report<W: Write>(ended: Result<Status, Failure<'_>>, out: &mut W) -> io::Result<Status> {
     match ended {
         Ok(status) => Ok(status),
@@ -118,7 +118,7 @@ fn report<W: Write>(ended: Result<Status, Failure<'_>>, out: &mut W) -> io::Resu
     }
 }
 
-/// Prints the help that was asked for, or the one line of a mistake on the command line.
+/// Prints the help text, or the one-line message for an invalid command line.
 pub(crate) fn explain<W: Write>(
     alloc: Global,
     unasked: UsageError<'_>,
@@ -152,22 +152,22 @@ pub(crate) fn explain<W: Write>(
     }
 }
 
-/// One line of an error's text: its lines up to the usage, with a tip after a semicolon.
+/// Prints an error text as one line: its lines up to the usage, with a tip after a semicolon.
 fn mistake<W: Write>(text: &str, out: &mut W) -> io::Result<()> {
     let mut is_first = true;
     for line in text.lines() {
-        let words = line.trim();
-        if words.starts_with("Usage:") || words.starts_with("For more information") {
+        let lexemes = line.trim();
+        if lexemes.starts_with("Usage:") || lexemes.starts_with("For more information") {
             break;
         }
-        if !words.is_empty() {
-            if words.starts_with("tip:") {
+        if !lexemes.is_empty() {
+            if lexemes.starts_with("tip:") {
                 write!(out, ";")?;
             }
             if !is_first {
                 write!(out, " ")?;
             }
-            write!(out, "{words}")?;
+            write!(out, "{lexemes}")?;
             is_first = false;
         }
     }

@@ -1,4 +1,4 @@
-//! The command line: what the arguments after the program's name ask for.
+//! Parses the command line into a `Request`.
 
 mod check;
 mod compile;
@@ -31,7 +31,7 @@ use std::alloc::{AllocError, Global};
 use std::convert::AsStr;
 pub use verify::VerifyRequest;
 
-/// What is asked for, but for `live`, whose request is a [`LiveRequest`].
+/// The parsed command line of every command but `live`, whose request is a [`LiveRequest`].
 #[derive(Drop)]
 pub enum Request<'a> {
     /// `frame`.
@@ -58,25 +58,25 @@ pub enum Request<'a> {
     Map(MapRequest<'a>),
 }
 
-/// Why the arguments ask for nothing that the program does.
+/// Why the command line is invalid, or the help that it asks for.
 #[derive(Drop)]
 pub enum UsageError<'a> {
-    /// They ask for help, or for the version: its text.
+    /// The text of `--help` or `--version`.
     Help(Message),
-    /// They are wrong: a text whose first lines say how.
+    /// Invalid: the first lines of the text say how.
     Mistake(Message),
     /// The value of this option is not four hexadecimal digits.
     Digits {
         option: &'static str,
         value: &'a str,
     },
-    /// The value of `--time` is no time of the day.
+    /// The value of `--time` is not a time of day.
     Time(&'a str),
-    /// They name no command, or lack what it needs.
+    /// No command is named, or a required value is missing.
     Nothing,
-    /// They are not UTF-8.
+    /// The arguments are not UTF-8.
     NoText,
-    /// There was no memory to read them.
+    /// Out of memory.
     Memory,
 }
 
@@ -86,8 +86,8 @@ impl From<AllocError> for UsageError<'_> {
     }
 }
 
-/// What these arguments, without the program's name, ask for. Those that begin with `live` are for
-/// [`live_request_of`]; here they ask for nothing.
+/// Parses the arguments after the program's name. Those of `live` are parsed by [`live_request_of`], and are
+/// refused here.
 pub fn request_of<'a, S: AsStr>(
     alloc: Global,
     args: &'a [S],
@@ -107,7 +107,7 @@ pub fn request_of<'a, S: AsStr>(
     }
 }
 
-/// What these arguments, without the program's name, ask for, where the first of them is `live`.
+/// Parses the arguments after the program's name, where the first is `live`.
 pub fn live_request_of<'a, S: AsStr>(
     alloc: Global,
     args: &'a [S],

@@ -1,4 +1,4 @@
-//! The commands over plans: `compile`, `verify`, `play`, `debug`, `live`, `map` and `diff`.
+//! The plan commands: `compile`, `verify`, `play`, `debug`, `live`, `map` and `diff`.
 
 pub mod compile;
 pub mod debug;

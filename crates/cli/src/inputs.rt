@@ -1,4 +1,4 @@
-//! The files that the commands read: scripts, code files, and texts of events and of debugger commands.
+//! Reads the files of the commands: scripts, code files, event files and debugger command files.
 
 pub mod code;
 pub mod events;

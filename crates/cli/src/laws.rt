@@ -1,8 +1,8 @@
-//! What holds of all streams, whatever hears them. The function does nothing; its contract is the law.
+//! A law of all streams, whoever receives them. The function does nothing; its contract is the law.
 
 ghost use Rattle.cli.specs.Stream.{OneAnswer};
 
-/// The law of streams: a stream of FIBs has one answer at most.
+/// A stream of FIBs has at most one result.
 pub fn streams()
     ensures { OneAnswer }
 {

@@ -1,4 +1,4 @@
-//! The program over its arguments, its files and its output: [`answer`](answer::answer), the command line, and each command.
+//! The command-line program: [`answer`](answer::answer), the parser of its arguments, and each command.
 #![tactic(auto)]
 
 pub mod answer;

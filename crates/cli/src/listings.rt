@@ -1,5 +1,5 @@
-//! Frames and streams of FIBs as lines: one frame of a configuration, what a receiver makes of FIBs, and whether they announce
-//! each reconfiguration (EN 300 401 clauses 6.2 to 6.5).
+//! The FIB commands: one frame of a configuration, the configuration in a stream of FIBs, and the check of a stream's
+//! announcements (EN 300 401 clauses 6.2 to 6.5).
 
 pub mod check;
 pub mod entries;

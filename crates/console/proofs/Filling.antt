@@ -1,4 +1,4 @@
--- A buffer that is filled from the front: what was read into its rest stands behind what was there.
+-- A buffer filled from the front: bytes read into its rest follow those before them.
 use Rattle.std.proofs.Common.{◌≡◌, ℕ, ◌+◌, ◌-◌, ◌≤◌, List, ◌++◌, Option, arith, length, take, slice_range, sym, ap, ◌∙◌, subst, le_refl, drop_at, length-take-le}
 use Rattle.std.proofs.lemmas.Slice.{take-put_mid_below}
 use Rattle.std.specs.Io.KnownBytes.{Consumes, Keeps}
@@ -17,14 +17,14 @@ slice_range-put_mid a k n xs ys within fits =
     let after = post_of a k xs in
     ap (take ((a + n) - a)) (drop_at (take a xs) (ys ++ after) a (length-take-le a xs within)) ∙ ap (λ m. take m (ys ++ after)) same ∙ take-append-le n ys after fits
 
--- some bytes more
+-- some more bytes
 pub filled_more : (a b c : Option (List ℕ)) (at room n : ℕ) (buffer part : List ℕ) → at ≤ length buffer → n ≤ length part → Consumes a b (take at buffer) → Consumes b c (take n part) → Consumes a c (take (at + n) (put_mid at room buffer part))
 filled_more a b c at room n buffer part within fits before read =
     let some = slice_range-put_mid at room n buffer part within fits in
     let joined = take_split at (at + n) buffer (put_mid at room buffer part) (omega arith) (take-put_mid_below _ _ _ _ _ (le_refl _) within) in
     subst (Consumes a c) (ap (λ l. take at buffer ++ l) (sym some) ∙ joined) (Consumes-trans a b c _ _ before read)
 
--- none, at an error
+-- no bytes, on an error
 pub filled_as_before : (a b c : Option (List ℕ)) (at room : ℕ) (buffer part : List ℕ) → at ≤ length buffer → Consumes a b (take at buffer) → Keeps b c → Consumes a c (take at (put_mid at room buffer part))
 filled_as_before a b c at room buffer part within before kept =
     subst (Consumes a c) (sym (take-put_mid_below _ _ _ _ _ (le_refl _) within)) (Consumes-kept a b c _ before kept)

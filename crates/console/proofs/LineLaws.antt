@@ -1,11 +1,11 @@
--- Bytes have one list of lines.
+-- Bytes have exactly one list of lines.
 use Rattle.std.proofs.Common.{◌≡◌, ◌≢◌, ◌⊎◌, ℕ, ◌==◌, Bool, true, false, List, [], ◌∷◌, ◌++◌, length, refl, sym, ap, subst, ◌∙◌, inl, inr, arith, append_assoc, append-nil}
 use Rattle.std.proofs.lemmas.Bool.{eqb-true, eqb-false, ne_eqb}
 use Rattle.std.specs.Prelude.{if◌then◌else◌}
 use Rattle.std.specs.List.{AllByRecursion}
 use Rattle.console.specs.Lines.{HasNoFeed, with_feeds, LacksLastFeed, AreLinesOf, with_byte, lines_of, BytesHaveLines}
 
--- ---- these lines are those that are found
+-- ---- lines of the bytes are the computed ones
 
 to_feed : (line rest : List ℕ) → HasNoFeed line → lines_of (line ++ 10 ∷ rest) ≡ line ∷ lines_of rest
 to_feed [] rest h = refl
@@ -37,7 +37,7 @@ found bytes lines h (inr k) =
     ap lines_of k.bytes_are ∙ after_feeds k.front k.last both.0
     ∙ ap (λ (x : List (List ℕ)). k.front ++ x) (last_line k.last k.some both.1) ∙ sym k.lines_are
 
--- ---- the lines that are found are lines of the bytes
+-- ---- the computed lines are lines of the bytes
 
 feed_first : (bs : List ℕ) (ls : List (List ℕ)) → AreLinesOf bs ls → AreLinesOf (10 ∷ bs) ([] ∷ ls)
 feed_first bs ls h = record { no_feed = (tt, h.no_feed); whole = by h.whole }
@@ -118,11 +118,11 @@ bytes_have_lines bytes lines = (
 
 -- ---- vectors
 
--- an empty line, and a last one without its feed
+-- an empty line, and a last one without a line feed
 three_lines : AreLinesOf (97 ∷ 10 ∷ 10 ∷ 98 ∷ []) ((97 ∷ []) ∷ [] ∷ (98 ∷ []) ∷ [])
 three_lines = are_lines (97 ∷ 10 ∷ 10 ∷ 98 ∷ [])
 
--- no line stands behind the last feed
+-- no line follows the last line feed
 no_empty_last : AreLinesOf (97 ∷ 10 ∷ []) ((97 ∷ []) ∷ [] ∷ []) → ⊥
 no_empty_last h =
     let found_are : (97 ∷ []) ∷ [] ≡ (97 ∷ []) ∷ [] ∷ [] = found (97 ∷ 10 ∷ []) ((97 ∷ []) ∷ [] ∷ []) h.no_feed h.whole in

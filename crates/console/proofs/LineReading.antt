@@ -1,4 +1,4 @@
--- A line is read byte by byte.
+-- Reading a line byte by byte.
 use Rattle.std.proofs.Common.{◌≡◌, ℕ, ◌==◌, ◌<◌, false, List, [], ◌∷◌, ◌++◌, length, Option, None, Some, refl, sym, ap, ◌∙◌, arith, append-nil, length-append, subst, Bool, true, true≢false, ◌≤◌}
 use Rattle.std.proofs.lemmas.Bool.{eqb-true}
 use Rattle.std.proofs.KnownBytes.{Consumes-trans, Consumes-nil}
@@ -43,7 +43,7 @@ none_taken (Some x) None after p q = absurd p
 none_taken (Some x) (Some y) None p q = absurd q
 none_taken (Some x) (Some y) (Some z) p q = sym (p ∙ q)
 
--- ---- a line as far as it was read: kept, or too long and passed over
+-- ---- the part of a line that was read: kept, or too long and skipped
 
 pub record Held (before now : Option (List ℕ)) (line : List ℕ) (is_long : Bool) : Type 0 where
   pub bytes : List ℕ

@@ -1,4 +1,4 @@
--- What reading a byte takes from an input. No public contract needs this to be believed.
+-- What reading a byte consumes of an input. No public contract needs this to be believed.
 use Rattle.std.specs.Prelude.{ℕ, List, [], ◌∷◌, Option}
 use Rattle.std.specs.Io.KnownBytes.{Consumes, IsAtEnd}
 use Rattle.console.specs.declared.lines.NextByte.{NextByte}

@@ -1,18 +1,18 @@
--- The lines that bytes are cut into.
+-- The lines of a list of bytes.
 use Rattle.std.specs.Prelude.{◌≡◌, ◌≢◌, ◌⊎◌, ◌↔◌, ℕ, ◌==◌, if◌then◌else◌, List, [], ◌∷◌, ◌++◌, flat_map, Option, None, Some}
 use Rattle.std.specs.List.{AllByRecursion}
 
--- ---- what the lines of bytes are
+-- ---- the lines of bytes
 
--- a line has no line feed
+-- a line contains no line feed
 abbrev pub HasNoFeed : List ℕ → Type 0
 HasNoFeed line = AllByRecursion (λ b. b ≢ 10) line
 
--- lines, each with its feed
+-- lines, each followed by a line feed
 abbrev pub with_feeds : List (List ℕ) → List ℕ
 with_feeds lines = flat_map (λ line. line ++ 10 ∷ []) lines
 
--- the last line ends with the bytes, without a feed: then it has some
+-- the last line ends with the bytes, without a line feed, and is not empty
 pub record LacksLastFeed (bytes : List ℕ) (lines : List (List ℕ)) : Type 0 where
   pub front : List (List ℕ)
   pub last : List ℕ
@@ -24,7 +24,7 @@ pub record AreLinesOf (bytes : List ℕ) (lines : List (List ℕ)) : Type 0 wher
   pub no_feed : AllByRecursion HasNoFeed lines
   pub whole : (bytes ≡ with_feeds lines) ⊎ LacksLastFeed bytes lines
 
--- ---- the same byte by byte
+-- ---- the lines, computed byte by byte
 
 abbrev pub with_byte : ℕ → List (List ℕ) → List (List ℕ)
 with_byte b [] = (b ∷ []) ∷ []
@@ -34,13 +34,13 @@ abbrev pub lines_of : List ℕ → List (List ℕ)
 lines_of [] = []
 lines_of (b ∷ bs) = if b == 10 then [] ∷ lines_of bs else with_byte b (lines_of bs)
 
--- all bytes have lines, and these are the only ones
+-- bytes have exactly one list of lines
 abbrev pub BytesHaveLines : Type 0
 BytesHaveLines = (bytes : List ℕ) (lines : List (List ℕ)) → AreLinesOf bytes lines ↔ (lines_of bytes ≡ lines)
 
--- ---- what reading them takes
+-- ---- reading lines
 
--- an input that had some bytes left gave these lines, and has others left; where it doesn't tell them nothing is said
+-- an input with these bytes left gave these lines, and has those left; nothing is claimed where its bytes are unknown
 abbrev pub GivesLines : Option (List ℕ) → List (List ℕ) → Option (List ℕ) → Type 0
 GivesLines None lines new = Unit {0}
 GivesLines (Some old) lines None = ⊥

@@ -5,17 +5,17 @@ use Rattle.console.specs.declared.known.KnownFile.{KnownFile}
 use Rattle.console.specs.declared.files.Source.{Source}
 use Rattle.console.specs.declared.files.Source.TheVariants.{File, Input}
 
--- what is left of the one that it is
+-- what is left of the file or of standard input
 abbrev pub left_of_source : {F I : Type 0} → (F → Option (List ℕ)) → (I → Option (List ℕ)) → Source F I → Option (List ℕ)
 left_of_source file input (File f) = file f
 left_of_source file input (Input i) = input i
 
--- bytes that come in pieces: what is left of them, and the piece that came last
+-- bytes read in pieces: what is left of them, and the last piece
 pub record Reading : Type 0 where
   pub left : Option (List ℕ)
   pub piece : List ℕ
 
--- the bytes of the first of these files that has this path
+-- the bytes of the first file with this path
 abbrev pub bytes_at : List ℕ → List KnownFile → Option (List ℕ)
 bytes_at path [] = None
 bytes_at path (file ∷ files) = if bytes_eq file.path.now path then Some file.bytes.now else bytes_at path files

@@ -1,4 +1,4 @@
-//! How a command ends.
+//! Exit statuses, and failures to access a file.
 
 ghost use Rattle.std.specs.Prelude.{◌≡◌, ◌≢◌, [], take, codes, IfOk, IfSome};
 ghost use Rattle.std.specs.Io.KnownBytes.{Keeps};
@@ -12,24 +12,24 @@ use thiserror::Error;
 /// The exit status of the program.
 #[derive(Clone, Copy, Debug, PartialEq, Eq)]
 pub enum Status {
-    /// What was asked for was done.
+    /// Success.
     Done = 0,
-    /// It was refused, or a file could not be read.
+    /// The input was refused, or a file could not be read.
     Refused = 1,
-    /// The command line is wrong.
+    /// The command line is invalid.
     Misused = 2,
 }
 
-/// Why a command could not even judge its input. Each is one printed line, and `Status::Refused`.
+/// Why a command could not process its input. Each is one printed line, and `Status::Refused`.
 #[derive(Debug, Drop, Error)]
 pub enum Failure<'a> {
-    /// There was no memory.
+    /// Out of memory.
     #[error("no memory")]
     Memory,
     /// The file of this path could not be read.
     #[error("cannot read {0}")]
     Read(&'a str),
-    /// The file of this path could not be made.
+    /// The file of this path could not be created.
     #[error("cannot write {0}")]
     Create(&'a str),
     /// Standard output failed. Nothing more is printed.
@@ -38,7 +38,7 @@ pub enum Failure<'a> {
 }
 
 impl<'a> Failure<'a> {
-    /// What it means that the file of this path can't be had.
+    /// The failure to report for an unreadable file.
     pub fn of_file(fault: FileFault, path: &'a str) -> Self {
         match fault {
             FileFault::Failed => Failure::Read(path),
@@ -46,7 +46,7 @@ impl<'a> Failure<'a> {
         }
     }
 
-    /// What it means that the file of this path can't be made.
+    /// The failure to report for a file that can't be created.
     pub fn of_output(fault: FileFault, path: &'a str) -> Self {
         match fault {
             FileFault::Failed => Failure::Create(path),
@@ -61,7 +61,7 @@ impl From<io::Error> for Failure<'_> {
     }
 }
 
-/// The file of this path, or standard input where the path is `-`, to be read; or why the command ends without it.
+/// Opens the file of this path, or standard input if the path is `-`.
 pub fn open_input<'a, F: Files>(files: &mut F, path: &'a str) -> Result<F::In, Failure<'a>>
     ensures input { path.now ≡ codes "-" → IfOk result (λ source.
         Keeps (F.known_input files.old) (F.In.remaining source)) }
@@ -76,7 +76,7 @@ pub fn open_input<'a, F: Files>(files: &mut F, path: &'a str) -> Result<F::In, F
     source.map_err(|fault| Failure::of_file(fault, path))
 }
 
-/// The pieces of the file of this path, or of standard input where the path is `-`; or why the command ends without them.
+/// The pieces of the file of this path, or of standard input if the path is `-`.
 pub fn pieces_of<'a, F: Files>(
     alloc: Global,
     files: &mut F,
@@ -92,9 +92,9 @@ pub fn pieces_of<'a, F: Files>(
     Pieces::new(alloc, source).map_err(|_| Failure::Memory)
 }
 
-/// The bytes of the file of this path as far as `most` of them, or why the command ends without them.
+/// The first bytes of the file of this path, at most `most`.
 ///
-/// Where `most` is one more than a file of its kind may have, a longer file is known to be longer, and the rest of it is
+/// If `most` is one more than the longest valid file, a longer file is recognised by its length, and the rest of it is
 /// not read.
 pub fn read_file<'a, F: Files>(
     alloc: Global,
@@ -110,7 +110,7 @@ pub fn read_file<'a, F: Files>(
     read_within(alloc, file, most).map_err(|fault| Failure::of_file(fault, path))
 }
 
-/// The same of standard input where the path is `-`, as far as `most` of the bytes that it has left.
+/// Like [`read_file`], with standard input for the path `-`: at most `most` of the bytes that it has left.
 pub fn read_input<'a, F: Files>(
     alloc: Global,
     files: &mut F,
@@ -126,7 +126,7 @@ pub fn read_input<'a, F: Files>(
     read_within(alloc, source, most).map_err(|fault| Failure::of_file(fault, path))
 }
 
-/// The file of this path, empty, to be written, or why the command ends without it.
+/// Creates the file of this path, or truncates it.
 pub fn create_file<'a, F: Files>(files: &mut F, path: &'a str) -> Result<F::Out, Failure<'a>> {
     files
         .create(path)

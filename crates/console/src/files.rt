@@ -1,4 +1,4 @@
-//! The files that the program reads and writes.
+//! Access to the files that the program reads and writes.
 
 ghost use Rattle.std.specs.Prelude.{◌≡◌};
 
@@ -6,47 +6,47 @@ use std::fmt::Display;
 use std::io::{self, Eprint, ErrorKind, Input, Read, Write};
 use std::rt;
 
-/// Why a file can't be had.
+/// Why a file can't be accessed.
 #[derive(Clone, Copy, Debug, PartialEq, Eq)]
 pub enum FileFault {
-    /// The system refused it, or broke off.
+    /// The system reported an error.
     Failed = 1,
-    /// There was no memory for its bytes.
+    /// Out of memory for its bytes.
     Memory = 2,
 }
 
-/// Where the program's files come from.
+/// Access to the program's files.
 pub trait Files {
     ghost use Rattle.std.specs.Prelude.{List, Option, None, ℕ, IfOk};
     ghost use Rattle.std.specs.Io.KnownBytes.{Keeps};
 
-    /// The bytes of the file of a path, where they are known.
+    /// The bytes of the file of a path, if known.
     ghost known: { Self → List ℕ → Option (List ℕ) } = { λ _ _. None };
 
-    /// The bytes of standard input, where they are known.
+    /// The bytes of standard input, if known.
     ghost known_input: { Self → Option (List ℕ) } = { λ _. None };
 
-    /// A file that is read, or standard input: what is left of its bytes.
+    /// A file opened for reading, or standard input: its remaining bytes.
     type In: Read + Drop;
 
-    /// A file that is written.
+    /// A file opened for writing.
     type Out: Write + Drop;
 
-    /// The file of this path, to be read from its first byte on; `Failed` where the system refuses it.
+    /// Opens the file of this path for reading, from its first byte; `Failed` on a system error.
     fn open(&mut self, path: &str) -> Result<Self::In, FileFault>
         ensures bytes { IfOk result (λ file. Keeps (known self.old path.now)
             (Self.In.remaining file)) };
 
-    /// Standard input, to be read from where it stands; `Failed` where the system refuses it.
+    /// Standard input, from its current position; `Failed` on a system error.
     fn input(&mut self) -> Result<Self::In, FileFault>
         ensures bytes { IfOk result (λ file. Keeps (known_input self.old)
             (Self.In.remaining file)) };
 
-    /// The file of this path, empty, to be written; what it held before is gone. `Failed` where the system refuses it.
+    /// Creates the file of this path for writing, or truncates it. `Failed` on a system error.
     fn create(&mut self, path: &str) -> Result<Self::Out, FileFault>;
 
     /// Writes a line on standard error. One that can't be written is lost.
-    fn tell<D: Display + Drop>(&mut self, line: D);
+    fn report<D: Display + Drop>(&mut self, line: D);
 }
 
 /// The files of the system.
@@ -56,7 +56,7 @@ pub struct System<'a, R> {
 }
 
 impl<'a, R> System<'a, R> {
-    /// The files that this runtime reaches.
+    /// The files accessible to this runtime.
     pub fn new(rt: &'a R) -> Self {
         System { rt }
     }
@@ -107,12 +107,12 @@ impl<'a, R: rt::Files + Input + Eprint> Files for System<'a, R> {
         }
     }
 
-    fn tell<D: Display + Drop>(&mut self, line: D) {
+    fn report<D: Display + Drop>(&mut self, line: D) {
         let _ = self.rt.eprintln(line);
     }
 }
 
-/// What an error of the system says of a file.
+/// The fault for an error of the system.
 pub(crate) fn fault_of(error: &io::Error) -> FileFault {
     match error.kind() {
         ErrorKind::OutOfMemory => FileFault::Memory,

@@ -1,7 +1,7 @@
-//! Hexadecimal digits, upper case.
+//! Upper-case hexadecimal digits.
 
 ghost use Rattle.std.specs.Prelude.{◌≡◌, ◌<◌, ◌^◌, ℕ, IfSome, IfNone};
-ghost use Rattle.console.specs.Digits.{digit_of, digits_of_word, digits_of_bytes};
+ghost use Rattle.console.specs.Digits.{digit_of, hex_of_u16, digits_of_bytes};
 
 use arrayvec::ArrayVec;
 
@@ -17,7 +17,7 @@ fn digit_of(value: u8) -> u8
     }
 }
 
-/// The value of a digit 0-9 or A-F; None for any other byte, the small letters too.
+/// The value of a digit 0-9 or A-F; `None` for any other byte, lower-case letters included.
 fn value_of(digit: u8) -> Option<u16>
     ensures found { IfSome result (λ value. (value < 16) × (digit_of value ≡ digit)) }
     ensures none { IfNone result ((value : ℕ) → value < 16 → digit_of value ≡ digit → ⊥) }
@@ -37,10 +37,10 @@ fn value_of(digit: u8) -> Option<u16>
     None
 }
 
-/// The number that a text of four digits 0-9 A-F writes; None for every other text.
-pub fn word_of(text: &str) -> Option<u16>
-    ensures found { IfSome result (λ word. text.now ≡ digits_of_word word) }
-    ensures none { IfNone result ((word : ℕ) → word < 2 ^ 16 → text.now ≡ digits_of_word word → ⊥) }
+/// Parses four digits 0-9 A-F; `None` for any other text.
+pub fn u16_of(text: &str) -> Option<u16>
+    ensures found { IfSome result (λ word. text.now ≡ hex_of_u16 word) }
+    ensures none { IfNone result ((word : ℕ) → word < 2 ^ 16 → text.now ≡ hex_of_u16 word → ⊥) }
 {
     let [first, second, third, fourth] = text.as_bytes() else {
         return None;
@@ -53,8 +53,8 @@ pub fn word_of(text: &str) -> Option<u16>
 }
 
 /// The four digits of a number.
-pub fn digits_of_word(word: u16) -> [u8; 4]
-    ensures { result ≡ digits_of_word word }
+pub fn hex_of_u16(word: u16) -> [u8; 4]
+    ensures { result ≡ hex_of_u16 word }
 {
     let [high, low] = word.to_be_bytes();
     [

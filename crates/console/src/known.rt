@@ -1,4 +1,4 @@
-//! Files whose bytes are known, for tests of commands.
+//! Files with known contents, for tests of commands.
 
 ghost use Rattle.std.specs.Prelude.{◌≡◌, IfSome, IfNone, None, Some};
 ghost use Rattle.console.specs.Reading.{bytes_at};
@@ -8,7 +8,7 @@ use std::alloc::Global;
 use std::fmt::Display;
 use std::io::Write;
 
-/// A file whose bytes are known.
+/// A file with known contents.
 #[derive(Clone, Copy)]
 pub struct KnownFile<'a> {
     /// Its path.
@@ -17,18 +17,18 @@ pub struct KnownFile<'a> {
     pub bytes: &'a [u8],
 }
 
-/// Files whose bytes are known, in place of those of the system: there are no others, and what is written to a file that
-/// is made is lost.
+/// Files with known contents, instead of those of the system: no other file exists, and what is written to a created
+/// file is lost.
 #[derive(Drop)]
 pub struct KnownFiles<'a> {
     alloc: Global,
     files: &'a [KnownFile<'a>],
     input: &'a [u8],
-    told: Vec<u8>,
+    reported: Vec<u8>,
 }
 
 impl<'a> KnownFiles<'a> {
-    /// These files, of which the first of a path counts, and this standard input, which is the same each time.
+    /// Of several files with one path the first is used. Standard input has the same bytes each time.
     pub fn new(alloc: Global, files: &'a [KnownFile<'a>], input: &'a [u8]) -> Self
         ensures files { result.files.now ≡ files.now }
         ensures input { result.input.now ≡ input.now }
@@ -37,13 +37,13 @@ impl<'a> KnownFiles<'a> {
             alloc,
             files,
             input,
-            told: Vec::new(alloc),
+            reported: Vec::new(alloc),
         }
     }
 
     /// The lines on standard error so far.
-    pub fn told(&self) -> &[u8] {
-        self.told.as_slice()
+    pub fn reported(&self) -> &[u8] {
+        self.reported.as_slice()
     }
 }
 
@@ -71,12 +71,12 @@ impl<'a> Files for KnownFiles<'a> {
         Ok(Vec::new(self.alloc))
     }
 
-    fn tell<D: Display + Drop>(&mut self, line: D) {
-        let _ = writeln!(self.told, "{line}");
+    fn report<D: Display + Drop>(&mut self, line: D) {
+        let _ = writeln!(self.reported, "{line}");
     }
 }
 
-/// The bytes of the first file of a path; None where there is none.
+/// The bytes of the first file with a path; `None` if there is none.
 fn bytes_of<'a>(files: &'a [KnownFile<'a>], path: &str) -> Option<&'a [u8]>
     ensures found { IfSome result (λ bytes. bytes_at path.now files.now ≡ Some bytes.now) }
     ensures none { IfNone result (bytes_at path.now files.now ≡ None) }

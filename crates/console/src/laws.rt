@@ -1,9 +1,9 @@
-//! What holds of the lines of all bytes.
+//! A law of the lines of all bytes.
 
 ghost use Rattle.console.specs.Lines.{BytesHaveLines};
 
-/// The law of lines: all bytes have one list of lines, each of which ends before a line feed, but for the last, which may
-/// end with the bytes where it has some. The function does nothing; its contract is the law.
+/// Bytes have exactly one list of lines, each of which ends before a line feed, except that the last one may
+/// end with the bytes, if it is not empty. The function does nothing; its contract is the law.
 pub fn lines()
     ensures { BytesHaveLines }
 {}

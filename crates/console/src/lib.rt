@@ -1,5 +1,5 @@
-//! What every command of the program stands on: the files that it reads and makes, standard output and standard error,
-//! lines as they come, how a command ends, and hexadecimal digits.
+//! What all commands share: files, standard output and standard error, reading line by line, exit statuses, and
+//! hexadecimal digits.
 #![tactic(auto)]
 
 pub mod exit;

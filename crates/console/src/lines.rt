@@ -1,4 +1,4 @@
-//! The lines of a reader, as they come.
+//! Reads an input line by line, no byte further than needed.
 
 ghost use Rattle.std.specs.Prelude.{◌≡◌, ◌<◌, ◌≤◌, ℕ, List, length, true};
 ghost use Rattle.std.specs.Io.KnownBytes.{Keeps, IsAtEnd};
@@ -10,24 +10,24 @@ use arrayvec::ArrayVec;
 use std::io::{ErrorKind, Read};
 use std::marker::Model;
 
-/// What stood next in an input.
+/// The result of reading a line.
 #[derive(Clone, Copy, Debug, PartialEq, Eq)]
 pub enum Heard {
     /// A line of up to 65,536 bytes.
     Line = 1,
-    /// A longer line, which was passed over.
+    /// A longer line, which was skipped.
     Long = 2,
-    /// Nothing: the input is at its end.
+    /// The input is at its end.
     End = 3,
-    /// Nothing could be read.
+    /// The read failed.
     Failed = 4,
 }
 
-/// The lines of a reader: the bytes up to each line feed, and what is left at the end. No byte is asked for behind the
-/// feed of a line before the line is there, and none at all behind the end of the reader.
+/// The lines of a reader: the bytes up to each line feed, and those after the last one. A line is returned before any
+/// byte after its line feed is read, and nothing is read after the end of the reader.
 ///
-/// The reader is read byte by byte: give it one that waits for no more than the next byte, and is quick at it, as a
-/// `BufReader` is. Contracts see what is left of its bytes, where the reader tells them.
+/// The reader is read byte by byte: use one that returns as soon as a byte is available, at low cost, as a
+/// `BufReader` does. Contracts refer to the bytes that are left in the reader, if it reports them.
 #[derive(Drop)]
 pub struct Lines<R: Read + Drop> {
     inner: R,
@@ -51,7 +51,7 @@ impl<R: Read + Drop> Lines<R> {
     ghost use Rattle.console.specs.Lines.{GivesLine};
     ghost use Rattle.console.specs.declared.lines.Heard.TheVariants.{Line as IsLine, Long as IsLong, End as IsEnd};
 
-    /// The lines of what this reader has left.
+    /// The lines of the remaining bytes of this reader.
     pub fn new(inner: R) -> Self
         ensures { result ≡ R.remaining inner }
     {
@@ -61,8 +61,8 @@ impl<R: Read + Drop> Lines<R> {
         }
     }
 
-    /// Reads up to the next line's feed and no byte further, and puts the line, without its feed, into `line`. At any
-    /// answer but `Line` what stands in `line` means nothing.
+    /// Reads up to the next line feed and no byte further, and puts the line, without its line feed, into `line`. With
+    /// any result but `Line` the content of `line` is unspecified.
     pub fn next(&mut self, line: &mut ArrayVec<u8, 65536>) -> Heard
         ensures line { result ≡ IsLine → GivesLine self.old line.new.items self.new }
         ensures bound { result ≡ IsLine → length line.new.items ≤ 65536 }
@@ -79,7 +79,7 @@ impl<R: Read + Drop> Lines<R> {
     }
 }
 
-/// Reads a line, and answers what was heard, and whether the reader is known to be at its end.
+/// Reads a line; the flag is whether the reader is known to be at its end.
 fn read_line<R: Read>(input: &mut R, line: &mut ArrayVec<u8, 65536>) -> (Heard, bool)
     ensures line { result.0 ≡ IsLine
         → GivesLine (R.remaining input.old) line.new.items (R.remaining input.new) }
@@ -122,14 +122,14 @@ fn read_line<R: Read>(input: &mut R, line: &mut ArrayVec<u8, 65536>) -> (Heard, 
     (Heard::Failed, false)
 }
 
-/// What one read of a byte came to.
+/// The result of reading a byte.
 enum NextByte {
     Byte(u8),
     End,
     Failed,
 }
 
-/// The next byte. A read that was interrupted is tried again.
+/// Reads the next byte. An interrupted read is retried.
 fn next_byte<R: Read>(input: &mut R) -> NextByte
     ensures { TakesByte (R.remaining input.old) (R.remaining input.new) result }
 {

@@ -1,4 +1,4 @@
-//! Standard output: few writes, and none after one that failed.
+//! Buffered standard output, which never writes again after a failure.
 
 ghost use Rattle.std.specs.Prelude.{◌≡◌, ◌<◌, ◌≤◌, true, IfOk, IsErr, OnOk, OnErr, length, take};
 ghost use Rattle.std.specs.Io.{WritesAtMost};
@@ -7,11 +7,11 @@ ghost use Rattle.std.specs.Io.KnownBytes.{Appends, Keeps, WriteAppends};
 use arrayvec::ArrayVec;
 use std::io::{self, Error, ErrorKind, Write};
 
-/// A writer that gathers what is printed and hands it to `out` in pieces of up to 2,048 bytes.
+/// A writer that buffers what is printed and writes it to `out` in pieces of up to 2,048 bytes.
 ///
-/// A write that fails, takes nothing or is interrupted is not tried again: nothing goes to `out` after it,
-/// and each later flush answers an error. What stands in `out`, and then what is held, is all that was
-/// printed, also then.
+/// A write that fails, takes nothing or is interrupted is not retried: nothing is written to `out` after it,
+/// and each later flush returns an error. The bytes in `out` followed by the buffered ones are always all that was
+/// printed.
 #[derive(Drop)]
 pub struct Output<'a, W> {
     out: &'a mut W,
@@ -22,7 +22,7 @@ pub struct Output<'a, W> {
 impl<'a, W: Write> Output<'a, W> {
     ghost use Rattle.console.specs.Printed.{printed, writer_of};
 
-    /// Nothing printed so far.
+    /// An empty buffer over `out`.
     pub fn new(out: &'a mut W) -> Self
         ensures { Keeps (W.contents out.old) (printed W.contents result) }
     {
@@ -80,7 +80,7 @@ impl<W: Write> Write for Output<'_, W> {
     }
 }
 
-/// Writes until all is written or a write fails, and answers how many bytes were taken.
+/// Writes until all is written or a write fails, and returns how many bytes were taken.
 pub fn write_out<W: Write>(bytes: &[u8], out: &mut W) -> (usize, io::Result<()>)
     ensures bound { result.0 ≤ length bytes.now }
     ensures all { OnOk result.1 (result.0 ≡ length bytes.now) }

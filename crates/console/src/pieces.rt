@@ -1,4 +1,4 @@
-//! The bytes of a file, piece by piece.
+//! Reads a file piece by piece.
 
 ghost use Rattle.std.specs.Prelude.{◌≡◌, ◌≤◌, ◌<◌, take, length, IfOk, IfSome};
 ghost use Rattle.std.specs.Io.KnownBytes.{Consumes, IsAtEnd};
@@ -8,13 +8,13 @@ use std::alloc::{AllocError, Global};
 use std::io::{ErrorKind, Read};
 use std::marker::Model;
 
-/// How many bytes each piece has but for the last one: 256 KB, which are 8,192 FIBs of 32 bytes.
+/// The size of every piece but the last: 256 KB, which are 8,192 FIBs of 32 bytes.
 pub const PIECE: usize = 262_144;
 
-/// The bytes of a file or of standard input in pieces of [`PIECE`] bytes, the last of which may be shorter. One piece is
-/// in memory at a time, however long the file is.
+/// The bytes of a file or of standard input in pieces of [`PIECE`] bytes, the last of which may be shorter. One piece
+/// is in memory at a time, however long the file is.
 ///
-/// Contracts see what is left of the bytes, where it is known, and the piece that came last.
+/// Contracts refer to the bytes that are left, if known, and to the last piece read.
 #[derive(Drop)]
 pub struct Pieces<R: Read + Drop> {
     source: R,
@@ -38,7 +38,7 @@ impl<R: Read + Drop> Pieces<R> {
     ghost use Rattle.std.specs.Prelude.{◌≡◌, ◌≤◌, ◌<◌, true, false, [], length, IfOk, OnOk, OnErr};
     ghost use Rattle.std.specs.Io.KnownBytes.{Consumes, IsAtEnd};
 
-    /// The pieces of what is left of a source, of which none came so far; `AllocError` where there is no memory for one.
+    /// The pieces of the remaining bytes of a source, before the first; `AllocError` if out of memory for one.
     pub fn new(alloc: Global, source: R) -> Result<Self, AllocError>
         ensures { IfOk result (λ p. p ≡ record { left = R.remaining source; piece = [] }) }
     {
@@ -51,10 +51,10 @@ impl<R: Read + Drop> Pieces<R> {
         })
     }
 
-    /// Goes on to the next piece, and answers whether there was one: the next [`PIECE`] bytes, or all that is left where
-    /// that is less; no piece is empty.
+    /// Reads the next piece, and returns whether there was one: the next [`PIECE`] bytes, or all remaining bytes if
+    /// fewer; no piece is empty.
     ///
-    /// `Failed` where the source fails. The piece is empty then, and what was read of it is lost.
+    /// `Failed` if the source fails. The piece is empty then, and what was read of it is lost.
     pub fn advance(&mut self) -> Result<bool, FileFault>
         ensures bytes { OnOk result (Consumes self.old.left self.new.left self.new.piece) }
         ensures bound { length self.new.piece ≤ 262144 }
@@ -68,7 +68,7 @@ impl<R: Read + Drop> Pieces<R> {
         Ok(self.len > 0)
     }
 
-    /// The piece that came last; empty before the first, after the last and after a fault.
+    /// The last piece read; empty before the first, after the last and after a fault.
     pub fn piece(&self) -> &[u8]
         ensures { result.now ≡ self.now.piece }
     {
@@ -76,7 +76,8 @@ impl<R: Read + Drop> Pieces<R> {
     }
 }
 
-/// Reads until a buffer is full or the source ends, and answers how many bytes are filled; `Failed` where the source fails.
+/// Reads until a buffer is full or the source ends, and returns the number of bytes filled; `Failed` if the source
+/// fails.
 fn fill<R: Read>(source: &mut R, buffer: &mut [u8]) -> Result<usize, FileFault>
     ensures kept { length buffer.new ≡ length buffer.old }
     ensures bound { IfOk result (λ n. n ≤ length buffer.new) }
@@ -102,7 +103,7 @@ fn fill<R: Read>(source: &mut R, buffer: &mut [u8]) -> Result<usize, FileFault>
     Err(FileFault::Failed)
 }
 
-/// What is left of a source as far as `most` bytes; `Failed` where it fails, `Memory` where there is no memory.
+/// The remaining bytes of a source, at most `most`; `Failed` if it fails, `Memory` if out of memory.
 pub fn read_within<R: Read + Drop>(
     alloc: Global,
     source: R,

@@ -1,8 +1,6 @@
-//! The program `dabplan`: what the Fast Information Channel of a DAB ensemble says of its multiplex
-//! (EN 300 401), written and heard, and plans of its reconfigurations, compiled,
-//! verified, played and debugged.
+//! The program `dabplan`: generates, decodes and plays DAB multiplex reconfigurations (EN 300 401).
 //!
-//! The whole program over its arguments, its files and its output is `answer` of the crate `cli`.
+//! Parsing, files and output are in the crate `cli`; this file connects its `answer` to the system.
 #![tactic(auto)]
 
 use cli::answer::{answer, answer_without_args};
@@ -32,7 +30,7 @@ fn args(rt: &HostRuntime) -> io::Result<Vec<String>> {
     Ok(args)
 }
 
-/// Whether the first argument after the program's name is `live`. That takes no memory, and those behind it need not be UTF-8.
+/// Whether the first argument is `live`. Takes no memory, and later arguments need not be UTF-8.
 fn is_live(rt: &HostRuntime) -> bool {
     let mut first = [0u8; 4];
     match rt.arg(1, &mut first) {

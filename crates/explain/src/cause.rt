@@ -1,4 +1,4 @@
-//! Why an instruction is refused, explained by what is known before it.
+//! Explains why an instruction is refused, from what is known before it.
 
 use crate::config::explain_config;
 use crate::edit::explain_edit;
@@ -12,7 +12,7 @@ use plan_code::{Instr, Plan};
 use plan_flow::{Cause, Flow};
 use std::io::{self, Write};
 
-/// Explains an edit that is refused.
+/// Explains a refused edit.
 fn explain_change<W: Write>(
     flow: &Flow<Config>,
     deeds: &[Deed],
@@ -26,7 +26,7 @@ fn explain_change<W: Write>(
     explain_edit(&flow.next, deeds, edit, fault, out)
 }
 
-/// Explains a commit whose delay or whose count is refused.
+/// Explains a commit whose delay or count is refused.
 fn explain_commit<W: Write>(plan: &Plan, instr: &Instr, out: &mut W) -> io::Result<()> {
     if let Instr::CommitIn(delay) = instr {
         return explain_notice(plan, *delay, out);
@@ -37,7 +37,7 @@ fn explain_commit<W: Write>(plan: &Plan, instr: &Instr, out: &mut W) -> io::Resu
     writeln!(out, "the commit is refused")
 }
 
-/// Explains a wait that is refused.
+/// Explains a refused wait.
 fn explain_frames<W: Write>(
     flow: &Flow<Config>,
     deeds: &[Deed],
@@ -50,8 +50,8 @@ fn explain_frames<W: Write>(
     explain_wait(flow.pending, *frames, deeds, out)
 }
 
-/// Explains why an instruction is refused, behind the place: by what is known before it, and by what was done. Causes that
-/// are not of what an instruction needs have no numbers here.
+/// Explains why an instruction is refused, on the lines after its position, from what is known before it and from the
+/// executed instructions. Causes that do not depend on what an instruction needs have no numbers here.
 pub(crate) fn explain_instr<W: Write>(
     plan: &Plan,
     flow: &Flow<Config>,
@@ -75,6 +75,6 @@ pub(crate) fn explain_instr<W: Write>(
         | Cause::Target
         | Cause::Table
         | Cause::CounterUnset
-        | Cause::FallsOff => writeln!(out, "the instruction can't stand here"),
+        | Cause::FallsOff => writeln!(out, "the instruction is not allowed here"),
     }
 }

@@ -1,4 +1,4 @@
-//! Why a code is refused, explained.
+//! Explains why a code is refused.
 
 use crate::cause::explain_instr;
 use crate::labels::{explain_cost, explain_mismatch, target_at};
@@ -9,29 +9,29 @@ use plan_flow::{Cause, test_opening};
 use std::alloc::Global;
 use std::io::{self, Error, ErrorKind, Write};
 
-/// Explains an instruction that jumps to a place without a label.
+/// Explains an instruction that jumps to a pc without a label.
 fn explain_target<W: Write>(code: &Code, pc: u16, out: &mut W) -> io::Result<()> {
     match target_at(code, pc) {
         Some(target) => writeln!(
             out,
-            "instruction {pc} jumps to {target}, where no label stands"
+            "instruction {pc} jumps to {target}, which has no label"
         ),
-        None => writeln!(out, "no label stands where instruction {pc} jumps to"),
+        None => writeln!(out, "the target of instruction {pc} has no label"),
     }
 }
 
-/// Explains an instruction without a label, where one has to stand.
+/// Explains a missing label at an instruction that needs one.
 fn explain_table<W: Write>(code: &Code, pc: u16, out: &mut W) -> io::Result<()> {
     if pc == 0 {
-        return writeln!(out, "no label stands at instruction 0, where a code begins");
+        return writeln!(out, "instruction 0, where a code begins, has no label");
     }
     let before = pc - 1;
     match code.line_at(before) {
         Some(line) => writeln!(
             out,
-            "instruction {pc} can't be reached: nothing goes on behind instruction {before}, of line {line}, and no label stands here"
+            "instruction {pc} can't be reached: instruction {before}, of line {line}, does not continue to it, and it has no label"
         ),
-        None => writeln!(out, "no label stands at instruction {pc}, where one has to"),
+        None => writeln!(out, "instruction {pc} has no label, and needs one"),
     }
 }
 
@@ -50,7 +50,7 @@ fn explain_counter<W: Write>(pc: u16, instr: &Instr, out: &mut W) -> io::Result<
     )
 }
 
-/// Explains pages that have no room: those of the opening at the first instruction, and else those of a commit.
+/// Explains pages that have no room: those of the opening if this is the first instruction, else those of a commit.
 fn explain_pages<W: Write>(
     code: &Code,
     reach: &Reach,
@@ -65,7 +65,7 @@ fn explain_pages<W: Write>(
     explain_known(code, reach, instr, Cause::Round, out)
 }
 
-/// Explains a cause by what is known at the instruction.
+/// Explains a cause from what is known at the instruction.
 fn explain_known<W: Write>(
     code: &Code,
     reach: &Reach,
@@ -83,7 +83,7 @@ fn explain_known<W: Write>(
     )
 }
 
-/// Explains a cause at an instruction that is there.
+/// Explains a cause at an existing instruction.
 fn explain_at<W: Write>(
     code: &Code,
     reach: &mut Reach,
@@ -120,12 +120,12 @@ fn explain_at<W: Write>(
     }
 }
 
-/// Explains why a code is refused at an instruction: the objects and numbers that are at hand there. The line is the
-/// script's, as the code has it; 0 where no instruction is there.
+/// Explains why a code is refused at an instruction, with the objects and numbers there. The line is the
+/// script's, as recorded in the code; 0 if there is no such instruction.
 ///
 /// # Errors
 ///
-/// Those of the writer, and `OutOfMemory` where there is no memory to go up to the instruction.
+/// Those of the writer, and `OutOfMemory` if out of memory for the walk up to the instruction.
 pub fn explain_code<W: Write>(
     alloc: Global,
     path: &str,
@@ -144,6 +144,6 @@ pub fn explain_code<W: Write>(
     write!(out, "{path}:{line}: ")?;
     match code.instr(pc) {
         Some(instr) => explain_at(code, &mut reach, pc, &instr, cause, out),
-        None => writeln!(out, "a label stands at {pc}, past the last instruction"),
+        None => writeln!(out, "a label is at {pc}, past the last instruction"),
     }
 }

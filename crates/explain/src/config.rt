@@ -1,4 +1,4 @@
-//! Configurations that are not sound, explained.
+//! Explains configurations that are not sound.
 
 use crate::edit::{is_there, put_since, service_of, sub_of};
 use crate::history::{Deed, dropped_in};
@@ -6,7 +6,7 @@ use crate::names::{end_of, put_carrier, put_packet, put_sid, put_sub, put_units,
 use mux_config::{Carrier, Component, Config, ConfigFault, Packet, Sid, Sub, SubId};
 use std::io::{self, Write};
 
-/// Whether a sub-channel would have a place at this capacity unit, were it not for itself.
+/// Whether a sub-channel would fit at this capacity unit if it were not in the multiplex.
 fn has_room(config: &Config, sub: &Sub, start: u32) -> bool {
     let end = start.saturating_add(u32::from(units_of(sub)));
     if end > 864 {
@@ -20,7 +20,7 @@ fn has_room(config: &Config, sub: &Sub, start: u32) -> bool {
     true
 }
 
-/// A capacity unit at which a sub-channel would have a place: the first one, or one behind another sub-channel.
+/// A capacity unit at which a sub-channel would fit: the first one, or one after another sub-channel.
 fn room_for(config: &Config, sub: &Sub) -> Option<u32> {
     if has_room(config, sub, 0) {
         return Some(0);
@@ -33,7 +33,7 @@ fn room_for(config: &Config, sub: &Sub) -> Option<u32> {
     None
 }
 
-/// Two sub-channels that share capacity units.
+/// Explains two sub-channels that share capacity units.
 fn explain_overlap<W: Write>(
     config: &Config,
     first: SubId,
@@ -63,7 +63,7 @@ fn explain_overlap<W: Write>(
     }
 }
 
-/// The first component of a service that names what is not there.
+/// The first component of a service that refers to something missing.
 fn orphan_component(config: &Config) -> Option<(Sid, Carrier)> {
     for service in config.services() {
         if let Some(carrier) = missing_of(config, service.components.as_slice()) {
@@ -73,7 +73,7 @@ fn orphan_component(config: &Config) -> Option<(Sid, Carrier)> {
     None
 }
 
-/// What the first of these components names that is not there.
+/// The first missing object that one of these components refers to.
 fn missing_of(config: &Config, components: &[Component]) -> Option<Carrier> {
     for component in components {
         let carrier = component.carrier();
@@ -84,7 +84,7 @@ fn missing_of(config: &Config, components: &[Component]) -> Option<Carrier> {
     None
 }
 
-/// The first packet component whose sub-channel is not there.
+/// The first packet component whose sub-channel is missing.
 fn orphan_packet(config: &Config) -> Option<Packet> {
     for packet in config.packets() {
         if !is_there(config, &Carrier::Sub(packet.sub)) {
@@ -94,7 +94,7 @@ fn orphan_packet(config: &Config) -> Option<Packet> {
     None
 }
 
-/// Whether a service has a component that names what is there.
+/// Whether a service has a component that refers to an existing object.
 fn has_component_there(config: &Config, sid: Sid) -> bool {
     let Some(service) = service_of(config, sid) else {
         return false;
@@ -107,8 +107,8 @@ fn has_component_there(config: &Config, sid: Sid) -> bool {
     false
 }
 
-/// Writes what mends a service that names what is not there: without the component where it has others, and else without
-/// the service, which can't be without components.
+/// Writes the hint for a service that refers to a missing object: remove the component if the service has others, else
+/// remove the service, which can't be without components.
 fn put_orphan_hint<W: Write>(
     config: &Config,
     sid: Sid,
@@ -131,7 +131,7 @@ fn put_orphan_hint<W: Write>(
     out.write_all(b"' and give it another one; or add what it names\n")
 }
 
-/// A component of a service that names what is not there.
+/// Explains a component of a service that refers to a missing object.
 fn put_orphan<W: Write>(
     config: &Config,
     deeds: &[Deed],
@@ -148,7 +148,7 @@ fn put_orphan<W: Write>(
     put_orphan_hint(config, sid, carrier, out)
 }
 
-/// A packet component whose sub-channel is not there.
+/// Explains a packet component whose sub-channel is missing.
 fn put_orphan_packet<W: Write>(deeds: &[Deed], packet: &Packet, out: &mut W) -> io::Result<()> {
     put_packet(packet, out)?;
     out.write_all(b" names a sub-channel that is not there")?;
@@ -160,7 +160,7 @@ fn put_orphan_packet<W: Write>(deeds: &[Deed], packet: &Packet, out: &mut W) -> 
     )
 }
 
-/// A component or a packet component that names what is not there.
+/// Explains a component or a packet component that refers to a missing object.
 fn explain_orphan<W: Write>(config: &Config, deeds: &[Deed], out: &mut W) -> io::Result<()> {
     if let Some((sid, carrier)) = orphan_component(config) {
         return put_orphan(config, deeds, sid, &carrier, out);
@@ -171,7 +171,7 @@ fn explain_orphan<W: Write>(config: &Config, deeds: &[Deed], out: &mut W) -> io:
     writeln!(out, "a component names what is not there")
 }
 
-/// The packet component that has the sub-channel and the address of another one.
+/// Another packet component with the same sub-channel and address.
 fn twin_of(config: &Config, packet: &Packet) -> Option<Packet> {
     for other in config.packets() {
         if other.scid != packet.scid && other.sub == packet.sub && other.address == packet.address {
@@ -181,7 +181,7 @@ fn twin_of(config: &Config, packet: &Packet) -> Option<Packet> {
     None
 }
 
-/// Two packet components of one sub-channel that have one address.
+/// Explains two packet components of one sub-channel with the same address.
 fn explain_address<W: Write>(config: &Config, out: &mut W) -> io::Result<()> {
     for packet in config.packets() {
         if let Some(twin) = twin_of(config, packet) {
@@ -196,7 +196,7 @@ fn explain_address<W: Write>(config: &Config, out: &mut W) -> io::Result<()> {
     writeln!(out)
 }
 
-/// A service without components.
+/// Explains a service without components.
 fn explain_empty<W: Write>(config: &Config, out: &mut W) -> io::Result<()> {
     for service in config.services() {
         if service.components.len() == 0 {
@@ -210,7 +210,7 @@ fn explain_empty<W: Write>(config: &Config, out: &mut W) -> io::Result<()> {
     writeln!(out)
 }
 
-/// Explains why a configuration is not sound, behind the place, where this was done before.
+/// Explains why a configuration is not sound, on the lines after the position, given the instructions executed before.
 pub(crate) fn explain_config<W: Write>(
     config: &Config,
     deeds: &[Deed],

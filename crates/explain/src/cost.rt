@@ -1,4 +1,4 @@
-//! Budgets that are too small, explained: the longest path is the least budget with which `compile` does not refuse.
+//! Explains budgets that are too small: the longest path is the least budget with which `compile` does not refuse.
 
 use plan_flow::Cause;
 use script_compiler::{CompileFault, compile};
@@ -6,7 +6,7 @@ use script_front::{Script, ScriptFault, Statement, lex, parse};
 use std::alloc::{AllocError, Global};
 use std::io::{self, Write};
 
-/// Want of memory, where that is the fault; and else what a text that is no script gives.
+/// Out of memory if that is the fault; else the given value.
 fn if_memory<T: Drop>(fault: ScriptFault, otherwise: T) -> Result<T, AllocError> {
     if fault == ScriptFault::Memory {
         return Err(AllocError);
@@ -55,8 +55,8 @@ fn costs_more(alloc: Global, text: &str, budget: u16) -> Result<bool, AllocError
     }
 }
 
-/// The instructions of the longest path that runs in one frame, where this many are too few; None where they are more
-/// than 255, or have no bound.
+/// The number of instructions on the longest path in one frame, if `budget` is too small for it; `None` if more
+/// than 255, or unbounded.
 fn longest(alloc: Global, text: &str, budget: u8) -> Result<Option<u16>, AllocError> {
     let mut low = u16::from(budget);
     let mut high = 255u16;
@@ -76,7 +76,7 @@ fn longest(alloc: Global, text: &str, budget: u8) -> Result<Option<u16>, AllocEr
     Ok(Some(high))
 }
 
-/// The last line of a loop that begins in this line, if one does.
+/// The last line of the loop that begins in this line, if one does.
 #[cycle(loops)]
 fn loop_end(statements: &[Statement], wanted: u16) -> Option<u16> {
     for statement in statements {
@@ -88,7 +88,7 @@ fn loop_end(statements: &[Statement], wanted: u16) -> Option<u16> {
     None
 }
 
-/// The same in one statement.
+/// [`loop_end`] for one statement.
 #[cycle(loops)]
 fn loop_end_in(statement: &Statement, wanted: u16) -> Option<u16> {
     match statement {
@@ -118,7 +118,7 @@ fn loop_end_in(statement: &Statement, wanted: u16) -> Option<u16> {
     }
 }
 
-/// The line of the last of these statements; another one where there is none.
+/// The line of the last of these statements; `line` if there is none.
 fn last_line(statements: &[Statement], line: u16) -> u16 {
     match statements.last() {
         None => line,
@@ -149,14 +149,14 @@ fn loop_of(script: &Script, line: u16) -> Option<u16> {
     None
 }
 
-/// What is said of costs.
+/// The facts that explain a cost.
 #[derive(Clone, Copy)]
 pub(crate) struct Costs {
-    /// The instructions of the longest path in one frame, where it has 255 at most.
+    /// The number of instructions on the longest path in one frame, if at most 255.
     longest: Option<u16>,
     /// The last line of the loop that begins in the refused line, if one does.
     loop_end: Option<u16>,
-    /// The line that is refused.
+    /// The refused line.
     line: u16,
     /// The budget of the script.
     budget: u8,
@@ -164,7 +164,7 @@ pub(crate) struct Costs {
     is_short: bool,
 }
 
-/// What is to be said of a script that is refused in this line for its costs.
+/// The facts that explain why a script is refused in this line for its costs.
 pub(crate) fn costs_of(
     alloc: Global,
     text: &str,
@@ -182,7 +182,7 @@ pub(crate) fn costs_of(
     })
 }
 
-/// Explains why a script costs more than its budget, behind the place.
+/// Explains why a script costs more than its budget, on the lines after the position.
 pub(crate) fn explain_costs<W: Write>(costs: &Costs, out: &mut W) -> io::Result<()> {
     let budget = costs.budget;
     if let Some(longest) = costs.longest {
@@ -198,7 +198,7 @@ pub(crate) fn explain_costs<W: Write>(costs: &Costs, out: &mut W) -> io::Result<
     explain_unbounded(costs, out)
 }
 
-/// Explains costs that no budget allows.
+/// Explains costs that exceed every budget.
 fn explain_unbounded<W: Write>(costs: &Costs, out: &mut W) -> io::Result<()> {
     let budget = costs.budget;
     let first = costs.line;
@@ -211,11 +211,11 @@ fn explain_unbounded<W: Write>(costs: &Costs, out: &mut W) -> io::Result<()> {
     if costs.is_short {
         return writeln!(
             out,
-            "the loop of lines {first} to {last} can go round without a wait, so that its instructions in one frame have no bound\nhint: a 'wait 1' in the loop, on each way through it"
+            "the loop of lines {first} to {last} can repeat without a wait, so that its instructions in one frame have no bound\nhint: a 'wait 1' in the loop, on each path through it"
         );
     }
     writeln!(
         out,
-        "the loop of lines {first} to {last} can go round without a wait, or more than 255 instructions run in one frame from here; the budget is {budget}\nhint: a 'wait 1' in the loop, on each way through it, or between them"
+        "the loop of lines {first} to {last} can repeat without a wait, or more than 255 instructions run in one frame from here; the budget is {budget}\nhint: a 'wait 1' in the loop, on each path through it, or between them"
     )
 }

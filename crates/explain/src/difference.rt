@@ -5,7 +5,7 @@ use crate::names::{put_packet, put_service, put_sid, put_sub};
 use mux_config::{Carrier, Component, Config, Packet, Sid, Sub};
 use std::io::{self, Write};
 
-/// A member that two configurations do not have alike: that of each, where it has one.
+/// A member that differs between two configurations, as it is in each that has it.
 #[derive(Clone, Copy)]
 pub(crate) enum Difference {
     /// A sub-channel.
@@ -16,7 +16,7 @@ pub(crate) enum Difference {
     Packet(Option<Packet>, Option<Packet>),
 }
 
-/// The first sub-channel that one of two configurations has otherwise or lacks, of those of the first.
+/// The first sub-channel of the first configuration that differs in the second or is missing there.
 fn sub_difference(a: &Config, b: &Config) -> Option<Difference> {
     for sub in a.subs() {
         let other = sub_of(b, sub.id);
@@ -27,7 +27,7 @@ fn sub_difference(a: &Config, b: &Config) -> Option<Difference> {
     None
 }
 
-/// The first sub-channel of the second that the first lacks.
+/// The first sub-channel of the second that is missing in the first.
 fn sub_added(a: &Config, b: &Config) -> Option<Difference> {
     for sub in b.subs() {
         if sub_of(a, sub.id).is_none() {
@@ -42,7 +42,7 @@ fn has_same_components(a: &[Component], b: &[Component]) -> bool {
     a == b
 }
 
-/// The first service of the first that the second lacks or has with other components.
+/// The first service of the first that is missing in the second or has other components there.
 fn service_difference(a: &Config, b: &Config) -> Option<Difference> {
     for service in a.services() {
         let is_same = match service_of(b, service.sid) {
@@ -59,7 +59,7 @@ fn service_difference(a: &Config, b: &Config) -> Option<Difference> {
     None
 }
 
-/// The first service of the second that the first lacks.
+/// The first service of the second that is missing in the first.
 fn service_added(a: &Config, b: &Config) -> Option<Difference> {
     for service in b.services() {
         if service_of(a, service.sid).is_none() {
@@ -69,7 +69,7 @@ fn service_added(a: &Config, b: &Config) -> Option<Difference> {
     None
 }
 
-/// The first packet component that one of two configurations has otherwise or lacks, of those of the first.
+/// The first packet component of the first configuration that differs in the second or is missing there.
 fn packet_difference(a: &Config, b: &Config) -> Option<Difference> {
     for packet in a.packets() {
         let other = packet_of(b, &Carrier::Packet(packet.scid));
@@ -80,7 +80,7 @@ fn packet_difference(a: &Config, b: &Config) -> Option<Difference> {
     None
 }
 
-/// The first packet component of the second that the first lacks.
+/// The first packet component of the second that is missing in the first.
 fn packet_added(a: &Config, b: &Config) -> Option<Difference> {
     for packet in b.packets() {
         if packet_of(a, &Carrier::Packet(packet.scid)).is_none() {
@@ -90,7 +90,7 @@ fn packet_added(a: &Config, b: &Config) -> Option<Difference> {
     None
 }
 
-/// The first member that two configurations do not have alike; None where they are one.
+/// The first member that differs between two configurations; `None` if they are equal.
 pub(crate) fn first_difference(a: &Config, b: &Config) -> Option<Difference> {
     if let Some(found) = sub_difference(a, b) {
         return Some(found);
@@ -110,7 +110,7 @@ pub(crate) fn first_difference(a: &Config, b: &Config) -> Option<Difference> {
     packet_added(a, b)
 }
 
-/// Writes a sub-channel, or that there is none.
+/// Writes a sub-channel, or the absence of `other`.
 fn put_one_sub<W: Write>(sub: &Option<Sub>, other: &Option<Sub>, out: &mut W) -> io::Result<()> {
     match sub {
         Some(sub) => put_sub(sub, out),
@@ -124,7 +124,7 @@ fn put_one_sub<W: Write>(sub: &Option<Sub>, other: &Option<Sub>, out: &mut W) ->
     }
 }
 
-/// Writes a packet component, or that there is none.
+/// Writes a packet component, or the absence of `other`.
 fn put_one_packet<W: Write>(
     packet: &Option<Packet>,
     other: &Option<Packet>,
@@ -142,7 +142,7 @@ fn put_one_packet<W: Write>(
     }
 }
 
-/// Writes the service of a configuration, or that there is none.
+/// Writes the service of a configuration, or its absence.
 fn put_one_service<W: Write>(config: &Config, sid: Sid, out: &mut W) -> io::Result<()> {
     match service_of(config, sid) {
         Some(service) => put_service(service, out),
@@ -153,7 +153,7 @@ fn put_one_service<W: Write>(config: &Config, sid: Sid, out: &mut W) -> io::Resu
     }
 }
 
-/// Writes both forms of a member that two configurations do not have alike, each with what is said behind it.
+/// Writes both forms of a member that differs between two configurations, each with the text that follows it.
 pub(crate) fn put_difference<W: Write>(
     difference: &Difference,
     a: &Config,

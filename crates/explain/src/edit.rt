@@ -1,4 +1,4 @@
-//! Edits that are refused, explained.
+//! Explains refused edits.
 
 ghost use Rattle.std.specs.Prelude.{◌≤◌};
 
@@ -38,7 +38,7 @@ pub(crate) fn service_of(config: &Config, sid: Sid) -> Option<&Service> {
     None
 }
 
-/// Whether a sub-channel or a packet component is there.
+/// Whether a sub-channel or a packet component exists.
 pub(crate) fn is_there(config: &Config, carrier: &Carrier) -> bool {
     match carrier {
         Carrier::Sub(id) => sub_of(config, *id).is_some(),
@@ -46,7 +46,7 @@ pub(crate) fn is_there(config: &Config, carrier: &Carrier) -> bool {
     }
 }
 
-/// Writes in which line something was done, if one did it, and ends the line.
+/// Writes the line in which something was done, if one did it, and ends the line.
 pub(crate) fn put_since<W: Write>(line: Option<u16>, word: &str, out: &mut W) -> io::Result<()> {
     match line {
         Some(line) => writeln!(out, "; line {line} {word} it"),
@@ -54,7 +54,7 @@ pub(crate) fn put_since<W: Write>(line: Option<u16>, word: &str, out: &mut W) ->
     }
 }
 
-/// A sub-channel or a packet component that is there already.
+/// Explains a sub-channel or a packet component that exists already.
 fn carrier_used<W: Write>(
     config: &Config,
     deeds: &[Deed],
@@ -78,7 +78,7 @@ fn carrier_used<W: Write>(
     out.write_all(b"hint: 'drop' it first, or take another number\n")
 }
 
-/// A service that is there already.
+/// Explains a service that exists already.
 fn service_used<W: Write>(config: &Config, sid: Sid, out: &mut W) -> io::Result<()> {
     match service_of(config, sid) {
         Some(service) => put_service(service, out)?,
@@ -87,7 +87,7 @@ fn service_used<W: Write>(config: &Config, sid: Sid, out: &mut W) -> io::Result<
     out.write_all(b" is there already\nhint: 'drop service' first, or take another SId\n")
 }
 
-/// A service that names a carrier already.
+/// Explains a service that has a component on this carrier already.
 fn component_used<W: Write>(
     config: &Config,
     sid: Sid,
@@ -104,7 +104,7 @@ fn component_used<W: Write>(
     )
 }
 
-/// What is there already.
+/// Explains what exists already.
 fn explain_used<W: Write>(
     config: &Config,
     deeds: &[Deed],
@@ -127,7 +127,7 @@ fn explain_used<W: Write>(
     }
 }
 
-/// Writes the sub-channels that are there.
+/// Writes the existing sub-channels.
 fn put_subs<W: Write>(config: &Config, out: &mut W) -> io::Result<()> {
     let mut is_first = true;
     for sub in config.subs() {
@@ -144,7 +144,7 @@ fn put_subs<W: Write>(config: &Config, out: &mut W) -> io::Result<()> {
     writeln!(out)
 }
 
-/// A sub-channel or a packet component that is not there.
+/// Explains a missing sub-channel or packet component.
 fn carrier_absent<W: Write>(
     config: &Config,
     deeds: &[Deed],
@@ -160,7 +160,7 @@ fn carrier_absent<W: Write>(
     }
 }
 
-/// A service that is not there.
+/// Explains a missing service.
 fn service_absent<W: Write>(deeds: &[Deed], sid: Sid, out: &mut W) -> io::Result<()> {
     out.write_all(b"service ")?;
     put_sid(sid, out)?;
@@ -171,7 +171,7 @@ fn service_absent<W: Write>(deeds: &[Deed], sid: Sid, out: &mut W) -> io::Result
     out.write_all(b"' does\n")
 }
 
-/// A component that is not there, or whose service is not.
+/// Explains a missing component, or its missing service.
 fn component_absent<W: Write>(
     config: &Config,
     deeds: &[Deed],
@@ -192,7 +192,7 @@ fn component_absent<W: Write>(
     out.write_all(b"hint: name one that it has\n")
 }
 
-/// What is not there.
+/// Explains what is missing.
 fn explain_absent<W: Write>(
     config: &Config,
     deeds: &[Deed],
@@ -243,7 +243,7 @@ fn edited_sub(config: &Config, edit: &Edit) -> Option<Sub> {
     }
 }
 
-/// A sub-channel that would end past the multiplex.
+/// Explains a sub-channel that would end after the multiplex.
 fn explain_end<W: Write>(sub: &Sub, out: &mut W) -> io::Result<()> {
     let units = units_of(sub);
     let start = sub.start;
@@ -260,7 +260,7 @@ fn explain_end<W: Write>(sub: &Sub, out: &mut W) -> io::Result<()> {
     )
 }
 
-/// The rates of a set are the multiples of this.
+/// The rates of a set are multiples of this.
 fn rate_step(protection: Protection) -> u16
     ensures low { 8 ≤ result }
     ensures high { result ≤ 32 }
@@ -282,7 +282,7 @@ fn step_units(protection: Protection) -> u32
     }
 }
 
-/// A rate that is no multiple of the step of its set.
+/// Explains a rate that is not a multiple of the step of its set.
 fn explain_multiple<W: Write>(sub: &Sub, out: &mut W) -> io::Result<()> {
     let kbits = sub.kbits;
     let step = rate_step(sub.protection);
@@ -298,7 +298,7 @@ fn explain_multiple<W: Write>(sub: &Sub, out: &mut W) -> io::Result<()> {
     writeln!(out, "hint: {low} and {high} are")
 }
 
-/// A rate that takes more than the multiplex.
+/// Explains a rate that needs more than the multiplex.
 fn explain_size<W: Write>(sub: &Sub, out: &mut W) -> io::Result<()> {
     let kbits = sub.kbits;
     let step = u32::from(rate_step(sub.protection));
@@ -311,7 +311,7 @@ fn explain_size<W: Write>(sub: &Sub, out: &mut W) -> io::Result<()> {
     writeln!(out, "hint: {most} kbit/s is the most at this profile")
 }
 
-/// A rate that has no size.
+/// Explains a rate that has no size.
 fn explain_rate<W: Write>(sub: &Sub, out: &mut W) -> io::Result<()> {
     match size_of(sub.protection, sub.kbits) {
         Ok(_size) => Ok(()),
@@ -326,7 +326,7 @@ fn explain_rate<W: Write>(sub: &Sub, out: &mut W) -> io::Result<()> {
     }
 }
 
-/// A service that can't have one more component.
+/// Explains a service that can't have one more component.
 fn explain_components<W: Write>(config: &Config, edit: &Edit, out: &mut W) -> io::Result<()> {
     let Edit::AddComponent { sid, .. } = edit else {
         return Ok(());
@@ -346,7 +346,7 @@ fn explain_components<W: Write>(config: &Config, edit: &Edit, out: &mut W) -> io
     out.write_all(b"hint: put some of them into another service\n")
 }
 
-/// A set that is full.
+/// Explains a full set.
 fn explain_full<W: Write>(edit: &Edit, out: &mut W) -> io::Result<()> {
     let word = if matches!(edit, Edit::AddService(_)) {
         "services"
@@ -359,7 +359,7 @@ fn explain_full<W: Write>(edit: &Edit, out: &mut W) -> io::Result<()> {
     )
 }
 
-/// A packet address out of range.
+/// Explains a packet address out of range.
 fn explain_packet_address<W: Write>(edit: &Edit, out: &mut W) -> io::Result<()> {
     let Edit::AddPacket(packet) = edit else {
         return writeln!(out, "packet addresses are 1 to 1023");
@@ -371,7 +371,8 @@ fn explain_packet_address<W: Write>(edit: &Edit, out: &mut W) -> io::Result<()> 
     )
 }
 
-/// Explains an edit that is refused, behind the place, where this is the configuration and this was done before.
+/// Explains a refused edit, on the lines after the position, given the configuration and the instructions executed
+/// before.
 pub(crate) fn explain_edit<W: Write>(
     config: &Config,
     deeds: &[Deed],

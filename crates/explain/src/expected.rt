@@ -1,11 +1,11 @@
-//! What may stand at a place of a script, in words.
+//! Describes what is valid at a position of a script.
 
 use crate::probe::{Answer, Front};
 use script_front::{ScriptFault, lex};
 use std::alloc::{AllocError, Global};
 use std::io::{self, Write};
 
-/// The words of the grammar beside those that begin a statement.
+/// The keywords of the grammar, except those that begin a statement.
 const WORDS: [&str; 20] = [
     "ensemble",
     "mode",
@@ -29,19 +29,19 @@ const WORDS: [&str; 20] = [
     "}",
 ];
 
-/// Words with which items and definitions begin, and some of which stand elsewhere too.
+/// Keywords that begin items and definitions; some of them are valid elsewhere too.
 const ITEM_WORDS: [&str; 7] = [
     "sub", "service", "audio", "data", "carry", "packet", "define",
 ];
 
-/// What may stand at a place, each in words.
+/// What is valid at a position, as phrases.
 #[derive(Drop)]
 pub(crate) struct Expected {
     phrases: Vec<String>,
 }
 
 impl Expected {
-    /// One phrase more.
+    /// Adds a phrase.
     fn add(&mut self, alloc: Global, phrase: &str) -> Result<(), AllocError> {
         let phrase = String::from_str(alloc, phrase)?;
         match self.phrases.push(phrase) {
@@ -50,7 +50,7 @@ impl Expected {
         }
     }
 
-    /// A phrase, where a token may stand behind the beginning.
+    /// Adds a phrase, if a token is valid after the front.
     fn add_if(
         &mut self,
         alloc: Global,
@@ -64,8 +64,8 @@ impl Expected {
         Ok(())
     }
 
-    /// Those of some words that may stand there.
-    fn add_words(
+    /// Adds those of some keywords that are valid.
+    fn add_tokens(
         &mut self,
         alloc: Global,
         front: &Front,
@@ -80,7 +80,7 @@ impl Expected {
         Ok(())
     }
 
-    /// The values with digits 0-9 and A-F.
+    /// Adds the identifiers with digits 0-9 and A-F.
     fn add_identifiers(&mut self, alloc: Global, front: &Front) -> Result<(), AllocError> {
         if front.passes(alloc, "A1B2C3D4")? {
             return self.add(
@@ -96,7 +96,7 @@ impl Expected {
         )
     }
 
-    /// A decimal, with its range.
+    /// Adds a decimal, with its range.
     fn add_number(&mut self, alloc: Global, front: &Front) -> Result<(), AllocError> {
         let Some((low, high)) = front.range(alloc)? else {
             return Ok(());
@@ -106,26 +106,26 @@ impl Expected {
         self.add(alloc, phrase.as_str())
     }
 
-    /// A name of a block.
+    /// Adds a name of a block.
     fn add_name(&mut self, alloc: Global, front: &Front) -> Result<(), AllocError> {
         if front.ask(alloc, "zz_name")? == Answer::Refused {
             return Ok(());
         }
         self.add(
             alloc,
-            "the name of a block: a lower-case letter, then lower-case letters, digits or '_', and no word of the grammar",
+            "the name of a block: a lower-case letter, then lower-case letters, digits or '_', and no keyword",
         )
     }
 
-    /// A statement, or else the words with which items begin.
+    /// Adds a statement, or else the keywords that begin items.
     fn add_statement(&mut self, alloc: Global, front: &Front) -> Result<(), AllocError> {
         if front.passes(alloc, "join")? {
             return self.add(alloc, "a statement");
         }
-        self.add_words(alloc, front, &ITEM_WORDS)
+        self.add_tokens(alloc, front, &ITEM_WORDS)
     }
 
-    /// What may stand behind the beginning.
+    /// Collects what is valid after the front.
     pub(crate) fn at(alloc: Global, front: &Front) -> Result<Expected, AllocError> {
         let mut found = Expected {
             phrases: Vec::new(alloc),
@@ -146,14 +146,14 @@ impl Expected {
         )?;
         found.add_name(alloc, front)?;
         found.add_statement(alloc, front)?;
-        found.add_words(alloc, front, &WORDS)?;
+        found.add_tokens(alloc, front, &WORDS)?;
         if front.may_end(alloc)? {
             found.add(alloc, "the end of the script")?;
         }
         Ok(found)
     }
 
-    /// Writes them one after another.
+    /// Writes the phrases as a list.
     pub(crate) fn put<W: Write>(&self, out: &mut W) -> io::Result<()> {
         let count = self.phrases.len();
         for (at, phrase) in self.phrases.as_slice().iter().enumerate() {
@@ -167,7 +167,7 @@ impl Expected {
     }
 }
 
-/// What a decimal at a place is, by the word before it.
+/// What a decimal means, by the keyword before it.
 fn number_word(alloc: Global, front: &Front, high: u32) -> Result<&'static str, AllocError> {
     let text = front.text();
     let tokens = match lex(alloc, text) {
@@ -181,11 +181,11 @@ fn number_word(alloc: Global, front: &Front, high: u32) -> Result<&'static str, 
     let Some(word) = text.get(last.start..last.end) else {
         return Ok("a number");
     };
-    Ok(number_behind(word.as_bytes(), high))
+    Ok(number_in(word.as_bytes(), high))
 }
 
-/// What a decimal up to this one is behind a word of the grammar.
-fn number_behind(word: &[u8], high: u32) -> &'static str {
+/// What a decimal up to `high` means after a keyword of the grammar.
+fn number_in(word: &[u8], high: u32) -> &'static str {
     match word {
         b"mode" => "a transmission mode",
         b"period" => "the period in frames",

@@ -1,9 +1,9 @@
-//! What was done before a place of a plan, with the lines in which it was.
+//! The instructions executed before a point of a plan, with their lines.
 
 use mux_config::{Carrier, Edit, Sid};
 use plan_code::Instr;
 
-/// An instruction that was carried out, with its line.
+/// An executed instruction, with its line.
 #[derive(Clone, Copy)]
 pub(crate) struct Deed {
     /// The line of its statement.
@@ -12,7 +12,7 @@ pub(crate) struct Deed {
     pub(crate) instr: Instr,
 }
 
-/// The edit that takes a sub-channel or a packet component away.
+/// The edit that removes a sub-channel or a packet component.
 fn drop_of(carrier: &Carrier) -> Edit {
     match carrier {
         Carrier::Sub(id) => Edit::DropSub(*id),
@@ -20,7 +20,7 @@ fn drop_of(carrier: &Carrier) -> Edit {
     }
 }
 
-/// Whether an edit adds what a component or a packet component names.
+/// Whether an edit adds the sub-channel or packet component of this carrier.
 fn adds(edit: &Edit, carrier: &Carrier) -> bool {
     if let Edit::AddSub(sub) = edit {
         return Carrier::Sub(sub.get().id) == *carrier;
@@ -31,7 +31,7 @@ fn adds(edit: &Edit, carrier: &Carrier) -> bool {
     false
 }
 
-/// The line that took a sub-channel or a packet component away last.
+/// The line that last removed a sub-channel or a packet component.
 pub(crate) fn dropped_in(deeds: &[Deed], carrier: &Carrier) -> Option<u16> {
     let mut found = None;
     let wanted = Instr::Edit(drop_of(carrier));
@@ -43,7 +43,7 @@ pub(crate) fn dropped_in(deeds: &[Deed], carrier: &Carrier) -> Option<u16> {
     found
 }
 
-/// The line that added a sub-channel or a packet component last.
+/// The line that last added a sub-channel or a packet component.
 pub(crate) fn added_in(deeds: &[Deed], carrier: &Carrier) -> Option<u16> {
     let mut found = None;
     for deed in deeds {
@@ -56,7 +56,7 @@ pub(crate) fn added_in(deeds: &[Deed], carrier: &Carrier) -> Option<u16> {
     found
 }
 
-/// The line that took a service away last.
+/// The line that last removed a service.
 pub(crate) fn service_dropped_in(deeds: &[Deed], sid: Sid) -> Option<u16> {
     let mut found = None;
     let wanted = Instr::Edit(Edit::DropService(sid));
@@ -68,7 +68,7 @@ pub(crate) fn service_dropped_in(deeds: &[Deed], sid: Sid) -> Option<u16> {
     found
 }
 
-/// The line that took a component out of a service last.
+/// The line that last removed a component of a service.
 pub(crate) fn component_dropped_in(deeds: &[Deed], sid: Sid, carrier: &Carrier) -> Option<u16> {
     let mut found = None;
     let wanted = Instr::Edit(Edit::DropComponent {

@@ -1,13 +1,13 @@
-//! Labels that do not fit what is known where the machine comes to them, explained.
+//! Explains labels that do not match what is known on entry.
 
+use crate::paths::explain_label;
 use crate::reach::{Reach, declared_at};
-use crate::ways::explain_label;
 use plan_code::{Code, CounterId, Counters, Label};
 use plan_flow::flow::{is_idle, is_same};
-use plan_flow::ways::target_of;
+use plan_flow::successors::target_of;
 use std::io::{self, Write};
 
-/// The instruction to which the one at this place jumps, if it jumps.
+/// The target of the instruction at this pc, if it jumps.
 pub(crate) fn target_at(code: &Code, pc: u16) -> Option<u16> {
     match code.instr(pc) {
         Some(instr) => target_of(instr),
@@ -15,7 +15,7 @@ pub(crate) fn target_at(code: &Code, pc: u16) -> Option<u16> {
     }
 }
 
-/// The first counter that one set has and another lacks.
+/// The first counter in one set that is missing in the other.
 fn counter_missing(counters: Counters, declared: Counters) -> Option<u8> {
     for id in 0u8..8 {
         if let Some(counter) = CounterId::new(id) {
@@ -27,7 +27,7 @@ fn counter_missing(counters: Counters, declared: Counters) -> Option<u8> {
     None
 }
 
-/// Whether what is known does not fit the label at an instruction, where one stands there.
+/// Whether what is known does not match the label at an instruction, if it has one.
 fn is_unfit(code: &Code, reach: &Reach, pc: u16) -> bool {
     let Some(label) = code.label_at(pc) else {
         return false;
@@ -44,7 +44,7 @@ fn is_unfit(code: &Code, reach: &Reach, pc: u16) -> bool {
     }
 }
 
-/// Explains what does not fit the label at an instruction.
+/// Explains what does not match the label at an instruction.
 fn explain_unfit<W: Write>(code: &Code, reach: &Reach, pc: u16, out: &mut W) -> io::Result<()> {
     write!(out, "at the label of instruction {pc}: ")?;
     let declared = match code.label_at(pc) {
@@ -74,7 +74,7 @@ fn is_no_beginning(code: &Code, label: Label) -> bool {
     }
 }
 
-/// Whether the first label of a code is at fault, at its first instruction.
+/// Whether the fault is the first label of a code, at its first instruction.
 fn has_no_beginning(code: &Code, pc: u16) -> bool {
     if pc > 0 {
         return false;
@@ -85,8 +85,8 @@ fn has_no_beginning(code: &Code, pc: u16) -> bool {
     }
 }
 
-/// Explains what differs between what is known and what a label declares: the first label of the code, the one at the
-/// instruction, or the one that the instruction jumps to.
+/// Explains the difference between what is known and what a label declares: the first label of the code, the one at the
+/// instruction, or the one at its jump target.
 pub(crate) fn explain_mismatch<W: Write>(
     code: &Code,
     reach: &mut Reach,
@@ -109,7 +109,7 @@ pub(crate) fn explain_mismatch<W: Write>(
     }
 }
 
-/// What the label at an instruction costs, where one stands there.
+/// The cost of the label at an instruction, if it has one.
 fn cost_at(code: &Code, pc: u16) -> Option<u8> {
     match code.label_at(pc) {
         Some(label) => Some(label.cost),
@@ -117,7 +117,7 @@ fn cost_at(code: &Code, pc: u16) -> Option<u8> {
     }
 }
 
-/// Explains a label at an instruction that costs more than may still run before it.
+/// Explains a label whose cost is more than the remaining allowance.
 fn explain_allowance<W: Write>(pc: u16, left: u8, cost: u8, out: &mut W) -> io::Result<()> {
     writeln!(
         out,
@@ -125,7 +125,7 @@ fn explain_allowance<W: Write>(pc: u16, left: u8, cost: u8, out: &mut W) -> io::
     )
 }
 
-/// Explains a cost over the budget, or over what the label before declares.
+/// Explains a cost over the budget, or over the allowance of the label before.
 pub(crate) fn explain_cost<W: Write>(
     code: &Code,
     reach: &mut Reach,
@@ -145,11 +145,11 @@ pub(crate) fn explain_cost<W: Write>(
         }
     }
     reach.enter(code, pc);
-    explain_cost_behind(code, reach, pc, out)
+    explain_cost_after(code, reach, pc, out)
 }
 
-/// The same where the label at the instruction, if one stands there, is within the budget and what was left.
-fn explain_cost_behind<W: Write>(
+/// Explains a cost where the label at the instruction, if any, is within the budget and the allowance.
+fn explain_cost_after<W: Write>(
     code: &Code,
     reach: &Reach,
     pc: u16,

@@ -1,10 +1,10 @@
-//! Explained refusals: what a person needs to mend a script or a code that is refused, with the objects and numbers at
-//! hand.
+//! Explained refusals: what a user needs to correct a refused script or code, with the objects and numbers
+//! involved.
 //!
-//! [`explain_fault`] explains why a text is no script, [`explain_script`] why a script is not compiled, and
-//! [`explain_code`] why a code is refused. What is said of a refusal comes from the functions that refuse: what may stand
-//! at a place of a text is asked of `parse`, the way to a refused statement is gone with the transfer function of plans,
-//! and the longest path is found with `compile`.
+//! [`explain_fault`] explains why a text is not a script, [`explain_script`] why a script is not compiled, and
+//! [`explain_code`] why a code is refused. The facts come from the functions that refuse: `parse` decides what is valid
+//! at a position, the transfer function of plans is applied up to the refused statement, and the longest path is found
+//! with `compile`.
 #![tactic(auto)]
 
 mod cause;
@@ -18,6 +18,7 @@ mod history;
 mod labels;
 mod limit;
 mod names;
+mod paths;
 mod place;
 mod probe;
 mod reach;
@@ -27,7 +28,6 @@ mod script;
 mod script_fault;
 mod swap;
 mod walk;
-mod ways;
 
 pub use code::explain_code;
 pub use script::explain_script;

@@ -1,10 +1,10 @@
-//! Limits of codes that a script would pass, explained.
+//! Explains limits of codes that a script would exceed.
 
 use plan_code::limits::{COUNTERS, MOST_CONFIGURATIONS, MOST_INSTRUCTIONS, MOST_LABELS};
 use script_compiler::CodeLimit;
 use std::io::{self, Write};
 
-/// Explains a number that is passed: how many a code has at most, and that one more would come of this line.
+/// Explains an exceeded limit: the maximum, and that this line would add one more.
 fn explain_number<W: Write>(most: u16, what: &str, hint: &str, out: &mut W) -> io::Result<()> {
     let next = most.saturating_add(1);
     writeln!(
@@ -14,7 +14,7 @@ fn explain_number<W: Write>(most: u16, what: &str, hint: &str, out: &mut W) -> i
     writeln!(out, "hint: {hint}")
 }
 
-/// Explains a `repeat` in as many others as there are counters.
+/// Explains a `repeat` nested deeper than there are counters.
 fn explain_counters<W: Write>(out: &mut W) -> io::Result<()> {
     let most = COUNTERS;
     writeln!(
@@ -27,7 +27,7 @@ fn explain_counters<W: Write>(out: &mut W) -> io::Result<()> {
     )
 }
 
-/// Explains which limit of codes is passed, and how much of it, behind the place of the statement that passes it.
+/// Explains which limit of codes is exceeded, on the lines after the position of the statement that exceeds it.
 pub(crate) fn explain_code_limit<W: Write>(limit: CodeLimit, out: &mut W) -> io::Result<()> {
     match limit {
         CodeLimit::Instructions => explain_number(

@@ -1,4 +1,4 @@
-//! Members of configurations in words, as a script writes them.
+//! Writes members of configurations in the script's notation.
 
 ghost use Rattle.std.specs.Prelude.{◌≤◌};
 
@@ -23,7 +23,7 @@ pub(crate) fn put_profile<W: Write>(protection: Protection, out: &mut W) -> io::
     }
 }
 
-/// The size of a sub-channel; 0 where it has none.
+/// The size of a sub-channel; 0 if it has none.
 pub(crate) fn units_of(sub: &Sub) -> u16
     ensures { result ≤ 864 }
 {
@@ -33,7 +33,7 @@ pub(crate) fn units_of(sub: &Sub) -> u16
     }
 }
 
-/// The first capacity unit behind a sub-channel.
+/// The first capacity unit after a sub-channel.
 pub(crate) fn end_of(sub: &Sub) -> u32 {
     u32::from(sub.start) + u32::from(units_of(sub))
 }
@@ -55,7 +55,7 @@ pub(crate) fn put_units<W: Write>(sub: &Sub, out: &mut W) -> io::Result<()> {
     write!(out, "CU {start} to {last}")
 }
 
-/// Writes what a component names.
+/// Writes the sub-channel or packet component of a component.
 pub(crate) fn put_carrier<W: Write>(carrier: &Carrier, out: &mut W) -> io::Result<()> {
     match carrier {
         Carrier::Sub(id) => {

@@ -1,14 +1,14 @@
-//! Places of a script's text: the line and the bytes of a position, and how they are shown.
+//! Positions in a script's text: the line and the bytes at a position, and how they are shown.
 
 ghost use Rattle.std.specs.Prelude.{◌≤◌, length};
 
 use script_front::Position;
 use std::io::{self, Write};
 
-/// How many bytes of a line are shown at most.
+/// The most bytes of a line that are shown.
 const SHOWN: usize = 160;
 
-/// How many bytes of a text stand before a position; all of them where the text has no such position.
+/// The offset of a position in a text; the length of the text if it has no such position.
 pub(crate) fn offset_of(text: &[u8], position: Position) -> usize
     ensures { result ≤ length text.now }
 {
@@ -28,12 +28,12 @@ pub(crate) fn offset_of(text: &[u8], position: Position) -> usize
     text.len()
 }
 
-/// Whether a byte is of an atom.
+/// Whether a byte belongs to an atom.
 fn is_letter(byte: u8) -> bool {
     byte.is_ascii_alphanumeric() || byte == b'_' || byte == b':' || byte == b'-'
 }
 
-/// The atom at the front of some bytes; the first byte where they begin with none, and none where they are empty.
+/// The atom at the front of some bytes; the first byte if they begin with none, and none if they are empty.
 pub(crate) fn token_at(bytes: &[u8]) -> &[u8] {
     for (at, byte) in bytes.iter().enumerate() {
         if !is_letter(*byte) {
@@ -43,7 +43,7 @@ pub(crate) fn token_at(bytes: &[u8]) -> &[u8] {
     bytes
 }
 
-/// The bytes between two places of a text; none where they are no such places.
+/// The bytes between two offsets of a text; none if they are out of range.
 fn between(text: &[u8], start: usize, end: usize) -> &[u8] {
     match text.get(start..end) {
         Some(bytes) => bytes,
@@ -51,7 +51,7 @@ fn between(text: &[u8], start: usize, end: usize) -> &[u8] {
     }
 }
 
-/// The line of this number, from 1, without its end; empty where the text has none.
+/// The line of this number, from 1, without its end; empty if the text has none.
 fn line_of(text: &[u8], number: usize) -> &[u8] {
     let mut line = 1usize;
     let mut start = 0usize;

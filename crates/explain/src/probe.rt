@@ -1,30 +1,30 @@
-//! What may stand at a place of a script, as `parse` answers.
+//! Tests with `parse` which tokens are valid at a position of a script.
 
 use crate::place::offset_of;
 use script_front::{Position, ScriptFault, parse};
 use std::alloc::{AllocError, Global};
 
-/// The beginning of a script, up to a token that is at fault.
+/// The text of a script up to a token at fault.
 #[derive(Clone, Copy)]
 pub(crate) struct Front<'a> {
     text: &'a str,
-    /// Where a token stands that is put on a line of its own behind it.
+    /// The position of a token that is appended on a line of its own.
     position: Position,
 }
 
-/// What `parse` makes of a token behind the beginning.
+/// The verdict of `parse` on a token after the front.
 #[derive(Clone, Copy, PartialEq, Eq)]
 pub(crate) enum Answer {
-    /// It may stand there.
+    /// It is valid.
     Passes,
-    /// A name may stand there, but this one is used or unknown.
+    /// A name is valid, but this one is used or unknown.
     Name,
-    /// It may not.
+    /// It is invalid.
     Refused,
 }
 
 impl<'a> Front<'a> {
-    /// The beginning of a text before this position.
+    /// The front of a text up to this position.
     pub(crate) fn new(text: &'a str, position: Position) -> Front<'a> {
         let at = offset_of(text.as_bytes(), position);
         let front = match text.get(..at) {
@@ -40,12 +40,12 @@ impl<'a> Front<'a> {
         }
     }
 
-    /// The text of the beginning.
+    /// The text of the front.
     pub(crate) fn text(&self) -> &'a str {
         self.text
     }
 
-    /// Whether a token may stand behind the beginning: `parse` finds no fault at its position.
+    /// Tests a token after the front: it is valid if `parse` finds no fault at its position.
     pub(crate) fn ask(&self, alloc: Global, token: &str) -> Result<Answer, AllocError> {
         let mut text = String::from_str(alloc, self.text)?;
         text.push_str("\n")?;
@@ -56,7 +56,7 @@ impl<'a> Front<'a> {
         }
     }
 
-    /// Whether the script may end there.
+    /// Whether the script may end after the front.
     pub(crate) fn may_end(&self, alloc: Global) -> Result<bool, AllocError> {
         match parse(alloc, self.text) {
             Ok(_script) => Ok(true),
@@ -65,7 +65,7 @@ impl<'a> Front<'a> {
         }
     }
 
-    /// What a fault of the text with the token says of the token.
+    /// The verdict on the token, from a fault of the text with the token.
     fn judge(&self, fault: ScriptFault) -> Result<Answer, AllocError> {
         match fault {
             ScriptFault::Memory => Err(AllocError),
@@ -79,7 +79,7 @@ impl<'a> Front<'a> {
         }
     }
 
-    /// This answer where the fault is at the token, and else that the token passes.
+    /// This verdict if the fault is at the token; else the token passes.
     fn unless_here(&self, at: Position, answer: Answer) -> Answer {
         if at == self.position {
             answer
@@ -99,8 +99,8 @@ impl<'a> Front<'a> {
         self.passes(alloc, token.as_str())
     }
 
-    /// The least and the greatest decimal that pass, where some do: those of a value of the grammar begin at 0, 1, 2 or 12
-    /// and end at 65,535 or before.
+    /// The least and the greatest decimal that pass, if any does: the ranges of the grammar begin at 0, 1, 2 or 12
+    /// and end at or below 65,535.
     pub(crate) fn range(&self, alloc: Global) -> Result<Option<(u32, u32)>, AllocError> {
         for low in [0u32, 1, 2, 12] {
             if self.passes_number(alloc, low)? {
@@ -111,7 +111,7 @@ impl<'a> Front<'a> {
         Ok(None)
     }
 
-    /// The greatest decimal that passes, where this one does, by halves.
+    /// The greatest decimal that passes, found by bisection from one that passes.
     fn last_number(&self, alloc: Global, first: u32) -> Result<u32, AllocError> {
         let mut low = first;
         let mut step = 65_536u32;

@@ -1,19 +1,19 @@
-//! The way through a code up to an instruction, in the order of the code: what is known there, and what was done.
+//! The state before an instruction of a code, from the instructions before it in the order of the code.
 
 use crate::history::Deed;
 use crate::walk::{Walk, copied};
 use mux_config::Config;
 use plan_code::{Code, Counters, Instr, Label, Line};
 use plan_flow::Flow;
-use plan_flow::ways::{continues, suspends};
+use plan_flow::successors::{continues, suspends};
 use std::alloc::{AllocError, Global};
 
-/// What is known where the machine comes to an instruction from the one before.
+/// What is known on entry to an instruction from the one before.
 #[derive(Drop)]
 pub(crate) struct Reach {
-    /// What is known of the configurations and the swap, and what was done.
+    /// What is known of the configurations and the swap, and the executed instructions.
     pub(crate) walk: Walk,
-    /// The counters that are set.
+    /// The set counters.
     pub(crate) counters: Counters,
     /// How many instructions may still run in this frame, as the labels declare.
     pub(crate) allowance: u8,
@@ -21,7 +21,7 @@ pub(crate) struct Reach {
     pub(crate) comes: bool,
 }
 
-/// What a label declares of the configurations and the swap.
+/// The configurations and the swap that a label declares.
 fn flow_of(code: &Code, label: Label) -> Option<Flow<Config>> {
     let current = code.config(label.cur)?;
     let next = code.config(label.next)?;
@@ -32,7 +32,7 @@ fn flow_of(code: &Code, label: Label) -> Option<Flow<Config>> {
     })
 }
 
-/// What the label at an instruction declares of the configurations and the swap, where one stands there.
+/// The configurations and the swap that the label at an instruction declares, if it has one.
 pub(crate) fn declared_at(code: &Code, pc: u16) -> Option<Flow<Config>> {
     match code.label_at(pc) {
         Some(label) => flow_of(code, label),
@@ -52,7 +52,7 @@ fn counters_after(counters: Counters, instr: Instr) -> Counters {
 }
 
 impl Reach {
-    /// The way to the first instruction of a code.
+    /// The state before the first instruction of a code.
     fn new(alloc: Global) -> Reach {
         Reach {
             walk: Walk::new(alloc, &Config::new(), Vec::new(alloc)),
@@ -62,7 +62,7 @@ impl Reach {
         }
     }
 
-    /// Becomes what the label at an instruction declares, where one stands there.
+    /// Changes to what the label at an instruction declares, if it has one.
     pub(crate) fn enter(&mut self, code: &Code, pc: u16) {
         if let Some(label) = code.label_at(pc) {
             self.counters = label.counters;
@@ -73,7 +73,7 @@ impl Reach {
         }
     }
 
-    /// Goes over an instruction.
+    /// Applies an instruction.
     fn pass(&mut self, code: &Code, line: &Line) -> Result<(), AllocError> {
         let plan = code.plan();
         let _ = self.walk.flow.apply(&plan, line.instr);
@@ -94,7 +94,7 @@ impl Reach {
         }
     }
 
-    /// What is known where the machine comes to an instruction of a code from the one before.
+    /// What is known on entry to an instruction of a code from the one before.
     pub(crate) fn at(alloc: Global, code: &Code, pc: u16) -> Result<Reach, AllocError> {
         let mut reach = Reach::new(alloc);
         let mut at = 0u16;

@@ -1,9 +1,9 @@
-//! What may have been meant by a token that may not stand where it does.
+//! Suggests the token that may have been meant by an invalid one.
 
 use crate::probe::Front;
 use std::alloc::{AllocError, Global};
 
-/// The words of the grammar.
+/// The keywords of the grammar.
 const WORDS: [&str; 38] = [
     "ensemble",
     "mode",
@@ -45,7 +45,7 @@ const WORDS: [&str; 38] = [
     "apply",
 ];
 
-/// How many letters two words have in common at their beginnings.
+/// The number of letters that two words have in common at the beginning.
 fn common_front(a: &[u8], b: &[u8]) -> usize {
     for (at, letter) in a.iter().enumerate() {
         if b.get(at) != Some(letter) {
@@ -55,13 +55,13 @@ fn common_front(a: &[u8], b: &[u8]) -> usize {
     a.len()
 }
 
-/// The letter of a word that has this many behind it.
+/// The letter of a word that is followed by this many others.
 fn from_end(word: &[u8], behind: usize) -> Option<u8> {
     let at = word.len().checked_sub(behind)?.checked_sub(1)?;
     word.get(at).copied()
 }
 
-/// How many letters two words have in common at their ends.
+/// The number of letters that two words have in common at the end.
 fn common_back(a: &[u8], b: &[u8]) -> usize {
     for behind in 0..a.len() {
         if from_end(a, behind) != from_end(b, behind) {
@@ -71,14 +71,14 @@ fn common_back(a: &[u8], b: &[u8]) -> usize {
     a.len()
 }
 
-/// Whether two words are alike but for two letters side by side.
+/// Whether two words are equal except for two adjacent letters.
 fn is_close(a: &[u8], b: &[u8]) -> bool {
     let longest = a.len().max(b.len());
     let common = common_front(a, b).saturating_add(common_back(a, b));
     longest >= 3 && longest <= common.saturating_add(2)
 }
 
-/// A text of these bytes, all of which are letters of atoms.
+/// These bytes as text, which are all letters of atoms.
 fn text_of(alloc: Global, bytes: &[u8]) -> Result<String, AllocError> {
     match std::str::from_utf8(bytes) {
         Ok(text) => String::from_str(alloc, text),
@@ -102,7 +102,7 @@ fn in_case(alloc: Global, bytes: &[u8], upper: bool) -> Result<Vec<u8>, AllocErr
     Ok(cased)
 }
 
-/// The bytes without a `0x` at their front.
+/// The bytes without a leading `0x`.
 fn without_prefix(bytes: &[u8]) -> &[u8] {
     match bytes {
         [b'0', b'x' | b'X', rest @ ..] => rest,
@@ -110,7 +110,7 @@ fn without_prefix(bytes: &[u8]) -> &[u8] {
     }
 }
 
-/// The bytes without zeros at their front, but for the last byte.
+/// The bytes without leading zeros, but at least the last byte.
 fn without_zeros(bytes: &[u8]) -> &[u8] {
     for (at, byte) in bytes.iter().enumerate() {
         if *byte != b'0' || at + 1 == bytes.len() {
@@ -120,7 +120,7 @@ fn without_zeros(bytes: &[u8]) -> &[u8] {
     bytes
 }
 
-/// A token, where it may stand behind the beginning.
+/// A token, if it is valid after the front.
 fn if_passes(alloc: Global, front: &Front, token: String) -> Result<Option<String>, AllocError> {
     if front.passes(alloc, token.as_str())? {
         return Ok(Some(token));
@@ -168,8 +168,8 @@ fn profile_meant(alloc: Global, front: &Front, token: &[u8]) -> Result<Option<St
     if_passes(alloc, front, token)
 }
 
-/// A word of the grammar that may have been meant.
-fn word_meant(alloc: Global, front: &Front, token: &[u8]) -> Result<Option<String>, AllocError> {
+/// A keyword that may have been meant.
+fn token_meant(alloc: Global, front: &Front, token: &[u8]) -> Result<Option<String>, AllocError> {
     let lower = in_case(alloc, token, false)?;
     for word in WORDS {
         if is_close(word.as_bytes(), lower.as_slice()) && front.passes(alloc, word)? {
@@ -179,7 +179,7 @@ fn word_meant(alloc: Global, front: &Front, token: &[u8]) -> Result<Option<Strin
     Ok(None)
 }
 
-/// What may have been meant by a token: another token that may stand in its place, if one is found.
+/// What may have been meant by a token: another token that is valid in its position, if one is found.
 pub(crate) fn meant_by(
     alloc: Global,
     front: &Front,
@@ -188,7 +188,7 @@ pub(crate) fn meant_by(
     if let Some(found) = profile_meant(alloc, front, token)? {
         return Ok(Some(found));
     }
-    if let Some(found) = word_meant(alloc, front, token)? {
+    if let Some(found) = token_meant(alloc, front, token)? {
         return Ok(Some(found));
     }
     value_meant(alloc, front, token)

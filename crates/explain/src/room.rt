@@ -1,11 +1,11 @@
-//! Configurations that take too many pages, explained.
+//! Explains configurations that need too many pages.
 
 use fib_carousel::pages;
 use mux_config::Config;
 use plan_code::Plan;
 use std::io::{self, Write};
 
-/// How many pages a configuration takes by itself.
+/// The number of pages of a configuration by itself.
 fn pages_alone(plan: &Plan, config: &Config) -> usize {
     let alone: Option<&Config> = None;
     pages(plan.mode, config, alone)
@@ -26,7 +26,7 @@ pub(crate) fn explain_opening<W: Write>(
     writeln!(out, "hint: a period of {count}, or fewer entries")
 }
 
-/// Explains a commit for whose pages the period or the notice has no room.
+/// Explains a commit whose pages do not fit in the period or the notice.
 pub(crate) fn explain_round<W: Write>(
     plan: &Plan,
     current: &Config,

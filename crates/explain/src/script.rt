@@ -1,4 +1,4 @@
-//! Why a script is not compiled, explained.
+//! Explains why a script is not compiled.
 
 use crate::cause::explain_instr;
 use crate::config::explain_config;
@@ -6,9 +6,9 @@ use crate::cost::{Costs, costs_of, explain_costs};
 use crate::edit::explain_edit;
 use crate::history::Deed;
 use crate::limit::explain_code_limit;
+use crate::paths::{explain_loop, explain_paths};
 use crate::room::explain_opening;
 use crate::walk::{Stop, Walk};
-use crate::ways::{explain_loop, explain_ways};
 use mux_config::{Config, Edit, EditFault};
 use plan_code::{Instr, Plan};
 use plan_flow::{Cause, test_opening};
@@ -17,27 +17,27 @@ use script_front::Script;
 use std::alloc::{AllocError, Global};
 use std::io::{self, Error, ErrorKind, Write};
 
-/// An item that has a fault.
+/// An item with a fault.
 #[derive(Clone, Copy)]
 struct BadItem {
     edit: Edit,
     fault: EditFault,
 }
 
-/// Where a script goes wrong, as the way through it finds.
+/// The first refusal in a script, found by a walk through it.
 #[derive(Drop)]
-struct Way {
-    /// What is known there, and what was done.
+struct PlanPath {
+    /// What is known there, and the executed instructions.
     walk: Walk,
-    /// The item that has a fault, if one has.
+    /// The item with a fault, if one has.
     item: Option<BadItem>,
     /// Why the opening is refused, if it is.
     opening: Option<Cause>,
-    /// The statement that is refused, if one is.
+    /// The refused statement, if there is one.
     stop: Option<Stop>,
 }
 
-/// What a script declares.
+/// The declarations of a script.
 fn plan_of(script: &Script) -> Plan {
     let header = script.header();
     Plan {
@@ -49,7 +49,7 @@ fn plan_of(script: &Script) -> Plan {
     }
 }
 
-/// Carries out the items of a script, up to the first that has a fault.
+/// Applies the items of a script, up to the first with a fault.
 fn add_items(
     script: &Script,
     opening: &mut Config,
@@ -73,41 +73,49 @@ fn add_items(
     Ok(None)
 }
 
-/// The way through a script, up to what is refused.
-fn way_of(alloc: Global, script: &Script) -> Result<Way, AllocError> {
+/// Walks through a script up to the first refusal.
+fn path_to(alloc: Global, script: &Script) -> Result<PlanPath, AllocError> {
     let mut opening = Config::new();
     let mut deeds = Vec::new(alloc);
     let item = add_items(script, &mut opening, &mut deeds)?;
     let is_made = item.is_none();
-    let mut way = Way {
+    let mut path_taken = PlanPath {
         walk: Walk::new(alloc, &opening, deeds),
         item,
         opening: None,
         stop: None,
     };
     if is_made {
-        go_on(&plan_of(script), script, &opening, &mut way)?;
+        extend(&plan_of(script), script, &opening, &mut path_taken)?;
     }
-    Ok(way)
+    Ok(path_taken)
 }
 
-/// Goes on from the opening of a script to what is refused.
-fn go_on(plan: &Plan, script: &Script, opening: &Config, way: &mut Way) -> Result<(), AllocError> {
+/// Walks from the opening of a script to the first refusal.
+fn extend(
+    plan: &Plan,
+    script: &Script,
+    opening: &Config,
+    path_taken: &mut PlanPath,
+) -> Result<(), AllocError> {
     if let Err(cause) = test_opening(plan, opening) {
-        way.opening = Some(cause);
+        path_taken.opening = Some(cause);
         return Ok(());
     }
-    match way.walk.whole(plan, script.blocks(), script.statements()) {
+    match path_taken
+        .walk
+        .whole(plan, script.blocks(), script.statements())
+    {
         Ok(_falls) => Ok(()),
         Err(Stop::Memory) => Err(AllocError),
         Err(stop) => {
-            way.stop = Some(stop);
+            path_taken.stop = Some(stop);
             Ok(())
         }
     }
 }
 
-/// Explains an opening that is refused.
+/// Explains a refused opening.
 fn explain_begin<W: Write>(plan: &Plan, walk: &Walk, cause: Cause, out: &mut W) -> io::Result<()> {
     match cause {
         Cause::Config(fault) => {
@@ -130,18 +138,18 @@ fn explain_begin<W: Write>(plan: &Plan, walk: &Walk, cause: Cause, out: &mut W) 
     }
 }
 
-/// Explains ways that do not meet.
+/// Explains control-flow paths that can't be merged.
 fn explain_meeting<W: Write>(walk: &Walk, is_loop: bool, out: &mut W) -> io::Result<()> {
     let Some(other) = &walk.other else {
-        return writeln!(out, "two ways meet that differ");
+        return writeln!(out, "two paths meet that differ");
     };
     if is_loop {
         return explain_loop(&walk.flow, other, out);
     }
-    explain_ways(&walk.flow, other, out)
+    explain_paths(&walk.flow, other, out)
 }
 
-/// Explains what the way through a script stops at, behind the place.
+/// Explains the refusal at which the walk stops, on the lines after its position.
 fn explain_stop<W: Write>(plan: &Plan, walk: &Walk, stop: &Stop, out: &mut W) -> io::Result<()> {
     match stop {
         Stop::Act { instr, cause, .. } => {
@@ -151,14 +159,14 @@ fn explain_stop<W: Write>(plan: &Plan, walk: &Walk, stop: &Stop, out: &mut W) ->
         Stop::Ways { .. } => explain_meeting(walk, false, out),
         Stop::Unreached { after, .. } => writeln!(
             out,
-            "it can't be reached: nothing goes on behind the statement in line {after}\nhint: leave it out"
+            "it can't be reached: the statement in line {after} does not continue to it\nhint: leave it out"
         ),
         Stop::Long => writeln!(out, "the plan is too long to be explained"),
         Stop::Memory => Ok(()),
     }
 }
 
-/// Whether the way through a script stops in this line.
+/// Whether the walk stops in this line.
 fn stops_in(stop: &Stop, wanted: u16) -> bool {
     match stop {
         Stop::Act { line, .. } => *line == wanted,
@@ -170,24 +178,29 @@ fn stops_in(stop: &Stop, wanted: u16) -> bool {
     }
 }
 
-/// Explains what the way through a script stops at, in this line.
-fn explain_way<W: Write>(plan: &Plan, way: &Way, line: u16, out: &mut W) -> io::Result<()> {
-    if let Some(item) = &way.item {
+/// Explains the refusal at which the walk stops, if it is in this line.
+fn explain_path<W: Write>(
+    plan: &Plan,
+    path_taken: &PlanPath,
+    line: u16,
+    out: &mut W,
+) -> io::Result<()> {
+    if let Some(item) = &path_taken.item {
         return explain_edit(
-            &way.walk.flow.next,
-            way.walk.deeds.as_slice(),
+            &path_taken.walk.flow.next,
+            path_taken.walk.deeds.as_slice(),
             &item.edit,
             item.fault,
             out,
         );
     }
-    if let Some(cause) = way.opening {
-        return explain_begin(plan, &way.walk, cause, out);
+    if let Some(cause) = path_taken.opening {
+        return explain_begin(plan, &path_taken.walk, cause, out);
     }
-    match &way.stop {
+    match &path_taken.stop {
         Some(stop) => {
             if stops_in(stop, line) {
-                return explain_stop(plan, &way.walk, stop, out);
+                return explain_stop(plan, &path_taken.walk, stop, out);
             }
             writeln!(out, "the plan is refused here")
         }
@@ -195,7 +208,7 @@ fn explain_way<W: Write>(plan: &Plan, way: &Way, line: u16, out: &mut W) -> io::
     }
 }
 
-/// What is to be said of costs, where they are the cause.
+/// The facts that explain the costs, if these are the cause.
 fn costs_at(
     alloc: Global,
     text: &str,
@@ -206,8 +219,8 @@ fn costs_at(
     if cause != Cause::Cost {
         return Ok(None);
     }
-    let way = way_of(alloc, script)?;
-    let is_short = way.walk.is_short();
+    let path_taken = path_to(alloc, script)?;
+    let is_short = path_taken.walk.is_short();
     Ok(Some(costs_of(alloc, text, script, line, is_short)?))
 }
 
@@ -228,19 +241,19 @@ fn explain_cause<W: Write>(
         write!(out, "{path}:{line}: ")?;
         return explain_costs(&costs, out);
     }
-    let Ok(way) = way_of(alloc, script) else {
+    let Ok(path_taken) = path_to(alloc, script) else {
         return Err(Error::from(ErrorKind::OutOfMemory));
     };
     write!(out, "{path}:{line}: ")?;
-    explain_way(&plan_of(script), &way, line, out)
+    explain_path(&plan_of(script), &path_taken, line, out)
 }
 
-/// Explains why a script, of this text, is not compiled: the objects and numbers that are at hand where it is refused, and
-/// what would mend it. Nothing for want of memory.
+/// Explains why a script with this text is not compiled: the objects and numbers involved, and a correction. Writes
+/// nothing if the fault is out of memory.
 ///
 /// # Errors
 ///
-/// Those of the writer, and `OutOfMemory` where there is no memory to go the way up to the refused statement.
+/// Those of the writer, and `OutOfMemory` if out of memory for the walk up to the refused statement.
 pub fn explain_script<W: Write>(
     alloc: Global,
     path: &str,

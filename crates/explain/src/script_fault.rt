@@ -1,4 +1,4 @@
-//! Why a text is no script, explained.
+//! Explains why a text is not a script.
 
 use crate::expected::Expected;
 use crate::place::{offset_of, put_bytes, show_position, token_at};
@@ -8,8 +8,8 @@ use script_front::{Position, ScriptFault};
 use std::alloc::{AllocError, Global};
 use std::io::{self, Error, ErrorKind, Write};
 
-/// Writes where a fault is, and what is said of it begins behind that.
-fn put_place<W: Write>(path: &str, position: Position, out: &mut W) -> io::Result<()> {
+/// Writes the position of a fault; the explanation follows.
+fn put_position<W: Write>(path: &str, position: Position, out: &mut W) -> io::Result<()> {
     let line = position.line;
     let column = position.column;
     write!(out, "{path}:{line}:{column}: ")
@@ -21,7 +21,7 @@ fn token_of(text: &str, position: Position) -> &[u8] {
     token_at(&text.as_bytes()[at..])
 }
 
-/// Writes what stands at a position, behind this word.
+/// Writes the token at a position, after `word`.
 fn put_found<W: Write>(text: &str, position: Position, word: &str, out: &mut W) -> io::Result<()> {
     let token = token_of(text, position);
     if token.is_empty() {
@@ -33,10 +33,10 @@ fn put_found<W: Write>(text: &str, position: Position, word: &str, out: &mut W) 
     out.write_all(b"'")
 }
 
-/// The words of a header, in its order.
+/// The keywords of a header, in order.
 const HEADER: [&str; 5] = ["ensemble", "mode", "period", "notice", "budget"];
 
-/// Whether a token is a word of the header where another one of them may stand.
+/// Whether a token is a header keyword where another one is expected.
 fn is_out_of_order(alloc: Global, front: &Front, token: &[u8]) -> Result<bool, AllocError> {
     let mut is_header = false;
     let mut is_wanted = false;
@@ -50,16 +50,16 @@ fn is_out_of_order(alloc: Global, front: &Front, token: &[u8]) -> Result<bool, A
     Ok(is_header && is_wanted)
 }
 
-/// What mends a token, as far as something is found that does.
+/// Corrections for an invalid token.
 #[derive(Drop)]
 struct Mending {
-    /// Another token that may stand in its place.
+    /// Another token that is valid in its position.
     meant: Option<String>,
-    /// Whether it is a word of the header that stands out of order.
+    /// Whether the token is a header keyword out of order.
     is_out_of_order: bool,
 }
 
-/// What mends a token behind the beginning.
+/// Finds the corrections for a token after the front.
 fn mending_of(alloc: Global, front: &Front, token: &[u8]) -> Result<Mending, AllocError> {
     let is_out_of_order = is_out_of_order(alloc, front, token)?;
     let meant = if is_out_of_order {
@@ -73,7 +73,7 @@ fn mending_of(alloc: Global, front: &Front, token: &[u8]) -> Result<Mending, All
     })
 }
 
-/// Writes what mends a token.
+/// Writes the corrections.
 fn put_mending<W: Write>(mending: &Mending, out: &mut W) -> io::Result<()> {
     if mending.is_out_of_order {
         return out.write_all(
@@ -86,7 +86,7 @@ fn put_mending<W: Write>(mending: &Mending, out: &mut W) -> io::Result<()> {
     }
 }
 
-/// Explains a token that may not stand where it does: what may, and what may have been meant.
+/// Explains an invalid token: what is valid, and what may have been meant.
 fn explain_token<W: Write>(
     alloc: Global,
     path: &str,
@@ -101,7 +101,7 @@ fn explain_token<W: Write>(
     let Ok(mending) = mending_of(alloc, &front, token_of(text, position)) else {
         return Err(Error::from(ErrorKind::OutOfMemory));
     };
-    put_place(path, position, out)?;
+    put_position(path, position, out)?;
     out.write_all(b"expected ")?;
     expected.put(out)?;
     out.write_all(b"; ")?;
@@ -111,7 +111,7 @@ fn explain_token<W: Write>(
     put_mending(&mending, out)
 }
 
-/// Explains a byte that has no place in a script.
+/// Explains a byte that is not allowed in a script.
 fn explain_byte<W: Write>(
     path: &str,
     text: &str,
@@ -123,18 +123,18 @@ fn explain_byte<W: Write>(
         Some(byte) => *byte,
         None => 0,
     };
-    put_place(path, position, out)?;
+    put_position(path, position, out)?;
     writeln!(
         out,
-        "the byte {byte:02X} has no place in a script outside comments"
+        "the byte {byte:02X} is not allowed in a script outside comments"
     )?;
     show_position(text.as_bytes(), position, out)?;
     out.write_all(
-        b"hint: letters, digits, '_', ':', '-', '{', '}', blanks and ';' may stand there; '#' begins a comment\n",
+        b"hint: letters, digits, '_', ':', '-', '{', '}', blanks and ';' are allowed there; '#' begins a comment\n",
     )
 }
 
-/// Explains a name that is defined already, or not yet.
+/// Explains a name that is already defined, or not yet.
 fn explain_name<W: Write>(
     path: &str,
     text: &str,
@@ -143,14 +143,14 @@ fn explain_name<W: Write>(
     hint: &str,
     out: &mut W,
 ) -> io::Result<()> {
-    put_place(path, position, out)?;
+    put_position(path, position, out)?;
     put_found(text, position, "", out)?;
     writeln!(out, "{what}")?;
     show_position(text.as_bytes(), position, out)?;
     writeln!(out, "hint: {hint}")
 }
 
-/// Explains a limit.
+/// Explains an exceeded limit.
 fn explain_limit<W: Write>(
     path: &str,
     text: &str,
@@ -160,15 +160,15 @@ fn explain_limit<W: Write>(
     let bytes = text.len();
     let token = token_of(text, position);
     let letters = token.len();
-    put_place(path, position, out)?;
+    put_position(path, position, out)?;
     if bytes > 1_048_576 {
         return writeln!(out, "the text has more than 1048576 bytes");
     }
     if position.line > 65_535 {
-        return writeln!(out, "a token stands behind line 65535");
+        return writeln!(out, "a token is after line 65535");
     }
     if letters > 32 {
-        writeln!(out, "a word of {letters} bytes; the longest has 32")?;
+        writeln!(out, "a token of {letters} bytes; the longest has 32")?;
         return show_position(text.as_bytes(), position, out);
     }
     if token == b"define".as_slice() {
@@ -180,12 +180,12 @@ fn explain_limit<W: Write>(
     )
 }
 
-/// Explains why a text is no script: where the fault is, what may stand there and, where one is found that may, which
-/// token may have been meant, with the line and a caret under the column. Nothing for want of memory.
+/// Explains why a text is not a script: the position of the fault, what is valid there and, if one is found, the token
+/// that may have been meant, with the line and a caret under the column. Writes nothing if the fault is out of memory.
 ///
 /// # Errors
 ///
-/// Those of the writer, and `OutOfMemory` where there is no memory to ask what may stand there.
+/// Those of the writer, and `OutOfMemory` if out of memory for the tests of what is valid.
 pub fn explain_fault<W: Write>(
     alloc: Global,
     path: &str,
@@ -201,7 +201,7 @@ pub fn explain_fault<W: Write>(
             path,
             text,
             at,
-            " would stand more than 16 braces deep",
+            " would be more than 16 braces deep",
             "put an inner block into a 'define' and 'apply' it",
             out,
         ),
@@ -218,7 +218,7 @@ pub fn explain_fault<W: Write>(
             text,
             at,
             " is not the name of a block that is defined before",
-            "'define' the block above the place where it is applied; a block does not apply itself",
+            "'define' the block above the line that applies it; a block does not apply itself",
             out,
         ),
         ScriptFault::Limit(at) => explain_limit(path, text, at, out),

@@ -1,10 +1,10 @@
-//! Commits and waits that are refused, explained.
+//! Explains refused commits and waits.
 
 use crate::history::{Deed, committed_in};
 use plan_code::{Delay, Frames, Plan, Swap};
 use std::io::{self, Write};
 
-/// Writes when a pending swap comes.
+/// Writes when a pending swap is due.
 pub(crate) fn put_swap<W: Write>(pending: Swap, out: &mut W) -> io::Result<()> {
     match pending {
         Swap::Idle => write!(out, "no swap is pending"),
@@ -24,7 +24,7 @@ pub(crate) fn put_swap<W: Write>(pending: Swap, out: &mut W) -> io::Result<()> {
     }
 }
 
-/// Explains an edit or a commit while a swap is pending, or may be.
+/// Explains an edit or a commit while a swap is or may be pending.
 pub(crate) fn explain_pending<W: Write>(
     pending: Swap,
     deeds: &[Deed],
@@ -34,7 +34,7 @@ pub(crate) fn explain_pending<W: Write>(
     match committed_in(deeds) {
         Some(line) => writeln!(
             out,
-            ", by the commit in line {line}; until then the next configuration stays as it is\nhint: 'join' behind the commit in line {line}, or 'settle' before this line"
+            ", by the commit in line {line}; until then the next configuration stays as it is\nhint: 'join' after the commit in line {line}, or 'settle' before this line"
         ),
         None => writeln!(
             out,
@@ -54,7 +54,7 @@ pub(crate) fn explain_notice<W: Write>(plan: &Plan, delay: Delay, out: &mut W) -
     writeln!(out, "hint: 'commit in {notice}' or more")
 }
 
-/// Explains a commit at a count on which no swap falls.
+/// Explains a commit at a count that is not a possible count of a swap.
 pub(crate) fn explain_count<W: Write>(plan: &Plan, count: u16, out: &mut W) -> io::Result<()> {
     let step = plan.mode.step();
     let notice = plan.notice;
@@ -70,7 +70,7 @@ pub(crate) fn explain_count<W: Write>(plan: &Plan, count: u16, out: &mut W) -> i
     )
 }
 
-/// Explains a `join` where no swap is pending, or may be none.
+/// Explains a `join` without a pending swap, or where there may be none.
 pub(crate) fn explain_join<W: Write>(pending: Swap, out: &mut W) -> io::Result<()> {
     match pending {
         Swap::Perhaps(_) => writeln!(
@@ -113,7 +113,7 @@ pub(crate) fn explain_wait<W: Write>(
     )
 }
 
-/// The line of text for a commit of what is the current configuration already.
+/// Explains a commit of a configuration equal to the current one.
 pub(crate) fn explain_no_change<W: Write>(out: &mut W) -> io::Result<()> {
     writeln!(
         out,

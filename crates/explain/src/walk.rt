@@ -1,4 +1,4 @@
-//! The way of a script up to the statement that is refused, gone with the transfer function of plans.
+//! Walks through a script up to the refused statement, with the transfer function of plans.
 
 use crate::history::Deed;
 use mux_config::{Config, Store};
@@ -8,14 +8,14 @@ use script_compiler::instr_of;
 use script_front::Statement;
 use std::alloc::{AllocError, Global};
 
-/// The most statements that are gone through: more than any code has instructions.
+/// The most statements in a walk: more than any code has instructions.
 const MOST: u32 = 100_000;
 
-/// How many statements stand inside one another at most: 16 braces deep in each of 64 blocks and behind `begin`, and each
+/// The deepest nesting of statements: 16 braces deep in each of 64 blocks and after `begin`, and each
 /// block is applied by a statement.
 const DEEPEST: u16 = 2000;
 
-/// Where a way ends before its script does.
+/// Why a walk ends before the script does.
 #[derive(Clone, Copy)]
 pub(crate) enum Stop {
     /// A statement without a block is refused.
@@ -24,22 +24,22 @@ pub(crate) enum Stop {
         instr: Instr,
         cause: Cause,
     },
-    /// The body of a loop does not come back as it began.
+    /// The body of a loop does not restore the state at its beginning.
     Loop {
         line: u16,
     },
-    /// The ways through an `if` do not meet.
+    /// The paths through an `if` can't be merged.
     Ways {
         line: u16,
     },
-    /// A statement can't be reached, behind one in this other line.
+    /// A statement is unreachable, after one in this other line.
     Unreached {
         line: u16,
         after: u16,
     },
     /// There are too many statements.
     Long,
-    /// There was no memory.
+    /// Out of memory.
     Memory,
 }
 
@@ -49,18 +49,19 @@ impl From<AllocError> for Stop {
     }
 }
 
-/// What is known on the way, and what was done.
+/// What is known at a statement, and the executed instructions.
 #[derive(Drop)]
 pub(crate) struct Walk {
     /// What is known of the configurations and the swap.
     pub(crate) flow: Flow<Config>,
-    /// What was carried out so far, in the order of the text.
+    /// The executed instructions so far, in the order of the text.
     pub(crate) deeds: Vec<Deed>,
-    /// What is known where branches and loops come back to.
+    /// What is known at the entry of each enclosing loop or branch, or at the end of its first branch.
     saved: Vec<Flow<Config>>,
-    /// The other way, where two do not meet: the beginning of a loop, or the way past an `if` or through its first block.
+    /// The other path, where two can't be merged: the beginning of a loop, or the path past an `if` or through its
+    /// first block.
     pub(crate) other: Option<Flow<Config>>,
-    /// How many statements may still be gone through.
+    /// The number of statements that may still be visited.
     left: u32,
 }
 
@@ -92,13 +93,13 @@ fn line_of(statement: &Statement) -> u16 {
 }
 
 impl Walk {
-    /// Whether it has gone through so few statements that no path without a loop has more than 255 instructions: a statement
-    /// has two at most.
+    /// Whether so few statements were visited that no path without a loop has more than 255 instructions: a statement
+    /// has at most two.
     pub(crate) fn is_short(&self) -> bool {
         self.left >= MOST - 120
     }
 
-    /// The beginning of a way, at this opening.
+    /// The start of a walk, at this opening.
     pub(crate) fn new(alloc: Global, opening: &Config, deeds: Vec<Deed>) -> Walk {
         Walk {
             flow: Flow {
@@ -113,7 +114,7 @@ impl Walk {
         }
     }
 
-    /// One instruction; refused it leaves all as it was.
+    /// Executes one instruction; if refused, nothing changes.
     pub(crate) fn step(&mut self, plan: &Plan, line: u16, instr: &Instr) -> Result<(), Stop> {
         if let Err(cause) = self.flow.apply(plan, *instr) {
             return Err(Stop::Act {
@@ -131,7 +132,7 @@ impl Walk {
         }
     }
 
-    /// Keeps what is known here.
+    /// Saves what is known here.
     fn save(&mut self) -> Result<(), Stop> {
         let kept = same_flow(&self.flow);
         match self.saved.push(kept) {
@@ -140,7 +141,7 @@ impl Walk {
         }
     }
 
-    /// What was kept last, which is kept no more.
+    /// Removes and returns what was saved last.
     fn restore(&mut self) -> Result<Flow<Config>, Stop> {
         match self.saved.pop() {
             Some(flow) => Ok(flow),
@@ -148,7 +149,7 @@ impl Walk {
         }
     }
 
-    /// This way and another meet, where this one comes here at all.
+    /// Merges this path with another one; this one may be unreachable.
     fn join(&mut self, falls: bool, line: u16, other: Flow<Config>) -> Result<(), Stop> {
         if !falls {
             self.flow = other;
@@ -161,8 +162,8 @@ impl Walk {
         Err(Stop::Ways { line })
     }
 
-    /// The end of a loop, whose beginning was kept.
-    fn go_round(&mut self, falls: bool, line: u16) -> Result<(), Stop> {
+    /// Ends a loop, whose entry was saved.
+    fn close_loop(&mut self, falls: bool, line: u16) -> Result<(), Stop> {
         let entry = self.restore()?;
         if !falls {
             return Ok(());
@@ -174,7 +175,7 @@ impl Walk {
         Err(Stop::Loop { line })
     }
 
-    /// The statements behind `begin`, of which it answers whether what follows can be reached.
+    /// Walks through the statements after `begin`; returns whether control reaches their end.
     pub(crate) fn whole(
         &mut self,
         plan: &Plan,
@@ -184,7 +185,7 @@ impl Walk {
         self.block(plan, blocks, DEEPEST, statements)
     }
 
-    /// The statements of a block, of which it answers whether what follows can be reached. They stand this deep at most.
+    /// Walks through a block, nested at most this deep; returns whether control reaches its end.
     #[cycle(walk)]
     fn block(
         &mut self,
@@ -209,7 +210,7 @@ impl Walk {
         Ok(falls)
     }
 
-    /// One statement, of which it answers whether what follows can be reached.
+    /// Walks through one statement; returns whether control reaches its end.
     #[cycle(walk)]
     fn statement(
         &mut self,
@@ -238,7 +239,7 @@ impl Walk {
                 second,
                 ..
             } => self.either(plan, blocks, depth - 1, *line, first, second),
-            Statement::Repeat { line, body, .. } => self.turns(
+            Statement::Repeat { line, body, .. } => self.iterations(
                 plan,
                 blocks,
                 depth - 1,
@@ -246,7 +247,7 @@ impl Walk {
                 body,
                 true,
             ),
-            Statement::Forever { line, body } => self.turns(
+            Statement::Forever { line, body } => self.iterations(
                 plan,
                 blocks,
                 depth - 1,
@@ -284,7 +285,7 @@ impl Walk {
         self.close_if(falls, line)
     }
 
-    /// The end of an `if` without `else`: its block's way, if it falls out, and the one past it meet.
+    /// Ends an `if` without `else`: merges the path through its block, if reachable, with the path past it.
     fn close_if(&mut self, falls: bool, line: u16) -> Result<bool, Stop> {
         let entry = self.restore()?;
         self.join(falls, line, entry)?;
@@ -309,7 +310,7 @@ impl Walk {
             Ok(falls) => falls,
             Err(stop) => return Err(stop),
         };
-        if let Err(stop) = self.turn() {
+        if let Err(stop) = self.iteration() {
             return Err(stop);
         }
         let second_falls = match self.block(plan, blocks, depth, second) {
@@ -319,15 +320,15 @@ impl Walk {
         self.close_else(first_falls, second_falls, line)
     }
 
-    /// The end of a first branch: what is known there is kept, and the second begins with what was known before both.
-    fn turn(&mut self) -> Result<(), Stop> {
+    /// Ends a first branch: saves what is known there, and begins the second with what was known before both.
+    fn iteration(&mut self) -> Result<(), Stop> {
         let entry = self.restore()?;
         self.save()?;
         self.flow = entry;
         Ok(())
     }
 
-    /// The end of a second branch, where it meets the first if that fell out.
+    /// Ends a second branch: merges it with the first, if that is reachable.
     fn close_else(&mut self, first: bool, second: bool, line: u16) -> Result<bool, Stop> {
         let exit = self.restore()?;
         if !first {
@@ -337,9 +338,9 @@ impl Walk {
         Ok(true)
     }
 
-    /// A loop, behind which is gone on where it ends.
+    /// A loop; `ends` is whether it ends.
     #[cycle(walk)]
-    fn turns(
+    fn iterations(
         &mut self,
         plan: &Plan,
         blocks: &[Vec<Statement>],
@@ -355,7 +356,7 @@ impl Walk {
             Ok(falls) => falls,
             Err(stop) => return Err(stop),
         };
-        if let Err(stop) = self.go_round(falls, line) {
+        if let Err(stop) = self.close_loop(falls, line) {
             return Err(stop);
         }
         Ok(falls && ends)

@@ -1,4 +1,4 @@
--- A FIB that is closed behind its last entry: the next one goes past it either way.
+-- A FIB closed after its last entry: the next one goes past it either way.
 use Rattle.std.proofs.Common.{◌≡◌, ℕ, zero, suc, ◌+◌, ◌-◌, ◌<◌, ◌≤◌, ◌⊎◌, Option, Some, None, IfSome, is_some, List, [], ◌∷◌, length, take, drop, get_or, refl, sym, ◌∙◌, ap, subst, inl, inr, arith, if◌then◌else◌, nat_le}
 use Rattle.std.specs.List.{AllByRecursion}
 use Rattle.std.proofs.lemmas.List.{drop_all, length-drop}
@@ -19,13 +19,13 @@ use Rattle.fib_carousel.specs.Greedy.{placed, opened, numbers_from, packing}
 use Rattle.fib_carousel.specs.Pages.{fib_entries}
 use Rattle.fib_carousel.specs.Carried.{IsSendable, AreSendable}
 use Rattle.fib_carousel.specs.Runs.{closed, state_at, IsThenWithin}
-use Rattle.fib_carousel.specs.Walk.{StandsBefore, HasPassed, GoesPast}
+use Rattle.fib_carousel.specs.Walk.{IsAtFib, HasPassed, NextIsAfter}
 use Rattle.fib_carousel.proofs.Steps.{in_fib_other, in_fib_past}
 use Rattle.fib_carousel.proofs.Least.{placed_cases, room_high, cost_low, numbers_rise}
 use Rattle.fib_carousel.proofs.Pieces.{last_rises}
 use Rattle.fib_carousel.proofs.Walk.{Passed, Walked, rest_in, nothing_behind}
 
--- ---- an entry behind a FIB whose thirty bytes are taken
+-- ---- an entry after a FIB whose thirty bytes are taken
 full_leaves : (mode : Mode) (m : Marked) (p : PackState) → p.used ≡ 30 → 1 ≤ size_of m
     → placed mode m p ≡ (if nat_le (2 + size_of m) (room mode (p.fib + 1)) then opened m (p.fib + 1) else opened m (p.fib + 2))
 full_leaves mode m p full some =
@@ -49,7 +49,7 @@ full_passes mode m p number full some next tight =
     ∙ ap (λ b. if b then opened m (p.fib + 1) else opened m (p.fib + 2)) (lt-leb (2 + size_of m) (room mode (p.fib + 1)) there) in
     omega (arith, ap (λ (q : PackState). q.fib) is, next)
 
--- the state there, where the room is known
+-- the state after it, if the room is known
 pub closed_within : (mode : Mode) (s : EntryShape) (number known : ℕ) (p : PackState) (r : Option PackState) → p.used ≡ 30 → 1 ≤ s.size → p.fib + 1 ≡ number → known ≡ room mode number
     → IfSome r (λ (q : PackState). (2 + s.size ≤ known) × (q ≡ state_at s number (2 + s.size))) → IfSome r (λ (q : PackState). IsThenWithin mode s number p q)
 closed_within mode s number known p None full some next is h = tt
@@ -69,23 +69,23 @@ closed_within mode s number known p (Some q) full some next is h =
       near = omega (arith, fib, next);
     }
 
--- ---- what is left goes past a FIB
+-- ---- the remaining entries go past a FIB
 head_is : (m e : Marked) (xs ys rest : List Marked) → xs ≡ e ∷ ys → xs ≡ m ∷ rest → e ≡ m
 head_is m e xs ys rest h k = ap (λ zs. get_or zs 0 m) (sym h ∙ k)
 
--- the entry there does
-pub past_entry : (mode : Mode) (ms : List Marked) (n : ℕ) (c : Position) (q : PackState) → Passed mode ms c.index c.state q → n < q.fib → GoesPast mode ms n c
+-- because the next one does
+pub past_entry : (mode : Mode) (ms : List Marked) (n : ℕ) (c : Position) (q : PackState) → Passed mode ms c.index c.state q → n < q.fib → NextIsAfter mode ms n c
 past_entry mode ms n c q s over m rest h =
     let same : s.entry ≡ m = head_is m s.entry (drop c.index ms) (drop (c.index + 1) ms) rest s.row h in
     subst (λ (e : Marked). n < (placed mode e c.state).fib) same (subst (λ (r : PackState). n < r.fib) s.next over)
 
--- none is left
-pub past_end : (mode : Mode) (ms : List Marked) (n : ℕ) (c : Position) → length ms ≤ c.index → GoesPast mode ms n c
+-- because none is left
+pub past_end : (mode : Mode) (ms : List Marked) (n : ℕ) (c : Position) → length ms ≤ c.index → NextIsAfter mode ms n c
 past_end mode ms n c end m rest h =
     let none : 0 ≡ suc (length rest) = ap length (sym (drop_all c.index ms end) ∙ h) in
     absurd (omega (arith, none))
 
--- the room is too small for the shortest entry
+-- because the room is too small for the shortest entry
 pub shortest : (m : Marked) → IsSendable m → 3 ≤ size_of m
 shortest m s = by m.entry s.organization
   where
@@ -110,7 +110,7 @@ each_left P [] (suc i) h = tt
 each_left P (m ∷ ms) zero h = h
 each_left P (m ∷ ms) (suc i) h = each_left P ms i h.1
 
-pub past_full : (mode : Mode) (ms : List Marked) (n : ℕ) (c : Position) → AreSendable ms → c.state.fib ≡ n → room mode n < c.state.used + 3 → GoesPast mode ms n c
+pub past_full : (mode : Mode) (ms : List Marked) (n : ℕ) (c : Position) → AreSendable ms → c.state.fib ≡ n → room mode n < c.state.used + 3 → NextIsAfter mode ms n c
 past_full mode ms n c sendable here full m rest h =
     let left : AreSendable (m ∷ rest) = subst (λ (xs : List Marked). AreSendable xs) h (each_left IsSendable ms c.index sendable) in
     let long : 3 ≤ size_of m = shortest m left.0 in
@@ -120,7 +120,7 @@ past_full mode ms n c sendable here full m rest h =
       | inr s ↦ omega (arith, ap (λ (q : PackState). q.fib) s.is, s.above, here)
     ]
 
--- ---- a closed state places them alike
+-- ---- a closed state places later entries the same way
 placed_closed : (mode : Mode) (m : Marked) (p : PackState) (n : ℕ) → p.fib ≤ n → n < (placed mode m p).fib → placed mode m (closed p) ≡ placed mode m p
 placed_closed mode m p n low past =
     elim (placed_cases mode m p) [
@@ -135,12 +135,12 @@ numbers_closed : (mode : Mode) (p : PackState) (n : ℕ) (es : List Marked) → 
 numbers_closed mode p n [] low past = refl
 numbers_closed mode p n (e ∷ es) low past = ap (λ (q : PackState). q.fib ∷ numbers_from mode q es) (placed_closed mode e p n low (past e es refl))
 
-pub closed_stands : (mode : Mode) (ms : List Marked) (n : ℕ) (c d : Position) → d ≡ record { index = c.index; state = closed c.state } → StandsBefore mode ms (n + 1) c → HasPassed mode ms n c → GoesPast mode ms n c
-    → StandsBefore mode ms (n + 1) d
+pub closed_stands : (mode : Mode) (ms : List Marked) (n : ℕ) (c d : Position) → d ≡ record { index = c.index; state = closed c.state } → IsAtFib mode ms (n + 1) c → HasPassed mode ms n c → NextIsAfter mode ms n c
+    → IsAtFib mode ms (n + 1) d
 closed_stands mode ms n c d is s passed past =
     let same = numbers_closed mode c.state n (drop c.index ms) passed.fib past in
     let e : Position = record { index = c.index; state = closed c.state } in
-    let stands : StandsBefore mode ms (n + 1) e = record {
+    let stands : IsAtFib mode ms (n + 1) e = record {
       index = s.index;
       used = omega arith;
       fib = s.fib;
@@ -148,7 +148,7 @@ closed_stands mode ms n c d is s passed past =
       rest = λ m le. ap (λ ns. entries_in_fib m (drop c.index ms) ns) same ∙ s.rest m le;
       last = ap (last_number c.state.fib) same ∙ s.last;
     } in
-    subst (λ (p : Position). StandsBefore mode ms (n + 1) p) (sym is) stands
+    subst (λ (p : Position). IsAtFib mode ms (n + 1) p) (sym is) stands
 
 pub closed_passed : (mode : Mode) (ms : List Marked) (n : ℕ) (c d : Position) → d ≡ record { index = c.index; state = closed c.state } → HasPassed mode ms n c → HasPassed mode ms n d
 closed_passed mode ms n c d is h =
@@ -156,7 +156,7 @@ closed_passed mode ms n c d is h =
     let passed : HasPassed mode ms n e = record { fib = h.fib; left = h.left } in
     subst (λ (p : Position). HasPassed mode ms n p) (sym is) passed
 
--- ---- what is left, where it goes past a FIB
+-- ---- the remaining entries, if they go past a FIB
 none_past : (mode : Mode) (n : ℕ) (p : PackState) (es : List Marked) → ((m : Marked) (rest : List Marked) → es ≡ m ∷ rest → n < (placed mode m p).fib) → entries_in_fib n es (numbers_from mode p es) ≡ []
 none_past mode n p [] past = refl
 none_past mode n p (e ∷ es) past =
@@ -175,11 +175,11 @@ some_left mode n p (e ∷ es) top past last =
     let above : q.fib ≤ last_number q.fib (numbers_from mode q es) = last_rises q.fib (numbers_from mode q es) (numbers_rise mode q es q.fib (omega arith)) in
     inr (omega (arith, above, over, is))
 
-pub walked_past : (mode : Mode) (ms : List Marked) (n from : ℕ) (c : Position) → GoesPast mode ms n c → Walked mode ms n from c → take (c.index - from) (drop from ms) ≡ fib_entries mode n ms
+pub walked_past : (mode : Mode) (ms : List Marked) (n from : ℕ) (c : Position) → NextIsAfter mode ms n c → Walked mode ms n from c → take (c.index - from) (drop from ms) ≡ fib_entries mode n ms
 walked_past mode ms n from c past w =
     nothing_behind (take (c.index - from) (drop from ms)) (rest_in mode n ms c.index c.state) (fib_entries mode n ms) (none_past mode n c.state (drop c.index ms) past) w.here
 
-pub passed_past : (mode : Mode) (ms : List Marked) (n from : ℕ) (c : Position) → GoesPast mode ms n c → Walked mode ms n from c → HasPassed mode ms n c
+pub passed_past : (mode : Mode) (ms : List Marked) (n from : ℕ) (c : Position) → NextIsAfter mode ms n c → Walked mode ms n from c → HasPassed mode ms n c
 passed_past mode ms n from c past w = record {
   fib = w.low;
   left =

@@ -6,11 +6,11 @@ use Rattle.byteorder.specs.Endian.{big_bytes}
 use Rattle.mux_types.specs.declared.parts.Component.{Component}
 use Rattle.mux_entries.specs.declared.entry.ComponentEntry.{ComponentEntry}
 use Rattle.mux_entries.specs.Facts.{component_entry, component_entries}
-use Rattle.fib_codec.specs.Spelling.{component_word, components_bytes}
+use Rattle.fib_codec.specs.Spelling.{component_u16, components_bytes}
 use Rattle.fib_carousel.proofs.Sendable.{length-component_entries}
 use Rattle.fib_codec.proofs.Lengths.{components_len, flat_map-append}
 
--- one more component behind those before it
+-- one more component after the previous ones
 entries_more : (cs : List Component) (i : ℕ) (d : Component) → i < length cs
     → component_entries (take (i + 1) cs) ≡ component_entries (take i cs) ++ component_entry (i == 0) (get_or cs i d) ∷ []
 entries_more [] i d h = absurd (omega (arith, h))
@@ -23,17 +23,17 @@ entries_more (c ∷ cs) (suc i) d h =
     ∙ ap (λ b. component_entries (take (suc i) (c ∷ cs)) ++ component_entry b (get_or cs i d) ∷ []) (sym (ne_eqb (suc i) 0 (λ q. omega (arith, q))))
 
 pub bytes_more : (old now after : List ℕ) (cs : List Component) (i : ℕ) (d : Component) (entry : ComponentEntry) → i < length cs → d ≡ get_or cs i d
-    → entry ≡ component_entry (i == 0) d → now ≡ old ++ components_bytes (component_entries (take i cs)) → after ≡ now ++ big_bytes 2 (component_word entry)
+    → entry ≡ component_entry (i == 0) d → now ≡ old ++ components_bytes (component_entries (take i cs)) → after ≡ now ++ big_bytes 2 (component_u16 entry)
     → after ≡ old ++ components_bytes (component_entries (take (i + 1) cs))
 bytes_more old now after cs i d entry lt there is before written =
-    let Word : ComponentEntry → List ℕ = λ e. big_bytes 2 (component_word e) in
+    let Lexeme : ComponentEntry → List ℕ = λ e. big_bytes 2 (component_u16 e) in
     let so_far : List ComponentEntry = component_entries (take i cs) in
     let same : entry ≡ component_entry (i == 0) (get_or cs i d) = is ∙ ap (component_entry (i == 0)) there in
     written
-    ∙ ap (λ xs. xs ++ Word entry) before
-    ∙ append_assoc old (components_bytes so_far) (Word entry)
-    ∙ ap (λ t. old ++ (components_bytes so_far ++ t)) (sym (append-nil (Word entry)))
-    ∙ ap (λ t. old ++ t) (sym (flat_map-append Word so_far (entry ∷ [])))
+    ∙ ap (λ xs. xs ++ Lexeme entry) before
+    ∙ append_assoc old (components_bytes so_far) (Lexeme entry)
+    ∙ ap (λ t. old ++ (components_bytes so_far ++ t)) (sym (append-nil (Lexeme entry)))
+    ∙ ap (λ t. old ++ t) (sym (flat_map-append Lexeme so_far (entry ∷ [])))
     ∙ ap (λ (e : ComponentEntry). old ++ components_bytes (so_far ++ e ∷ [])) same
     ∙ ap (λ es. old ++ components_bytes es) (sym (entries_more cs i d lt))
 

@@ -15,13 +15,13 @@ use Rattle.fib_carousel.specs.declared.pack_state.Position.{Position}
 use Rattle.fib_carousel.specs.declared.page_writer.OpenFig.{OpenFig}
 use Rattle.fib_carousel.specs.Packing.{same_head, size_of, figs_size}
 use Rattle.fib_carousel.specs.Pages.{fib_entries}
-use Rattle.fib_carousel.specs.Bytes.{joined, figs_of}
-use Rattle.fib_carousel.specs.Walk.{IsShapeAt, StandsBefore}
+use Rattle.fib_carousel.specs.Bytes.{with_entry_first, figs_of}
+use Rattle.fib_carousel.specs.Walk.{IsShapeAt, IsAtFib}
 use Rattle.fib_carousel.specs.Filling.{Begins, Lengthens, GrowsBy, Grows, FitsBy, TakesEntry}
 use Rattle.fib_carousel.proofs.Sharing.{same_head_is, figs_cost, written_of}
 use Rattle.fib_carousel.proofs.Walk.{Passed, Walked, walked_start, walked_before, passed_above, rest_in, rest_takes}
 
--- one entry more at the end of those of some FIGs
+-- FIGs with one more entry at the end
 abbrev pub added : List Written → Marked → List Written
 added [] m = written_of (head_of m) (m.entry ∷ []) ∷ []
 added (f ∷ []) m =
@@ -29,10 +29,10 @@ added (f ∷ []) m =
     else f ∷ written_of (head_of m) (m.entry ∷ []) ∷ []
 added (f ∷ (g ∷ fs)) m = f ∷ added (g ∷ fs) m
 
-joined_added : (x m : Marked) (fs : List Written) → joined x (added fs m) ≡ added (joined x fs) m
+joined_added : (x m : Marked) (fs : List Written) → with_entry_first x (added fs m) ≡ added (with_entry_first x fs) m
 joined_added x m [] = by (same_head (head_of x) (head_of m)) refl
   where
-    by : (b : Bool) → same_head (head_of x) (head_of m) ≡ b → joined x (added [] m) ≡ added (joined x []) m
+    by : (b : Bool) → same_head (head_of x) (head_of m) ≡ b → with_entry_first x (added [] m) ≡ added (with_entry_first x []) m
     by true e =
         let whole : written_of (head_of m) (x.entry ∷ m.entry ∷ []) ∷ [] ≡ written_of (head_of x) (x.entry ∷ m.entry ∷ []) ∷ [] =
         ap (λ (h : Head). written_of h (x.entry ∷ m.entry ∷ []) ∷ []) (sym (same_head_is (head_of x) (head_of m) e)) in
@@ -40,20 +40,20 @@ joined_added x m [] = by (same_head (head_of x) (head_of m)) refl
     by false e = rw e refl
 joined_added x m (f ∷ []) = by (same_head (head_of x) f.head) (same_head f.head (head_of m)) refl refl
   where
-    by : (a b : Bool) → same_head (head_of x) f.head ≡ a → same_head f.head (head_of m) ≡ b → joined x (added (f ∷ []) m) ≡ added (joined x (f ∷ [])) m
+    by : (a b : Bool) → same_head (head_of x) f.head ≡ a → same_head f.head (head_of m) ≡ b → with_entry_first x (added (f ∷ []) m) ≡ added (with_entry_first x (f ∷ [])) m
     by true true d e = rw (d, e) (rw d refl)
     by true false d e = rw (d, e) (rw d refl)
     by false true d e = rw (d, e) (rw d refl)
     by false false d e = rw (d, e) (rw d refl)
 joined_added x m (f ∷ (g ∷ fs)) = by (same_head (head_of x) f.head) refl
   where
-    by : (a : Bool) → same_head (head_of x) f.head ≡ a → joined x (added (f ∷ (g ∷ fs)) m) ≡ added (joined x (f ∷ (g ∷ fs))) m
+    by : (a : Bool) → same_head (head_of x) f.head ≡ a → with_entry_first x (added (f ∷ (g ∷ fs)) m) ≡ added (with_entry_first x (f ∷ (g ∷ fs))) m
     by true d = rw d refl
     by false d = rw d refl
 
 pub figs_added : (ms : List Marked) (m : Marked) → figs_of (ms ++ m ∷ []) ≡ added (figs_of ms) m
 figs_added [] m = refl
-figs_added (x ∷ ms) m = ap (λ fs. joined x fs) (figs_added ms m) ∙ joined_added x m (figs_of ms)
+figs_added (x ∷ ms) m = ap (λ fs. with_entry_first x fs) (figs_added ms m) ∙ joined_added x m (figs_of ms)
 
 pub added_same : (fs : List Written) (f : Written) (m : Marked) → same_head f.head (head_of m) ≡ true → added (fs ++ f ∷ []) m ≡ fs ++ written_of f.head (f.entries ++ m.entry ∷ []) ∷ []
 added_same [] f m e = rw e refl
@@ -65,7 +65,7 @@ added_other [] f m e = rw e refl
 added_other (g ∷ []) f m e = ap (λ t. g ∷ t) (added_other [] f m e)
 added_other (g ∷ (h ∷ fs)) f m e = ap (λ t. g ∷ t) (added_other (h ∷ fs) f m e)
 
--- the bytes of a FIG behind others, and of one entry in a FIG
+-- the bytes of a FIG after others, and of one entry in a FIG
 pub figs_bytes_last : (fs : List Written) (f : Written) → figs_bytes (fs ++ f ∷ []) ≡ figs_bytes fs ++ fig_bytes f.head f.entries
 figs_bytes_last fs f =
     flat_map-append (λ (g : Written). fig_bytes g.head g.entries) fs (f ∷ [])
@@ -79,7 +79,7 @@ one_fig h e =
 more_entries : (es : List Entry) (e : Entry) → entries_bytes (es ++ e ∷ []) ≡ entries_bytes es ++ entry_bytes e
 more_entries es e = flat_map-append entry_bytes es (e ∷ []) ∙ ap (λ t. entries_bytes es ++ t) (append-nil (entry_bytes e))
 
--- the last of the FIGs of these entries has this head, and its first byte stands at this place
+-- the last of the FIGs of these entries has this head, and its first byte is at this offset
 pub record IsLast (old : List ℕ) (here : List Marked) (fig : OpenFig) : Type 0 where
   pub before : List Written
   pub entries : List Entry
@@ -90,7 +90,7 @@ abbrev pub HasLast : List ℕ → List Marked → Option OpenFig → Type 0
 HasLast old here None = here ≡ []
 HasLast old here (Some fig) = IsLast old here fig
 
--- behind the bytes of old stand the FIGs of these entries
+-- the bytes of old, followed by the FIGs of these entries
 pub record IsFilled (old : List ℕ) (here : List Marked) (last : Option OpenFig) (bytes : List ℕ) : Type 0 where
   pub is : bytes ≡ old ++ figs_bytes (figs_of here)
   pub end : HasLast old here last
@@ -150,7 +150,7 @@ begun_on old bytes mid after here m s fig is a headed sized b put =
       };
     }
 
--- ---- an entry that makes the last FIG longer
+-- ---- an entry that lengthens the last FIG
 pub record Joins (old : List ℕ) (here : List Marked) (m : Marked) (fig : OpenFig) (bytes : List ℕ) : Type 0 where
   pub before : List Written
   pub entries : List Entry
@@ -171,7 +171,7 @@ joins old bytes here m fig is last same = record {
       ∙ sym (append_assoc old (figs_bytes last.before) (fig_bytes fig.head last.entries));
 }
 
--- what the FIG's first byte says, and the FIG with another one
+-- the value of the FIG's first byte, and the bytes with another value there
 joins_byte : (old bytes : List ℕ) (here : List Marked) (m : Marked) (fig : OpenFig) (j : Joins old here m fig bytes) → slice_index_or bytes fig.place 0 ≡ 1 + length (entries_bytes j.entries)
 joins_byte old bytes here m fig j =
     let front = old ++ figs_bytes j.before in
@@ -187,7 +187,7 @@ joins_set old bytes here m fig byte j =
     ∙ ap (λ n. slice_set (front ++ fig_bytes fig.head j.entries) n byte) j.place
     ∙ set-append_seam front (1 + length (entries_bytes j.entries)) (head_byte fig.head ∷ entries_bytes j.entries) byte
 
--- the room that there is
+-- the room for the entry
 pub record JoinsRoom (bytes : List ℕ) (fig : OpenFig) (size : ℕ) : Type 0 where
   pub place : fig.place < length bytes
   pub byte : slice_index_or bytes fig.place 0 + size ≤ 255
@@ -251,7 +251,7 @@ fits_next old bytes here m s (Some f) h headed sized room = by (same_head f.head
         (r.place, r.byte)
     by false e = apart_room old bytes here m s.size h.is (apart_other old here m f h.end (same_as f s m false headed e)) sized room
 
--- what stands in the FIB then, and that there is room for the entry itself
+-- the FIB afterwards, with room for the entry itself
 pub record Put (old mid : List ℕ) (here : List Marked) (m : Marked) (fig : OpenFig) : Type 0 where
   pub room : length mid + size_of m ≤ 30
   pub filled : (after : List ℕ) → after ≡ mid ++ entry_bytes m.entry → IsFilled old (here ++ m ∷ []) (Some fig) after
@@ -285,13 +285,13 @@ put_next old bytes mid here m s (Some f) fig h headed sized room g = by (same_he
     by true e g = put_joined old bytes mid here m s f fig (joins old bytes here m f h.is h.end (same_as f s m true headed e)) sized room g
     by false e g = put_begun old bytes mid here m s fig h.is (apart_other old here m f h.end (same_as f s m false headed e)) headed sized room g
 
--- ---- the loop: the entries of FIB n as far as they were walked
+-- ---- the loop: the entries of FIB n so far
 pub record FilledTo (mode : Mode) (ms : List Marked) (n : ℕ) (old : List ℕ) (c : Position) (last : Option OpenFig) (bytes : List ℕ) : Type 0 where
   pub from : ℕ
   pub walked : Walked mode ms n from c
   pub filled : IsFilled old (take (c.index - from) (drop from ms)) last bytes
 
-pub filled_start : (mode : Mode) (ms : List Marked) (n : ℕ) (bytes : List ℕ) (c : Position) → StandsBefore mode ms n c → FilledTo mode ms n bytes c None bytes
+pub filled_start : (mode : Mode) (ms : List Marked) (n : ℕ) (bytes : List ℕ) (c : Position) → IsAtFib mode ms n c → FilledTo mode ms n bytes c None bytes
 filled_start mode ms n bytes c s =
     let none : c.index - c.index ≡ 0 = omega arith in
     let nothing : take (c.index - c.index) (drop c.index ms) ≡ [] = ap (λ k. take k (drop c.index ms)) none in
@@ -301,7 +301,7 @@ filled_start mode ms n bytes c s =
       filled = record { is = sym (append-nil bytes) ∙ ap (λ xs. bytes ++ figs_bytes (figs_of xs)) (sym nothing); end = nothing };
     }
 
--- a step into a FIB before
+-- a step into an earlier FIB
 pub filled_before : (mode : Mode) (ms : List Marked) (n : ℕ) (old bytes : List ℕ) (c d : Position) (last : Option OpenFig) → Passed mode ms c.index c.state d.state → d.index ≡ c.index + 1 → d.state.fib < n
     → d.state.used ≤ 30 → d.state.fib ≤ c.state.fib + 2 → c.index < length ms → FilledTo mode ms n old c last bytes → FilledTo mode ms n old d last bytes
 filled_before mode ms n old bytes c d last s at before used near inside w =
@@ -316,7 +316,7 @@ filled_before mode ms n old bytes c d last s at before used near inside w =
       filled = subst (λ (xs : List Marked). IsFilled old xs last bytes) same w.filled;
     }
 
--- a step into this one
+-- a step into this FIB
 pub figs_size_part : (h : Option Head) (xs ys : List Marked) → figs_size h xs ≤ figs_size h (xs ++ ys)
 figs_size_part h [] ys = omega arith
 figs_size_part h (x ∷ xs) ys = omega (arith, figs_size_part (Some (head_of x)) xs ys)
@@ -335,7 +335,7 @@ room_next mode ms n from top c q s into w room =
 pub same_there : (ms : List Marked) (i : ℕ) (a b : Marked) → slice_get ms i ≡ Some a → slice_get ms i ≡ Some b → a ≡ b
 same_there ms i a b h k = sym (get_or_from_slice_get ms i a a h) ∙ get_or_from_slice_get ms i b a k
 
--- what the walk knows of a step into FIB n
+-- what is known of a step into FIB n
 pub record Entered (mode : Mode) (ms : List Marked) (n : ℕ) (old : List ℕ) (c d : Position) : Type 0 where
   pub step : Passed mode ms c.index c.state d.state
   pub at : d.index ≡ c.index + 1

@@ -1,4 +1,4 @@
--- A page that is kept, with FIG 0/0 before the FIGs of its first FIB.
+-- A kept page with FIG 0/0 before the FIGs of its first FIB.
 use Rattle.std.proofs.Common.{◌≡◌, ℕ, ◌+◌, ◌-◌, ◌<◌, ◌≤◌, List, [], ◌∷◌, ◌++◌, suc, length, take, drop, map, flat_map, replicate, Some, None, refl, sym, ◌∙◌, ap, inl, inr, arith, append_assoc, lt-ltb, le-ltb, false}
 use Rattle.std.proofs.lemmas.Bool.{cases_lt}
 use Rattle.std.proofs.lemmas.Grind.{flat_map-append}
@@ -23,7 +23,7 @@ use Rattle.fib_carousel.proofs.Sent.{fib_fits}
 use Rattle.fib_carousel.proofs.Hearing.{ensemble_low, length-fib_bytes, page_fits}
 use Rattle.fib_carousel.proofs.Widths.{first_of_page}
 
--- bytes before others: what fills the others up fills both up, but for its end
+-- bytes before others: the padding of the others, cut off at the end, pads both
 filled_part : (xs : List ℕ) → length xs < 30 → filled xs ≡ xs ++ 255 ∷ replicate (29 - length xs) 0
 filled_part xs h = rw (lt-ltb (length xs) 30 h) refl
 
@@ -65,7 +65,7 @@ fig_front figs len h few =
     let front : take len (filled figs) ≡ figs = ap (λ t. take len t) part ∙ take_at figs (255 ∷ replicate (29 - length figs) 0) len (sym h) in
     take-append-le len (filled figs) _ (omega (arith, length-filled figs (omega (arith, h, few)), few)) ∙ front
 
--- the first FIB of a page that is kept, with FIG 0/0
+-- the first FIB of a kept page, with FIG 0/0
 pub with_fig : (e : EnsembleInformation) (figs : List Written) (first : List ℕ) → first ≡ fib_bytes figs → length (figs_bytes figs) ≤ 23
     → checked (figs_bytes (ensemble_figs (Some e)) ++ take (30 - length (figs_bytes (ensemble_figs (Some e)))) first) ≡ fib_bytes (ensemble_figs (Some e) ++ figs)
 with_fig e figs first is short =

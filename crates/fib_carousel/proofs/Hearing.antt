@@ -1,4 +1,4 @@
--- What stands in the bytes of a page.
+-- What a receiver decodes from the bytes of a page.
 use Rattle.std.proofs.Common.{◌≡◌, ℕ, ◌+◌, ◌*◌, ◌≤◌, ◌==◌, ◌↔◌, Bool, true, false, List, [], ◌∷◌, ◌++◌, zero, suc, length, take, drop, map, flat_map, Option, Some, None, IfSome, IsSome, Contains, ◌%◌, ◌/◌, refl, sym, ◌∙◌, ap, subst, inl, inr, ◌⊎◌, if◌then◌else◌, arith, append_assoc, ◌-◌}
 use Rattle.fib_codec.specs.declared.modes.Mode.{Mode}
 use Rattle.std.proofs.lemmas.List.{length-append, take_at, drop_at, drop_all, drop-drop}
@@ -22,7 +22,7 @@ use Rattle.fib_codec.specs.Modes.{fib_count}
 use Rattle.fib_carousel.proofs.Widths.{some_fibs, first_of_page}
 use Rattle.std.proofs.lemmas.List.{length-map}
 use Rattle.std.proofs.lemmas.List.FromFn.{length-range_with_len}
-use Rattle.fib_carousel.specs.Bytes.{joined, figs_of, ensemble_figs, page_figs, page_bytes, figs_by, AreFibs}
+use Rattle.fib_carousel.specs.Bytes.{with_entry_first, figs_of, ensemble_figs, page_figs, page_bytes, figs_by, AreFibs}
 use Rattle.fib_carousel.specs.Carried.{IsSendable, AreSendable}
 use Rattle.fib_carousel.specs.Carried.{IsPageable}
 use Rattle.fib_carousel.proofs.Least.{of_packing}
@@ -31,12 +31,12 @@ use Rattle.fib_carousel.proofs.Sharing.{same_head_is, figs_cost, written_of}
 use Rattle.fib_carousel.proofs.Sendable.{each_append, sendable_page_set}
 use Rattle.fib_carousel.proofs.Sent.{written_figs, fib_fits, fib_room}
 
--- the FIGs of marked entries say just these entries
-joined_says : (m : Marked) (fs : List Written) → AllByRecursion IsOurs fs → marked_of (joined m fs) ≡ m ∷ marked_of fs
+-- the FIGs of entries contain exactly these entries
+joined_says : (m : Marked) (fs : List Written) → AllByRecursion IsOurs fs → marked_of (with_entry_first m fs) ≡ m ∷ marked_of fs
 joined_says m [] ours = refl
 joined_says m (f ∷ fs) ours = by (same_head (head_of m) f.head) refl
   where
-    by : (b : Bool) → same_head (head_of m) f.head ≡ b → marked_of (joined m (f ∷ fs)) ≡ m ∷ marked_of (f ∷ fs)
+    by : (b : Bool) → same_head (head_of m) f.head ≡ b → marked_of (with_entry_first m (f ∷ fs)) ≡ m ∷ marked_of (f ∷ fs)
     by true e =
         let same : head_of m ≡ f.head = same_head_is (head_of m) f.head e in
         let next : f.head.next ≡ m.next = ap (λ (g : Head). g.next) (sym same) in
@@ -47,11 +47,11 @@ joined_says m (f ∷ fs) ours = by (same_head (head_of m) f.head) refl
         let whole : marked_of (written_of (head_of m) (m.entry ∷ []) ∷ f ∷ fs) ≡ m ∷ marked_of (f ∷ fs) = refl in
         rw e whole
 
-ours_joined : (m : Marked) (fs : List Written) → AllByRecursion IsOurs fs → AllByRecursion IsOurs (joined m fs)
+ours_joined : (m : Marked) (fs : List Written) → AllByRecursion IsOurs fs → AllByRecursion IsOurs (with_entry_first m fs)
 ours_joined m [] ours = (refl, tt)
 ours_joined m (f ∷ fs) ours = by (same_head (head_of m) f.head) refl
   where
-    by : (b : Bool) → same_head (head_of m) f.head ≡ b → AllByRecursion IsOurs (joined m (f ∷ fs))
+    by : (b : Bool) → same_head (head_of m) f.head ≡ b → AllByRecursion IsOurs (with_entry_first m (f ∷ fs))
     by true e = let all : AllByRecursion IsOurs (written_of f.head (m.entry ∷ f.entries) ∷ fs) = (ours.0, ours.1) in rw e all
     by false e = let all : AllByRecursion IsOurs (written_of (head_of m) (m.entry ∷ []) ∷ f ∷ fs) = (refl, ours) in rw e all
 
@@ -63,7 +63,7 @@ figs_say : (ms : List Marked) → marked_of (figs_of ms) ≡ ms
 figs_say [] = refl
 figs_say (m ∷ ms) = joined_says m (figs_of ms) (ours_figs ms) ∙ ap (λ xs. m ∷ xs) (figs_say ms)
 
--- entries that are picked can be sent as they could before
+-- a selection of sendable entries is sendable
 pub sendable_where : (test : ℕ → Bool) (ms : List Marked) (ns : List ℕ) → AreSendable ms → AreSendable (entries_where test ms ns)
 sendable_where test [] ns h = tt
 sendable_where test (m ∷ ms) [] h = tt
@@ -73,7 +73,7 @@ sendable_where test (m ∷ ms) (n ∷ ns) h = by (test n) (sendable_where test m
     by true again = (h.0, again)
     by false again = again
 
--- FIG 0/0 where it is given
+-- FIG 0/0, if given
 ensemble_written : (o : Option EnsembleInformation) → IfSome o IsEnsembleInformation → AllByRecursion IsWritten (ensemble_figs o)
 ensemble_written None h = tt
 ensemble_written (Some e) h = (record { formed = record { some = omega arith; under = (refl, tt); alone = λ z. refl }; within = (h, tt) }, tt)
@@ -160,11 +160,11 @@ pages_are_valid mode o k ms h = (
   length-fibs (page_figs mode o k ms) (page_fits mode o k ms h) ∙ ap (λ n. 32 * n) (length-page_figs mode o k ms),
 )
 
--- what stands in a FIB that holds such FIGs
+-- the entries in a FIB with such FIGs
 fib_says : (figs : List Written) (m : Marked) → Fits figs → IsInFib (fib_bytes figs) m ↔ Contains (marked_of figs) m
 fib_says figs m f = heard_is_written (fib_bytes figs) figs f.written (fib_is figs f.written f.short) m
 
--- no bytes hold nothing
+-- there is no entry in no bytes
 front_empty : (xs ys : List ℕ) → [] ≡ xs ++ ys → xs ≡ []
 front_empty [] ys h = refl
 front_empty (x ∷ xs) ys h = cc
@@ -180,7 +180,7 @@ nothing_said m (figs, fig, fib, in_list, said) = by figs in_list fib.1
     by [] inside are = omega (arith, inside.1)
     by (f ∷ fs) inside are = no_fig f (subst (λ (front : List ℕ). IsFig front f) (front_empty are.0 are.1 are.2) are.3)
 
--- what stands in some FIB of a row is what their FIGs say
+-- the entries in a sequence of FIBs are those of their FIGs
 fib_front : (figs : List Written) (rest : List ℕ) → Fits figs → fib_at (fib_bytes figs ++ rest) 0 ≡ fib_bytes figs
 fib_front figs rest f = take_at (fib_bytes figs) rest 32 (length-fib_bytes figs f)
 
@@ -191,8 +191,8 @@ fib_later figs rest place f =
     ∙ ap (λ xs. take 32 xs) (sym (drop-drop (32 * place) 32 (fib_bytes figs ++ rest)))
     ∙ ap (λ xs. take 32 (drop (32 * place) xs)) (drop_at (fib_bytes figs) rest 32 (length-fib_bytes figs f))
 
-abbrev StandsIn : List ℕ → Marked → Type 0
-StandsIn bytes m = (place : ℕ) × IsInFib (fib_at bytes place) m
+abbrev IsSentIn : List ℕ → Marked → Type 0
+IsSentIn bytes m = (place : ℕ) × IsInFib (fib_at bytes place) m
 
 row_heard : (all : List (List Written)) (m : Marked) → AllByRecursion Fits all → (place : ℕ) → IsInFib (fib_at (flat_map fib_bytes all) place) m → Contains (flat_map marked_of all) m
 row_heard [] m f place h = absurd (nothing_said m (subst (λ (bytes : List ℕ). IsInFib bytes m) (ap (λ xs. take 32 xs) (drop_all (32 * place) [] (omega arith))) h))
@@ -203,17 +203,17 @@ row_heard (figs ∷ rest) m f (suc place) h =
     Contains-append_right (marked_of figs) (flat_map marked_of rest) m
     (row_heard rest m f.1 place (subst (λ (bytes : List ℕ). IsInFib bytes m) (fib_later figs (flat_map fib_bytes rest) place f.0) h))
 
-row_sent : (all : List (List Written)) (m : Marked) → AllByRecursion Fits all → Contains (flat_map marked_of all) m → StandsIn (flat_map fib_bytes all) m
+row_sent : (all : List (List Written)) (m : Marked) → AllByRecursion Fits all → Contains (flat_map marked_of all) m → IsSentIn (flat_map fib_bytes all) m
 row_sent [] m f h = absurd (omega (arith, h.1))
 row_sent (figs ∷ rest) m f h =
     elim (Contains-append_cases (marked_of figs) (flat_map marked_of rest) m h) [
       | inl here ↦ (0, subst (λ (bytes : List ℕ). IsInFib bytes m) (sym (fib_front figs (flat_map fib_bytes rest) f.0)) ((fib_says figs m f.0).1 here))
       | inr later ↦
-          let found : StandsIn (flat_map fib_bytes rest) m = row_sent rest m f.1 later in
+          let found : IsSentIn (flat_map fib_bytes rest) m = row_sent rest m f.1 later in
           (suc found.0, subst (λ (bytes : List ℕ). IsInFib bytes m) (sym (fib_later figs (flat_map fib_bytes rest) found.0 f.0)) found.1)
     ]
 
--- the FIGs of a page say the ensemble information given and the entries of the page
+-- the FIGs of a page contain the ensemble information given and the entries of the page
 abbrev ensemble_marked : Option EnsembleInformation → List Marked
 ensemble_marked None = []
 ensemble_marked (Some e) = marked false (EnsembleOf e) ∷ []
@@ -237,12 +237,12 @@ page_says mode o k ms =
     ∙ append_assoc (ensemble_marked o) first later
     ∙ ap (λ xs. ensemble_marked o ++ xs) (sym (page_is_fibs mode ms k))
 
-in_page : (mode : Mode) (o : Option EnsembleInformation) (k : ℕ) (ms : List Marked) (m : Marked) → IsPageable o ms → StandsIn (page_bytes mode o k ms) m → Contains (ensemble_marked o) m ⊎ Contains (page_entries mode k ms) m
+in_page : (mode : Mode) (o : Option EnsembleInformation) (k : ℕ) (ms : List Marked) (m : Marked) → IsPageable o ms → IsSentIn (page_bytes mode o k ms) m → Contains (ensemble_marked o) m ⊎ Contains (page_entries mode k ms) m
 in_page mode o k ms m h (place, inside) =
     Contains-append_cases (ensemble_marked o) (page_entries mode k ms) m
     (subst (λ (xs : List Marked). Contains xs m) (page_says mode o k ms) (row_heard (page_figs mode o k ms) m (page_fits mode o k ms h) place inside))
 
-of_page : (mode : Mode) (o : Option EnsembleInformation) (k : ℕ) (ms : List Marked) (m : Marked) → IsPageable o ms → Contains (ensemble_marked o ++ page_entries mode k ms) m → StandsIn (page_bytes mode o k ms) m
+of_page : (mode : Mode) (o : Option EnsembleInformation) (k : ℕ) (ms : List Marked) (m : Marked) → IsPageable o ms → Contains (ensemble_marked o ++ page_entries mode k ms) m → IsSentIn (page_bytes mode o k ms) m
 of_page mode o k ms m h inside =
     row_sent (page_figs mode o k ms) m (page_fits mode o k ms h) (subst (λ (xs : List Marked). Contains xs m) (sym (page_says mode o k ms)) inside)
 
@@ -301,7 +301,7 @@ ensemble_is_heard mode o k ms h next e = (
 pub page_sets_are_pageable : (c : Configuration) (n : Option Configuration) (o : Option EnsembleInformation) → IsConfiguration c → IfSome n IsConfiguration → IfSome o IsEnsembleInformation → IsPageable o (page_set c n)
 page_sets_are_pageable c n o h next e = record { entries = sendable_page_set c n h next; ensemble_within = e }
 
--- the bytes of a page, whose entries are known by another name
+-- the bytes of a page, if its entries are given by an equal list
 pub valid_page : (mode : Mode) (o : Option EnsembleInformation) (k : ℕ) (ms known : List Marked) (bytes : List ℕ) → known ≡ ms → IsPageable o known → bytes ≡ page_bytes mode o k known → AreFibs (page_figs mode o k ms) bytes
 valid_page mode o k ms known bytes e h b =
     subst (λ (xs : List Marked). AreFibs (page_figs mode o k xs) bytes) e

@@ -1,5 +1,4 @@
--- The greedy rule: each step stays in its FIB or goes to the next that has room, and never runs ahead of
--- any other division.
+-- The greedy rule: each step stays in its FIB or goes to the next with room, and is never ahead of another division.
 use Rattle.std.proofs.Common.{◌≡◌, ℕ, ◌+◌, ◌%◌, ◌<◌, ◌≤◌, true, false, List, [], ◌∷◌, zero, suc, length, slice_index, Option, Some, None, refl, sym, ◌∙◌, ap, subst, inl, inr, ◌⊎◌, if◌then◌else◌, arith, eq-eqb}
 use Rattle.fib_codec.specs.declared.modes.Mode.{Mode}
 use Rattle.std.proofs.lemmas.Bool.{ne_eqb, cases_lt, le-leb, lt-leb}
@@ -23,7 +22,7 @@ pub cost_high : (h : Option Head) (e : Marked) → cost h e ≤ 2 + size_of e
 cost_high None e = omega arith
 cost_high (Some h) e = elim (same_head h (head_of e)) as (λ b. (if b then size_of e else 2 + size_of e) ≤ 2 + size_of e) [ true ↦ omega arith | false ↦ omega arith ]
 
--- the two rooms
+-- the two values of `room`
 pub room_cases : (mode : Mode) (n : ℕ) → ((n % fib_count mode ≡ 0) × (room mode n ≡ 23)) ⊎ (((n % fib_count mode ≡ 0) → ⊥) × (room mode n ≡ 30))
 room_cases mode n =
     elim (cases_lt 0 (n % fib_count mode)) [
@@ -37,7 +36,7 @@ room_low mode n = elim (room_cases mode n) [ inl c ↦ omega (arith, c.1) | inr 
 pub room_high : (mode : Mode) (n : ℕ) → room mode n ≤ 30
 room_high mode n = elim (room_cases mode n) [ inl c ↦ omega (arith, c.1) | inr c ↦ omega (arith, c.1) ]
 
--- of two successive FIBs one is no page's first
+-- of two successive FIBs at most one is the first of a page
 pub room_after : (mode : Mode) (n size : ℕ) → room mode (n + 1) < 2 + size → size ≤ 28 → 2 + size ≤ room mode (n + 2)
 room_after mode n size tight small =
     elim (room_cases mode (n + 1)) [
@@ -63,7 +62,7 @@ pub record Leaves (mode : Mode) (e : Marked) (p : PackState) : Type 0 where
   pub fits : size_of e ≤ 28 → 2 + size_of e ≤ room mode to
   pub first : (k : ℕ) → p.fib < k → 2 + size_of e ≤ room mode k → to ≤ k
 
--- whatever the size is, a step stays, or continues by one FIB or two
+-- whatever the size, a step stays or advances by one FIB or two
 pub placed_cases : (mode : Mode) (e : Marked) (p : PackState) → Stays mode e p ⊎ Leaves mode e p
 placed_cases mode e p =
     elim (cases_lt (room mode p.fib) (p.used + cost p.head e)) [
@@ -100,7 +99,7 @@ placed_cases mode e p =
       | inr fits ↦ inl (record { is = rw (le-leb _ _ fits) refl; fits = fits })
     ]
 
--- the numbers of the rule rise
+-- the numbers of the rule never decrease
 pub placed_above : (mode : Mode) (e : Marked) (p : PackState) → p.fib ≤ (placed mode e p).fib
 placed_above mode e p =
     elim (placed_cases mode e p) [
@@ -112,7 +111,7 @@ pub numbers_rise : (mode : Mode) (p : PackState) (es : List Marked) (k : ℕ) �
 numbers_rise mode p [] k h = tt
 numbers_rise mode p (e ∷ es) k h = (omega (arith, h, placed_above mode e p), numbers_rise mode (placed mode e p) es (placed mode e p).fib (omega arith))
 
--- small entries continue as a division does
+-- the rule places small entries as a division requires
 pub greedy_goes : (mode : Mode) (p : PackState) (es : List Marked) → AreSmall es → Goes mode p es (numbers_from mode p es)
 greedy_goes mode p [] small = tt
 greedy_goes mode p (e ∷ es) small =
@@ -128,7 +127,7 @@ greedy_goes mode p (e ∷ es) small =
 pub greedy_divides : (mode : Mode) (es : List Marked) → AreSmall es → IsDivision mode es (packing mode es)
 greedy_divides mode es small = division_from mode es (packing mode es) (greedy_goes mode start es small)
 
--- place p is behind place q, where both have placed the same entries
+-- state p is no further than state q, both after the same entries
 abbrev pub Behind : PackState → PackState → Type 0
 Behind p q = (p.head ≡ q.head) × (((p.fib < q.fib) × (2 ≤ q.used)) ⊎ ((p.fib ≡ q.fib) × (p.used ≤ q.used)))
 
@@ -214,12 +213,12 @@ greedy_is_packing mode es small = record {
   least = λ ms d i. at_most_at (packing mode es) ms (packing_at_most mode es ms d) i;
 }
 
--- least numbers are the same numbers
+-- two packings have the same numbers
 pub packing_is_one : (mode : Mode) (es : List Marked) (ns ms : List ℕ) → IsPacking mode es ns → IsPacking mode es ms → ns ≡ ms
 packing_is_one mode es ns ms p q =
     ext_get_or 0 ns ms (p.division.each ∙ sym q.division.each) (λ i h. omega (arith, p.least ms q.division i, q.least ns p.division i))
 
--- the first entry brings two bytes of its own, so whatever continues is small
+-- no entry yet, or at least the two bytes of a FIG's start taken: so an entry that extends the FIG is small
 abbrev pub Begun : PackState → Type 0
 Begun p = (p.head ≡ None) ⊎ (2 ≤ p.used)
 

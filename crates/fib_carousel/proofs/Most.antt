@@ -24,7 +24,7 @@ use Rattle.fib_carousel.proofs.Least.{room_cases, placed_cases, Leaves}
 use Rattle.fib_carousel.proofs.Sent.{same_head_own}
 use Rattle.fib_carousel.proofs.Sendable.{each_map, service_small, length-component_entries}
 
--- a FIB takes this many entries of a kind, a page's first one a of them and each other one b, where a page has w FIBs
+-- the entries of a kind that a FIB takes: a in the first FIB of a page, b in each other one, with w FIBs to a page
 abbrev cap : ℕ → ℕ → ℕ → ℕ → ℕ
 cap w a b n = if n % w == 0 then a else b
 
@@ -42,7 +42,7 @@ cap_other w a b n h = rw (ne_eqb (n % w) 0 h) refl
 cap_low : (w a b n : ℕ) → a ≤ b → a ≤ cap w a b n
 cap_low w a b n h = elim (n % w == 0) as (λ x. a ≤ (if x then a else b)) [ true ↦ omega arith | false ↦ h ]
 
--- three successive FIBs are a page's number of them, wherever they begin
+-- three successive FIBs take as much as a page, wherever they begin
 cap_three : (a b n : ℕ) → cap 3 a b n + cap 3 a b (suc n) + cap 3 a b (suc (suc n)) ≡ a + b + b
 cap_three a b n =
     elim (cases_lt (n % 3) 1) [
@@ -65,7 +65,7 @@ cap_three a b n =
           ]
     ]
 
--- and four in mode III
+-- and four do in mode III
 cap_four : (a b n : ℕ) → cap 4 a b n + cap 4 a b (suc n) + cap 4 a b (suc (suc n)) + cap 4 a b (suc (suc (suc n))) ≡ a + b + b + b
 cap_four a b n =
     elim (cases_lt (n % 4) 1) [
@@ -140,7 +140,7 @@ total_two w a b n k e h =
 abbrev IsOfKind : ℕ → ℕ → ℕ → Head → Marked → Type 0
 IsOfKind a b s h m = (size_of m ≤ s) × ((head_of m ≡ h) ⊎ ((a ≤ 1) × (b ≤ 1)))
 
--- as many of them as a FIB takes do fit it
+-- a FIB has room for the number of them that `cap` gives
 abbrev Holds : (mode : Mode) → ℕ → ℕ → ℕ → Type 0
 Holds mode a b s = (n : ℕ) → 1 ≤ cap (fib_count mode) a b n → 2 + s * cap (fib_count mode) a b n ≤ room mode n
 
@@ -151,8 +151,8 @@ cap_small mode a b n h =
       | inr c ↦ subst (λ k. k ≤ 1) (sym (cap_other (fib_count mode) a b n c.0)) h.1
     ]
 
--- how far i entries of a kind have come, where the entry before them stands in FIB f: still there, or further on,
--- with as many FIBs filled between
+-- the progress after i entries of a kind, if the entry before them is in FIB f: still there, or further on with the
+-- FIBs between filled
 pub record Further (mode : Mode) (a b s f i : ℕ) (h : Head) (q : PackState) : Type 0 where
   pub above : f < q.fib
   pub count : ℕ
@@ -163,7 +163,7 @@ pub record Further (mode : Mode) (a b s f i : ℕ) (h : Head) (q : PackState) : 
 abbrev Comes : (mode : Mode) → ℕ → ℕ → ℕ → ℕ → ℕ → Head → PackState → Type 0
 Comes mode a b s f i h q = (q.fib ≡ f) ⊎ Further mode a b s f i h q
 
--- behind an entry of its head an entry costs its size
+-- after an entry with its head an entry costs its size
 cost_alike : (h : Option Head) (k : Head) (m : Marked) → h ≡ Some k → head_of m ≡ k → cost h m ≡ size_of m
 cost_alike h k m e own =
     let same : cost (Some k) m ≡ size_of m = subst (λ (g : Head). cost (Some g) m ≡ size_of m) own (rw (same_head_own (head_of m)) refl) in
@@ -258,7 +258,7 @@ comes_step mode a b s f i h m q holds kind comes =
       | inr c ↦ subst (λ (r : PackState). Comes mode a b s f (suc i) h r) (sym c.is) (inr (further_leaves mode a b s f i h m q holds kind comes c))
     ]
 
--- the place behind a list of entries
+-- the state after a list of entries
 abbrev behind : (mode : Mode) → PackState → List Marked → PackState
 behind mode p [] = p
 behind mode p (m ∷ ms) = behind mode (placed mode m p) ms
@@ -282,7 +282,7 @@ comes_within mode a b s f n k h q comes few enough =
           ]
     ]
 
--- this many FIBs more take 64 entries of a kind: of sub-channels, of services, and of packet components
+-- this many more FIBs take 64 entries of a kind: of sub-channels, of services, and of packet components
 abbrev subs_most : Mode → ℕ
 subs_most I = 11
 subs_most II = 11
@@ -309,7 +309,7 @@ subs_four f =
     let two : total 4 5 7 (f + 1 + 8) + 12 ≤ total 4 5 7 (f + 1 + 10) = five_and_seven (f + 1 + 8) (f + 1 + 10) (omega arith) in
     omega (arith, pages, two)
   where
-    -- of two successive FIBs one is no page's first
+    -- of two successive FIBs at most one is the first of a page
     five_and_seven : (n k : ℕ) → k ≡ n + 2 → total 4 5 7 n + 12 ≤ total 4 5 7 k
     five_and_seven n k e =
         let next : k ≡ suc (suc n) = omega (arith, e) in
@@ -353,7 +353,7 @@ services_enough II f = services_three f
 services_enough III f = services_four f
 services_enough IV f = services_three f
 
--- one FIB fewer in mode III behind FIB 10
+-- one FIB fewer in mode III after FIB 10
 services_behind_ten : Suffices III 0 1 85 10
 services_behind_ten =
     let pages : total 4 0 1 (11 + 84) ≡ total 4 0 1 11 + 63 = total_pages 4 0 1 3 11 21 (page_four 0 1 3 refl) in
@@ -438,7 +438,7 @@ behind-append : (mode : Mode) (p : PackState) (xs ys : List Marked) → behind m
 behind-append mode p [] ys = refl
 behind-append mode p (x ∷ xs) ys = behind-append mode (placed mode x p) xs ys
 
--- a configuration takes this many FIBs more
+-- a configuration takes this many more FIBs
 abbrev subs_entries : Configuration → Bool → List Marked
 subs_entries c next = map (marked next) (map sub_entry c.subs)
 
@@ -470,7 +470,7 @@ facts_phase mode c next p h =
     let three : (behind mode second (packets_only c next)).fib ≤ second.fib + 14 = packets_phase mode c next second h in
     subst (λ (q : PackState). q.fib ≤ p.fib + facts_most mode) (sym (facts_walk mode c next p)) (omega (arith, one, two, three))
 
--- in mode III one FIB fewer from the start on
+-- in mode III one FIB fewer from the start
 facts_first : (c : Configuration) → IsConfiguration c → (behind III start (facts_of c false)).fib ≤ 109
 facts_first c h =
     let first : PackState = behind III start (subs_entries c false) in

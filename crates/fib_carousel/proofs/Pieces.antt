@@ -1,4 +1,4 @@
--- The row of entries cut into pages, and pages into FIBs: pieces of the list, joined in order.
+-- The list of entries cut into pages, and pages into FIBs: pieces of the list, joined in order.
 use Rattle.std.proofs.Common.{◌≡◌, ℕ, ◌+◌, ◌/◌, ◌<◌, ◌≤◌, ◌==◌, Bool, true, false, ◌&&◌, List, [], ◌∷◌, ◌++◌, zero, suc, length, refl, sym, ◌∙◌, ap, subst, inl, inr, if◌then◌else◌, nat_lt, nat_le, flat_map, ◌-◌, arith, eq-eqb, Contains, lt-ltb, le-ltb}
 use Rattle.fib_codec.specs.declared.modes.Mode.{Mode}
 use Rattle.std.specs.List.{range_with_len}
@@ -19,12 +19,12 @@ none_where test low f (e ∷ es) [] r = refl
 none_where test low f (e ∷ es) (n ∷ ns) r =
     rw (f n r.0) (none_where test n (λ m h. f m (omega (arith, h, r.0))) es ns r.1)
 
--- the numbers stand below the last
+-- no number exceeds the last
 pub last_rises : (k : ℕ) (ns : List ℕ) → NeverFalls k ns → k ≤ last_number k ns
 last_rises k [] r = omega arith
 last_rises k (n ∷ ns) r = let more : n ≤ last_number n ns = last_rises n ns r.1 in omega (arith, more, r.0)
 
--- a test that the last number and all below it fail passes nothing, and one that they pass keeps all
+-- a test that fails up to the last number keeps nothing, and one that passes up to it keeps all
 none_up_to : (test : ℕ → Bool) (top : ℕ) → ((m : ℕ) → m ≤ top → test m ≡ false) → (k : ℕ) (es : List Marked) (ns : List ℕ) → NeverFalls k ns → last_number k ns ≤ top → entries_where test es ns ≡ []
 none_up_to test top f k [] ns r l = refl
 none_up_to test top f k (e ∷ es) [] r l = refl
@@ -154,7 +154,7 @@ span_is (suc count) n es ns r =
     ap (λ xs. entries_in_fib n es ns ++ xs) (span_is count (n + 1) es ns r)
     ∙ join_where (λ m. m == n) (in_span (n + 1) count) (in_span n (suc count)) (n + 1) (span_splits n count) 0 es ns r
 
--- equal tests pass the same entries
+-- equal tests keep the same entries
 where_same : (f g : ℕ → Bool) → ((m : ℕ) → f m ≡ g m) → (es : List Marked) (ns : List ℕ) → entries_where f es ns ≡ entries_where g es ns
 where_same f g h [] ns = refl
 where_same f g h (e ∷ es) [] = refl

@@ -4,7 +4,7 @@ use Rattle.std.specs.List.{range_with_len}
 use Rattle.std.proofs.lemmas.List.{take_all, append-nil}
 use Rattle.fib_codec.specs.Spelling.{Written, fib_bytes}
 
--- those that are still to come, from this slot on
+-- the FIBs still to be written, from this slot on
 pub fibs_left : (count first slot : ℕ) (figs : ℕ → List Written) → slot < count
     → flat_map fib_bytes (map figs (range_with_len (first + slot) (count - slot))) ≡ fib_bytes (figs (first + slot)) ++ flat_map fib_bytes (map figs (range_with_len (first + (slot + 1)) (count - (slot + 1))))
 fibs_left count first slot figs h =

@@ -22,7 +22,7 @@ use Rattle.fib_carousel.proofs.Least.{room_low}
 use Rattle.fib_carousel.proofs.Sent.{same_head_own}
 use Rattle.fib_carousel.proofs.Walk.{IsThen}
 
--- ---- an entry is placed by its shape
+-- ---- placing an entry depends on its shape alone
 
 cost_same : (h : Option Head) (m : Marked) → cost h m ≡ shape_cost h (shape_of m)
 cost_same None m = refl
@@ -61,7 +61,7 @@ run_fits mode s fib used (suc n) fits =
     let whole : used + s.size + n * s.size ≡ used + suc n * s.size = omega (arith, more) in
     ap (steps mode s n) (step_stays mode s fib used first) ∙ run_fits mode s fib (used + s.size) n others ∙ ap (state_at s fib) whole
 
--- as many as fit, and one more in the next FIB
+-- as many entries as fit, and the next one in the next FIB
 pub run_leaves : (mode : Mode) (s : EntryShape) (fib used fit left : ℕ) → s.size ≤ 21 → used + fit * s.size ≤ room mode fib → room mode fib < used + fit * s.size + s.size
     → steps mode s (fit + suc left) (state_at s fib used) ≡ steps mode s left (state_at s (fib + 1) (2 + s.size))
 run_leaves mode s fib used fit left small fits full =
@@ -69,13 +69,13 @@ run_leaves mode s fib used fit left small fits full =
     ∙ ap (λ (q : PackState). steps mode s left (step mode s q)) (run_fits mode s fib used fit fits)
     ∙ ap (steps mode s left) (step_leaves mode s fib (used + fit * s.size) small full)
 
--- ---- a run as it is counted
+-- ---- counting a run
 
 step_first : (mode : Mode) (s : EntryShape) (n : ℕ) (p : PackState) → 1 ≤ n → steps mode s n p ≡ steps mode s (n - 1) (step mode s p)
 step_first mode s zero p some = absurd (omega (arith, some))
 step_first mode s (suc n) p some = let less : n ≡ suc n - 1 = omega arith in ap (λ k. steps mode s k (step mode s p)) less
 
--- what a state is behind an entry of this shape
+-- a state after an entry of this shape
 pub record IsBehind (mode : Mode) (s : EntryShape) (p : PackState) : Type 0 where
   pub used : p.used ≤ room mode p.fib
   pub head : p.head ≡ Some s.head
@@ -101,7 +101,7 @@ run_begun mode s n p q small some is =
 as_state : (mode : Mode) (s : EntryShape) (p : PackState) → IsBehind mode s p → p ≡ state_at s p.fib p.used
 as_state mode s p h = ap (λ (g : Option Head). let q : PackState = record { fib = p.fib; used = p.used; head = g } in q) h.head
 
--- those that are left fit
+-- the remaining entries fit
 pub run_done : (mode : Mode) (s : EntryShape) (p : PackState) (n fit : ℕ) → IsBehind mode s p → 1 ≤ s.size → fit ≡ (room mode p.fib - p.used) / s.size → n ≤ fit
     → (p.used + n * s.size ≤ room mode p.fib) × (steps mode s n p ≡ record { fib = p.fib; used = p.used + n * s.size; head = p.head })
 run_done mode s p n fit h some is few =
@@ -113,7 +113,7 @@ run_done mode s p n fit h some is few =
           ∙ ap (λ (g : Option Head). let q : PackState = record { fib = p.fib; used = p.used + n * s.size; head = g } in q) (sym h.head),
     )
 
--- as many as fit, and the next FIB is begun
+-- as many entries as fit, and then the next FIB begins
 pub run_over : (mode : Mode) (s : EntryShape) (p : PackState) (n fit : ℕ) → IsBehind mode s p → 1 ≤ s.size → s.size ≤ 21 → fit ≡ (room mode p.fib - p.used) / s.size → fit < n
     → steps mode s n p ≡ steps mode s (n - fit - 1) (record { fib = p.fib + 1; used = 2 + s.size; head = p.head })
 run_over mode s p n fit h some small is many =
@@ -151,7 +151,7 @@ facts_placed mode c next p =
     ∙ front_placed mode next service_entry c.services (map packet_entry c.packets) _
     ∙ last_mapped mode next packet_entry c.packets _
 
--- those of the services are placed one by one
+-- the entries of services are placed one by one
 pub service_placed : (mode : Mode) (next : Bool) (xs : List Service) (i : ℕ) (x : Service) (p q : PackState) (shape : EntryShape) (whole : PackState) → slice_get xs i ≡ Some x
     → shape.head ≡ head_of (marked next (service_entry x)) → shape.size ≡ size_of (marked next (service_entry x)) → IsThen mode shape p q
     → all_placed mode (map (λ s. marked next (service_entry s)) (drop i xs)) p ≡ whole
@@ -171,7 +171,7 @@ both_placed : (mode : Mode) (ms ns : List Marked) (p : PackState) → all_placed
 both_placed mode [] ns p = refl
 both_placed mode (m ∷ ms) ns p = both_placed mode ms ns (placed mode m p)
 
--- where the last entry stands, and so how many pages there are
+-- the FIB of the last entry gives the number of pages
 pub one_counted : (mode : Mode) (c : Configuration) (last : PackState) → last ≡ all_placed mode (facts_of c false) start → last.fib / fib_count mode + 1 ≡ rounds mode (page_set c None)
 one_counted mode c last is =
     ap (λ (q : PackState). q.fib / fib_count mode + 1) is ∙ ap (λ n. n / fib_count mode + 1) (sym (last_placed mode (facts_of c false) start))

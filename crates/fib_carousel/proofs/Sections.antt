@@ -21,7 +21,7 @@ use Rattle.fib_carousel.specs.Shapes.{piece, AreAlike, IsRun, marked_bytes, Puts
 use Rattle.fib_carousel.proofs.Walk.{take_here}
 use Rattle.fib_carousel.proofs.Together.{in_run, run_shape, run_length, same_shape}
 
--- ---- pieces of a row
+-- ---- pieces of a list
 pub piece_front : {A : Type 0} (xs ys : List A) (i n : ℕ) → i + n ≤ length xs → take n (drop i (xs ++ ys)) ≡ take n (drop i xs)
 piece_front xs ys i n h =
     ap (λ zs. take n zs) (drop-append-le i xs ys (omega (arith, h)))
@@ -33,7 +33,7 @@ piece_behind xs ys i n = ap (λ zs. take n zs) (drop-append-add xs ys i)
 pub piece_map : {A B : Type 0} (f : A → B) (xs : List A) (i n : ℕ) → take n (drop i (map f xs)) ≡ map f (take n (drop i xs))
 piece_map f xs i n = ap (λ ys. take n ys) (drop-map f i xs) ∙ take-map f n (drop i xs)
 
--- those of the entries of a configuration, of the set that stands at their place
+-- pieces of a configuration's entries that lie within one of its sets
 abbrev pub marked_all : {A : Type 0} → Bool → (A → Entry) → List A → List Marked
 marked_all next f xs = map (marked next) (map f xs)
 
@@ -131,7 +131,7 @@ packets_put c next i n room index old new at there some fits bytes =
     (run_put (facts_of c next) (length c.subs + (length c.services + i)) n room old new (packet_shape next) (packets_run c next i n there) some fits
     (bytes ∙ ap (λ t. old ++ t) (sym (all_bytes next packet_entry (take n (drop i c.packets)))) ∙ ap (λ (ms : List Marked). old ++ marked_bytes ms) (sym (packets_piece c next i n))))
 
--- one entry more of a run
+-- a run with one more entry
 pub one_more : {A : Type 0} (f : A → Entry) (xs : List A) (from at : ℕ) (x : A) (old now new : List ℕ) → from ≤ at → slice_get xs at ≡ Some x → now ≡ old ++ entries_bytes (map f (take (at - from) (drop from xs)))
     → new ≡ now ++ entry_bytes (f x) → new ≡ old ++ entries_bytes (map f (take (at + 1 - from) (drop from xs)))
 one_more f xs from at x old now new le here before put =
@@ -179,7 +179,7 @@ alike_more next s xs from at x le here is before =
     more [] h = (is, tt)
     more (y ∷ ys) h = (h.0, more ys h.1)
 
--- the next service of a run, and that there is room for it
+-- the next service of a run, and the room for it
 pub record NextService (c : Configuration) (next : Bool) (from place : ℕ) (s : EntryShape) (now : List ℕ) : Type 0 where
   pub alike : AreAlike s (marked_all next service_entry (take (place + 1 - from) (drop from c.services)))
   pub times : (place + 1 - from) * s.size ≡ (place - from) * s.size + s.size
@@ -222,7 +222,7 @@ first_service c next from room x s old here is first takes =
     let times : (from - from) * s.size ≡ 0 = ap (λ k. k * s.size) none ∙ omega arith in
     (next_service c next from from room room x s old old (omega arith) here is alike bytes (omega (arith, times)) fits takes, fits)
 
--- ---- as the code says it
+-- ---- in the terms of the code
 some_of : (ms : List Marked) → 0 < length ms → Marked
 some_of [] h = absurd (omega (arith, h))
 some_of (m ∷ ms) h = m
@@ -241,7 +241,7 @@ packets_done c next index i n room old new at there some fits bytes =
     let count : i + n - i ≡ n = omega arith in
     packets_put c next i n room index old new at there some fits (bytes ∙ ap (λ k. old ++ entries_bytes (map packet_entry (take k (drop i c.packets)))) count)
 
--- there is room for the first entry, and for as many as the room says
+-- there is room for the first entry, and for as many as fit
 pub subs_room : (c : Configuration) (next : Bool) (index i room : ℕ) (old : List ℕ) → i ≡ index → i < length c.subs → ((m : Marked) → slice_get (facts_of c next) index ≡ Some m → size_of m ≤ room) → TakesRuns (facts_of c next) index room old
     → (4 ≤ room) × ((n : ℕ) → i + n ≤ length c.subs → n * 4 ≤ room → length old + (i + n - i) * 4 ≤ 30)
 subs_room c next index i room old at there first takes =
@@ -267,7 +267,7 @@ packets_room c next index i room old at there first takes =
           omega (arith, all),
     )
 
--- the index of an entry behind those of the sub-channels, and of one behind those of the services too
+-- the index of an entry after those of the sub-channels, and of one after those of the services too
 pub behind_subs : (c : Configuration) (index i subs : ℕ) → i ≡ index → subs ≡ length c.subs → subs ≤ i → index ≡ length c.subs + (i - subs)
 behind_subs c index i subs at count le = omega (arith, at, count, le)
 

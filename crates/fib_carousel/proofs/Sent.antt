@@ -11,7 +11,7 @@ use Rattle.fib_codec.specs.Modes.{fib_count}
 use Rattle.fib_codec.specs.Spelling.{Written, IsWritten, IsUnder, head_of, ext_of}
 use Rattle.fib_carousel.specs.Packing.{same_flag, same_head, figs_size, room, AreSmall}
 use Rattle.fib_carousel.specs.Pages.{fib_entries}
-use Rattle.fib_carousel.specs.Bytes.{joined, figs_of}
+use Rattle.fib_carousel.specs.Bytes.{with_entry_first, figs_of}
 use Rattle.fib_carousel.specs.Carried.{IsSendable, AreSendable}
 use Rattle.fib_carousel.proofs.Least.{room_high, room_cases, greedy_is_packing}
 use Rattle.fib_carousel.proofs.Sharing.{same_head_is, written_of}
@@ -32,7 +32,7 @@ same_flag_own false = refl
 pub same_head_own : (h : Head) → same_head h h ≡ true
 same_head_own h = rw (same_flag_own h.next, same_flag_own h.oe, same_flag_own h.long, eq-eqb h.ext h.ext refl) refl
 
--- the FIGs of entries that can be sent are as programs write them
+-- the FIGs of sendable entries are FIGs that a program can write
 under_own : (m : Marked) → IsUnder (head_of m) m.entry
 under_own m = by m.next m.entry
   where
@@ -49,11 +49,11 @@ written_one m h = record {
   within = (h.within, tt);
 }
 
-written_joined : (m : Marked) (fs : List Written) → IsSendable m → AllByRecursion IsWritten fs → AllByRecursion IsWritten (joined m fs)
+written_joined : (m : Marked) (fs : List Written) → IsSendable m → AllByRecursion IsWritten fs → AllByRecursion IsWritten (with_entry_first m fs)
 written_joined m [] h w = (written_one m h, tt)
 written_joined m (f ∷ fs) h w = by (same_head (head_of m) f.head) refl
   where
-    by : (b : Bool) → same_head (head_of m) f.head ≡ b → AllByRecursion IsWritten (joined m (f ∷ fs))
+    by : (b : Bool) → same_head (head_of m) f.head ≡ b → AllByRecursion IsWritten (with_entry_first m (f ∷ fs))
     by true e =
         let same : head_of m ≡ f.head = same_head_is (head_of m) f.head e in
         let under : IsUnder f.head m.entry = subst (λ (g : Head). IsUnder g m.entry) same (under_own m) in
@@ -72,7 +72,7 @@ pub written_figs : (ms : List Marked) → AreSendable ms → AllByRecursion IsWr
 written_figs [] h = tt
 written_figs (m ∷ ms) h = written_joined m (figs_of ms) h.0 (written_figs ms h.1)
 
--- extensions are five bits
+-- an extension has five bits
 pub ext_of_low : (e : Entry) → ext_of e < 32
 ext_of_low (EnsembleOf e) = omega arith
 ext_of_low (SubOf s) = omega arith
@@ -80,7 +80,7 @@ ext_of_low (ShortOf s) = omega arith
 ext_of_low (ServiceOf s) = omega arith
 ext_of_low (PacketOf p) = omega arith
 
--- what FIG 0/0 leaves of a FIB holds what the packing puts there
+-- what FIG 0/0 leaves of a FIB has room for what the packing puts there
 pub fib_room : (mode : Mode) (ensemble : Option EnsembleInformation) (number used size : ℕ) → used ≤ 7 → (ensemble ≡ None → used ≡ 0) → (IsSome ensemble → number % fib_count mode ≡ 0) → size ≤ room mode number → used + size ≤ 30
 fib_room mode None number used size low none first fits = omega (arith, none refl, fits, room_high mode number)
 fib_room mode (Some e) number used size low none first fits =

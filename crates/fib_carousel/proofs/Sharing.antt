@@ -1,4 +1,4 @@
--- Successive entries of one head in one FIG, from the front on.
+-- Successive entries with the same head in one FIG, from the front.
 use Rattle.std.proofs.Common.{◌≡◌, ℕ, ◌+◌, ◌==◌, Bool, true, false, ◌&&◌, List, [], ◌∷◌, length, Some, None, refl, sym, ◌∙◌, ap, if◌then◌else◌, arith}
 use Rattle.std.proofs.lemmas.Bool.{eqb-true}
 use Rattle.std.proofs.lemmas.List.{length-append}
@@ -8,9 +8,9 @@ use Rattle.fib_codec.specs.declared.head.Head.{Head}
 use Rattle.fib_codec.specs.Spelling.{Written, head_of, figs_bytes}
 use Rattle.fib_codec.proofs.Lengths.{entry_length}
 use Rattle.fib_carousel.specs.Packing.{size_of, same_flag, same_head, figs_size}
-use Rattle.fib_carousel.specs.Bytes.{joined, figs_of, run_of}
+use Rattle.fib_carousel.specs.Bytes.{with_entry_first, figs_of, run_of}
 
--- one head is equal to itself alone
+-- only equal heads are the same
 same_flag_is : (a b : Bool) → same_flag a b ≡ true → a ≡ b
 same_flag_is true true h = refl
 same_flag_is true false h = absurd (cc h)
@@ -35,11 +35,11 @@ same_head_is g h s =
     let one = both_true (same_flag g.next h.next) (same_flag g.oe h.oe) two.0 in
     same_fields g h (same_flag_is g.next h.next one.0) (same_flag_is g.oe h.oe one.1) (same_flag_is g.long h.long two.1) (eqb-true g.ext h.ext three.1)
 
--- the first FIG is the stretch at the front
+-- the first FIG has the run at the front
 abbrev pub written_of : Head → List Entry → Written
 written_of h es = record { head = h; entries = es }
 
--- what stands behind the stretch at the front
+-- what follows the run at the front
 abbrev pub after_run : Head → List Marked → List Marked
 after_run head [] = []
 after_run head (m ∷ ms) = if same_head head (head_of m) then after_run head ms else m ∷ ms
@@ -47,11 +47,11 @@ after_run head (m ∷ ms) = if same_head head (head_of m) then after_run head ms
 pub figs_front : (m : Marked) (ms : List Marked) → figs_of (m ∷ ms) ≡ written_of (head_of m) (m.entry ∷ run_of (head_of m) ms) ∷ figs_of (after_run (head_of m) ms)
 figs_front m [] = refl
 figs_front m (n ∷ ns) =
-    ap (λ fs. joined m fs) (figs_front n ns) ∙ front (same_head (head_of m) (head_of n)) refl (figs_front n ns)
+    ap (λ fs. with_entry_first m fs) (figs_front n ns) ∙ front (same_head (head_of m) (head_of n)) refl (figs_front n ns)
   where
     front : (b : Bool) → same_head (head_of m) (head_of n) ≡ b
         → figs_of (n ∷ ns) ≡ written_of (head_of n) (n.entry ∷ run_of (head_of n) ns) ∷ figs_of (after_run (head_of n) ns)
-        → joined m (written_of (head_of n) (n.entry ∷ run_of (head_of n) ns) ∷ figs_of (after_run (head_of n) ns))
+        → with_entry_first m (written_of (head_of n) (n.entry ∷ run_of (head_of n) ns) ∷ figs_of (after_run (head_of n) ns))
         ≡ written_of (head_of m) (m.entry ∷ run_of (head_of m) (n ∷ ns)) ∷ figs_of (after_run (head_of m) (n ∷ ns))
     front true h again =
         let whole : written_of (head_of n) (m.entry ∷ n.entry ∷ run_of (head_of n) ns) ∷ figs_of (after_run (head_of n) ns)
@@ -64,7 +64,7 @@ figs_front m (n ∷ ns) =
         ap (λ fs. written_of (head_of m) (m.entry ∷ []) ∷ fs) (sym again) in
         rw h whole
 
--- the FIGs take what their entries cost
+-- the FIGs take the bytes that their entries cost
 joined_length : (b : Bool) (m : Marked) (h : Head) (es : List Entry) (fs : List Written)
     → length (figs_bytes (if b then written_of h (m.entry ∷ es) ∷ fs else written_of (head_of m) (m.entry ∷ []) ∷ written_of h es ∷ fs))
     ≡ (if b then size_of m else 2 + size_of m) + length (figs_bytes (written_of h es ∷ fs))
@@ -82,7 +82,7 @@ figs_cost (m ∷ (n ∷ ns)) =
     let again : length (figs_bytes (figs_of (n ∷ ns))) ≡ 2 + size_of n + figs_size (Some (head_of n)) ns = figs_cost (n ∷ ns) in
     let first : length (figs_bytes (written_of (head_of n) (n.entry ∷ run_of (head_of n) ns) ∷ figs_of (after_run (head_of n) ns))) ≡ 2 + size_of n + figs_size (Some (head_of n)) ns =
     ap (λ fs. length (figs_bytes fs)) (sym (figs_front n ns)) ∙ again in
-    ap (λ fs. length (figs_bytes (joined m fs))) (figs_front n ns)
+    ap (λ fs. length (figs_bytes (with_entry_first m fs))) (figs_front n ns)
     ∙ joined_length (same_head (head_of m) (head_of n)) m (head_of n) (n.entry ∷ run_of (head_of n) ns) (figs_of (after_run (head_of n) ns))
     ∙ ap (λ k. (if same_head (head_of m) (head_of n) then size_of m else 2 + size_of m) + k) first
     ∙ shared_cost (same_head (head_of m) (head_of n)) (size_of m) (size_of n) (figs_size (Some (head_of n)) ns)

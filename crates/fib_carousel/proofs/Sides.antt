@@ -20,7 +20,7 @@ use Rattle.fib_carousel.proofs.Sections.{piece_front, piece_behind}
 pub marked_at : (c : Configuration) (next : Bool) (place : ℕ) (e : Entry) → slice_get (config_entries c) place ≡ Some e → slice_get (facts_of c next) place ≡ Some (marked next e)
 marked_at c next place e h = slice_get-map (marked next) (config_entries c) place ∙ ap (λ o. option_map (marked next) o) h
 
--- what stands at a place of two lists one after another
+-- the element at an index of two concatenated lists
 front_get : {A : Type 0} (xs ys : List A) (i : ℕ) (x : A) → slice_get xs i ≡ Some x → slice_get (xs ++ ys) i ≡ Some x
 front_get xs ys i x h =
     let within : i < length xs = slice_get_within xs i x h in
@@ -53,7 +53,7 @@ run_behind xs ys i n s le r = record {
   alike = subst (λ (ms : List Marked). AreAlike s ms) (sym (behind_piece xs ys i n le)) r.alike;
 }
 
--- what holds of the first of two lists one after another, and of the second
+-- what holds for the first of two concatenated lists, and for the second
 pub record OneSide (all side : List Marked) (i j : ℕ) : Type 0 where
   pub run : (n : ℕ) (s : EntryShape) → IsRun side j n s → IsRun all i n s
   pub same : (n : ℕ) → j + n ≤ length side → piece all i n ≡ piece side j n

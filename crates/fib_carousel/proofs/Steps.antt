@@ -1,4 +1,4 @@
--- A division read step by step along the list.
+-- A division read entry by entry.
 use Rattle.std.proofs.Common.{◌≡◌, ℕ, ◌+◌, ◌<◌, ◌≤◌, List, [], ◌∷◌, length, Option, Some, None, refl, sym, ◌∙◌, ap, subst, inl, inr, ◌⊎◌, arith, eq-eqb}
 use Rattle.fib_codec.specs.declared.modes.Mode.{Mode}
 use Rattle.std.proofs.lemmas.Bool.{ne_eqb, cases_lt}
@@ -8,7 +8,7 @@ use Rattle.fib_codec.specs.Spelling.{head_of}
 use Rattle.fib_carousel.specs.Packing.{room, size_of, cost, figs_size, entries_in_fib, NeverFalls, IsDivision}
 use Rattle.fib_carousel.specs.Greedy.{extended, opened, start}
 
--- from place p on, each entry continues in its FIB or opens a later one
+-- from state p on, each entry continues in its FIB or opens a later one
 abbrev pub Goes : (mode : Mode) → PackState → List Marked → List ℕ → Type 0
 Goes mode p [] [] = Unit {0}
 Goes mode p [] (m ∷ ms) = ⊥
@@ -17,27 +17,27 @@ Goes mode p (e ∷ es) (m ∷ ms) =
     ((m ≡ p.fib) × (p.used + cost p.head e ≤ room mode m) × Goes mode (extended e p) es ms)
     ⊎ ((p.fib < m) × (2 + size_of e ≤ room mode m) × Goes mode (opened e m) es ms)
 
--- what a division says from a place on
+-- what a division says from a state on
 pub record Divides (mode : Mode) (p : PackState) (es : List Marked) (ms : List ℕ) : Type 0 where
   pub each : length ms ≡ length es
   pub rising : NeverFalls p.fib ms
   pub here : p.used + figs_size p.head (entries_in_fib p.fib es ms) ≤ room mode p.fib
   pub later : (n : ℕ) → p.fib < n → figs_size None (entries_in_fib n es ms) ≤ room mode n
 
--- the first entry stands in FIB n, or in another
+-- the first entry is in FIB n, or in another
 pub in_fib_same : (n m : ℕ) (e : Marked) (es : List Marked) (ms : List ℕ) → m ≡ n → entries_in_fib n (e ∷ es) (m ∷ ms) ≡ e ∷ entries_in_fib n es ms
 in_fib_same n m e es ms h = rw (eq-eqb m n h) refl
 
 pub in_fib_other : (n m : ℕ) (e : Marked) (es : List Marked) (ms : List ℕ) → (m ≡ n → ⊥) → entries_in_fib n (e ∷ es) (m ∷ ms) ≡ entries_in_fib n es ms
 in_fib_other n m e es ms h = rw (ne_eqb m n h) refl
 
--- numbers that rise past n leave nothing in FIB n
+-- if the numbers are past n, no entry is in FIB n
 pub in_fib_past : (n k : ℕ) (es : List Marked) (ms : List ℕ) → n < k → NeverFalls k ms → entries_in_fib n es ms ≡ []
 in_fib_past n k [] ms h r = refl
 in_fib_past n k (e ∷ es) [] h r = refl
 in_fib_past n k (e ∷ es) (m ∷ ms) h r = in_fib_other n m e es ms (λ q. omega (arith, h, q, r.0)) ∙ in_fib_past n m es ms (omega (arith, h, r.0)) r.1
 
--- the size of FIGs of no entries behind a head is 0
+-- after a head, the FIGs of no entries take 0 bytes
 pub figs_size_past : (h : Option _) (n k : ℕ) (es : List Marked) (ms : List ℕ) → n < k → NeverFalls k ms → figs_size h (entries_in_fib n es ms) ≡ 0
 figs_size_past h n k es ms lt r = ap (λ xs. figs_size h xs) (in_fib_past n k es ms lt r)
 
@@ -116,7 +116,7 @@ divides_from mode p (e ∷ es) (m ∷ ms) u g =
           }
     ]
 
--- a whole division is one from the start on, where the first FIB is opened by its first entry
+-- a whole division is one from the start, with the first FIB opened by its first entry
 pub goes_all : (mode : Mode) (es : List Marked) (ms : List ℕ) → IsDivision mode es ms → Goes mode start es ms
 goes_all mode es ms d = goes_from mode start es ms (record {
   each = d.each;

@@ -1,4 +1,4 @@
--- Successive entries of one head and size: the list walked past all of them, and their FIG with all of them.
+-- Successive entries with the same head and size: the position after all of them, and their FIG with all of them.
 use Rattle.std.proofs.Common.{◌≡◌, ℕ, zero, suc, ◌+◌, ◌-◌, ◌*◌, ◌<◌, ◌≤◌, true, false, Bool, Option, Some, None, List, [], ◌∷◌, ◌++◌, length, map, take, drop, slice_get, get_or, slice_index_or, slice_set, refl, sym, ◌∙◌, ap, subst, inl, inr, arith, append_assoc, append-nil}
 use Rattle.std.proofs.lemmas.List.{length-append, length-set, length-drop, length-take-le, get_or-take, get_or-drop, drop-drop}
 use Rattle.std.proofs.lemmas.Option.{slice_get-get_or}
@@ -50,7 +50,7 @@ in_run ms i n s d r j lt =
       shape = subst (λ (m : Marked). shape_of m ≡ s) is (AllByRecursion-at (λ m. shape_of m ≡ s) (piece ms i n) j d r.alike (omega (arith, count, lt)));
     }
 
--- fewer of them
+-- a shorter run
 pub run_part : (ms : List Marked) (i n k : ℕ) (s : EntryShape) → k ≤ n → IsRun ms i n s → IsRun ms i k s
 run_part ms i n k s le r = record {
   inside = omega (arith, le, r.inside);
@@ -64,14 +64,14 @@ run_part ms i n k s le r = record {
     front (x ∷ xs) (suc k) zero le h = absurd (omega (arith, le))
     front (x ∷ xs) (suc k) (suc n) le h = (h.0, front xs k n (omega (arith, le)) h.1)
 
--- ---- the walk past a run of which FIB n takes all
+-- ---- the position after a run that fits in FIB n whole
 same_state : (p : PackState) (s : EntryShape) (fib used : ℕ) → p.fib ≡ fib → p.used ≡ used → p.head ≡ Some s.head → p ≡ state_at s fib used
 same_state p s fib used f u h =
     ap (λ k. let r : PackState = record { fib = k; used = p.used; head = p.head } in r) f
     ∙ ap (λ k. let r : PackState = record { fib = fib; used = k; head = p.head } in r) u
     ∙ ap (λ (x : Option Head). let r : PackState = record { fib = fib; used = used; head = x } in r) h
 
--- the state with the first of them placed, and the position behind this many more
+-- the state after placing the first of them, and the position after this many more
 pub record Goes (mode : Mode) (ms : List Marked) (n : ℕ) (c : Position) (q : PackState) (s : EntryShape) (k : ℕ) (d : Position) : Type 0 where
   pub index : d.index ≡ c.index + 1 + k
   pub fib : d.state.fib ≡ n
@@ -127,7 +127,7 @@ walked_run mode ms n from c q s (suc k) d g w =
     walked_in mode ms n from e d one (omega (arith, g.index)) g.fib (omega (arith, g.used, g.fits, room_high mode n)) (omega (arith, g.fib)) (omega (arith, g.run.inside))
     (walked_run mode ms n from c q s k e before w)
 
--- ---- the FIG with the rest of a run behind its entries
+-- ---- the FIG with the rest of a run after its entries
 figs_run : (here rest : List Marked) (before : List Written) (h : Head) (entries : List Entry) (s : EntryShape) → h ≡ s.head → AreAlike s rest
     → figs_of here ≡ before ++ written_of h entries ∷ [] → figs_of (here ++ rest) ≡ before ++ written_of h (entries ++ map (λ (m : Marked). m.entry) rest) ∷ []
 figs_run here [] before h entries s same alike is =
@@ -148,7 +148,7 @@ run_length s (m ∷ ms) h =
     let more : suc (length ms) * s.size ≡ s.size + length ms * s.size = omega arith in
     length-append (entry_bytes m.entry) (marked_bytes ms) ∙ omega (arith, one, more, run_length s ms h.1)
 
--- the entries of a run that stand behind its first
+-- the entries of a run after its first
 pub record Behind (old : List ℕ) (here rest : List Marked) (fig : OpenFig) (bytes : List ℕ) (more : ℕ) : Type 0 where
   pub place : fig.place < length bytes
   pub filled : IsFilled old (here ++ rest) (Some fig) (slice_set bytes fig.place (slice_index_or bytes fig.place 0 + more))
@@ -220,7 +220,7 @@ run_shape ms i n shape s sh r some =
     let same : sh.entry ≡ first.entry = same_there ms i sh.entry first.entry sh.here (ap (λ j. slice_get ms j) (sym at) ∙ first.here) in
     same_shape shape (shape_of sh.entry) sh.head sh.size ∙ ap shape_of same ∙ first.shape
 
--- the FIB as it stands behind a run
+-- the FIB after a run
 pub record RunIn (mode : Mode) (ms : List Marked) (n : ℕ) (old : List ℕ) (d : Position) (fig : OpenFig) (bytes : List ℕ) (more : ℕ) : Type 0 where
   pub place : fig.place < length bytes
   pub byte : slice_index_or bytes fig.place 0 + more ≤ 255
@@ -241,7 +241,7 @@ run_in mode ms n old bytes mid c e d last fig shape sh en w g k go =
     let count : length rest ≡ k = length-take-le k (drop (c.index + 1) ms) (omega (arith, length-drop (c.index + 1) ms, go.run.inside)) in
     let sized : k * shape.size ≡ length rest * shape.size = ap (λ j. j * shape.size) (sym count) in
     let b = behind_all old after (here ++ m ∷ []) rest fig shape (k * shape.size) one (grown_head last shape bytes mid fig g) alike.1 sized in
-    let joined : after ++ marked_bytes rest ≡ mid ++ marked_bytes (piece ms c.index (suc k)) =
+    let with_entry_first : after ++ marked_bytes rest ≡ mid ++ marked_bytes (piece ms c.index (suc k)) =
     append_assoc mid (entry_bytes m.entry) (marked_bytes rest) ∙ ap (λ xs. mid ++ marked_bytes xs) (sym cut) in
     let walked : Walked mode ms n w.from d = walked_run mode ms n w.from c e.state shape k d go w.walked in
     let grown : (here ++ m ∷ []) ++ rest ≡ take (d.index - w.from) (drop w.from ms) =
@@ -259,7 +259,7 @@ run_in mode ms n old bytes mid c e d last fig shape sh en w g k go =
     sym (length-set (after ++ marked_bytes rest) fig.place (slice_index_or (after ++ marked_bytes rest) fig.place 0 + k * shape.size))
     ∙ ap length filled.is ∙ length-append old (figs_bytes (figs_of (take (d.index - w.from) (drop w.from ms)))) in
     let low : length (after ++ marked_bytes rest) ≤ 30 = omega (arith, long, cost, part, en.room) in
-    subst (λ bs. RunIn mode ms n old d fig bs (k * shape.size)) joined (record {
+    subst (λ bs. RunIn mode ms n old d fig bs (k * shape.size)) with_entry_first (record {
       place = b.place;
       byte = omega (arith, b.byte, low);
       filled = record { from = w.from; walked = walked; filled = filled };
@@ -273,7 +273,7 @@ run_in mode ms n old bytes mid c e d last fig shape sh en w g k go =
         ap (λ j. take j (drop from ms)) count ∙ take-add (at - from) n (drop from ms)
         ∙ ap (λ xs. take (at - from) (drop from ms) ++ take n xs) (drop-drop (at - from) from ms ∙ ap (λ i. drop i ms) whole)
 
--- so a FIB takes each run that the room is enough for
+-- so a FIB takes each run that fits in the room
 pub takes_runs : (mode : Mode) (ms : List Marked) (n : ℕ) (old bytes mid : List ℕ) (c e : Position) (last : Option OpenFig) (fig : OpenFig) (shape : EntryShape) (sh : IsShapeAt ms c.index shape) (en : Entered mode ms n old c e)
     → (w : FilledTo mode ms n old c last bytes) → Grows last shape bytes fig mid → e.state.head ≡ Some shape.head → e.state.used ≤ room mode n → (free : ℕ) → free ≡ shape.size + (room mode n - e.state.used)
     → TakesRuns ms c.index free mid
@@ -312,7 +312,7 @@ times_less (suc n) s some =
     let more : suc n * s ≡ s + n * s = omega arith in
     more ∙ ap (λ k. s + k * s) (sym less)
 
--- what the state with the first of them placed is
+-- the state after placing the first of them
 pub record IsFirst (mode : Mode) (q : PackState) (shape : EntryShape) : Type 0 where
   pub within : q.used ≤ room mode q.fib
   pub head : q.head ≡ Some shape.head
@@ -349,7 +349,7 @@ pub takes : (mode : Mode) (ms : List Marked) (n : ℕ) (old bytes mid : List ℕ
 takes mode ms n old bytes mid c e last fig shape sh en w g free r =
     takes_runs mode ms n old bytes mid c e last fig shape sh en w g r.first.head (subst (λ k. e.state.used ≤ room mode k) r.into r.first.within) free r.is
 
--- the position behind it
+-- the position after it
 pub record Moved (c e d : Position) (size count : ℕ) : Type 0 where
   pub index : d.index ≡ c.index + count
   pub fib : d.state.fib ≡ e.state.fib

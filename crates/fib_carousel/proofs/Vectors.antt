@@ -1,4 +1,4 @@
--- Small cases of runs: of each definition one in which it holds, and one in which it does not.
+-- Examples of runs: for each definition one that satisfies it, and one that does not.
 use Rattle.std.proofs.Common.{◌≡◌, ℕ, ◌+◌, ◌*◌, ◌<◌, ◌≤◌, true, false, List, [], ◌∷◌, replicate, refl, sym, ◌∙◌, ap, subst, arith}
 use Rattle.mux_entries.specs.Facts.{Marked, marked}
 use Rattle.mux_entries.specs.declared.entry.Entry.TheVariants.{Sub as SubOf}
@@ -8,12 +8,12 @@ use Rattle.fib_carousel.specs.declared.pack_state.EntryShape.{EntryShape}
 use Rattle.fib_carousel.specs.declared.pack_state.PackState.{PackState}
 use Rattle.fib_carousel.specs.Packing.{size_of}
 use Rattle.fib_carousel.specs.Greedy.{start, placed}
-use Rattle.fib_carousel.specs.Runs.{sub_shape, shape_of, state_at, step, IsThenWithin, GoesBehind}
+use Rattle.fib_carousel.specs.Runs.{sub_shape, shape_of, state_at, step, IsThenWithin, IsPlacedAfter}
 use Rattle.fib_carousel.specs.Shapes.{IsRun, PutsRun, TakesRuns}
 use Rattle.fib_carousel.proofs.Runs.{placed_step}
 use Rattle.fib_carousel.proofs.Together.{same_shape}
 
--- a sub-channel of now, and of next
+-- the entry of a sub-channel with C/N 0, and with C/N 1
 abbrev now : Marked
 now = marked false (SubOf (record { id = 1; start = 0; option = 0; level = 2; size = 96 }))
 
@@ -48,7 +48,7 @@ a_full_one_does_not takes =
     let fits : 28 + 1 * 4 ≤ 30 = takes 1 shape run (omega arith) in
     absurd (omega (arith, fits))
 
--- any entry of this shape is placed as the shape says
+-- an entry of this shape is placed as its shape alone would be
 by_shape : (p : PackState) (m : Marked) → shape.head ≡ head_of m → shape.size ≡ size_of m → placed I m p ≡ step I shape p
 by_shape p m head size = placed_step I m p ∙ ap (λ (t : EntryShape). step I t p) (sym (same_shape shape (shape_of m) head size))
 
@@ -60,10 +60,10 @@ fib_1_is_not w =
     let low : 1 ≤ 0 = w.low in
     absurd (omega (arith, low))
 
-behind_twenty : GoesBehind I shape 0 (state_at shape 0 20)
+behind_twenty : IsPlacedAfter I shape 0 (state_at shape 0 20)
 behind_twenty = λ m head size. subst (λ (q : PackState). 0 < q.fib) (sym (by_shape (state_at shape 0 20) m head size)) (omega arith)
 
-the_first_is_not_behind : GoesBehind I shape 0 start → ⊥
+the_first_is_not_behind : IsPlacedAfter I shape 0 start → ⊥
 the_first_is_not_behind behind =
     let past : 0 < 0 = behind now refl refl in
     absurd (omega (arith, past))

@@ -1,4 +1,4 @@
--- The list walked entry by entry.
+-- Walking the list entry by entry.
 use Rattle.std.proofs.Common.{◌≡◌, ℕ, ◌+◌, ◌-◌, ◌*◌, ◌<◌, ◌≤◌, List, [], ◌∷◌, ◌++◌, length, take, drop, slice_get, get_or, Some, refl, sym, ◌∙◌, ap, subst, inl, inr, ◌⊎◌, arith, append_assoc}
 use Rattle.fib_codec.specs.declared.modes.Mode.{Mode}
 use Rattle.std.proofs.lemmas.List.{drop_more, drop_all, take_more, get_or-drop, length-drop, append-nil}
@@ -11,17 +11,17 @@ use Rattle.fib_carousel.specs.declared.pack_state.Position.{Position}
 use Rattle.fib_carousel.specs.Packing.{size_of, entries_in_fib, last_number}
 use Rattle.fib_carousel.specs.Greedy.{placed, numbers_from, packing, start}
 use Rattle.fib_carousel.specs.Pages.{rounds, fib_entries}
-use Rattle.fib_carousel.specs.Walk.{IsShapeAt, StandsBefore, HasPassed}
+use Rattle.fib_carousel.specs.Walk.{IsShapeAt, IsAtFib, HasPassed}
 use Rattle.fib_carousel.proofs.Steps.{in_fib_same, in_fib_other, in_fib_past}
 use Rattle.fib_carousel.proofs.Least.{placed_cases, placed_above, numbers_rise}
 use Rattle.fib_carousel.proofs.Pieces.{last_rises}
 use Rattle.fib_carousel.proofs.Widths.{few_pages}
 
--- the row from a place on begins with the entry there
+-- the list from an index on begins with the entry there
 pub drop_here : {A : Type 0} (xs : List A) (i : ℕ) (x : A) → slice_get xs i ≡ Some x → drop i xs ≡ x ∷ drop (i + 1) xs
 drop_here xs i x h = drop_more xs i x (slice_get_within xs i x h) ∙ ap (λ y. y ∷ drop (i + 1) xs) (get_or_from_slice_get xs i x x h)
 
--- a piece of the row, and the entry behind it
+-- a piece of the list, and the entry after it
 pub take_here : {A : Type 0} (xs : List A) (from at : ℕ) (x : A) → from ≤ at → slice_get xs at ≡ Some x → take (at + 1 - from) (drop from xs) ≡ take (at - from) (drop from xs) ++ x ∷ []
 take_here xs from at x le h =
     let within : at < length xs = slice_get_within xs at x h in
@@ -32,7 +32,7 @@ take_here xs from at x le h =
     get_or-drop from xs (at - from) x ∙ ap (λ i. get_or xs i x) whole ∙ get_or_from_slice_get xs at x x h in
     ap (λ n. take n (drop from xs)) count ∙ take_more (drop from xs) (at - from) x inside ∙ ap (λ y. take (at - from) (drop from xs) ++ y ∷ []) there
 
--- what a step of the walk knows: the entry passed, and its place
+-- what a step of the walk establishes: the entry passed, and where it was placed
 abbrev pub IsThen : (mode : Mode) → EntryShape → PackState → PackState → Type 0
 IsThen mode shape p q = (m : Marked) → shape.head ≡ head_of m → shape.size ≡ size_of m → q ≡ placed mode m p
 
@@ -56,7 +56,7 @@ passed_entry mode ms at shape p s = record { entry = s.entry; here = s.here; row
 pub passed_above : (mode : Mode) (ms : List Marked) (at : ℕ) (p q : PackState) → Passed mode ms at p q → p.fib ≤ q.fib
 passed_above mode ms at p q s = subst (λ (r : PackState). p.fib ≤ r.fib) (sym s.next) (placed_above mode s.entry p)
 
--- the last number is that of what is left
+-- the last number is that of the remaining entries
 pub last_step : (mode : Mode) (ms : List Marked) (at : ℕ) (p q : PackState) (top : ℕ) → Passed mode ms at p q → last_number p.fib (numbers_from mode p (drop at ms)) ≡ top → last_number q.fib (numbers_from mode q (drop (at + 1) ms)) ≡ top
 last_step mode ms at p q top s h =
     let along : last_number p.fib (numbers_from mode p (s.entry ∷ drop (at + 1) ms)) ≡ top = subst (λ xs. last_number p.fib (numbers_from mode p xs) ≡ top) s.row h in
@@ -65,7 +65,7 @@ last_step mode ms at p q top s h =
 pub last_end : (mode : Mode) (ms : List Marked) (at : ℕ) (p : PackState) (top : ℕ) → length ms ≤ at → last_number p.fib (numbers_from mode p (drop at ms)) ≡ top → p.fib ≡ top
 last_end mode ms at p top h l = subst (λ xs. last_number p.fib (numbers_from mode p xs) ≡ top) (drop_all at ms h) l
 
--- what the rest of the row has in FIB n
+-- the entries that the rest of the list has in FIB n
 abbrev pub rest_in : (mode : Mode) → ℕ → List Marked → ℕ → PackState → List Marked
 rest_in mode n ms at p = entries_in_fib n (drop at ms) (numbers_from mode p (drop at ms))
 
@@ -88,8 +88,8 @@ rest_over mode n ms at p q s h =
 pub rest_end : (mode : Mode) (n : ℕ) (ms : List Marked) (at : ℕ) (p : PackState) → length ms ≤ at → rest_in mode n ms at p ≡ []
 rest_end mode n ms at p h = ap (λ xs. entries_in_fib n xs (numbers_from mode p xs)) (drop_all at ms h)
 
--- a position stands before every FIB from its own on
-pub stands_on : (mode : Mode) (ms : List Marked) (n m : ℕ) (c : Position) → n ≤ m → StandsBefore mode ms n c → StandsBefore mode ms m c
+-- a position before FIB n is before every later FIB
+pub stands_on : (mode : Mode) (ms : List Marked) (n m : ℕ) (c : Position) → n ≤ m → IsAtFib mode ms n c → IsAtFib mode ms m c
 stands_on mode ms n m c h s = record {
   index = s.index;
   used = s.used;
@@ -99,15 +99,15 @@ stands_on mode ms n m c h s = record {
   last = s.last;
 }
 
--- the piece of the row passed so far, and what is still to come, are FIB n
+-- the piece of the list passed so far and the rest together make up FIB n
 pub record Walked (mode : Mode) (ms : List Marked) (n from : ℕ) (c : Position) : Type 0 where
-  pub later : StandsBefore mode ms (n + 1) c
+  pub later : IsAtFib mode ms (n + 1) c
   pub order : from ≤ c.index
   pub low : c.state.fib ≤ n
   pub kind : (from ≡ c.index) ⊎ (c.state.fib ≡ n)
   pub here : take (c.index - from) (drop from ms) ++ rest_in mode n ms c.index c.state ≡ fib_entries mode n ms
 
-pub walked_start : (mode : Mode) (ms : List Marked) (n : ℕ) (c : Position) → StandsBefore mode ms n c → Walked mode ms n c.index c
+pub walked_start : (mode : Mode) (ms : List Marked) (n : ℕ) (c : Position) → IsAtFib mode ms n c → Walked mode ms n c.index c
 walked_start mode ms n c s =
     let none : c.index - c.index ≡ 0 = omega arith in
     record {
@@ -118,7 +118,7 @@ walked_start mode ms n c s =
       here = ap (λ i. take i (drop c.index ms) ++ rest_in mode n ms c.index c.state) none ∙ s.rest n (omega arith);
     }
 
-later_step : (mode : Mode) (ms : List Marked) (n : ℕ) (c d : Position) → Passed mode ms c.index c.state d.state → d.index ≡ c.index + 1 → d.state.fib ≤ n → d.state.used ≤ 30 → d.state.fib ≤ c.state.fib + 2 → c.index < length ms → StandsBefore mode ms (n + 1) c → StandsBefore mode ms (n + 1) d
+later_step : (mode : Mode) (ms : List Marked) (n : ℕ) (c d : Position) → Passed mode ms c.index c.state d.state → d.index ≡ c.index + 1 → d.state.fib ≤ n → d.state.used ≤ 30 → d.state.fib ≤ c.state.fib + 2 → c.index < length ms → IsAtFib mode ms (n + 1) c → IsAtFib mode ms (n + 1) d
 later_step mode ms n c d s at below used near inside l = record {
   index = omega (arith, at, inside);
   used = used;
@@ -151,7 +151,7 @@ walked_in mode ms n from c d s at here used near inside w =
           ∙ w.here;
     }
 
--- a step into a FIB before
+-- a step into an earlier FIB
 pub walked_before : (mode : Mode) (ms : List Marked) (n from : ℕ) (c d : Position) → Passed mode ms c.index c.state d.state → d.index ≡ c.index + 1 → d.state.fib < n → d.state.used ≤ 30 → d.state.fib ≤ c.state.fib + 2 → c.index < length ms → Walked mode ms n from c → Walked mode ms n d.index d
 walked_before mode ms n from c d s at before used near inside w =
     let above : c.state.fib ≤ d.state.fib = passed_above mode ms c.index c.state d.state s in
@@ -170,7 +170,7 @@ walked_before mode ms n from c d s at before used near inside w =
           ∙ now;
     }
 
--- the walk is over where the next entry stands in a later FIB, or none is left
+-- the walk ends if the next entry is in a later FIB, or none is left
 pub nothing_behind : {A : Type 0} (xs ys zs : List A) → ys ≡ [] → xs ++ ys ≡ zs → xs ≡ zs
 nothing_behind xs ys zs e f = sym (append-nil xs) ∙ ap (λ y. xs ++ y) (sym e) ∙ f
 
@@ -194,7 +194,7 @@ passed_by mode ms n from c q s h w =
 pub passed_all : (mode : Mode) (ms : List Marked) (n from : ℕ) (c : Position) → length ms ≤ c.index → Walked mode ms n from c → HasPassed mode ms n c
 passed_all mode ms n from c h w = record { fib = w.low; left = inl (omega (arith, h, w.later.index)) }
 
--- an entry takes two FIBs at most, so there are no more pages than entries, but for one
+-- an entry advances by at most two FIBs, so there is at most one page more than entries
 last_bound : (mode : Mode) (p : PackState) (ms : List Marked) → last_number p.fib (numbers_from mode p ms) ≤ p.fib + 2 * length ms
 last_bound mode p [] = omega arith
 last_bound mode p (m ∷ ms) =

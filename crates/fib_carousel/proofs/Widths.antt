@@ -1,4 +1,4 @@
--- The FIBs of a page in number: three, and four in mode III.
+-- The number of FIBs of a page: three, or four in mode III.
 use Rattle.std.proofs.Common.{◌≡◌, ℕ, ◌+◌, ◌*◌, ◌/◌, ◌%◌, ◌<◌, ◌≤◌, suc, arith, subst, sym}
 use Rattle.fib_codec.specs.declared.modes.Mode.{Mode}
 use Rattle.fib_codec.specs.declared.modes.Mode.TheVariants.{I, II, III, IV}
@@ -10,7 +10,7 @@ some_fibs II = (omega arith, omega arith)
 some_fibs III = (omega arith, omega arith)
 some_fibs IV = (omega arith, omega arith)
 
--- of two successive FIBs one is no page's first
+-- of two successive FIBs at most one is the first of a page
 pub apart : (mode : Mode) (n : ℕ) → (n + 1) % fib_count mode ≡ 0 → (n + 2) % fib_count mode ≡ 0 → ⊥
 apart I n a b = omega (arith, a, b)
 apart II n a b = omega (arith, a, b)
@@ -54,21 +54,21 @@ behind_its_page II k n high h = omega (arith, high, h)
 behind_its_page III k n high h = omega (arith, high, h)
 behind_its_page IV k n high h = omega (arith, high, h)
 
--- later FIBs stand in the same page or in a later one
+-- later FIBs are in the same page or in a later one
 pub later_page : (mode : Mode) (m n : ℕ) → m ≤ n → m / fib_count mode ≤ n / fib_count mode
 later_page I m n h = omega (arith, h)
 later_page II m n h = omega (arith, h)
 later_page III m n h = omega (arith, h)
 later_page IV m n h = omega (arith, h)
 
--- a FIB stands below the page after its own
+-- a FIB comes before the page after its own
 pub within_its_page : (mode : Mode) (n : ℕ) → n < fib_count mode * (n / fib_count mode + 1)
 within_its_page I n = omega arith
 within_its_page II n = omega arith
 within_its_page III n = omega arith
 within_its_page IV n = omega arith
 
--- two FIBs an entry are no more pages than entries, but for one
+-- with at most two FIBs to an entry there is at most one page more than entries
 pub few_pages : (mode : Mode) (n count : ℕ) → n ≤ 0 + 2 * count → n / fib_count mode + 1 ≤ count + 1
 few_pages I n count h = omega (arith, h)
 few_pages II n count h = omega (arith, h)

@@ -12,29 +12,29 @@ use Rattle.fib_carousel.specs.Packing.{same_head, entries_in_fib}
 use Rattle.fib_carousel.specs.Greedy.{packing}
 use Rattle.fib_carousel.specs.Pages.{first_fib, later_fibs}
 
--- successive entries of one head share a FIG
-abbrev pub joined : Marked → List Written → List Written
-joined m [] = record { head = head_of m; entries = m.entry ∷ [] } ∷ []
-joined m (f ∷ fs) =
+-- successive entries with the same head share a FIG
+abbrev pub with_entry_first : Marked → List Written → List Written
+with_entry_first m [] = record { head = head_of m; entries = m.entry ∷ [] } ∷ []
+with_entry_first m (f ∷ fs) =
     if same_head (head_of m) f.head then record { head = f.head; entries = m.entry ∷ f.entries } ∷ fs
     else record { head = head_of m; entries = m.entry ∷ [] } ∷ f ∷ fs
 
 abbrev pub figs_of : List Marked → List Written
 figs_of [] = []
-figs_of (m ∷ ms) = joined m (figs_of ms)
+figs_of (m ∷ ms) = with_entry_first m (figs_of ms)
 
--- the entries of this head at the front
+-- the entries at the front that have this head
 abbrev pub run_of : Head → List Marked → List Entry
 run_of head [] = []
 run_of head (m ∷ ms) = if same_head head (head_of m) then m.entry ∷ run_of head ms else []
 
--- FIG 0/0, where it is given: of this ensemble, with C/N 0 and P/D 0
+-- FIG 0/0, if given: of this ensemble, with C/N 0 and P/D 0
 abbrev pub ensemble_figs : Option EnsembleInformation → List Written
 ensemble_figs None = []
 ensemble_figs (Some e) = record { head = head_of (marked false (EnsembleOf e)); entries = EnsembleOf e ∷ [] } ∷ []
 
--- the FIGs of the FIBs of a page, where the entries stand in the FIBs of these numbers: FIG 0/0, where it is
--- given, stands first in the first of them
+-- the FIGs of the FIBs of page k, if the entries are in the FIBs with these numbers: FIG 0/0, if given, comes first in
+-- the first of them
 abbrev pub figs_by : Mode → List ℕ → Option EnsembleInformation → ℕ → List Marked → List (List Written)
 figs_by mode ns ensemble k ms =
     (ensemble_figs ensemble ++ figs_of (entries_in_fib (first_fib mode k) ms ns))
@@ -43,7 +43,7 @@ figs_by mode ns ensemble k ms =
 abbrev pub page_figs : Mode → Option EnsembleInformation → ℕ → List Marked → List (List Written)
 page_figs mode ensemble k ms = figs_by mode (packing mode ms) ensemble k ms
 
--- the bytes of page k of these entries, with this FIG 0/0: what goes out in one frame
+-- the bytes of page k of these entries, with this FIG 0/0: what is sent in one frame
 abbrev pub page_bytes : Mode → Option EnsembleInformation → ℕ → List Marked → List ℕ
 page_bytes mode ensemble k ms = flat_map fib_bytes (page_figs mode ensemble k ms)
 

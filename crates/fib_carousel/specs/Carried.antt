@@ -1,4 +1,4 @@
--- What a receiver finds in the bytes of a page.
+-- What a receiver decodes from the bytes of a page.
 use Rattle.std.specs.Prelude.{◌≡◌, ℕ, ◌*◌, ◌≤◌, ◌↔◌, Bool, false, List, length, Option, Some, IfSome, Contains}
 use Rattle.mux_config.specs.Configuration.{Configuration, IsConfiguration}
 use Rattle.std.specs.List.{AllByRecursion}
@@ -13,7 +13,7 @@ use Rattle.fib_carousel.specs.Packing.{size_of}
 use Rattle.fib_carousel.specs.Pages.{page_set, page_entries}
 use Rattle.fib_carousel.specs.Bytes.{page_bytes, page_figs, AreFibs}
 
--- an entry that pages can carry: of FIG 0/1 to 0/3, with its fields within their bits, and no larger than a FIB
+-- an entry that a page can carry: of FIG 0/1 to 0/3, with its fields within their bits, and small enough for a FIB
 pub record IsSendable (m : Marked) : Type 0 where
   pub organization : 1 ≤ ext_of m.entry
   pub within : IsWithin m.entry
@@ -22,32 +22,32 @@ pub record IsSendable (m : Marked) : Type 0 where
 abbrev pub AreSendable : List Marked → Type 0
 AreSendable ms = AllByRecursion IsSendable ms
 
--- what pages need: entries that they can carry, and ensemble information within its bits
+-- what a page requires: entries that it can carry, and ensemble information within its bits
 pub record IsPageable (ensemble : Option EnsembleInformation) (ms : List Marked) : Type 0 where
   pub entries : AreSendable ms
   pub ensemble_within : IfSome ensemble IsEnsembleInformation
 
--- the entries of configurations are such
+-- the entries of configurations satisfy this
 abbrev pub PageSetsArePageable : Type 0
 PageSetsArePageable =
     (current : Configuration) (next : Option Configuration) (ensemble : Option EnsembleInformation)
     → IsConfiguration current → IfSome next IsConfiguration → IfSome ensemble IsEnsembleInformation
     → IsPageable ensemble (page_set current next)
 
--- a page is as many valid FIBs as a frame of the mode has, with the FIG 0/0 given and the FIGs of its entries
+-- a page consists of as many valid FIBs as a frame of the mode has, with the FIG 0/0 given and the FIGs of its entries
 abbrev pub PagesAreValid : Type 0
 PagesAreValid =
     (mode : Mode) (ensemble : Option EnsembleInformation) (k : ℕ) (ms : List Marked) → IsPageable ensemble ms
     → AreFibs (page_figs mode ensemble k ms) (page_bytes mode ensemble k ms)
     × (length (page_bytes mode ensemble k ms) ≡ 32 * fib_count mode)
 
--- what is heard of FIG 0/1 to 0/3 in a page's bytes is that page's entries, and nothing else
+-- the entries of FIG 0/1 to 0/3 decoded from a page's bytes are that page's entries, and no others
 abbrev pub PagesAreHeard : Type 0
 PagesAreHeard =
     (mode : Mode) (ensemble : Option EnsembleInformation) (k : ℕ) (ms : List Marked) → IsPageable ensemble ms
     → (m : Marked) → IsHeardInRow (page_bytes mode ensemble k ms) m ↔ Contains (page_entries mode k ms) m
 
--- the ensemble information heard there is the one given, as FIG 0/0 with C/N 0, and no other
+-- the ensemble information decoded from them is the one given, as FIG 0/0 with C/N 0, and no other
 abbrev pub EnsembleIsCarried : Type 0
 EnsembleIsCarried =
     (mode : Mode) (ensemble : Option EnsembleInformation) (k : ℕ) (ms : List Marked) → IsPageable ensemble ms

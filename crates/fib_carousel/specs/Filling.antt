@@ -1,4 +1,4 @@
--- How the FIGs of a FIB grow by an entry. No public contract needs this to be believed.
+-- How an entry is added to the FIGs of a FIB. No public contract depends on this.
 use Rattle.std.specs.Prelude.{◌≡◌, ℕ, ◌+◌, ◌<◌, ◌≤◌, Bool, true, false, Option, Some, None, List, [], ◌∷◌, ◌++◌, length, slice_index_or, slice_set}
 use Rattle.fib_codec.specs.Spelling.{head_byte}
 use Rattle.fib_carousel.specs.declared.pack_state.EntryShape.{EntryShape}
@@ -11,12 +11,12 @@ pub record Begins (s : EntryShape) (old : List ℕ) (fig : OpenFig) (new : List 
   pub place : fig.place ≡ length old
   pub bytes : new ≡ old ++ (1 + s.size) ∷ head_byte s.head ∷ []
 
--- a FIG that was begun is made longer by the entry
+-- the last FIG is lengthened by the entry
 pub record Lengthens (f : OpenFig) (s : EntryShape) (old : List ℕ) (fig : OpenFig) (new : List ℕ) : Type 0 where
   pub same : fig ≡ f
   pub bytes : new ≡ slice_set old f.place (slice_index_or old f.place 0 + s.size)
 
--- the one where the entry's head is that of the FIG before, and the other where it is not
+-- the last FIG is lengthened if it has the entry's head; otherwise a FIG is begun
 abbrev pub GrowsBy : Bool → OpenFig → EntryShape → List ℕ → OpenFig → List ℕ → Type 0
 GrowsBy true f s old fig new = Lengthens f s old fig new
 GrowsBy false f s old fig new = Begins s old fig new

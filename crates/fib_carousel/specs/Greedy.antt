@@ -1,5 +1,5 @@
--- The rule that computes the packing. No public contract needs it to be believed: the laws below say that its
--- result is the packing, and that a list has no other.
+-- The rule that computes the packing. It need not be trusted: the laws below say that its result is the packing, and
+-- that a list has no other.
 use Rattle.std.specs.Prelude.{ℕ, ◌+◌, ◌≤◌, List, [], ◌∷◌, Some, None, if◌then◌else◌, nat_le}
 use Rattle.mux_entries.specs.Facts.{Marked}
 use Rattle.fib_codec.specs.Spelling.{head_of}
@@ -11,15 +11,15 @@ use Rattle.fib_carousel.specs.Packing.{room, size_of, cost, IsDivision, IsPackin
 abbrev pub start : PackState
 start = record { fib = 0; used = 0; head = None }
 
--- an entry in the FIB of the one before it, and as the first of FIB n
+-- an entry added to the FIB of the previous one, and an entry as the first of FIB n
 abbrev pub extended : Marked → PackState → PackState
 extended e p = record { fib = p.fib; used = p.used + cost p.head e; head = Some (head_of e) }
 
 abbrev pub opened : Marked → ℕ → PackState
 opened e n = record { fib = n; used = 2 + size_of e; head = Some (head_of e) }
 
--- an entry goes into the FIB of the entry before it where it fits, else into the next FIB in which it fits: of
--- two successive FIBs one is no page's first
+-- an entry goes into the FIB of the previous entry if it fits, else into the next FIB in which it fits: of two
+-- successive FIBs at most one is the first of a page
 abbrev pub placed : Mode → Marked → PackState → PackState
 placed mode e p =
     if nat_le (p.used + cost p.head e) (room mode p.fib) then extended e p

@@ -1,4 +1,4 @@
--- What stands at a place of a configuration, where its three sets stand one after another.
+-- The members of a configuration by index, its three sets one after another.
 use Rattle.std.specs.Prelude.{◌≡◌, ℕ, List, ◌++◌, slice_get, Some}
 use Rattle.mux_config.specs.Configuration.{Configuration, IsPlaced, IsService, IsAddressed}
 use Rattle.mux_entries.specs.Facts.{sub_entry, service_entry, packet_entry, sub_entries, service_entries}

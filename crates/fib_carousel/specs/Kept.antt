@@ -1,4 +1,4 @@
--- A page that is kept, to be sent in several frames, with FIG 0/0 or without it.
+-- A page kept to be sent in several frames, with FIG 0/0 or without it.
 use Rattle.std.specs.Prelude.{◌≡◌, ℕ, List, None}
 use Rattle.mux_entries.specs.Facts.{Marked}
 use Rattle.fib_codec.specs.declared.modes.Mode.{Mode}
@@ -6,7 +6,7 @@ use Rattle.fib_carousel.specs.declared.kept_page.KeptPage.{KeptPage}
 use Rattle.fib_carousel.specs.Bytes.{page_bytes}
 use Rattle.fib_carousel.specs.Carried.{AreSendable}
 
--- it is page k of these entries, which pages can carry: its bytes without FIG 0/0 are kept
+-- the bytes kept are those of page k of these entries without FIG 0/0, and pages can carry the entries
 pub record IsKept (mode : Mode) (ms : List Marked) (k : ℕ) (p : KeptPage) : Type 0 where
   pub plain : p.plain ≡ page_bytes mode None k ms
   pub sendable : AreSendable ms

@@ -1,5 +1,5 @@
--- How a list of entries is divided over a row of FIBs, as many to a page as a frame of the mode has, and which
--- division is the packing.
+-- How a list of entries is divided over a sequence of FIBs, and which division is the packing. A page has as many FIBs
+-- as a frame of the mode.
 use Rattle.std.specs.Prelude.{◌≡◌, ℕ, ◌+◌, ◌/◌, ◌%◌, ◌≤◌, ◌==◌, Bool, true, false, ◌&&◌, List, [], ◌∷◌, length, slice_index, Option, Some, None, if◌then◌else◌}
 use Rattle.mux_entries.specs.Facts.{Marked}
 use Rattle.std.specs.List.{AllByRecursion}
@@ -8,7 +8,7 @@ use Rattle.fib_codec.specs.Spelling.{head_of, entry_size}
 use Rattle.fib_codec.specs.declared.modes.Mode.{Mode}
 use Rattle.fib_codec.specs.declared.head.Head.{Head}
 
--- the bytes that the FIGs of entries may take in FIB n of the row: the first of a page leaves room for the
+-- the bytes that the FIGs of entries may take in FIB n of the sequence: the first FIB of a page leaves room for the
 -- longest FIG 0/0, which has 7 bytes of the 30
 abbrev pub room : Mode → ℕ → ℕ
 room mode n = if n % fib_count mode == 0 then 23 else 30
@@ -23,24 +23,24 @@ same_flag false b = if b then false else true
 abbrev pub same_head : Head → Head → Bool
 same_head g h = same_flag g.next h.next && same_flag g.oe h.oe && same_flag g.long h.long && g.ext == h.ext
 
--- what an entry takes behind one of this head in the same FIB, or as its first: successive entries of one
--- head share a FIG, whose header and second byte stand once
+-- what an entry takes after one with this head in the same FIB, or as its first: successive entries with the same head
+-- share a FIG, which has one header and one second byte
 abbrev pub cost : Option Head → Marked → ℕ
 cost None e = 2 + size_of e
 cost (Some h) e = if same_head h (head_of e) then size_of e else 2 + size_of e
 
--- what the FIGs of these entries take in one FIB, behind an entry of this head
+-- what the FIGs of these entries take in one FIB, after an entry with this head
 abbrev pub figs_size : Option Head → List Marked → ℕ
 figs_size h [] = 0
 figs_size h (e ∷ es) = cost h e + figs_size (Some (head_of e)) es
 
--- the entries whose numbers pass a test
+-- the entries whose FIB numbers pass a test
 abbrev pub entries_where : (ℕ → Bool) → List Marked → List ℕ → List Marked
 entries_where test [] ns = []
 entries_where test (e ∷ es) [] = []
 entries_where test (e ∷ es) (n ∷ ns) = if test n then e ∷ entries_where test es ns else entries_where test es ns
 
--- the entries of FIB n, and of page k, where the entries stand in the FIBs of these numbers
+-- the entries of FIB n, and of page k, if the entries are in the FIBs with these numbers
 abbrev pub entries_in_fib : ℕ → List Marked → List ℕ → List Marked
 entries_in_fib n es ns = entries_where (λ m. m == n) es ns
 
@@ -51,8 +51,8 @@ abbrev pub NeverFalls : ℕ → List ℕ → Type 0
 NeverFalls low [] = Unit {0}
 NeverFalls low (n ∷ ns) = (low ≤ n) × NeverFalls n ns
 
--- a division gives each entry the number of a FIB, never falling along the list, so that the FIGs of each
--- FIB fit its room
+-- a division gives each entry a FIB number, never decreasing along the list, such that the FIGs of each FIB fit its
+-- room
 pub record IsDivision (mode : Mode) (es : List Marked) (ns : List ℕ) : Type 0 where
   pub each : length ns ≡ length es
   pub rising : NeverFalls 0 ns
@@ -63,11 +63,11 @@ pub record IsPacking (mode : Mode) (es : List Marked) (ns : List ℕ) : Type 0 w
   pub division : IsDivision mode es ns
   pub least : (ms : List ℕ) → IsDivision mode es ms → (i : ℕ) → slice_index ns i ≤ slice_index ms i
 
--- every entry fits a FIB that is no page's first: the others have no division at all
+-- every entry fits in a FIB that is not the first of a page: a list with a larger entry has no division
 abbrev pub AreSmall : List Marked → Type 0
 AreSmall es = AllByRecursion (λ e. size_of e ≤ 28) es
 
--- how many pages the numbers take: 1 where there are no entries
+-- the last FIB number, and the number of pages, which is 1 if there are no entries
 abbrev pub last_number : ℕ → List ℕ → ℕ
 last_number n [] = n
 last_number n (m ∷ ms) = last_number m ms
@@ -75,12 +75,12 @@ last_number n (m ∷ ms) = last_number m ms
 abbrev pub rounds_of : Mode → List ℕ → ℕ
 rounds_of mode ns = last_number 0 ns / fib_count mode + 1
 
--- a list has one packing at most
+-- a list has at most one packing
 abbrev pub PackingIsOne : Type 0
 PackingIsOne =
     (mode : Mode) (es : List Marked) (ns ms : List ℕ)
     → IsPacking mode es ns → IsPacking mode es ms → ns ≡ ms
 
--- a list with a division has no entry that is too large for it
+-- a list with a division has no entry that is too large for a FIB
 abbrev pub DividedAreSmall : Type 0
 DividedAreSmall = (mode : Mode) (es : List Marked) (ns : List ℕ) → IsDivision mode es ns → AreSmall es

@@ -1,4 +1,4 @@
--- Which entries each page has.
+-- The entries of each page.
 use Rattle.std.specs.Prelude.{◌≡◌, ℕ, ◌+◌, ◌-◌, ◌*◌, ◌<◌, ◌≤◌, zero, suc, true, false, List, [], ◌∷◌, ◌++◌, flat_map, Option, Some, None, Contains, if◌then◌else◌, nat_lt, option_map}
 use Rattle.std.specs.List.{range_with_len}
 use Rattle.mux_entries.specs.Facts.{Marked, facts_of}
@@ -8,25 +8,25 @@ use Rattle.fib_codec.specs.declared.modes.Mode.{Mode}
 use Rattle.fib_carousel.specs.Packing.{rounds_of, entries_in_fib, entries_in_page}
 use Rattle.fib_carousel.specs.Greedy.{packing}
 
--- the entries of a page set, in the packing's order: those of the current configuration, marked as current,
--- and then those of the next one, where it is given, marked as next
+-- the entries of a page set, in the packing's order: those of the current configuration with C/N 0, then those of the
+-- next one, if given, with C/N 1
 abbrev pub page_set : Configuration → Option Configuration → List Marked
 page_set current None = facts_of current false
 page_set current (Some next) = facts_of current false ++ facts_of next true
 
--- the page set of stores, which hold these configurations
+-- the page set of stores that hold these configurations
 abbrev pub page_set_of : {S : Type 0} → (S → Configuration) → S → Option S → List Marked
 page_set_of content current next = page_set (content current) (option_map content next)
 
--- how many pages the entries take, at least 1
+-- the number of pages that the entries take, at least 1
 abbrev pub rounds : Mode → List Marked → ℕ
 rounds mode es = rounds_of mode (packing mode es)
 
--- the page after page k, where there are this many pages: page 0 again after the last
+-- the page after page k of this many pages: page 0 again after the last
 abbrev pub page_after : ℕ → ℕ → ℕ
 page_after pages k = if nat_lt (k + 1) pages then k + 1 else 0
 
--- the numbers of the FIBs of page k in the row: its first one, and the others
+-- the FIB numbers of page k: the first one, and the others
 abbrev pub first_fib : Mode → ℕ → ℕ
 first_fib mode k = fib_count mode * k
 
@@ -59,7 +59,7 @@ EachInAPage =
 abbrev pub NoneBeyond : Type 0
 NoneBeyond = (mode : Mode) (es : List Marked) (k : ℕ) → rounds mode es ≤ k → page_entries mode k es ≡ []
 
--- a page is as many successive FIBs of the row as a frame of the mode has
+-- a page consists of as many successive FIBs as a frame of the mode has
 abbrev pub PageIsFibs : Type 0
 PageIsFibs =
     (mode : Mode) (es : List Marked) (k : ℕ)

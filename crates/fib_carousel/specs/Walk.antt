@@ -1,5 +1,5 @@
--- How far the list of entries was walked, and where a cursor stands. No public contract needs the record Position
--- to be believed: a cursor stands at page 0 when it is new, and each page moves it to the page after it.
+-- Positions in the list of entries, and the page of a cursor. No public contract depends on the record Position: a new
+-- cursor is at page 0, and each page moves it to the next one.
 use Rattle.std.specs.Prelude.{◌≡◌, ℕ, ◌*◌, ◌<◌, ◌≤◌, ◌⊎◌, List, ◌∷◌, drop, length, slice_get, Some}
 use Rattle.mux_entries.specs.Facts.{Marked}
 use Rattle.fib_codec.specs.Spelling.{head_of}
@@ -11,15 +11,15 @@ use Rattle.fib_carousel.specs.Packing.{size_of, entries_in_fib, last_number}
 use Rattle.fib_carousel.specs.Greedy.{placed, numbers_from, packing}
 use Rattle.fib_carousel.specs.Pages.{fib_entries, first_fib, rounds}
 
--- the entry at an index has this head and this size
+-- the entry at an index has this head and size
 pub record IsShapeAt (ms : List Marked) (index : ℕ) (shape : EntryShape) : Type 0 where
   pub entry : Marked
   pub here : slice_get ms index ≡ Some entry
   pub head : shape.head ≡ head_of entry
   pub size : shape.size ≡ size_of entry
 
--- from the position on, the rule gives FIB n and the later ones what the packing gives them
-pub record StandsBefore (mode : Mode) (ms : List Marked) (n : ℕ) (p : Position) : Type 0 where
+-- from the position on, the rule gives FIB n and later ones what the packing gives them
+pub record IsAtFib (mode : Mode) (ms : List Marked) (n : ℕ) (p : Position) : Type 0 where
   pub index : p.index ≤ length ms
   pub used : p.state.used ≤ 30
   pub fib : p.state.fib ≤ 2 * p.index
@@ -27,30 +27,30 @@ pub record StandsBefore (mode : Mode) (ms : List Marked) (n : ℕ) (p : Position
   pub rest : (m : ℕ) → n ≤ m → entries_in_fib m (drop p.index ms) (numbers_from mode p.state (drop p.index ms)) ≡ fib_entries mode m ms
   pub last : last_number p.state.fib (numbers_from mode p.state (drop p.index ms)) ≡ last_number 0 (packing mode ms)
 
--- behind FIB n no entry is left, or the entries that are left go past it
+-- no entry is left after FIB n, or the last one is past it
 pub record HasPassed (mode : Mode) (ms : List Marked) (n : ℕ) (p : Position) : Type 0 where
   pub fib : p.state.fib ≤ n
   pub left : (p.index ≡ length ms) ⊎ (n < last_number 0 (packing mode ms))
 
--- the next entry that is left goes past FIB n
-abbrev pub GoesPast : Mode → List Marked → ℕ → Position → Type 0
-GoesPast mode ms n p =
+-- the next remaining entry goes past FIB n
+abbrev pub NextIsAfter : Mode → List Marked → ℕ → Position → Type 0
+NextIsAfter mode ms n p =
     (m : Marked) (rest : List Marked) → drop p.index ms ≡ m ∷ rest → n < (placed mode m p.state).fib
 
--- the page at which a cursor stands
+-- the current page of a cursor
 abbrev pub cursor_page : Cursor → ℕ
 cursor_page c = c.page
 
--- that is a page of these entries, and the cursor's place in the list is where it starts
-pub record Stands (mode : Mode) (ms : List Marked) (c : Cursor) : Type 0 where
+-- it is a page of these entries, and the cursor's position in the list is where that page starts
+pub record IsAtPageStart (mode : Mode) (ms : List Marked) (c : Cursor) : Type 0 where
   pub within : cursor_page c < rounds mode ms
-  pub before : StandsBefore mode ms (first_fib mode (cursor_page c)) c.position
+  pub before : IsAtFib mode ms (first_fib mode (cursor_page c)) c.position
 
--- the cursor stands at page k of these entries
-abbrev pub StandsAt : Mode → List Marked → ℕ → Cursor → Type 0
-StandsAt mode ms k c = Stands mode ms c × (cursor_page c ≡ k)
+-- the cursor is at page k of these entries
+abbrev pub IsAtPage : Mode → List Marked → ℕ → Cursor → Type 0
+IsAtPage mode ms k c = IsAtPageStart mode ms c × (cursor_page c ≡ k)
 
--- it stands at page 0, whatever the entries are
+-- the cursor is at page 0, whatever the entries are
 pub record IsAtFirstPage (c : Cursor) : Type 0 where
   pub page : cursor_page c ≡ 0
-  pub stands : (mode : Mode) (ms : List Marked) → Stands mode ms c
+  pub stands : (mode : Mode) (ms : List Marked) → IsAtPageStart mode ms c

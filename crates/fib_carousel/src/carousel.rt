@@ -1,4 +1,4 @@
-//! The pages of one configuration, or of two side by side.
+//! The pages of the current configuration, or of the current and the next one.
 
 ghost use Rattle.std.specs.Prelude.{◌≡◌, ℕ, ◌<◌, ◌≤◌, List};
 ghost use Rattle.std.specs.Option.{option_copied};
@@ -13,8 +13,8 @@ use crate::page_writer::write_page;
 use fib_codec::{FibFrame, Mode};
 use mux_config::{Ensemble, Store};
 
-/// How many pages the entries of these configurations take in this mode: those of the current one and, where it
-/// is given, of the next one. It is at least 1, and no division of the entries into FIBs takes fewer.
+/// The number of pages that the entries of the current configuration and, if given, of the next one take in this mode:
+/// at least 1. No division of the entries into FIBs takes fewer.
 pub fn pages<'a, 'b, S: Store>(mode: Mode, current: &'a S, next: Option<&'b S>) -> usize
     ensures value { let ms = page_set_of S.content current.now (option_copied next.entry) in
         result ≡ rounds mode ms }
@@ -25,8 +25,8 @@ pub fn pages<'a, 'b, S: Store>(mode: Mode, current: &'a S, next: Option<&'b S>) 
     page_count::pages(mode, current, next)
 }
 
-/// The FIBs of a page, numbered from 0, three or in mode III four: FIG 0/0 first where it is given, and no other,
-/// and then the entries that the packing puts there. A FIB without entries is empty.
+/// The FIBs of a page, pages counting from 0: three, or four in mode III. The only FIG 0/0 is the one given, if any,
+/// at the start of the first FIB; the entries follow as the packing places them. A FIB without entries is empty.
 pub fn page<'a, 'b, S: Store>(
     mode: Mode,
     current: &'a S,

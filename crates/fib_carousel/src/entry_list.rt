@@ -1,4 +1,4 @@
-//! The entries that wait to be packed.
+//! Lists of entries to be packed.
 
 ghost use Rattle.std.specs.Prelude.{◌≡◌, ◌<◌, ◌≤◌, List, length, slice_get, Some};
 ghost use Rattle.mux_entries.specs.Facts.{Marked};
@@ -18,7 +18,7 @@ pub(crate) trait EntryList {
 
     ghost entries: { Self → List Marked };
 
-    /// How many entries there are.
+    /// The number of entries.
     fn len(&self) -> u16
         ensures count { result ≡ length (entries self.now) }
         ensures sendable { AreSendable (entries self.now) };
@@ -30,8 +30,8 @@ pub(crate) trait EntryList {
         ensures some { 1 ≤ result.size }
         ensures small { result.size ≤ 28 };
 
-    /// Appends the entry at an index to a FIB, and entries of the same head and size that stand behind it, but none
-    /// that the room in bytes is too small for. How many they are is the result.
+    /// Appends the entry at an index to a FIB, possibly with entries of the same head and size that follow it, in at
+    /// most `room` bytes altogether. Returns the number of entries appended.
     fn put_run(&self, index: u16, room: u8, fib: &mut Fib) -> u8
         requires here { index < length (entries self.now) }
         requires first { (m : Marked) → slice_get (entries self.now) index ≡ Some m

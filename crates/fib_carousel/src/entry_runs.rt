@@ -1,4 +1,4 @@
-//! Entries of one head and size that stand behind each other, appended to a FIB together.
+//! Runs of entries with the same head and size, appended to a FIB together.
 
 ghost use Rattle.std.specs.Prelude.{◌≡◌, ◌+◌, ◌-◌, ◌*◌, ◌<◌, ◌≤◌, ◌++◌, length, map, take, drop, slice_get, Some};
 ghost use Rattle.mux_entries.specs.Facts.{Marked, facts_of, sub_entry, packet_entry};
@@ -15,12 +15,12 @@ use crate::to_entries::{put_packet, put_service, put_sub};
 use fib_codec::Fib;
 use mux_config::Store;
 
-/// The bytes of an entry of a sub-channel, and of a packet component.
+/// The lengths of the entries of a sub-channel and of a packet component, in bytes.
 const SUB_LEN: u8 = 4;
 
 const PACKET_LEN: u8 = 5;
 
-/// As many entries of a size as the room takes, but no more than there are.
+/// The number of entries of this size that fit in the room, at most the number available.
 fn as_many(room: u8, size: u8, there: usize) -> usize
     requires { 1 ≤ size }
     ensures fits { result * size ≤ room }
@@ -31,7 +31,7 @@ fn as_many(room: u8, size: u8, there: usize) -> usize
     if most < there { most } else { there }
 }
 
-/// Appends the entries of the sub-channels from a place on, up to another place.
+/// Appends the entries of the sub-channels with indices from `from` to `end`, exclusive.
 fn put_subs<S: Store>(store: &S, from: usize, end: usize, fib: &mut Fib)
     requires order { from ≤ end }
     requires there { let c = S.content store.now in end ≤ length c.subs }
@@ -44,7 +44,7 @@ fn put_subs<S: Store>(store: &S, from: usize, end: usize, fib: &mut Fib)
     }
 }
 
-/// Appends the entries of the packet components from a place on, up to another place.
+/// Appends the entries of the packet components with indices from `from` to `end`, exclusive.
 fn put_packets<S: Store>(store: &S, from: usize, end: usize, fib: &mut Fib)
     requires order { from ≤ end }
     requires there { let c = S.content store.now in end ≤ length c.packets }
@@ -57,8 +57,8 @@ fn put_packets<S: Store>(store: &S, from: usize, end: usize, fib: &mut Fib)
     }
 }
 
-/// Appends the entry of the service at a place, marked with this C/N flag, and those of the same head and size that
-/// stand behind it, but none that the room is too small for. How many they are is the result.
+/// Appends the entry of the service at an index, with this C/N flag, and those of the same head and size that follow
+/// it, as far as they fit in `room` bytes. Returns the number of entries appended.
 fn put_services<S: Store>(store: &S, next: bool, from: usize, room: u8, fib: &mut Fib) -> usize
     requires there { let c = S.content store.now in from < length c.services }
     requires first { let c = S.content store.now in
@@ -91,8 +91,8 @@ fn put_services<S: Store>(store: &S, next: bool, from: usize, room: u8, fib: &mu
     place - from
 }
 
-/// Appends the entry at an index of a store's configuration, marked with this C/N flag, and those of the same head and
-/// size that stand behind it, but none that the room is too small for. How many they are is the result.
+/// Appends the entry at an index of a store's configuration, with this C/N flag, and those of the same head and size
+/// that follow it, as far as they fit in `room` bytes. Returns the number of entries appended.
 #[inline(always)]
 pub(crate) fn put_run_at<S: Store>(store: &S, next: bool, index: u16, room: u8, fib: &mut Fib) -> u8
     requires here { index < length (config_entries (S.content store.now)) }

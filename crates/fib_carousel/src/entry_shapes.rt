@@ -1,4 +1,4 @@
-//! The heads and the sizes of the entries that say what a configuration consists of.
+//! The heads and the sizes of the entries that describe a configuration.
 
 ghost use Rattle.std.specs.Prelude.{◌≡◌, ◌≤◌, false};
 ghost use Rattle.fib_codec.specs.Spelling.{entry_size, is_long_entry};
@@ -10,14 +10,14 @@ use crate::pack_state::EntryShape;
 use fib_codec::Head;
 use mux_config::{Service, Sid};
 
-/// The shape of each entry of FIG 0/1 in the long form, marked with this C/N flag.
+/// The shape of every FIG 0/1 entry in the long form with this C/N flag.
 pub(crate) fn sub_shape(next: bool) -> EntryShape
     ensures { result ≡ sub_shape next }
 {
     shape(next, false, 1, 4)
 }
 
-/// The shape of the entry of a service, marked with this C/N flag.
+/// The shape of the entry of a service with this C/N flag.
 pub(crate) fn service_shape(service: &Service, next: bool) -> EntryShape
     requires { IsService service.now }
     ensures next { result.head.next ≡ next }
@@ -35,14 +35,14 @@ pub(crate) fn service_shape(service: &Service, next: bool) -> EntryShape
     }
 }
 
-/// The shape of each entry of FIG 0/3 without CAOrg, marked with this C/N flag.
+/// The shape of every FIG 0/3 entry without CAOrg with this C/N flag.
 pub(crate) fn packet_shape(next: bool) -> EntryShape
     ensures { result ≡ packet_shape next }
 {
     shape(next, false, 3, 5)
 }
 
-/// A shape of this ensemble.
+/// A shape with OE 0: an entry of this ensemble.
 fn shape(next: bool, long: bool, ext: u8, size: u8) -> EntryShape
     ensures { result ≡ record {
       head = record { next = next; oe = false; long = long; ext = ext };

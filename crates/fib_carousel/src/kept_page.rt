@@ -1,4 +1,4 @@
-//! A page that is kept, to be sent in several frames.
+//! A page kept to be sent in several frames.
 
 ghost use Rattle.std.specs.Prelude.{◌≡◌, ℕ, ◌+◌, ◌-◌, ◌≤◌, ◌++◌, List, length, take, Some, None};
 ghost use Rattle.mux_entries.specs.Facts.{Marked};
@@ -12,15 +12,15 @@ use byteorder::{BigEndian, ByteOrder};
 use fib_codec::{FibFrame, fig0_0};
 use mux_config::Ensemble;
 
-/// A page made once by a cursor, to be sent in several frames: in each with a FIG 0/0 of its own or without one. Only
-/// the first FIB of the page becomes another by a FIG 0/0, so that its CRC alone is computed anew.
+/// A page computed once by a cursor and sent in several frames, in each with that frame's own FIG 0/0 or without one.
+/// Only the first FIB changes with the FIG 0/0, so only its CRC is computed again.
 #[derive(Clone, Copy, Debug, PartialEq, Eq)]
 pub struct KeptPage {
     plain: FibFrame,
 }
 
-/// Writes a FIB with FIG 0/0 before the FIGs of this one, which leave room for it, over the first of a frame. What is
-/// cut off behind them is part of what fills them up.
+/// Overwrites the first FIB of a frame with FIG 0/0 and the FIGs of `plain`, which leave room for it. The bytes of
+/// `plain` that are cut off are padding.
 fn put_first(ensemble: Ensemble, plain: &[u8; 32], frame: &mut FibFrame)
     requires { 32 ≤ length frame.old }
     ensures { let fig = figs_bytes (ensemble_figs (Some ensemble)) in
@@ -53,7 +53,7 @@ impl KeptPage {
         &self.plain
     }
 
-    /// Writes the page with this FIG 0/0 first over a frame.
+    /// Overwrites a frame with the page, this FIG 0/0 first.
     pub fn with_ensemble(&self, ensemble: Ensemble, frame: &mut FibFrame)
         ensures { (mode : Mode) (ms : List Marked) (k : ℕ)
             → IsKept mode ms k self.now → frame.new ≡ page_bytes mode (Some ensemble) k ms }

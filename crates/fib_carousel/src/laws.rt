@@ -1,4 +1,4 @@
-//! What holds of every packing, whatever computes it. The functions do nothing; their contracts are the laws.
+//! Laws that hold for every packing, whatever computes it. The functions do nothing; their contracts are the laws.
 
 ghost use Rattle.fib_carousel.specs.Packing.{PackingIsOne, DividedAreSmall};
 ghost use Rattle.fib_carousel.specs.Greedy.{GreedyIsPacking, NoFewer};
@@ -15,9 +15,9 @@ pub fn greedy()
     ensures fewest { NoFewer }
 {}
 
-/// All pages together have each entry once, in order, and no other; so each entry is in a page, and a page
-/// past the last has none. The entries of a page are those of its FIBs, as many as a frame of the mode has. One
-/// configuration needs at most 41 pages, and two side by side at most 81; in mode III 28 and 55.
+/// The pages together contain each entry once, in order, and no other; so each entry is in a page, and pages past the
+/// last are empty. The entries of a page are those of its FIBs, as many as a frame of the mode has. One configuration
+/// needs at most 41 pages and two at most 81; in mode III 28 and 55.
 pub fn pages()
     ensures all { PagesAreAll }
     ensures each { EachInAPage }
@@ -26,9 +26,9 @@ pub fn pages()
     ensures most { MostPages }
 {}
 
-/// A page is as many valid FIBs as a frame of the mode has, with FIG 0/0 first where it is given. What is heard of it is exactly the
-/// entries of that page, and the ensemble information given: so no entry of a page is lost, and none is
-/// added. The entries of configurations are such that this holds of them.
+/// A page consists of as many valid FIBs as a frame of the mode has, with FIG 0/0 first if given. A receiver decodes
+/// from it exactly the entries of that page and the ensemble information given: no entry is lost, and none is added.
+/// This covers the entries of every configuration.
 pub fn carried()
     ensures pageable { PageSetsArePageable }
     ensures valid { PagesAreValid }

@@ -1,52 +1,52 @@
-//! How far the packing has come.
+//! The progress of the packing.
 
 ghost use Rattle.std.specs.Prelude.{◌≡◌, ◌↔◌, ◌+◌, ◌*◌, ◌<◌, ◌≤◌, ◌^◌, IsTrue, IfSome, Some, None};
 ghost use Rattle.mux_entries.specs.Facts.{Marked};
 ghost use Rattle.fib_codec.specs.Spelling.{head_of};
 ghost use Rattle.fib_carousel.specs.Packing.{cost, room, same_head, size_of};
 ghost use Rattle.fib_carousel.specs.Greedy.{start, placed};
-ghost use Rattle.fib_carousel.specs.Runs.{shape_cost, step, steps, closed, IsThenWithin, GoesBehind};
+ghost use Rattle.fib_carousel.specs.Runs.{shape_cost, step, steps, closed, IsThenWithin, IsPlacedAfter};
 
 use fib_codec::{Head, Mode};
 
-/// The bytes that FIGs may take in a FIB at most.
+/// The most bytes that FIGs may take in a FIB.
 pub(crate) const MOST_USED: u8 = 30;
 
-/// The bytes that the FIGs of entries may take in the first FIB of a page.
+/// The most bytes that the FIGs of entries may take in the first FIB of a page.
 pub(crate) const FIRST_ROOM: u8 = 23;
 
-/// What the packing needs to know of an entry: the head of the FIG that it goes into, and its bytes.
+/// What the packing needs to know about an entry: the head of its FIG, and its size.
 #[derive(Clone, Copy, Debug, PartialEq, Eq)]
 pub(crate) struct EntryShape {
-    /// The head that its FIG has.
+    /// The head of its FIG.
     pub head: Head,
-    /// How many bytes it takes.
+    /// Its size in bytes.
     pub size: u8,
 }
 
-/// Where the entry before stands: the number of its FIB in the row of pages, the bytes of that FIB that are
-/// taken so far, and the head of its FIG. No head stands at the start, before the first entry.
+/// Where the previous entry was placed: the number of its FIB in the sequence of pages, the bytes of that FIB taken so
+/// far, and the head of its FIG.
 #[derive(Clone, Copy, Debug, PartialEq, Eq)]
 pub(crate) struct PackState {
     /// The number of the FIB, from 0.
     pub fib: usize,
-    /// The bytes taken by the FIGs of this FIB so far, FIG 0/0 apart: at most 30.
+    /// The bytes taken by the FIGs of this FIB so far, not counting FIG 0/0: at most 30.
     pub used: u8,
-    /// The head of the last FIG; None where no entry was placed.
+    /// The head of the last FIG; None before the first entry and after the FIB is closed.
     pub head: Option<Head>,
 }
 
-/// How far the list was walked: the index of the next entry, and where the one before it stands.
+/// The progress through the list: the index of the next entry, and where the previous one was placed.
 #[derive(Clone, Copy, Debug, PartialEq, Eq)]
 pub(crate) struct Position {
     /// The index of the next entry, from 0.
     pub index: u16,
-    /// Where the entry before it stands.
+    /// Where the previous entry was placed.
     pub state: PackState,
 }
 
-/// The bytes that the FIGs of entries may take in a FIB of the row. The first FIB of a page leaves 7 bytes
-/// to FIG 0/0, also where none is sent.
+/// The bytes that the FIGs of entries may take in a FIB of the sequence. The first FIB of a page reserves 7 bytes for
+/// FIG 0/0, even if none is sent.
 fn room(mode: Mode, fib: usize) -> u8
     ensures value { result ≡ room mode fib }
     ensures bound { result ≤ 30 }
@@ -74,8 +74,8 @@ pub(crate) fn is_same_shape(one: EntryShape, other: EntryShape) -> bool
     same_head(one.head, other.head) && one.size == other.size
 }
 
-/// The state in the FIB of this number with so many bytes taken, and this head of its last FIG; None where the room of
-/// that FIB, which is known, is too small for them.
+/// The state in FIB `number` with `used` bytes taken and this head of its last FIG; None if they exceed the room of
+/// that FIB, `known`.
 #[inline(always)]
 fn state_within(number: usize, used: u8, head: Head, known: u8) -> Option<PackState>
     ensures within { IfSome result (λ q. (used ≤ known)
@@ -105,7 +105,7 @@ impl PackState {
         }
     }
 
-    /// What an entry takes behind this one in the same FIB.
+    /// The bytes that an entry takes after the previous one in the same FIB.
     pub(crate) fn cost(self, shape: EntryShape) -> u8
         requires { shape.size ≤ 28 }
         ensures value { (m : Marked)
@@ -125,7 +125,7 @@ impl PackState {
         }
     }
 
-    /// The state with the next entry placed: in the same FIB where it fits, else in the next FIB in which it fits.
+    /// The state after placing the next entry: in the same FIB if it fits, else in the next FIB in which it fits.
     pub(crate) fn then(self, mode: Mode, shape: EntryShape) -> PackState
         requires small { shape.size ≤ 28 }
         requires used { self.used ≤ 30 }
@@ -157,15 +157,14 @@ impl PackState {
         }
     }
 
-    /// The state with the next entry placed, as [`PackState::then`] gives it; None where that is behind the FIB of this
-    /// number.
+    /// The state after placing the next entry, as [`PackState::then`] gives it; None if that is past FIB `number`.
     #[inline(never)]
     fn then_from_before(&self, mode: Mode, shape: EntryShape, number: usize) -> Option<PackState>
         requires small { shape.size ≤ 28 }
         requires used { self.now.used ≤ 30 }
         requires fib { self.now.fib < 2 ^ 32 }
         ensures within { IfSome result (λ q. IsThenWithin mode shape number self.now q) }
-        ensures behind { result ≡ None → GoesBehind mode shape number self.now }
+        ensures behind { result ≡ None → IsPlacedAfter mode shape number self.now }
     {
         let state = self.then(mode, shape);
         if state.fib > number {
@@ -174,9 +173,9 @@ impl PackState {
         Some(state)
     }
 
-    /// The state with the next entry placed, as [`PackState::then`] gives it; None where that is behind the FIB of this
-    /// number. The room of that FIB is known: it is not computed anew for each of its entries, and no other one is where
-    /// the FIB before it was closed.
+    /// The state after placing the next entry, as [`PackState::then`] gives it; None if that is past FIB `number`. The
+    /// room of that FIB is passed in, so that it is not computed again for each entry; if the previous FIB was closed,
+    /// no other room is needed.
     #[inline(always)]
     pub(crate) fn then_within(
         &self,
@@ -191,7 +190,7 @@ impl PackState {
         requires fib { self.now.fib < 2 ^ 32 }
         requires known { known ≡ room mode number }
         ensures within { IfSome result (λ q. IsThenWithin mode shape number self.now q) }
-        ensures behind { result ≡ None → GoesBehind mode shape number self.now }
+        ensures behind { result ≡ None → IsPlacedAfter mode shape number self.now }
     {
         if self.fib == number {
             return state_within(number, self.used + self.cost(shape), shape.head, known);
@@ -204,8 +203,7 @@ impl PackState {
         self.then_from_before(mode, shape, number)
     }
 
-    /// The state with its FIB closed, so that the next entry begins a FIB behind it: as it does where that FIB has no
-    /// room for it.
+    /// The state with its FIB closed: the next entry starts a later FIB, as it does if this one has no room for it.
     fn closed(self) -> PackState
         ensures { result ≡ closed self }
     {
@@ -216,8 +214,8 @@ impl PackState {
         }
     }
 
-    /// The state with this many entries of one shape placed, of which each FIB takes as many as fit. Such an
-    /// entry fits every FIB.
+    /// The state after placing this many entries of one shape, as many to a FIB as fit. Such an entry fits in every
+    /// FIB.
     pub(crate) fn run(self, mode: Mode, shape: EntryShape, count: usize) -> PackState
         requires some { 1 ≤ shape.size }
         requires small { shape.size ≤ 21 }
@@ -250,7 +248,7 @@ impl PackState {
 }
 
 impl Position {
-    /// Before the first entry.
+    /// The position before the first entry.
     pub(crate) fn start() -> Position
         ensures index { result.index ≡ 0 }
         ensures state { result.state ≡ start }
@@ -261,7 +259,7 @@ impl Position {
         }
     }
 
-    /// Closes the FIB of the entry before it.
+    /// Closes the FIB of the previous entry.
     pub(crate) fn close(&mut self)
         ensures { self.new ≡ record { index = self.old.index; state = closed self.old.state } }
     {

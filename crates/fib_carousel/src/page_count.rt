@@ -1,5 +1,6 @@
-//! How many pages configurations take. Sub-channels and packet components have entries of one size each, which are
-//! counted in runs.
+//! The number of pages that configurations take.
+//!
+//! Entries of sub-channels have one size and entries of packet components another, so both are counted in runs.
 
 ghost use Rattle.std.specs.Prelude.{◌≡◌, ◌+◌, ◌/◌, ◌≤◌, map};
 ghost use Rattle.mux_entries.specs.Facts.{facts_of, marked, service_entry};
@@ -13,7 +14,7 @@ use crate::pack_state::PackState;
 use fib_codec::Mode;
 use mux_config::Store;
 
-/// The state with the services of a configuration placed, each marked with this C/N flag.
+/// The state after placing the services of a configuration with this C/N flag.
 fn with_services<S: Store>(before: PackState, mode: Mode, store: &S, next: bool) -> PackState
     requires used { before.used ≤ 30 }
     requires fib { before.fib ≤ 1024 }
@@ -29,7 +30,7 @@ fn with_services<S: Store>(before: PackState, mode: Mode, store: &S, next: bool)
     state
 }
 
-/// The state with the entries of a configuration placed, each marked with this C/N flag.
+/// The state after placing the entries of a configuration with this C/N flag.
 fn with_entries<S: Store>(before: PackState, mode: Mode, store: &S, next: bool) -> PackState
     requires used { before.used ≤ 30 }
     requires fib { before.fib ≤ 512 }
@@ -42,7 +43,7 @@ fn with_entries<S: Store>(before: PackState, mode: Mode, store: &S, next: bool) 
     services.run(mode, packet_shape(next), store.packet_count())
 }
 
-/// How many pages are begun where the last entry stands there.
+/// The number of pages if this is the state after the last entry.
 fn rounds_to(last: PackState, mode: Mode) -> usize
     requires { last.fib ≤ 1024 }
     ensures { result ≡ last.fib / fib_count mode + 1 }
@@ -50,7 +51,7 @@ fn rounds_to(last: PackState, mode: Mode) -> usize
     last.fib / mode.fibs() + 1
 }
 
-/// How many pages the entries of these configurations take, at least 1.
+/// The number of pages that the entries of these configurations take, at least 1.
 pub(crate) fn pages<S: Store>(mode: Mode, current: &S, next: Option<&S>) -> usize
     ensures { result ≡ rounds mode (page_set_of S.content current.now (option_copied next.entry)) }
 {

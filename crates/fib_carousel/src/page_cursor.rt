@@ -1,4 +1,4 @@
-//! A cursor along the pages.
+//! A cursor over the pages.
 
 ghost use Rattle.std.specs.Prelude.{◌≡◌, ◌+◌, ◌-◌, ◌<◌};
 ghost use Rattle.std.specs.Option.{option_copied};
@@ -6,7 +6,7 @@ ghost use Rattle.fib_codec.specs.Modes.{fib_count};
 ghost use Rattle.fib_carousel.specs.Pages.{page_set_of, page_after, rounds, first_fib};
 ghost use Rattle.fib_carousel.specs.Bytes.{page_bytes};
 ghost use Rattle.fib_carousel.specs.Kept.{IsKept};
-ghost use Rattle.fib_carousel.specs.Walk.{IsAtFirstPage, Stands, StandsAt, cursor_page, StandsBefore, HasPassed};
+ghost use Rattle.fib_carousel.specs.Walk.{IsAtFirstPage, IsAtPageStart, IsAtPage, cursor_page, IsAtFib, HasPassed};
 
 use crate::entry_list::EntryList;
 use crate::kept_page::KeptPage;
@@ -16,10 +16,9 @@ use crate::page_writer::write_page;
 use fib_codec::{FibFrame, Mode};
 use mux_config::{Ensemble, Store};
 
-/// Gives the pages of a page set one after another, and page 0 again after the last. It keeps the place in the list
-/// of entries at which the next page starts, so that a page is packed from there on and not from the first entry.
-/// It keeps none of the entries: it is handed the configurations for each page. Where these or the mode become
-/// others, it has to be restarted.
+/// Yields the pages of a page set in order, and page 0 again after the last. It keeps the position in the list of
+/// entries at which the next page starts, so a page is packed from there and not from the first entry. It keeps none of
+/// the entries: the configurations are passed in for each page. When they or the mode change, it must be restarted.
 #[derive(Clone, Copy, Debug, PartialEq, Eq)]
 pub struct Cursor {
     page: usize,
@@ -48,28 +47,28 @@ impl Cursor {
         }
     }
 
-    /// Goes to page 0, whatever the entries are.
+    /// Returns to page 0, whatever the entries are.
     pub fn restart(&mut self)
         ensures { IsAtFirstPage self.new }
     {
         *self = Cursor::new();
     }
 
-    /// The number of the page at which it stands, from 0.
+    /// The number of the current page, from 0.
     pub fn number(&self) -> usize
         ensures { result ≡ cursor_page self.now }
     {
         self.page
     }
 
-    /// Moves behind the page that was packed: to the page after it, and after the last to page 0.
+    /// Advances past the page that was packed: to the next page, and to page 0 after the last.
     fn advance<L: EntryList>(&mut self, list: &L, mode: Mode)
         requires within { self.old.page < rounds mode (L.entries list.now) }
         requires before { let next = first_fib mode self.old.page + fib_count mode in
-            StandsBefore mode (L.entries list.now) next self.old.position }
+            IsAtFib mode (L.entries list.now) next self.old.position }
         requires passed { let last = first_fib mode self.old.page + fib_count mode - 1 in
             HasPassed mode (L.entries list.now) last self.old.position }
-        ensures stands { Stands mode (L.entries list.now) self.new }
+        ensures stands { IsAtPageStart mode (L.entries list.now) self.new }
         ensures page { let pages = rounds mode (L.entries list.now) in
             cursor_page self.new ≡ page_after pages (cursor_page self.old) }
     {
@@ -80,9 +79,8 @@ impl Cursor {
         }
     }
 
-    /// The page at which it stands, with FIG 0/0 first where it is given: the bytes that `page` gives for it. Then it
-    /// stands at the page after it, and after the last at page 0. The configurations and the mode are those with
-    /// which it came to this page.
+    /// Returns the current page, with FIG 0/0 first if given (the bytes that `page` gives for it), and advances,
+    /// wrapping after the last. The configurations and the mode are those with which the cursor came to this page.
     pub fn page<'a, 'b, S: Store>(
         &mut self,
         mode: Mode,
@@ -91,11 +89,11 @@ impl Cursor {
         ensemble: Option<Ensemble>,
     ) -> FibFrame
         requires stands { let ms = page_set_of S.content current.now (option_copied next) in
-            Stands mode ms self.old }
+            IsAtPageStart mode ms self.old }
         ensures bytes { let ms = page_set_of S.content current.now (option_copied next.entry) in
             result ≡ page_bytes mode ensemble (cursor_page self.old) ms }
         ensures next { let ms = page_set_of S.content current.now (option_copied next.entry) in
-            StandsAt mode ms (page_after (rounds mode ms) (cursor_page self.old)) self.new }
+            IsAtPage mode ms (page_after (rounds mode ms) (cursor_page self.old)) self.new }
     {
         let set = PageSet::new(current, next);
         let mut frame = FibFrame::new(mode);
@@ -111,9 +109,8 @@ impl Cursor {
         frame
     }
 
-    /// The page at which it stands, to be sent in several frames, with FIG 0/0 or without it. Then the cursor stands at
-    /// the page after it, and after the last at page 0. The configurations and the mode are those with which it came to
-    /// this page.
+    /// Returns the current page, to be sent in several frames with FIG 0/0 or without it, and advances, wrapping after
+    /// the last. The configurations and the mode are those with which the cursor came to this page.
     pub fn kept_page<'a, 'b, S: Store>(
         &mut self,
         mode: Mode,
@@ -121,11 +118,11 @@ impl Cursor {
         next: Option<&'b S>,
     ) -> KeptPage
         requires stands { let ms = page_set_of S.content current.now (option_copied next) in
-            Stands mode ms self.old }
+            IsAtPageStart mode ms self.old }
         ensures kept { let ms = page_set_of S.content current.now (option_copied next.entry) in
             IsKept mode ms (cursor_page self.old) result }
         ensures next { let ms = page_set_of S.content current.now (option_copied next.entry) in
-            StandsAt mode ms (page_after (rounds mode ms) (cursor_page self.old)) self.new }
+            IsAtPage mode ms (page_after (rounds mode ms) (cursor_page self.old)) self.new }
     {
         let set = PageSet::new(current, next);
         let mut plain = FibFrame::new(mode);

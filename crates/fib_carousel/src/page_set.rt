@@ -1,4 +1,4 @@
-//! The entries of the pages: those of the current configuration, and those of the next one where it is given.
+//! The entries of the pages: those of the current configuration, and those of the next one if given.
 
 ghost use Rattle.std.specs.Prelude.{◌≡◌, ◌+◌, ◌<◌, ◌≤◌, Bool, true, false, length};
 ghost use Rattle.std.specs.Option.{option_copied};
@@ -29,7 +29,7 @@ enum Item<'a> {
 }
 
 impl Item<'_> {
-    /// The head and the size of its entry, marked with this C/N flag.
+    /// The head and the size of its entry with this C/N flag.
     fn shape(&self, next: bool) -> EntryShape
         requires { IsFormedItem self.now }
         ensures next { result.head.next ≡ next }
@@ -48,7 +48,7 @@ impl Item<'_> {
     }
 }
 
-/// How many entries the configuration of a store has, at most 192.
+/// The number of entries of a store's configuration, at most 192.
 fn entry_count<S: Store>(store: &S) -> u16
     ensures value { result ≡ length (config_entries (S.content store.now)) }
     ensures bound { result ≤ 192 }
@@ -65,7 +65,7 @@ fn sub_item<S: Store>(store: &S, index: usize) -> Item<'_>
     Item::Sub(store.sub_at(index))
 }
 
-/// The service at an index of a store's configuration, counted behind the sub-channels.
+/// The service at an index of a store's configuration; services are counted after sub-channels.
 fn service_item<S: Store>(store: &S, index: usize) -> Item<'_>
     requires from { let c = S.content store.now in length c.subs ≤ index }
     requires below { let c = S.content store.now in index < length c.subs + length c.services }
@@ -74,7 +74,7 @@ fn service_item<S: Store>(store: &S, index: usize) -> Item<'_>
     Item::Service(store.service_at(index - store.sub_count()))
 }
 
-/// The packet component at an index of a store's configuration, counted behind the others.
+/// The packet component at an index of a store's configuration; packet components are counted last.
 fn packet_item<S: Store>(store: &S, index: usize) -> Item<'_>
     requires from { let c = S.content store.now in length c.subs + length c.services ≤ index }
     requires below { index < length (config_entries (S.content store.now)) }
@@ -83,8 +83,8 @@ fn packet_item<S: Store>(store: &S, index: usize) -> Item<'_>
     Item::Packet(store.packet_at(index - store.sub_count() - store.service_count()))
 }
 
-/// The member of a store's configuration at an index, where sub-channels, services and packet components are
-/// counted one after another from 0.
+/// The member of a store's configuration at an index, counting sub-channels, services and packet components in this
+/// order from 0.
 fn item_at<S: Store>(store: &S, index: u16) -> Item<'_>
     requires { index < length (config_entries (S.content store.now)) }
     ensures { IsItemAt (S.content store.now) index result }
@@ -100,7 +100,7 @@ fn item_at<S: Store>(store: &S, index: u16) -> Item<'_>
     packet_item(store, index)
 }
 
-/// The head and the size of the entry at an index of a store's configuration, marked with this C/N flag.
+/// The head and the size of the entry at an index of a store's configuration, with this C/N flag.
 fn shape_at<S: Store>(store: &S, next: bool, index: u16) -> EntryShape
     requires { index < length (config_entries (S.content store.now)) }
     ensures value { IsShapeAt (facts_of (S.content store.now) next) index result }
@@ -110,8 +110,7 @@ fn shape_at<S: Store>(store: &S, next: bool, index: u16) -> EntryShape
     item_at(store, index).shape(next)
 }
 
-/// The entries of the pages: those of the current configuration, marked with C/N 0, and then those of the
-/// next one, marked with C/N 1.
+/// The entries of the pages: those of the current configuration with C/N 0, then those of the next one with C/N 1.
 #[derive(Drop)]
 pub(crate) struct PageSet<'a, 'b, S: Store> {
     current: &'a S,

@@ -1,4 +1,4 @@
-//! The entries of a FIB put into FIGs, and the FIBs of a page written one after another.
+//! Puts entries into the FIGs of a FIB, and writes the FIBs of a page.
 
 ghost use Rattle.std.specs.Prelude.{◌≡◌, [], take, ◌+◌, ◌-◌, ◌*◌, ◌%◌, ◌<◌, ◌≤◌, ◌++◌, length, IsSome, IfSome, Option, None};
 ghost use Rattle.fib_codec.specs.Modes.{fib_count};
@@ -8,7 +8,7 @@ ghost use Rattle.fib_carousel.specs.Packing.{figs_size, room};
 ghost use Rattle.fib_carousel.specs.Pages.{fib_entries, first_fib, rounds};
 ghost use Rattle.fib_carousel.specs.Bytes.{figs_of, ensemble_figs, page_bytes};
 ghost use Rattle.fib_carousel.specs.Filling.{Begins, Grows, TakesEntry};
-ghost use Rattle.fib_carousel.specs.Walk.{StandsBefore, HasPassed, GoesPast};
+ghost use Rattle.fib_carousel.specs.Walk.{IsAtFib, HasPassed, NextIsAfter};
 ghost use Rattle.fib_carousel.specs.Carried.{AreSendable, IsPageable};
 
 use crate::entry_list::EntryList;
@@ -16,15 +16,15 @@ use crate::pack_state::{EntryShape, FIRST_ROOM, MOST_USED, PackState, Position, 
 use fib_codec::{Fib, FibFrame, Head, Mode, entry_len};
 use mux_config::{Ensemble, Entry};
 
-/// The bytes of the shortest entry, that of a service without components.
+/// The size in bytes of the shortest entry: a service without components.
 const SHORTEST: u8 = 3;
 
-/// The last FIG of a FIB, to which entries of its head are appended.
+/// The last FIG of a FIB, to which entries with its head are appended.
 #[derive(Clone, Copy, Debug, PartialEq, Eq)]
 struct OpenFig {
     /// Its head.
     head: Head,
-    /// The place of its first byte, which says how long it is.
+    /// The offset of its first byte, which has its length.
     place: usize,
 }
 
@@ -42,8 +42,7 @@ fn begin_for(fib: &mut Fib, shape: EntryShape) -> OpenFig
     }
 }
 
-/// The FIG that an entry of this head and size is appended to next: the last one, made longer, where it has that head,
-/// and else one that is begun.
+/// The FIG for the next entry of this head and size: the last FIG, lengthened, if it has that head, else a new one.
 fn fig_for(fib: &mut Fib, last: Option<OpenFig>, shape: EntryShape) -> OpenFig
     requires ext { shape.head.ext < 32 }
     requires room { TakesEntry last shape fib.old }
@@ -62,10 +61,10 @@ fn fig_for(fib: &mut Fib, last: Option<OpenFig>, shape: EntryShape) -> OpenFig
     }
 }
 
-/// Where a FIB stands.
+/// The position of a FIB.
 #[derive(Clone, Copy, Debug, PartialEq, Eq)]
 struct FibPlace {
-    /// Its number in the row of pages, from 0.
+    /// Its number in the sequence of pages, from 0.
     number: usize,
     /// Its index in the frame of its page, from 0.
     index: usize,
@@ -73,8 +72,8 @@ struct FibPlace {
     room: u8,
 }
 
-/// Appends the FIGs of the entries of the FIB at a place, which fit in what is left of it. The position stands before
-/// it, and then behind it. The list has `len` entries.
+/// Appends the FIGs of the entries of the FIB at `place`, which fit in what is left of it. `position` moves from before
+/// that FIB to after it. The list has `len` entries.
 fn put_figs<L: EntryList>(
     list: &L,
     len: u16,
@@ -86,14 +85,14 @@ fn put_figs<L: EntryList>(
     requires count { len ≡ length (L.entries list.now) }
     requires sendable { AreSendable (L.entries list.now) }
     requires known { place.room ≡ room mode place.number }
-    requires stands { StandsBefore mode (L.entries list.now) place.number position.old }
+    requires stands { IsAtFib mode (L.entries list.now) place.number position.old }
     requires room { let here = fib_entries mode place.number (L.entries list.now) in
         length fib.old + figs_size None here ≤ 30 }
     ensures bytes { let here = fib_entries mode place.number (L.entries list.now) in
         fib.new ≡ fib.old ++ figs_bytes (figs_of here) }
-    ensures next { StandsBefore mode (L.entries list.now) (place.number + 1) position.new }
+    ensures next { IsAtFib mode (L.entries list.now) (place.number + 1) position.new }
     ensures passed { HasPassed mode (L.entries list.now) place.number position.new }
-    ensures past { GoesPast mode (L.entries list.now) place.number position.new }
+    ensures past { NextIsAfter mode (L.entries list.now) place.number position.new }
 {
     let number = place.number;
     let known = place.room;
@@ -126,7 +125,7 @@ fn put_figs<L: EntryList>(
     }
 }
 
-/// Appends FIG 0/0 to a FIB without FIGs, where it is given.
+/// Appends FIG 0/0, if given, to a FIB without FIGs.
 fn put_ensemble(fib: &mut Fib, ensemble: Option<Ensemble>)
     requires { fib.old ≡ [] }
     ensures bytes { fib.new ≡ figs_bytes (ensemble_figs ensemble) }
@@ -147,8 +146,8 @@ fn put_ensemble(fib: &mut Fib, ensemble: Option<Ensemble>)
     }
 }
 
-/// Writes the FIB at a place over that of a frame, with FIG 0/0 first where it is given. The position stands before it,
-/// and then behind it. The list has `len` entries.
+/// Overwrites the FIB at `place` of a frame, with FIG 0/0 first if given. `position` moves from before that FIB to
+/// after it. The list has `len` entries.
 fn write_fib<L: EntryList>(
     list: &L,
     len: u16,
@@ -161,7 +160,7 @@ fn write_fib<L: EntryList>(
     requires count { len ≡ length (L.entries list.now) }
     requires sendable { AreSendable (L.entries list.now) }
     requires known { place.room ≡ room mode place.number }
-    requires stands { StandsBefore mode (L.entries list.now) place.number position.old }
+    requires stands { IsAtFib mode (L.entries list.now) place.number position.old }
     requires first { IsSome ensemble → place.number % fib_count mode ≡ 0 }
     requires there { 32 * place.index + 32 ≤ length frame.old }
     ensures bytes { let here = fib_entries mode place.number (L.entries list.now) in
@@ -169,7 +168,7 @@ fn write_fib<L: EntryList>(
         ++ fib_bytes (ensemble_figs ensemble ++ figs_of here) }
     ensures size { length frame.new ≡ length frame.old }
     ensures within { IfSome ensemble IsEnsembleInformation }
-    ensures next { StandsBefore mode (L.entries list.now) (place.number + 1) position.new }
+    ensures next { IsAtFib mode (L.entries list.now) (place.number + 1) position.new }
     ensures passed { HasPassed mode (L.entries list.now) place.number position.new }
 {
     let mut fib = Fib::new();
@@ -179,8 +178,8 @@ fn write_fib<L: EntryList>(
     frame.finish_fib(place.index, &fib);
 }
 
-/// Writes the FIBs of a page over those of a frame, with FIG 0/0 first where it is given. The position stands before
-/// the page's first FIB, and then behind its last.
+/// Overwrites the FIBs of a frame with a page, FIG 0/0 first if given. `position` moves from before the page's first
+/// FIB to after its last.
 pub(crate) fn write_page<L: EntryList>(
     list: &L,
     mode: Mode,
@@ -191,11 +190,11 @@ pub(crate) fn write_page<L: EntryList>(
 )
     requires page { page < rounds mode (L.entries list.now) }
     requires size { length frame.old ≡ 32 * fib_count mode }
-    requires stands { StandsBefore mode (L.entries list.now) (first_fib mode page) position.old }
+    requires stands { IsAtFib mode (L.entries list.now) (first_fib mode page) position.old }
     ensures bytes { frame.new ≡ page_bytes mode ensemble page (L.entries list.now) }
     ensures pageable { IsPageable ensemble (L.entries list.now) }
     ensures next { let next = first_fib mode page + fib_count mode in
-        StandsBefore mode (L.entries list.now) next position.new }
+        IsAtFib mode (L.entries list.now) next position.new }
     ensures passed { let last = first_fib mode page + fib_count mode - 1 in
         HasPassed mode (L.entries list.now) last position.new }
 {

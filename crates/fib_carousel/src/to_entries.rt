@@ -1,5 +1,7 @@
-//! The entries that say what a configuration consists of: one of FIG 0/1 for each sub-channel, one of FIG 0/2
-//! for each service, and one of FIG 0/3 for each packet component (EN 300 401 clauses 6.2.1, 6.3.1 and 6.3.2).
+//! Converts the members of a configuration into entries.
+//!
+//! Each sub-channel gives an entry of FIG 0/1, each service one of FIG 0/2, and each packet component one of FIG 0/3
+//! (EN 300 401 clauses 6.2.1, 6.3.1 and 6.3.2).
 
 ghost use Rattle.std.specs.Prelude.{◌≡◌, ◌+◌, ◌*◌, ◌<◌, ◌≤◌, ◌^◌, ◌++◌, length};
 ghost use Rattle.fib_codec.specs.Spelling.{components_bytes, entry_bytes, entry_size};
@@ -11,7 +13,7 @@ use fib_codec::Fib;
 use mux_config::{Bits, Component, ComponentEntry, Packet, PacketEntry, Service, Sub, SubEntry};
 use mux_eep::{EepSet, size_of};
 
-/// The field of this value, which is within its bits.
+/// The field with this value, which fits in its bits.
 fn field<const WIDTH: u32>(value: u16) -> Bits<WIDTH>
     requires { value < 2 ^ WIDTH }
     ensures { result ≡ value }
@@ -41,7 +43,7 @@ fn sub_entry(sub: Sub) -> SubEntry
     }
 }
 
-/// What FIG 0/2 says of a component, with its P/S flag.
+/// The description of a component in FIG 0/2, with its P/S flag.
 fn component_entry(primary: bool, component: Component) -> ComponentEntry
     ensures { result ≡ component_entry primary component }
 {
@@ -63,7 +65,7 @@ fn component_entry(primary: bool, component: Component) -> ComponentEntry
     }
 }
 
-/// Appends the components of a service, of which the first is the primary one, to its entry.
+/// Appends the components of a service to its entry; the first is the primary one.
 fn put_components(fib: &mut Fib, components: &[Component])
     requires { length fib.old + 2 * length components.now ≤ 30 }
     ensures { fib.new ≡ fib.old ++ components_bytes (component_entries components.now) }

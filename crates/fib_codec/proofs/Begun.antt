@@ -6,11 +6,11 @@ use Rattle.std.proofs.Math.Seq.{take-append-add}
 use Rattle.fib_codec.specs.Begun.{IsBegun}
 use Rattle.fib_codec.specs.Spelling.{filled}
 
--- the zeros behind this many more bytes
+-- the zeros after this many more bytes
 zeros_after : (size more : ℕ) (bytes : List ℕ) → IsBegun size bytes → drop (size + suc more) bytes ≡ replicate (31 - size - more) 0
 zeros_after size more bytes is = sym (drop-drop (suc more) size bytes) ∙ ap (drop (suc more)) is.rest ∙ drop-replicate more (31 - size) 0
 
--- the end marker behind the data bytes, where zeros stand behind it
+-- the end marker after the data bytes, if zeros follow it
 marked : (size : ℕ) (bytes : List ℕ) → length bytes ≡ 32 → size ≤ 30 → drop (size + 1) bytes ≡ replicate (31 - size) 0 → IsBegun size (slice_set bytes size 255)
 marked size bytes whole within rest = record {
   within = within;
@@ -36,7 +36,7 @@ begun_two size bytes a b is fits =
     (drop-set-lt (size + 2 + 1) one (size + 1) b (omega arith) ∙ drop-set-lt (size + 2 + 1) bytes size a (omega arith)
     ∙ ap (λ n. drop n bytes) count ∙ zeros_after size 2 bytes is ∙ ap (λ n. replicate n 0) less)
 
--- thirty of the bytes are the data bytes filled up
+-- the first thirty bytes are the data bytes, padded
 pub begun_is_filled : (size : ℕ) (bytes : List ℕ) → IsBegun size bytes → take 30 bytes ≡ filled (take size bytes)
 begun_is_filled size bytes is = elim (cases_lt size 30) [ inl lt ↦ short lt | inr ge ↦ full ge ]
   where

@@ -1,5 +1,5 @@
--- The register does the long division: what is still to be divided, with the register added at its front, divides
--- as the whole does.
+-- The register performs the long division: the rest of the dividend, with the register added at its front, leaves the
+-- remainder that the whole leaves.
 use Rattle.std.proofs.Common.{◌≡◌, ℕ, zero, suc, ◌+◌, ◌-◌, ◌*◌, ◌/◌, ◌%◌, ◌^◌, ◌<◌, ◌≤◌, eqb, List, [], ◌∷◌, ◌++◌, map, length, replicate, refl, sym, ◌∙◌, ap, arith, inl, inr, append_assoc, get_or, drop}
 use Rattle.std.proofs.lemmas.List.{drop_more}
 use Rattle.std.proofs.lemmas.Bool.{cases_Bool, cond-true, cond-false, eqb-true, eqb-false}
@@ -33,7 +33,7 @@ unfolding low_bits
 bits_of-xor zero a b = refl
 bits_of-xor (suc w) a b = rw (bit_at_xor a b w, bits_of-xor w a b) refl
 
--- one more place below
+-- shifted by one bit
 pub bits_of-moved : (w n : ℕ) → low_bits (suc w) (n * 2) ≡ low_bits w n ++ 0 ∷ []
 unfolding low_bits
 bits_of-moved zero n = let low : n * 2 / 2 ^ 0 % 2 ≡ 0 = omega arith in rw low refl
@@ -43,7 +43,7 @@ bits_of-moved (suc w) n =
     let e : bit_at (n * 2) (suc w) ∷ low_bits (suc w) (n * 2) ≡ bit_at n w ∷ (low_bits w n ++ 0 ∷ []) = rw (top, bits_of-moved w n) refl in
     e
 
--- bits below a power of two are those of what it leaves
+-- multiples of a power of two do not change the bits below it
 pub bits_of-below : (w a k b : ℕ) → w ≤ k → low_bits w (a * 2 ^ k + b) ≡ low_bits w b
 unfolding low_bits
 bits_of-below zero a k b h = refl
@@ -110,7 +110,7 @@ generator_is : low_bits 16 4129 ≡ generator
 unfolding low_bits
 generator_is = refl
 
--- the leading bit of what is divided is 0
+-- the leading bit of the dividend is 0
 no_place : (r b : ℕ) (m : List ℕ) (n : ℕ) → AreBits m → b < 2 → bit_at r 15 ≡ b
     → divided (suc n) (plus (b ∷ m) (low_bits 16 r)) ≡ divided n (plus m (low_bits 16 (r * 2 % 65536)))
 no_place r b m n are bit same =
@@ -154,7 +154,7 @@ pub after-zero : (k r : ℕ) → after 0 k r ≡ r
 unfolding after
 after-zero k r = refl
 
--- a step of a loop over the places of a byte
+-- an iteration of a loop over the bits of a byte
 pub after_more : (place k r : ℕ) → place < 8
     → after (8 - place) k r ≡ after (8 - (place + 1)) k (next r (bit_and (k / 2 ^ (7 - place)) 1))
 after_more place k r h =
@@ -162,7 +162,7 @@ after_more place k r h =
     let below : 8 - (place + 1) ≡ 7 - place = omega arith in
     rw (count, below, shr_and_one k (7 - place)) (after-suc (7 - place) k r)
 
--- as many bits as the width says
+-- as many bits as the width
 pub steps : (w k r : ℕ) (m : List ℕ) (n : ℕ) → AreBits m
     → divided (w + n) (plus (low_bits w k ++ m) (low_bits 16 r)) ≡ divided n (plus m (low_bits 16 (after w k r)))
 steps zero k r m n are =
@@ -197,7 +197,7 @@ pub after_all-append : (xs ys : List ℕ) (r : ℕ) → after_all (xs ++ ys) r �
 after_all-append [] ys r = refl
 after_all-append (x ∷ xs) ys r = after_all-append xs ys (after 8 x r)
 
--- a step of a loop over the bytes
+-- an iteration of a loop over the bytes
 pub after_all-more : (bytes : List ℕ) (i r : ℕ) → i < length bytes
     → after_all (drop i bytes) r ≡ after_all (drop (i + 1) bytes) (after 8 (get_or bytes i 0) r)
 after_all-more bytes i r h = ap (λ t. after_all t r) (drop_more bytes i 0 h)
@@ -205,7 +205,7 @@ after_all-more bytes i r h = ap (λ t. after_all t r) (drop_more bytes i 0 h)
 all_ones : (w : ℕ) → w < 16 → bit_at 65535 w ≡ 1
 all_ones w h = bit_at_ones 16 w h
 
--- the register turned is the CRC
+-- the inverted register is the CRC
 turned : (w r : ℕ) → w ≤ 16 → map (λ b. 1 - b) (low_bits w r) ≡ low_bits w (bit_xor r 65535)
 unfolding low_bits
 turned zero r h = refl
@@ -221,7 +221,7 @@ zeros_first (b ∷ m) h =
     let same : (0 + b) % 2 ≡ b = omega arith in
     rw (same, zeros_first m h.1) refl
 
--- what is left when sixteen zeros stand under the register
+-- the remainder when sixteen zeros are left under the register
 pub word_left : (r : ℕ) → divided 0 (plus (replicate 16 0) (low_bits 16 r)) ≡ low_bits 16 r
 word_left r =
     let long : length (low_bits 16 r) ≡ 16 = length-bits_of 16 r in

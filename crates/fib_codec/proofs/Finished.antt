@@ -19,7 +19,7 @@ use Rattle.fib_codec.specs.declared.head.Head.{Head}
 use Rattle.fib_codec.specs.Spelling.{bit_of, ensemble_bytes, sub_bytes, short_bytes, service_bytes, packet_bytes, components_bytes, occurrence_bytes, ca_org_bytes, sid_bytes, is_long_sid, entry_bytes, entries_bytes, head_byte, fig_bytes, figs_bytes, IsUnder, Written, IsWritten, filled, checked}
 use Rattle.fib_codec.specs.Grammar.{ensemble_len, sub_len, service_len, packet_len, entry_len, IsEntry, AreEntries, IsCounted, IsBody, Open, Other, is_open, is_long, is_next, IsFig, AreFigs, IsFib, IsValid, IsOpen, fig_spelled, fig_of, IsOurs}
 use Rattle.fib_codec.proofs.Lengths.{components_len, ext_small}
-use Rattle.fib_codec.proofs.Words.{checked_is}
+use Rattle.fib_codec.proofs.U16.{checked_is}
 
 pub bit_small : (b : Bool) → bit_of b < 2
 bit_small true = omega arith

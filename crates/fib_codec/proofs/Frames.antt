@@ -1,4 +1,4 @@
--- Frames of FIBs: the law of steps, and that a FIB written into a frame leaves the others as they were.
+-- Frames of FIBs: the law of steps, and that a FIB written into a frame leaves the others unchanged.
 use Rattle.std.proofs.Common.{◌≡◌, ℕ, ◌+◌, ◌*◌, ◌≤◌, List, ◌++◌, length, take, drop, arith, refl, sym, ap, ◌∙◌, length-append, take-append-drop, length-take-le}
 use Rattle.std.proofs.Math.Seq.{take-append_seam, drop-append_seam}
 use Rattle.std.proofs.lemmas.List.{take-append-le, drop-append-le, length-drop, append_assoc}
@@ -11,7 +11,7 @@ steps_divide II = (refl, omega arith, omega arith)
 steps_divide III = (refl, omega arith, omega arith)
 steps_divide IV = (refl, omega arith, omega arith)
 
--- bytes with others written over the 32 from an offset on
+-- bytes with the 32 from an offset on overwritten
 abbrev pub over : List ℕ → ℕ → List ℕ → List ℕ
 over xs at fib = take at xs ++ (fib ++ drop (at + 32) xs)
 
@@ -28,7 +28,7 @@ over_length : (xs fib : List ℕ) (at : ℕ) → at + 32 ≤ length xs → lengt
 over_length xs fib at fits whole =
     omega (arith, fits, whole, length-append (take at xs) (fib ++ drop (at + 32) xs), length-append fib (drop (at + 32) xs), length-take-le at xs (omega (arith, fits)), length-drop (at + 32) xs)
 
--- the bytes of a frame and what stands behind it, after a FIB was written into it
+-- the bytes of a frame and what follows it, after a FIB was written into it
 pub record IsOver (size at : ℕ) (bytes fib : List ℕ) : Type 0 where
   pub frame : take size (over bytes at fib) ≡ over (take size bytes) at fib
   pub kept : IsInFrame size (over bytes at fib)
@@ -57,7 +57,7 @@ written_over size at bytes fib is fits whole =
       whole = kept;
     }
 
--- as the index of a FIB and a definition say it
+-- in terms of the index of a FIB and of the definition
 pub written_fib : (size index : ℕ) (bytes fib new : List ℕ) → IsOver size (32 * index) bytes fib
     → new ≡ over bytes (32 * index) fib → take size new ≡ with_fib index fib (take size bytes)
 written_fib size index bytes fib new is same =

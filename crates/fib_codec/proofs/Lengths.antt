@@ -1,4 +1,4 @@
--- How many bytes spellings have.
+-- The lengths of encodings.
 use Rattle.std.proofs.Common.{◌≡◌, ℕ, zero, suc, drop, ◌+◌, ◌-◌, ◌*◌, ◌≤◌, cond, Option, Some, None, is_some, List, [], ◌∷◌, ◌++◌, length, get_or, take, refl, sym, ◌∙◌, ap, subst, arith, length-append, append_assoc, append-nil, ◌<◌}
 use Rattle.std.specs.Prelude.{flat_map}
 use Rattle.std.proofs.lemmas.List.{take_more, length-take-le, take_all, take-append-drop}
@@ -49,7 +49,7 @@ flat_map-append f [] ys = refl
 flat_map-append f (x ∷ xs) ys =
     ap (λ t. f x ++ t) (flat_map-append f xs ys) ∙ sym (append_assoc (f x) (flat_map f xs) (flat_map f ys))
 
--- one more spelling behind those of the values before it
+-- one more encoding after those of the values before
 pub spelled_more : {T : Type 0} (f : T → List ℕ) (old : List ℕ) (xs : List T) (i : ℕ) (d : T) → i < length xs
     → (old ++ flat_map f (take i xs)) ++ f (get_or xs i d) ≡ old ++ flat_map f (take (i + 1) xs)
 spelled_more f old xs i d h =
@@ -64,7 +64,7 @@ pub AllByRecursion-more : {T : Type 0} (P : T → Type 0) (xs : List T) (i : ℕ
 AllByRecursion-more {T} P xs i d h before here =
     subst (λ (ys : List T). AllByRecursion P ys) (sym (take_more xs i d h)) (AllByRecursion-append P (take i xs) (get_or xs i d ∷ []) before (here, tt))
 
--- room for one more component, where there was room for all of them
+-- room for one more component, if there was room for all of them
 pub component_fits : (now old : List ℕ) (cs : List ComponentEntry) (i : ℕ) → length old + 2 * length cs ≤ 30 → i < length cs
     → now ≡ old ++ components_bytes (take i cs) → length now + 2 ≤ 30
 component_fits now old cs i room h written =
@@ -97,7 +97,7 @@ entries_part xs i =
     ∙ length-append (entries_bytes (take i xs)) (entries_bytes (drop i xs)) in
     omega (arith, whole)
 
--- room for one more entry, where there was room for all of them
+-- room for one more entry, if there was room for all of them
 pub entry_fits : (now old : List ℕ) (xs : List Entry) (i : ℕ) (d : Entry) → length old + length (entries_bytes xs) ≤ 30 → i < length xs
     → now ≡ old ++ entries_bytes (take i xs) → d ≡ get_or xs i d → length now + entry_size d ≤ 30
 entry_fits now old xs i d room h written is =
@@ -106,7 +106,7 @@ entry_fits now old xs i d room h written is =
     ap length written ∙ length-append old (entries_bytes (take i xs)) in
     omega (arith, long, entries_more xs i d h, entries_part xs (i + 1))
 
--- no room for one more entry, and so not for all of them
+-- no room for one more entry, and so none for all of them
 pub entry_passes : (xs : List Entry) (i len room more : ℕ) (d : Entry) → i < length xs → d ≡ get_or xs i d
     → len ≡ length (entries_bytes (take i xs)) → more ≡ entry_size d → len ≤ room → room - len < more → room < length (entries_bytes xs)
 entry_passes xs i len room more d h is counted sized within past =

@@ -1,11 +1,11 @@
 pub mod Division
 pub mod Linear
 pub mod TableRule
-pub mod Words
+pub mod U16
 pub mod Uniqueness
 pub mod Lengths
 pub mod Finished
-pub mod Told
+pub mod Determined
 pub mod Sent
 pub mod Frames
 pub mod Begun

@@ -1,4 +1,4 @@
--- The division is linear, so a byte and the register before it act apart, and bytes can be taken by tables.
+-- The division is linear, so a byte and the register before it act independently, and tables can process several bytes.
 use Rattle.std.proofs.Common.{◌≡◌, ℕ, zero, suc, ◌+◌, ◌*◌, ◌/◌, ◌%◌, ◌^◌, ◌<◌, eqb, List, [], ◌∷◌, ◌++◌, length, replicate, refl, sym, ◌∙◌, ap, inl, inr, arith, append-nil, length-append}
 use Rattle.std.proofs.lemmas.Bool.{cond_both, cases_eq}
 use Rattle.std.proofs.lemmas.Nat.{xor_comm, shr-shr, xor_of_16}
@@ -9,7 +9,7 @@ use Rattle.fib_codec.specs.Crc.{low_bits, AreBits, plus, generator, without_lead
 use Rattle.fib_codec.specs.Register.{next, after}
 use Rattle.fib_codec.proofs.Division.{bits_of-suc, bits_of-zero, length-bits_of, bits_of_are, bits_of-xor, bits_of-below, plus-nil, plus-plus, plus-append, AreBits-append, AreBits-replicate, divided-suc, divided-zero, steps, word_left}
 
--- numbers with the same bits have each bit the same
+-- numbers with the same bits agree in each bit
 same_bit : (w x y i : ℕ) → low_bits w x ≡ low_bits w y → i < w → bit_at x i ≡ bit_at y i
 same_bit zero x y i h lt = absurd (omega arith)
 same_bit (suc w) x y i h lt =
@@ -25,7 +25,7 @@ pub one_word : (x y : ℕ) → x < 65536 → y < 65536 → low_bits 16 x ≡ low
 one_word x y p q h = same_from_bits_below 16 x y p q (λ i lt. same_bit 16 x y i h lt)
 
 -- ---- one byte
--- an empty register adds nothing
+-- a register of 0 adds nothing
 zeros_are : low_bits 16 0 ≡ replicate 16 0
 unfolding low_bits
 zeros_are = refl
@@ -45,7 +45,7 @@ front_divides k n m are =
     let front_are : AreBits front = AreBits-append (low_bits 8 k) m (bits_of_are 8 k) are in
     ap (divided (8 + n)) (sym (ap (plus front) zeros_are ∙ plus-zeros front 16 front_are)) ∙ steps 8 k 0 m n are
 
--- a word is its high byte and its low byte
+-- a u16 is its high byte and its low byte
 split_at : (w r : ℕ) → low_bits (w + 8) r ≡ low_bits w (r / 256) ++ low_bits 8 r
 split_at zero r =
     let start : 0 + 8 ≡ 8 = omega arith in
@@ -94,7 +94,7 @@ length-plus [] ys = refl
 length-plus (x ∷ xs) [] = refl
 length-plus (x ∷ xs) (y ∷ ys) = ap suc (length-plus xs ys)
 
--- the register's high byte turns the byte at the front, and its low byte what follows
+-- the register's high byte is added to the byte at the front, and its low byte to what follows
 front_turned : (r byte : ℕ) (m : List ℕ)
     → plus (low_bits 8 byte ++ m) (low_bits 16 r) ≡ low_bits 8 (bit_xor (r / 256) byte) ++ plus m (low_bits 8 r)
 front_turned r byte m =
@@ -119,7 +119,7 @@ by_table r byte t given m n are =
     ∙ ap (divided n) (sym sum)
 
 -- ---- the division is linear
--- what is added twice can be added in either order
+-- two lists can be added in either order
 plus_turned : (m a b : List ℕ) → plus (plus m a) b ≡ plus (plus m b) a
 plus_turned [] a b = refl
 plus_turned (x ∷ m) [] [] = refl
@@ -216,7 +216,7 @@ apart_bits k xs ys =
     ap (divided 8) (onto_zeros front ys long are)
     ∙ divided-plus 8 front (plus zeros ys) same are (plus-bits zeros ys (word_bits 0))
 
--- a byte and a register act apart
+-- a byte and a register act independently
 parts_of : (k r : ℕ) → low_bits 16 (after 8 k r) ≡ low_bits 16 (bit_xor (after 8 k 0) (after 8 0 r))
 parts_of k r =
     let message = low_bits 8 k ++ replicate 16 0 in
@@ -240,7 +240,7 @@ registers_apart r s =
     ∙ ap (plus (low_bits 16 (after 8 0 r))) (as_rest 0 s)
     ∙ sym (bits_of-xor 16 (after 8 0 r) (after 8 0 s))
 
--- the first two bytes are turned by the register, which is then empty
+-- adding the register to the first two bytes leaves a register of 0
 turned_bits : (r a b : ℕ) → low_bits 16 (after 8 b (after 8 a r))
     ≡ low_bits 16 (after 8 (bit_xor (r % 256) b) (after 8 (bit_xor (r / 256) a) 0))
 turned_bits r a b =
@@ -265,7 +265,7 @@ turned_bits r a b =
     ∙ steps 8 second (after 8 first 0) zeros 0 are
     ∙ word_left (after 8 second (after 8 first 0))
 
--- ---- the same of registers as numbers
+-- ---- the same for registers as numbers
 next_below : (r b : ℕ) → next r b < 65536
 next_below r b =
     cond_both (eqb (bit_at r 15) b) (r * 2 % 65536) (bit_xor (r * 2 % 65536) 4129) (λ n. n < 65536)

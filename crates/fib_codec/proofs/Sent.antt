@@ -1,4 +1,4 @@
--- What is heard in a FIB is what was written into it.
+-- A receiver decodes from a FIB what was written into it.
 use Rattle.std.proofs.Common.{◌≡◌, ◌⊎◌, inl, inr, ℕ, zero, suc, ◌<◌, ◌↔◌, Bool, true, false, cond, List, [], ◌∷◌, map, refl, sym, ◌∙◌, subst, arith}
 use Rattle.std.specs.Prelude.{Contains}
 use Rattle.std.proofs.lemmas.List.Elements.{Contains-append_left, Contains-append_right, Contains-append_cases}
@@ -13,7 +13,7 @@ use Rattle.fib_codec.specs.Grammar.{Fig, Open, Other, IsFib, fig_of}
 use Rattle.fib_codec.specs.Heard.{IsSaid, IsInFig, IsInFib, marked_by, marked_of, HeardIsWritten}
 use Rattle.fib_codec.proofs.Lengths.{ext_small}
 use Rattle.fib_codec.proofs.Finished.{head_ext, head_long, head_next}
-use Rattle.fib_codec.proofs.Told.{entry_told}
+use Rattle.fib_codec.proofs.Determined.{entry_told}
 use Rattle.fib_codec.proofs.Uniqueness.{one_fib}
 
 -- ---- members of lists
@@ -30,7 +30,7 @@ contains_later x xs y (k, lt, here) = (suc k, omega arith, here)
 contains_none : {T : Type 0} (y : T) → Contains [] y → ⊥
 contains_none y (k, lt, here) = omega arith
 
--- ---- the P/D flag speaks of services alone
+-- ---- the P/D flag is for services alone
 long_or : (e : Entry) → (ext_of e ≡ 2) ⊎ (is_long_entry e ≡ false)
 long_or (EnsembleOf e) = inr refl
 long_or (SubOf s) = inr refl

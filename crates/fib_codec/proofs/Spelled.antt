@@ -1,4 +1,4 @@
--- Bytes that are an entry in the grammar are spelled by an entry.
+-- Bytes that are an entry in the grammar encode an entry.
 use Rattle.std.proofs.Common.{◌≡◌, ◌⊎◌, inl, inr, ℕ, zero, suc, ◌+◌, ◌*◌, ◌/◌, ◌%◌, ◌<◌, Bool, true, false, cond, eqb, Option, Some, None, List, [], ◌∷◌, ◌++◌, length, refl, sym, ◌∙◌, ap, ap₂, arith, eqb-true}
 use Rattle.std.specs.Prelude.{is_some, IfSome}
 use Rattle.mux_types.specs.Configuration.{IsSid}
@@ -15,12 +15,12 @@ use Rattle.mux_entries.specs.declared.entry.ComponentEntry.TheVariants.{Sound, S
 use Rattle.byteorder.specs.Endian.{big_bytes}
 use Rattle.fib_codec.specs.declared.head.Head.{Head}
 use Rattle.fib_codec.specs.Ranges.{IsEnsembleInformation, IsSubEntry, IsShortEntry, IsServiceEntry, IsPacketEntry, IsComponentEntry}
-use Rattle.fib_codec.specs.Spelling.{bit_of, ensemble_bytes, component_word, components_bytes, occurrence_bytes, ca_org_bytes, sid_bytes, is_long_sid}
+use Rattle.fib_codec.specs.Spelling.{bit_of, ensemble_bytes, component_u16, components_bytes, occurrence_bytes, ca_org_bytes, sid_bytes, is_long_sid}
 use Rattle.fib_codec.specs.Grammar.{ensemble_len, sub_len, service_len, packet_len, entry_len, IsEntry, IsCounted}
 use Rattle.fib_codec.specs.Laws.{IsByte, IsSpelled}
 
 -- ---- numbers
--- a flag that a bit is
+-- a bit as a flag
 flag_of : (n : ℕ) → n < 2 → bit_of (eqb n 1) ≡ n
 flag_of zero h = refl
 flag_of (suc zero) h = refl
@@ -39,8 +39,8 @@ one_of_four (suc (suc (suc zero))) h = inr (inr (inr refl))
 one_of_four (suc (suc (suc (suc n)))) h = absurd (omega arith)
 
 -- the two bytes of a number
-word_bytes : (n high low : ℕ) → n ≡ high * 256 + low → high < 256 → low < 256 → big_bytes 2 n ≡ high ∷ low ∷ []
-word_bytes n high low e h l =
+u16_bytes : (n high low : ℕ) → n ≡ high * 256 + low → high < 256 → low < 256 → big_bytes 2 n ≡ high ∷ low ∷ []
+u16_bytes n high low e h l =
     let first : n / 256 % 256 ≡ high = omega arith in
     let second : n % 256 ≡ low = omega arith in
     ap₂ (λ x y. x ∷ y ∷ []) first second
@@ -70,7 +70,7 @@ counted_number high low h l = (omega arith, omega arith, omega arith)
 fields_of : (c : ℕ) → c / 64 * 64 + c / 32 % 2 * 32 + c % 32 ≡ c
 fields_of c = omega arith
 
--- the flags' byte of FIG 0/0 and its CIF count, back from the two bytes
+-- the flags' byte of FIG 0/0 and its CIF count, recovered from the two bytes
 counted : (a b c d : ℕ) (o : Option ℕ) → a < 256 → b < 256 → c < 256 → d < 250 → c % 32 < 20
     → ensemble_bytes (record { eid = a * 256 + b; change = c / 64; al = eqb (c / 32 % 2) 1; count = c % 32 * 250 + d; occurrence = o })
     ≡ a ∷ b ∷ c ∷ d ∷ occurrence_bytes o
@@ -79,7 +79,7 @@ counted a b c d o p q r s high =
     let al : bit_of (eqb (c / 32 % 2) 1) ≡ c / 32 % 2 = flag_of (c / 32 % 2) (omega arith) in
     let flags : c / 64 * 64 + bit_of (eqb (c / 32 % 2) 1) * 32 + (c % 32 * 250 + d) / 250 ≡ c =
     ap₂ (λ x y. c / 64 * 64 + x * 32 + y) al number.1 ∙ fields_of c in
-    ap₂ (λ xs x. xs ++ x ∷ (c % 32 * 250 + d) % 250 ∷ occurrence_bytes o) (word_bytes (a * 256 + b) a b refl p q) flags
+    ap₂ (λ xs x. xs ++ x ∷ (c % 32 * 250 + d) % 250 ∷ occurrence_bytes o) (u16_bytes (a * 256 + b) a b refl p q) flags
     ∙ ap (λ x. a ∷ b ∷ c ∷ x ∷ occurrence_bytes o) number.2
 
 ensemble_spelled : (head : Head) (bytes : List ℕ) → head.ext ≡ 0 → AllByRecursion IsByte bytes → length bytes ≡ ensemble_len bytes → IsCounted bytes
@@ -142,8 +142,8 @@ long_sub head a b c d e p q r s long =
     let within : IsSubEntry entry = record { id = (place_of a b p q).0; start = omega arith; option = omega arith; level = omega arith; size = omega arith } in
     let there : place / 1024 * 1024 + place % 1024 ≡ place = (place_of a b p q).1 in
     let back : 32768 + size / 4096 % 8 * 4096 + size / 1024 % 4 * 1024 + size % 1024 ≡ size = omega arith in
-    let first : big_bytes 2 (place / 1024 * 1024 + place % 1024) ≡ a ∷ b ∷ [] = word_bytes _ a b there p q in
-    let second : big_bytes 2 (32768 + size / 4096 % 8 * 4096 + size / 1024 % 4 * 1024 + size % 1024) ≡ c ∷ d ∷ [] = word_bytes _ c d back r s in
+    let first : big_bytes 2 (place / 1024 * 1024 + place % 1024) ≡ a ∷ b ∷ [] = u16_bytes _ a b there p q in
+    let second : big_bytes 2 (32768 + size / 4096 % 8 * 4096 + size / 1024 % 4 * 1024 + size % 1024) ≡ c ∷ d ∷ [] = u16_bytes _ c d back r s in
     (SubOf entry, e, within, ap₂ (λ xs ys. xs ++ ys) first second)
 
 short_sub : (head : Head) (a b c : ℕ) → head.ext ≡ 1 → a < 256 → b < 256 → c < 128 → IsSpelled head (a ∷ b ∷ c ∷ [])
@@ -152,7 +152,7 @@ short_sub head a b c e p q r =
     let entry : ShortEntry = record { id = place / 1024; start = place % 1024; switch = eqb (c / 64) 1; table = c % 64 } in
     let within : IsShortEntry entry = record { id = (place_of a b p q).0; start = omega arith; table = omega arith } in
     let there : place / 1024 * 1024 + place % 1024 ≡ place = (place_of a b p q).1 in
-    let first : big_bytes 2 (place / 1024 * 1024 + place % 1024) ≡ a ∷ b ∷ [] = word_bytes _ a b there p q in
+    let first : big_bytes 2 (place / 1024 * 1024 + place % 1024) ≡ a ∷ b ∷ [] = u16_bytes _ a b there p q in
     let switch : bit_of (eqb (c / 64) 1) ≡ c / 64 = flag_of (c / 64) (omega arith) in
     let last : c / 64 * 64 + c % 64 ≡ c = omega arith in
     (ShortOf entry, e, within, ap₂ (λ xs x. xs ++ x ∷ []) first (ap (λ x. x * 64 + c % 64) switch ∙ last))
@@ -190,9 +190,9 @@ flags_of : (low : ℕ) → low < 256
     → (bit_of (eqb (low / 2 % 2) 1) ≡ low / 2 % 2) × (bit_of (eqb (low % 2) 1) ≡ low % 2)
 flags_of low h = (flag_of (low / 2 % 2) (omega arith), flag_of (low % 2) (omega arith))
 
--- a component: its bytes, and the kind that the two highest bits say
+-- a component: its bytes, and the kind given by the two highest bits
 abbrev IsComponentOf : ℕ → ℕ → ComponentEntry → Type 0
-IsComponentOf high low c = IsComponentEntry c × (component_word c ≡ high * 256 + low)
+IsComponentOf high low c = IsComponentEntry c × (component_u16 c ≡ high * 256 + low)
 
 component_spelled : (high low : ℕ) → high < 256 → low < 256 → (c : ComponentEntry) × IsComponentOf high low c
 component_spelled high low p q =
@@ -226,7 +226,7 @@ component_spelled high low p q =
       )
     ]
 
--- two bytes a component
+-- two bytes for each component
 abbrev AreComponentsOf : ℕ → List ℕ → List ComponentEntry → Type 0
 AreComponentsOf n bytes cs = (length cs ≡ n) × AllByRecursion IsComponentEntry cs × (components_bytes cs ≡ bytes)
 
@@ -238,10 +238,10 @@ components_spelled (suc n) (a ∷ []) all whole = absurd (omega arith)
 components_spelled (suc n) (a ∷ b ∷ bytes) all whole =
     let first = component_spelled a b all.0 all.1.0 in
     let rest = components_spelled n bytes all.1.1 (omega (arith, whole)) in
-    let word : big_bytes 2 (component_word first.0) ≡ a ∷ b ∷ [] = word_bytes (component_word first.0) a b first.1.1 all.0 all.1.0 in
+    let word : big_bytes 2 (component_u16 first.0) ≡ a ∷ b ∷ [] = u16_bytes (component_u16 first.0) a b first.1.1 all.0 all.1.0 in
     (first.0 ∷ rest.0, (ap suc rest.1.0, (first.1.0, rest.1.1), ap₂ (λ xs ys. xs ++ ys) word rest.1.2))
 
--- the byte that says how many components there are
+-- the byte with the number of components
 count_byte : (f : ℕ) → f < 256 → bit_of (eqb (f / 128) 1) * 128 + f / 16 % 8 * 16 + f % 16 ≡ f
 count_byte f h =
     let rfa : bit_of (eqb (f / 128) 1) ≡ f / 128 = flag_of (f / 128) (omega arith) in
@@ -264,7 +264,7 @@ service_spelled head false [] l e all whole = absurd (omega arith)
 service_spelled head false (a ∷ []) l e all whole = absurd (omega arith)
 service_spelled head false (a ∷ b ∷ []) l e all whole = absurd (omega arith)
 service_spelled head false (a ∷ b ∷ f ∷ bytes) l e all whole =
-    service_from head (Short (a * 256 + b)) (a ∷ b ∷ []) f bytes e l (omega (arith, all.0, all.1.0)) (word_bytes _ a b refl all.0 all.1.0)
+    service_from head (Short (a * 256 + b)) (a ∷ b ∷ []) f bytes e l (omega (arith, all.0, all.1.0)) (u16_bytes _ a b refl all.0 all.1.0)
     all.1.1.0 all.1.1.1 (omega (arith, whole))
 service_spelled head true [] l e all whole = absurd (omega arith)
 service_spelled head true (a ∷ []) l e all whole = absurd (omega arith)
@@ -297,8 +297,8 @@ packet_from head a b c f g org e p q r s t small has =
     let within : IsPacketEntry entry = record { scid = front.0; rfa = omega arith; ty = omega arith; sub = (place_of f g s t).0; address = omega arith; ca_org = small } in
     let word : (a * 256 + b) / 16 * 16 + b / 2 % 8 * 2 + bit_of (is_some org) ≡ a * 256 + b =
     ap (λ x. (a * 256 + b) / 16 * 16 + b / 2 % 8 * 2 + x) has ∙ front.1 in
-    let first : big_bytes 2 ((a * 256 + b) / 16 * 16 + b / 2 % 8 * 2 + bit_of (is_some org)) ≡ a ∷ b ∷ [] = word_bytes _ a b word p q in
-    let second : big_bytes 2 (place / 1024 * 1024 + place % 1024) ≡ f ∷ g ∷ [] = word_bytes _ f g ((place_of f g s t).1) s t in (
+    let first : big_bytes 2 ((a * 256 + b) / 16 * 16 + b / 2 % 8 * 2 + bit_of (is_some org)) ≡ a ∷ b ∷ [] = u16_bytes _ a b word p q in
+    let second : big_bytes 2 (place / 1024 * 1024 + place % 1024) ≡ f ∷ g ∷ [] = u16_bytes _ f g ((place_of f g s t).1) s t in (
       PacketOf entry,
       e,
       within,
@@ -331,7 +331,7 @@ packet_spelled head (a ∷ b ∷ c ∷ f ∷ g ∷ h ∷ []) e all whole =
 packet_spelled head (a ∷ b ∷ c ∷ f ∷ g ∷ h ∷ i ∷ []) e all whole =
     elim (chosen (eqb (b % 2) 1) 7 7 5 whole) [
       | inl both ↦ (
-          let org : big_bytes 2 (h * 256 + i) ≡ h ∷ i ∷ [] = word_bytes _ h i refl all.1.1.1.1.1.0 all.1.1.1.1.1.1.0 in
+          let org : big_bytes 2 (h * 256 + i) ≡ h ∷ i ∷ [] = u16_bytes _ h i refl all.1.1.1.1.1.0 all.1.1.1.1.1.1.0 in
           let made = packet_from head a b c f g (Some (h * 256 + i)) e all.0 all.1.0 all.1.1.0 all.1.1.1.0 all.1.1.1.1.0
           (omega (arith, all.1.1.1.1.1.0, all.1.1.1.1.1.1.0)) (sym (eqb-true (b % 2) 1 both.0)) in
           (made.0, made.1, made.2, made.3 ∙ ap (λ xs. a ∷ b ∷ c ∷ f ∷ g ∷ xs) org)

@@ -1,4 +1,4 @@
--- What the tables of the CRC hold, and why six bytes can be taken at once with them.
+-- The contents of the CRC's tables, and why they can process six bytes at once.
 use Rattle.std.proofs.Common.{◌≡◌, ℕ, zero, suc, ◌+◌, ◌/◌, ◌%◌, ◌<◌, true, List, [], ◌∷◌, length, get_or, refl, sym, ◌∙◌, ap, ap₂, arith}
 use Rattle.std.proofs.lemmas.Bool.{and_parts, eqb-true}
 use Rattle.std.specs.Prelude.{bit_xor}

@@ -1,11 +1,11 @@
--- Bytes are one list of entries at most, and one list of FIGs: where a front begins alike it ends alike.
+-- Bytes are at most one list of entries, and at most one list of FIGs: the length of each is in its first bytes.
 use Rattle.std.proofs.Common.{◌≡◌, ◌≢◌, inl, inr, ℕ, ◌+◌, ◌*◌, ◌/◌, ◌%◌, ◌≤◌, Bool, true, false, cond, eqb, ltb, List, [], ◌∷◌, ◌++◌, length, get_or, take, refl, sym, ◌∙◌, ap, ap₂, subst, arith, length-append, lt-ltb, true≢false}
 use Rattle.std.proofs.lemmas.Bool.{cond_both, and_from}
 use Rattle.std.proofs.lemmas.List.{get_or_append_left}
 use Rattle.fib_codec.specs.Grammar.{ensemble_len, sub_len, service_len, packet_len, entry_len, IsEntry, AreEntries, Fig, Open, Other, is_long, IsOther, IsFig, AreFigs, OneList}
 
 -- ---- lists
--- lists that begin alike, with fronts of one length
+-- lists with equal beginnings, with fronts of one length
 pub same_front : (xs ys r s : List ℕ) → length xs ≡ length ys → xs ++ r ≡ ys ++ s → (xs ≡ ys) × (r ≡ s)
 same_front [] [] r s h e = (refl, e)
 same_front [] (y ∷ ys) r s h e = cc
@@ -17,7 +17,7 @@ same_front (x ∷ xs) (y ∷ ys) r s h e =
     (ap₂ (λ a as'. a ∷ as') head rest.0, rest.1)
 
 -- ---- entries
--- each length is at least so much, whatever the bytes are
+-- a lower bound of each length, whatever the bytes are
 ensemble_least : (bytes : List ℕ) → 4 ≤ ensemble_len bytes
 ensemble_least bytes = cond_both (eqb (get_or bytes 2 0 / 64) 0) 4 5 (λ n. 4 ≤ n) (λ _. omega arith) (λ _. omega arith)
 
@@ -27,7 +27,7 @@ sub_least bytes = cond_both (eqb (get_or bytes 2 0 / 128) 1) 4 3 (λ n. 3 ≤ n)
 packet_least : (bytes : List ℕ) → 5 ≤ packet_len bytes
 packet_least bytes = cond_both (eqb (get_or bytes 1 0 % 2) 1) 7 5 (λ n. 5 ≤ n) (λ _. omega arith) (λ _. omega arith)
 
--- what follows an entry doesn't decide its length
+-- what follows an entry does not decide its length
 ensemble_front : (e rest : List ℕ) → ensemble_len e ≤ length e → ensemble_len (e ++ rest) ≡ ensemble_len e
 ensemble_front e rest h =
     ap (λ x. cond (eqb (x / 64) 0) 4 5) (get_or_append_left e rest 0 2 (omega (arith, ensemble_least e)))
@@ -89,7 +89,7 @@ one_entries ext long bytes (e ∷ es) (g ∷ gs) (r, d, entry, more) (s, d', ent
     ap₂ (λ x xs. x ∷ xs) both.0 rest
 
 -- ---- FIGs
--- a FIG has a header, which isn't the end marker and says how many bytes follow
+-- a FIG has a header, which is not the end marker and gives the number of bytes that follow
 abbrev pub HasHeader : List ℕ → Type 0
 HasHeader bytes = (h : ℕ) × (after : List ℕ) × (bytes ≡ h ∷ after) × (h ≢ 255) × (length after ≡ h % 32)
 

@@ -1,4 +1,4 @@
--- Bytes that are in the grammar, and bytes that are not.
+-- Examples of bytes in the grammar, and of bytes that are not.
 use Rattle.std.proofs.Common.{◌≡◌, ℕ, true, false, List, [], ◌∷◌, inl, inr, refl, arith}
 use Rattle.fib_codec.specs.Grammar.{Other, IsEntry, AreEntries, IsCounted, IsFig, AreFigs, is_open}
 
@@ -57,7 +57,7 @@ low_part_of_250 is = absurd (omega (arith, is.1))
 two_subs : AreEntries 1 false (4 ∷ 0 ∷ 5 ∷ 8 ∷ 96 ∷ 136 ∷ 48 ∷ []) ((4 ∷ 0 ∷ 5 ∷ []) ∷ (8 ∷ 96 ∷ 136 ∷ 48 ∷ []) ∷ [])
 two_subs = (8 ∷ 96 ∷ 136 ∷ 48 ∷ [], refl, refl, ([], refl, refl, refl))
 
--- a FIG of type 0 and extension 1 is looked into; of another ensemble it is not, nor is a FIG of type 1
+-- a FIG of type 0 and extension 1 is parsed; one of another ensemble is not, nor is a FIG of type 1
 second_byte_of_ours : is_open 1 ≡ true
 second_byte_of_ours = refl
 
@@ -70,7 +70,7 @@ labels_are_not_looked_into = (refl, (λ e. absurd (omega (arith, e)), omega arit
 end_marker_is_no_fig : IsFig (255 ∷ []) (Other (255 ∷ [])) → ⊥
 end_marker_is_no_fig is = is.1.0 refl
 
--- after the end marker anything may stand; without it nothing may
+-- after the end marker any bytes may follow; without it none may
 marked_end : AreFigs (255 ∷ 85 ∷ []) []
 marked_end = inr (85 ∷ [], refl)
 

@@ -1,5 +1,5 @@
--- The numbers of the extensions of FIG type 0 that are looked into (EN 300 401 clauses 5.2.2.1, 6.2.1, 6.3.1, 6.3.2
--- and 6.4).
+-- The numbers of the extensions of FIG type 0 that are parsed (EN 300 401 clauses 5.2.2.1, 6.2.1, 6.3.1, 6.3.2 and
+-- 6.4).
 use Rattle.std.specs.Prelude.{ℕ}
 use Rattle.fib_codec.specs.declared.extension.Extension.{Extension}
 use Rattle.fib_codec.specs.declared.extension.Extension.TheVariants.{Ensemble, SubChannels, Services, Packets}

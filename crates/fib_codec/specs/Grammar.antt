@@ -1,5 +1,5 @@
--- Which FIGs the 32 bytes of a FIB hold, for reader and writer alike (EN 300 401 clauses 5.2.1, 5.2.2, 6.2.1,
--- 6.3.1, 6.3.2 and 6.4). FIGs of other types or extensions, and those of other ensembles, aren't looked into.
+-- The FIGs that the 32 bytes of a FIB contain, for reader and writer alike (EN 300 401 clauses 5.2.1, 5.2.2, 6.2.1,
+-- 6.3.1, 6.3.2 and 6.4). FIGs of other types or extensions, and those of other ensembles, are not parsed.
 use Rattle.std.specs.Prelude.{◌≡◌, ◌≢◌, ℕ, ◌+◌, ◌*◌, ◌/◌, ◌%◌, ◌<◌, ◌≤◌, ◌==◌, ◌&&◌, nat_lt, Bool, true, false, if◌then◌else◌, ◌⊎◌, List, [], ◌∷◌, ◌++◌, length, map, flat_map, take, get_or}
 use Rattle.std.specs.List.{AllByRecursion}
 use Rattle.fib_codec.specs.Crc.{IsChecked}
@@ -8,9 +8,9 @@ use Rattle.fib_codec.specs.declared.head.Head.{Head}
 use Rattle.fib_codec.specs.Ranges.{IsWithin}
 use Rattle.mux_entries.specs.declared.entry.Entry.{Entry}
 
--- how long the entry is that begins here, as the bytes that decide it say; more than are there where one of
--- these is missing. FIG 0/0 has its occurrence change where a flag is set, FIG 0/1 a long form, FIG 0/2 a number
--- of components, FIG 0/3 a CAOrg flag.
+-- the length of the entry at the front, by the bytes that determine it; more than there are if one of these is missing.
+-- It depends on the change flags in FIG 0/0, on the form in FIG 0/1, on the number of components in FIG 0/2 and on the
+-- CAOrg flag in FIG 0/3.
 abbrev pub ensemble_len : List ℕ → ℕ
 ensemble_len bytes = if get_or bytes 2 0 / 64 == 0 then 4 else 5
 
@@ -23,7 +23,7 @@ service_len long bytes = if long then 5 + 2 * (get_or bytes 4 0 % 16) else 3 + 2
 abbrev pub packet_len : List ℕ → ℕ
 packet_len bytes = if get_or bytes 1 0 % 2 == 1 then 7 else 5
 
--- in the order extension, P/D flag, bytes
+-- by extension, P/D flag and bytes
 abbrev pub entry_len : ℕ → Bool → List ℕ → ℕ
 entry_len ext long bytes =
     if ext == 0 then ensemble_len bytes
@@ -49,7 +49,7 @@ abbrev pub IsBody : ℕ → Bool → List ℕ → List (List ℕ) → Type 0
 IsBody ext long bytes es =
     AreEntries ext long bytes es × (ext ≡ 0 → (e : List ℕ) × (es ≡ e ∷ []) × IsCounted e)
 
--- a FIG that is looked into, as its second byte and the bytes of each entry, or another one, as its bytes
+-- a FIG that is parsed, as its second byte and the bytes of each entry, or any other one, as its bytes
 pub data Fig : Type 0 where
   Open : ℕ → List (List ℕ) → Fig
   Other : List ℕ → Fig
@@ -64,7 +64,7 @@ is_open second = second / 64 % 2 == 0 && nat_lt (second % 32) 4
 abbrev pub is_long : ℕ → Bool
 is_long second = second / 32 % 2 == 1
 
--- the bytes of a FIG that isn't looked into: of types 1 to 7, or of type 0 with a second byte that isn't open
+-- the bytes of a FIG that is not parsed: of types 1 to 7, or of type 0 with a second byte that is not open
 abbrev pub IsOther : List ℕ → Type 0
 IsOther [] = ⊥
 IsOther (header ∷ []) = (header ≢ 255) × (32 ≤ header) × (header % 32 ≡ 0)
@@ -77,12 +77,12 @@ IsFig bytes (Open second es) =
     × IsBody (second % 32) (is_long second) body es
 IsFig bytes (Other given) = (given ≡ bytes) × IsOther bytes
 
--- FIGs one after another, to the end or to an end marker in a header's place; what follows that is free
+-- FIGs one after another, to the end or to an end marker instead of a header; what follows that is arbitrary
 abbrev pub AreFigs : List ℕ → List Fig → Type 0
 AreFigs bytes [] = (bytes ≡ []) ⊎ ((rest : List ℕ) × (bytes ≡ 255 ∷ rest))
 AreFigs bytes (f ∷ fs) = (front rest : List ℕ) × (bytes ≡ front ++ rest) × IsFig front f × AreFigs rest fs
 
--- the FIGs of a FIB: of its first 30 bytes, where the other two check them
+-- the FIGs of a FIB: those of its first 30 bytes, if the other two are their CRC
 abbrev pub IsFib : List ℕ → List Fig → Type 0
 IsFib bytes figs = IsChecked bytes × AreFigs (take 30 bytes) figs
 
@@ -95,42 +95,42 @@ abbrev pub IsOpen : Fig → Type 0
 IsOpen (Open second es) = Unit {0}
 IsOpen (Other bytes) = ⊥
 
--- a valid FIB: its FIGs are of extensions 0 to 3 and of this ensemble, and what they leave of its data bytes is
--- filled by the end marker and zeros
+-- a valid FIB: its FIGs are of extensions 0 to 3 and of this ensemble, and the rest of its data bytes is the end marker
+-- and zeros
 pub record IsValid (bytes : List ℕ) (figs : List Fig) : Type 0 where
   pub fib : IsFib bytes figs
   pub looked_into : AllByRecursion IsOpen figs
   pub rest_filled : take 30 bytes ≡ filled (flat_map fig_spelled figs)
 
--- a FIG that is written, in the grammar: one of another ensemble isn't looked into
+-- a written FIG in the grammar: one of another ensemble is not parsed
 abbrev pub fig_of : Written → Fig
 fig_of w = if w.head.oe then Other (fig_bytes w.head w.entries) else Open (head_byte w.head) (map entry_bytes w.entries)
 
 abbrev pub IsOurs : Written → Type 0
 IsOurs w = w.head.oe ≡ false
 
--- a FIB with these data bytes holds exactly the FIGs that they are the bytes of, in order
+-- a FIB with these data bytes contains exactly the FIGs that have these bytes, in order
 abbrev pub HoldsFigsOf : List ℕ → List ℕ → Type 0
 HoldsFigsOf bytes fib =
     (figs : List Written) → AllByRecursion IsWritten figs → bytes ≡ figs_bytes figs
     → IsFib fib (map fig_of figs)
 
--- and it is the valid one, where each of them is of this ensemble
+-- and it is the valid one if each of them is of this ensemble
 abbrev pub IsValidOf : List ℕ → List ℕ → Type 0
 IsValidOf bytes fib =
     (figs : List Written) → AllByRecursion IsWritten figs → bytes ≡ figs_bytes figs
     → AllByRecursion IsOurs figs → IsValid fib (map fig_of figs)
 
--- 32 bytes hold at most one list of FIGs
+-- 32 bytes contain at most one list of FIGs
 abbrev pub OneList : Type 0
 OneList = (bytes : List ℕ) (figs others : List Fig) → IsFib bytes figs → IsFib bytes others → figs ≡ others
 
--- an entry that is written is one in the grammar
+-- an entry that is written is an entry in the grammar
 abbrev pub SpellingIsEntry : Type 0
 SpellingIsEntry =
     (head : Head) (e : Entry) → IsUnder head e → IsWithin e → IsEntry head.ext head.long (entry_bytes e)
 
--- a FIB that is written holds its FIGs, and is valid where each of them is of this ensemble
+-- a FIB that is written contains its FIGs, and is valid if each of them is of this ensemble
 abbrev pub WrittenIsFib : Type 0
 WrittenIsFib =
     (figs : List Written) → AllByRecursion IsWritten figs → length (figs_bytes figs) ≤ 30

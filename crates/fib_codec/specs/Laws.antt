@@ -1,4 +1,4 @@
--- What holds of the grammar's bytes: an entry by the grammar is spelled by an entry, and a FIB has 32 bytes.
+-- Laws of the grammar's bytes: those of an entry encode an entry, and those of a FIB are 32.
 use Rattle.std.specs.Prelude.{◌≡◌, ℕ, ◌<◌, List, length}
 use Rattle.std.specs.List.{AllByRecursion}
 use Rattle.mux_entries.specs.declared.entry.Entry.{Entry}
@@ -10,11 +10,11 @@ use Rattle.fib_codec.specs.Spelling.{IsUnder, entry_bytes}
 abbrev pub IsByte : ℕ → Type 0
 IsByte b = b < 256
 
--- these bytes are those of an entry under this head, with each field within its bits
+-- these bytes encode an entry under this head, with each field within its bits
 abbrev pub IsSpelled : Head → List ℕ → Type 0
 IsSpelled head bytes = (e : Entry) × IsUnder head e × IsWithin e × (entry_bytes e ≡ bytes)
 
--- bytes that are an entry in the grammar are spelled by one; ensemble information where its CIF count is one
+-- bytes that are an entry in the grammar encode one; ensemble information if its CIF count is in range
 abbrev pub EntryIsSpelled : Type 0
 EntryIsSpelled =
     (head : Head) (bytes : List ℕ) → head.ext < 4 → AllByRecursion IsByte bytes

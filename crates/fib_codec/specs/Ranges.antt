@@ -1,4 +1,4 @@
--- Entries whose fields are within their bits, which is so for each entry of a program.
+-- Entries whose fields are within their bits, as every `Entry` in code is.
 use Rattle.std.specs.Prelude.{◌<◌, ◌≤◌, ◌↔◌, IsSome, IfSome, length}
 use Rattle.mux_entries.specs.Entries.{EnsembleInformation}
 use Rattle.mux_types.specs.Configuration.{IsSid}
@@ -13,8 +13,8 @@ use Rattle.mux_entries.specs.declared.entry.PacketEntry.{PacketEntry}
 use Rattle.mux_entries.specs.declared.entry.ComponentEntry.{ComponentEntry}
 use Rattle.mux_entries.specs.declared.entry.ComponentEntry.TheVariants.{Sound, Stream, Other, Packet}
 
--- the change flags are two bits, the CIF count runs modulo 5000, and an occurrence change is there exactly
--- where a flag is set (EN 300 401 clause 6.4)
+-- the change flags are two bits, the CIF count is below 5000, and there is an occurrence change exactly if a flag is
+-- set (EN 300 401 clause 6.4)
 pub record IsEnsembleInformation (e : EnsembleInformation) : Type 0 where
   pub eid : e.eid < 65536
   pub change : e.change < 4

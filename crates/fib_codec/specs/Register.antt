@@ -1,13 +1,13 @@
--- The register by which the CRC is computed: sixteen bits, and a bit or more bytes of the message a step.
+-- The register that computes the CRC: sixteen bits, advanced by a bit or by whole bytes of the message.
 use Rattle.std.specs.Prelude.{ℕ, zero, suc, ◌*◌, ◌%◌, ◌==◌, Bool, true, ◌&&◌, if◌then◌else◌, List, [], ◌∷◌, bit_xor}
 use Rattle.std.specs.Int.{bit_at}
 
--- the register after one bit of the message: where that bit and the highest one of the register differ, the
--- generator x^16 + x^12 + x^5 + 1 is taken away
+-- the register after one bit of the message: if that bit and the highest one of the register differ, the generator x^16
+-- + x^12 + x^5 + 1 is subtracted
 abbrev pub next : ℕ → ℕ → ℕ
 next register bit = if bit_at register 15 == bit then register * 2 % 65536 else bit_xor (register * 2 % 65536) 4129
 
--- the register after the lowest bits of a number, as many as the width says, the highest of them first
+-- the register after the lowest bits of a number, as many as the width, the highest of them first
 unfoldable pub after : ℕ → ℕ → ℕ → ℕ
 after zero bits register = register
 after (suc width) bits register = after width bits (next register (bit_at bits width))
@@ -22,12 +22,12 @@ abbrev pub later : ℕ → ℕ → ℕ
 later zero register = register
 later (suc count) register = after 8 0 (later count register)
 
--- a table of what each byte makes of an empty register, from the byte at hand on
+-- a table of the register after each byte, starting from 0, for the bytes from this one on
 abbrev pub is_table : List ℕ → ℕ → Bool
 is_table [] byte = true
 is_table (entry ∷ entries) byte = entry == after 8 byte 0 && is_table entries (suc byte)
 
--- a table of what becomes of each entry of another table after one more byte of zeros
+-- a table of each entry of another table after one more byte of zeros
 abbrev pub is_next_table : List ℕ → List ℕ → Bool
 is_next_table befores [] = true
 is_next_table [] (entry ∷ entries) = true

@@ -1,6 +1,5 @@
--- How entries of FIG 0/0 to 0/3 and the FIGs of a FIB are written (EN 300 401 clauses 5.2.1, 5.2.2, 6.2.1,
--- 6.3.1, 6.3.2 and 6.4). Numbers of more than one byte go highest byte first: `big_bytes n x` is the lowest n
--- bytes of x.
+-- The encoding of entries of FIG 0/0 to 0/3 and of the FIGs of a FIB (EN 300 401 clauses 5.2.1, 5.2.2, 6.2.1, 6.3.1,
+-- 6.3.2 and 6.4). Numbers are big-endian: `big_bytes n x` is the lowest n bytes of x.
 use Rattle.std.specs.Prelude.{◌≡◌, ℕ, ◌+◌, ◌-◌, ◌*◌, ◌/◌, ◌%◌, ◌<◌, ◌≤◌, Bool, true, false, if◌then◌else◌, nat_lt, is_some, Option, Some, None, List, [], ◌∷◌, ◌++◌, length, flat_map, replicate}
 use Rattle.byteorder.specs.Endian.{big_bytes}
 use Rattle.mux_entries.specs.Entries.{EnsembleInformation}
@@ -18,13 +17,12 @@ use Rattle.mux_entries.specs.declared.entry.ComponentEntry.{ComponentEntry}
 use Rattle.mux_entries.specs.declared.entry.ComponentEntry.TheVariants.{Sound, Stream, Other, Packet}
 use Rattle.fib_codec.specs.declared.head.Head.{Head}
 use Rattle.fib_codec.specs.Ranges.{IsWithin}
-use Rattle.fib_codec.specs.Crc.{check_word}
+use Rattle.fib_codec.specs.Crc.{crc_value}
 
 abbrev pub bit_of : Bool → ℕ
 bit_of flag = if flag then 1 else 0
 
--- FIG 0/0: EId 16, change flags 2, Al 1, CIF count high part 5 and low part 8, occurrence change 8 where a
--- flag is set
+-- FIG 0/0: EId 16, change flags 2, Al 1, CIF count high part 5 and low part 8, occurrence change 8 if a flag is set
 abbrev pub occurrence_bytes : Option ℕ → List ℕ
 occurrence_bytes None = []
 occurrence_bytes (Some low) = low ∷ []
@@ -41,27 +39,27 @@ sub_bytes s = big_bytes 2 (s.id * 1024 + s.start) ++ big_bytes 2 (32768 + s.opti
 abbrev pub short_bytes : ShortEntry → List ℕ
 short_bytes s = big_bytes 2 (s.id * 1024 + s.start) ++ (bit_of s.switch * 64 + s.table) ∷ []
 
--- FIG 0/2: SId 16 or 32, Rfa 1, CAId 3, number of components 4, then 16 bits a component
+-- FIG 0/2: SId 16 or 32, Rfa 1, CAId 3, number of components 4, then 16 bits for each component
 abbrev pub sid_bytes : Sid → List ℕ
 sid_bytes (Short n) = big_bytes 2 n
 sid_bytes (Long n) = big_bytes 4 n
 
 -- a component: TMId 2, then ASCTy or DSCTy 6 and SubChId 6, or SCId 12, then P/S 1, CA 1
-abbrev pub component_word : ComponentEntry → ℕ
-component_word (Sound ty sub primary ca) = ty * 256 + sub * 4 + bit_of primary * 2 + bit_of ca
-component_word (Stream ty sub primary ca) = 16384 + ty * 256 + sub * 4 + bit_of primary * 2 + bit_of ca
-component_word (Other bits) = 32768 + bits
-component_word (Packet scid primary ca) = 49152 + scid * 4 + bit_of primary * 2 + bit_of ca
+abbrev pub component_u16 : ComponentEntry → ℕ
+component_u16 (Sound ty sub primary ca) = ty * 256 + sub * 4 + bit_of primary * 2 + bit_of ca
+component_u16 (Stream ty sub primary ca) = 16384 + ty * 256 + sub * 4 + bit_of primary * 2 + bit_of ca
+component_u16 (Other bits) = 32768 + bits
+component_u16 (Packet scid primary ca) = 49152 + scid * 4 + bit_of primary * 2 + bit_of ca
 
 abbrev pub components_bytes : List ComponentEntry → List ℕ
-components_bytes components = flat_map (λ c. big_bytes 2 (component_word c)) components
+components_bytes components = flat_map (λ c. big_bytes 2 (component_u16 c)) components
 
 abbrev pub service_bytes : ServiceEntry → List ℕ
 service_bytes s =
     sid_bytes s.sid ++ (bit_of s.rfa * 128 + s.ca_id * 16 + length s.components) ∷ components_bytes s.components
 
--- FIG 0/3: SCId 12, Rfa 3, CAOrg flag 1, DG flag 1, Rfu 1, DSCTy 6, SubChId 6, packet address 10, CAOrg 16
--- where its flag is 1
+-- FIG 0/3: SCId 12, Rfa 3, CAOrg flag 1, DG flag 1, Rfu 1, DSCTy 6, SubChId 6, packet address 10, CAOrg 16 if its flag
+-- is 1
 abbrev pub ca_org_bytes : Option ℕ → List ℕ
 ca_org_bytes None = []
 ca_org_bytes (Some org) = big_bytes 2 org
@@ -79,7 +77,7 @@ entry_bytes (ShortOf s) = short_bytes s
 entry_bytes (ServiceOf s) = service_bytes s
 entry_bytes (PacketOf p) = packet_bytes p
 
--- how many bytes an entry takes
+-- the length of an entry in bytes
 abbrev pub sid_size : Sid → ℕ
 sid_size (Short n) = 2
 sid_size (Long n) = 4
@@ -91,7 +89,7 @@ entry_size (ShortOf s) = 3
 entry_size (ServiceOf s) = sid_size s.sid + 1 + 2 * length s.components
 entry_size (PacketOf p) = if is_some p.ca_org then 7 else 5
 
--- the extension that an entry belongs to, and for a service the P/D flag of its SId
+-- the extension of an entry, and for a service the P/D flag of its SId
 abbrev pub ext_of : Entry → ℕ
 ext_of (EnsembleOf e) = 0
 ext_of (SubOf s) = 1
@@ -110,7 +108,7 @@ is_long_entry (ShortOf s) = false
 is_long_entry (ServiceOf s) = is_long_sid s.sid
 is_long_entry (PacketOf p) = false
 
--- the head under which a marked entry is sent: of this ensemble, and with P/D 1 exactly for a long SId
+-- the head under which a tagged entry is sent: of this ensemble, and with P/D 1 exactly for a long SId
 abbrev pub head_of : Marked → Head
 head_of m = record { next = m.next; oe = false; long = is_long_entry m.entry; ext = ext_of m.entry }
 
@@ -125,7 +123,7 @@ entries_bytes entries = flat_map entry_bytes entries
 abbrev pub fig_bytes : Head → List Entry → List ℕ
 fig_bytes head entries = (1 + length (entries_bytes entries)) ∷ head_byte head ∷ entries_bytes entries
 
--- an entry stands under a head of its extension, and a service under a head with the P/D flag of its SId
+-- an entry is under a head of its extension, and a service under a head with the P/D flag of its SId
 abbrev pub IsUnder : Head → Entry → Type 0
 IsUnder head (EnsembleOf e) = head.ext ≡ 0
 IsUnder head (SubOf s) = head.ext ≡ 1
@@ -133,7 +131,7 @@ IsUnder head (ShortOf s) = head.ext ≡ 1
 IsUnder head (ServiceOf s) = (head.ext ≡ 2) × (head.long ≡ is_long_sid s.sid)
 IsUnder head (PacketOf p) = head.ext ≡ 3
 
--- a FIG with entries that belong together: at least one, all under the head, and FIG 0/0 has one alone
+-- a FIG with entries that belong together: at least one, all under the head, and FIG 0/0 has only one
 pub record IsFormed (head : Head) (entries : List Entry) : Type 0 where
   pub some : 0 < length entries
   pub under : AllByRecursion (IsUnder head) entries
@@ -144,7 +142,7 @@ pub record Written : Type 0 where
   pub head : Head
   pub entries : List Entry
 
--- as it comes from a program, whose entries are within their bits
+-- a FIG from a program, whose entries are within their bits
 pub record IsWritten (fig : Written) : Type 0 where
   pub formed : IsFormed fig.head fig.entries
   pub within : AllByRecursion IsWithin fig.entries
@@ -152,13 +150,13 @@ pub record IsWritten (fig : Written) : Type 0 where
 abbrev pub figs_bytes : List Written → List ℕ
 figs_bytes figs = flat_map (λ (fig : Written). fig_bytes fig.head fig.entries) figs
 
--- data bytes filled up to thirty: the end marker and zeros where there is room for them
+-- data bytes padded to thirty: the end marker and zeros if there is room for them
 abbrev pub filled : List ℕ → List ℕ
 filled bytes = if nat_lt (length bytes) 30 then bytes ++ 255 ∷ replicate (29 - length bytes) 0 else bytes
 
 -- a FIB: thirty data bytes and their CRC
 abbrev pub checked : List ℕ → List ℕ
-checked bytes = bytes ++ big_bytes 2 (check_word bytes)
+checked bytes = bytes ++ big_bytes 2 (crc_value bytes)
 
 abbrev pub fib_bytes : List Written → List ℕ
 fib_bytes figs = checked (filled (figs_bytes figs))
@@ -168,8 +166,8 @@ pub record FitsFig (bytes : List ℕ) (head : Head) (entries : List Entry) : Typ
   pub formed : IsFormed head entries
   pub room : length bytes + length (fig_bytes head entries) ≤ 30
 
--- entries of one extension and, for services, one P/D flag are told apart by how they are written
-abbrev pub SpellingTells : Type 0
-SpellingTells =
+-- entries of one extension and, for services, one P/D flag are distinguished by their encoding
+abbrev pub SpellingIdentifies : Type 0
+SpellingIdentifies =
     (e f : Entry) → IsWithin e → IsWithin f → ext_of e ≡ ext_of f → is_long_entry e ≡ is_long_entry f
     → entry_bytes e ≡ entry_bytes f → e ≡ f

@@ -1,4 +1,4 @@
-//! Single bytes and numbers of two bytes, as entries of FIGs have them.
+//! Reads single bytes and big-endian numbers from the bytes of an entry.
 
 ghost use Rattle.std.specs.Prelude.{◌≡◌, ◌+◌, ◌*◌, ◌<◌, get_or};
 
@@ -12,14 +12,14 @@ pub fn byte_at(bytes: &[u8], offset: usize) -> u8
     }
 }
 
-/// The number that two bytes are, the higher one first.
+/// The number with these two bytes.
 pub(crate) fn u16_of(high: u8, low: u8) -> u16
     ensures { result ≡ high * 256 + low }
 {
     u16::from_be_bytes([high, low])
 }
 
-/// The number that the two bytes from an offset on are, the first one higher; a byte past the end is 0.
+/// The big-endian number in the two bytes at an offset; a byte past the end is 0.
 pub(crate) fn u16_at(bytes: &[u8], offset: usize) -> u16
     requires { offset < 8 }
     ensures { result ≡ get_or bytes.now offset 0 * 256 + get_or bytes.now (offset + 1) 0 }
@@ -27,7 +27,7 @@ pub(crate) fn u16_at(bytes: &[u8], offset: usize) -> u16
     u16_of(byte_at(bytes, offset), byte_at(bytes, offset + 1))
 }
 
-/// The number that two of 16 bits are, the higher one first.
+/// The number with these two halves of 16 bits.
 pub(crate) fn u32_of(high: u16, low: u16) -> u32
     ensures { result ≡ high * 65536 + low }
 {

@@ -44,7 +44,7 @@ fn byte_step(register: u16, byte: u8) -> u16
     (register << 8) ^ slice_0(top ^ byte)
 }
 
-/// The register after these bytes of the message, a byte a step.
+/// The register after these bytes of the message, byte by byte.
 fn bytes_step(mut register: u16, bytes: &[u8]) -> u16
     ensures { result ≡ after_all bytes.now register }
 {
@@ -60,7 +60,7 @@ fn six_step(register: u16, a: u8, b: u8, c: u8, d: u8, e: u8, f: u8) -> u16
 {
     let top = (register >> 8) as u8;
     let low = (register % 256) as u8;
-    // what does not wait for the register comes first
+    // the part that does not depend on the register comes first
     let behind = slice_0(f) ^ (slice_1(e) ^ (slice_2(d) ^ slice_3(c)));
     behind ^ (slice_4(low ^ b) ^ slice_5(top ^ a))
 }

@@ -1,10 +1,9 @@
-//! The tables of the CRC: what each byte makes of an empty register, alone and with up to five bytes
-//! of zeros behind it.
+//! The tables of the CRC: the register after each byte and up to five bytes of zeros, starting from 0.
 
 ghost use Rattle.std.specs.Prelude.{◌≡◌};
 ghost use Rattle.fib_codec.specs.Register.{after, later};
 
-/// What each byte makes of an empty register.
+/// The register after each byte, starting from 0.
 #[rattlefmt::skip]
 const SLICE_0: [u16; 256] = [
     0x0000, 0x1021, 0x2042, 0x3063, 0x4084, 0x50a5, 0x60c6, 0x70e7, 0x8108, 0x9129, 0xa14a, 0xb16b, 0xc18c, 0xd1ad, 0xe1ce, 0xf1ef,
@@ -25,7 +24,7 @@ const SLICE_0: [u16; 256] = [
     0xef1f, 0xff3e, 0xcf5d, 0xdf7c, 0xaf9b, 0xbfba, 0x8fd9, 0x9ff8, 0x6e17, 0x7e36, 0x4e55, 0x5e74, 0x2e93, 0x3eb2, 0x0ed1, 0x1ef0,
 ];
 
-/// What each byte and then one byte of zeros make of it.
+/// The register after each byte and one byte of zeros.
 #[rattlefmt::skip]
 const SLICE_1: [u16; 256] = [
     0x0000, 0x3331, 0x6662, 0x5553, 0xccc4, 0xfff5, 0xaaa6, 0x9997, 0x89a9, 0xba98, 0xefcb, 0xdcfa, 0x456d, 0x765c, 0x230f, 0x103e,
@@ -46,7 +45,7 @@ const SLICE_1: [u16; 256] = [
     0x13c1, 0x20f0, 0x75a3, 0x4692, 0xdf05, 0xec34, 0xb967, 0x8a56, 0x9a68, 0xa959, 0xfc0a, 0xcf3b, 0x56ac, 0x659d, 0x30ce, 0x03ff,
 ];
 
-/// What each byte and then two bytes of zeros make of it.
+/// The register after each byte and two bytes of zeros.
 #[rattlefmt::skip]
 const SLICE_2: [u16; 256] = [
     0x0000, 0x3730, 0x6e60, 0x5950, 0xdcc0, 0xebf0, 0xb2a0, 0x8590, 0xa9a1, 0x9e91, 0xc7c1, 0xf0f1, 0x7561, 0x4251, 0x1b01, 0x2c31,
@@ -67,7 +66,7 @@ const SLICE_2: [u16; 256] = [
     0xe352, 0xd462, 0x8d32, 0xba02, 0x3f92, 0x08a2, 0x51f2, 0x66c2, 0x4af3, 0x7dc3, 0x2493, 0x13a3, 0x9633, 0xa103, 0xf853, 0xcf63,
 ];
 
-/// What each byte and then three bytes of zeros make of it.
+/// The register after each byte and three bytes of zeros.
 #[rattlefmt::skip]
 const SLICE_3: [u16; 256] = [
     0x0000, 0x76b4, 0xed68, 0x9bdc, 0xcaf1, 0xbc45, 0x2799, 0x512d, 0x85c3, 0xf377, 0x68ab, 0x1e1f, 0x4f32, 0x3986, 0xa25a, 0xd4ee,
@@ -88,7 +87,7 @@ const SLICE_3: [u16; 256] = [
     0x9f4d, 0xe9f9, 0x7225, 0x0491, 0x55bc, 0x2308, 0xb8d4, 0xce60, 0x1a8e, 0x6c3a, 0xf7e6, 0x8152, 0xd07f, 0xa6cb, 0x3d17, 0x4ba3,
 ];
 
-/// What each byte and then four bytes of zeros make of it.
+/// The register after each byte and four bytes of zeros.
 #[rattlefmt::skip]
 const SLICE_4: [u16; 256] = [
     0x0000, 0xaa51, 0x4483, 0xeed2, 0x8906, 0x2357, 0xcd85, 0x67d4, 0x022d, 0xa87c, 0x46ae, 0xecff, 0x8b2b, 0x217a, 0xcfa8, 0x65f9,
@@ -109,7 +108,7 @@ const SLICE_4: [u16; 256] = [
     0x3f56, 0x9507, 0x7bd5, 0xd184, 0xb650, 0x1c01, 0xf2d3, 0x5882, 0x3d7b, 0x972a, 0x79f8, 0xd3a9, 0xb47d, 0x1e2c, 0xf0fe, 0x5aaf,
 ];
 
-/// What each byte and then five bytes of zeros make of it.
+/// The register after each byte and five bytes of zeros.
 #[rattlefmt::skip]
 const SLICE_5: [u16; 256] = [
     0x0000, 0x45a0, 0x8b40, 0xcee0, 0x06a1, 0x4301, 0x8de1, 0xc841, 0x0d42, 0x48e2, 0x8602, 0xc3a2, 0x0be3, 0x4e43, 0x80a3, 0xc503,
@@ -130,7 +129,7 @@ const SLICE_5: [u16; 256] = [
     0x91bc, 0xd41c, 0x1afc, 0x5f5c, 0x971d, 0xd2bd, 0x1c5d, 0x59fd, 0x9cfe, 0xd95e, 0x17be, 0x521e, 0x9a5f, 0xdfff, 0x111f, 0x54bf,
 ];
 
-/// The register after this byte, where it was empty.
+/// The register after this byte, starting from 0.
 #[tactic(auto, using(crate::proofs::TableRule::in_first_table))]
 pub(crate) fn slice_0(byte: u8) -> u16
     ensures { result ≡ later 0 (after 8 byte 0) }
@@ -138,7 +137,7 @@ pub(crate) fn slice_0(byte: u8) -> u16
     SLICE_0[usize::from(byte)]
 }
 
-/// The register after this byte and one byte of zeros, where it was empty.
+/// The register after this byte and one byte of zeros, starting from 0.
 #[tactic(auto, using(crate::proofs::TableRule::in_second_table))]
 pub(crate) fn slice_1(byte: u8) -> u16
     ensures { result ≡ later 1 (after 8 byte 0) }
@@ -146,7 +145,7 @@ pub(crate) fn slice_1(byte: u8) -> u16
     SLICE_1[usize::from(byte)]
 }
 
-/// The register after this byte and two bytes of zeros, where it was empty.
+/// The register after this byte and two bytes of zeros, starting from 0.
 #[tactic(auto, using(crate::proofs::TableRule::in_third_table))]
 pub(crate) fn slice_2(byte: u8) -> u16
     ensures { result ≡ later 2 (after 8 byte 0) }
@@ -154,7 +153,7 @@ pub(crate) fn slice_2(byte: u8) -> u16
     SLICE_2[usize::from(byte)]
 }
 
-/// The register after this byte and three bytes of zeros, where it was empty.
+/// The register after this byte and three bytes of zeros, starting from 0.
 #[tactic(auto, using(crate::proofs::TableRule::in_fourth_table))]
 pub(crate) fn slice_3(byte: u8) -> u16
     ensures { result ≡ later 3 (after 8 byte 0) }
@@ -162,7 +161,7 @@ pub(crate) fn slice_3(byte: u8) -> u16
     SLICE_3[usize::from(byte)]
 }
 
-/// The register after this byte and four bytes of zeros, where it was empty.
+/// The register after this byte and four bytes of zeros, starting from 0.
 #[tactic(auto, using(crate::proofs::TableRule::in_fifth_table))]
 pub(crate) fn slice_4(byte: u8) -> u16
     ensures { result ≡ later 4 (after 8 byte 0) }
@@ -170,7 +169,7 @@ pub(crate) fn slice_4(byte: u8) -> u16
     SLICE_4[usize::from(byte)]
 }
 
-/// The register after this byte and five bytes of zeros, where it was empty.
+/// The register after this byte and five bytes of zeros, starting from 0.
 #[tactic(auto, using(crate::proofs::TableRule::in_sixth_table))]
 pub(crate) fn slice_5(byte: u8) -> u16
     ensures { result ≡ later 5 (after 8 byte 0) }

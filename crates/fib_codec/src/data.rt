@@ -8,8 +8,8 @@ use crate::crc::crc16;
 use byteorder::{BigEndian, ByteOrder};
 use std::marker::Model;
 
-/// The data bytes of a FIB as far as they are written, at most 30. Contracts see the list of them. They are kept in
-/// the 32 bytes of the FIB, with the end marker and zeros behind them.
+/// The data bytes of a FIB written so far, at most 30. Contracts see them as a list. They are kept in the 32 bytes of
+/// the FIB, followed by the end marker and zeros.
 #[derive(Drop)]
 pub(crate) struct Data {
     bytes: [u8; 32],
@@ -27,7 +27,7 @@ impl Model for Data {
     ghost invariant = { λ d. IsBegun d.len d.bytes };
 }
 
-/// The FIB of these bytes, of which the last two become the CRC of the others.
+/// The FIB with these bytes, the last two replaced by the CRC of the others.
 fn with_crc(mut bytes: [u8; 32]) -> [u8; 32]
     requires { length bytes ≡ 32 }
     ensures { result ≡ checked (take 30 bytes) }
@@ -38,7 +38,7 @@ fn with_crc(mut bytes: [u8; 32]) -> [u8; 32]
 }
 
 impl Data {
-    /// None yet.
+    /// No data bytes.
     pub(crate) fn new() -> Data
         ensures { result ≡ [] }
     {
@@ -86,7 +86,7 @@ impl Data {
         self.len = at + 2;
     }
 
-    /// Appends a number of 16 bits, its high byte first.
+    /// Appends a 16-bit number, high byte first.
     pub(crate) fn push_u16(&mut self, number: u16)
         requires { length self.old + 2 ≤ 30 }
         ensures { self.new ≡ self.old ++ big_bytes 2 number }
@@ -96,7 +96,7 @@ impl Data {
         self.push_two(bytes[0], bytes[1]);
     }
 
-    /// Appends a number of 32 bits, its highest byte first.
+    /// Appends a 32-bit number, high byte first.
     pub(crate) fn push_u32(&mut self, number: u32)
         requires { length self.old + 4 ≤ 30 }
         ensures { self.new ≡ self.old ++ big_bytes 4 number }
@@ -117,7 +117,7 @@ impl Data {
         self.bytes[offset] += more;
     }
 
-    /// The 32 bytes of the FIB, of which the last two aren't its CRC yet.
+    /// The 32 bytes of the FIB, of which the last two are not its CRC yet.
     pub(crate) fn row(&self) -> &[u8; 32]
         ensures filled { take 30 result.now ≡ filled self.now }
         ensures whole { length result.now ≡ 32 }
@@ -126,7 +126,7 @@ impl Data {
         &self.bytes
     }
 
-    /// The FIB with these data bytes, filled up to thirty.
+    /// The FIB with these data bytes, padded to thirty.
     pub(crate) fn finish(self) -> [u8; 32]
         ensures value { result ≡ checked (filled self) }
         ensures bound { length self ≤ 30 }

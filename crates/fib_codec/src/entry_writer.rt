@@ -1,4 +1,4 @@
-//! Any entry of FIG 0/0 to 0/3 as bytes; its layout is in the file of its FIG.
+//! Encodes any entry of FIG 0/0 to 0/3; its layout is in the file of its FIG.
 
 ghost use Rattle.std.specs.Prelude.{◌≡◌, ◌+◌, ◌≤◌, ◌++◌, length};
 ghost use Rattle.fib_codec.specs.Ranges.{IsWithin};
@@ -9,7 +9,7 @@ use crate::{fig0_0, fig0_1, fig0_2, fig0_3};
 use mux_entries::Entry;
 use mux_types::Sid;
 
-/// How many bytes an entry takes, from 3 to 35.
+/// The length of an entry in bytes, from 3 to 35.
 #[tactic(auto, using(crate::proofs::Lengths::entry_length))]
 pub fn entry_len(entry: &Entry) -> usize
     ensures size { result ≡ entry_size entry.now }

@@ -1,4 +1,4 @@
-//! The extensions of FIG type 0 that are looked into: FIG 0/0 to 0/3.
+//! The extensions of FIG type 0 that are parsed: FIG 0/0 to 0/3.
 
 ghost use Rattle.std.specs.Prelude.{◌≡◌, ◌<◌, ◌≤◌, IfSome, IfNone};
 ghost use Rattle.fib_codec.specs.Extensions.{number_of};
@@ -6,7 +6,7 @@ ghost use Rattle.fib_codec.specs.Spelling.{ext_of};
 
 use mux_entries::Entry;
 
-/// An extension of FIG type 0 that is looked into. FIGs of those from 4 to 31 are passed over.
+/// An extension of FIG type 0 that is parsed. FIGs with extensions 4 to 31 are skipped.
 #[derive(Clone, Copy, Debug, PartialEq, Eq)]
 pub enum Extension {
     /// FIG 0/0, ensemble information (EN 300 401 clause 6.4).
@@ -20,7 +20,7 @@ pub enum Extension {
 }
 
 impl Extension {
-    /// The extension of this number; None for those that are not looked into, from 4 on.
+    /// The extension with this number; None from 4 on, for those that are not parsed.
     pub fn from_number(number: u8) -> Option<Extension>
         ensures value { IfSome result (λ e. number_of e ≡ number) }
         ensures other { IfNone result (4 ≤ number) }
@@ -46,7 +46,7 @@ impl Extension {
         }
     }
 
-    /// Its number, 0 to 3, as the head of its FIGs has it.
+    /// Its number, 0 to 3, as in the head of its FIGs.
     pub fn number(self) -> u8
         ensures value { result ≡ number_of self }
         ensures in_range { result < 4 }

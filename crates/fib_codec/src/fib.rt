@@ -4,7 +4,7 @@ ghost use Rattle.std.specs.Prelude.{◌≡◌, ◌+◌, ◌*◌, ◌≤◌, ◌<
 ghost use Rattle.std.specs.List.{AllByRecursion};
 ghost use Rattle.fib_codec.specs.Ranges.{IsWithin};
 ghost use Rattle.byteorder.specs.Endian.{big_bytes};
-ghost use Rattle.fib_codec.specs.Spelling.{head_byte, bit_of, sid_size, sid_bytes, component_word, sub_bytes, packet_bytes, entry_bytes, entry_size, entries_bytes, fig_bytes, IsUnder, IsFormed, FitsFig, IsWritten, filled, checked};
+ghost use Rattle.fib_codec.specs.Spelling.{head_byte, bit_of, sid_size, sid_bytes, component_u16, sub_bytes, packet_bytes, entry_bytes, entry_size, entries_bytes, fig_bytes, IsUnder, IsFormed, FitsFig, IsWritten, filled, checked};
 ghost use Rattle.fib_codec.specs.Grammar.{HoldsFigsOf, IsValidOf};
 
 use crate::data::Data;
@@ -75,7 +75,7 @@ fn is_formed(head: Head, entries: &[Entry]) -> bool
     are_under(head, entries)
 }
 
-/// How many bytes these entries take, where that is no more than `room`.
+/// The length of these entries in bytes if that is at most `room`.
 fn len_within(entries: &[Entry], room: usize) -> Option<usize>
     ensures { let all = length (entries_bytes entries.now) in
         MatchOption result (room < all) (λ len. (len ≡ all) × (len ≤ room)) }
@@ -109,10 +109,10 @@ impl Fib {
         Fib { bytes: Data::new() }
     }
 
-    /// Appends a FIG of type 0 with this head and these entries, and returns whether it did. It returns
-    /// false, and the FIB stays as it was, exactly where `entries` is empty, an entry is of another
-    /// extension than the head's, a service's SId isn't as long as the head's P/D flag says, FIG 0/0 is
-    /// given more than one entry, or the FIG doesn't fit in what is left of the 30 data bytes.
+    /// Appends a FIG of type 0 with this head and these entries, and returns whether it did. It returns false, and the
+    /// FIB is unchanged, exactly if `entries` is empty, an entry is of another extension than the head's, a service's
+    /// SId is not as long as the head's P/D flag says, FIG 0/0 is given more than one entry, or the FIG does not fit in
+    /// what is left of the 30 data bytes.
     pub fn try_fig(&mut self, head: Head, entries: &[Entry]) -> bool
         ensures answer { IsTrue result ↔ FitsFig self.old head entries.now }
         ensures added { IsTrue result → self.new ≡ self.old ++ fig_bytes head entries.now }
@@ -137,9 +137,9 @@ impl Fib {
         }
     }
 
-    /// Appends the two bytes that a FIG of type 0 begins with, for this head and entries of `len` bytes. It is for a
-    /// caller that knows how long the entries are and that there is room, and appends them next, one by one.
-    /// [`Fib::try_fig`] is the call for everybody else.
+    /// Appends the first two bytes of a FIG of type 0, for this head and entries of `len` bytes. For a caller that
+    /// knows the length of the entries and that there is room, and appends them next, one by one. Other callers use
+    /// [`Fib::try_fig`].
     pub fn begin_fig(&mut self, head: Head, len: usize)
         requires ext { head.ext < 32 }
         requires room { length self.old + 2 + len ≤ 30 }
@@ -148,8 +148,8 @@ impl Fib {
         self.bytes.push_two(1 + len as u8, head::encode(head));
     }
 
-    /// Makes the FIG whose header is at this offset of the data bytes this many bytes longer: those of an entry that
-    /// the caller appends next. It is for the last FIG that was begun, where there is room for the entry.
+    /// Lengthens the FIG whose header is at offset `place` of the data bytes by `more` bytes, for an entry that the
+    /// caller appends next. For the last FIG that was begun, if there is room for the entry.
     pub fn lengthen_fig(&mut self, place: usize, more: u8)
         requires place { place < length self.old }
         requires fits { slice_index_or self.old place 0 + more ≤ 255 }
@@ -158,8 +158,8 @@ impl Fib {
         self.bytes.add_at(place, more);
     }
 
-    /// Appends an entry to the FIG that was begun, which has room for it. [`Fib::try_fig`] is the call for a caller
-    /// that doesn't know this.
+    /// Appends an entry to the FIG that was begun, which has room for it. A caller that does not know this uses
+    /// [`Fib::try_fig`].
     pub fn put_entry(&mut self, entry: &Entry)
         requires { length self.old + entry_size entry.now ≤ 30 }
         ensures written { self.new ≡ self.old ++ entry_bytes entry.now }
@@ -168,9 +168,9 @@ impl Fib {
         put_entry(&mut self.bytes, entry);
     }
 
-    /// Appends what the entry of a service begins with, before its components: the SId, Rfa, CAId and how many
-    /// components there are, at most 15 (EN 300 401 clause 6.3.1). It is for a caller that appends the components
-    /// next, one by one, and knows that there is room.
+    /// Appends the start of a service's entry, before its components: the SId, Rfa, CAId and the number of components,
+    /// at most 15 (EN 300 401 clause 6.3.1). For a caller that appends the components next, one by one, and knows that
+    /// there is room.
     pub fn begin_service(&mut self, sid: Sid, rfa: bool, ca_id: Bits<3>, count: usize)
         requires few { count ≤ 15 }
         requires room { length self.old + sid_size sid + 1 ≤ 30 }
@@ -183,7 +183,7 @@ impl Fib {
     /// Appends the two bytes of a component to the entry of a service that was begun, which has room for it.
     pub fn put_component(&mut self, component: ComponentEntry)
         requires { length self.old + 2 ≤ 30 }
-        ensures { self.new ≡ self.old ++ big_bytes 2 (component_word component) }
+        ensures { self.new ≡ self.old ++ big_bytes 2 (component_u16 component) }
     {
         fig0_2::encode_component(&mut self.bytes, component);
     }
@@ -212,7 +212,7 @@ impl Fib {
         self.bytes.as_slice()
     }
 
-    /// The 32 bytes of the FIB as far as it is written, without its CRC.
+    /// The 32 bytes of the FIB written so far, without its CRC.
     pub(crate) fn row(&self) -> &[u8; 32]
         ensures filled { take 30 result.now ≡ filled self.now }
         ensures whole { length result.now ≡ 32 }
@@ -220,9 +220,9 @@ impl Fib {
         self.bytes.row()
     }
 
-    /// The 32 bytes of the FIB: its FIGs, the end marker and zeros where there is room for them, and the
-    /// CRC. In the grammar they are exactly the FIGs that were appended, in order; those with OE 1
-    /// are there as FIGs that aren't looked into, and without such a one the FIB is valid.
+    /// The 32 bytes of the FIB: its FIGs, the end marker and zeros if there is room for them, and the CRC. By the
+    /// grammar they contain exactly the FIGs that were appended, in order. Those with OE 1 are FIGs that are not
+    /// parsed; without such a one the FIB is valid.
     pub fn finish(self) -> [u8; 32]
         ensures spelled { result ≡ checked (filled self) }
         ensures figs { HoldsFigsOf self result }

@@ -11,11 +11,11 @@ use crate::modes::Mode;
 use byteorder::{BigEndian, ByteOrder};
 use std::marker::Model;
 
-/// The most FIBs that a frame has, those of mode III.
+/// The most FIBs that a frame has, in mode III.
 const MOST_FIBS: usize = 4;
 
-/// The FIBs of one CIF one after another, 96 bytes and in mode III 128 (EN 300 401 clause 5.1). Contracts
-/// see the list of these bytes.
+/// The FIBs of one CIF one after another: 96 bytes, or 128 in mode III (EN 300 401 clause 5.1). Contracts see the list
+/// of these bytes.
 #[derive(Clone, Copy, Debug, PartialEq, Eq)]
 pub struct FibFrame {
     bytes: [u8; 32 * MOST_FIBS],
@@ -44,7 +44,7 @@ impl Model for FibFrame {
         } };
 }
 
-/// Writes a FIB over the 32 bytes from an offset on.
+/// Overwrites the 32 bytes at an offset with a FIB.
 fn write_at(bytes: &mut [u8], offset: usize, fib: &[u8; 32])
     requires { offset + 32 ≤ length bytes.old }
     ensures { bytes.new ≡ take offset bytes.old ++ (fib.now ++ drop (offset + 32) bytes.old) }
@@ -52,8 +52,7 @@ fn write_at(bytes: &mut [u8], offset: usize, fib: &[u8; 32])
     bytes[offset..offset + 32].copy_from_slice(fib);
 }
 
-/// Writes the FIB of these bytes, of which the last two become the CRC of the others, over the 32 bytes from an
-/// offset on.
+/// Overwrites the 32 bytes at an offset with the FIB of these bytes, the last two replaced by the CRC of the others.
 fn write_sealed(bytes: &mut [u8], offset: usize, row: &[u8; 32])
     requires within { offset + 32 ≤ length bytes.old }
     requires whole { length row.now ≡ 32 }
@@ -66,7 +65,7 @@ fn write_sealed(bytes: &mut [u8], offset: usize, row: &[u8; 32])
     BigEndian::write_u16(&mut fib[30..], crc);
 }
 
-/// Writes bytes over the front of a FIB, one by one: as many at once would have to wait for each of them to be stored.
+/// Overwrites the front of a FIB byte by byte: a wide copy would have to wait until each byte of `fig` is stored.
 fn write_front<const LEN: usize>(fib: &mut [u8], fig: &[u8; LEN])
     requires { LEN ≤ length fib.old }
     ensures { fib.new ≡ fig.now ++ drop (length fig.now) fib.old }
@@ -76,7 +75,7 @@ fn write_front<const LEN: usize>(fib: &mut [u8], fig: &[u8; LEN])
     }
 }
 
-/// Writes a FIG over the front of a FIB, and behind it as many bytes of another FIB as thirty data bytes have room for.
+/// Overwrites the data bytes of a FIB with a FIG followed by as many bytes of another FIB as fit.
 fn join<const LEN: usize>(fib: &mut [u8], fig: &[u8; LEN], plain: &[u8; 32])
     requires whole { length fib.old ≡ 32 }
     requires few { LEN ≤ 30 }
@@ -86,7 +85,7 @@ fn join<const LEN: usize>(fib: &mut [u8], fig: &[u8; LEN], plain: &[u8; 32])
     fib[LEN..30].copy_from_slice(&plain[..30 - LEN]);
 }
 
-/// Writes the CRC of the first thirty bytes of a FIB behind them.
+/// Writes the CRC of the first thirty bytes of a FIB after them.
 fn seal(fib: &mut [u8])
     requires { length fib.old ≡ 32 }
     ensures { fib.new ≡ checked (take 30 fib.old) }
@@ -95,7 +94,7 @@ fn seal(fib: &mut [u8])
     BigEndian::write_u16(&mut fib[30..], crc);
 }
 
-/// Writes a FIB of a FIG and of what there is room for of another FIB over the 32 bytes from an offset on.
+/// Overwrites the 32 bytes at an offset with a FIB of a FIG followed by as many bytes of another FIB as fit.
 fn write_joined<const LEN: usize>(
     bytes: &mut [u8],
     offset: usize,
@@ -114,7 +113,7 @@ fn write_joined<const LEN: usize>(
 }
 
 impl FibFrame {
-    /// A frame of this mode whose bytes are all 0, for FIBs to be written into.
+    /// A frame of this mode with all bytes 0, to write FIBs into.
     pub fn new(mode: Mode) -> FibFrame
         ensures { result ≡ replicate (32 * fib_count mode) 0 }
     {
@@ -124,7 +123,7 @@ impl FibFrame {
         }
     }
 
-    /// Writes a FIB over the one at this index, from 0.
+    /// Overwrites the FIB at this index, from 0.
     pub fn write_fib(&mut self, index: usize, fib: &[u8; 32])
         requires { 32 * index + 32 ≤ length self.old }
         ensures written { self.new ≡ with_fib index fib.now self.old }
@@ -134,8 +133,7 @@ impl FibFrame {
         write_at(&mut self.bytes, 32 * index, fib);
     }
 
-    /// Closes a FIB that was written, and writes it over the one at this index, from 0: the bytes that
-    /// [`Fib::finish`] gives.
+    /// Finishes a FIB and writes it over the one at this index, from 0: the bytes that [`Fib::finish`] gives.
     pub fn finish_fib(&mut self, index: usize, fib: &Fib)
         requires { 32 * index + 32 ≤ length self.old }
         ensures written { self.new ≡ with_fib index (checked (filled fib.now)) self.old }
@@ -146,8 +144,8 @@ impl FibFrame {
         write_sealed(&mut self.bytes, 32 * index, fib.row());
     }
 
-    /// Writes a FIB of a FIG and of as many bytes of another FIB as thirty data bytes have room for behind it, with
-    /// their CRC, over the one at this index, from 0.
+    /// Overwrites the FIB at this index, from 0, with a FIG followed by as many bytes of another FIB as fit in thirty
+    /// data bytes, and their CRC.
     pub fn join_fib<const LEN: usize>(&mut self, index: usize, fig: &[u8; LEN], plain: &[u8; 32])
         requires there { 32 * index + 32 ≤ length self.old }
         requires few { LEN ≤ 30 }
@@ -165,7 +163,7 @@ impl FibFrame {
         &self.bytes[..self.len]
     }
 
-    /// The FIB at this index, from 0; None where the frame has no such one.
+    /// The FIB at this index, from 0; None if the frame has no such FIB.
     pub fn fib(&self, index: usize) -> Option<&[u8; 32]>
         ensures found { IsSome result ↔ (32 * index + 32 ≤ length self.now) }
         ensures value { IfSome result (λ fib. fib.now ≡ fib_at self.now index) }

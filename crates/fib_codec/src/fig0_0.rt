@@ -1,8 +1,8 @@
 //! FIG 0/0, ensemble information (EN 300 401 clause 6.4): the layout of its entry.
 //!
-//! EId 16, change flags 2, Al 1, CIF count high part 5 and low part 8, and where a change flag is set the
-//! occurrence change 8. That `encode` and `decode` agree is the contract of `decode`: what it gives is encoded as
-//! these bytes, and is the only one that is.
+//! EId 16, change flags 2, Al 1, CIF count high part 5 and low part 8, and if a change flag is set the occurrence
+//! change 8. The contract of `decode` says that `encode` and `decode` agree: its result is encoded as these bytes, and
+//! nothing else is.
 
 ghost use Rattle.std.specs.Prelude.{◌≡◌, ◌+◌, ◌*◌, ◌/◌, ◌%◌, ◌≤◌, ◌++◌, if◌then◌else◌, length, get_or};
 ghost use Rattle.fib_codec.specs.Grammar.{ensemble_len, IsCounted};
@@ -14,10 +14,10 @@ use crate::bytes::{byte_at, u16_at, u16_of};
 use crate::data::Data;
 use mux_entries::Ensemble;
 
-/// The bytes without an occurrence change.
+/// The length without an occurrence change, in bytes.
 const PLAIN_LEN: usize = 4;
 
-/// The bytes with an occurrence change.
+/// The length with an occurrence change, in bytes.
 const FLAGGED_LEN: usize = 5;
 
 /// The third byte: the change flags, Al, and the CIF count's high part.
@@ -29,24 +29,24 @@ const AL_MASK: u8 = 0x01;
 
 const COUNT_HIGH_MASK: u8 = 0x1f;
 
-/// The CIF count's low part runs modulo this.
+/// The low part of the CIF count is below this.
 const COUNT_LOW_RANGE: u16 = 250;
 
-/// How many bytes the entry takes, with a change flag set or without.
+/// The length of the entry in bytes, with a change flag set or without.
 pub fn len(flagged: bool) -> usize
     ensures { result ≡ (if flagged then 5 else 4) }
 {
     if flagged { FLAGGED_LEN } else { PLAIN_LEN }
 }
 
-/// How long the entry is that begins here, as its change flags say.
+/// The length of the entry at the front of these bytes, by its change flags.
 pub fn len_at(bytes: &[u8]) -> usize
     ensures { result ≡ ensemble_len bytes.now }
 {
     len(byte_at(bytes, 2) >> CHANGE_SHIFT != 0)
 }
 
-/// The EId of the entry that begins here.
+/// The EId of the entry at the front of these bytes.
 pub fn eid_at(bytes: &[u8]) -> u16
     ensures { result ≡ get_or bytes.now 0 0 * 256 + get_or bytes.now 1 0 }
 {
@@ -84,7 +84,7 @@ pub(crate) fn encode(out: &mut Data, ensemble: Ensemble)
     }
 }
 
-/// The ensemble information that these bytes are: it is encoded so, and no other one is.
+/// The ensemble information that these bytes encode; no other has this encoding.
 pub fn decode(bytes: &[u8]) -> Ensemble
     requires whole { length bytes.now ≡ ensemble_len bytes.now }
     requires counted { IsCounted bytes.now }

@@ -1,8 +1,8 @@
 //! FIG 0/1, sub-channels (EN 300 401 clause 6.2.1): the layout of its entries in both forms.
 //!
-//! An entry begins with 16 bits: SubChId 6, start address 10. Long form: 1, option 3, protection level 2,
-//! size 10. Short form: 0, table switch 1, table index 6. That encoding and decoding agree is the contract of
-//! `decode_long` and `decode_short`: what they give is encoded as these bytes, and is the only one that is.
+//! An entry begins with 16 bits: SubChId 6, start address 10. Long form: 1, option 3, protection level 2, size 10.
+//! Short form: 0, table switch 1, table index 6. The contracts of `decode_long` and `decode_short` say that encoding
+//! and decoding agree: their result is encoded as these bytes, and nothing else is.
 
 ghost use Rattle.std.specs.Prelude.{◌≡◌, ◌+◌, ◌<◌, ◌≤◌, ◌↔◌, ◌/◌, ◌==◌, ◌++◌, IsTrue, if◌then◌else◌, length, get_or};
 ghost use Rattle.fib_codec.specs.Grammar.{sub_len};
@@ -16,16 +16,16 @@ use crate::data::Data;
 use mux_entries::{ShortEntry, SubEntry};
 use mux_types::{Bits, SubId};
 
-/// The bytes of an entry of the long form.
+/// The length of an entry in the long form, in bytes.
 const LONG_LEN: usize = 4;
 
-/// The bytes of an entry of the short form.
+/// The length of an entry in the short form, in bytes.
 const SHORT_LEN: usize = 3;
 
 /// The form bit, the highest one of the third byte: 1 in the long form.
 const LONG_FORM: u8 = 0x80;
 
-/// The 16 bits that an entry of either form begins with.
+/// The first 16 bits of an entry in either form.
 const SUB_ID_SHIFT: u32 = 10;
 
 const START_MASK: u16 = 0x03ff;
@@ -46,14 +46,14 @@ const SWITCH_SHIFT: u32 = 6;
 
 const TABLE_MASK: u8 = 0x3f;
 
-/// How many bytes an entry takes, of the long form or of the short one.
+/// The length of an entry in bytes, in the long form or in the short one.
 pub fn len(long_form: bool) -> usize
     ensures { result ≡ (if long_form then 4 else 3) }
 {
     if long_form { LONG_LEN } else { SHORT_LEN }
 }
 
-/// Whether the entry that begins here is of the long form.
+/// Whether the entry at the front of these bytes is in the long form.
 pub fn is_long_form(bytes: &[u8]) -> bool
     ensures form { result ≡ (get_or bytes.now 2 0 / 128 == 1) }
     ensures third_byte { IsTrue result ↔ (128 ≤ get_or bytes.now 2 0) }
@@ -61,14 +61,14 @@ pub fn is_long_form(bytes: &[u8]) -> bool
     byte_at(bytes, 2) >= LONG_FORM
 }
 
-/// How long the entry is that begins here, as its third byte says.
+/// The length of the entry at the front of these bytes, by its third byte.
 pub fn len_at(bytes: &[u8]) -> usize
     ensures { result ≡ sub_len bytes.now }
 {
     len(is_long_form(bytes))
 }
 
-/// The SubChId of the entry that begins here, of either form: the six highest bits.
+/// The SubChId of the entry at the front of these bytes, in either form: the six highest bits.
 pub fn sub_id_at(bytes: &[u8]) -> u8
     ensures value { result ≡ get_or bytes.now 0 0 / 4 }
     ensures in_range { result < 64 }
@@ -76,7 +76,7 @@ pub fn sub_id_at(bytes: &[u8]) -> u8
     byte_at(bytes, 0) >> (SUB_ID_SHIFT - u8::BITS)
 }
 
-/// Appends an entry of the long form.
+/// Appends an entry in the long form.
 pub(crate) fn encode_long(out: &mut Data, sub: SubEntry)
     requires { length out.old + 4 ≤ 30 }
     ensures written { out.new ≡ out.old ++ sub_bytes sub }
@@ -88,7 +88,7 @@ pub(crate) fn encode_long(out: &mut Data, sub: SubEntry)
     out.push_u16(u16_of(LONG_FORM, 0) | profile);
 }
 
-/// Appends an entry of the short form.
+/// Appends an entry in the short form.
 pub(crate) fn encode_short(out: &mut Data, short: ShortEntry)
     requires { length out.old + 3 ≤ 30 }
     ensures written { out.new ≡ out.old ++ short_bytes short }
@@ -98,7 +98,7 @@ pub(crate) fn encode_short(out: &mut Data, short: ShortEntry)
     out.push((u8::from(short.switch) << SWITCH_SHIFT) | short.table.get() as u8);
 }
 
-/// The sub-channel of the long form that these bytes are: it is encoded so, and no other one is.
+/// The sub-channel in the long form that these bytes encode; no other has this encoding.
 pub fn decode_long(bytes: &[u8]) -> SubEntry
     requires whole { length bytes.now ≡ 4 }
     requires long { 128 ≤ get_or bytes.now 2 0 }
@@ -117,7 +117,7 @@ pub fn decode_long(bytes: &[u8]) -> SubEntry
     }
 }
 
-/// The sub-channel of the short form that these bytes are: it is encoded so, and no other one is.
+/// The sub-channel in the short form that these bytes encode; no other has this encoding.
 pub fn decode_short(bytes: &[u8]) -> ShortEntry
     requires whole { length bytes.now ≡ 3 }
     requires short { get_or bytes.now 2 0 < 128 }

@@ -1,14 +1,14 @@
 //! FIG 0/2, services and their components (EN 300 401 clause 6.3.1): the layout of its entries.
 //!
-//! SId 16 or 32 as the P/D flag says, Rfa 1, CAId 3, number of components 4, then 16 bits a component:
-//! TMId 2, ASCTy or DSCTy 6 and SubChId 6, or SCId 12, then P/S 1 and CA 1. That `encode` and `decode` agree
-//! is the contract of `decode`: what it gives is encoded as these bytes, and is the only one that is.
+//! SId 16 or 32 by the P/D flag, Rfa 1, CAId 3, number of components 4, then 16 bits for each component: TMId 2, ASCTy
+//! or DSCTy 6 and SubChId 6, or SCId 12, then P/S 1 and CA 1. The contract of `decode` says that `encode` and `decode`
+//! agree: its result is encoded as these bytes, and nothing else is.
 
 ghost use Rattle.std.specs.Prelude.{◌≡◌, ◌+◌, ◌*◌, ◌%◌, ◌≤◌, ◌<◌, ◌++◌, ◌∷◌, [], if◌then◌else◌, length, get_or};
 ghost use Rattle.byteorder.specs.Endian.{big_bytes};
 ghost use Rattle.fib_codec.specs.Grammar.{service_len};
 ghost use Rattle.fib_codec.specs.Ranges.{IsComponentEntry, IsServiceEntry};
-ghost use Rattle.fib_codec.specs.Spelling.{bit_of, sid_size, sid_bytes, is_long_sid, component_word, components_bytes, service_bytes};
+ghost use Rattle.fib_codec.specs.Spelling.{bit_of, sid_size, sid_bytes, is_long_sid, component_u16, components_bytes, service_bytes};
 ghost use Rattle.mux_types.specs.Configuration.{IsSid};
 ghost use Rattle.std.specs.List.{AllByRecursion};
 ghost use Rattle.mux_entries.specs.declared.entry.ServiceEntry.{ServiceEntry as Entry};
@@ -18,13 +18,13 @@ use crate::data::Data;
 use mux_entries::{ComponentEntry, ServiceEntry};
 use mux_types::{Bits, BoundedVec, ScId, ScTy, Sid, SubId};
 
-/// The bytes before the components where the SId is of 16 bits.
+/// The length before the components with a 16-bit SId, in bytes.
 const SHORT_HEAD_LEN: usize = 3;
 
-/// The bytes before the components where the SId is of 32 bits.
+/// The length before the components with a 32-bit SId, in bytes.
 const LONG_HEAD_LEN: usize = 5;
 
-/// The bytes of a component.
+/// The length of a component, in bytes.
 const COMPONENT_LEN: usize = 2;
 
 /// The byte before the components: Rfa, CAId and their number.
@@ -61,14 +61,14 @@ const PRIMARY_SHIFT: u32 = 1;
 
 const FLAG_MASK: u16 = 0x0001;
 
-/// How many bytes an entry takes before its components, with an SId of 32 bits or of 16.
+/// The length of an entry before its components in bytes, with a 32-bit SId or a 16-bit one.
 fn head_len(long: bool) -> usize
     ensures { result ≡ (if long then 5 else 3) }
 {
     if long { LONG_HEAD_LEN } else { SHORT_HEAD_LEN }
 }
 
-/// How many bytes an entry takes, with an SId of 32 bits or of 16 and this many components.
+/// The length of an entry in bytes, with a 32-bit SId or a 16-bit one and this many components.
 pub fn len(long: bool, count: usize) -> usize
     requires { count ≤ 15 }
     ensures { result ≡ (if long then 5 + 2 * count else 3 + 2 * count) }
@@ -76,7 +76,7 @@ pub fn len(long: bool, count: usize) -> usize
     head_len(long) + COMPONENT_LEN * count
 }
 
-/// How long the entry is that begins here under this P/D flag, as its number of components says.
+/// The length of the entry at the front of these bytes under this P/D flag, by its number of components.
 pub fn len_at(long: bool, bytes: &[u8]) -> usize
     ensures { result ≡ service_len long bytes.now }
 {
@@ -84,14 +84,14 @@ pub fn len_at(long: bool, bytes: &[u8]) -> usize
     len(long, usize::from(counted & COUNT_MASK))
 }
 
-/// The SId of 16 bits of the entry that begins here.
+/// The 16-bit SId of the entry at the front of these bytes.
 pub fn short_sid_at(bytes: &[u8]) -> u16
     ensures { result ≡ get_or bytes.now 0 0 * 256 + get_or bytes.now 1 0 }
 {
     u16_at(bytes, 0)
 }
 
-/// The SId of 32 bits of the entry that begins here.
+/// The 32-bit SId of the entry at the front of these bytes.
 pub fn long_sid_at(bytes: &[u8]) -> u32
     ensures { result ≡ (get_or bytes.now 0 0 * 256 + get_or bytes.now 1 0) * 65536
         + (get_or bytes.now 2 0 * 256 + get_or bytes.now 3 0) }
@@ -110,7 +110,7 @@ fn encode_sid(out: &mut Data, sid: Sid)
     }
 }
 
-/// Appends what an entry begins with, before its components.
+/// Appends the start of an entry, before its components.
 pub(crate) fn encode_head(out: &mut Data, sid: Sid, rfa: bool, ca_id: Bits<3>, count: usize)
     requires few { count ≤ 15 }
     requires room { length out.old + sid_size sid + 1 ≤ 30 }
@@ -135,7 +135,7 @@ fn component_word_of(tm_id: u16, field: u16, primary: bool, ca: bool) -> u16
     (tm_id << TM_ID_SHIFT) | fields
 }
 
-/// The type and the sub-channel of a component, as the twelve bits that they are.
+/// The twelve bits with the type and the sub-channel of a component.
 fn type_and_sub(ty: ScTy, sub: SubId) -> u16
     ensures value { result ≡ ty * 64 + sub }
     ensures in_range { (ty < 64) × (sub < 64) }
@@ -145,7 +145,7 @@ fn type_and_sub(ty: ScTy, sub: SubId) -> u16
 
 /// The 16 bits of a component.
 fn component_bits(component: ComponentEntry) -> u16
-    ensures word { result ≡ component_word component }
+    ensures word { result ≡ component_u16 component }
     ensures within { IsComponentEntry component }
 {
     match component {
@@ -171,7 +171,7 @@ fn component_bits(component: ComponentEntry) -> u16
 /// Appends the two bytes of a component.
 pub(crate) fn encode_component(out: &mut Data, component: ComponentEntry)
     requires { length out.old + 2 ≤ 30 }
-    ensures written { out.new ≡ out.old ++ big_bytes 2 (component_word component) }
+    ensures written { out.new ≡ out.old ++ big_bytes 2 (component_u16 component) }
     ensures within { IsComponentEntry component }
 {
     out.push_u16(component_bits(component));
@@ -199,9 +199,9 @@ pub(crate) fn encode(out: &mut Data, service: &ServiceEntry)
     encode_components(out, service.components.as_slice());
 }
 
-/// The component that two bytes are.
+/// The component encoded in two bytes.
 fn decode_component(high: u8, low: u8) -> ComponentEntry
-    ensures spelled { high ∷ low ∷ [] ≡ big_bytes 2 (component_word result) }
+    ensures spelled { high ∷ low ∷ [] ≡ big_bytes 2 (component_u16 result) }
     ensures within { IsComponentEntry result }
 {
     let word = u16_of(high, low);
@@ -232,7 +232,7 @@ fn decode_component(high: u8, low: u8) -> ComponentEntry
     }
 }
 
-/// Appends the components that these bytes are to an empty list.
+/// Decodes the components in these bytes and appends them to an empty list.
 fn decode_components(components: &mut BoundedVec<ComponentEntry, 15>, bytes: &[u8])
     requires none { components.old ≡ [] }
     requires few { length bytes.now ≤ 30 }
@@ -249,7 +249,7 @@ fn decode_components(components: &mut BoundedVec<ComponentEntry, 15>, bytes: &[u
     }
 }
 
-/// The service that these bytes are under this P/D flag: it is encoded so, and no other one is.
+/// The service that these bytes encode under this P/D flag; no other has this encoding.
 pub fn decode(long: bool, bytes: &[u8]) -> ServiceEntry
     requires { length bytes.now ≡ service_len long bytes.now }
     ensures spelled { bytes.now ≡ service_bytes result }

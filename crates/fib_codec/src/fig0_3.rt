@@ -1,8 +1,8 @@
 //! FIG 0/3, packet components (EN 300 401 clause 6.3.2): the layout of its entries.
 //!
-//! SCId 12, Rfa 3, CAOrg flag 1, DG flag 1, Rfu 1, DSCTy 6, SubChId 6, packet address 10, and where the CAOrg
-//! flag is set the CAOrg 16. That `encode` and `decode` agree is the contract of `decode`: what it gives is
-//! encoded as these bytes, and is the only one that is.
+//! SCId 12, Rfa 3, CAOrg flag 1, DG flag 1, Rfu 1, DSCTy 6, SubChId 6, packet address 10, and if the CAOrg flag is set
+//! the CAOrg 16. The contract of `decode` says that `encode` and `decode` agree: its result is encoded as these bytes,
+//! and nothing else is.
 
 ghost use Rattle.std.specs.Prelude.{◌≡◌, ◌+◌, ◌*◌, ◌/◌, ◌≤◌, ◌++◌, if◌then◌else◌, length, get_or};
 ghost use Rattle.fib_codec.specs.Grammar.{packet_len};
@@ -15,10 +15,10 @@ use crate::data::Data;
 use mux_entries::PacketEntry;
 use mux_types::{Bits, ScId, ScTy, SubId};
 
-/// The bytes of an entry without a CAOrg.
+/// The length of an entry without a CAOrg, in bytes.
 const PLAIN_LEN: usize = 5;
 
-/// The bytes of an entry with a CAOrg.
+/// The length of an entry with a CAOrg, in bytes.
 const CA_ORG_LEN: usize = 7;
 
 /// The first 16 bits: the SCId, Rfa and the CAOrg flag.
@@ -44,21 +44,21 @@ const SUB_ID_SHIFT: u32 = 10;
 
 const ADDRESS_MASK: u16 = 0x03ff;
 
-/// How many bytes an entry takes, with a CAOrg or without.
+/// The length of an entry in bytes, with a CAOrg or without.
 pub fn len(has_ca_org: bool) -> usize
     ensures { result ≡ (if has_ca_org then 7 else 5) }
 {
     if has_ca_org { CA_ORG_LEN } else { PLAIN_LEN }
 }
 
-/// How long the entry is that begins here, as its CAOrg flag says.
+/// The length of the entry at the front of these bytes, by its CAOrg flag.
 pub fn len_at(bytes: &[u8]) -> usize
     ensures { result ≡ packet_len bytes.now }
 {
     len(byte_at(bytes, 1) & CA_ORG_FLAG == 1)
 }
 
-/// The SCId of the entry that begins here: the twelve highest bits.
+/// The SCId of the entry at the front of these bytes: the twelve highest bits.
 pub fn scid_at(bytes: &[u8]) -> u16
     ensures { result ≡ (get_or bytes.now 0 0 * 256 + get_or bytes.now 1 0) / 16 }
 {
@@ -83,7 +83,7 @@ pub(crate) fn encode(out: &mut Data, packet: PacketEntry)
     }
 }
 
-/// The packet component that these bytes are: it is encoded so, and no other one is.
+/// The packet component that these bytes encode; no other has this encoding.
 pub fn decode(bytes: &[u8]) -> PacketEntry
     requires { length bytes.now ≡ packet_len bytes.now }
     ensures spelled { bytes.now ≡ packet_bytes result }

@@ -1,5 +1,6 @@
-//! The head that the entries of one FIG share (EN 300 401 clause 5.2.2.1): the layout of the second byte of a FIG of
-//! type 0, C/N 1, OE 1, P/D 1, extension 5.
+//! The head that the entries of one FIG share, the second byte of a FIG of type 0 (EN 300 401 clause 5.2.2.1).
+//!
+//! Its layout: C/N 1, OE 1, P/D 1, extension 5.
 
 ghost use Rattle.std.specs.Prelude.{◌≡◌, ◌<◌, ◌%◌, true, false, IfSome, IfNone};
 ghost use Rattle.fib_codec.specs.Extensions.{number_of};
@@ -16,14 +17,14 @@ const LONG_SHIFT: u32 = 5;
 
 const EXT_MASK: u8 = 0x1f;
 
-/// The second byte of a FIG of type 0 (EN 300 401 clause 5.2.2.1): what holds of all entries in it.
+/// The second byte of a FIG of type 0 (EN 300 401 clause 5.2.2.1), which applies to all entries in it.
 #[derive(Clone, Copy, Debug, PartialEq, Eq)]
 pub struct Head {
-    /// The C/N flag: true where the entries speak of the next configuration.
+    /// The C/N flag: true if the entries are of the next configuration.
     pub next: bool,
-    /// The OE flag: true where they speak of another ensemble.
+    /// The OE flag: true if they are of another ensemble.
     pub oe: bool,
-    /// The P/D flag: true where services have SIds of 32 bits.
+    /// The P/D flag: true if services have 32-bit SIds.
     pub long: bool,
     /// The extension, 0 to 31.
     pub ext: u8,
@@ -46,7 +47,7 @@ pub fn next_of(second: u8) -> bool
     second >> NEXT_SHIFT == 1
 }
 
-/// The extension of this second byte, where the FIG is looked into: with OE 0 and an extension from 0 to 3.
+/// The extension in this second byte if the FIG is parsed: with OE 0 and an extension from 0 to 3.
 pub fn extension_of(second: u8) -> Option<Extension>
     ensures open { IfSome result (λ e. is_open second ≡ true) }
     ensures value { IfSome result (λ e. number_of e ≡ second % 32) }

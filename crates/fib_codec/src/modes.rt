@@ -1,4 +1,4 @@
-//! Transmission modes: how many FIBs a frame has, and on which counts FIG 0/0 is sent and swaps are made.
+//! Transmission modes: how many FIBs a frame has, and at which CIF counts FIG 0/0 is sent and swaps are made.
 
 ghost use Rattle.std.specs.Prelude.{◌≡◌, ◌≤◌};
 ghost use Rattle.fib_codec.specs.Modes.{fib_count, count_step};
@@ -20,14 +20,14 @@ pub enum Mode {
 impl Default for Mode {
     ghost is_default = { λ m. m ≡ I };
 
-    /// Mode I, that of Band III.
+    /// Mode I, which is used in Band III.
     fn default() -> Self {
         Mode::I
     }
 }
 
 impl Mode {
-    /// The FIBs that belong to one CIF, and so to one frame of 24 ms: 3, and in mode III 4.
+    /// The number of FIBs of one CIF, and so of one frame of 24 ms: 3, or 4 in mode III.
     pub fn fibs(self) -> usize
         ensures value { result ≡ fib_count self }
         ensures in_range { (3 ≤ result) × (result ≤ 4) }
@@ -40,8 +40,8 @@ impl Mode {
         }
     }
 
-    /// The step of the CIF counts at which FIG 0/0 is sent and a reconfiguration is made: those that it
-    /// divides, which are the counts of the first CIFs of the mode's own frames. 4, 1, 1 and 2.
+    /// The step of the CIF counts at which FIG 0/0 is sent and a reconfiguration is made: the multiples of the step,
+    /// which are the counts of the first CIFs of the mode's own frames. 4, 1, 1 and 2.
     pub fn step(self) -> u16
         ensures value { result ≡ count_step self }
         ensures in_range { (1 ≤ result) × (result ≤ 4) }

@@ -1,4 +1,4 @@
-//! What no command shows of FIBs that are written: the check word, and fields that are read and not told.
+//! What no command shows of written FIBs: the CRC, and fields that are read but not reported.
 
 use fib_codec::{crc16, crc16_by_bits};
 

@@ -1,4 +1,4 @@
--- The components of a service, read back from their entries.
+-- The components of a service, decoded from their entries.
 use Rattle.std.proofs.Common.{◌≡◌, ◌≢◌, ℕ, zero, suc, ◌<◌, ◌==◌, ◌++◌, Bool, true, false, List, [], ◌∷◌, length, map, take, get_or, refl, ap, sym, ◌∙◌, arith}
 use Rattle.std.specs.Prelude.{◌||◌}
 use Rattle.std.specs.List.{list_any, AllByRecursion}
@@ -14,7 +14,7 @@ use Rattle.mux_config.specs.Configuration.{AreDifferent, carrier_of, IsComponent
 use Rattle.mux_config.specs.Sameness.{names, is_same_carrier}
 use Rattle.mux_entries.specs.Facts.{component_entry, component_entries}
 
--- one component more
+-- one more component
 entries_more : (xs : List Component) (c : Component) → map (component_entry false) (xs ++ c ∷ []) ≡ map (component_entry false) xs ++ component_entry false c ∷ []
 entries_more [] c = refl
 entries_more (x ∷ xs) c = ap (λ t. component_entry false x ∷ t) (entries_more xs c)
@@ -62,7 +62,7 @@ different_more (x ∷ xs) c all unnamed =
       different_more xs c all.1 both.1,
     )
 
--- a carrier that is named before its place is named twice
+-- a carrier that differs from those of all components differs from that of each
 named_at : (a : Component) (xs : List Component) (j : ℕ) (d : Component) → AllByRecursion (λ y. carrier_of a ≢ carrier_of y) xs → j < length xs
     → carrier_of a ≢ carrier_of (get_or xs j d)
 named_at a [] j d all inside = absurd (omega arith)
@@ -87,7 +87,7 @@ not_named_before (x ∷ xs) (suc j) d all inside named =
     ]) refl in
     not_named_before xs j d all.1 (omega arith) (or_true (is_same_carrier (carrier_of x) (carrier_of (get_or xs j d))) _ named other)
 
--- the component that an entry says, if any
+-- the component that an entry describes, if any
 component_from : ComponentEntry → Component
 component_from (SoundOf ty sub primary ca) = Sound ty sub
 component_from (StreamOf ty sub primary ca) = Stream ty sub
@@ -111,7 +111,7 @@ from_entries (c ∷ cs) = ap (λ x. x ∷ map component_from (map (component_ent
 take_from : (i : ℕ) (es : List ComponentEntry) → map component_from (take i es) ≡ take i (map component_from es)
 take_from i es = sym (take-map component_from i es)
 
--- so what has been read so far is the front of what is to be read
+-- so the components read so far are the front of those to be read
 pub read_so_far :
     (cs all : List Component) (entries : List ComponentEntry) (i : ℕ) → component_entries cs ≡ take i entries
     → component_entries all ≡ entries → cs ≡ take i all
@@ -123,7 +123,7 @@ pub length_component_entries : (cs : List Component) → length (component_entri
 length_component_entries [] = refl
 length_component_entries (c ∷ cs) = ap suc (length-map cs (component_entry false))
 
--- each entry says its component
+-- each entry describes its component
 at_place :
     (all : List Component) (i : ℕ) (e : ComponentEntry) (d : Component) → i < length all
     → get_or (component_entries all) i e ≡ component_entry (i == 0) (get_or all i d)
@@ -141,7 +141,7 @@ entry_at_place all entries i e d whole inside is =
     let size : length all ≡ length entries = sym (length_component_entries all) ∙ ap length whole in
     sym (at_place all i e d (omega arith)) ∙ ap (λ es. get_or es i e) whole ∙ sym is
 
--- a component whose carrier is named before: no service has such components
+-- a component whose carrier occurred before: no service has such components
 pub named_twice :
     (cs all : List Component) (entries : List ComponentEntry) (i : ℕ) (e : ComponentEntry) (c : Component)
     → component_entries cs ≡ take i entries → i < length entries → e ≡ get_or entries i e → component_entry (i == 0) c ≡ e

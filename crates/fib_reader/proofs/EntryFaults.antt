@@ -1,4 +1,4 @@
--- That the walk over entries stops where the bytes are at fault, and only there.
+-- The walk over entries stops where the bytes are at fault, and only there.
 use Rattle.std.proofs.Common.{◌≡◌, ◌≢◌, ℕ, zero, suc, ◌+◌, ◌-◌, ◌/◌, ◌%◌, ◌<◌, ◌≤◌, ◌==◌, ◌++◌, inl, inr, Bool, true, false, cond, nat_lt, List, [], ◌∷◌, length, get_or, take, drop, Option, Some, None, append_assoc, refl, ap, sym, ◌∙◌, subst, lt-ltb, le-ltb, arith, length-drop}
 use Rattle.std.proofs.lemmas.Bool.{ltb-false, ltb-true, cases_lt, eqb-true, eqb-false}
 use Rattle.std.proofs.lemmas.List.{take-append-drop, length-take-le, length-append, get_or_append_left}
@@ -33,7 +33,7 @@ one_entry_on ext long e rest place is h = record {
   none = h.none;
 }
 
--- the fault of entries, within what stands at a place
+-- the fault of entries whose bytes begin at an offset
 abbrev NoEntry : ℕ → Bool → ℕ → List ℕ → ℕ → Type 0
 NoEntry ext long place bytes at = (within : ℕ) × (at ≡ place + within) × IsNoEntryAt ext long bytes within
 
@@ -111,7 +111,7 @@ uncounted long bytes not e rest split good =
     let low : get_or e 3 0 < 250 = counted.1 in
     not (omega arith, omega arith)
 
--- the first four bytes or five are the entry, where they are there and their counts are in range
+-- the first four or five bytes are the entry, if they are present and its counts are in range
 whole_front : (long : Bool) (bytes : List ℕ) → ensemble_len bytes ≤ length bytes → IsCounted bytes → IsGood 0 long (take (ensemble_len bytes) bytes)
 whole_front long bytes fits counted =
     let is : IsEntry 0 long (take (ensemble_len bytes) bytes) = cut_len 0 long bytes fits in
@@ -184,7 +184,7 @@ body_found false ext long place bytes at is found =
     (sym (ap (λ t. cond t (ensemble_fault place bytes) (entries_fault (length bytes) ext long place bytes)) is) ∙ found) in
     (one.0, one.1, inl (eqb-false ext 0 is, one.2))
 
--- ---- where there is a fault, the walk finds it
+-- ---- if there is a fault, the walk finds it
 
 begins_none_short :
     (ext : ℕ) (long : Bool) (bytes : List ℕ) → ext ≢ 0 → BeginsNone ext long bytes → length bytes < entry_len ext long bytes

@@ -1,4 +1,4 @@
--- That the entries which the walk meets are those of the grammar, and are there exactly where no fault is.
+-- The entries found by the walk are those of the grammar, and exist exactly if there is no fault.
 use Rattle.std.proofs.Common.{◌≡◌, ℕ, zero, suc, ◌+◌, ◌-◌, ◌<◌, ◌≤◌, ◌++◌, Bool, true, false, cond, nat_lt, List, [], ◌∷◌, length, take, drop, Option, Some, None, refl, ap, sym, ◌∙◌, subst, le-ltb, arith, length-drop}
 use Rattle.std.proofs.lemmas.Bool.{ltb-false}
 use Rattle.std.proofs.lemmas.List.{take-append-drop, length-append}
@@ -8,7 +8,7 @@ use Rattle.fib_reader.specs.FirstFault.{entries_fault}
 use Rattle.fib_reader.specs.Walk.{entries_within, entries_of, raws_of}
 use Rattle.fib_reader.proofs.Lengths.{some_bytes, entry_len_more, cut_len}
 
--- any fuel that is enough gives the same list
+-- any fuel that suffices gives the same list
 enough_entries :
     (m n ext : ℕ) (long : Bool) (bytes : List ℕ) → length bytes ≤ m → length bytes ≤ n
     → entries_within m ext long bytes ≡ entries_within n ext long bytes
@@ -48,7 +48,7 @@ unfolding entries_within
 no_entries_of ext long [] none = refl
 no_entries_of ext long (b ∷ bs) none = absurd (omega arith)
 
--- the one list of entries
+-- the list of entries is unique
 pub same_entries :
     (ext : ℕ) (long : Bool) (bytes : List ℕ) (es : List (List ℕ)) → AreEntries ext long bytes es
     → entries_of ext long bytes ≡ es

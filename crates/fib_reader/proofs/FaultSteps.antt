@@ -1,4 +1,4 @@
--- The steps of a walk that looks for the first fault.
+-- The steps of a walk that searches for the first fault.
 use Rattle.std.proofs.Common.{◌≡◌, ◌≢◌, ℕ, zero, suc, ◌+◌, ◌-◌, ◌%◌, ◌<◌, ◌≤◌, ◌==◌, Bool, true, false, cond, nat_lt, List, [], ◌∷◌, length, get_or, drop, Option, Some, None, refl, ap, sym, ◌∙◌, lt-ltb, le-ltb, arith, length-drop}
 use Rattle.std.proofs.lemmas.Bool.{ne_eqb, eq-eqb, eqb-true}
 use Rattle.fib_codec.specs.Grammar.{entry_len}
@@ -6,13 +6,13 @@ use Rattle.fib_reader.proofs.Lengths.{some_bytes}
 use Rattle.fib_reader.specs.FirstFault.{entries_fault, figs_fault, fig_fault, or_else}
 use Rattle.fib_reader.specs.declared.fault.FibFault.{FibFault}
 
--- what is left to look at gives the fault that is asked for
+-- the rest to be examined gives this fault
 pub record LeadsTo (ext : ℕ) (long : Bool) (at : ℕ) (rest : List ℕ) (fault : Option ℕ) : Type 0 where
   pub left : ℕ
   pub enough : length rest ≤ left
   pub same : entries_fault left ext long at rest ≡ fault
 
--- the walk stands at an entry
+-- the walk is at an entry
 entry_here :
     (left ext : ℕ) (long : Bool) (at : ℕ) (rest : List ℕ) (fault : Option ℕ) → length rest ≤ left → 0 < length rest
     → entries_fault left ext long at rest ≡ fault
@@ -130,7 +130,7 @@ pub no_figs :
 no_figs at [] fault h none = sym (no_fault_in_nothing h.left at) ∙ h.same
 no_figs at (b ∷ bs) fault h none = absurd (omega arith)
 
--- what a test for an empty slice says
+-- the meaning of a test for an empty slice
 pub some_left : (n : ℕ) (b : Bool) → b ≡ (n == 0) → b ≡ false → 0 < n
 some_left zero b is none = absurd (cc)
 some_left (suc n) b is none = omega arith

@@ -1,5 +1,5 @@
--- That the walk over FIGs stops where the data bytes are at fault, and only there; so there is one fault, and there is
--- one exactly where there are no FIGs.
+-- The walk over FIGs stops where the data bytes are at fault, and only there; so there is at most one fault, and there
+-- is one exactly if there are no FIGs.
 use Rattle.std.proofs.Common.{◌≡◌, ◌≢◌, ℕ, zero, suc, ◌+◌, ◌-◌, ◌%◌, ◌<◌, ◌≤◌, ◌==◌, ◌++◌, inl, inr, ◌⊎◌, Bool, true, false, cond, nat_lt, List, [], ◌∷◌, length, get_or, take, drop, Option, Some, None, append_assoc, refl, ap, sym, ◌∙◌, subst, lt-ltb, le-ltb, arith, length-drop}
 use Rattle.std.proofs.lemmas.Bool.{ltb-false, ltb-true, ne_eqb, eqb-true, eqb-false}
 use Rattle.std.proofs.lemmas.List.{take-append-drop, length-take-le, length-append}
@@ -15,7 +15,7 @@ use Rattle.fib_reader.proofs.EntryFaults.{body_found, body_given}
 use Rattle.fib_reader.proofs.FaultSteps.{no_fault_in_nothing}
 use Rattle.fib_reader.proofs.FigLists.{fig_header, sound_fig, sound_figs, past_tests, complete_fig, no_fault_twice}
 
--- a fault of data bytes, whose CRC is good
+-- a fault of data bytes with a good CRC
 abbrev pub IsDataFault : List ℕ → FibFault → Type 0
 IsDataFault bytes Crc = ⊥
 IsDataFault bytes (Overrun place) = IsOverrun bytes place
@@ -75,7 +75,7 @@ pub stands_first : (header : ℕ) (rest : List ℕ) → header ≢ 255 → Leads
 stands_first header rest no_marker =
     record { front = []; figs = []; split = refl; whole = refl; place_is = refl; no_marker = no_marker }
 
--- a fault of what stands at a place
+-- a fault of bytes at an offset
 abbrev DataFault : ℕ → List ℕ → FibFault → Type 0
 DataFault place bytes e = (f : FibFault) × (e ≡ moved place f) × IsDataFault bytes f
 
@@ -185,7 +185,7 @@ figs_found (suc n) place (h ∷ bs) e enough found =
     figs_at (h == 255) n place h bs e refl found
     (λ later. figs_found n (place + 1 + h % 32) (drop (h % 32) bs) e (omega arith) later)
 
--- ---- where there is a fault, the walk finds it
+-- ---- if there is a fault, the walk finds it
 
 past_fig :
     (n place : ℕ) (bytes one rest : List ℕ) (f : Fig) → bytes ≡ one ++ rest → IsFig one f
@@ -216,7 +216,7 @@ past_fig n place (b ∷ bs) one rest f split fig =
     ∙ ap (figs_fault n (place + 1 + b % 32)) left
     ∙ ap (λ p. figs_fault n p rest) far
 
--- the walk has come to what follows whole FIGs
+-- the walk has reached what follows whole FIGs
 record ComesTo (n place : ℕ) (bytes front rest : List ℕ) : Type 0 where
   pub left : ℕ
   pub enough : length rest ≤ left

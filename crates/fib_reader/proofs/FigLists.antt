@@ -1,4 +1,4 @@
--- That the FIGs which the walk meets are those of the grammar, and are there exactly where no fault is.
+-- The FIGs found by the walk are those of the grammar, and exist exactly if there is no fault.
 use Rattle.std.proofs.Common.{◌≡◌, ◌≢◌, ℕ, zero, suc, ◌+◌, ◌*◌, ◌/◌, ◌-◌, ◌%◌, ◌<◌, ◌≤◌, ◌==◌, ◌++◌, inl, inr, Bool, true, false, cond, nat_lt, List, [], ◌∷◌, length, get_or, take, drop, map, flat_map, Option, Some, None, refl, ap, sym, ◌∙◌, subst, lt-ltb, le-ltb, arith, length-drop}
 use Rattle.std.specs.Prelude.{◌&&◌}
 use Rattle.std.proofs.lemmas.Bool.{ltb-false, ltb-true, cases_lt, eq-eqb, ne_eqb, eqb-true, eqb-false}
@@ -57,7 +57,7 @@ same_fig bytes (Open second es) h =
     ∙ ap (Open second) (same_entries (second % 32) (is_long second) h.0 es h.4.0)
 same_fig bytes (Other given) h = same_other bytes h.1 ∙ ap Other (sym h.0)
 
--- a FIG is a header and as many bytes as it says
+-- a FIG is a header followed by as many bytes as it announces
 pub record HasHeader (bytes : List ℕ) : Type 0 where
   pub header : ℕ
   pub after : List ℕ
@@ -117,7 +117,7 @@ pieces_at_marker h bs marker =
     pieces_of-cons h bs
     ∙ ap (λ t. cond t [] ((h ∷ take (h % 32) bs) ∷ pieces_of (drop (h % 32) bs))) (eq-eqb h 255 marker)
 
--- the one list of FIGs
+-- the list of FIGs is unique
 pub same_figs : (bytes : List ℕ) (fs : List Fig) → AreFigs bytes fs → figs_of_bytes bytes ≡ fs
 same_figs bytes [] h =
     elim h [
@@ -265,7 +265,7 @@ sound_figs (suc n) place (h ∷ bs) enough none =
     sound_at (h == 255) n place h bs refl none
     (λ fine. sound_figs n (place + 1 + h % 32) (drop (h % 32) bs) (omega arith) fine)
 
--- ---- where there are FIGs is no fault
+-- ---- if there are FIGs, there is no fault
 
 complete_ensemble :
     (long : Bool) (place : ℕ) (bytes : List ℕ) (es : List (List ℕ)) → AreEntries 0 long bytes es
@@ -299,7 +299,7 @@ complete_body false ext long place bytes es is body =
     ap (λ t. cond t (ensemble_fault place bytes) (entries_fault (length bytes) ext long place bytes)) is
     ∙ complete_entries (length bytes) ext long place bytes es body.0
 
--- the tests of a FIG's header, past which its second byte is looked at
+-- the tests of a FIG's header, after which its second byte is examined
 pub past_tests :
     (place h : ℕ) (bs : List ℕ) → h % 32 ≤ length bs → h ≤ 31 → h ≢ 0
     → fig_fault place h bs
@@ -403,7 +403,7 @@ spelled_fig bytes (Open second es) h =
     h.1 ∙ ap (λ x. (1 + length x) ∷ second ∷ x) (spelled_entries (second % 32) (is_long second) h.0 es h.4.0)
 spelled_fig bytes (Other given) h = sym h.0
 
--- the P/D flag counts in FIG 0/2 alone
+-- the P/D flag matters in FIG 0/2 alone
 flag_counts :
     (a b c long : Bool) (x y p q z : ℕ)
     → cond a x (cond b y (cond c (cond long p q) z)) ≡ cond a x (cond b y (cond c (cond (c && long) p q) z))

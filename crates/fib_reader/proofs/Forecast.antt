@@ -1,4 +1,4 @@
--- What a pass over FIGs foresees: that they say nothing new, or leave room for it.
+-- A pass over FIGs predicts that they contain nothing new, or that there is room for it.
 use Rattle.std.proofs.Common.{◌≡◌, ◌≢◌, ℕ, suc, ◌+◌, ◌<◌, ◌≤◌, ◌==◌, Bool, true, false, cond, nat_lt, List, [], ◌∷◌, length, Option, Some, None, refl, ap, sym, ◌∙◌, subst, arith}
 use Rattle.std.specs.Prelude.{◌||◌, IfSome}
 use Rattle.std.proofs.lemmas.Bool.{eq-eqb, ne_eqb, eqb-true}
@@ -68,7 +68,7 @@ length_kept false raw raws is =
 
 -- ---- one entry
 
--- how many are new with this one, after others
+-- the number of new entries with this one, after others
 abbrev pub CountsNew : List Raw → Raw → ℕ → ℕ → Type 0
 CountsNew old raw others all =
     (is_known raw old ≡ true → all ≡ others) × (is_known raw old ≡ false → (all ≡ others + 1) × (length old + others < 64))
@@ -108,7 +108,7 @@ grown_by_more : (n m : ℕ) (old new : Pictured) → n ≤ m → HasGrownBy n ol
 grown_by_more n m old new le h =
     record { services = grown_more n m old.services new.services le h.services; packets = grown_more n m old.packets new.packets le h.packets }
 
--- what is foreseen of an entry of a picture
+-- what is predicted for an entry of a picture
 abbrev pub Takes : Pictured → Raw → ℕ → ℕ → Type 0
 Takes old raw others all =
     (p : Pictured) → HasGrownBy others old p

@@ -1,4 +1,4 @@
--- What holds of the entries that say members of a configuration.
+-- The entries that describe members of a configuration.
 use Rattle.std.proofs.Common.{◌≡◌, ℕ, zero, suc, ◌<◌, ◌≤◌, Bool, true, false, List, [], ◌∷◌, length, map, take, get_or, refl, ap, sym, ◌∙◌, subst, arith}
 use Rattle.std.proofs.lemmas.List.{length-map}
 use Rattle.mux_eep.specs.declared.sizes.EepSet.{EepSet}
@@ -15,7 +15,7 @@ use Rattle.mux_config.specs.Configuration.{IsAscending, IsPlaced, IsService, IsA
 use Rattle.std.specs.List.{AllByRecursion}
 use Rattle.mux_entries.specs.Facts.{sub_entry, service_entry, packet_entry, component_entry, component_entries, option_of}
 use Rattle.fib_codec.specs.Ranges.{IsWithin, IsComponentEntry}
-use Rattle.fib_codec.specs.Spelling.{SpellingTells}
+use Rattle.fib_codec.specs.Spelling.{SpellingIdentifies}
 use Rattle.fib_reader.specs.Raw.{Raw, raw_entry}
 use Rattle.fib_reader.specs.Listening.{identifier_of}
 use Rattle.fib_reader.proofs.Components.{length_component_entries}
@@ -110,7 +110,7 @@ above_all key f P table kept i x raw same all one so_far inside is says up =
     keys_below key f P table (key x) same all
     (subst (λ (n : ℕ). AllByRecursion (λ r. identifier_of r < n) (map f table)) top front)
 
--- where members say all entries, one says each
+-- if members describe all entries, one describes each
 member_at :
     {T : Type 0} (f : T → Raw) (P : T → Type 0) (xs : List T) (i : ℕ) (d : Raw) → AllByRecursion P xs → i < length xs
     → (x : T) × P x × (f x ≡ get_or (map f xs) i d)
@@ -120,7 +120,7 @@ member_at f P (x ∷ xs) (suc j) d all inside = member_at f P xs j d all.1 (omeg
 
 pub none_says :
     {T : Type 0} (entry_of : T → Entry) (P : T → Type 0) (xs : List T) (kept : List Raw) (i : ℕ) (raw : Raw) (e : Entry)
-    → SpellingTells → ((x : T) → P x → IsWithin (entry_of x)) → ((x : T) → P x → entry_of x ≡ e → ⊥)
+    → SpellingIdentifies → ((x : T) → P x → IsWithin (entry_of x)) → ((x : T) → P x → entry_of x ≡ e → ⊥)
     → AllByRecursion P xs → map (λ x. raw_entry (entry_of x)) xs ≡ kept → i < length kept → raw ≡ get_or kept i raw
     → raw ≡ raw_entry e → IsWithin e → ⊥
 none_says entry_of P xs kept i raw e tells within none all says inside is spelled fits =

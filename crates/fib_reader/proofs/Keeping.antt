@@ -11,7 +11,7 @@ use Rattle.std.proofs.Math.Seq.{take-append_seam}
 use Rattle.fib_reader.specs.Raw.{Raw, IsRaw}
 use Rattle.fib_reader.specs.Listening.{identifier_of, is_known, kept, has_room}
 
--- what is kept of a known entry and of a new one
+-- the list after a known entry is kept, and after a new one is
 pub kept-known : (raw : Raw) (raws : List Raw) → is_known raw raws ≡ true → kept raw raws ≡ with_entry_changed identifier_of raw raws
 kept-known raw raws known =
     ap (λ b. cond b (with_entry_changed identifier_of raw raws) (with_entry identifier_of raw raws)) known
@@ -37,7 +37,7 @@ room_for_new raw raws few = or_right (is_known raw raws) (nat_lt (length raws) 6
 pub no_room : (raw : Raw) (raws : List Raw) → is_known raw raws ≡ false → 64 ≤ length raws → has_room raw raws ≡ false
 no_room raw raws known full = ap (λ b. b || nat_lt (length raws) 64) known ∙ le-ltb (length raws) 64 full
 
--- a property of each entry stays one
+-- a property of each entry is preserved
 each_changed :
     (P : Raw → Type 0) (raw : Raw) (raws : List Raw) → P raw → AllByRecursion P raws → AllByRecursion P (with_entry_changed identifier_of raw raws)
 each_changed P raw [] one all = tt
@@ -63,13 +63,13 @@ each_kept P raw raws one all = chosen (is_known raw raws)
     chosen true = each_changed P raw raws one all
     chosen false = each_added P raw raws one all
 
--- ---- sixty-four sub-channels are all there are
+-- ---- there are at most sixty-four sub-channels
 
 each_weaker : (P Q : Raw → Type 0) (xs : List Raw) → ((x : Raw) → P x → Q x) → AllByRecursion P xs → AllByRecursion Q xs
 each_weaker P Q [] f all = tt
 each_weaker P Q (x ∷ xs) f all = (f x all.0, each_weaker P Q xs f all.1)
 
--- this many numbers fit between two
+-- at most this many numbers lie in a range
 few_between :
     (low high : ℕ) (xs : List Raw) → IsAscending identifier_of xs → AllByRecursion (λ x. low ≤ identifier_of x) xs
     → AllByRecursion (λ x. identifier_of x < high) xs → length xs ≤ high - low
@@ -82,7 +82,7 @@ few_between low high (x ∷ xs) up from below =
     let other : identifier_of x < high = below.0 in
     omega arith
 
--- where they all are there, each is
+-- if all of them are present, each is
 all_there :
     (low high k : ℕ) (xs : List Raw) → IsAscending identifier_of xs → AllByRecursion (λ x. low ≤ identifier_of x) xs
     → AllByRecursion (λ x. identifier_of x < high) xs → high - low ≤ length xs → low ≤ k → k < high
@@ -116,7 +116,7 @@ room_for_subs raw raws up all one =
       | inr full ↦ room_for_known raw raws (all_there 0 64 (identifier_of raw) raws up from below (omega arith) (omega arith) one)
     ]
 
--- what a look-up says
+-- what a look-up returns
 pub has_entry-found :
     (k : ℕ) (raws : List Raw) → has_entry identifier_of k raws ≡ is_some (entry_at identifier_of k raws)
 has_entry-found k [] = refl
@@ -150,7 +150,7 @@ known_by_place raw raws k None same found inside none =
 known_by_place raw raws k (Some place) same found inside none =
     sym (known_at raw raws place (subst (λ n. slice_get raws place ≡ entry_at identifier_of n raws) same found) inside)
 
--- an entry of equal parts
+-- an entry with equal parts
 pub raw_again :
     (raw : Raw) (ext : ℕ) (long : Bool) (bytes : List ℕ) → IsRaw raw → ext ≡ raw.ext → long ≡ raw.long → bytes ≡ raw.bytes
     → IsRaw (record { ext = ext; long = long; bytes = bytes })
@@ -174,7 +174,7 @@ pub each_after :
 each_after P raw old new true one all taken refused = subst (AllByRecursion P) (sym (taken refl)) (each_kept P raw old one all)
 each_after P raw old new false one all taken refused = subst (AllByRecursion P) (sym (refused refl)) all
 
--- ---- an entry that is there already
+-- ---- an entry that is already present
 
 unchanged_above : (raw : Raw) (raws : List Raw) → AllByRecursion (λ x. identifier_of raw < identifier_of x) raws → with_entry_changed identifier_of raw raws ≡ raws
 unchanged_above raw [] above = refl
@@ -222,7 +222,7 @@ each_at P [] place d all inside = absurd (omega arith)
 each_at P (x ∷ xs) zero d all inside = all.0
 each_at P (x ∷ xs) (suc i) d all inside = each_at P xs i d all.1 (omega arith)
 
--- the entry of this identifier is the one that has it
+-- a look-up finds the entry that has this identifier
 pub found_at :
     (k : ℕ) (raws : List Raw) (place : ℕ) (d : Raw) → IsAscending identifier_of raws → place < length raws
     → identifier_of (get_or raws place d) ≡ k → slice_get raws place ≡ entry_at identifier_of k raws
@@ -239,7 +239,7 @@ same_at [] i d e inside = absurd (omega arith)
 same_at (x ∷ xs) zero d e inside = refl
 same_at (x ∷ xs) (suc i) d e inside = same_at xs i d e (omega arith)
 
--- the same where it was got by its place
+-- the same for an entry read by its index
 pub found_by :
     (k : ℕ) (raws : List Raw) (place : ℕ) (raw : Raw) → IsAscending identifier_of raws → slice_get raws place ≡ Some raw
     → identifier_of raw ≡ k → slice_get raws place ≡ entry_at identifier_of k raws
@@ -252,7 +252,7 @@ found_by k (x ∷ xs) (suc i) raw up got is =
     found_by k xs i raw up.1 got is
     ∙ sym (ap (λ b. cond b (Some x) (entry_at identifier_of k xs)) (ne_eqb (identifier_of x) k (λ e. omega arith)))
 
--- what a search by halves knows: identifiers before `low` are smaller, those from `high` on are greater
+-- the invariant of a binary search: identifiers before `low` are smaller, those from `high` on are greater
 pub record IsBetween (k low high : ℕ) (raws : List Raw) : Type 0 where
   pub smaller : (i : ℕ) (d : Raw) → i < low → i < length raws → identifier_of (get_or raws i d) < k
   pub greater : (i : ℕ) (d : Raw) → high ≤ i → i < length raws → k < identifier_of (get_or raws i d)
@@ -293,7 +293,7 @@ below_middle k low high middle raws d up h inside more = record {
   ];
 }
 
--- nothing is left between: there is no such entry
+-- if nothing is left between, there is no such entry
 pub none_at : (k : ℕ) (raws : List Raw) → ((i : ℕ) (d : Raw) → i < length raws → identifier_of (get_or raws i d) ≢ k) → entry_at identifier_of k raws ≡ None
 none_at k [] other = refl
 none_at k (x ∷ xs) other =

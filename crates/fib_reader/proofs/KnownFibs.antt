@@ -1,40 +1,40 @@
--- What a remembered FIB tells, and what a memory still says after a FIB was heard.
+-- Hearing a remembered FIB, and what a memory still has after a FIB was heard.
 use Rattle.std.proofs.Common.{◌≡◌, ◌⊎◌, List, ℕ, Some, Ok, inl, inr, refl, sym, ap, ◌∙◌, subst}
 use Rattle.fib_codec.specs.Grammar.{Fig, IsFib}
 use Rattle.fib_reader.specs.declared.basis.Basis.{Basis}
 use Rattle.fib_reader.specs.declared.basis.Basis.TheVariants.{Current, Pictures, All}
 use Rattle.fib_reader.specs.declared.memory.Memory.{Memory}
 use Rattle.fib_reader.specs.Listening.{Listening, hear_figs, Hears, Heard}
-use Rattle.fib_reader.specs.Remembering.{Agrees, TellsNothing, Remembers, AreRemembered}
+use Rattle.fib_reader.specs.Remembering.{Agrees, AddsNothing, Remembers, AreRemembered}
 
 agrees_self : (basis : Basis) (l : Listening) → Agrees basis l l
 agrees_self Current l = (refl, refl)
 agrees_self Pictures l = (refl, refl, refl)
 agrees_self All l = refl
 
--- a FIB that tells nothing
-pub nothing_heard : (bytes : List ℕ) (basis : Basis) (l : Listening) → TellsNothing basis l bytes → Hears bytes l l (Ok tt)
+-- a FIB with nothing new
+pub nothing_heard : (bytes : List ℕ) (basis : Basis) (l : Listening) → AddsNothing basis l bytes → Hears bytes l l (Ok tt)
 nothing_heard bytes basis l (figs, is, only, known) = (figs, is, known l (agrees_self basis l))
 
-pub nothing_at_all : (bytes : List ℕ) (basis : Basis) (l : Listening) → TellsNothing basis l bytes → (figs : List Fig) → IsFib bytes figs → Heard (hear_figs figs l) l l (Ok tt)
+pub nothing_at_all : (bytes : List ℕ) (basis : Basis) (l : Listening) → AddsNothing basis l bytes → (figs : List Fig) → IsFib bytes figs → Heard (hear_figs figs l) l l (Ok tt)
 nothing_at_all bytes basis l (those, is, only, known) figs also =
     let heard : hear_figs figs l ≡ Some l = ap (λ (fs : List Fig). hear_figs fs l) (only figs also) ∙ known l (agrees_self basis l) in
     subst (λ o. Heard o l l (Ok tt)) (sym heard) (refl, refl)
 
--- one more is remembered
-pub one_is_kept : (old new : Memory) (bytes : List ℕ) (basis : Basis) (l : Listening) → AreRemembered old l → TellsNothing basis l bytes
+-- one more FIB is remembered
+pub one_is_kept : (old new : Memory) (bytes : List ℕ) (basis : Basis) (l : Listening) → AreRemembered old l → AddsNothing basis l bytes
     → ((other : List ℕ) (of : Basis) → Remembers new other of → Remembers old other of ⊎ ((other ≡ bytes) × (of ≡ basis))) → AreRemembered new l
 one_is_kept old new bytes basis l before tells kept other of has =
     elim (kept other of has) [
       | inl had ↦ before other of had
-      | inr (same, also) ↦ subst (λ (b : Basis). TellsNothing b l other) (sym also) (subst (λ (bs : List ℕ). TellsNothing basis l bs) (sym same) tells)
+      | inr (same, also) ↦ subst (λ (b : Basis). AddsNothing b l other) (sym also) (subst (λ (bs : List ℕ). AddsNothing basis l bs) (sym same) tells)
     ]
 
 none_such : Pictures ≡ Current → ⊥
 none_such e = absurd (cc)
 
--- what rests on the current picture alone is still known where that stays
-still_tells : (bytes : List ℕ) (l after : Listening) → TellsNothing Current l bytes → (after.tuned ≡ l.tuned) × (after.current ≡ l.current) → TellsNothing Current after bytes
+-- a FIB whose basis is the current picture alone is still known while that is unchanged
+still_tells : (bytes : List ℕ) (l after : Listening) → AddsNothing Current l bytes → (after.tuned ≡ l.tuned) × (after.current ≡ l.current) → AddsNothing Current after bytes
 still_tells bytes l after (figs, is, only, known) (tuned, current) = (figs, is, only, λ x agrees. known x (agrees.0 ∙ tuned, agrees.1 ∙ current))
 
 pub current_stays : (old new : Memory) (l after : Listening) → AreRemembered old l → (after.tuned ≡ l.tuned) × (after.current ≡ l.current)
@@ -44,6 +44,6 @@ current_stays old new l after before stays forgot bytes Current has =
 current_stays old new l after before stays forgot bytes Pictures has = absurd (none_such (forgot bytes Pictures has).1)
 current_stays old new l after before stays forgot bytes All none = absurd none
 
--- and where all is forgotten, nothing is
+-- after all is forgotten, nothing is remembered
 pub nothing_stays : (new : Memory) (l : Listening) → ((bytes : List ℕ) (basis : Basis) → Remembers new bytes basis → ⊥) → AreRemembered new l
 nothing_stays new l forgot bytes basis has = absurd (forgot bytes basis has)

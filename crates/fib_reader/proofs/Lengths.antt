@@ -1,4 +1,4 @@
--- The length of an entry is decided by bytes of its own.
+-- The length of an entry is determined by its own bytes.
 use Rattle.std.proofs.Common.{◌≡◌, ℕ, ◌+◌, ◌*◌, ◌/◌, ◌%◌, ◌<◌, ◌≤◌, ◌==◌, ◌++◌, Bool, true, false, cond, List, length, get_or, take, drop, ap, sym, ◌∙◌, arith}
 use Rattle.std.proofs.lemmas.List.{get_or_append_left, take-append-drop, length-take-le}
 use Rattle.fib_codec.specs.Grammar.{entry_len, ensemble_len, sub_len, service_len, packet_len}
@@ -16,7 +16,7 @@ some_bytes ext long bytes =
     (at_least long (5 + 2 * (get_or bytes 4 0 % 16)) (3 + 2 * (get_or bytes 2 0 % 16)) (omega arith) (omega arith))
     (at_least (get_or bytes 1 0 % 2 == 1) 7 5 (omega arith) (omega arith))))
 
--- whichever branch is taken, it is decided by bytes that are there
+-- whichever branch is taken, it is determined by bytes that are present
 chosen :
     (a b c : Bool) (x x' y y' z z' w w' n : ℕ)
     → (x ≤ n → x' ≡ x) → (y ≤ n → y' ≡ y) → (z ≤ n → z' ≡ z) → (w ≤ n → w' ≡ w)
@@ -65,7 +65,7 @@ entry_len_more ext long e rest =
     (service_len long e) (service_len long (e ++ rest)) (packet_len e) (packet_len (e ++ rest)) (length e)
     (ensemble_len_more e rest) (sub_len_more e rest) (service_len_more long e rest) (packet_len_more e rest)
 
--- the same where the longer bytes are looked at
+-- the same, computed from the longer bytes
 ensemble_len_front : (e rest : List ℕ) → ensemble_len (e ++ rest) ≤ length e → ensemble_len e ≡ ensemble_len (e ++ rest)
 ensemble_len_front e rest le =
     sym (ap (λ x. cond (x / 64 == 0) 4 5) (get_or_append_left e rest 0 2 (least_4 (get_or (e ++ rest) 2 0 / 64 == 0) (length e) le)))
@@ -93,7 +93,7 @@ entry_len_front ext long e rest =
     (service_len long (e ++ rest)) (service_len long e) (packet_len (e ++ rest)) (packet_len e) (length e)
     (ensemble_len_front e rest) (sub_len_front e rest) (service_len_front long e rest) (packet_len_front e rest)
 
--- so an entry that is cut off the front is as long as it says
+-- so an entry cut off the front has the length that it encodes
 pub cut_len :
     (ext : ℕ) (long : Bool) (bytes : List ℕ) → entry_len ext long bytes ≤ length bytes
     → length (take (entry_len ext long bytes) bytes) ≡ entry_len ext long (take (entry_len ext long bytes) bytes)

@@ -4,7 +4,7 @@ use Rattle.mux_config.specs.Configuration.{IsAscending}
 use Rattle.std.specs.List.{AllByRecursion}
 use Rattle.fib_reader.specs.Raw.{Raw}
 use Rattle.fib_reader.specs.Listening.{Pictured, identifier_of, all_entries}
-use Rattle.fib_reader.specs.Picture.{IsSubOf, IsPictured, ComesBefore, AreInOrder}
+use Rattle.fib_reader.specs.Picture.{IsSubOf, IsPictured, IsBefore, AreInOrder}
 
 each_and :
     (P Q R : Raw → Type 0) (xs : List Raw) → ((x : Raw) → P x → Q x → R x) → AllByRecursion P xs → AllByRecursion Q xs → AllByRecursion R xs
@@ -18,19 +18,19 @@ each_both P (x ∷ xs) ys p q = (p.0, each_both P xs ys p.1 q)
 of_one : (ext : ℕ) (xs : List Raw) → AllByRecursion (λ r. r.ext ≡ ext) xs → IsAscending identifier_of xs → AreInOrder xs
 of_one ext [] all up = tt
 of_one ext (x ∷ xs) all up = (
-  each_and (λ r. r.ext ≡ ext) (λ y. identifier_of x < identifier_of y) (ComesBefore x) xs
+  each_and (λ r. r.ext ≡ ext) (λ y. identifier_of x < identifier_of y) (IsBefore x) xs
       (λ y is less. inr (all.0 ∙ sym is, less)) all.1 up.0,
   of_one ext xs all.1 up.1,
 )
 
--- what is of a higher extension comes after
+-- entries of a higher extension come after
 behind :
     (low : ℕ) (xs ys : List Raw) → AllByRecursion (λ r. r.ext ≡ low) xs → AllByRecursion (λ r. low < r.ext) ys → AreInOrder xs → AreInOrder ys
     → AreInOrder (xs ++ ys)
 behind low [] ys all more up after = after
 behind low (x ∷ xs) ys all more up after = (
-  each_both (ComesBefore x) xs ys up.0
-      (each_and (λ r. low < r.ext) (λ r. low < r.ext) (ComesBefore x) ys (λ y less again. inl (let is = all.0 in omega arith)) more more),
+  each_both (IsBefore x) xs ys up.0
+      (each_and (λ r. low < r.ext) (λ r. low < r.ext) (IsBefore x) ys (λ y less again. inl (let is = all.0 in omega arith)) more more),
   behind low xs ys all.1 more up.1 after,
 )
 

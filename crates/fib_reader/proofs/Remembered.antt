@@ -1,4 +1,4 @@
--- What a memory has after a FIB was put into it, and after some were forgotten.
+-- The contents of a memory after a FIB was put into it, and after some were forgotten.
 use Rattle.std.proofs.Common.{◌≡◌, ◌≢◌, ℕ, ◌<◌, ◌==◌, ◌⊎◌, Bool, true, false, List, [], length, get_or, inl, inr, refl, sym, ap, ◌∙◌, subst}
 use Rattle.std.proofs.lemmas.Bool.{eqb-true, eq-eqb}
 use Rattle.std.proofs.lemmas.List.{get_or-replicate, get_or-set_same, get_or-set_other}
@@ -13,27 +13,27 @@ unset n place flags e lt h =
     let off : get_or flags place false ≡ false = rw e (get_or-replicate n place false false lt) in
     absurd (cc)
 
--- nothing
+-- after all were forgotten
 pub nothing : (m : Memory) → m.of_current ≡ replicate 1024 false → m.of_pictures ≡ replicate 1024 false → (bytes : List ℕ) (basis : Basis) → Remembers m bytes basis → ⊥
 nothing m c p bytes Current (place, lt, is, set) = unset 1024 place m.of_current c lt set
 nothing m c p bytes Pictures (place, lt, is, set) = unset 1024 place m.of_pictures p lt set
 nothing m c p bytes All none = none
 
--- what rests on the current picture alone
+-- FIBs whose basis is the current picture alone
 pub of_current : (old new : Memory) → new.fibs ≡ old.fibs → new.of_current ≡ old.of_current → new.of_pictures ≡ replicate 1024 false
     → (bytes : List ℕ) (basis : Basis) → Remembers new bytes basis → Remembers old bytes basis × (basis ≡ Current)
 of_current old new f c p bytes Current (place, lt, is, set) = ((place, lt, rw (sym f) is, rw (sym c) set), refl)
 of_current old new f c p bytes Pictures (place, lt, is, set) = absurd (unset 1024 place new.of_pictures p lt set)
 of_current old new f c p bytes All none = absurd none
 
--- one FIB more, in its place
+-- one more FIB, in its slot
 both_ways : (b : Bool) → b ≡ true → b ≡ false → ⊥
 both_ways b e f = absurd (cc)
 
 differ : (m n : ℕ) → m ≡ n → (m == n) ≡ false → ⊥
 differ m n e f = both_ways (m == n) (eq-eqb m n e) f
 
--- a place of two lists that were both changed in one
+-- reading at an index two lists that were both changed at one index
 at_place : (b : Bool) (xs : List (List ℕ)) (flags : List Bool) (place at : ℕ) (x d y : List ℕ) (flag : Bool) → (place == at) ≡ b → at < length xs → at < length flags
     → get_or (set xs at x) place d ≡ y → get_or (set flags at flag) place false ≡ true
     → ((x ≡ y) × (flag ≡ true)) ⊎ ((get_or xs place d ≡ y) × (get_or flags place false ≡ true))
@@ -52,7 +52,7 @@ two : (xs : List (List ℕ)) (flags : List Bool) (place at : ℕ) (x d y : List 
     → ((x ≡ y) × (flag ≡ true)) ⊎ ((get_or xs place d ≡ y) × (get_or flags place false ≡ true))
 two xs flags place at x d y flag lt within h k = at_place (place == at) xs flags place at x d y flag refl lt within h k
 
--- what a memory has after this FIB was put into this place, resting on this
+-- the contents of a memory after this FIB was put into this slot, with this basis
 pub one_more : (at : ℕ) (bytes : List ℕ) (basis : Basis) (current pictures : Bool) (old new : Memory) → at < length old.fibs → at < length old.of_current → at < length old.of_pictures
     → new.fibs ≡ set old.fibs at bytes → new.of_current ≡ set old.of_current at current → new.of_pictures ≡ set old.of_pictures at pictures
     → (current ≡ true → basis ≡ Current) → (pictures ≡ true → basis ≡ Pictures)

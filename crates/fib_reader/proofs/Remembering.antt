@@ -1,4 +1,4 @@
--- What is known of a FIG is known to whoever agrees in what it rests on.
+-- A FIG that is known to a listener is known to each that agrees in its basis.
 use Rattle.std.proofs.Common.{◌≡◌, ◌≢◌, ℕ, ◌%◌, ◌==◌, Bool, true, false, cond, List, [], ◌∷◌, map, Option, Some, None, refl, ap, sym, ◌∙◌, subst}
 use Rattle.std.specs.List.{AllByRecursion}
 use Rattle.std.proofs.lemmas.Bool.{ne_eqb}
@@ -17,7 +17,7 @@ some_is x y e = cc
 none_is : {A : Type 0} (x : A) → None ≡ Some x → ⊥
 none_is x e = absurd (cc)
 
--- an entry that is no ensemble information
+-- an entry other than ensemble information
 not_ensemble : (next : Bool) (raw : Raw) (l : Listening) → raw.ext ≢ 0 → hear_entry next raw l ≡ cond l.tuned (into next l (pictured raw (picture_of next l))) (Some l)
 not_ensemble next raw l other = rw (ne_eqb raw.ext 0 other) refl
 
@@ -79,7 +79,7 @@ fig_lasts old l (Open second es) head is known agrees =
     entries_last (second % 32) (is_long second) (is_next second) old l es there agree
 fig_lasts old l (Other given) head is known agrees = absurd (none_is head is)
 
--- one FIG, and rest the others
+-- one FIG, and then the others
 pub figs_last : (fig : Fig) (figs : List Fig) (l : Listening) → hear_fig fig l ≡ Some l → hear_figs figs l ≡ Some l → hear_figs (fig ∷ figs) l ≡ Some l
 figs_last fig figs l first rest = rw first rest
 

@@ -4,15 +4,15 @@ use Rattle.std.proofs.lemmas.List.{length-map, map-append}
 use Rattle.mux_entries.specs.declared.entry.Entry.{Entry}
 use Rattle.mux_config.specs.Configuration.{Configuration, IsAscending, IsConfiguration, IsPlaced, IsService, IsAddressed, sub_key, service_key, packet_key}
 use Rattle.std.specs.List.{AllByRecursion}
-use Rattle.mux_entries.specs.Facts.{FactsTell, marked, sub_entry, service_entry, packet_entry, sub_entries, service_entries}
+use Rattle.mux_entries.specs.Facts.{FactsIdentify, marked, sub_entry, service_entry, packet_entry, sub_entries, service_entries}
 use Rattle.fib_codec.specs.Ranges.{IsWithin}
-use Rattle.fib_codec.specs.Spelling.{SpellingTells}
+use Rattle.fib_codec.specs.Spelling.{SpellingIdentifies}
 use Rattle.fib_reader.specs.Raw.{Raw, raw_entry}
 use Rattle.fib_reader.specs.Listening.{Pictured, identifier_of}
 use Rattle.fib_reader.specs.Picture.{IsPictured, IsSubOf, Shows}
 use Rattle.fib_reader.proofs.FromEntries.{sub_within, service_within, packet_within, sub_identified, service_identified, packet_identified}
 
--- entries of one extension stand before those of others
+-- entries of one extension come before those of others
 split_off :
     (n : ℕ) (xs xs' ys ys' : List Raw) → AllByRecursion (λ r. r.ext ≡ n) xs → AllByRecursion (λ r. r.ext ≡ n) ys → AllByRecursion (λ r. r.ext ≢ n) xs'
     → AllByRecursion (λ r. r.ext ≢ n) ys' → xs ++ xs' ≡ ys ++ ys' → (xs ≡ ys) × (xs' ≡ ys')
@@ -42,7 +42,7 @@ each_turned : (P Q : Raw → Type 0) (xs : List Raw) → ((x : Raw) → P x → 
 each_turned P Q [] f all = tt
 each_turned P Q (x ∷ xs) f all = (f x all.0, each_turned P Q xs f all.1)
 
--- so what a picture shows can be told list by list
+-- so what a picture shows can be stated list by list
 pub record ShowsEach (p : Pictured) (c : Configuration) : Type 0 where
   pub subs : map (λ s. raw_entry (sub_entry s)) c.subs ≡ p.subs
   pub services : map (λ s. raw_entry (service_entry s)) c.services ≡ p.services
@@ -153,7 +153,7 @@ facts_within c h =
     (entries_within packet_entry IsAddressed c.packets packet_within h.packets_addressed))
 
 same_entries :
-    (xs ys : List Entry) → SpellingTells → AllByRecursion IsWithin xs → AllByRecursion IsWithin ys → map raw_entry xs ≡ map raw_entry ys → xs ≡ ys
+    (xs ys : List Entry) → SpellingIdentifies → AllByRecursion IsWithin xs → AllByRecursion IsWithin ys → map raw_entry xs ≡ map raw_entry ys → xs ≡ ys
 same_entries [] [] tells p q h = refl
 same_entries [] (y ∷ ys) tells p q h = absurd (cc)
 same_entries (x ∷ xs) [] tells p q h = absurd (cc)
@@ -165,7 +165,7 @@ same_entries (x ∷ xs) (y ∷ ys) tells p q h =
     ap (λ z. z ∷ xs) one ∙ ap (λ zs. y ∷ zs) (same_entries xs ys tells p.1 q.1 tails)
 
 pub shows_one :
-    (p : Pictured) (c d : Configuration) → SpellingTells → FactsTell → IsConfiguration c → IsConfiguration d → Shows p c → Shows p d → c ≡ d
+    (p : Pictured) (c d : Configuration) → SpellingIdentifies → FactsIdentify → IsConfiguration c → IsConfiguration d → Shows p c → Shows p d → c ≡ d
 shows_one p c d spelling facts is_c is_d p_c p_d =
     let entries : sub_entries c ++ service_entries c ≡ sub_entries d ++ service_entries d =
     same_entries (sub_entries c ++ service_entries c) (sub_entries d ++ service_entries d) spelling (facts_within c is_c) (facts_within d is_d) (sym p_c ∙ p_d) in

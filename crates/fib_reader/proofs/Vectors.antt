@@ -1,4 +1,4 @@
--- Faults, ensemble information and order, computed by the checker from the definitions.
+-- Examples of faults, ensemble information and order, computed by the checker from the definitions.
 use Rattle.std.proofs.Common.{◌≡◌, ℕ, ◌*◌, true, false, [], ◌∷◌, Some, None, inl, inr, refl, arith}
 use Rattle.mux_entries.specs.Entries.{EnsembleInformation}
 use Rattle.fib_reader.specs.declared.fault.FibFault.TheVariants.{Overrun, Entry}
@@ -13,7 +13,7 @@ use Rattle.fib_reader.proofs.FigFaults.{stands_first, data_given}
 
 -- ---- faults
 
--- a header that asks for 31 bytes, of which there is none
+-- a header that announces 31 bytes, of which there are none
 overrun_holds : IsOverrun (63 ∷ []) 0
 overrun_holds = (63, [], stands_first 63 [] (λ e. omega arith), omega arith)
 

@@ -1,4 +1,5 @@
--- Why 32 bytes are no FIB, and where: what stands before the place of a fault is whole, and what stands there is not.
+-- Why 32 bytes are not a FIB, and where: what precedes the offset of a fault is whole, and what is at the offset is
+-- not.
 use Rattle.std.specs.Prelude.{◌≡◌, ◌≢◌, ℕ, ◌+◌, ◌%◌, ◌<◌, Bool, true, List, [], ◌∷◌, ◌++◌, length, take, ◌⊎◌}
 use Rattle.fib_codec.specs.Grammar.{Fig, IsFig, IsEntry, AreEntries, IsCounted, is_open, is_long}
 use Rattle.fib_codec.specs.Crc.{IsChecked}
@@ -10,7 +11,7 @@ abbrev pub AreWhole : List ℕ → List Fig → Type 0
 AreWhole bytes [] = bytes ≡ []
 AreWhole bytes (f ∷ fs) = (front rest : List ℕ) × (bytes ≡ front ++ rest) × IsFig front f × AreWhole rest fs
 
--- whole FIGs lead up to the header at this place, which is no end marker; the rest follows it
+-- whole FIGs precede the header at this offset, which is not an end marker; the rest follows it
 pub record LeadsToHeader (bytes : List ℕ) (place header : ℕ) (rest : List ℕ) : Type 0 where
   pub front : List ℕ
   pub figs : List Fig
@@ -19,7 +20,7 @@ pub record LeadsToHeader (bytes : List ℕ) (place header : ℕ) (rest : List �
   pub place_is : length front ≡ place
   pub no_marker : header ≢ 255
 
--- the FIG at this place is longer than the bytes that are left
+-- the FIG at this offset is longer than the bytes that are left
 abbrev pub IsOverrun : List ℕ → ℕ → Type 0
 IsOverrun bytes place =
     (header : ℕ) × (rest : List ℕ) × LeadsToHeader bytes place header rest × (length rest < header % 32)
@@ -31,7 +32,7 @@ IsGood ext long e = IsEntry ext long e × (ext ≡ 0 → IsCounted e)
 abbrev pub BeginsNone : ℕ → Bool → List ℕ → Type 0
 BeginsNone ext long bytes = (e rest : List ℕ) → bytes ≡ e ++ rest → IsGood ext long e → ⊥
 
--- whole entries lead up to this place, and there stand bytes that begin none
+-- whole entries precede this offset, and the bytes from there on begin with none
 pub record IsNoEntryAt (ext : ℕ) (long : Bool) (bytes : List ℕ) (place : ℕ) : Type 0 where
   pub front : List ℕ
   pub left : List ℕ
@@ -42,18 +43,18 @@ pub record IsNoEntryAt (ext : ℕ) (long : Bool) (bytes : List ℕ) (place : ℕ
   pub some : left ≢ []
   pub none : BeginsNone ext long left
 
--- FIG 0/0 is to have one entry: it has none, or something follows it
+-- FIG 0/0 must have one entry: it has none, or something follows it
 abbrev pub IsNotOneAt : Bool → List ℕ → ℕ → Type 0
 IsNotOneAt long bytes place =
     ((place ≡ 0) × BeginsNone 0 long bytes)
     ⊎ ((e left : List ℕ) × (bytes ≡ e ++ left) × IsGood 0 long e × (left ≢ []) × (place ≡ length e))
 
--- what follows the second byte of a FIG that is looked into is at fault at this place
+-- what follows the second byte of a parsed FIG is at fault at this offset
 abbrev pub IsBodyFault : ℕ → Bool → List ℕ → ℕ → Type 0
 IsBodyFault ext long bytes place =
     ((ext ≢ 0) × IsNoEntryAt ext long bytes place) ⊎ ((ext ≡ 0) × IsNotOneAt long bytes place)
 
--- a FIG that is looked into stands `at` its header, whole, and its entries are at fault
+-- a parsed FIG is whole, with its header at offset `at`, and its entries are at fault
 pub record IsFigFault (bytes : List ℕ) (place : ℕ) : Type 0 where
   pub at : ℕ
   pub second : ℕ
@@ -66,7 +67,7 @@ pub record IsFigFault (bytes : List ℕ) (place : ℕ) : Type 0 where
   pub fault : IsBodyFault (second % 32) (is_long second) body within
   pub place_is : place ≡ at + 2 + within
 
--- a FIG of type 0 without its second byte stands there, or an entry is at fault
+-- a FIG of type 0 without its second byte is at this offset, or an entry is at fault
 abbrev pub IsEntryFault : List ℕ → ℕ → Type 0
 IsEntryFault bytes place = ((rest : List ℕ) × LeadsToHeader bytes place 0 rest) ⊎ IsFigFault bytes place
 

@@ -1,10 +1,10 @@
--- The first fault of a FIB as a walk from the front finds it.
+-- The first fault of a FIB, as found from the front.
 use Rattle.std.specs.Prelude.{ℕ, zero, suc, ◌+◌, ◌-◌, ◌%◌, ◌==◌, Bool, false, if◌then◌else◌, nat_lt, List, [], ◌∷◌, length, get_or, take, drop, Option, Some, None}
 use Rattle.fib_codec.specs.Grammar.{entry_len, is_open, is_long}
 use Rattle.fib_reader.specs.declared.fault.FibFault.{FibFault}
 use Rattle.fib_reader.specs.declared.fault.FibFault.TheVariants.{Overrun, Entry}
 
--- the place of the first entry that isn't whole, where `bytes` stand at `place`; at most `n` entries are looked at
+-- the offset of the first entry that is not whole, for `bytes` at offset `place`; at most `n` entries are examined
 unfoldable pub entries_fault : ℕ → ℕ → Bool → ℕ → List ℕ → Option ℕ
 entries_fault zero ext long place bytes = None
 entries_fault (suc n) ext long place [] = None
@@ -13,7 +13,7 @@ entries_fault (suc n) ext long place (b ∷ bs) =
     if nat_lt (length (b ∷ bs)) len then Some place
     else entries_fault n ext long (place + len) (drop len (b ∷ bs))
 
--- the one entry of FIG 0/0 must be whole, with a count in range; whatever follows it is at fault
+-- the one entry of FIG 0/0 must be whole, with a count in range; anything that follows it is at fault
 abbrev pub ensemble_fault : ℕ → List ℕ → Option ℕ
 ensemble_fault place bytes =
     let len = entry_len 0 false bytes in
@@ -31,7 +31,7 @@ abbrev pub entry_at_fault : Option ℕ → Option FibFault
 entry_at_fault None = None
 entry_at_fault (Some place) = Some (Entry place)
 
--- the fault of the FIG whose header `h` stands at `place`, before `bytes`
+-- the fault of the FIG with header `h` at offset `place`, followed by `bytes`
 abbrev pub fig_fault : ℕ → ℕ → List ℕ → Option FibFault
 fig_fault place h bytes =
     if nat_lt (length bytes) (h % 32) then Some (Overrun place)
@@ -45,7 +45,7 @@ abbrev pub or_else : Option FibFault → Option FibFault → Option FibFault
 or_else (Some e) other = Some e
 or_else None other = other
 
--- the first fault of the FIGs in `bytes`, which stand at `place`; at most `n` FIGs are looked at
+-- the first fault of the FIGs in `bytes`, at offset `place`; at most `n` FIGs are examined
 unfoldable pub figs_fault : ℕ → ℕ → List ℕ → Option FibFault
 figs_fault zero place bytes = None
 figs_fault (suc n) place [] = None

@@ -1,4 +1,4 @@
--- What holds of every picture.
+-- Invariants of pictures.
 use Rattle.std.specs.Prelude.{◌≡◌, ◌<◌, ◌≤◌, ◌++◌, ◌⊎◌, List, [], ◌∷◌, length, map}
 use Rattle.mux_config.specs.Configuration.{Configuration, IsAscending}
 use Rattle.std.specs.List.{AllByRecursion}
@@ -6,7 +6,7 @@ use Rattle.mux_entries.specs.Facts.{sub_entries, service_entries}
 use Rattle.fib_reader.specs.Raw.{Raw, raw_entry}
 use Rattle.fib_reader.specs.Listening.{Pictured, identifier_of, all_entries}
 
--- each list has entries of its extension, and there are 64 sub-channels at most
+-- each list has entries of its extension, and there are at most 64 sub-channels
 abbrev pub IsSubOf : Raw → Type 0
 IsSubOf raw = (raw.ext ≡ 1) × (identifier_of raw < 64)
 
@@ -15,7 +15,7 @@ pub record IsPictured (p : Pictured) : Type 0 where
   pub services : AllByRecursion (λ raw. raw.ext ≡ 2) p.services
   pub packets : AllByRecursion (λ raw. raw.ext ≡ 3) p.packets
 
--- and each list is in ascending order of identifiers, and has 64 entries at most
+-- and each list is in ascending order of identifiers, and has at most 64 entries
 pub record IsKept (p : Pictured) : Type 0 where
   pub pictured : IsPictured p
   pub subs_ascend : IsAscending identifier_of p.subs
@@ -26,12 +26,12 @@ pub record IsKept (p : Pictured) : Type 0 where
   pub packets_few : length p.packets ≤ 64
 
 -- in ascending order of extension and identifier
-abbrev pub ComesBefore : Raw → Raw → Type 0
-ComesBefore a b = (a.ext < b.ext) ⊎ ((a.ext ≡ b.ext) × (identifier_of a < identifier_of b))
+abbrev pub IsBefore : Raw → Raw → Type 0
+IsBefore a b = (a.ext < b.ext) ⊎ ((a.ext ≡ b.ext) × (identifier_of a < identifier_of b))
 
 abbrev pub AreInOrder : List Raw → Type 0
 AreInOrder [] = Unit {0}
-AreInOrder (raw ∷ raws) = AllByRecursion (ComesBefore raw) raws × AreInOrder raws
+AreInOrder (raw ∷ raws) = AllByRecursion (IsBefore raw) raws × AreInOrder raws
 
 -- a picture shows exactly the entries of a configuration
 abbrev pub Shows : Pictured → Configuration → Type 0

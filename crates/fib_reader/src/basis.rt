@@ -1,4 +1,4 @@
-//! What a receiver has to know for FIGs to say nothing new to it.
+//! The part of a receiver's state that decides whether FIGs are new to it.
 
 ghost use Rattle.std.specs.Prelude.{◌≡◌, true};
 ghost use Rattle.fib_reader.specs.Listening.{Listening, hear_figs};
@@ -7,14 +7,14 @@ ghost use Rattle.fib_reader.specs.Remembering.{KeepsCurrent};
 use crate::figs::Figs;
 use fib_codec::{Extension, Head};
 
-/// What a receiver has to know for FIGs to say nothing new to it, beside whether it has heard a FIG 0/0 yet.
+/// The part of a receiver's state, besides whether it has heard a FIG 0/0 yet, that decides whether FIGs are new to it.
 #[derive(Clone, Copy, Debug, PartialEq, Eq)]
 pub(crate) enum Basis {
-    /// What it has heard of the current configuration.
+    /// The picture of the current configuration.
     Current,
-    /// What it has heard of the current and of the next configuration.
+    /// The pictures of the current and of the next configuration.
     Pictures,
-    /// All that it knows.
+    /// The whole state.
     All,
 }
 
@@ -23,7 +23,7 @@ impl Basis {
     ghost use Rattle.fib_reader.specs.Listening.{Listening};
     ghost use Rattle.fib_reader.specs.Remembering.{Agrees, basis_of};
 
-    /// The basis of FIGs of this head: all for FIG 0/0, both pictures for entries with C/N 1.
+    /// The basis of FIGs with this head: the whole state for FIG 0/0, both pictures for entries with C/N 1.
     pub(crate) fn of(head: Head) -> Basis
         ensures { result ≡ basis_of head.next head.ext }
     {
@@ -37,7 +37,7 @@ impl Basis {
         }
     }
 
-    /// The basis of two things together.
+    /// A basis that includes both.
     pub(crate) fn and(self, other: Basis) -> Basis
         ensures one { (old l : Listening) → Agrees result old l → Agrees self old l }
         ensures other { (old l : Listening) → Agrees result old l → Agrees other old l }
@@ -50,7 +50,7 @@ impl Basis {
     }
 }
 
-/// Whether FIGs have entries of the next configuration alone, so that the current one stays as it was heard.
+/// Whether all entries of FIGs are of the next configuration, so that they leave the current picture unchanged.
 pub(crate) fn are_of_next(mut figs: Figs<'_>) -> bool
     ensures { result ≡ true → KeepsCurrent (hear_figs figs.entry) }
 {

@@ -1,4 +1,4 @@
-//! How long the entry is that comes first.
+//! The length of the entry at the front of some bytes.
 
 ghost use Rattle.std.specs.Prelude.{◌≡◌};
 ghost use Rattle.fib_codec.specs.Extensions.{number_of};
@@ -6,8 +6,8 @@ ghost use Rattle.fib_codec.specs.Grammar.{entry_len};
 
 use fib_codec::{Extension, fig0_0, fig0_1, fig0_2, fig0_3};
 
-/// The length of the entry that begins `bytes`, in this extension and with this P/D flag, as those of its bytes
-/// say that decide it. It is above the number of bytes where one of these isn't there.
+/// The length of the entry at the front of `bytes`, in this extension and with this P/D flag, computed from the bytes
+/// that determine it. It exceeds the number of bytes if one of these is missing.
 pub(crate) fn entry_len_of(extension: Extension, long: bool, bytes: &[u8]) -> usize
     ensures { result ≡ entry_len (number_of extension) long bytes.now }
 {

@@ -1,4 +1,4 @@
-//! The test of a FIB: its CRC, and then its FIGs and entries from the front.
+//! Checks a FIB: its CRC, then its FIGs and entries from the front.
 
 ghost use Rattle.std.specs.Prelude.{◌≡◌, ◌+◌, ◌<◌, ◌≤◌, List, length, Ok, IfOk, IfErr};
 ghost use Rattle.fib_codec.specs.Extensions.{number_of};
@@ -13,7 +13,7 @@ use fib_codec::bytes::byte_at;
 use fib_codec::head::{extension_of, is_long_of};
 use fib_codec::{Extension, is_checked};
 
-/// The offset of the first entry that isn't whole.
+/// The offset of the first entry that is not whole.
 fn entries_fault_of(extension: Extension, long: bool, offset: usize, bytes: &[u8]) -> Option<usize>
     requires { offset + length bytes.now ≤ 32 }
     ensures { result
@@ -33,7 +33,7 @@ fn entries_fault_of(extension: Extension, long: bool, offset: usize, bytes: &[u8
     None
 }
 
-/// The offset of the fault in the bytes after FIG 0/0's second byte, which are to be one entry.
+/// The offset of the fault in the bytes after FIG 0/0's second byte, which must be exactly one entry.
 fn ensemble_fault_of(offset: usize, bytes: &[u8]) -> Option<usize>
     requires { offset + length bytes.now ≤ 32 }
     ensures { result ≡ ensemble_fault offset bytes.now }
@@ -67,7 +67,7 @@ fn body_fault_of(extension: Extension, long: bool, offset: usize, bytes: &[u8]) 
     }
 }
 
-/// The fault of one FIG, whose header is at `offset` and before `bytes`.
+/// The fault of one FIG with its header at `offset`, followed by `bytes`.
 fn fig_fault_of(offset: usize, header: u8, bytes: &[u8]) -> Option<FibFault>
     requires { offset + 1 + length bytes.now ≤ 32 }
     ensures { result ≡ fig_fault offset header bytes.now }
@@ -117,14 +117,13 @@ fn figs_fault_of(bytes: &[u8]) -> Option<FibFault>
     None
 }
 
-/// Checks a FIB: its CRC, and then its FIGs from the front to the end of the data bytes or to an
-/// end marker instead of a header (EN 300 401 clauses 5.2.1 and 5.2.2). Where all is well, the FIGs are
-/// lent in order.
+/// Checks a FIB: its CRC, then its FIGs from the front to the end of the data bytes or to an end marker instead of a
+/// header (EN 300 401 clauses 5.2.1 and 5.2.2). Without a fault, returns the FIGs in order.
 ///
-/// FIGs of types 1 to 7, of extensions above 3 and of other ensembles aren't looked into. Those of
-/// extensions 0 to 3 must be whole entries, and FIG 0/0 exactly one with a CIF count in range; besides
-/// that every value of a field is good. Of several faults the first is reported:
-/// - `Crc`: the last two bytes aren't the CRC of the others;
+/// FIGs of types 1 to 7, of extensions above 3 and of other ensembles are not parsed. Those of extensions 0 to 3 must
+/// consist of whole entries, and FIG 0/0 of exactly one, with a CIF count in range; any other field value is accepted.
+/// Of several faults the first is reported:
+/// - `Crc`: the last two bytes are not the CRC of the others;
 /// - `Overrun`, at the header of a FIG that is longer than the data bytes that are left;
 /// - `Entry`, at the first byte of an entry at fault, or at the header of a FIG of type 0 without a second byte.
 pub fn check(bytes: &[u8; 32]) -> Result<Figs<'_>, FibFault>

@@ -1,4 +1,4 @@
-//! The entries of a FIG, lent from its bytes.
+//! The entries of a FIG, borrowed from its bytes.
 
 ghost use Rattle.std.specs.Prelude.{◌≡◌, ◌==◌, ◌<◌, ◌≤◌, [], ◌∷◌, List, length, MatchOption};
 ghost use Rattle.fib_codec.specs.Extensions.{number_of};
@@ -9,10 +9,10 @@ use fib_codec::{Extension, fig0_0, fig0_1, fig0_2, fig0_3};
 use mux_config::{Ensemble, Entry};
 use std::marker::Model;
 
-/// How many SIds of 16 bits there are; those of 32 bits come after them.
+/// The number of 16-bit SIds; the 32-bit ones come after them.
 const SHORT_SIDS: u64 = 1 << 16;
 
-/// An entry of FIG 0/0 to 0/3 as it is sent. It lends its bytes.
+/// An entry of FIG 0/0 to 0/3 as it is sent. It borrows its bytes.
 #[derive(Drop)]
 pub struct RawEntry<'a> {
     extension: Extension,
@@ -39,7 +39,7 @@ impl<'a> RawEntry<'a> {
     ghost use Rattle.fib_reader.specs.Raw.{IsRaw, IsValue, ensemble_in};
     ghost use Rattle.fib_reader.specs.Listening.{identifier_of};
 
-    /// An entry of these bytes, which must be whole.
+    /// The entry with these bytes, which must be whole.
     pub(crate) fn of(extension: Extension, long: bool, bytes: &'a [u8]) -> Self
         requires { IsRaw (record { ext = number_of extension; long = long; bytes = bytes.now }) }
         ensures { result ≡ record { ext = number_of extension; long = long; bytes = bytes.now } }
@@ -51,9 +51,9 @@ impl<'a> RawEntry<'a> {
         }
     }
 
-    /// What distinguishes it from the other entries of its extension: the EId of ensemble information, the SubChId in
-    /// both forms of FIG 0/1, the SId with all short ones before the long ones, the SCId (EN 300 401 clauses 6.4,
-    /// 6.2.1, 6.3.1 and 6.3.2).
+    /// Distinguishes it from other entries of its extension: the EId of ensemble information, the SubChId in both forms
+    /// of FIG 0/1, the SId with all short ones before the long ones, the SCId (EN 300 401 clauses 6.4, 6.2.1, 6.3.1 and
+    /// 6.3.2).
     pub fn identifier(&self) -> u64
         ensures value { result ≡ identifier_of self.now }
         ensures sub { self.now.ext ≡ 1 → result < 64 }
@@ -98,7 +98,7 @@ impl<'a> RawEntry<'a> {
         self.extension.number()
     }
 
-    /// Whether it is ensemble information, of FIG 0/0; each other entry is one of a configuration.
+    /// Whether it is ensemble information (FIG 0/0); any other entry belongs to a configuration.
     pub fn is_ensemble(&self) -> bool
         ensures value { result ≡ (self.now.ext == 0) }
         ensures in_range { self.now.ext < 4 }
@@ -109,14 +109,14 @@ impl<'a> RawEntry<'a> {
         }
     }
 
-    /// Whether it has an SId of 32 bits: the P/D flag of its FIG in FIG 0/2, and false in each other.
+    /// Whether it has an SId of 32 bits: the P/D flag of its FIG in FIG 0/2, and false in the others.
     pub fn long(&self) -> bool
         ensures { result ≡ self.now.long }
     {
         self.long
     }
 
-    /// The ensemble information that an entry of FIG 0/0 says (EN 300 401 clause 6.4).
+    /// The ensemble information in an entry of FIG 0/0 (EN 300 401 clause 6.4).
     pub fn ensemble(&self) -> Ensemble
         requires { self.now.ext ≡ 0 }
         ensures { result ≡ ensemble_in self.now }
@@ -124,8 +124,8 @@ impl<'a> RawEntry<'a> {
         fig0_0::decode(self.bytes)
     }
 
-    /// Its value: the entry that is sent so (EN 300 401 clauses 6.2.1, 6.3.1, 6.3.2 and 6.4).
-    // (an entry is large: where it is taken apart at once, most of it then need not go through memory)
+    /// Its decoded value (EN 300 401 clauses 6.2.1, 6.3.1, 6.3.2 and 6.4).
+    // (an entry is large: inlined, most of it need not go through memory when it is taken apart at once)
     #[inline(always)]
     pub fn value(&self) -> Entry
         ensures { IsValue self.now result }
@@ -145,7 +145,7 @@ impl<'a> RawEntry<'a> {
     }
 }
 
-/// The bytes of the entry that comes first, and what follows it; None where nothing is left.
+/// The bytes of the first entry, and the rest; None if there are none.
 fn split_entry(extension: Extension, long: bool, bytes: &[u8]) -> Option<(&[u8], &[u8])>
     ensures { MatchOption result (entries_of (number_of extension) long bytes.now ≡ [])
         (λ x. entries_of (number_of extension) long bytes.now
@@ -158,7 +158,7 @@ fn split_entry(extension: Extension, long: bool, bytes: &[u8]) -> Option<(&[u8],
     Some(bytes.split_at(len))
 }
 
-/// Whether entries of this extension have SIds, whose length the P/D flag of their FIG says (EN 300 401 clause 6.3.1).
+/// Whether entries of this extension have SIds, whose length the P/D flag of their FIG gives (EN 300 401 clause 6.3.1).
 fn has_sids(extension: Extension) -> bool
     ensures { result ≡ (number_of extension == 2) }
 {
@@ -214,7 +214,7 @@ impl<'a> Entries<'a> {
     ghost use Rattle.fib_codec.specs.Extensions.{number_of};
     ghost use Rattle.fib_reader.specs.Walk.{raws_of, AreRaw};
 
-    /// The entries of a FIG of this extension and P/D flag, which follow its second byte.
+    /// The entries that follow the second byte of a FIG with this extension and P/D flag.
     pub(crate) fn under(extension: Extension, long: bool, body: &'a [u8]) -> Self
         requires { AreRaw (raws_of (number_of extension) long body.now) }
         ensures { result ≡ raws_of (number_of extension) long body.now }

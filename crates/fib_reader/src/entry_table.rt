@@ -14,8 +14,8 @@ use std::marker::Model;
 #[derive(Drop)]
 pub(crate) struct EntryTable {
     table: SortedTable<OwnedEntry, 64>,
-    /// Where an entry was found the last time, by a hash of its identifier. Entries are heard over and over, so
-    /// most are found here at once. Nothing rests on it: the place may have another entry by now.
+    /// The index at which an entry was last found, by a hash of its identifier. Entries are repeated over and over, so
+    /// most are found at once. It is only a hint: another entry may be at the index by now.
     hints: [u8; 256],
 }
 
@@ -44,7 +44,7 @@ impl EntryTable {
         }
     }
 
-    /// Becomes a copy of other entries.
+    /// Becomes a copy of another table.
     pub(crate) fn copy_from(&mut self, other: &Self)
         ensures { self.new ≡ other.now }
     {
@@ -52,7 +52,7 @@ impl EntryTable {
         self.hints = other.hints;
     }
 
-    /// How many entries there are, at most 64.
+    /// The number of entries, at most 64.
     pub(crate) fn len(&self) -> usize
         ensures value { result ≡ length self.now }
         ensures bound { result ≤ 64 }
@@ -69,7 +69,7 @@ impl EntryTable {
         self.table.as_slice()
     }
 
-    /// The place of the entry of an identifier; None where there is none.
+    /// The index of the entry with an identifier; None if there is none.
     #[inline(always)]
     fn place(&self, identifier: u64) -> Option<usize>
         ensures found { IfSome result (λ place. slice_get self.now place
@@ -86,14 +86,14 @@ impl EntryTable {
         place_by_halves(entries, identifier)
     }
 
-    /// Whether there is an entry of the identifier that this one has.
+    /// Whether there is an entry with the identifier of this one.
     pub(crate) fn is_known(&self, entry: &RawEntry<'_>) -> bool
         ensures { result ≡ is_known entry.now self.now }
     {
         self.place(entry.identifier()).is_some()
     }
 
-    /// Whether this very entry is there, so that nothing changes where it is kept again.
+    /// Whether this very entry is present, so that keeping it again changes nothing.
     #[inline(always)]
     pub(crate) fn has(&self, entry: &RawEntry<'_>) -> bool
         ensures known { result ≡ true → is_known entry.now self.now ≡ true }
@@ -105,7 +105,7 @@ impl EntryTable {
         }
     }
 
-    /// How many entries are new where this one is kept after others, of which this many were new at most; None where
+    /// The number of new entries after this one is kept too, if at most `others` of those kept before were new; None if
     /// there may be no room for it.
     pub(crate) fn new_members(&self, others: usize, entry: &RawEntry<'_>) -> Option<usize>
         ensures known { IfSome result (λ all. is_known entry.now self.now ≡ true → all ≡ others) }
@@ -121,7 +121,7 @@ impl EntryTable {
         Some(others + 1)
     }
 
-    /// Puts an entry in place of the one with the same identifier, which stands at this place.
+    /// Replaces the entry with the same identifier, which is at this index.
     fn keep_at(&mut self, place: usize, entry: &RawEntry<'_>)
         requires found { slice_get self.old place
             ≡ entry_at identifier_of (identifier_of entry.now) self.old }
@@ -136,8 +136,7 @@ impl EntryTable {
         self.table.replace(OwnedEntry::of(entry));
     }
 
-    /// Puts an entry beside the others, of which none has its identifier, where there is room. The answer is whether
-    /// there was; where there was none, nothing changes.
+    /// Adds an entry with a new identifier if there is room. Returns whether there was; if not, nothing changes.
     fn keep_new(&mut self, entry: &RawEntry<'_>) -> bool
         requires { entry_at identifier_of (identifier_of entry.now) self.old ≡ None }
         ensures taken { result ≡ true → has_room entry.now self.old ≡ true }
@@ -152,8 +151,8 @@ impl EntryTable {
         true
     }
 
-    /// Puts an entry in place of the one with the same identifier, or beside the others where there is room.
-    /// The answer is whether that was so; where it was not, nothing changes.
+    /// Replaces the entry with the same identifier, or adds the entry if there is room. Returns whether it was kept; if
+    /// not, nothing changes.
     pub(crate) fn keep(&mut self, identifier: u64, entry: &RawEntry<'_>) -> bool
         requires { identifier ≡ identifier_of entry.now }
         ensures taken { result ≡ true → has_room entry.now self.old ≡ true }
@@ -170,7 +169,7 @@ impl EntryTable {
         if !self.keep_new(entry) {
             return false;
         }
-        // those behind it stand elsewhere now
+        // the entries after it have moved
         if let Some(place) = place_by_halves(self.table.as_slice(), identifier) {
             note_places(&mut self.hints, self.table.as_slice(), place);
         }
@@ -178,20 +177,19 @@ impl EntryTable {
     }
 }
 
-/// The highest eight bits of a multiple of an identifier, which tell even identifiers apart that differ in a few of
-/// their bits alone.
+/// The highest eight bits of a multiple of an identifier, which spread even identifiers that differ in only a few bits.
 fn hash(identifier: u64) -> u8 {
     (identifier.wrapping_mul(0x9E37_79B9_7F4A_7C15) >> 56) as u8
 }
 
-/// Notes where each entry from a place on stands.
+/// Records the index of each entry from `first` on.
 fn note_places(hints: &mut [u8; 256], entries: &[OwnedEntry], first: usize) {
     for place in first..entries.len() {
         hints[usize::from(hash(entries[place].key()))] = (place % 64) as u8;
     }
 }
 
-/// Whether the entry of this identifier stands at this place.
+/// Whether the entry with this identifier is at this index.
 fn is_at(entries: &[OwnedEntry], place: usize, identifier: u64) -> bool
     requires { IsAscending identifier_of entries.now }
     ensures found { result ≡ true → slice_get entries.now place
@@ -204,7 +202,7 @@ fn is_at(entries: &[OwnedEntry], place: usize, identifier: u64) -> bool
     entries[place].key() == identifier
 }
 
-/// The place of the entry of an identifier, found by halves; None where there is none.
+/// The index of the entry with this identifier, by binary search; None if there is none.
 fn place_by_halves(entries: &[OwnedEntry], identifier: u64) -> Option<usize>
     requires ascending { IsAscending identifier_of entries.now }
     requires few { length entries.now ≤ 64 }

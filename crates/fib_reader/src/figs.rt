@@ -1,4 +1,4 @@
-//! The FIGs of a FIB, lent from its bytes.
+//! The FIGs of a FIB, borrowed from its bytes.
 
 ghost use Rattle.std.specs.Prelude.{◌≡◌, ◌≤◌, ◌%◌, [], ◌∷◌, length, drop, MatchOption, IfSome, IfNone, OnSome};
 ghost use Rattle.fib_codec.specs.Extensions.{number_of};
@@ -11,8 +11,8 @@ use fib_codec::head::{extension_of, is_long_of, next_of};
 use fib_codec::{Extension, Head};
 use std::marker::Model;
 
-/// A FIG, which lends its bytes. Contracts see it as the grammar does: of extension 0 to 3 and of this
-/// ensemble, as its second byte and its entries, and any other one as its bytes.
+/// A FIG, which borrows its bytes. Contracts see it as the grammar does: one of extension 0 to 3 and of this ensemble
+/// as its second byte and its entries, and any other one as its bytes.
 #[derive(Drop)]
 pub struct Fig<'a> {
     bytes: &'a [u8],
@@ -41,8 +41,7 @@ impl<'a> Fig<'a> {
         self.bytes
     }
 
-    /// Its head, where it is of extension 0 to 3 and of this ensemble; None for each other one, which isn't
-    /// looked into.
+    /// Its head if it is of extension 0 to 3 and of this ensemble; None for any other one, which is not parsed.
     pub fn head(&self) -> Option<Head>
         ensures { result ≡ head_in self.now }
     {
@@ -55,7 +54,7 @@ impl<'a> Fig<'a> {
         })
     }
 
-    /// Its entries in order; none where it isn't looked into.
+    /// Its entries in order; none if it is not parsed.
     pub fn entries(&self) -> Entries<'a>
         ensures { result ≡ entries_in self.now }
     {
@@ -69,7 +68,7 @@ impl<'a> Fig<'a> {
     }
 }
 
-/// The second byte of a FIG that is looked into, and its extension; None for another one.
+/// The second byte and the extension of a FIG that is parsed; None for any other one.
 fn second_of(bytes: &[u8]) -> Option<(u8, Extension)>
     ensures looked_into { IfSome result (λ x.
         fig_of_bytes bytes.now
@@ -89,7 +88,7 @@ fn second_of(bytes: &[u8]) -> Option<(u8, Extension)>
     Some((second, extension))
 }
 
-/// The bytes of the FIG that comes first, and what follows it; None at the end and at an end marker.
+/// The bytes of the first FIG, and the rest; None at the end and at an end marker.
 fn split_fig(bytes: &[u8]) -> Option<(&[u8], &[u8])>
     ensures { MatchOption result (pieces_of bytes.now ≡ [])
         (λ x. pieces_of bytes.now ≡ x.0.now ∷ pieces_of x.1.now) }
@@ -153,7 +152,7 @@ impl<'a> Figs<'a> {
         Figs { rest: bytes }
     }
 
-    /// The same FIGs, to be gone through once more.
+    /// The same FIGs, for another pass.
     pub fn again(&self) -> Figs<'a>
         ensures { result ≡ self.now }
     {

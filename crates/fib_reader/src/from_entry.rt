@@ -1,4 +1,4 @@
-//! What entries say of a configuration: its sub-channels, services and packet components.
+//! Converts entries into the sub-channels, services and packet components that they describe.
 
 ghost use Rattle.std.specs.Prelude.{◌≡◌, ◌≤◌, IfSome, IfNone, List, length};
 ghost use Rattle.mux_config.specs.Configuration.{IsPlaced, IsService, IsAddressed, AreDifferent, IsComponent};
@@ -17,8 +17,8 @@ use mux_config::{
 };
 use mux_eep::{CAPACITY_UNITS, EepSet, Protection, rate_of};
 
-/// The sub-channel of a profile that the long form says; None where no profile and rate has this option and
-/// size, and where it would end past the last capacity unit.
+/// The sub-channel that an entry in the long form describes; None if no protection profile and rate have this option
+/// and size, or if it would end past the last capacity unit.
 pub fn sub_from_entry(entry: &SubEntry) -> Option<Sub>
     requires { IsSubEntry entry.now }
     ensures member { IfSome result IsPlaced }
@@ -43,7 +43,7 @@ pub fn sub_from_entry(entry: &SubEntry) -> Option<Sub>
     })
 }
 
-/// The packet component that its entry says; None where its address is 0, or a field isn't sent as here.
+/// The packet component that its entry describes; None if its address is 0, or a field that is sent as 0 is set.
 pub fn packet_from_entry(entry: &PacketEntry) -> Option<Packet>
     requires { IsPacketEntry entry.now }
     ensures member { IfSome result IsAddressed }
@@ -72,8 +72,8 @@ pub fn packet_from_entry(entry: &PacketEntry) -> Option<Packet>
     })
 }
 
-/// The component that its entry says, with this P/S flag; None where that is another one, the CA flag is set
-/// or the TMId is none of this profile.
+/// The component that its entry describes, with this P/S flag; None if the entry has the other flag, the CA flag is set
+/// or the TMId is not in this profile.
 fn component_from_entry(primary: bool, entry: &ComponentEntry) -> Option<Component>
     requires { IsComponentEntry entry.now }
     ensures member { IfSome result IsComponent }
@@ -105,8 +105,8 @@ fn component_from_entry(primary: bool, entry: &ComponentEntry) -> Option<Compone
     Some(component)
 }
 
-/// The components that their entries say; None where one says none, or one of a P/S flag that a component at
-/// its index doesn't have, or two have one carrier.
+/// The components that their entries describe; None if one describes none or has a P/S flag that is wrong for its
+/// index, or if two have the same carrier.
 fn components_from_entry(entries: &[ComponentEntry]) -> Option<BoundedVec<Component, 12>>
     requires within { AllByRecursion IsComponentEntry entries.now }
     requires few { length entries.now ≤ 12 }
@@ -129,8 +129,8 @@ fn components_from_entry(entries: &[ComponentEntry]) -> Option<BoundedVec<Compon
     Some(components)
 }
 
-/// The service that its entry says; None where its components say none, or are too many, or a field isn't
-/// sent as here.
+/// The service that its entry describes; None if its components describe none or are too many, or a field that is sent
+/// as 0 is set.
 pub fn service_from_entry(entry: &ServiceEntry) -> Option<Service>
     requires { IsServiceEntry entry.now }
     ensures member { IfSome result IsService }

@@ -8,12 +8,12 @@ use crate::picture::Picture;
 use crate::receiver::Receiver;
 use std::marker::Model;
 
-/// What a receiver believes of the multiplex: two pictures, of the current and of the next configuration,
-/// and when a swap is awaited (EN 300 401 clauses 6.4 and 6.5). Until it has heard a FIG 0/0 it keeps no entry.
+/// A receiver's view of the multiplex: pictures of the current and of the next configuration, and when a swap is
+/// awaited (EN 300 401 clauses 6.4 and 6.5). Until it has heard a FIG 0/0 it keeps no entry.
 #[derive(Drop)]
 pub struct Listener {
     receiver: Receiver,
-    /// FIBs that would say nothing new to it. Most FIBs of a multiplex are repeated many times.
+    /// FIBs with nothing new to it. Most FIBs of a multiplex are repeated many times.
     memory: Memory,
 }
 
@@ -43,7 +43,7 @@ impl Listener {
         }
     }
 
-    /// Whether it has heard a FIG 0/0 yet, and keeps entries.
+    /// Whether it has heard a FIG 0/0 yet, and so keeps entries.
     pub fn is_tuned(&self) -> bool
         ensures { result ≡ self.now.tuned }
     {
@@ -64,22 +64,22 @@ impl Listener {
         self.receiver.next()
     }
 
-    /// The low part of the CIF count at which a swap is awaited; None where none is.
+    /// The low part of the CIF count at which a swap is awaited; None if none is.
     pub fn swap_at(&self) -> Option<u8>
         ensures { result ≡ self.now.awaited }
     {
         self.receiver.swap_at()
     }
 
-    /// Hears one FIB. Its FIGs are taken in order. Those that aren't looked into, and each entry before the first
-    /// FIG 0/0, are passed over. An entry with C/N 0 goes into the current picture, one with C/N 1 into the next
-    /// one, in place of one with the same identifier. At a FIG 0/0 an awaited swap is made where the change flags
-    /// are gone or the low part of the CIF count is the awaited one; and where flags are set, its occurrence
-    /// change is awaited from then on (EN 300 401 clauses 6.4 and 6.5).
+    /// Hears one FIB, FIG by FIG. FIGs that are not parsed, and entries before the first FIG 0/0, are skipped. An entry
+    /// with C/N 0 goes into the current picture, one with C/N 1 into the next one, replacing one with the same
+    /// identifier. At a FIG 0/0 an awaited swap is made if the change flags are cleared or the low part of the CIF
+    /// count is the awaited one; and if flags are set, its occurrence change is awaited from then on (EN 300 401
+    /// clauses 6.4 and 6.5).
     ///
-    /// Nothing changes where the answer is a fault:
-    /// - `Fib`: the 32 bytes are no FIB; see [`check`];
-    /// - `Full`: a 65th service or packet component would have entered a picture.
+    /// On a fault nothing changes:
+    /// - `Fib`: the 32 bytes are not a valid FIB; see [`check`];
+    /// - `Full`: a picture would have received a 65th service or packet component.
     pub fn hear(&mut self, bytes: &[u8; 32]) -> Result<(), ListenFault>
         ensures answer { Hears bytes.now self.old self.new result }
         ensures every { (figs : List Fig) → IsFib bytes.now figs

@@ -1,4 +1,4 @@
-//! Lists of entries as the members of a configuration that they say.
+//! Converts lists of entries into sets of members of a configuration.
 
 ghost use Rattle.std.specs.Prelude.{◌≡◌, ◌≤◌, IfSome, IfNone, List, map, length};
 ghost use Rattle.mux_config.specs.Configuration.{IsAscending};
@@ -10,7 +10,7 @@ use crate::from_entry::{packet_from_entry, service_from_entry, sub_from_entry};
 use crate::owned_entry::OwnedEntry;
 use mux_config::{Entry, Keyed, Packet, Service, SortedTable, Sub};
 
-/// A member of a configuration that an entry can say: a sub-channel, a service or a packet component.
+/// A member of a configuration that an entry can describe: a sub-channel, a service or a packet component.
 pub(crate) trait FromEntry: Keyed {
     ghost use Rattle.std.specs.Prelude.{◌≡◌, IfSome, IfNone};
     ghost use Rattle.mux_entries.specs.declared.entry.Entry.{Entry};
@@ -18,21 +18,21 @@ pub(crate) trait FromEntry: Keyed {
     ghost use Rattle.fib_reader.specs.Raw.{raw_entry};
     ghost use Rattle.fib_reader.specs.Listening.{identifier_of};
 
-    /// The entry that says it.
+    /// The entry that describes it.
     ghost entry_of: { Self → Entry };
 
-    /// It may be in a configuration.
+    /// It may be a member of a configuration.
     ghost is_member: { Self → Type 0 };
 
-    /// The member that an entry says; None where it says none.
+    /// The member that an entry describes; None if it describes none.
     fn from_entry(entry: &Entry) -> Option<Self>
         requires { IsWithin entry.now }
         ensures member { IfSome result is_member }
         ensures value { IfSome result (λ x. entry_of x ≡ entry.now) }
         ensures none { IfNone result ((x : Self) → is_member x → entry_of x ≡ entry.now → ⊥) };
 
-    /// What holds of every member's entry: its fields are within their bits, and it has the member's key as its
-    /// identifier. The function does nothing; its contract is the law.
+    /// The law of every member's entry: its fields are within their bits, and its identifier is the member's key. The
+    /// function does nothing; its contract is the law.
     fn laws()
         ensures within { (x : Self) → is_member x → IsWithin (entry_of x) }
         ensures identified { (x : Self) → is_member x
@@ -93,7 +93,7 @@ impl FromEntry for Packet {
     fn laws() {}
 }
 
-/// The set of members that entries say, which are in ascending order; None where one of them says none.
+/// The set of members that entries in ascending order describe; None if one of them describes none.
 pub(crate) fn members<T: FromEntry>(kept: &[OwnedEntry]) -> Option<SortedTable<T, 64>>
     requires ascending { IsAscending identifier_of kept.now }
     requires few { length kept.now ≤ 64 }
@@ -106,7 +106,7 @@ pub(crate) fn members<T: FromEntry>(kept: &[OwnedEntry]) -> Option<SortedTable<T
     T::laws();
     let mut table = SortedTable::new();
     for entry in kept {
-        let Some(member) = T::from_entry(&entry.lent().value()) else {
+        let Some(member) = T::from_entry(&entry.as_raw_entry().value()) else {
             return None;
         };
         table.append(member);

@@ -1,19 +1,19 @@
-//! FIBs that said nothing new, kept so that they are recognised when they are repeated.
+//! Remembers FIBs that contained nothing new, to recognise their repetitions.
 
 ghost use Rattle.std.specs.Prelude.{◌<◌};
 
 use crate::basis::Basis;
 
-/// How many FIBs are remembered at most.
+/// The number of slots for FIBs.
 const FIBS: usize = 1024;
 
-/// FIBs that said nothing new to a receiver, each in the slot that its CRC selects, where a later one replaces it.
+/// FIBs that contained nothing new to a receiver, each in the slot selected by its CRC, where a later one replaces it.
 #[derive(Drop)]
 pub(crate) struct Memory {
     fibs: [[u8; 32]; FIBS],
-    /// Those whose basis is the current picture alone.
+    /// Which of them have the current picture alone as their basis.
     of_current: [bool; FIBS],
-    /// Those whose basis is both pictures.
+    /// Which of them have both pictures as their basis.
     of_pictures: [bool; FIBS],
 }
 
@@ -23,14 +23,14 @@ impl Memory {
     ghost use Rattle.fib_reader.specs.declared.basis.Basis.TheVariants.{Current};
     ghost use Rattle.fib_reader.specs.Remembering.{Remembers};
 
-    /// No FIB is remembered.
+    /// A memory of no FIB.
     pub(crate) fn new() -> Memory
         ensures { (bytes : List ℕ) (basis : Basis) → Remembers result bytes basis → ⊥ }
     {
         Memory::of([[0; 32]; FIBS])
     }
 
-    /// Room for FIBs, of which none is remembered.
+    /// Slots for FIBs, none of which is remembered.
     fn of(fibs: [[u8; 32]; FIBS]) -> Memory
         ensures { (bytes : List ℕ) (basis : Basis) → Remembers result bytes basis → ⊥ }
     {
@@ -56,7 +56,8 @@ impl Memory {
         self.of_pictures[slot]
     }
 
-    /// Remembers a FIB of this basis in its slot, over the one that was there; not one whose basis is all.
+    /// Remembers a FIB with this basis in its slot, replacing the one there; a FIB whose basis is `All` is not
+    /// remembered.
     pub(crate) fn keep(&mut self, bytes: &[u8; 32], basis: Basis)
         ensures { (other : List ℕ) (of : Basis) → Remembers self.new other of
             → Remembers self.old other of ⊎ ((other ≡ bytes.now) × (of ≡ basis)) }
@@ -70,7 +71,7 @@ impl Memory {
         self.of_pictures[slot] = basis == Basis::Pictures;
     }
 
-    /// Forgets the FIBs whose basis has what was heard of the next configuration.
+    /// Forgets the FIBs whose basis includes the next picture.
     pub(crate) fn forget_next(&mut self)
         ensures { (bytes : List ℕ) (basis : Basis) → Remembers self.new bytes basis
             → Remembers self.old bytes basis × (basis ≡ Current) }
@@ -78,7 +79,7 @@ impl Memory {
         self.of_pictures = [false; FIBS];
     }
 
-    /// Forgets all.
+    /// Forgets all FIBs.
     pub(crate) fn forget(&mut self)
         ensures { (bytes : List ℕ) (basis : Basis) → Remembers self.new bytes basis → ⊥ }
     {

@@ -1,4 +1,4 @@
-//! An entry with bytes of its own, as a picture keeps it.
+//! An entry that owns its bytes, as a picture keeps it.
 
 ghost use Rattle.std.specs.Prelude.{◌≡◌, ◌↔◌, IsTrue};
 
@@ -7,11 +7,11 @@ use fib_codec::Extension;
 use mux_config::Keyed;
 use std::marker::Model;
 
-/// The longest entry there can be: a service with an SId of 32 bits and 15 components.
+/// The length of the longest entry: a service with an SId of 32 bits and 15 components.
 const LONGEST: usize = 35;
 
-/// An entry with bytes of its own, and with its identifier, by which it is looked up. Contracts see it as the
-/// entry that is sent.
+/// An entry that owns its bytes, with the identifier by which it is looked up. Contracts see it as the entry that is
+/// sent.
 #[derive(Drop)]
 pub struct OwnedEntry {
     identifier: u64,
@@ -54,7 +54,7 @@ impl OwnedEntry {
         }
     }
 
-    /// Whether it is this entry.
+    /// Whether it equals this entry.
     pub fn is(&self, entry: &RawEntry<'_>) -> bool
         ensures { IsTrue result ↔ (self.now ≡ entry.now) }
     {
@@ -68,8 +68,8 @@ impl OwnedEntry {
         &self.bytes[..usize::from(self.len)] == given
     }
 
-    /// The entry, lent.
-    pub fn lent(&self) -> RawEntry<'_>
+    /// The entry, borrowed.
+    pub fn as_raw_entry(&self) -> RawEntry<'_>
         ensures { result ≡ self.now }
     {
         RawEntry::of(

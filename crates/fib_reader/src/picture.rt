@@ -38,7 +38,7 @@ impl Picture {
     ghost use Rattle.fib_reader.specs.Picture.{AreInOrder, IsKept, Shows};
     ghost use Rattle.fib_reader.specs.Forecast.{HasGrownBy};
 
-    /// The picture of nothing.
+    /// The empty picture.
     pub(crate) fn new() -> Self
         ensures { result ≡ blank }
     {
@@ -58,8 +58,7 @@ impl Picture {
         self.packets.copy_from(&other.packets);
     }
 
-    /// Takes in an entry of FIG 0/1 to 0/3, where there is room for it. The answer is whether there was;
-    /// where there was none, nothing changes.
+    /// Takes in an entry of FIG 0/1 to 0/3 if there is room for it. Returns whether there was; if not, nothing changes.
     #[inline(always)]
     pub(crate) fn take_in(&mut self, entry: &RawEntry<'_>) -> bool
         requires { entry.now.ext ≢ 0 }
@@ -76,7 +75,7 @@ impl Picture {
         }
     }
 
-    /// Whether this very entry of FIG 0/1 to 0/3 is in it, so that nothing changes where it is taken in again.
+    /// Whether it has this very entry of FIG 0/1 to 0/3, so that taking it in again changes nothing.
     #[inline(always)]
     pub(crate) fn has(&self, entry: &RawEntry<'_>) -> bool
         requires { entry.now.ext ≢ 0 }
@@ -90,9 +89,9 @@ impl Picture {
         }
     }
 
-    /// How many members of its kind are new where an entry of FIG 0/1 to 0/3 is taken in after others, of which so
-    /// many were new; None where there may be no room for it. Of sub-channels there are never too many, so they
-    /// are not counted.
+    /// The number of new members of a kind after this entry of FIG 0/1 to 0/3 is taken in too, if at most `others` of
+    /// those taken in before were new; None if there may be no room for it. There are never too many sub-channels, so
+    /// they are not counted.
     pub(crate) fn new_members(&self, others: usize, entry: &RawEntry<'_>) -> Option<usize>
         requires { entry.now.ext ≢ 0 }
         ensures { IfSome result (λ all. (p : Pictured) → HasGrownBy others self.now p
@@ -107,9 +106,9 @@ impl Picture {
         }
     }
 
-    /// The configuration that it shows: Some where its entries are exactly those of one configuration of this
-    /// profile. So it is None where a sub-channel is in the short form, has an option above 1 or a size that no
-    /// rate has, where a field that is sent as 0 is set, or a component is of another TMId.
+    /// The configuration that it shows: Some if its entries are exactly those of one configuration of this profile. So
+    /// it is None if a sub-channel is in the short form, has an option above 1 or a size that no rate has, if a field
+    /// that is sent as 0 is set, or a component has another TMId.
     pub fn config(&self) -> Option<Config>
         ensures configuration { IfSome result IsConfiguration }
         ensures shown { IfSome result (Shows self.now) }
@@ -174,14 +173,14 @@ impl<'a> Iterator for PictureEntries<'a> {
     fn next(&mut self) -> Option<RawEntry<'a>> {
         if let Some((first, rest)) = self.subs.split_first() {
             self.subs = rest;
-            return Some(first.lent());
+            return Some(first.as_raw_entry());
         }
         if let Some((first, rest)) = self.services.split_first() {
             self.services = rest;
-            return Some(first.lent());
+            return Some(first.as_raw_entry());
         }
         let (first, rest) = self.packets.split_first()?;
         self.packets = rest;
-        Some(first.lent())
+        Some(first.as_raw_entry())
     }
 }

@@ -1,4 +1,4 @@
-//! What a receiver believes of the multiplex configuration.
+//! A receiver's view of the multiplex configuration.
 
 use crate::basis::Basis;
 use crate::entries::{Entries, RawEntry};
@@ -8,8 +8,8 @@ use mux_config::Ensemble;
 use std::marker::Model;
 use std::mem;
 
-/// What a receiver believes of the multiplex: two pictures, of the current and of the next configuration,
-/// and when a swap is awaited (EN 300 401 clauses 6.4 and 6.5). Until it has heard a FIG 0/0 it keeps no entry.
+/// A receiver's view of the multiplex: pictures of the current and of the next configuration, and when a swap is
+/// awaited (EN 300 401 clauses 6.4 and 6.5). Until it has heard a FIG 0/0 it keeps no entry.
 #[derive(Drop)]
 pub(crate) struct Receiver {
     tuned: bool,
@@ -46,7 +46,7 @@ impl Receiver {
         }
     }
 
-    /// Whether it has heard a FIG 0/0 yet, and keeps entries.
+    /// Whether it has heard a FIG 0/0 yet, and so keeps entries.
     pub(crate) fn is_tuned(&self) -> bool
         ensures { result ≡ self.now.tuned }
     {
@@ -67,7 +67,7 @@ impl Receiver {
         &self.next
     }
 
-    /// The low part of the CIF count at which a swap is awaited; None where none is.
+    /// The low part of the CIF count at which a swap is awaited; None if none is.
     pub(crate) fn swap_at(&self) -> Option<u8>
         ensures { result ≡ self.now.awaited }
     {
@@ -75,7 +75,7 @@ impl Receiver {
     }
 
     /// Makes the next picture the current one, and empties the next one.
-    // (rare, and it needs much of the stack)
+    // (rare, and needs a lot of stack)
     #[inline(never)]
     fn swap(&mut self)
         ensures { self.new ≡ swapped self.old }
@@ -85,7 +85,7 @@ impl Receiver {
         self.awaited = None;
     }
 
-    /// Takes note of ensemble information.
+    /// Applies a FIG 0/0.
     fn hear_ensemble(&mut self, ensemble: &Ensemble)
         ensures { self.new ≡ at_ensemble ensemble.now self.old }
     {
@@ -100,7 +100,7 @@ impl Receiver {
         self.tuned = true;
     }
 
-    /// Takes note of one entry; false where the picture has no room for it, and then nothing changes.
+    /// Applies one entry; false if the picture has no room for it, and then nothing changes.
     fn hear_entry(&mut self, next: bool, entry: &RawEntry<'_>) -> bool
         ensures heard { result ≡ true → hear_entry next entry.now self.old ≡ Some self.new }
         ensures full { result ≡ false → hear_entry next entry.now self.old ≡ None }
@@ -119,7 +119,7 @@ impl Receiver {
         }
     }
 
-    /// Takes note of the entries of one FIG; false where a picture has no room for one of them.
+    /// Applies the entries of one FIG; false if a picture has no room for one of them.
     fn hear_entries(&mut self, next: bool, mut entries: Entries<'_>) -> bool
         ensures heard { result ≡ true → hear_entries next entries.entry self.old ≡ Some self.new }
         ensures full { result ≡ false → hear_entries next entries.entry self.old ≡ None }
@@ -132,7 +132,7 @@ impl Receiver {
         true
     }
 
-    /// Takes note of FIGs in order; false where a picture has no room for an entry of them.
+    /// Applies FIGs in order; false if a picture has no room for one of their entries.
     fn hear_figs(&mut self, mut figs: Figs<'_>) -> bool
         ensures heard { result ≡ true → hear_figs figs.entry self.old ≡ Some self.new }
         ensures full { result ≡ false → hear_figs figs.entry self.old ≡ None }
@@ -147,7 +147,7 @@ impl Receiver {
         true
     }
 
-    /// Whether it knows this ensemble information, so that nothing changes where it is heard.
+    /// Whether it knows this ensemble information, so that hearing it changes nothing.
     fn knows_ensemble(&self, ensemble: &Ensemble) -> bool
         ensures { result ≡ true → IsKnownTo self.now ensemble.now }
     {
@@ -164,7 +164,7 @@ impl Receiver {
         }
     }
 
-    /// Whether it knows this entry, so that nothing changes where it is heard.
+    /// Whether it knows this entry, so that hearing it changes nothing.
     fn knows_entry(&self, next: bool, entry: &RawEntry<'_>) -> bool
         ensures { result ≡ true → hear_entry next entry.now self.now ≡ Some self.now }
     {
@@ -181,7 +181,7 @@ impl Receiver {
         }
     }
 
-    /// Whether it knows the entries of one FIG, so that nothing changes where they are heard.
+    /// Whether it knows the entries of one FIG, so that hearing them changes nothing.
     fn knows_entries(&self, next: bool, mut entries: Entries<'_>) -> bool
         ensures { result ≡ true → AllByRecursion
             (λ raw. hear_entry next raw self.now ≡ Some self.now) entries.entry }
@@ -194,8 +194,7 @@ impl Receiver {
         true
     }
 
-    /// What its knowledge of all that FIGs say rests on, where it knows it, so that nothing changes where they are
-    /// heard; None where it may not know it.
+    /// The basis of FIGs that it knows, so that hearing them changes nothing; None if it may not know them.
     pub(crate) fn knows(&self, mut figs: Figs<'_>) -> Option<Basis>
         ensures { IfSome result (λ basis. IsKnownBy basis self.now (hear_figs figs.entry)) }
     {
@@ -211,8 +210,8 @@ impl Receiver {
         Some(basis)
     }
 
-    /// How many members would be new where this entry is heard after others, of which this many were new; None where
-    /// there may be no room for it, and at ensemble information that it does not know.
+    /// The number of new members after this entry is heard too, if at most `others` of those heard before were new;
+    /// None if there may be no room for it, and for ensemble information that it does not know.
     fn new_at_entry(&self, next: bool, others: usize, entry: &RawEntry<'_>) -> Option<usize>
         ensures { IfSome result (λ all.
             LeavesRoom self.now others all (hear_entry next entry.now)) }
@@ -246,8 +245,8 @@ impl Receiver {
         Some(new)
     }
 
-    /// Whether there is room for all that FIGs say. Of two new members of different kinds the first counts for the
-    /// second, and there is none certain at ensemble information that it does not know.
+    /// Whether there is certainly room for all entries of FIGs. New members of all kinds are counted together, and
+    /// ensemble information that it does not know counts as no room.
     fn has_room(&self, mut figs: Figs<'_>) -> bool
         ensures { result ≡ true → hear_figs figs.entry self.now ≡ None → ⊥ }
     {
@@ -263,8 +262,7 @@ impl Receiver {
         true
     }
 
-    /// Takes note of FIGs in order, on a copy, so that nothing changes where a picture becomes full. The answer
-    /// is false then.
+    /// Applies FIGs in order to a copy, so that nothing changes if a picture becomes full; then the result is false.
     #[inline(never)]
     fn hear_aside(&mut self, figs: Figs<'_>) -> bool
         ensures heard { result ≡ true → hear_figs figs.entry self.old ≡ Some self.new }
@@ -280,7 +278,7 @@ impl Receiver {
         true
     }
 
-    /// Becomes a copy of another listener.
+    /// Becomes a copy of another receiver.
     fn copy_from(&mut self, other: &Self)
         ensures { self.new ≡ other.now }
     {
@@ -290,8 +288,7 @@ impl Receiver {
         self.awaited = other.awaited;
     }
 
-    /// Takes note of FIGs in order; false where a picture has no room for an entry of them, and then nothing
-    /// changes.
+    /// Applies FIGs in order; false if a picture has no room for one of their entries, and then nothing changes.
     pub(crate) fn hear_all(&mut self, figs: Figs<'_>) -> bool
         ensures heard { result ≡ true → hear_figs figs.entry self.old ≡ Some self.new }
         ensures full { result ≡ false → hear_figs figs.entry self.old ≡ None }

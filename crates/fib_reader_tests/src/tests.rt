@@ -1,13 +1,12 @@
 //! What no command shows of FIBs: where a fault is.
 //!
-//! A call with a long contract stands in a small function without one, so that no test's proof
-//! carries it.
+//! A call with a long contract is in a small function without one, so that no test's proof carries it.
 
 use fib_codec::crc16;
 
 mod places;
 
-/// These data bytes, which zeros follow up to the thirtieth.
+/// These data bytes, padded with zeros to thirty.
 fn filled_of(data: &[u8]) -> [u8; 30] {
     let mut filled = [0u8; 30];
     let mut rest = data.iter();
@@ -24,7 +23,7 @@ fn crc_of(filled: &[u8; 30]) -> [u8; 2] {
     crc16(filled).to_be_bytes()
 }
 
-/// The FIB of these data bytes, which zeros follow up to the thirtieth, with its CRC.
+/// The FIB with these data bytes, padded with zeros to thirty, and its CRC.
 fn fib_of(data: &[u8]) -> [u8; 32] {
     let filled = filled_of(data);
     let crc = crc_of(&filled);

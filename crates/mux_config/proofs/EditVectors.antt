@@ -1,4 +1,4 @@
--- Edits, soundness and change computed by the checker from the definitions.
+-- Examples of edits, soundness and change, computed by the checker from the definitions.
 use Rattle.std.proofs.Common.{◌≡◌, ℕ, false, List, [], ◌∷◌, map, Ok, Err, Some, None, refl}
 use Rattle.std.specs.List.{range_with_len}
 use Rattle.mux_eep.specs.declared.sizes.EepSet.TheVariants.{A}
@@ -55,7 +55,7 @@ sub-rated = refl
 service-added : edited (AddService (LongSid 0)) one_programme ≡ Ok (record one_programme { services = service 49697 (Sound 63 1 ∷ []) ∷ record { sid = LongSid 0; components = [] } ∷ [] })
 service-added = refl
 
--- the 32-bit SId of the same number is another one
+-- the 32-bit SId with the same number is another one
 service-absent : edited (DropService (LongSid 49697)) one_programme ≡ Err IdAbsent
 service-absent = refl
 

@@ -8,17 +8,17 @@ use Rattle.mux_types.specs.declared.parts.Packet.{Packet}
 use Rattle.mux_entries.specs.declared.entry.Entry.{Entry}
 use Rattle.mux_types.specs.Configuration.{Configuration, IsConfiguration, IsPlaced, sub_key, service_key, packet_key}
 use Rattle.std.specs.List.{AllByRecursion}
-use Rattle.mux_entries.specs.Facts.{Marked, marked, sub_entry, service_entry, packet_entry, sub_entries, service_entries, HaveSameMembers, FactSetsTell}
+use Rattle.mux_entries.specs.Facts.{Marked, marked, sub_entry, service_entry, packet_entry, sub_entries, service_entries, HaveSameMembers, FactSetsIdentify}
 use Rattle.mux_types.proofs.Elements.{each_contains}
 use Rattle.mux_types.proofs.Members.{one_list, mapped_to, mapped_from}
-use Rattle.mux_config.proofs.Telling.{is_sub, is_service, each_holds, each_map, each_join, sub_told, service_told, packet_told}
+use Rattle.mux_config.proofs.Distinguishing.{is_sub, is_service, each_holds, each_map, each_join, sub_told, service_told, packet_told}
 
 -- ---- sets
 
 pub same_members : {T : Type 0} {xs ys : List T} → xs ≡ ys → HaveSameMembers xs ys
 same_members e = λ x. (λ h. subst (λ zs. Contains zs x) e h, λ h. subst (λ zs. Contains zs x) (sym e) h)
 
--- where what is made of members tells them apart, a member is found among others by it
+-- if the images of members distinguish them, a member is found among others by its image
 member_told : {T U : Type 0} (f : T → U) (P : T → Type 0) → ((a b : T) → P a → P b → f a ≡ f b → a ≡ b) → (xs ys : List T) → AllByRecursion P xs → AllByRecursion P ys → ((z : U) → Contains (map f xs) z → Contains (map f ys) z) → (x : T) → Contains xs x → Contains ys x
 member_told f P told xs ys h k inside x there =
     let found = mapped_to f ys (f x) (inside (f x) (mapped_from f xs x there)) in
@@ -27,7 +27,7 @@ member_told f P told xs ys h k inside x there =
 members_told : {T U : Type 0} (f : T → U) (P : T → Type 0) → ((a b : T) → P a → P b → f a ≡ f b → a ≡ b) → (xs ys : List T) → AllByRecursion P xs → AllByRecursion P ys → HaveSameMembers (map f xs) (map f ys) → HaveSameMembers xs ys
 members_told f P told xs ys h k same = λ x. (member_told f P told xs ys h k (λ z. (same z).0) x, member_told f P told ys xs k h (λ z. (same z).1) x)
 
--- where a test holds of each member of the first part and of none of the second, the parts of a set are known
+-- if a test is true for each member of the first part and for none of the second, the parts of a set are determined
 first_inside : {T : Type 0} (test : T → Bool) (xs rs ys ts : List T) → AllByRecursion (λ x. test x ≡ true) xs → AllByRecursion (λ x. test x ≡ false) ts → ((z : T) → Contains (xs ++ rs) z → Contains (ys ++ ts) z) → (z : T) → Contains xs z → Contains ys z
 first_inside test xs rs ys ts h k inside z there =
     elim (Contains-append_cases ys ts z (inside z (Contains-append_left xs rs z there))) [
@@ -78,7 +78,7 @@ services_second c =
     each_join (λ x. is_sub x ≡ false) (map service_entry c.services) (map packet_entry c.packets)
     (each_map service_entry (λ x. is_sub x ≡ false) (λ s. refl) c.services) (each_map packet_entry (λ x. is_sub x ≡ false) (λ p. refl) c.packets)
 
-pub fact_sets_tell : OneRate → FactSetsTell
+pub fact_sets_tell : OneRate → FactSetsIdentify
 fact_sets_tell rates c d next h k same =
     let plain = members_told (marked next) (λ (x : Entry). Unit {0}) (λ x y _ _ e. ap (λ (m : Marked). m.entry) e)
     (sub_entries c ++ service_entries c) (sub_entries d ++ service_entries d) (each_holds _) (each_holds _) same in

@@ -1,4 +1,4 @@
--- The fault that soundness names is the first condition that fails.
+-- The fault that soundness reports is the first condition that fails.
 use Rattle.std.proofs.Common.{◌≡◌, ℕ, ◌<◌, ◌≤◌, Bool, true, false, cond, List, [], ◌∷◌, Contains, Option, Some, None, Err, refl, sym, ap, ◌∙◌, subst, ◌⊎◌, inl, inr, arith}
 use Rattle.std.specs.List.{list_any, AllByRecursion}
 use Rattle.std.proofs.lemmas.Bool.{false≢true}
@@ -7,13 +7,13 @@ use Rattle.mux_config.specs.declared.fault.ConfigFault.{ConfigFault}
 use Rattle.mux_config.specs.declared.fault.ConfigFault.TheVariants.{Overlap, Orphan, AddressUsed, EmptyService}
 use Rattle.mux_types.specs.Configuration.{Configuration, IsConfiguration, IsAscending, IsPlaced, sub_key}
 use Rattle.mux_config.specs.Sound.{IsUnitOf, IsSound, overlaps, overlap_with, first_of_two, first_overlap, has_orphan, has_address_twice, is_empty_service, other_fault, first_fault, sound_unless, sound_or_fault}
-use Rattle.mux_config.specs.SoundFaults.{AreApart, AreCarried, AreAddressed, IsFirstOverlap, IsFault, FaultsTell}
+use Rattle.mux_config.specs.SoundFaults.{AreApart, AreCarried, AreAddressed, IsFirstOverlap, IsFault, FaultIsUnique}
 use Rattle.mux_types.proofs.Elements.{contains_cases, contains_first, contains_later, each_contains}
 use Rattle.mux_config.proofs.Sounding.{apart_told, with_told, overlaps_told, overlaps_found, orphans_told, orphans_found, twice_told, twice_none, filled_found, sound_told}
 
 -- ---- the first two that share a capacity unit
 
--- the same of any list of sub-channels
+-- the same for any list of sub-channels
 record IsFirstIn (xs : List Sub) (i j : ℕ) : Type 0 where
   first : Sub
   second : Sub
@@ -27,7 +27,7 @@ record IsFirstIn (xs : List Sub) (i j : ℕ) : Type 0 where
   of_second : IsUnitOf second unit
   least : (s t : Sub) (shared : ℕ) → Contains xs s → Contains xs t → IsUnitOf s shared → IsUnitOf t shared → s.id < t.id → (i < s.id) ⊎ ((i ≡ s.id) × (j ≤ t.id))
 
--- the first of them with which a shares one
+-- the first of them with which `a` shares one
 record IsFirstWith (a : Sub) (bs : List Sub) (fault : ConfigFault) : Type 0 where
   other : Sub
   there : Contains bs other
@@ -69,7 +69,7 @@ with_first a (b ∷ bs) fault order e = with_first_by a b bs fault (overlaps a b
 abbrev IsPair : List Sub → ConfigFault → Type 0
 IsPair xs fault = (i j : ℕ) × (fault ≡ Overlap i j) × IsFirstIn xs i j
 
--- the first of all shares one
+-- the first sub-channel shares one
 pair_here : (a : Sub) (bs : List Sub) (fault : ConfigFault) → IsAscending sub_key (a ∷ bs) → AllByRecursion IsPlaced (a ∷ bs) → IsFirstWith a bs fault → IsPair (a ∷ bs) fault
 pair_here a bs fault order placed w =
     let shared = overlaps_told a w.other placed.0 (each_contains IsPlaced bs w.other placed.1 w.there) w.shares in
@@ -100,7 +100,7 @@ pair_here a bs fault order placed w =
       },
     )
 
--- the first of all shares none
+-- the first sub-channel shares none
 pair_later : (a : Sub) (bs : List Sub) (fault : ConfigFault) → IsAscending sub_key (a ∷ bs) → overlap_with a bs ≡ None → IsPair bs fault → IsPair (a ∷ bs) fault
 pair_later a bs fault order none pair =
     let rest = pair.3 in
@@ -142,7 +142,7 @@ pair_told : (xs : List Sub) (fault : ConfigFault) → IsAscending sub_key xs →
 pair_told [] fault order placed e = absurd (cc)
 pair_told (a ∷ bs) fault order placed e = pair_by a bs fault order placed (overlap_with a bs) refl e (pair_told bs fault order.1 placed.1)
 
--- ---- the fault that is told
+-- ---- the fault that is reported
 
 overlap_is : (c : Configuration) (fault : ConfigFault) → IsPair c.subs fault → IsFault c fault
 overlap_is c fault pair =
@@ -247,5 +247,5 @@ answer_by c fault config h (Some x) is =
     let same : x ≡ fault = one_fault c x fault told h in
     ap Err same
 
-pub faults_tell : FaultsTell
+pub faults_tell : FaultIsUnique
 faults_tell c fault config = (fault_told c fault config, λ h. answer_by c fault config h (first_fault c) refl)

@@ -1,4 +1,4 @@
--- An edit without a fault keeps a configuration one.
+-- An edit of a configuration without a fault results in a configuration.
 use Rattle.std.proofs.Common.{◌≡◌, ◌≢◌, ℕ, zero, suc, ◌+◌, ◌%◌, ◌<◌, ◌≤◌, ◌==◌, Bool, true, false, not, cond, ◌||◌, ltb, leb, List, [], ◌∷◌, ◌++◌, length, Option, Some, None, Ok, Err, refl, sym, ap, ◌∙◌, subst, inl, inr, arith, length-append, slice_get, is_some}
 use Rattle.std.specs.Option.{option_map}
 use Rattle.std.specs.Result.{is_err}
@@ -29,7 +29,7 @@ use Rattle.mux_types.proofs.Tables.{each_weaker, each_pushed, each_with, each_wi
 some_none : {T : Type 0} {P : Type 0} (x : T) → Some x ≡ None → P
 some_none x e = absurd (cc)
 
--- no fault: the test fails, and there is none after it
+-- no fault: the test is false, and there is none after it
 pub passed : (t : Bool) (fault : EditFault) (rest : Option EditFault) → cond t (Some fault) rest ≡ None → (t ≡ false) × (rest ≡ None)
 passed true fault rest e = some_none fault e
 passed false fault rest e = (refl, e)
@@ -42,7 +42,7 @@ decided : (t : Bool) → (t ≡ true → ⊥) → t ≡ false
 decided true h = absurd (h refl)
 decided false h = refl
 
--- ---- the member of a key
+-- ---- the member with a key
 
 absent_by : {T : Type 0} (key : T → ℕ) (k : ℕ) (x : T) (xs : List T) (t : Bool) → (t || has_entry key k xs) ≡ false → (has_entry key k xs ≡ false → entry_at key k xs ≡ None) → cond t (Some x) (entry_at key k xs) ≡ None
 absent_by key k x xs true e rest = absurd (false≢true (sym e))
@@ -56,7 +56,7 @@ same_by : {T : Type 0} (key : T → ℕ) (k : ℕ) (x : T) (xs : List T) (t : Bo
 same_by key k x xs true o is rest e = (x, sym is)
 same_by key k x xs false o is rest e = let found = rest e in (found.0, sym is ∙ found.1)
 
--- a set has a member of a key exactly where one is found
+-- a set has a member with a key exactly if one is found
 pub entry_found : {T : Type 0} (key : T → ℕ) (k : ℕ) (xs : List T) → has_entry key k xs ≡ true → (x : T) × (entry_at key k xs ≡ Some x)
 entry_found key k [] e = absurd (false≢true e)
 entry_found key k (x ∷ xs) e = same_by key k x xs (key x == k) (entry_at key k (x ∷ xs)) refl (entry_found key k xs) e
@@ -75,12 +75,12 @@ present key k xs x e = present_by (has_entry key k xs) (λ none. let wrong : Som
 pub absent_found : {T : Type 0} (key : T → ℕ) (k : ℕ) (xs : List T) → entry_at key k xs ≡ None → has_entry key k xs ≡ false
 absent_found key k xs e = absent_found_by (has_entry key k xs) (λ some. let found = entry_found key k xs some in let wrong : Some found.0 ≡ None = sym found.1 ∙ e in some_none found.0 wrong)
 
--- a look-up finds a member exactly where the set has its key
+-- a look-up finds a member exactly if the set has its key
 pub is_found : {T : Type 0} (key : T → ℕ) (k : ℕ) (xs : List T) (o : Option T) → o ≡ entry_at key k xs → is_some o ≡ has_entry key k xs
 is_found key k xs None e = sym (absent_found key k xs (sym e))
 is_found key k xs (Some x) e = sym (present key k xs x (sym e))
 
--- and so does one that lends it
+-- and so does one that borrows it
 pub is_found_lent : {R T : Type 0} (now : R → T) (key : T → ℕ) (k : ℕ) (xs : List T) (o : Option R) → option_map now o ≡ entry_at key k xs → is_some o ≡ has_entry key k xs
 is_found_lent now key k xs None e = sym (absent_found key k xs (sym e))
 is_found_lent now key k xs (Some r) e = sym (present key k xs (now r) (sym e))
@@ -111,7 +111,7 @@ unchanged key k change y (x ∷ xs) same above =
     let tail = unchanged key k change y xs same above.1 in
     rw (one, two) (ap (λ zs. x ∷ zs) tail)
 
--- the changed member in place of the one of its key
+-- the changed member in place of the one with its key
 pub changed_here : {T : Type 0} (key : T → ℕ) (k : ℕ) (change : T → T) (xs : List T) (x : T) → IsAscending key xs → entry_at key k xs ≡ Some x → key (change x) ≡ k → with_entry_changed key (change x) xs ≡ changed_at key k change xs
 changed_here key k change [] x up e same = some_none x (sym e)
 changed_here key k change (y ∷ ys) x up e same =
@@ -158,7 +158,7 @@ pub each_filtered : {T : Type 0} (P : T → Type 0) (test : T → Bool) (xs : Li
 each_filtered P test [] h = tt
 each_filtered P test (x ∷ xs) h = kept_by P test x xs (test x) h.0 (each_filtered P test xs h.1)
 
--- keys that ascend from one number to below another are no more than the numbers between
+-- ascending keys in a range are at most as many as its numbers
 bounded : {T : Type 0} (key : T → ℕ) (xs : List T) (low high : ℕ) → IsAscending key xs → AllByRecursion (λ x. low ≤ key x) xs → AllByRecursion (λ x. key x < high) xs → low ≤ high → low + length xs ≤ high
 bounded key [] low high up from to le = omega arith
 bounded key (x ∷ xs) low high up from to le =
@@ -281,7 +281,7 @@ placed s named from to e =
 each_named : (xs : List Sub) → AllByRecursion IsPlaced xs → AllByRecursion (λ s. sub_key s < 64) xs
 each_named xs h = each_weaker IsPlaced (λ s. sub_key s < 64) (λ s k. k.named) xs h
 
--- an identifier that is free leaves room for a sub-channel
+-- if an identifier is free, there is room for a sub-channel
 pub sub_room : (c : Configuration) (s : Sub) → IsConfiguration c → s.id < 64 → entry_at sub_key s.id c.subs ≡ None → length c.subs < 64
 sub_room c s h named absent =
     let more = with_entry sub_key s c.subs in
@@ -290,7 +290,7 @@ sub_room c s h named absent =
     let count = bounded sub_key more 0 64 up (each_any sub_key more) within (omega arith) in
     omega (arith, count, length_with sub_key s c.subs)
 
--- what an insertion asks
+-- what an insertion requires
 pub add_sub_fits : (s : Sub) (c : Configuration) → s.id < 64 → IsConfiguration c → add_sub_fault s c ≡ None → (entry_at sub_key s.id c.subs ≡ None) × (length c.subs < 64)
 add_sub_fits s c named h e =
     let parts = passed (has_entry sub_key s.id c.subs) IdUsed (placing_fault s) e in
@@ -399,7 +399,7 @@ shrunk carrier s h = record {
   few = let shorter = length_filtered (λ m. not (names carrier m)) s.components in omega (arith, shorter, h.few);
 }
 
--- a service that takes one more component has room for it
+-- a service that accepts one more component has room for it
 pub component_fits : (m : Component) (s : Service) → IsComponent m → IsService s → component_fault m s ≡ None → (length s.components < component_limit s.sid) × IsService (with_component m s)
 component_fits m s within h e =
     let one = passed (list_any (names (carrier_of m)) s.components) IdUsed (cond (leb (component_limit s.sid) (length s.components)) (Some TooManyComponents) None) e in
@@ -423,7 +423,7 @@ drop_component_keeps sid carrier c h e =
     services_keep c (changed_at service_key (sid_key sid) (without_carrier carrier) c.services) h
     (set_changed IsService service_key (sid_key sid) (without_carrier carrier) c.services s (services_set c h) found.1 (entry_key service_key (sid_key sid) c.services s found.1) (shrunk carrier s was))
 
--- a carrier told from another by the test
+-- carriers that the test finds the same are equal
 pub carrier_same : (a b : Carrier) → is_same_carrier a b ≡ true → a ≡ b
 carrier_same (BySub m) (BySub n) e = ap BySub (eqb-true m n e)
 carrier_same (BySub m) (ByPacket n) e = absurd (false≢true e)
@@ -433,7 +433,7 @@ carrier_same (ByPacket m) (ByPacket n) e = ap ByPacket (eqb-true m n e)
 named_not : (carrier : Carrier) (m : Component) → (carrier_of m ≢ carrier) → names carrier m ≡ false
 named_not carrier m differ = decided (names carrier m) (λ e. differ (carrier_same (carrier_of m) carrier e))
 
--- where no component names it, all stay
+-- if no component has the carrier, all stay
 all_stay : (carrier : Carrier) (ms : List Component) → AllByRecursion (λ m. carrier_of m ≢ carrier) ms → filter (λ m. not (names carrier m)) ms ≡ ms
 all_stay carrier [] h = refl
 all_stay carrier (m ∷ ms) h = rw (named_not carrier m h.0) (ap (λ ns. m ∷ ns) (all_stay carrier ms h.1))

@@ -3,7 +3,7 @@ pub mod Rates
 pub mod Sounding
 pub mod FaultsTold
 pub mod Overlaps
-pub mod Telling
+pub mod Distinguishing
 pub mod PartLaws
 pub mod ReadingLoops
 pub mod RecordLaws

@@ -1,4 +1,4 @@
--- The walks over sub-channels and packet components that look for the first overlap, and for an address used twice.
+-- The searches of sub-channels for the first overlap, and of packet components for an address used twice.
 
 use Rattle.std.proofs.Common.{◌≡◌, ℕ, zero, suc, ◌+◌, ◌==◌, ◌&&◌, Bool, true, false, cond, ◌||◌, List, [], ◌∷◌, drop, Option, Some, None, is_some, refl, sym, ap, ◌∙◌, slice_get, slice_index_or, slice_set, replicate, length, ◌<◌, inl, inr, arith}
 use Rattle.std.specs.List.{list_any}
@@ -13,7 +13,7 @@ use Rattle.mux_config.specs.declared.fault.ConfigFault.TheVariants.{Overlap}
 use Rattle.mux_config.specs.Sound.{overlaps, overlap_with, first_overlap, first_of_two, has_same_address, has_address_twice}
 use Rattle.mux_types.proofs.Walking.{cut}
 
--- ---- a walk that looks for the first overlap
+-- ---- the search for the first overlap
 
 with_step : (a : Sub) (xs : List Sub) (i : ℕ) (b : Sub) → slice_get xs i ≡ Some b → overlap_with a (drop i xs) ≡ first_of_two (cond (overlaps a b) (Some (Overlap a.id b.id)) None) (overlap_with a (drop (i + 1) xs))
 with_step a xs i b e = rw (cut xs i b e) (elim (overlaps a b) as (λ t. cond t (Some (Overlap a.id b.id)) (overlap_with a (drop (i + 1) xs)) ≡ first_of_two (cond t (Some (Overlap a.id b.id)) None) (overlap_with a (drop (i + 1) xs))) [ true ↦ refl | false ↦ refl ])
@@ -45,13 +45,13 @@ pub first_more : (xs : List Sub) (i : ℕ) (a : Sub) (fault all : Option ConfigF
 first_more xs i a fault all left e is none =
     kept (overlap_with a (drop (i + 1) xs)) (first_overlap (drop (i + 1) xs)) all (sym (first_step xs i a e) ∙ left) (ap is_some (sym is) ∙ none)
 
--- ---- and one that looks for an address used twice
+-- ---- the search for an address used twice
 
--- a packet component of this sub-channel is among these
+-- a packet component with this sub-channel is among these
 abbrev pub is_named : ℕ → List Packet → Bool
 is_named s ps = list_any (λ (q : Packet). s == q.sub) ps
 
--- a packet component whose sub-channel no other names shares its address with none
+-- a packet component whose sub-channel no other has shares its address with none
 shares_none : (a b : Bool) → a ≡ false → (a && b) ≡ false
 shares_none true b e = absurd (false≢true (sym e))
 shares_none false b e = refl
@@ -67,7 +67,7 @@ none_alike p (q ∷ qs) e =
     let first : has_same_address p q ≡ false = shares_none (p.sub == q.sub) (p.address == q.address) two.0 in
     ap (λ (t : Bool). t || list_any (has_same_address p) qs) first ∙ none_alike p qs two.1
 
--- what two of the last share, two of all do
+-- if two of the last ones share an address, two of all do
 either_later : (a b : Bool) → b ≡ true → (a || b) ≡ true
 either_later true b e = refl
 either_later false b e = e
@@ -92,7 +92,7 @@ pub twice_unnamed : (xs : List Packet) (i : ℕ) (p : Packet) → slice_get xs i
     → has_address_twice (drop i xs) ≡ false
 twice_unnamed xs i p e unnamed later = twice_not xs i p e (none_alike p (drop (i + 1) xs) unnamed) later
 
--- which sub-channels are named, each at its number
+-- which sub-channels have a packet component, each at its number
 abbrev pub Marks : List Bool → List Packet → Type 0
 Marks named ps = (s : ℕ) → s < 64 → slice_index_or named s false ≡ is_named s ps
 

@@ -1,5 +1,5 @@
--- A sub-channel, a service or a packet component that is read is the one that is spelled, and what is spelled is
--- read again.
+-- A sub-channel, a service or a packet component that is read is the one that was encoded, and what is encoded is read
+-- again.
 use Rattle.std.proofs.Common.{◌≡◌, ◌≢◌, ℕ, zero, suc, ◌+◌, ◌*◌, ◌/◌, ◌%◌, ◌<◌, ◌≤◌, Bool, true, false, cond, ltb, eqb, ◌||◌, List, [], ◌∷◌, ◌++◌, length, Result, Ok, Err, refl, sym, ap, subst, ◌∙◌, append_assoc, arith}
 use Rattle.std.specs.Int.{w16}
 use Rattle.std.specs.List.{flat_map, list_any, AllByRecursion}
@@ -20,9 +20,9 @@ use Rattle.mux_types.specs.declared.parts.Packet.{Packet}
 use Rattle.byte_fields.specs.declared.record.RecordFault.TheVariants.{Order}
 use Rattle.mux_types.specs.Configuration.{IsPlaced, IsComponent, IsService, IsAddressed, AreDifferent, carrier_of, component_limit, sid_key}
 use Rattle.mux_types.specs.Sameness.{is_same_carrier, names}
-use Rattle.byte_fields.specs.FieldSpelling.{word_bytes, protection_bytes, sid_field, component_bytes, flag_byte}
+use Rattle.byte_fields.specs.FieldSpelling.{u16_bytes, protection_bytes, sid_field, component_bytes, flag_byte}
 use Rattle.mux_config.specs.Spelling.{sub_record, service_record, packet_record}
-use Rattle.byte_fields.specs.FieldReading.{place, byte_within, word_within, number_at, flag_at, protection_at, sid_at, component_at}
+use Rattle.byte_fields.specs.FieldReading.{place, byte_within, u16_in_range, number_at, flag_at, protection_at, sid_at, component_at}
 use Rattle.mux_config.specs.Reading.{size_or_field, read_sub, components_at, read_service, read_packet}
 use Rattle.mux_types.proofs.Tables.{each_pushed}
 use Rattle.byte_fields.proofs.FieldLaws.{IsBytes, Front, front_then, bind_ok, refuse_ok, ok_is, word_front, word_again, byte_within_front, byte_within_again, word_within_front, word_within_again, flag_front, flag_again, protection_front, protection_again, sid_front, sid_again, component_front, component_again}
@@ -99,9 +99,9 @@ sub_front total low bytes x fits e =
     let ends : b.0.0 + z.0 ≤ 864 = ltb-false _ _ t.0 in
     let made : Sub × List ℕ = (record { id = a.0.0; start = b.0.0; protection = p.0.0; kbits = k.0.0 }, k.0.1) in
     subst (IsSubRead low bytes) (ok_is made x t.1) (
-      front_then bytes ((a.0.0 ∷ []) ++ word_bytes b.0.0 ++ protection_bytes p.0.0) p.0.1 (word_bytes k.0.0) k.0.1
-          (front_then bytes ((a.0.0 ∷ []) ++ word_bytes b.0.0) b.0.1 (protection_bytes p.0.0) p.0.1
-          (front_then bytes (a.0.0 ∷ []) a.0.1 (word_bytes b.0.0) b.0.1 fa.0 fb.0) fp.0) fk.0,
+      front_then bytes ((a.0.0 ∷ []) ++ u16_bytes b.0.0 ++ protection_bytes p.0.0) p.0.1 (u16_bytes k.0.0) k.0.1
+          (front_then bytes ((a.0.0 ∷ []) ++ u16_bytes b.0.0) b.0.1 (protection_bytes p.0.0) p.0.1
+          (front_then bytes (a.0.0 ∷ []) a.0.1 (u16_bytes b.0.0) b.0.1 fa.0 fb.0) fp.0) fk.0,
       up,
       record { named = omega (arith, fa.2); from_one = fp.1; to_four = fp.2; sized = s.1; ends = omega (arith, ends, s.0) },
     )
@@ -113,10 +113,10 @@ sub_again total low s rest h up =
     let ordered : ltb s.id low ≡ false = le-ltb _ _ up in
     let ends : ltb 864 (s.start + table_size s.protection s.kbits) ≡ false = le-ltb _ _ (omega (arith, h.ends)) in
     rw (
-      byte_within_again total 0 63 s.id (word_bytes s.start ++ protection_bytes s.protection ++ word_bytes s.kbits ++ rest) (omega arith) (omega (arith, h.named)),
+      byte_within_again total 0 63 s.id (u16_bytes s.start ++ protection_bytes s.protection ++ u16_bytes s.kbits ++ rest) (omega arith) (omega (arith, h.named)),
       ordered,
-      word_again s.start (protection_bytes s.protection ++ word_bytes s.kbits ++ rest) (omega (arith, h.ends)),
-      protection_again total s.protection (word_bytes s.kbits ++ rest) h.from_one h.to_four,
+      word_again s.start (protection_bytes s.protection ++ u16_bytes s.kbits ++ rest) (omega (arith, h.ends)),
+      protection_again total s.protection (u16_bytes s.kbits ++ rest) h.from_one h.to_four,
       word_again s.kbits rest small,
       size_again s.protection s.kbits _ h.sized,
       ends,
@@ -240,12 +240,12 @@ IsPacketRead low bytes x = Front bytes (packet_record x.0) x.1 × (low ≤ x.0.s
 pub packet_front : (total low : ℕ) (bytes : List ℕ) (x : Packet × List ℕ) → IsBytes bytes → read_packet total low bytes ≡ Ok x → IsPacketRead low bytes x
 unfolding read_packet
 packet_front total low bytes x fits e =
-    let a = bind_ok (word_within total 0 4095 bytes) _ x e in
+    let a = bind_ok (u16_in_range total 0 4095 bytes) _ x e in
     let r = refuse_ok _ Order _ x a.2 in
     let d = bind_ok (flag_at total a.0.1) _ x r.1 in
     let t = bind_ok (byte_within total 0 63 d.0.1) _ x d.2 in
     let s = bind_ok (byte_within total 0 63 t.0.1) _ x t.2 in
-    let w = bind_ok (word_within total 1 1023 s.0.1) _ x s.2 in
+    let w = bind_ok (u16_in_range total 1 1023 s.0.1) _ x s.2 in
     let fa = word_within_front total 0 4095 bytes a.0 fits a.1 in
     let fd = flag_front total a.0.1 d.0 fa.0.rest_fits d.1 in
     let ft = byte_within_front total 0 63 d.0.1 t.0 fd.rest_fits t.1 in
@@ -254,10 +254,10 @@ packet_front total low bytes x fits e =
     let up : low ≤ a.0.0 = ltb-false _ _ r.0 in
     let made : Packet × List ℕ = (record { scid = a.0.0; dg = d.0.0; ty = t.0.0; sub = s.0.0; address = w.0.0 }, w.0.1) in
     subst (IsPacketRead low bytes) (ok_is made x w.2) (
-      front_then bytes (word_bytes a.0.0) a.0.1 (flag_byte d.0.0 ∷ t.0.0 ∷ s.0.0 ∷ word_bytes w.0.0) w.0.1 fa.0
-          (front_then a.0.1 (flag_byte d.0.0 ∷ []) d.0.1 (t.0.0 ∷ s.0.0 ∷ word_bytes w.0.0) w.0.1 fd
-          (front_then d.0.1 (t.0.0 ∷ []) t.0.1 (s.0.0 ∷ word_bytes w.0.0) w.0.1 ft.0
-          (front_then t.0.1 (s.0.0 ∷ []) s.0.1 (word_bytes w.0.0) w.0.1 fs.0 fw.0))),
+      front_then bytes (u16_bytes a.0.0) a.0.1 (flag_byte d.0.0 ∷ t.0.0 ∷ s.0.0 ∷ u16_bytes w.0.0) w.0.1 fa.0
+          (front_then a.0.1 (flag_byte d.0.0 ∷ []) d.0.1 (t.0.0 ∷ s.0.0 ∷ u16_bytes w.0.0) w.0.1 fd
+          (front_then d.0.1 (t.0.0 ∷ []) t.0.1 (s.0.0 ∷ u16_bytes w.0.0) w.0.1 ft.0
+          (front_then t.0.1 (s.0.0 ∷ []) s.0.1 (u16_bytes w.0.0) w.0.1 fs.0 fw.0))),
       up,
       record { named = omega (arith, fa.2); typed = omega (arith, ft.2); carried = omega (arith, fs.2); from_one = fw.1; to_last = fw.2 },
     )
@@ -267,10 +267,10 @@ unfolding read_packet
 packet_again total low p rest h up =
     let ordered : ltb p.scid low ≡ false = le-ltb _ _ up in
     rw (
-      word_within_again total 0 4095 p.scid (flag_byte p.dg ∷ p.ty ∷ p.sub ∷ word_bytes p.address ++ rest) (omega arith) (omega (arith, h.named)) (omega arith),
+      word_within_again total 0 4095 p.scid (flag_byte p.dg ∷ p.ty ∷ p.sub ∷ u16_bytes p.address ++ rest) (omega arith) (omega (arith, h.named)) (omega arith),
       ordered,
-      flag_again total p.dg (p.ty ∷ p.sub ∷ word_bytes p.address ++ rest),
-      byte_within_again total 0 63 p.ty (p.sub ∷ word_bytes p.address ++ rest) (omega arith) (omega (arith, h.typed)),
-      byte_within_again total 0 63 p.sub (word_bytes p.address ++ rest) (omega arith) (omega (arith, h.carried)),
+      flag_again total p.dg (p.ty ∷ p.sub ∷ u16_bytes p.address ++ rest),
+      byte_within_again total 0 63 p.ty (p.sub ∷ u16_bytes p.address ++ rest) (omega arith) (omega (arith, h.typed)),
+      byte_within_again total 0 63 p.sub (u16_bytes p.address ++ rest) (omega arith) (omega (arith, h.carried)),
       word_within_again total 1 1023 p.address rest h.from_one h.to_last (omega arith),
     ) refl

@@ -1,5 +1,4 @@
--- The offset of a field that is at fault is that of one of the bytes that are read, and the bytes before it are
--- short.
+-- The offset of a field at fault is that of one of the bytes read, and the bytes before it are short.
 use Rattle.std.proofs.Common.{◌≡◌, ℕ, zero, suc, ◌+◌, ◌<◌, ◌≤◌, ltb, List, [], ◌∷◌, ◌++◌, length, take, Result, Ok, Err, subst, ◌⊎◌, inl, inr, arith}
 use Rattle.std.specs.List.{list_any}
 use Rattle.std.proofs.lemmas.List.{length-take-le}
@@ -82,15 +81,15 @@ placed_record total bytes left =
     placed_bind total _ _ (placed_members total service_key (read_service total) (placed_service total) 0 [] service_count after_sub_set left_sub_set) (λ services after_service_set left_service_set.
     placed_bind total _ _ (placed_members total packet_key (read_packet total) (placed_packet total) 0 [] packet_count after_service_set left_service_set) (λ packets rest after. after))))))
 
--- what reading these bytes gives
+-- the result of reading these bytes
 pub placed_config : (bytes : List ℕ) → Placed (length bytes) (config_at bytes)
 placed_config bytes = placed_record (length bytes) bytes (omega arith)
 
--- the place of a fault is the number of one of the bytes
+-- the offset of a fault is that of one of the bytes
 pub field_in : (bytes : List ℕ) (p : ℕ) → config_at bytes ≡ Err (Field p) → p < length bytes
 field_in bytes p given = subst (λ (r : Reads Configuration). Placed (length bytes) r) given (placed_config bytes)
 
--- a fault cannot be met before its place
+-- a fault cannot be found before its offset
 short_by : (bytes : List ℕ) (p : ℕ) → p < length bytes → HasFault (take p bytes) Short ⊎ HasFault (take p bytes) (Field p) → HasFault (take p bytes) Short
 short_by bytes p within (inl short) = short
 short_by bytes p within (inr field) = absurd (omega (arith, field_in (take p bytes) p field, length-take-le p bytes (omega (arith, within))))

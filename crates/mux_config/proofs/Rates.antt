@@ -12,7 +12,7 @@ chosen false true c k l m n h i j g = i
 chosen false false true k l m n h i j g = j
 chosen false false false k l m n h i j g = g
 
--- a rate takes at least four units a step
+-- each step of a rate takes at least one unit
 pub units_positive : (set : EepSet) (level : ℕ) → 0 < units_of_step set level
 units_positive A level = chosen (eqb level 1) (eqb level 2) (eqb level 3) 12 8 6 4 (omega arith) (omega arith) (omega arith) (omega arith)
 units_positive B level = chosen (eqb level 1) (eqb level 2) (eqb level 3) 27 21 18 15 (omega arith) (omega arith) (omega arith) (omega arith)

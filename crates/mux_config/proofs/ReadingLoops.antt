@@ -1,4 +1,4 @@
--- One step of the loops that read `count` components or members: what is still to be read gives what all of it gives.
+-- One iteration of the loops that read `count` components or members: the rest gives the same result as all of it.
 use Rattle.std.proofs.Common.{◌≡◌, ℕ, suc, ◌+◌, ◌-◌, ◌<◌, ◌≤◌, true, false, List, [], ◌∷◌, ◌++◌, Ok, Err, refl, sym, ◌∙◌, arith}
 use Rattle.std.specs.List.{list_any}
 use Rattle.mux_types.specs.declared.parts.Component.{Component}

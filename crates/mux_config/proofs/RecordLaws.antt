@@ -1,5 +1,5 @@
--- A configuration record that is read is the one that is spelled, and what is spelled is read again, whatever
--- follows it.
+-- A configuration record that is read is the one that was encoded, and what is encoded is read again, whatever follows
+-- it.
 use Rattle.std.proofs.Common.{◌≡◌, ℕ, zero, suc, ◌+◌, ◌-◌, ◌<◌, ◌≤◌, List, [], ◌∷◌, ◌++◌, length, drop, Result, Ok, Err, IfOk, IfErr, refl, sym, ap, subst, ◌∙◌, append_assoc, arith}
 use Rattle.std.specs.List.{flat_map, AllByRecursion}
 use Rattle.std.proofs.lemmas.List.{append-nil, length-append, drop_at}
@@ -15,7 +15,7 @@ use Rattle.mux_config.proofs.PartLaws.{flat_pushed, sub_front, sub_again, servic
 -- ---- the members of a set
 
 module _ {T : Type 0} (key : T → ℕ) (text : T → List ℕ) (P : T → Type 0) (member_at : ℕ → List ℕ → Reads T) where
-  -- what is read of a member is its text, its key is not below, and it is a proper member
+  -- the bytes read for a member are its encoding, its key is at least `low`, and it is a valid member
   abbrev pub ReadsMembers : Type 0
   ReadsMembers = (low : ℕ) (bytes : List ℕ) (x : T × List ℕ) → IsBytes bytes → member_at low bytes ≡ Ok x → Front bytes (text x.0) x.1 × (low ≤ key x.0) × P x.0
 
@@ -126,7 +126,7 @@ record_again total c rest h =
       members_again packet_key packet_record IsAddressed (read_packet total) (packet_again total) 0 [] c.packets rest h.packets_ascend (any_low packet_key c.packets) h.packets_addressed,
     ) refl
 
--- ---- what a call answers
+-- ---- the result of a call
 
 pub spelled_so : (bytes : List ℕ) (r : Result (Configuration × ℕ) RecordFault) → IsBytes bytes → IfOk r (λ f. config_at bytes ≡ Ok (f.0, drop f.1 bytes))
     → IfOk r (λ f. IsConfiguration f.0) × IfOk r (λ f. bytes ≡ config_bytes f.0 ++ drop f.1 bytes)
@@ -152,7 +152,7 @@ read_so bytes (Err e) read whole fault c rest h same =
     let wrong : Err e ≡ given (c, rest) = sym fault ∙ again in
     absurd cc
 
--- a reading that took the whole text leaves what stands after it
+-- a reading that consumed the whole encoding leaves what follows it
 pub left : (bytes : List ℕ) (x : Configuration × List ℕ) → IsBytes bytes → config_at bytes ≡ Ok x
     → (length bytes - length x.1 ≡ length (config_bytes x.0)) × (drop (length bytes - length x.1) bytes ≡ x.1) × IsConfiguration x.0
 left bytes x fits e =
@@ -163,7 +163,7 @@ left bytes x fits e =
 
 -- ---- one reader after the other
 
--- the six readings of a record, each by a reader that stands where the one before it left off
+-- the six readings of a record, each by a reader at the position where the previous one stopped
 pub read_in_turn : (bytes b0 b1 b2 b3 b4 b5 b6 : List ℕ) (t0 t1 t2 t3 t4 t5 m n k : ℕ) (c : Configuration)
     → b0 ≡ bytes → t0 ≡ length bytes → t1 ≡ t0 → t2 ≡ t1 → t3 ≡ t2 → t4 ≡ t3 → t5 ≡ t4
     → byte_within t0 0 64 b0 ≡ Ok (m, b1) → byte_within t1 0 64 b1 ≡ Ok (n, b2) → byte_within t2 0 64 b2 ≡ Ok (k, b3)

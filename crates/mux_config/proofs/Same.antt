@@ -1,4 +1,4 @@
--- What the tests of equality find the same is equal: parts, lists of them, and whole configurations.
+-- Parts that the tests of equality find the same are equal, and so are lists of them and whole configurations.
 
 use Rattle.std.proofs.Common.{◌≡◌, ℕ, ◌↔◌, Bool, true, false, not, ◌&&◌, eqb, List, [], ◌∷◌, map, refl, sym, ap, subst}
 use Rattle.std.proofs.lemmas.Bool.{false≢true, eqb-true, eq-eqb}
@@ -15,7 +15,7 @@ use Rattle.mux_types.specs.declared.numbers.Sid.TheVariants.{Short, Long}
 use Rattle.mux_config.specs.declared.flags.Change.{Change}
 use Rattle.mux_types.specs.Configuration.{Configuration}
 use Rattle.mux_entries.specs.Facts.{sub_entries, service_entries, sub_entry, HaveSameMembers}
-use Rattle.mux_config.specs.Change.{ChangeTells, has_same_subs, has_same_services}
+use Rattle.mux_config.specs.Change.{ChangeIsUnique, has_same_subs, has_same_services}
 use Rattle.mux_types.specs.Sameness.{is_same_flag, is_same_list, is_same_set, is_same_sub, is_same_sid, is_same_component, is_same_service, is_same_packet}
 use Rattle.mux_config.proofs.FactSets.{same_members, subs_of_sets, services_of_sets}
 
@@ -158,14 +158,14 @@ services_itself c d e f =
     (subst (λ (zs : List Service). is_same_list is_same_service c.services zs ≡ true) e (list_itself is_same_service service_itself c.services))
     (subst (λ (zs : List Packet). is_same_list is_same_packet c.packets zs ≡ true) f (list_itself is_same_packet packet_itself c.packets))
 
--- a test that holds exactly where a property does, turned round, is the only flag that says that it does not
+-- the negation of a test for a property is the only flag that is true exactly if the property does not hold
 flag_told : (flag test : Bool) (P : Type 0) → (test ≡ true → P) → (P → test ≡ true) → ((flag ≡ true) ↔ (P → ⊥)) ↔ (flag ≡ not test)
 flag_told true true P same itself = (λ h. absurd (h.0 refl (same refl)), λ e. absurd (false≢true (sym e)))
 flag_told true false P same itself = (λ h. refl, λ e. (λ _ holds. false≢true (itself holds), λ _. refl))
 flag_told false true P same itself = (λ h. refl, λ e. (λ wrong. absurd (false≢true wrong), λ differ. absurd (differ (same refl))))
 flag_told false false P same itself = (λ h. absurd (false≢true (h.1 (λ holds. false≢true (itself holds)))), λ e. absurd (false≢true e))
 
-pub change_told : OneRate → ChangeTells
+pub change_told : OneRate → ChangeIsUnique
 change_told rates c d change h k =
     let subs = flag_told change.subs (has_same_subs c d) (HaveSameMembers (sub_entries c) (sub_entries d))
     (λ e. same_members (ap (map sub_entry) (subs_same c.subs d.subs e))) (λ e. subs_itself c.subs d.subs (subs_of_sets rates c d h k e)) in

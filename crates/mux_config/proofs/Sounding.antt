@@ -1,4 +1,4 @@
--- That a configuration is sound exactly where no fault is found.
+-- A configuration is sound exactly if no fault is found.
 use Rattle.std.proofs.Common.{◌≡◌, ◌≢◌, ℕ, ◌+◌, ◌/◌, ◌%◌, ◌<◌, ◌==◌, Bool, true, false, not, cond, ◌&&◌, ◌||◌, ltb, List, [], ◌∷◌, length, Contains, Option, Some, None, is_some, refl, sym, ap, ◌∙◌, subst, ◌⊎◌, inl, inr, arith}
 use Rattle.std.specs.List.{list_any, AllByRecursion}
 use Rattle.std.proofs.lemmas.Bool.{false≢true, eqb-true, eq-eqb, ne_eqb, ltb-true, lt-ltb, cases_lt}
@@ -329,7 +329,7 @@ pub first_any : (xs : List Sub) → is_some (first_overlap xs) ≡ is_crowded xs
 first_any [] = refl
 first_any (a ∷ bs) = first_any_by (overlap_with a bs) (first_overlap bs) (list_any (overlaps a) bs) (is_crowded bs) (with_any a bs) (first_any bs)
 
--- a look-up finds a member exactly where there is one
+-- a look-up finds a member exactly if there is one
 has_found_by : {T : Type 0} (t : Bool) (x : T) (rest : Option T) (u : Bool) → is_some rest ≡ u → is_some (cond t (Some x) rest) ≡ (t || u)
 has_found_by true x rest u e = refl
 has_found_by false x rest u e = e

@@ -1,5 +1,4 @@
--- Reading is steady: what is read of some bytes, and any fault but that they are short, is the same whatever follows
--- them.
+-- Reading is stable: what is read, and any fault but missing bytes, is the same whatever bytes follow.
 use Rattle.std.proofs.Common.{◌≡◌, ◌≢◌, ℕ, zero, suc, ◌+◌, ltb, List, [], ◌∷◌, ◌++◌, length, take, drop, Result, Ok, Err, refl, sym, ap, ◌∙◌, subst, ◌⊎◌, inl, inr, arith}
 use Rattle.std.specs.List.{list_any}
 use Rattle.std.specs.Int.{w16}

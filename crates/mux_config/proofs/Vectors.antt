@@ -1,4 +1,4 @@
--- Records computed by the checker from the definitions.
+-- Examples of records, computed by the checker from the definitions.
 use Rattle.std.proofs.Common.{◌≡◌, ℕ, false, List, [], ◌∷◌, ◌++◌, Ok, Err, refl}
 use Rattle.mux_eep.specs.declared.sizes.EepSet.TheVariants.{A}
 use Rattle.mux_types.specs.declared.parts.Component.TheVariants.{Sound, Packet as InPackets}
@@ -35,7 +35,7 @@ one_programme-read : config_at one_programme_bytes ≡ Ok (one_programme, [])
 unfolding record_at members_at read_sub protection_at read_service sid_at components_at component_at component_of
 one_programme-read = refl
 
--- bytes after a record are left
+-- bytes after a record are left over
 one_programme-followed : config_at (one_programme_bytes ++ 255 ∷ 0 ∷ []) ≡ Ok (one_programme, 255 ∷ 0 ∷ [])
 unfolding record_at members_at read_sub protection_at read_service sid_at components_at component_at component_of
 one_programme-followed = refl
@@ -59,7 +59,7 @@ one_packet-read : config_at one_packet_bytes ≡ Ok (one_packet, [])
 unfolding record_at members_at read_sub protection_at read_service sid_at components_at component_at component_of read_packet
 one_packet-read = refl
 
--- a rate without a size is at fault where it stands, whatever the start address is
+-- a rate without a size is at fault at its own bytes, whatever the start address is
 rate-fault : config_at (1 ∷ 0 ∷ 0 ∷ 1 ∷ 255 ∷ 255 ∷ 0 ∷ 3 ∷ 0 ∷ 33 ∷ []) ≡ Err (Field 8)
 unfolding record_at members_at read_sub protection_at
 rate-fault = refl
@@ -69,7 +69,7 @@ end-fault : config_at (1 ∷ 0 ∷ 0 ∷ 1 ∷ 3 ∷ 1 ∷ 0 ∷ 3 ∷ 0 ∷ 128
 unfolding record_at members_at read_sub protection_at
 end-fault = refl
 
--- a carrier that stands twice is at fault at its component
+-- a carrier that occurs twice is at fault at its component
 carrier-fault : config_at (0 ∷ 1 ∷ 0 ∷ 0 ∷ 194 ∷ 33 ∷ 2 ∷ 0 ∷ 63 ∷ 1 ∷ 1 ∷ 5 ∷ 1 ∷ []) ≡ Err (Field 10)
 unfolding record_at members_at read_service sid_at components_at component_at component_of
 carrier-fault = refl
@@ -79,7 +79,7 @@ order-fault : config_at (0 ∷ 2 ∷ 0 ∷ 1 ∷ 0 ∷ 0 ∷ 0 ∷ 1 ∷ 0 ∷ 0
 unfolding record_at members_at read_service sid_at components_at
 order-fault = refl
 
--- a record that is cut off
+-- a truncated record
 short-fault : config_at (0 ∷ 0 ∷ 1 ∷ 0 ∷ 1 ∷ 0 ∷ 60 ∷ 5 ∷ 0 ∷ []) ≡ Err Short
 unfolding record_at members_at read_packet
 short-fault = refl

@@ -1,17 +1,17 @@
--- Which of the two organizations of the multiplex a reconfiguration changes, as the change flags of FIG 0/0
--- say it (EN 300 401 clauses 6.4 and 6.5).
+-- Which of the two organizations of the multiplex a reconfiguration changes, as the change flags of FIG 0/0 encode it
+-- (EN 300 401 clauses 6.4 and 6.5).
 use Rattle.std.specs.Prelude.{◌≡◌, ℕ, ◌+◌, ◌&&◌, ◌↔◌, Bool, not, IsTrue, if◌then◌else◌, List}
 use Rattle.mux_config.specs.declared.flags.Change.{Change}
 use Rattle.mux_types.specs.Configuration.{Configuration, IsConfiguration}
 use Rattle.mux_types.specs.Sameness.{is_same_list, is_same_sub, is_same_service, is_same_packet}
 use Rattle.mux_entries.specs.Facts.{sub_entries, service_entries, HaveSameMembers}
 
--- the sets of entries are not the same
+-- the sets of entries differ
 abbrev pub AreOtherSets : {T : Type 0} → List T → List T → Type 0
 AreOtherSets xs ys = HaveSameMembers xs ys → ⊥
 
--- the sub-channel organization changes where the sets of entries of FIG 0/1 differ, the service organization
--- where those of FIG 0/2 and 0/3 differ
+-- the sub-channel organization changes if the sets of entries of FIG 0/1 differ, the service organization if those of
+-- FIG 0/2 and 0/3 differ
 pub record IsChange (c d : Configuration) (change : Change) : Type 0 where
   pub subs : IsTrue change.subs ↔ AreOtherSets (sub_entries c) (sub_entries d)
   pub services : IsTrue change.services ↔ AreOtherSets (service_entries c) (service_entries d)
@@ -32,7 +32,7 @@ abbrev pub change_of : Configuration → Configuration → Change
 change_of c d = record { subs = not (has_same_subs c d); services = not (has_same_services c d) }
 
 -- it is the change, and the only one
-abbrev pub ChangeTells : Type 0
-ChangeTells =
+abbrev pub ChangeIsUnique : Type 0
+ChangeIsUnique =
     (c d : Configuration) (change : Change) → IsConfiguration c → IsConfiguration d
     → IsChange c d change ↔ (change ≡ change_of c d)

@@ -18,7 +18,7 @@ use Rattle.mux_types.specs.Sameness.{names}
 use Rattle.mux_eep.specs.declared.limits.TheConstants.{CAPACITY_UNITS}
 use Rattle.mux_eep.specs.Sizes.{size_or_fault}
 
--- the members that an edit names
+-- the members that an edit refers to
 abbrev pub sub_at : ℕ → Configuration → Option Sub
 sub_at id c = entry_at sub_key id c.subs
 
@@ -28,7 +28,7 @@ service_at sid c = entry_at service_key (sid_key sid) c.services
 abbrev pub packet_at : ℕ → Configuration → Option Packet
 packet_at scid c = entry_at packet_key scid c.packets
 
--- the fault of an edit that names a member: it is absent, or what is wrong with that member
+-- the fault of an edit that refers to a member: the member is absent, or there is a fault with that member
 abbrev pub absent_or : {T : Type 0} → Option T → (T → Option EditFault) → Option EditFault
 absent_or None fault = Some IdAbsent
 absent_or (Some x) fault = fault x
@@ -185,7 +185,7 @@ drop_packet scid c = outcome (drop_packet_fault scid c) (packet_dropped scid c)
 
 -- ---- an edit as a value, and the outcome of each
 
--- the first fault that holds
+-- the first fault that applies
 abbrev pub edit_fault : Edit → Configuration → Option EditFault
 edit_fault (AddSub s) c = add_sub_fault s c
 edit_fault (DropSub id) c = drop_sub_fault id c
@@ -198,7 +198,7 @@ edit_fault (DropComponent sid carrier) c = drop_component_fault sid carrier c
 edit_fault (AddPacket p) c = add_packet_fault p c
 edit_fault (DropPacket scid) c = drop_packet_fault scid c
 
--- the configuration after it, where no fault holds
+-- the configuration after it, if there is no fault
 abbrev pub changed : Edit → Configuration → Configuration
 changed (AddSub s) c = sub_added s c
 changed (DropSub id) c = sub_dropped id c
@@ -214,8 +214,8 @@ changed (DropPacket scid) c = packet_dropped scid c
 abbrev pub edited : Edit → Configuration → Result Configuration EditFault
 edited e c = outcome (edit_fault e c) (changed e c)
 
--- a call that edits returns the result of the edit: at Ok the configuration is the edited one, and at a fault it
--- is unchanged
+-- a call that edits returns the result of the edit: on Ok the configuration is the edited one, and on a fault it is
+-- unchanged
 abbrev pub Edits : Configuration → Configuration → Result Configuration EditFault → Result (Unit {0}) EditFault → Type 0
 Edits old new outcome (Ok done) = outcome ≡ Ok new
 Edits old new outcome (Err fault) = (outcome ≡ Err fault) × (new ≡ old)

@@ -12,18 +12,18 @@ use Rattle.mux_types.specs.declared.parts.Component.{Component}
 use Rattle.mux_types.specs.declared.parts.Packet.{Packet}
 use Rattle.byte_fields.specs.declared.record.RecordFault.{RecordFault}
 use Rattle.byte_fields.specs.declared.record.RecordFault.TheVariants.{Field, Order}
-use Rattle.byte_fields.specs.FieldReading.{Reads, ◌>>=◌, refuse, place, number_at, byte_within, word_within, flag_at, protection_at, sid_at, component_at}
+use Rattle.byte_fields.specs.FieldReading.{Reads, ◌>>=◌, refuse, place, number_at, byte_within, u16_in_range, flag_at, protection_at, sid_at, component_at}
 use Rattle.mux_types.specs.Configuration.{Configuration, sub_key, sid_key, service_key, packet_key, carrier_of, component_limit}
 use Rattle.mux_types.specs.Sameness.{names}
 
 -- ---- sub-channels
 
--- a rate that has no size is at fault at its own bytes
+-- a rate without a size is at fault at its own bytes
 abbrev pub size_or_field : ℕ → Result ℕ EepFault → Result ℕ RecordFault
 size_or_field at (Ok size) = Ok size
 size_or_field at (Err e) = Err (Field at)
 
--- a sub-channel whose identifier is `low` or more; a missing size is a fault of its rate, and an end past the
+-- a sub-channel whose identifier is at least `low`; a missing size is a fault of its rate, and an end past the
 -- multiplex one of its start
 unfoldable pub read_sub : (total low : ℕ) → List ℕ → Reads Sub
 read_sub total low bytes = do
@@ -38,7 +38,7 @@ read_sub total low bytes = do
 
 -- ---- services
 
--- `count` components after those that were read before; a carrier that occurs twice is at fault at its component
+-- `count` components after those already read; a carrier that occurs twice is at fault at its component
 unfoldable pub components_at : (total : ℕ) → (before : List Component) → (count : ℕ) → List ℕ → Reads (List Component)
 components_at total before zero bytes = Ok (before, bytes)
 components_at total before (suc count) bytes = do
@@ -58,18 +58,18 @@ read_service total low bytes = do
 
 unfoldable pub read_packet : (total low : ℕ) → List ℕ → Reads Packet
 read_packet total low bytes = do
-  scid ← word_within total 0 4095 bytes
+  scid ← u16_in_range total 0 4095 bytes
   ascends ← refuse (nat_lt scid.0 low) Order
   dg ← flag_at total scid.1
   ty ← byte_within total 0 63 dg.1
   sub ← byte_within total 0 63 ty.1
-  address ← word_within total 1 1023 sub.1
+  address ← u16_in_range total 1 1023 sub.1
   Ok (record { scid = scid.0; dg = dg.0; ty = ty.0; sub = sub.0; address = address.0 }, address.1)
 
 -- ---- the record
 
--- `count` members of a set after those that were read before, each with an identifier above the one before it:
--- the next is `low` or more
+-- `count` members of a set after those already read, each with an identifier above the previous one: the next is at
+-- least `low`
 unfoldable pub members_at : {T : Type 0} → (key : T → ℕ) → (member_at : ℕ → List ℕ → Reads T) → (low : ℕ) → (before : List T) → (count : ℕ) → List ℕ → Reads (List T)
 members_at key member_at low before zero bytes = Ok (before, bytes)
 members_at key member_at low before (suc count) bytes = do

@@ -1,4 +1,4 @@
--- What the fault of bytes that are no record says about the bytes.
+-- What the fault of bytes that are not a record says about the bytes.
 use Rattle.std.specs.Prelude.{◌≡◌, ◌≢◌, ℕ, ◌<◌, ◌⊎◌, List, ◌++◌, length, take, Err}
 use Rattle.byte_fields.specs.declared.record.RecordFault.{RecordFault}
 use Rattle.byte_fields.specs.declared.record.RecordFault.TheVariants.{Short, Field}
@@ -13,7 +13,7 @@ HasFault bytes fault = config_at bytes ≡ Err fault
 abbrev pub BeginsWithNone : List ℕ → Type 0
 BeginsWithNone bytes = (c : Configuration) (rest : List ℕ) → IsConfiguration c → bytes ≢ config_bytes c ++ rest
 
--- a record that is cut off, wherever that is, is short
+-- a truncated record is short, wherever it ends
 abbrev pub CutsAreShort : Type 0
 CutsAreShort = (c : Configuration) (n : ℕ) → IsConfiguration c → n < length (config_bytes c) → HasFault (take n (config_bytes c)) Short
 
@@ -24,14 +24,14 @@ FaultsStay =
     (bytes more : List ℕ) (fault : RecordFault) → HasFault bytes fault → fault ≢ Short
     → HasFault (bytes ++ more) fault × BeginsWithNone (bytes ++ more)
 
--- it is the first one: what comes before it is short, or has it too
+-- it is the first one: the bytes before it are short, or have it too
 abbrev pub FaultsAreFirst : Type 0
 FaultsAreFirst =
     (bytes : List ℕ) (n : ℕ) (fault : RecordFault) → HasFault bytes fault
     → HasFault (take n bytes) Short ⊎ HasFault (take n bytes) fault
 
--- the offset of a field that is at fault is that of one of the bytes, and the bytes before it are short: none of
--- their fields is at fault
+-- the offset of a field at fault is that of one of the bytes, and the bytes before it are short: none of their fields
+-- is at fault
 abbrev pub ShortBeforePlaces : Type 0
 ShortBeforePlaces =
     (bytes : List ℕ) (place : ℕ) → HasFault bytes (Field place) → (place < length bytes) × HasFault (take place bytes) Short

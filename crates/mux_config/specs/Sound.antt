@@ -16,7 +16,7 @@ use Rattle.mux_types.specs.Tables.{has_entry}
 abbrev pub IsUnitOf : Sub → ℕ → Type 0
 IsUnitOf s unit = (s.start ≤ unit) × (unit < s.start + size_of_sub s)
 
--- what a component names as its carrier exists
+-- a component's carrier exists
 abbrev pub IsThere : Configuration → Carrier → Type 0
 IsThere c (BySub id) = (s : Sub) × Contains c.subs s × (s.id ≡ id)
 IsThere c (ByPacket scid) = (p : Packet) × Contains c.packets p × (p.scid ≡ scid)
@@ -45,7 +45,7 @@ pub record IsSound (c : Configuration) : Type 0 where
 abbrev pub overlaps : Sub → Sub → Bool
 overlaps a b = nat_lt a.start (b.start + size_of_sub b) && nat_lt b.start (a.start + size_of_sub a)
 
--- some two of these share one
+-- two of these share one
 abbrev pub is_crowded : List Sub → Bool
 is_crowded [] = false
 is_crowded (a ∷ bs) = list_any (overlaps a) bs || is_crowded bs
@@ -60,7 +60,7 @@ abbrev pub first_of_two : Option ConfigFault → Option ConfigFault → Option C
 first_of_two None other = other
 first_of_two (Some fault) other = Some fault
 
--- the first two that share one: the least that shares one with a greater, and the least that it shares one with
+-- the first two that share one: the lowest that shares one with a higher one, and the lowest with which it shares one
 abbrev pub first_overlap : List Sub → Option ConfigFault
 first_overlap [] = None
 first_overlap (a ∷ bs) = first_of_two (overlap_with a bs) (first_overlap bs)

@@ -16,7 +16,7 @@ abbrev pub AreApart : Configuration → Type 0
 AreApart c =
     (a b : Sub) (unit : ℕ) → Contains c.subs a → Contains c.subs b → IsUnitOf a unit → IsUnitOf b unit → a.id ≡ b.id
 
--- what each component and each packet component names exists
+-- what each component and each packet component refers to exists
 pub record AreCarried (c : Configuration) : Type 0 where
   pub components : (s : Service) (m : Component) → Contains c.services s → Contains s.components m → IsThere c (carrier_of m)
   pub packets : (p : Packet) → Contains c.packets p → IsThere c (BySub p.sub)
@@ -30,8 +30,8 @@ AreAddressed c =
 abbrev pub AreFilled : Configuration → Type 0
 AreFilled c = (s : Service) → Contains c.services s → s.components ≢ []
 
--- the sub-channels i and j share a capacity unit, and no other two that do come before them: not by the lesser
--- identifier, nor, where that is the same, by the greater one
+-- the sub-channels i and j share a capacity unit, and no other two that do come before them: not by the lower
+-- identifier, nor, if that is the same, by the higher one
 pub record IsFirstOverlap (c : Configuration) (i j : ℕ) : Type 0 where
   pub first : Sub
   pub second : Sub
@@ -55,5 +55,5 @@ IsFault c AddressUsed = AreApart c × AreCarried c × (AreAddressed c → ⊥)
 IsFault c EmptyService = AreApart c × AreCarried c × AreAddressed c × (AreFilled c → ⊥)
 
 -- it is the fault that is reported, and no other
-abbrev pub FaultsTell : Type 0
-FaultsTell = (c : Configuration) (fault : ConfigFault) → IsConfiguration c → (sound_or_fault c ≡ Err fault) ↔ IsFault c fault
+abbrev pub FaultIsUnique : Type 0
+FaultIsUnique = (c : Configuration) (fault : ConfigFault) → IsConfiguration c → (sound_or_fault c ≡ Err fault) ↔ IsFault c fault

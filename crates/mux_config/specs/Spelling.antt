@@ -1,21 +1,20 @@
--- The one spelling of a configuration as bytes: the configuration record. A number of two or four bytes is
--- big-endian.
+-- The encoding of a configuration as bytes: the configuration record. A number of two or four bytes is big-endian.
 use Rattle.std.specs.Prelude.{ℕ, List, [], ◌∷◌, ◌++◌, length}
 use Rattle.std.specs.List.{flat_map}
 use Rattle.mux_types.specs.declared.parts.Sub.{Sub}
 use Rattle.mux_types.specs.declared.parts.Service.{Service}
 use Rattle.mux_types.specs.declared.parts.Packet.{Packet}
 use Rattle.mux_types.specs.Configuration.{Configuration}
-use Rattle.byte_fields.specs.FieldSpelling.{word_bytes, flag_byte, protection_bytes, sid_field, component_bytes}
+use Rattle.byte_fields.specs.FieldSpelling.{u16_bytes, flag_byte, protection_bytes, sid_field, component_bytes}
 
 abbrev pub sub_record : Sub → List ℕ
-sub_record s = s.id ∷ word_bytes s.start ++ protection_bytes s.protection ++ word_bytes s.kbits
+sub_record s = s.id ∷ u16_bytes s.start ++ protection_bytes s.protection ++ u16_bytes s.kbits
 
 abbrev pub service_record : Service → List ℕ
 service_record s = sid_field s.sid ++ length s.components ∷ flat_map component_bytes s.components
 
 abbrev pub packet_record : Packet → List ℕ
-packet_record p = word_bytes p.scid ++ flag_byte p.dg ∷ p.ty ∷ p.sub ∷ word_bytes p.address
+packet_record p = u16_bytes p.scid ++ flag_byte p.dg ∷ p.ty ∷ p.sub ∷ u16_bytes p.address
 
 -- the three numbers of members, and then the members
 abbrev pub config_bytes : Configuration → List ℕ

@@ -28,7 +28,7 @@ impl Edit {
         }
     }
 
-    /// [`Edit::apply`] where no fault holds.
+    /// [`Edit::apply`] if there is no fault.
     pub fn apply_known<S: Store>(self, store: &mut S)
         requires { edit_fault self (S.content store.old) ≡ None }
         ensures { S.content store.new ≡ changed self (S.content store.old) }

@@ -1,4 +1,4 @@
-//! A configuration held in three tables.
+//! A configuration in three sorted tables.
 
 ghost use Rattle.std.specs.Prelude.{◌≡◌, ◌≤◌, length};
 ghost use Rattle.mux_types.specs.Configuration.{Configuration, IsConfiguration, nothing};
@@ -39,7 +39,7 @@ impl Config {
         }
     }
 
-    /// The configuration of these three sets, which must form one.
+    /// The configuration with these three sets, which must form one.
     pub fn of(
         subs: SortedTable<Sub, 64>,
         services: SortedTable<Service, 64>,
@@ -95,7 +95,7 @@ impl Config {
         self.packets.copy_from(&other.packets);
     }
 
-    /// Copies the services and packet components of another configuration; the sub-channels stay.
+    /// Copies the services and packet components of another configuration; the sub-channels are unchanged.
     pub fn copy_others_from(&mut self, other: &Config)
         ensures value { self.new ≡ record other.now { subs = self.old.subs } }
         ensures configuration { IsConfiguration self.new }

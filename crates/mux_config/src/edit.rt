@@ -1,4 +1,4 @@
-//! An edit of a configuration as a value: what a plan or a script asks to be changed.
+//! An edit of a configuration as a value, as plans and scripts contain it.
 
 ghost use Rattle.std.specs.Prelude.{◌≡◌, ◌<◌, ◌↔◌, IsSome, IfSome};
 
@@ -26,7 +26,7 @@ impl Model for StartAddress {
 }
 
 impl StartAddress {
-    /// The start address of this number; None where it is above 1023.
+    /// The start address with this number; None if it is above 1023.
     pub fn new(address: u16) -> Option<StartAddress>
         ensures in_range { IsSome result ↔ (address < 1024) }
         ensures value { IfSome result (λ s. s ≡ address) }
@@ -47,8 +47,8 @@ impl StartAddress {
     }
 }
 
-/// A sub-channel that is to be added: a [`Sub`] whose start address is at most 1023. The edit checks whether it has a
-/// size and room.
+/// A sub-channel to be added: a [`Sub`] whose start address is at most 1023. The edit checks whether it has a size and
+/// fits in the multiplex.
 #[derive(Clone, Copy, Debug, PartialEq, Eq)]
 pub struct NewSub {
     sub: Sub,
@@ -68,7 +68,7 @@ impl Model for NewSub {
 }
 
 impl NewSub {
-    /// This sub-channel, to be added; None where its start address is above 1023.
+    /// This sub-channel, to be added; None if its start address is above 1023.
     pub fn new(sub: Sub) -> Option<NewSub>
         ensures in_range { IsSome result ↔ (sub.start < 1024) }
         ensures value { IfSome result (λ n. n ≡ sub) }
@@ -80,7 +80,7 @@ impl NewSub {
         }
     }
 
-    /// The sub-channel of these fields, to be added.
+    /// The sub-channel with these fields, to be added.
     pub fn from_parts(id: SubId, start: StartAddress, protection: Protection, kbits: u16) -> NewSub
         ensures { result
             ≡ record { id = id; start = start; protection = protection; kbits = kbits } }
@@ -95,7 +95,7 @@ impl NewSub {
         }
     }
 
-    /// The sub-channel; it starts at 0 to 1023.
+    /// The sub-channel; its start address is 0 to 1023.
     pub fn get(self) -> Sub
         ensures value { result ≡ self }
         ensures in_range { result.start < 1024 }
@@ -113,7 +113,7 @@ pub enum Edit {
     DropSub(SubId),
     /// Gives a sub-channel another start address.
     MoveSub { id: SubId, start: StartAddress },
-    /// Gives a sub-channel another bit rate, in kbit/s; its protection profile stays.
+    /// Gives a sub-channel another bit rate, in kbit/s, with the same protection profile.
     RateSub { id: SubId, kbits: u16 },
     /// Adds a service without components.
     AddService(Sid),
@@ -121,7 +121,7 @@ pub enum Edit {
     DropService(Sid),
     /// Adds a component at the end of a service.
     AddComponent { sid: Sid, component: Component },
-    /// Removes the component of this carrier from a service; the later ones move up.
+    /// Removes the component with this carrier from a service; the later ones move up.
     DropComponent { sid: Sid, carrier: Carrier },
     /// Adds a packet component; any address is allowed here, and the edit checks it.
     AddPacket(Packet),

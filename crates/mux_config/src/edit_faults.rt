@@ -1,5 +1,5 @@
-//! Why an edit of a configuration is refused, over any [`Store`]: the first of its faults, in the order in which the
-//! methods of `Store` state them.
+//! Why an edit of a configuration is refused, in any [`Store`]: the first of its faults, in the order given at the
+//! methods of `Store`.
 
 ghost use Rattle.std.specs.Prelude.{◌≡◌, ◌+◌, ◌≤◌, nat_lt, if◌then◌else◌, Some, None, IfSome};
 ghost use Rattle.mux_types.specs.Configuration.{IsPlaced, sub_key, service_key, packet_key, sid_key};
@@ -16,14 +16,14 @@ use mux_types::{Carrier, Component, MEMBERS, Packet, ScId, Service, Sid, Sub, Su
 /// The greatest packet address, which has 10 bits (EN 300 401 clause 6.3.2).
 const LAST_ADDRESS: u16 = 1023;
 
-/// Whether there is a sub-channel of this identifier.
+/// Whether there is a sub-channel with this identifier.
 fn has_sub<S: Store>(store: &S, id: SubId) -> bool
     ensures { let c = S.content store.now in result ≡ has_entry sub_key id c.subs }
 {
     store.sub(id).is_some()
 }
 
-/// Whether there is a service of this identifier.
+/// Whether there is a service with this identifier.
 fn has_service<S: Store>(store: &S, sid: Sid) -> bool
     ensures { let c = S.content store.now in
         result ≡ has_entry service_key (sid_key sid) c.services }
@@ -31,26 +31,26 @@ fn has_service<S: Store>(store: &S, sid: Sid) -> bool
     store.service(sid).is_some()
 }
 
-/// Whether there is a packet component of this identifier.
+/// Whether there is a packet component with this identifier.
 fn has_packet<S: Store>(store: &S, scid: ScId) -> bool
     ensures { let c = S.content store.now in result ≡ has_entry packet_key scid c.packets }
 {
     store.packet(scid).is_some()
 }
 
-/// The sub-channel of an identifier, which has a size and lies within the multiplex.
+/// The sub-channel with an identifier; it has a size and lies within the multiplex.
 fn placed_sub<S: Store>(store: &S, id: SubId) -> Option<Sub>
     ensures value { result ≡ sub_at id (S.content store.now) }
     ensures placed { IfSome result (λ s. IsPlaced s) }
 {
-    // Matched for the proof: its goal speaks of the sub-channel found.
+    // Matched for the proof: its goal is about the sub-channel found.
     match store.sub(id) {
         Some(found) => Some(found),
         None => None,
     }
 }
 
-/// Why a sub-channel can't have its start address and rate, if it can't.
+/// Why a sub-channel cannot have its start address and rate; None if it can.
 fn placing_fault(sub: &Sub) -> Option<EditFault>
     ensures { result ≡ placing_fault sub.now }
 {
@@ -60,7 +60,7 @@ fn placing_fault(sub: &Sub) -> Option<EditFault>
     }
 }
 
-/// Why this many capacity units can't begin at a start address, if they can't.
+/// Why this many capacity units cannot begin at a start address; None if they can.
 fn end_fault(start: u16, size: u32) -> Option<EditFault>
     requires { size ≤ CAPACITY_UNITS }
     ensures { result ≡ (if nat_lt CAPACITY_UNITS (start + size) then Some PastEnd else None) }
@@ -71,7 +71,7 @@ fn end_fault(start: u16, size: u32) -> Option<EditFault>
     None
 }
 
-/// Why a sub-channel of the configuration can't have another start address, if it can't.
+/// Why a sub-channel of the configuration cannot have another start address; None if it can.
 fn start_fault(sub: &Sub, start: u16) -> Option<EditFault>
     requires { IsPlaced sub.now }
     ensures { result ≡ (if is_past_end (at_start start sub.now) then Some PastEnd else None) }
@@ -79,7 +79,7 @@ fn start_fault(sub: &Sub, start: u16) -> Option<EditFault>
     end_fault(start, units(sub))
 }
 
-/// Why [`Store::add_sub`] is refused, if it is.
+/// Why [`Store::add_sub`] is refused; None if it is not.
 pub(crate) fn add_sub_fault<S: Store>(store: &S, sub: &Sub) -> Option<EditFault>
     ensures { result ≡ add_sub_fault sub.now (S.content store.now) }
 {
@@ -89,7 +89,7 @@ pub(crate) fn add_sub_fault<S: Store>(store: &S, sub: &Sub) -> Option<EditFault>
     placing_fault(sub)
 }
 
-/// Why [`Store::drop_sub`] is refused, if it is.
+/// Why [`Store::drop_sub`] is refused; None if it is not.
 pub(crate) fn drop_sub_fault<S: Store>(store: &S, id: SubId) -> Option<EditFault>
     ensures { result ≡ drop_sub_fault id (S.content store.now) }
 {
@@ -99,7 +99,7 @@ pub(crate) fn drop_sub_fault<S: Store>(store: &S, id: SubId) -> Option<EditFault
     }
 }
 
-/// Why [`Store::move_sub`] is refused, if it is.
+/// Why [`Store::move_sub`] is refused; None if it is not.
 pub(crate) fn move_sub_fault<S: Store>(store: &S, id: SubId, start: u16) -> Option<EditFault>
     ensures { result ≡ move_sub_fault id start (S.content store.now) }
 {
@@ -109,7 +109,7 @@ pub(crate) fn move_sub_fault<S: Store>(store: &S, id: SubId, start: u16) -> Opti
     }
 }
 
-/// Why [`Store::rate_sub`] is refused, if it is.
+/// Why [`Store::rate_sub`] is refused; None if it is not.
 pub(crate) fn rate_sub_fault<S: Store>(store: &S, id: SubId, kbits: u16) -> Option<EditFault>
     ensures { result ≡ rate_sub_fault id kbits (S.content store.now) }
 {
@@ -119,7 +119,7 @@ pub(crate) fn rate_sub_fault<S: Store>(store: &S, id: SubId, kbits: u16) -> Opti
     }
 }
 
-/// Why [`Store::add_service`] is refused, if it is.
+/// Why [`Store::add_service`] is refused; None if it is not.
 pub(crate) fn add_service_fault<S: Store>(store: &S, sid: Sid) -> Option<EditFault>
     ensures { result ≡ add_service_fault sid (S.content store.now) }
 {
@@ -132,7 +132,7 @@ pub(crate) fn add_service_fault<S: Store>(store: &S, sid: Sid) -> Option<EditFau
     None
 }
 
-/// Why [`Store::drop_service`] is refused, if it is.
+/// Why [`Store::drop_service`] is refused; None if it is not.
 pub(crate) fn drop_service_fault<S: Store>(store: &S, sid: Sid) -> Option<EditFault>
     ensures { result ≡ drop_service_fault sid (S.content store.now) }
 {
@@ -142,7 +142,7 @@ pub(crate) fn drop_service_fault<S: Store>(store: &S, sid: Sid) -> Option<EditFa
     }
 }
 
-/// Why [`Store::add_component`] is refused, if it is.
+/// Why [`Store::add_component`] is refused; None if it is not.
 pub(crate) fn add_component_fault<S: Store>(
     store: &S,
     sid: Sid,
@@ -156,7 +156,7 @@ pub(crate) fn add_component_fault<S: Store>(
     }
 }
 
-/// Why a service can't have one more component, if it can't.
+/// Why a service cannot have one more component; None if it can.
 fn component_fault(service: &Service, component: &Component) -> Option<EditFault>
     ensures { result ≡ component_fault component.now service.now }
 {
@@ -170,7 +170,7 @@ fn component_fault(service: &Service, component: &Component) -> Option<EditFault
     None
 }
 
-/// Why [`Store::drop_component`] is refused, if it is.
+/// Why [`Store::drop_component`] is refused; None if it is not.
 pub(crate) fn drop_component_fault<S: Store>(
     store: &S,
     sid: Sid,
@@ -189,7 +189,7 @@ pub(crate) fn drop_component_fault<S: Store>(
     }
 }
 
-/// Why [`Store::add_packet`] is refused, if it is.
+/// Why [`Store::add_packet`] is refused; None if it is not.
 pub(crate) fn add_packet_fault<S: Store>(store: &S, packet: &Packet) -> Option<EditFault>
     ensures { result ≡ add_packet_fault packet.now (S.content store.now) }
 {
@@ -208,7 +208,7 @@ pub(crate) fn add_packet_fault<S: Store>(store: &S, packet: &Packet) -> Option<E
     None
 }
 
-/// Why [`Store::drop_packet`] is refused, if it is.
+/// Why [`Store::drop_packet`] is refused; None if it is not.
 pub(crate) fn drop_packet_fault<S: Store>(store: &S, scid: ScId) -> Option<EditFault>
     ensures { result ≡ drop_packet_fault scid (S.content store.now) }
 {

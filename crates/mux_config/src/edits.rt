@@ -1,4 +1,4 @@
-//! `Store` for a configuration in tables: its sets in order, and what an edit without a fault changes.
+//! Implements `Store` for `Config`: its sets in order, and what an edit without a fault changes.
 
 ghost use Rattle.std.specs.Prelude.{◌≡◌, ◌<◌, not, length, filter, IfSome, IfNone, option_copied};
 ghost use Rattle.std.specs.List.{remove};
@@ -13,7 +13,7 @@ use mux_types::keys::sid_key;
 use mux_types::sameness::{has_same_packets, has_same_services, has_same_subs};
 use mux_types::{Carrier, Component, Packet, ScId, Service, Sid, Sub, SubId};
 
-/// The sub-channel of an identifier.
+/// The sub-channel with an identifier.
 fn find_sub(config: &Config, id: SubId) -> Option<Sub>
     ensures value { result ≡ sub_at id config.now }
     ensures placed { IfSome result (λ s. IsPlaced s) }
@@ -25,7 +25,7 @@ fn find_sub(config: &Config, id: SubId) -> Option<Sub>
     }
 }
 
-/// The service of an identifier.
+/// The service with an identifier.
 fn find_service(config: &Config, sid: Sid) -> Option<&Service>
     ensures value { option_copied result ≡ service_at sid config.now }
     ensures formed { IfSome result (λ s. IsService s.now) }
@@ -37,7 +37,7 @@ fn find_service(config: &Config, sid: Sid) -> Option<&Service>
     }
 }
 
-/// A copy of a service without its component of a carrier.
+/// A copy of a service without the component with this carrier.
 fn without_carrier(service: &Service, carrier: &Carrier) -> Service
     requires { IsService service.now }
     ensures { result ≡ without_carrier carrier.now service.now }
@@ -49,7 +49,7 @@ fn without_carrier(service: &Service, carrier: &Carrier) -> Service
     rest
 }
 
-/// The index of the component of a carrier.
+/// The index of the component with a carrier.
 fn place_of(components: &[Component], carrier: &Carrier) -> Option<usize>
     requires { AreDifferent components.now }
     ensures in_bounds { IfSome result (λ place. place < length components.now) }
@@ -66,7 +66,7 @@ fn place_of(components: &[Component], carrier: &Carrier) -> Option<usize>
     None
 }
 
-/// Whether a component names a carrier.
+/// Whether a component has this carrier.
 fn names(carrier: &Carrier, component: &Component) -> bool
     ensures { result ≡ names carrier.now component.now }
 {

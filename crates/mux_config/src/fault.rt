@@ -9,7 +9,7 @@ pub enum EditFault {
     /// The identifier or the carrier of what is added is already in use.
     #[error("IdUsed")]
     IdUsed = 1,
-    /// What the edit names does not exist.
+    /// What the edit refers to does not exist.
     #[error("IdAbsent")]
     IdAbsent = 2,
     /// The service has 12 components with a 16-bit SId, or 11 with a 32-bit SId.
@@ -29,18 +29,18 @@ pub enum EditFault {
     BadAddress = 7,
 }
 
-/// What makes a configuration unsound, in the order in which [`crate::soundness`] tests.
+/// What makes a configuration unsound, in the order tested by [`crate::soundness`].
 #[derive(Clone, Copy, Debug, PartialEq, Eq, Error)]
 pub enum ConfigFault {
-    /// Two sub-channels share a capacity unit: the least that shares one with a greater, and the least
-    /// that it shares one with.
+    /// Two sub-channels share a capacity unit: the lowest that shares one with a higher one, and the lowest with which
+    /// it shares one.
     #[error("Overlap {} {}", .0.get(), .1.get())]
     Overlap(SubId, SubId),
-    /// A component in stream mode or a packet component names a sub-channel that does not exist, or a component in
-    /// packet mode names a packet component that does not exist.
+    /// A component in stream mode or a packet component refers to a sub-channel that does not exist, or a component in
+    /// packet mode refers to a packet component that does not exist.
     #[error("Orphan")]
     Orphan,
-    /// Two packet components of one sub-channel have one address.
+    /// Two packet components of one sub-channel have the same address.
     #[error("AddressUsed")]
     AddressUsed,
     /// A service has no component.

@@ -1,5 +1,5 @@
-//! Configurations of a multiplex: what its sub-channels, services and packet components are at one time
-//! (EN 300 401 clauses 6.1 to 6.3), and what the entries of FIG 0/0 to 0/3 can say of them.
+//! Configurations of a multiplex, with their edits, soundness and records: the sub-channels, services and packet
+//! components at one time (EN 300 401 clauses 6.1 to 6.3).
 //!
 //! Begin with `Config`, and with `Store`, the trait of a configuration in any representation. Edits are defined in
 //! `specs/Edits.antt`, the record of a configuration in `specs/Reading.antt`; the entries that describe one on air are

@@ -1,4 +1,4 @@
-//! Which of the two organizations the step from one configuration to the next changes.
+//! Which of the two organizations a reconfiguration changes.
 
 ghost use Rattle.std.specs.Prelude.{◌≡◌};
 ghost use Rattle.mux_types.specs.Configuration.{IsConfiguration};
@@ -9,9 +9,8 @@ use crate::flags::Change;
 use crate::store::Store;
 use mux_types::sameness::{is_same_packet, is_same_service, is_same_sub};
 
-/// What the step from one configuration to the next changes: the sub-channel organization where their entries
-/// of FIG 0/1 differ, the service organization where those of FIG 0/2 or 0/3 differ (EN 300 401 clauses 6.4
-/// and 6.5).
+/// What a reconfiguration from one configuration to the next changes: the sub-channel organization if their entries of
+/// FIG 0/1 differ, the service organization if those of FIG 0/2 or 0/3 differ (EN 300 401 clauses 6.4 and 6.5).
 pub fn change<S: Store>(current: &S, next: &S) -> Change
     ensures value { result ≡ change_of (S.content current.now) (S.content next.now) }
     ensures entries_differ { IsChange (S.content current.now) (S.content next.now) result }

@@ -1,4 +1,4 @@
-//! Reading a configuration record.
+//! Reads a configuration record.
 
 ghost use Rattle.std.specs.Prelude.{◌≡◌, ℕ, ◌<◌, ◌≤◌, ◌^◌, ◌++◌, [], List, length, drop, Ok, Err, IfOk, IfErr};
 ghost use Rattle.mux_types.specs.Configuration.{Configuration, IsConfiguration, sid_key};
@@ -12,14 +12,14 @@ use mux_eep::{CAPACITY_UNITS, size_of};
 use mux_types::keys::sid_key;
 use mux_types::{BoundedVec, Component, Keyed, MEMBERS, Packet, Service, SortedTable, Sub};
 
-/// A member of a set, as a record has it.
+/// A member of a set, as it is in a record.
 trait Member: Keyed {
     ghost use Rattle.std.specs.Prelude.{ℕ, List};
     ghost use Rattle.byte_fields.specs.FieldReading.{Reads};
 
     ghost member_at: { ℕ → ℕ → List ℕ → Reads Self };
 
-    /// Reads a member whose key is `low` or more. Fault: `Order` as soon as its identifier is read and below;
+    /// Reads a member whose key is at least `low`. Fault: `Order` as soon as its identifier is read and is below `low`;
     /// else the first field at fault.
     fn read(reader: &mut Reader, low: u64) -> Result<Self, RecordFault>
         ensures read { Takes (member_at reader.old.total low reader.old.rest) result reader.new }
@@ -114,7 +114,7 @@ impl Member for Packet {
     }
 }
 
-/// Reads this many members of a set, each with an identifier above that of the one before it.
+/// Reads this many members of a set, each with an identifier above the previous one.
 fn members<T: Member>(reader: &mut Reader, count: u8) -> Result<SortedTable<T, 64>, RecordFault>
     requires { count ≤ 64 }
     ensures read { let members = members_at T.key (T.member_at reader.old.total) 0 [] count in
@@ -157,11 +157,11 @@ fn record(bytes: &[u8]) -> Result<(Config, usize), RecordFault>
 /// Reads the configuration record at the front of these bytes: the configuration, and the length of its record. It does
 /// not allocate.
 ///
-/// A refusal is the first fault in the order of the bytes: `Short` where a field's bytes are missing; `Field` with the
-/// offset of the first byte of a field that is out of its range; `Order` where an identifier is not above the one
-/// before it, as soon as it is read and in range. A bit rate that has no size is at fault at its own bytes, and then a
-/// sub-channel that ends past the last capacity unit at its start address. A component whose carrier the service has
-/// already is at fault at its first byte.
+/// The fault is the first one in the order of the bytes: `Short` if bytes of a field are missing; `Field` with the
+/// offset of the first byte of a field that is out of range; `Order` if an identifier is not above the previous one, as
+/// soon as it is read and in range. A bit rate without a size is at fault at its own bytes; after that a sub-channel
+/// that ends past the last capacity unit is at fault at its start address. A component whose carrier the service
+/// already has is at fault at its first byte.
 pub fn read_config(bytes: &[u8]) -> Result<(Config, usize), RecordFault>
     ensures configuration { IfOk result (λ found. IsConfiguration found.0) }
     ensures spelled { IfOk result (λ found.

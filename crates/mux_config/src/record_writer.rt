@@ -1,4 +1,4 @@
-//! Writing a configuration record.
+//! Writes a configuration record.
 
 ghost use Rattle.std.specs.Prelude.{◌≡◌, ℕ, ◌++◌, List, Ok, OnOk, IfOk};
 ghost use Rattle.std.specs.List.{flat_map};
@@ -91,7 +91,7 @@ impl Spelled for Packet {
     }
 }
 
-/// Writes each of them in order.
+/// Writes these values in order.
 fn put_all<T: Spelled>(out: &mut Vec<u8>, items: &[T]) -> Result<(), AllocError>
     ensures { OnOk result (out.new.items ≡ out.old.items ++ flat_map T.text items.now) }
 {
@@ -114,7 +114,7 @@ pub fn put_config(out: &mut Vec<u8>, config: &Config) -> Result<(), AllocError>
     put_all(out, config.packets())
 }
 
-/// The record of a configuration. Reading it gives the configuration again, whatever follows it.
+/// The record of a configuration. Reading it gives the same configuration, whatever follows it.
 pub fn write_config(alloc: Global, config: &Config) -> Result<Vec<u8>, AllocError>
     ensures spelled { IfOk result (λ bytes. bytes.items ≡ config_bytes config.now) }
     ensures read_back { IfOk result (λ bytes. (rest : List ℕ)

@@ -1,4 +1,4 @@
-//! Whether a configuration is sound: whether it can be sent as it is.
+//! Tests whether a configuration is sound.
 
 ghost use Rattle.std.specs.Prelude.{◌≡◌, ◌≤◌, ◌↔◌, length, drop, Some, None, IsOk};
 ghost use Rattle.std.specs.List.{list_any};
@@ -13,12 +13,12 @@ use crate::store::Store;
 use mux_types::{Carrier, Component, Packet, Sub};
 
 /// Whether a configuration is sound: no two sub-channels share a capacity unit, what each component and each packet
-/// component names exists, no two packet components of a sub-channel have one address, and each service has a component
-/// (EN 300 401 clauses 6.2.1, 6.3.1 and 6.3.2).
+/// component refers to exists, no two packet components of a sub-channel have the same address, and each service has a
+/// component (EN 300 401 clauses 6.2.1, 6.3.1 and 6.3.2).
 ///
-/// The faults are tested in this order: `Overlap(a, b)` (the least `a` that shares a capacity unit with a greater
-/// sub-channel, and the least such `b`), `Orphan` (what a component or a packet component names does not exist),
-/// `AddressUsed` (two packet components of one sub-channel have one address), `EmptyService`.
+/// The faults are tested in this order: `Overlap(a, b)` (the lowest `a` that shares a capacity unit with a higher
+/// sub-channel, and the lowest such `b`), `Orphan` (what a component or a packet component refers to does not exist),
+/// `AddressUsed` (two packet components of one sub-channel have the same address), `EmptyService`.
 pub fn soundness<S: Store>(store: &S) -> Result<(), ConfigFault>
     ensures first_fault { result ≡ sound_or_fault (S.content store.now) }
     ensures sound { IsOk result ↔ IsSound (S.content store.now) }
@@ -85,14 +85,14 @@ fn overlap_with<S: Store>(store: &S, sub: &Sub, from: usize) -> Option<ConfigFau
     None
 }
 
-/// Whether a component or a packet component names something that does not exist.
+/// Whether a component or a packet component refers to something that does not exist.
 fn has_orphan<S: Store>(store: &S) -> bool
     ensures { result ≡ has_orphan (S.content store.now) }
 {
     has_orphan_component(store) || has_orphan_packet(store)
 }
 
-/// Whether a component of a service names something that does not exist.
+/// Whether a component of a service refers to something that does not exist.
 fn has_orphan_component<S: Store>(store: &S) -> bool
     ensures { let c = S.content store.now in
         result ≡ list_any (λ s. list_any (λ m. is_missing c (carrier_of m)) s.components)
@@ -106,7 +106,7 @@ fn has_orphan_component<S: Store>(store: &S) -> bool
     false
 }
 
-/// Whether one of these components names something that does not exist.
+/// Whether one of these components refers to something that does not exist.
 fn names_missing<S: Store>(store: &S, components: &[Component]) -> bool
     ensures { result ≡ list_any (λ m.
         is_missing (S.content store.now) (carrier_of m)) components.now }
@@ -119,7 +119,7 @@ fn names_missing<S: Store>(store: &S, components: &[Component]) -> bool
     false
 }
 
-/// Whether a packet component names a sub-channel that does not exist.
+/// Whether a packet component refers to a sub-channel that does not exist.
 fn has_orphan_packet<S: Store>(store: &S) -> bool
     ensures { let c = S.content store.now in
         result ≡ list_any (λ p. is_missing c (BySub p.sub)) c.packets }
@@ -143,8 +143,8 @@ fn is_missing<S: Store>(store: &S, carrier: Carrier) -> bool
     }
 }
 
-/// Whether two packet components of one sub-channel have one address. They are compared from the last to the first, and
-/// only where a later one has the same sub-channel.
+/// Whether two packet components of one sub-channel have the same address. They are compared from the last to the
+/// first, and only if a later one has the same sub-channel.
 fn has_address_twice<S: Store>(store: &S) -> bool
     ensures { let c = S.content store.now in result ≡ has_address_twice c.packets }
 {
@@ -176,7 +176,7 @@ fn has_same_address_from<S: Store>(store: &S, packet: &Packet, from: usize) -> b
     false
 }
 
-/// Whether two packet components have one sub-channel and one address.
+/// Whether two packet components have the same sub-channel and the same address.
 fn has_same_address(p: &Packet, q: &Packet) -> bool
     ensures { result ≡ has_same_address p.now q.now }
 {

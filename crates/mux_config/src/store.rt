@@ -16,8 +16,8 @@ use mux_types::{Carrier, Component, Packet, ScId, Service, Sid, Sub, SubId};
 /// A configuration in any representation: its three sets, in ascending order, and the ten edits (EN 300 401 clauses 6.1
 /// to 6.3). Contracts see the configuration that it represents. No call allocates.
 ///
-/// A refused edit returns the first of its faults, in the order in which its documentation names them, and changes
-/// nothing. The method of the same name with `_known` is for a caller who knows that no fault holds.
+/// A refused edit returns the first of its faults, in the order given in its documentation, and changes nothing. The
+/// method of the same name with `_known` is for a caller that knows that there is no fault.
 pub trait Store: Drop {
     ghost use Rattle.mux_types.specs.Configuration.{Configuration};
 
@@ -48,7 +48,7 @@ pub trait Store: Drop {
     fn same(&self, other: &Self) -> bool
         ensures { IsTrue result ↔ (content self.now ≡ content other.now) };
 
-    /// How many sub-channels there are, at most 64.
+    /// The number of sub-channels, at most 64.
     fn sub_count(&self) -> usize
         ensures value { let c = content self.now in result ≡ length c.subs }
         ensures configuration { IsConfiguration (content self.now) };
@@ -59,7 +59,7 @@ pub trait Store: Drop {
         ensures value { let c = content self.now in slice_get c.subs place ≡ Some result }
         ensures configuration { IsConfiguration (content self.now) };
 
-    /// How many services there are, at most 64.
+    /// The number of services, at most 64.
     fn service_count(&self) -> usize
         ensures value { let c = content self.now in result ≡ length c.services }
         ensures configuration { IsConfiguration (content self.now) };
@@ -70,7 +70,7 @@ pub trait Store: Drop {
         ensures value { let c = content self.now in slice_get c.services place ≡ Some result.now }
         ensures configuration { IsConfiguration (content self.now) };
 
-    /// How many packet components there are, at most 64.
+    /// The number of packet components, at most 64.
     fn packet_count(&self) -> usize
         ensures value { let c = content self.now in result ≡ length c.packets }
         ensures configuration { IsConfiguration (content self.now) };
@@ -81,17 +81,17 @@ pub trait Store: Drop {
         ensures value { let c = content self.now in slice_get c.packets place ≡ Some result }
         ensures configuration { IsConfiguration (content self.now) };
 
-    /// The sub-channel of an identifier; None where there is none.
+    /// The sub-channel with an identifier; None if there is none.
     fn sub(&self, id: SubId) -> Option<Sub>
         ensures value { result ≡ sub_at id (content self.now) }
         ensures configuration { IsConfiguration (content self.now) };
 
-    /// The service of an identifier; None where there is none.
+    /// The service with an identifier; None if there is none.
     fn service(&self, sid: Sid) -> Option<&Service>
         ensures value { option_copied result ≡ service_at sid (content self.now) }
         ensures configuration { IsConfiguration (content self.now) };
 
-    /// The packet component of an identifier; None where there is none.
+    /// The packet component with an identifier; None if there is none.
     fn packet(&self, scid: ScId) -> Option<Packet>
         ensures value { result ≡ packet_at scid (content self.now) }
         ensures configuration { IsConfiguration (content self.now) };
@@ -114,7 +114,7 @@ pub trait Store: Drop {
         Ok(())
     }
 
-    /// [`Store::add_sub`] where no fault holds.
+    /// [`Store::add_sub`] if there is no fault.
     fn add_sub_known(&mut self, sub: Sub)
         requires { add_sub_fault sub (content self.old) ≡ None }
         ensures { content self.new ≡ sub_added sub (content self.old) };
@@ -131,7 +131,7 @@ pub trait Store: Drop {
         Ok(())
     }
 
-    /// [`Store::drop_sub`] where no fault holds.
+    /// [`Store::drop_sub`] if there is no fault.
     fn drop_sub_known(&mut self, id: SubId)
         requires { drop_sub_fault id (content self.old) ≡ None }
         ensures { content self.new ≡ sub_dropped id (content self.old) };
@@ -149,13 +149,13 @@ pub trait Store: Drop {
         Ok(())
     }
 
-    /// [`Store::move_sub`] where no fault holds.
+    /// [`Store::move_sub`] if there is no fault.
     fn move_sub_known(&mut self, id: SubId, start: u16)
         requires { move_sub_fault id start (content self.old) ≡ None }
         ensures { content self.new ≡ sub_moved id start (content self.old) };
 
-    /// Gives a sub-channel another bit rate, in kbit/s; its protection profile stays. Faults: `IdAbsent` (it does not
-    /// exist), `BadRate` (its profile has no size at that rate), `PastEnd` (it would end past capacity unit 863).
+    /// Gives a sub-channel another bit rate, in kbit/s, with the same protection profile. Faults: `IdAbsent` (it does
+    /// not exist), `BadRate` (its profile has no size at that rate), `PastEnd` (it would end past capacity unit 863).
     final fn rate_sub(&mut self, id: SubId, kbits: u16) -> Result<(), EditFault>
         ensures { Edits (content self.old) (content self.new)
             (rate_sub id kbits (content self.old)) result }
@@ -167,7 +167,7 @@ pub trait Store: Drop {
         Ok(())
     }
 
-    /// [`Store::rate_sub`] where no fault holds.
+    /// [`Store::rate_sub`] if there is no fault.
     fn rate_sub_known(&mut self, id: SubId, kbits: u16)
         requires { rate_sub_fault id kbits (content self.old) ≡ None }
         ensures { content self.new ≡ sub_rated id kbits (content self.old) };
@@ -185,7 +185,7 @@ pub trait Store: Drop {
         Ok(())
     }
 
-    /// [`Store::add_service`] where no fault holds.
+    /// [`Store::add_service`] if there is no fault.
     fn add_service_known(&mut self, sid: Sid)
         requires { add_service_fault sid (content self.old) ≡ None }
         ensures { content self.new ≡ service_added sid (content self.old) };
@@ -202,13 +202,13 @@ pub trait Store: Drop {
         Ok(())
     }
 
-    /// [`Store::drop_service`] where no fault holds.
+    /// [`Store::drop_service`] if there is no fault.
     fn drop_service_known(&mut self, sid: Sid)
         requires { drop_service_fault sid (content self.old) ≡ None }
         ensures { content self.new ≡ service_dropped sid (content self.old) };
 
     /// Adds a component at the end of a service. Faults: `IdAbsent` (the service does not exist), `IdUsed` (it has a
-    /// component of that carrier), `TooManyComponents` (it has 12, or 11 with a 32-bit SId).
+    /// component with that carrier), `TooManyComponents` (it has 12, or 11 with a 32-bit SId).
     final fn add_component(&mut self, sid: Sid, component: Component) -> Result<(), EditFault>
         ensures { Edits (content self.old) (content self.new)
             (add_component sid component (content self.old)) result }
@@ -220,13 +220,13 @@ pub trait Store: Drop {
         Ok(())
     }
 
-    /// [`Store::add_component`] where no fault holds.
+    /// [`Store::add_component`] if there is no fault.
     fn add_component_known(&mut self, sid: Sid, component: Component)
         requires { add_component_fault sid component (content self.old) ≡ None }
         ensures { content self.new ≡ component_added sid component (content self.old) };
 
-    /// Removes the component of a carrier from a service; the later ones move up. Fault: `IdAbsent` (the service does
-    /// not exist, or has no component of that carrier).
+    /// Removes the component with a carrier from a service; the later ones move up. Fault: `IdAbsent` (the service does
+    /// not exist, or has no component with that carrier).
     final fn drop_component(&mut self, sid: Sid, carrier: Carrier) -> Result<(), EditFault>
         ensures { Edits (content self.old) (content self.new)
             (drop_component sid carrier (content self.old)) result }
@@ -238,7 +238,7 @@ pub trait Store: Drop {
         Ok(())
     }
 
-    /// [`Store::drop_component`] where no fault holds.
+    /// [`Store::drop_component`] if there is no fault.
     fn drop_component_known(&mut self, sid: Sid, carrier: Carrier)
         requires { drop_component_fault sid carrier (content self.old) ≡ None }
         ensures { content self.new ≡ component_dropped sid carrier (content self.old) };
@@ -256,7 +256,7 @@ pub trait Store: Drop {
         Ok(())
     }
 
-    /// [`Store::add_packet`] where no fault holds.
+    /// [`Store::add_packet`] if there is no fault.
     fn add_packet_known(&mut self, packet: Packet)
         requires { add_packet_fault packet (content self.old) ≡ None }
         ensures { content self.new ≡ packet_added packet (content self.old) };
@@ -273,7 +273,7 @@ pub trait Store: Drop {
         Ok(())
     }
 
-    /// [`Store::drop_packet`] where no fault holds.
+    /// [`Store::drop_packet`] if there is no fault.
     fn drop_packet_known(&mut self, scid: ScId)
         requires { drop_packet_fault scid (content self.old) ≡ None }
         ensures { content self.new ≡ packet_dropped scid (content self.old) };

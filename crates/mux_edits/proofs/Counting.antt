@@ -1,4 +1,4 @@
--- How many edits there are at most.
+-- Upper bounds on the number of edits.
 use Rattle.std.proofs.Common.{◌≡◌, ℕ, ◌+◌, ◌*◌, ◌≤◌, ◌==◌, nat_lt, Bool, true, false, cond, List, [], ◌∷◌, ◌++◌, length, Option, Some, None, refl, arith, length-append}
 use Rattle.std.specs.List.{AllByRecursion, flat_map}
 use Rattle.mux_config.specs.declared.edit.Edit.{Edit}
@@ -13,9 +13,9 @@ use Rattle.mux_types.specs.Configuration.{Configuration, IsConfiguration, IsServ
 use Rattle.mux_types.specs.Sameness.{is_same_component, is_same_packet}
 use Rattle.mux_config.specs.Edits.{sub_at, service_at, packet_at}
 use Rattle.mux_edits.specs.Making.{sub_added, components_added, service_added, packet_added, edits_that_make}
-use Rattle.mux_edits.specs.Differences.{is_same_profile, behind, components_dropped, service_gone, service_cut, packet_gone, sub_gone, start_altered, rate_altered, alterations, sub_altered, sub_new, packet_new, service_grown, edits_between}
+use Rattle.mux_edits.specs.Differences.{is_same_profile, after_common, components_dropped, service_gone, service_cut, packet_gone, sub_gone, start_altered, rate_altered, alterations, sub_altered, sub_new, packet_new, service_grown, edits_between}
 
--- ---- of each member so many
+-- ---- a bound for each member
 
 pub few_each : {T : Type 0} (P : T → Type 0) (f : T → List Edit) (most : ℕ) → ((x : T) → P x → length (f x) ≤ most) → (xs : List T) → AllByRecursion P xs → length (flat_map f xs) ≤ most * length xs
 few_each P f most few [] h = omega arith
@@ -36,11 +36,11 @@ chosen false es fs n h k = k
 
 -- ---- components
 
-behind_by : (m n : Component) (ms ns : List Component) (b : Bool) → length (behind ms ns) ≤ length ms → length (cond b (behind ms ns) (m ∷ ms)) ≤ length (m ∷ ms)
+behind_by : (m n : Component) (ms ns : List Component) (b : Bool) → length (after_common ms ns) ≤ length ms → length (cond b (after_common ms ns) (m ∷ ms)) ≤ length (m ∷ ms)
 behind_by m n ms ns true rest = omega (arith, rest)
 behind_by m n ms ns false rest = omega arith
 
-behind_few : (ms ns : List Component) → length (behind ms ns) ≤ length ms
+behind_few : (ms ns : List Component) → length (after_common ms ns) ≤ length ms
 behind_few [] ns = omega arith
 behind_few (m ∷ ms) [] = omega arith
 behind_few (m ∷ ms) (n ∷ ns) = behind_by m n ms ns (is_same_component m n) (behind_few ms ns)
@@ -66,7 +66,7 @@ service_few s h = let few = h.few in let most = limit_few s.sid in omega (arith,
 added_few : (s : Service) → IsService s → length (service_added s) ≤ 13
 added_few s h = let few = service_few s h in let same = added_length s.sid s.components in omega (arith, few, same)
 
--- ---- all that make a configuration
+-- ---- the edits that make a configuration
 
 pub made_few : (c : Configuration) → IsConfiguration c → length (edits_that_make c) ≤ 960
 made_few c h =
@@ -83,7 +83,7 @@ made_few c h =
     let n3 = h.packets_few in
     omega (arith, one, two, three, l1, l2, n1, n2, n3)
 
--- ---- all between two configurations
+-- ---- the edits between two configurations
 
 gone_few : (o : Option Service) (s : Service) → length (service_gone o s) ≤ 1
 gone_few None s = omega arith
@@ -94,7 +94,7 @@ cut_few None s h = omega arith
 cut_few (Some t) s h =
     let few = service_few s h in
     let less = behind_few s.components t.components in
-    let same = dropped_length s.sid (behind s.components t.components) in
+    let same = dropped_length s.sid (after_common s.components t.components) in
     omega (arith, few, less, same)
 
 packet_gone_few : (o : Option Packet) (p : Packet) → length (packet_gone o p) ≤ 1
@@ -136,7 +136,7 @@ grown_few None t h = added_few t h
 grown_few (Some s) t h =
     let few = service_few t h in
     let less = behind_few t.components s.components in
-    let same = added_length t.sid (behind t.components s.components) in
+    let same = added_length t.sid (after_common t.components s.components) in
     omega (arith, few, less, same)
 
 pub between_few : (from to : Configuration) → IsConfiguration from → IsConfiguration to → length (edits_between from to) ≤ 2048

@@ -1,8 +1,8 @@
 pub mod Counting
-pub mod Leading
+pub mod Transforming
 pub mod Lookups
 pub mod Loops
-pub mod PacketTurns
+pub mod PacketSteps
 pub mod Passage
 pub mod ServiceTurns
 pub mod SubTurns

@@ -1,5 +1,5 @@
--- Sets in ascending order by what is found in them: what edits change of it, that it determines the set, and how many
--- members a set has whose keys are among those of another.
+-- Lookups in ordered sets: how edits change them, that they determine the set, and the number of members of a set whose
+-- keys are among those of another.
 use Rattle.std.proofs.Common.{◌≡◌, ◌≢◌, ℕ, ◌<◌, ◌≤◌, false, eqb, List, [], ◌∷◌, length, Some, None, refl, sym, ap, ◌∙◌, inl, inr, arith}
 use Rattle.std.specs.List.{AllByRecursion}
 use Rattle.std.proofs.lemmas.Bool.{cases_lt, cases_eq, lt-ltb, le-ltb, eq-eqb, ne_eqb}
@@ -10,7 +10,7 @@ use Rattle.mux_types.proofs.Tables.{each_weaker}
 some_is_none : {T : Type 0} {P : Type 0} (x : T) → Some x ≡ None → P
 some_is_none x e = absurd (cc)
 
--- ---- one look-up
+-- ---- one lookup
 
 pub found_first : {T : Type 0} (key : T → ℕ) (k : ℕ) (x : T) (xs : List T) → key x ≡ k → entry_at key k (x ∷ xs) ≡ Some x
 found_first key k x xs same = rw (eq-eqb _ _ same) refl
@@ -22,7 +22,7 @@ pub found_never : {T : Type 0} (key : T → ℕ) (k : ℕ) (xs : List T) → All
 found_never key k [] above = refl
 found_never key k (x ∷ xs) above = found_later key k x xs (λ same. let h = above.0 in omega (arith, h, same)) ∙ found_never key k xs above.1
 
--- what is found is the member with its key, or one of those behind
+-- a member found is the first, or one of those after it
 pub found_cases : {T : Type 0} (key : T → ℕ) (k : ℕ) (x : T) (xs : List T) (y : T) → entry_at key k (x ∷ xs) ≡ Some y → (key x ≢ k) → entry_at key k xs ≡ Some y
 found_cases key k x xs y e other = sym (found_later key k x xs other) ∙ e
 
@@ -92,7 +92,7 @@ changed_others key j change (x ∷ xs) k keeps other =
       ])
     ]
 
--- ---- what is found determines the set
+-- ---- lookups determine the set
 
 absent_behind : {T : Type 0} (key : T → ℕ) (x : T) (xs : List T) (k : ℕ) → IsAscending key (x ∷ xs) → key x ≡ k → entry_at key k xs ≡ None
 absent_behind key x xs k up same = found_never key k xs (each_weaker (λ z. key x < key z) (λ z. k < key z) (λ z h. omega (arith, h, same)) xs up.0)
@@ -105,7 +105,7 @@ above_found key k n (x ∷ xs) y above e =
       | inr other ↦ above_found key k n xs y above.1 (found_cases key k x xs y e other)
     ]
 
--- two lists that find the same first members begin alike
+-- lists with the same lookups have the same first member
 heads_equal : {T : Type 0} (key : T → ℕ) (x y : T) (xs ys : List T) → IsAscending key (x ∷ xs) → IsAscending key (y ∷ ys)
     → ((k : ℕ) → entry_at key k (x ∷ xs) ≡ entry_at key k (y ∷ ys)) → x ≡ y
 heads_equal key x y xs ys h k same =

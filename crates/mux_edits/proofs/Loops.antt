@@ -1,4 +1,4 @@
--- The invariants of the loops.
+-- Loop invariants.
 use Rattle.std.proofs.Common.{◌≡◌, ℕ, ◌+◌, ◌<◌, ◌≤◌, true, false, List, [], ◌∷◌, ◌++◌, length, get_or, drop, None, refl, sym, ap, ◌∙◌, subst, arith}
 use Rattle.std.proofs.lemmas.List.{append-nil, append_assoc, drop_more, drop_all}
 use Rattle.mux_config.specs.declared.edit.Edit.{Edit}
@@ -9,16 +9,16 @@ use Rattle.mux_types.specs.Configuration.{Configuration, carrier_of}
 use Rattle.mux_types.specs.Sameness.{is_same_component}
 use Rattle.mux_config.specs.Edits.{edit_fault, changed}
 use Rattle.mux_edits.specs.Sequences.{HaveNoFault, after}
-use Rattle.mux_edits.specs.Differences.{behind, components_dropped}
+use Rattle.mux_edits.specs.Differences.{after_common, components_dropped}
 
--- ---- edits are carried out
+-- ---- applying edits
 
--- what is left has no fault, and leads to where all of it does
+-- the edits left have no fault, and result in the same configuration as all of them
 pub record IsUnderWay (all left : List Edit) (c d : Configuration) : Type 0 where
   pub fine : HaveNoFault left d
   pub arrives : after left d ≡ after all c
 
--- the next one has no fault, and what is left behind it is under way
+-- the next edit has no fault, and the invariant holds after it
 pub next_fine : (all : List Edit) (i : ℕ) (e : Edit) (c d : Configuration) → i < length all → e ≡ get_or all i e
     → IsUnderWay all (drop i all) c d → edit_fault e d ≡ None
 next_fine all i e c d lt same h =
@@ -39,7 +39,7 @@ one_on all i e c d f lt same is h =
 pub all_out : (all : List Edit) (i : ℕ) (c d : Configuration) → length all ≤ i → IsUnderWay all (drop i all) c d → d ≡ after all c
 all_out all i c d past h = sym (ap (λ (es : List Edit). after es d) (drop_all i all past)) ∙ h.arrives
 
--- ---- components are dropped, the last one first
+-- ---- dropping components, the last one first
 
 pub record AreDropped (sid : Sid) (ms : List Component) (place : ℕ) (old out : List Edit) : Type 0 where
   pub placed : place ≤ length ms
@@ -66,48 +66,48 @@ one_dropped sid ms place i m old out new at same put h =
           ∙ sym (ap (λ (ns : List Component). old ++ components_dropped sid ns) cut);
     }
 
--- ---- the longest common beginning
+-- ---- the longest common prefix
 
 pub record IsCommon (ms ns : List Component) (place : ℕ) : Type 0 where
   pub placed : place ≤ length ms
-  pub same : behind (drop place ms) (drop place ns) ≡ behind ms ns
+  pub same : after_common (drop place ms) (drop place ns) ≡ after_common ms ns
 
 pub common_more : (ms ns : List Component) (place : ℕ) (m n : Component) → place < length ms → place < length ns → m ≡ get_or ms place m → n ≡ get_or ns place n
     → is_same_component m n ≡ true → IsCommon ms ns place → IsCommon ms ns (place + 1)
 common_more ms ns place m n lt less one other same h =
     let cut : drop place ms ≡ m ∷ drop (place + 1) ms = drop_more ms place m lt ∙ ap (λ (x : Component). x ∷ drop (place + 1) ms) (sym one) in
     let slice : drop place ns ≡ n ∷ drop (place + 1) ns = drop_more ns place n less ∙ ap (λ (x : Component). x ∷ drop (place + 1) ns) (sym other) in
-    let step : behind (m ∷ drop (place + 1) ms) (n ∷ drop (place + 1) ns) ≡ behind (drop (place + 1) ms) (drop (place + 1) ns) = rw same refl in
+    let step : after_common (m ∷ drop (place + 1) ms) (n ∷ drop (place + 1) ns) ≡ after_common (drop (place + 1) ms) (drop (place + 1) ns) = rw same refl in
     record {
       placed = omega (arith, lt);
-      same = sym step ∙ sym (ap (λ (xs : List Component). behind xs (n ∷ drop (place + 1) ns)) cut) ∙ sym (ap (λ (xs : List Component). behind (drop place ms) xs) slice) ∙ h.same;
+      same = sym step ∙ sym (ap (λ (xs : List Component). after_common xs (n ∷ drop (place + 1) ns)) cut) ∙ sym (ap (λ (xs : List Component). after_common (drop place ms) xs) slice) ∙ h.same;
     }
 
 pub common_ends : (ms ns : List Component) (place : ℕ) (m n : Component) → place < length ms → place < length ns → m ≡ get_or ms place m → n ≡ get_or ns place n
-    → is_same_component m n ≡ false → IsCommon ms ns place → drop place ms ≡ behind ms ns
+    → is_same_component m n ≡ false → IsCommon ms ns place → drop place ms ≡ after_common ms ns
 common_ends ms ns place m n lt less one other differ h =
     let cut : drop place ms ≡ m ∷ drop (place + 1) ms = drop_more ms place m lt ∙ ap (λ (x : Component). x ∷ drop (place + 1) ms) (sym one) in
     let slice : drop place ns ≡ n ∷ drop (place + 1) ns = drop_more ns place n less ∙ ap (λ (x : Component). x ∷ drop (place + 1) ns) (sym other) in
-    let stop : behind (m ∷ drop (place + 1) ms) (n ∷ drop (place + 1) ns) ≡ m ∷ drop (place + 1) ms = rw differ refl in
-    cut ∙ sym stop ∙ sym (ap (λ (xs : List Component). behind xs (n ∷ drop (place + 1) ns)) cut) ∙ sym (ap (λ (xs : List Component). behind (drop place ms) xs) slice) ∙ h.same
+    let stop : after_common (m ∷ drop (place + 1) ms) (n ∷ drop (place + 1) ns) ≡ m ∷ drop (place + 1) ms = rw differ refl in
+    cut ∙ sym stop ∙ sym (ap (λ (xs : List Component). after_common xs (n ∷ drop (place + 1) ns)) cut) ∙ sym (ap (λ (xs : List Component). after_common (drop place ms) xs) slice) ∙ h.same
 
-behind_nothing : (ms : List Component) → behind ms [] ≡ ms
+behind_nothing : (ms : List Component) → after_common ms [] ≡ ms
 behind_nothing [] = refl
 behind_nothing (m ∷ ms) = refl
 
-pub common_here : (ms ns : List Component) (place : ℕ) → length ms ≤ place → IsCommon ms ns place → drop place ms ≡ behind ms ns
+pub common_here : (ms ns : List Component) (place : ℕ) → length ms ≤ place → IsCommon ms ns place → drop place ms ≡ after_common ms ns
 common_here ms ns place past h =
     let gone : drop place ms ≡ [] = drop_all place ms past in
-    gone ∙ sym (ap (λ (xs : List Component). behind xs (drop place ns)) gone) ∙ h.same
+    gone ∙ sym (ap (λ (xs : List Component). after_common xs (drop place ns)) gone) ∙ h.same
 
-pub common_there : (ms ns : List Component) (place : ℕ) → length ns ≤ place → IsCommon ms ns place → drop place ms ≡ behind ms ns
+pub common_there : (ms ns : List Component) (place : ℕ) → length ns ≤ place → IsCommon ms ns place → drop place ms ≡ after_common ms ns
 common_there ms ns place past h =
     let gone : drop place ns ≡ [] = drop_all place ns past in
-    sym (behind_nothing (drop place ms)) ∙ sym (ap (λ (xs : List Component). behind (drop place ms) xs) gone) ∙ h.same
+    sym (behind_nothing (drop place ms)) ∙ sym (ap (λ (xs : List Component). after_common (drop place ms) xs) gone) ∙ h.same
 
--- ---- parts are put behind one another
+-- ---- concatenation
 
--- lists that each stand behind all before them
+-- three lists appended one after another
 pub three_joined : {T : Type 0} (a b c none one two three : List T) → none ≡ [] → one ≡ none ++ a → two ≡ one ++ b → three ≡ two ++ c → three ≡ a ++ (b ++ c)
 three_joined a b c none one two three n1 n2 n3 n4 =
     n4 ∙ ap (λ xs. xs ++ c) n3 ∙ append_assoc one b c

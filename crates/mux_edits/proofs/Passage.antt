@@ -1,5 +1,5 @@
--- The way of one set from the members of one list to those of another: what is taken away or altered, member by member
--- of the first, and then what is added, member by member of the second.
+-- How one set changes from the members of one list to those of another: drops and alterations for each member of the
+-- first list, then additions for each member of the second.
 use Rattle.std.proofs.Common.{◌≡◌, ℕ, ◌<◌, List, [], ◌∷◌, Option, Some, None, refl, sym, ap, ◌∙◌, inl, inr, arith}
 use Rattle.std.specs.List.{AllByRecursion}
 use Rattle.std.proofs.lemmas.Bool.{cases_eq}
@@ -11,7 +11,7 @@ use Rattle.mux_edits.proofs.Lookups.{found_first, found_later, AreAmong}
 use Rattle.mux_edits.proofs.Walks.{stepped, Awaits, Turns}
 use Rattle.mux_edits.specs.Sequences.{after}
 
--- ---- members find themselves
+-- ---- each member is found by its key
 
 each_both : {T : Type 0} (P Q R : T → Type 0) → ((x : T) → P x → Q x → R x) → (xs : List T) → AllByRecursion P xs → AllByRecursion Q xs → AllByRecursion R xs
 each_both P Q R both [] h k = tt
@@ -27,7 +27,7 @@ each_found key (x ∷ xs) up = (
 
 -- ---- what is left of the first list
 
--- what is left of the member of a key, where `left` says what is left of it beside the member of its key in the other
+-- what is left of the member with a key; `left` gives that from the member with the same key in the other list
 abbrev pub rest_of : {T : Type 0} → (T → ℕ) → List T → (Option T → T → Option T) → Option T → Option T
 rest_of key ys left None = None
 rest_of key ys left (Some x) = left (entry_at key (key x) ys) x
@@ -35,7 +35,7 @@ rest_of key ys left (Some x) = left (entry_at key (key x) ys) x
 abbrev pub IsLeft : {T : Type 0} → (T → ℕ) → (xs ys : List T) → (Option T → T → Option T) → (ℕ → Configuration → Option T) → Configuration → Type 0
 IsLeft key xs ys left at c = (k : ℕ) → at k c ≡ rest_of key ys left (entry_at key k xs)
 
--- before the first walk every member is there
+-- before the first walk every member is left
 abbrev pub all_left : {T : Type 0} → Option T → T → Option T
 all_left other x = Some x
 
@@ -47,7 +47,7 @@ pub is_all_left : {T : Type 0} (key : T → ℕ) (xs ys : List T) (at : ℕ → 
     → ((k : ℕ) → at k c ≡ entry_at key k xs) → IsLeft key xs ys all_left at c
 is_all_left key xs ys at c same = λ k. same k ∙ all_by key ys (entry_at key k xs)
 
--- a member of the first list awaits what is left of it
+-- a walk over the first list finds what is left of each member
 pub left_awaited : {T : Type 0} (key : T → ℕ) (xs ys : List T) (Member : T → Type 0) (left : Option T → T → Option T) (at : ℕ → Configuration → Option T) (c : Configuration)
     → IsAscending key xs → AllByRecursion Member xs → IsLeft key xs ys left at c → Awaits key at Member (λ x. left (entry_at key (key x) ys) x) xs c
 left_awaited key xs ys Member left at c up each is =
@@ -59,15 +59,15 @@ stepped_left : {T : Type 0} (key : T → ℕ) (ys : List T) (left less : Option 
 stepped_left key ys left less None = refl
 stepped_left key ys left less (Some x) = refl
 
--- after a walk over the first list less is left
+-- after a walk over the first list, `less` is left instead of `left`
 pub less_left : {T : Type 0} (key : T → ℕ) (xs ys : List T) (left less : Option T → T → Option T) (at : ℕ → Configuration → Option T) (c d : Configuration)
     → IsLeft key xs ys left at c → ((k : ℕ) → at k d ≡ stepped (λ x. less (entry_at key (key x) ys) x) (entry_at key k xs) (at k c)) → IsLeft key xs ys less at d
 less_left key xs ys left less at c d is found = λ k.
     found k ∙ ap (stepped (λ x. less (entry_at key (key x) ys) x) (entry_at key k xs)) (is k) ∙ stepped_left key ys left less (entry_at key k xs)
 
--- ---- what comes of the second list
+-- ---- additions from the second list
 
--- what a member of the second list awaits beside the member of its key in the first fits what is left of that one
+-- what the walk expects for a member of the second list is what is left of the member with its key in the first
 pub record Fits {T : Type 0} (key : T → ℕ) (left awaited : Option T → T → Option T) : Type 0 where
   pub gone : (x : T) → left None x ≡ None
   pub new : (y : T) → awaited None y ≡ None
@@ -81,7 +81,7 @@ awaited_by key ys left awaited y (Some x) fits found same =
     let there : entry_at key (key x) ys ≡ Some y = ap (λ (k : ℕ). entry_at key k ys) one ∙ found in
     ap (λ o. left o x) there ∙ sym (fits.both x y one)
 
--- a member of the second list awaits this
+-- a walk over the second list finds what it expects for each member
 pub new_awaited : {T : Type 0} (key : T → ℕ) (xs ys : List T) (Member : T → Type 0) (left awaited : Option T → T → Option T) (at : ℕ → Configuration → Option T) (c : Configuration)
     → IsAscending key ys → Fits key left awaited → AllByRecursion Member ys → IsLeft key xs ys left at c
     → Awaits key at (λ y. Member y × (entry_at key (key y) ys ≡ Some y)) (λ y. awaited (entry_at key (key y) xs) y) ys c
@@ -123,7 +123,7 @@ pub left_among : {T : Type 0} (key : T → ℕ) (xs ys zs : List T) (left awaite
 left_among key xs ys zs left awaited fits is k x e =
     among_by key ys left awaited k x (entry_at key k xs) (entry_at key k ys) fits refl (λ z f. entry_key key k xs z f) (sym (is k) ∙ e)
 
--- one member turned leaves the keys among those of the list, where its key is one
+-- changing a member whose key is in the list keeps all keys in the list
 pub turned_among : {T : Type 0} (key : T → ℕ) (set : Configuration → List T) (ys : List T) (Keeps : Configuration → Type 0) (es : List Edit) (k : ℕ) (new : Option T) (c : Configuration) (y : T)
     → entry_at key k ys ≡ Some y → Turns (λ j d. entry_at key j (set d)) Keeps es k new c → AreAmong key (set c) ys → AreAmong key (set (after es c)) ys
 turned_among key set ys Keeps es k new c y there turns among j x e =

@@ -1,4 +1,4 @@
--- The services after the edits of one of them and its components.
+-- The services after the edits for one of them and its components.
 use Rattle.std.proofs.Common.{◌≡◌, ◌≢◌, ℕ, ◌<◌, ◌≤◌, ◌||◌, Bool, true, false, not, cond, leb, List, [], ◌∷◌, ◌++◌, length, Option, Some, None, refl, sym, ap, ◌∙◌, subst, arith, length-append}
 use Rattle.std.specs.List.{AllByRecursion, list_any, filter}
 use Rattle.std.proofs.lemmas.Bool.{false≢true, lt-leb, eq-eqb}
@@ -21,25 +21,25 @@ use Rattle.mux_config.specs.Edits.{absent_or, with_component, without_carrier, c
 use Rattle.mux_config.proofs.Keeping.{absent_found, entry_holds, carrier_same, add_service_keeps, drop_service_keeps, add_component_keeps, drop_component_keeps}
 use Rattle.mux_config.proofs.Same.{component_same, component_itself}
 use Rattle.mux_edits.specs.Making.{components_added, service_added}
-use Rattle.mux_edits.specs.Differences.{behind, components_dropped, service_gone, service_cut, service_grown}
+use Rattle.mux_edits.specs.Differences.{after_common, components_dropped, service_gone, service_cut, service_grown}
 use Rattle.mux_edits.specs.Sequences.{after}
 use Rattle.mux_edits.proofs.Lookups.{with_here, with_others, without_here, without_others, changed_found, changed_others, AreAmong}
 use Rattle.mux_edits.proofs.Walks.{Turns, turns_both, turns_nothing}
 use Rattle.mux_edits.proofs.Passage.{Fits, all_left, turned_among}
-use Rattle.mux_edits.proofs.PacketTurns.{room_for}
+use Rattle.mux_edits.proofs.PacketSteps.{room_for}
 
--- a configuration with these other sets
+-- a configuration with these sub-channels and packet components
 pub record ServicesKept (ss : List Sub) (ps : List Packet) (c : Configuration) : Type 0 where
   pub formed : IsConfiguration c
   pub subs : c.subs ≡ ss
   pub packets : c.packets ≡ ps
 
--- and with services whose SIds are among those of a list
+-- the SIds of its services are among those of a list
 pub record ServicesCome (all : List Service) (ss : List Sub) (ps : List Packet) (c : Configuration) : Type 0 where
   pub kept : ServicesKept ss ps c
   pub among : AreAmong service_key c.services all
 
--- the service of the place of an SId in their order
+-- the service whose SId has this key
 abbrev pub at_key : ℕ → Configuration → Option Service
 at_key k c = entry_at service_key k c.services
 
@@ -63,7 +63,7 @@ found_behind : (ms : List Component) (m : Component) (ns : List Component) (n : 
 found_behind [] m ns n h = h.0
 found_behind (x ∷ ms) m ns n h = found_behind ms m ns n h.1
 
--- no component before it names the carrier of this one
+-- no component before this one has its carrier
 last_free : (ms : List Component) (m : Component) (ns : List Component) → AreDifferent (ms ++ m ∷ ns) → list_any (names (carrier_of m)) ms ≡ false
 last_free [] m ns h = refl
 last_free (n ∷ ms) m ns h = rw (named_not m n (found_behind ms m ns n h.0)) (last_free ms m ns h.1)
@@ -76,7 +76,7 @@ either : (a b : Bool) → (a || b) ≡ false → (a ≡ false) × (b ≡ false)
 either true b e = absurd (false≢true (sym e))
 either false b e = (refl, e)
 
--- without its carrier only the last one is gone
+-- removing its carrier removes only the last component
 last_out : (ms : List Component) (m : Component) → list_any (names (carrier_of m)) ms ≡ false → filter (λ n. not (names (carrier_of m) n)) (ms ++ m ∷ []) ≡ ms
 last_out [] m free = rw (same_itself (carrier_of m)) refl
 last_out (n ∷ ms) m free =
@@ -94,7 +94,7 @@ drops ss ps s c h e = record {
   keeps = record { formed = drop_service_keeps s.sid c h.formed; subs = h.subs; packets = h.packets };
 }
 
--- the last component goes
+-- dropping the last component
 cuts_last : (ss : List Sub) (ps : List Packet) (sid : Sid) (ms : List Component) (m : Component) (c : Configuration) → ServicesKept ss ps c → at_key (sid_key sid) c ≡ Some (service_with sid (ms ++ m ∷ []))
     → Turns at_key (ServicesKept ss ps) (DropComponent sid (carrier_of m) ∷ []) (sid_key sid) (Some (service_with sid ms)) c
 cuts_last ss ps sid ms m c h e =
@@ -111,7 +111,7 @@ cuts_last ss ps sid ms m c h e =
       keeps = record { formed = drop_component_keeps sid (carrier_of m) c h.formed fine; subs = h.subs; packets = h.packets };
     }
 
--- components go, the last one first
+-- dropping components, the last one first
 pub cuts : (ss : List Sub) (ps : List Packet) (sid : Sid) (ms ns : List Component) (c : Configuration) → ServicesKept ss ps c → at_key (sid_key sid) c ≡ Some (service_with sid (ms ++ ns))
     → Turns at_key (ServicesKept ss ps) (components_dropped sid ns) (sid_key sid) (Some (service_with sid ms)) c
 cuts ss ps sid ms [] c h e = turns_nothing at_key (ServicesKept ss ps) (sid_key sid) (Some (service_with sid ms)) c h (e ∙ ap (λ (xs : List Component). Some (service_with sid xs)) (append-nil ms))
@@ -121,7 +121,7 @@ cuts ss ps sid ms (n ∷ ns) c h e =
     let last = cuts_last ss ps sid ms n (after (components_dropped sid ns) c) before.keeps before.here in
     turns_both at_key (ServicesKept ss ps) (components_dropped sid ns) (DropComponent sid (carrier_of n) ∷ []) (sid_key sid) (Some (service_with sid more)) (Some (service_with sid ms)) c before last
 
--- a component comes
+-- adding a component
 grows_once : (ss : List Sub) (ps : List Packet) (sid : Sid) (ms : List Component) (m : Component) (c : Configuration) → ServicesKept ss ps c → at_key (sid_key sid) c ≡ Some (service_with sid ms)
     → IsComponent m → list_any (names (carrier_of m)) ms ≡ false → length ms < component_limit sid
     → Turns at_key (ServicesKept ss ps) (AddComponent sid m ∷ []) (sid_key sid) (Some (service_with sid (ms ++ m ∷ []))) c
@@ -136,7 +136,7 @@ grows_once ss ps sid ms m c h e within free room =
       keeps = record { formed = add_component_keeps sid m c within h.formed fine; subs = h.subs; packets = h.packets };
     }
 
--- components come, behind others
+-- adding components after others
 pub grows : (ss : List Sub) (ps : List Packet) (sid : Sid) (ms ns : List Component) (c : Configuration) → ServicesKept ss ps c → at_key (sid_key sid) c ≡ Some (service_with sid ms)
     → AllByRecursion IsComponent ns → AreDifferent (ms ++ ns) → length (ms ++ ns) ≤ component_limit sid
     → Turns at_key (ServicesKept ss ps) (components_added sid ns) (sid_key sid) (Some (service_with sid (ms ++ ns))) c
@@ -151,7 +151,7 @@ grows ss ps sid ms (n ∷ ns) c h e within apart few =
     subst (λ (xs : List Component). Turns at_key (ServicesKept ss ps) (components_added sid ns) (sid_key sid) (Some (service_with sid xs)) (after (AddComponent sid n ∷ []) c)) same rest in
     turns_both at_key (ServicesKept ss ps) (AddComponent sid n ∷ []) (components_added sid ns) (sid_key sid) (Some (service_with sid more)) (Some (service_with sid (ms ++ n ∷ ns))) c first last
 
--- ---- a service comes
+-- ---- adding a service
 
 adds : (all : List Service) (ss : List Sub) (ps : List Packet) (t : Service) (c : Configuration) → IsAscending service_key all → length all ≤ 64 → ServicesCome all ss ps c
     → IsService t → at_key (sid_key t.sid) c ≡ None → entry_at service_key (sid_key t.sid) all ≡ Some t
@@ -168,7 +168,7 @@ adds all ss ps t c up few h formed e there =
       keeps = record { formed = add_service_keeps t.sid c formed.named h.kept.formed fine; subs = h.kept.subs; packets = h.kept.packets };
     }
 
--- where a turn keeps the other sets, SIds stay among those of a list that has this one
+-- edits that keep the other sets keep the SIds among those of a list that has this one
 come_on : (all : List Service) (ss : List Sub) (ps : List Packet) (es : List Edit) (t : Service) (c : Configuration) → ServicesCome all ss ps c → entry_at service_key (sid_key t.sid) all ≡ Some t
     → Turns at_key (ServicesKept ss ps) es (sid_key t.sid) (Some t) c → Turns at_key (ServicesCome all ss ps) es (sid_key t.sid) (Some t) c
 come_on all ss ps es t c h there turn = record {
@@ -181,23 +181,23 @@ come_on all ss ps es t c h there turn = record {
   };
 }
 
--- ---- the longest common beginning
+-- ---- the longest common prefix
 
 abbrev pub shared : List Component → List Component → List Component
 shared [] ns = []
 shared (m ∷ ms) [] = []
 shared (m ∷ ms) (n ∷ ns) = cond (is_same_component m n) (m ∷ shared ms ns) []
 
-shared_first_by : (m n : Component) (ms ns : List Component) (b : Bool) → shared ms ns ++ behind ms ns ≡ ms → cond b (m ∷ shared ms ns) [] ++ cond b (behind ms ns) (m ∷ ms) ≡ m ∷ ms
+shared_first_by : (m n : Component) (ms ns : List Component) (b : Bool) → shared ms ns ++ after_common ms ns ≡ ms → cond b (m ∷ shared ms ns) [] ++ cond b (after_common ms ns) (m ∷ ms) ≡ m ∷ ms
 shared_first_by m n ms ns true rest = ap (λ (xs : List Component). m ∷ xs) rest
 shared_first_by m n ms ns false rest = refl
 
-pub shared_first : (ms ns : List Component) → shared ms ns ++ behind ms ns ≡ ms
+pub shared_first : (ms ns : List Component) → shared ms ns ++ after_common ms ns ≡ ms
 shared_first [] ns = refl
 shared_first (m ∷ ms) [] = refl
 shared_first (m ∷ ms) (n ∷ ns) = shared_first_by m n ms ns (is_same_component m n) (shared_first ms ns)
 
-shared_second_by : (m n : Component) (ms ns : List Component) (a b : Bool) → is_same_component m n ≡ a → is_same_component n m ≡ b → shared ms ns ++ behind ns ms ≡ ns → cond a (m ∷ shared ms ns) [] ++ cond b (behind ns ms) (n ∷ ns) ≡ n ∷ ns
+shared_second_by : (m n : Component) (ms ns : List Component) (a b : Bool) → is_same_component m n ≡ a → is_same_component n m ≡ b → shared ms ns ++ after_common ns ms ≡ ns → cond a (m ∷ shared ms ns) [] ++ cond b (after_common ns ms) (n ∷ ns) ≡ n ∷ ns
 shared_second_by m n ms ns true true one other rest = let same : m ≡ n = component_same m n one in let first : m ∷ ns ≡ n ∷ ns = ap (λ (x : Component). x ∷ ns) same in ap (λ (xs : List Component). m ∷ xs) rest ∙ first
 shared_second_by m n ms ns true false one other rest =
     let same : m ≡ n = component_same m n one in
@@ -209,7 +209,7 @@ shared_second_by m n ms ns false true one other rest =
     absurd (false≢true (sym one ∙ yes))
 shared_second_by m n ms ns false false one other rest = refl
 
-pub shared_second : (ms ns : List Component) → shared ms ns ++ behind ns ms ≡ ns
+pub shared_second : (ms ns : List Component) → shared ms ns ++ after_common ns ms ≡ ns
 shared_second [] [] = refl
 shared_second [] (n ∷ ns) = refl
 shared_second (m ∷ ms) [] = refl
@@ -225,7 +225,7 @@ sid_told (Long m) (Long n) h k e = let same : m ≡ n = omega (arith, e) in ap L
 
 -- ---- the three walks over services
 
--- what is left once services that go have gone, and once components that go have
+-- what is left after the drops of services, and after the drops of components
 abbrev pub service_kept : Option Service → Service → Option Service
 service_kept None s = None
 service_kept (Some t) s = Some s
@@ -234,7 +234,7 @@ abbrev pub service_short : Option Service → Service → Option Service
 service_short None s = None
 service_short (Some t) s = Some (service_with s.sid (shared s.components t.components))
 
--- what a service that comes or grows finds
+-- what the walk that adds services and components finds
 abbrev pub service_awaited : Option Service → Service → Option Service
 service_awaited None t = None
 service_awaited (Some s) t = Some (service_with s.sid (shared s.components t.components))
@@ -251,9 +251,9 @@ pub stays : (ss : List Sub) (ps : List Packet) (o : Option Service) (s : Service
     → Turns at_key (ServicesKept ss ps) (service_cut o s) (sid_key s.sid) (service_short o s) c
 stays ss ps None s c h e = turns_nothing at_key (ServicesKept ss ps) (sid_key s.sid) None c h e
 stays ss ps (Some t) s c h e =
-    let parted : s ≡ service_with s.sid (shared s.components t.components ++ behind s.components t.components) =
+    let parted : s ≡ service_with s.sid (shared s.components t.components ++ after_common s.components t.components) =
     λ i. record { sid = s.sid; components = sym (shared_first s.components t.components) i } in
-    cuts ss ps s.sid (shared s.components t.components) (behind s.components t.components) c h (e ∙ ap Some parted)
+    cuts ss ps s.sid (shared s.components t.components) (after_common s.components t.components) c h (e ∙ ap Some parted)
 
 each_behind : (P : Component → Type 0) (ms ns : List Component) → AllByRecursion P (ms ++ ns) → AllByRecursion P ns
 each_behind P [] ns h = h
@@ -269,11 +269,11 @@ comes all ss ps None t c up few same h formed e there =
     (turns_both at_key (ServicesKept ss ps) (AddService t.sid ∷ []) (components_added t.sid t.components) (sid_key t.sid) (Some (service_with t.sid [])) (Some t) c first second)
 comes all ss ps (Some s) t c up few same h formed e there =
     let sids = same s refl in
-    let whole : shared s.components t.components ++ behind t.components s.components ≡ t.components = shared_second s.components t.components in
+    let whole : shared s.components t.components ++ after_common t.components s.components ≡ t.components = shared_second s.components t.components in
     let found : at_key (sid_key t.sid) c ≡ Some (service_with t.sid (shared s.components t.components)) = e ∙ ap (λ (x : Sid). Some (service_with x (shared s.components t.components))) sids in
-    let turn = grows ss ps t.sid (shared s.components t.components) (behind t.components s.components) c h.kept found
-    (each_behind IsComponent (shared s.components t.components) (behind t.components s.components) (subst (AllByRecursion IsComponent) (sym whole) formed.within))
+    let turn = grows ss ps t.sid (shared s.components t.components) (after_common t.components s.components) c h.kept found
+    (each_behind IsComponent (shared s.components t.components) (after_common t.components s.components) (subst (AllByRecursion IsComponent) (sym whole) formed.within))
     (subst AreDifferent (sym whole) formed.carriers) (let e' = ap length whole in let f = formed.few in omega (arith, e', f)) in
-    let is : service_with t.sid (shared s.components t.components ++ behind t.components s.components) ≡ t = λ i. record { sid = t.sid; components = whole i } in
-    come_on all ss ps (components_added t.sid (behind t.components s.components)) t c h there
-    (subst (λ (x : Service). Turns at_key (ServicesKept ss ps) (components_added t.sid (behind t.components s.components)) (sid_key t.sid) (Some x) c) is turn)
+    let is : service_with t.sid (shared s.components t.components ++ after_common t.components s.components) ≡ t = λ i. record { sid = t.sid; components = whole i } in
+    come_on all ss ps (components_added t.sid (after_common t.components s.components)) t c h there
+    (subst (λ (x : Service). Turns at_key (ServicesKept ss ps) (components_added t.sid (after_common t.components s.components)) (sid_key t.sid) (Some x) c) is turn)

@@ -1,4 +1,4 @@
--- The sub-channels after the edits of one of them.
+-- The sub-channels after the edits for one of them.
 use Rattle.std.proofs.Common.{◌≡◌, ◌≢◌, ℕ, ◌+◌, ◌%◌, ◌≤◌, ◌==◌, ◌&&◌, Bool, true, false, cond, ltb, List, [], ◌∷◌, ◌++◌, Option, Some, None, Ok, refl, sym, ap, ◌∙◌, subst, inl, inr, arith}
 use Rattle.std.specs.Result.{is_err}
 use Rattle.std.proofs.lemmas.Bool.{false≢true, cases_lt, lt-ltb, le-ltb, ne_eqb, eqb-true}
@@ -20,13 +20,13 @@ use Rattle.mux_edits.proofs.Lookups.{with_here, with_others, without_here, witho
 use Rattle.mux_edits.proofs.Walks.{Turns, turns_both, turns_nothing}
 use Rattle.mux_edits.proofs.Passage.{Fits, all_left}
 
--- a configuration with these other sets
+-- a configuration with these services and packet components
 pub record SubsKept (vs : List Service) (ps : List Packet) (c : Configuration) : Type 0 where
   pub formed : IsConfiguration c
   pub services : c.services ≡ vs
   pub packets : c.packets ≡ ps
 
--- ---- a sub-channel that is placed
+-- ---- sub-channels with a size
 
 pub sized_fine : (p : Profile) (kbits size : ℕ) → IsSize p kbits size → size_or_fault p kbits ≡ Ok (table_size p kbits)
 sized_fine p kbits size h =
@@ -105,16 +105,16 @@ moves_by vs ps t s c true is h e placed =
     turns_nothing sub_at (SubsKept vs ps) t.id (Some (at_start t.start s)) c h (e ∙ ap Some same)
 moves_by vs ps t s c false is h e placed = moves vs ps t.id t.start s c h e placed
 
--- ---- a sub-channel becomes another of its profile
+-- ---- turning a sub-channel into another with the same profile
 
--- the two have their identifier and their profile in common
+-- two sub-channels with the same identifier and protection profile
 pub record AreKin (s t : Sub) : Type 0 where
   pub id : s.id ≡ t.id
   pub protection : s.protection ≡ t.protection
   pub placed : IsPlaced s
   pub target : IsPlaced t
 
--- the rate of the one in place of that of the other has the one's size
+-- at the other's rate, a sub-channel has the other's size
 rated_size : (s t : Sub) → s.protection ≡ t.protection → size_of_sub (at_rate t.kbits s) ≡ size_of_sub t
 rated_size s t e = ap (λ (p : Profile). table_size p t.kbits) e
 
@@ -137,7 +137,7 @@ smaller grow s t k le =
 kin_back : (s t : Sub) → AreKin s t → AreKin t s
 kin_back s t k = record { id = sym k.id; protection = sym k.protection; placed = k.target; target = k.placed }
 
--- the rate falls where it is
+-- it is still placed when its rate falls
 falls_placed : SizesGrow → (s t : Sub) → AreKin s t → t.kbits ≤ s.kbits → IsPlaced (at_rate t.kbits s)
 falls_placed grow s t k le = record {
   named = k.placed.named;
@@ -147,7 +147,7 @@ falls_placed grow s t k le = record {
   ends = let small = smaller grow s t k le in let ends = k.placed.ends in let same = rated_size s t k.protection in omega (arith, small, ends, same);
 }
 
--- it moves with its rate, which is no greater than that of the other
+-- it is still placed when it moves, at a rate not above the other's
 moves_placed : SizesGrow → (s t : Sub) → AreKin s t → s.kbits ≤ t.kbits → IsPlaced (at_start t.start s)
 moves_placed grow s t k le = record {
   named = k.placed.named;
@@ -209,7 +209,7 @@ profile_same p q e =
 
 -- ---- the three walks over sub-channels
 
--- what is left once what goes has gone, and once what stays is altered
+-- what is left after the drops, and after the alterations
 abbrev pub sub_kept : Option Sub → Sub → Option Sub
 sub_kept None s = None
 sub_kept (Some t) s = cond (is_same_profile s.protection t.protection) (Some s) None
@@ -218,7 +218,7 @@ abbrev pub sub_turned : Option Sub → Sub → Option Sub
 sub_turned None s = None
 sub_turned (Some t) s = cond (is_same_profile s.protection t.protection) (Some t) None
 
--- what a sub-channel that comes finds
+-- what the walk that adds sub-channels finds
 abbrev pub sub_awaited : Option Sub → Sub → Option Sub
 sub_awaited None t = None
 sub_awaited (Some s) t = cond (is_same_profile s.protection t.protection) (Some t) None

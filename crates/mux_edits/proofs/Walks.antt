@@ -1,4 +1,4 @@
--- A walk over members in ascending order of their keys: for each of them edits that change only what is found at its key.
+-- A walk over members in ascending order of keys: the edits for each change only the entry with its key.
 use Rattle.std.proofs.Common.{◌≡◌, ◌≢◌, ℕ, ◌<◌, List, [], ◌∷◌, ◌++◌, Option, Some, None, refl, sym, ap, ◌∙◌, subst, inl, inr, arith}
 use Rattle.std.specs.List.{AllByRecursion, flat_map}
 use Rattle.std.proofs.lemmas.Bool.{cases_eq}
@@ -10,7 +10,7 @@ use Rattle.mux_edits.specs.Sequences.{after, HaveNoFault}
 use Rattle.mux_edits.proofs.Lookups.{found_first, found_later, found_never}
 use Rattle.mux_types.proofs.Tables.{each_weaker}
 
--- ---- edits behind edits
+-- ---- concatenated edits
 
 pub after_both : (es fs : List Edit) (c : Configuration) → after (es ++ fs) c ≡ after fs (after es c)
 after_both [] fs c = refl
@@ -22,14 +22,14 @@ fine_both (e ∷ es) fs c h k = (h.0, fine_both es fs (changed e c) h.1 k)
 
 -- ---- one member
 
--- what is found at the key of a member becomes this, and at other keys the same as before
+-- these edits set the entry at the key to `new`, and change no other entry
 pub record Turns {T : Type 0} (at : ℕ → Configuration → Option T) (Keeps : Configuration → Type 0) (es : List Edit) (k : ℕ) (new : Option T) (c : Configuration) : Type 0 where
   pub fine : HaveNoFault es c
   pub here : at k (after es c) ≡ new
   pub others : (j : ℕ) → (j ≢ k) → at j (after es c) ≡ at j c
   pub keeps : Keeps (after es c)
 
--- edits behind edits of one member
+-- concatenated edits for one member
 pub turns_both : {T : Type 0} (at : ℕ → Configuration → Option T) (Keeps : Configuration → Type 0) (es fs : List Edit) (k : ℕ) (new last : Option T) (c : Configuration)
     → Turns at Keeps es k new c → Turns at Keeps fs k last (after es c) → Turns at Keeps (es ++ fs) k last c
 turns_both {T} at Keeps es fs k new last c h g =
@@ -48,7 +48,7 @@ turns_nothing at Keeps k new c keeps is = record { fine = tt; here = is; others 
 
 -- ---- all members
 
--- what is found after a walk: what the step of the member of this key makes of it
+-- the entry after a walk, given the member with its key and the entry before
 abbrev pub stepped : {T : Type 0} → (T → Option T) → Option T → Option T → Option T
 stepped step None old = old
 stepped step (Some x) old = step x
@@ -58,7 +58,7 @@ pub record Walked {T : Type 0} (key : T → ℕ) (at : ℕ → Configuration →
   pub found : (k : ℕ) → at k (after (flat_map edits xs) c) ≡ stepped step (entry_at key k xs) (at k c)
   pub keeps : Keeps (after (flat_map edits xs) c)
 
--- before its turn a member finds this at its key
+-- the entries at the keys of these members before the walk
 abbrev pub Awaits : {T : Type 0} (key : T → ℕ) (at : ℕ → Configuration → Option T) (Member : T → Type 0) (old : T → Option T) → List T → Configuration → Type 0
 Awaits key at Member old xs c = AllByRecursion (λ x. Member x × (at (key x) c ≡ old x)) xs
 

@@ -1,5 +1,5 @@
--- The edits that turn one configuration into another. What is dropped comes before what is added, and a lower rate
--- before a move, so that no edit has a fault where it is applied.
+-- The edits that turn one configuration into another. Drops come before additions, and a lower rate before a move, so
+-- that no edit has a fault.
 use Rattle.std.specs.Prelude.{◌==◌, ◌&&◌, Bool, if◌then◌else◌, nat_lt, List, [], ◌∷◌, ◌++◌, Option, Some, None}
 use Rattle.std.specs.List.{flat_map}
 use Rattle.mux_eep.specs.Sizes.{Profile}
@@ -17,18 +17,18 @@ use Rattle.mux_edits.specs.Making.{sub_added, components_added, service_added, p
 
 -- ---- components
 
--- what the first list has behind the longest common prefix of the two
-abbrev pub behind : List Component → List Component → List Component
-behind [] ns = []
-behind (m ∷ ms) [] = m ∷ ms
-behind (m ∷ ms) (n ∷ ns) = if is_same_component m n then behind ms ns else m ∷ ms
+-- the rest of the first list after the longest common prefix of the two
+abbrev pub after_common : List Component → List Component → List Component
+after_common [] ns = []
+after_common (m ∷ ms) [] = m ∷ ms
+after_common (m ∷ ms) (n ∷ ns) = if is_same_component m n then after_common ms ns else m ∷ ms
 
--- components are dropped from a service, the last one first
+-- drops these components from a service, the last one first
 abbrev pub components_dropped : Sid → List Component → List Edit
 components_dropped sid [] = []
 components_dropped sid (m ∷ ms) = components_dropped sid ms ++ DropComponent sid (carrier_of m) ∷ []
 
--- ---- what is dropped of a member of the first configuration, given the member of its identifier in the second
+-- ---- drops for a member of the first configuration, given the one with its identifier in the second
 
 abbrev pub service_gone : Option Service → Service → List Edit
 service_gone None s = DropService s.sid ∷ []
@@ -36,7 +36,7 @@ service_gone (Some t) s = []
 
 abbrev pub service_cut : Option Service → Service → List Edit
 service_cut None s = []
-service_cut (Some t) s = components_dropped s.sid (behind s.components t.components)
+service_cut (Some t) s = components_dropped s.sid (after_common s.components t.components)
 
 abbrev pub packet_gone : Option Packet → Packet → List Edit
 packet_gone None p = DropPacket p.scid ∷ []
@@ -49,7 +49,7 @@ abbrev pub sub_gone : Option Sub → Sub → List Edit
 sub_gone None s = DropSub s.id ∷ []
 sub_gone (Some t) s = if is_same_profile s.protection t.protection then [] else DropSub s.id ∷ []
 
--- ---- sub-channels that stay, and differ
+-- ---- sub-channels that stay but differ
 
 abbrev pub start_altered : Sub → Sub → List Edit
 start_altered s t = if s.start == t.start then [] else MoveSub t.id t.start ∷ []
@@ -57,7 +57,7 @@ start_altered s t = if s.start == t.start then [] else MoveSub t.id t.start ∷ 
 abbrev pub rate_altered : Sub → Sub → List Edit
 rate_altered s t = if s.kbits == t.kbits then [] else RateSub t.id t.kbits ∷ []
 
--- a lower rate is set first; else the move comes first
+-- a lower rate is set before the move, any other after it
 abbrev pub alterations : Sub → Sub → List Edit
 alterations s t =
     if nat_lt t.kbits s.kbits then rate_altered s t ++ start_altered s t
@@ -67,7 +67,7 @@ abbrev pub sub_altered : Option Sub → Sub → List Edit
 sub_altered None s = []
 sub_altered (Some t) s = if is_same_profile s.protection t.protection then alterations s t else []
 
--- ---- what is added for a member of the second configuration, given the member of its identifier in the first
+-- ---- additions for a member of the second configuration, given the one with its identifier in the first
 
 abbrev pub sub_new : Option Sub → Sub → List Edit
 sub_new None t = sub_added t
@@ -79,9 +79,9 @@ packet_new (Some p) q = if is_same_packet p q then [] else packet_added q
 
 abbrev pub service_grown : Option Service → Service → List Edit
 service_grown None t = service_added t
-service_grown (Some s) t = components_added t.sid (behind t.components s.components)
+service_grown (Some s) t = components_added t.sid (after_common t.components s.components)
 
--- ---- all of them: each kind in ascending order of identifiers
+-- ---- all edits: each kind in ascending order of identifiers
 
 abbrev pub edits_between : Configuration → Configuration → List Edit
 edits_between from to =

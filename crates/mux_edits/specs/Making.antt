@@ -13,18 +13,18 @@ use Rattle.mux_types.specs.Configuration.{Configuration}
 abbrev pub sub_added : Sub → List Edit
 sub_added s = AddSub s ∷ []
 
--- components, at the end of a service
+-- components, appended to a service
 abbrev pub components_added : Sid → List Component → List Edit
 components_added sid ms = map (AddComponent sid) ms
 
--- a service, and then its components
+-- a service, then its components
 abbrev pub service_added : Service → List Edit
 service_added s = AddService s.sid ∷ components_added s.sid s.components
 
 abbrev pub packet_added : Packet → List Edit
 packet_added p = AddPacket p ∷ []
 
--- the sub-channels, each service with its components, and the packet components, each set in its order
+-- the sub-channels, the services with their components, and the packet components, each set in its order
 abbrev pub edits_that_make : Configuration → List Edit
 edits_that_make c =
     flat_map sub_added c.subs ++ (flat_map service_added c.services ++ flat_map packet_added c.packets)

@@ -1,9 +1,9 @@
-//! What is dropped between one configuration and another: members of the first that the second lacks or has otherwise.
+//! The edits that drop members of the first configuration, those that the second lacks and those that are replaced.
 
 ghost use Rattle.std.specs.Prelude.{◌≡◌, ◌++◌, ◌≤◌, length, drop, OnOk};
 ghost use Rattle.std.specs.List.{flat_map};
 ghost use Rattle.mux_config.specs.Edits.{sub_at, service_at, packet_at};
-ghost use Rattle.mux_edits.specs.Differences.{behind, components_dropped, service_gone, service_cut, packet_gone, sub_gone, is_same_profile};
+ghost use Rattle.mux_edits.specs.Differences.{after_common, components_dropped, service_gone, service_cut, packet_gone, sub_gone, is_same_profile};
 
 use crate::making::put;
 use mux_config::{Component, Config, Edit, Packet, Service, Sid, Store, Sub};
@@ -12,7 +12,7 @@ use std::alloc::AllocError;
 
 /// The length of the longest common prefix of two lists of components.
 pub(crate) fn common(components: &[Component], others: &[Component]) -> usize
-    ensures behind { drop result components.now ≡ behind components.now others.now }
+    ensures after_common { drop result components.now ≡ after_common components.now others.now }
     ensures bound { result ≤ length components.now }
 {
     let mut place = 0;
@@ -43,7 +43,7 @@ fn drop_components(
     Ok(())
 }
 
-/// The edit that drops a service, where the other configuration lacks it.
+/// The edit that drops a service, if the other configuration lacks it.
 fn drop_service(edits: &mut Vec<Edit>, service: &Service, to: &Config) -> Result<(), AllocError>
     ensures { OnOk result (edits.new.items ≡ edits.old.items
         ++ service_gone (service_at service.now.sid to.now) service.now) }
@@ -54,8 +54,8 @@ fn drop_service(edits: &mut Vec<Edit>, service: &Service, to: &Config) -> Result
     }
 }
 
-/// The edits that drop all components of a service behind the longest common prefix with that of the other
-/// configuration, where there is one.
+/// The edits that drop the components of a service after the longest common prefix, if the other configuration has the
+/// service.
 fn cut_service(edits: &mut Vec<Edit>, service: &Service, to: &Config) -> Result<(), AllocError>
     ensures { OnOk result (edits.new.items ≡ edits.old.items
         ++ service_cut (service_at service.now.sid to.now) service.now) }
@@ -70,7 +70,7 @@ fn cut_service(edits: &mut Vec<Edit>, service: &Service, to: &Config) -> Result<
     }
 }
 
-/// The edit that drops a packet component, where the other configuration lacks it or has it otherwise.
+/// The edit that drops a packet component, if the other configuration lacks it or has a different one with its SCId.
 fn drop_packet(edits: &mut Vec<Edit>, packet: &Packet, to: &Config) -> Result<(), AllocError>
     ensures { OnOk result (edits.new.items ≡ edits.old.items
         ++ packet_gone (packet_at packet.now.scid to.now) packet.now) }
@@ -90,7 +90,7 @@ pub(crate) fn has_same_profile(sub: &Sub, other: &Sub) -> bool
     sub.protection == other.protection
 }
 
-/// The edit that drops a sub-channel, where the other configuration lacks it or has it with another profile.
+/// The edit that drops a sub-channel, if the other configuration lacks it or has it with another protection profile.
 fn drop_sub(edits: &mut Vec<Edit>, sub: &Sub, to: &Config) -> Result<(), AllocError>
     ensures { OnOk result (edits.new.items ≡ edits.old.items
         ++ sub_gone (sub_at sub.now.id to.now) sub.now) }
@@ -133,7 +133,7 @@ pub(crate) fn cut_services(
     Ok(())
 }
 
-/// The edits that drop the packet components that the other configuration lacks or has otherwise.
+/// The edits that drop the packet components that the other configuration lacks or has in a different form.
 pub(crate) fn drop_packets(
     edits: &mut Vec<Edit>,
     packets: &[Packet],
@@ -148,7 +148,7 @@ pub(crate) fn drop_packets(
     Ok(())
 }
 
-/// The edits that drop the sub-channels that the other configuration lacks or has with another profile.
+/// The edits that drop the sub-channels that the other configuration lacks or has with another protection profile.
 pub(crate) fn drop_subs(edits: &mut Vec<Edit>, subs: &[Sub], to: &Config) -> Result<(), AllocError>
     ensures { OnOk result (edits.new.items ≡ edits.old.items
         ++ flat_map (λ s. sub_gone (sub_at s.id to.now) s) subs.now) }

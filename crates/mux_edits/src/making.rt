@@ -4,7 +4,7 @@ ghost use Rattle.std.specs.Prelude.{◌≡◌, ◌≤◌, ◌++◌, ◌∷◌, [
 ghost use Rattle.std.specs.List.{flat_map, AllByRecursion};
 ghost use Rattle.mux_config.specs.Configuration.{IsConfiguration, IsPlaced, nothing};
 ghost use Rattle.mux_edits.specs.Making.{sub_added, components_added, service_added, packet_added, edits_that_make};
-ghost use Rattle.mux_edits.specs.Sequences.{Lead};
+ghost use Rattle.mux_edits.specs.Sequences.{Transform};
 
 use crate::laws;
 use mux_config::{Component, Config, Edit, NewSub, Packet, Service, Sid, Sub};
@@ -90,15 +90,15 @@ fn add_packets(edits: &mut Vec<Edit>, packets: &[Packet]) -> Result<(), AllocErr
     Ok(())
 }
 
-/// The edits that make a configuration from the empty one, at most 960: the sub-channels by SubChId; each service by
-/// SId, the 16-bit ones first, followed by its components in order; the packet components by SCId.
+/// The edits that make a configuration from the empty one, at most 960: the sub-channels by SubChId; the services by
+/// SId, the 16-bit ones first, each followed by its components in order; the packet components by SCId.
 pub fn edits_that_make(alloc: Global, config: &Config) -> Result<Vec<Edit>, AllocError>
     ensures value { IfOk result (λ v. v.items ≡ edits_that_make config.now) }
-    ensures leads { IfOk result (λ v. Lead v.items nothing config.now) }
+    ensures leads { IfOk result (λ v. Transform v.items nothing config.now) }
     ensures few { IfOk result (λ v. length v.items ≤ 960) }
     ensures configuration { IsConfiguration config.now }
 {
-    laws::leading();
+    laws::transforming();
     let mut edits = Vec::new(alloc);
     add_subs(&mut edits, config.subs())?;
     add_services(&mut edits, config.services())?;

@@ -1,4 +1,4 @@
-//! Sub-channels that stay between one configuration and another, at another start address or rate.
+//! The edits that alter sub-channels that stay: another start address or rate.
 
 ghost use Rattle.std.specs.Prelude.{◌≡◌, ◌++◌, OnOk};
 ghost use Rattle.std.specs.List.{flat_map};
@@ -11,7 +11,7 @@ use crate::making::put;
 use mux_config::{Config, Edit, StartAddress, Store, Sub};
 use std::alloc::AllocError;
 
-/// The edit that moves a sub-channel to where the other one starts, where it starts elsewhere.
+/// The edit that moves a sub-channel to the start address of the other one, if that differs.
 fn move_sub(edits: &mut Vec<Edit>, sub: &Sub, other: &Sub) -> Result<(), AllocError>
     requires { IsPlaced other.now }
     ensures { OnOk result (edits.new.items ≡ edits.old.items
@@ -25,7 +25,7 @@ fn move_sub(edits: &mut Vec<Edit>, sub: &Sub, other: &Sub) -> Result<(), AllocEr
     put(edits, Edit::MoveSub { id, start })
 }
 
-/// The edit that gives a sub-channel the rate of the other one, where it has another.
+/// The edit that sets the rate of a sub-channel to that of the other one, if that differs.
 fn rate_sub(edits: &mut Vec<Edit>, sub: &Sub, other: &Sub) -> Result<(), AllocError>
     ensures { OnOk result (edits.new.items ≡ edits.old.items ++ rate_altered sub.now other.now) }
 {
@@ -37,8 +37,8 @@ fn rate_sub(edits: &mut Vec<Edit>, sub: &Sub, other: &Sub) -> Result<(), AllocEr
     put(edits, Edit::RateSub { id, kbits })
 }
 
-/// The edits that make a sub-channel the other one of its profile: a lower rate is set first, so that the sub-channel
-/// ends at or before the last capacity unit in between; else the move comes first.
+/// The edits that turn a sub-channel into the other one, which has the same profile. A lower rate is set before the
+/// move, any other after it, so that the sub-channel never extends past the last capacity unit in between.
 fn alter(edits: &mut Vec<Edit>, sub: &Sub, other: &Sub) -> Result<(), AllocError>
     requires { IsPlaced other.now }
     ensures { OnOk result (edits.new.items ≡ edits.old.items ++ alterations sub.now other.now) }
@@ -51,7 +51,7 @@ fn alter(edits: &mut Vec<Edit>, sub: &Sub, other: &Sub) -> Result<(), AllocError
     rate_sub(edits, sub, other)
 }
 
-/// The edits that alter a sub-channel which the other configuration has with the same profile.
+/// The edits that alter a sub-channel that the other configuration has with the same protection profile.
 fn alter_sub(edits: &mut Vec<Edit>, sub: &Sub, to: &Config) -> Result<(), AllocError>
     ensures { OnOk result (edits.new.items ≡ edits.old.items
         ++ sub_altered (sub_at sub.now.id to.now) sub.now) }

@@ -27,14 +27,14 @@ units_of_step B level =
 abbrev pub table_size : Profile → ℕ → ℕ
 table_size p kbits = units_of_step p.set p.level * (kbits / rate_step p.set)
 
--- this is the size of a sub-channel: the rate is one of the set's, and the size is one that a multiplex has room for
+-- this is the size of a sub-channel: the rate is one of the set's, and the size fits in a multiplex
 pub record IsSize (p : Profile) (kbits size : ℕ) : Type 0 where
   pub positive : 0 < kbits
   pub multiple : kbits % rate_step p.set ≡ 0
   pub from_table : size ≡ table_size p kbits
   pub within : size ≤ CAPACITY_UNITS
 
--- the size, or the first of the three faults that holds
+-- the size, or the first of the three faults that applies
 abbrev pub size_or_fault : Profile → ℕ → Result ℕ EepFault
 size_or_fault p kbits =
     if kbits == 0 then Err ZeroRate

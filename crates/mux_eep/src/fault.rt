@@ -2,10 +2,10 @@
 
 use thiserror::Error;
 
-/// Why a sub-channel of a profile can't have a bit rate, in the order in which [`crate::size_of`] tests.
+/// Why a protection profile has no size at a bit rate. [`crate::size_of`] says in which order the faults are tested.
 #[derive(Clone, Copy, Debug, PartialEq, Eq, Error)]
 pub enum EepFault {
-    /// The rate is no multiple of 8 kbit/s in set A, or of 32 kbit/s in set B.
+    /// The rate is not a multiple of 8 kbit/s in set A, or of 32 kbit/s in set B.
     #[error("NotMultiple")]
     NotMultiple = 1,
     /// The rate is 0 kbit/s.

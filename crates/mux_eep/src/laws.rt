@@ -1,4 +1,4 @@
-//! What holds of all sizes, whatever computes them.
+//! Laws that hold for all sizes, whatever computes them.
 
 ghost use Rattle.mux_eep.specs.Sizes.{SizesGrow, OneRate};
 

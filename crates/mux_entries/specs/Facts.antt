@@ -1,4 +1,4 @@
--- What the entries of FIG 0/1 to 0/3 say of a configuration (EN 300 401 clauses 6.2.1, 6.3.1 and 6.3.2).
+-- The entries of FIG 0/1 to 0/3 that describe a configuration (EN 300 401 clauses 6.2.1, 6.3.1 and 6.3.2).
 use Rattle.std.specs.Prelude.{◌≡◌, ℕ, ◌-◌, ◌↔◌, Bool, true, false, List, [], ◌∷◌, ◌++◌, map, None, Contains}
 use Rattle.mux_eep.specs.declared.sizes.EepSet.{EepSet}
 use Rattle.mux_eep.specs.declared.sizes.EepSet.TheVariants.{A, B}
@@ -13,7 +13,7 @@ use Rattle.mux_entries.specs.declared.entry.ComponentEntry.{ComponentEntry}
 use Rattle.mux_entries.specs.declared.entry.ComponentEntry.TheVariants.{Sound as SoundOf, Stream as StreamOf, Packet as PacketsOf}
 use Rattle.mux_types.specs.Configuration.{Configuration, IsConfiguration, size_of_sub}
 
--- an entry with its C/N flag, which is true where it describes the next configuration (clause 5.2.2.1)
+-- an entry with its C/N flag, which is true if it describes the next configuration (clause 5.2.2.1)
 pub record Marked : Type 0 where
   pub next : Bool
   pub entry : Entry
@@ -60,7 +60,7 @@ packet_entry p =
       ca_org = None;
     })
 
--- the sub-channel organization is what FIG 0/1 shows, the service organization what FIG 0/2 and 0/3 show
+-- FIG 0/1 shows the sub-channel organization, FIG 0/2 and 0/3 the service organization
 abbrev pub sub_entries : Configuration → List Entry
 sub_entries c = map sub_entry c.subs
 
@@ -76,8 +76,8 @@ abbrev pub facts_of : Configuration → Bool → List Marked
 facts_of c next = map (marked next) (sub_entries c ++ service_entries c)
 
 -- facts distinguish configurations
-abbrev pub FactsTell : Type 0
-FactsTell =
+abbrev pub FactsIdentify : Type 0
+FactsIdentify =
     (c d : Configuration) (next : Bool) → IsConfiguration c → IsConfiguration d
     → facts_of c next ≡ facts_of d next → c ≡ d
 
@@ -86,7 +86,7 @@ abbrev pub HaveSameMembers : {T : Type 0} → List T → List T → Type 0
 HaveSameMembers {T} xs ys = (x : T) → Contains xs x ↔ Contains ys x
 
 -- and so do the sets of facts: entries received in any order, any number of times, identify the configuration
-abbrev pub FactSetsTell : Type 0
-FactSetsTell =
+abbrev pub FactSetsIdentify : Type 0
+FactSetsIdentify =
     (c d : Configuration) (next : Bool) → IsConfiguration c → IsConfiguration d
     → HaveSameMembers (facts_of c next) (facts_of d next) → c ≡ d

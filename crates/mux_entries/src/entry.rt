@@ -1,5 +1,5 @@
-//! The entries of FIG 0/0 to 0/3, with every field of the standard within its bits. An entry is a value;
-//! how it is written as bytes is the subject of the crate `fib_codec`.
+//! The entries of FIG 0/0 to 0/3, with every field of the standard within its bits. An entry is a value; the crate
+//! `fib_codec` encodes it as bytes.
 
 ghost use Rattle.std.specs.Prelude.{◌≡◌, ◌<◌, ◌↔◌, IsSome, IfSome};
 
@@ -36,7 +36,7 @@ impl Default for Entry {
 
 /// Ensemble information, FIG 0/0 (EN 300 401 clause 6.4): the EId, the change flags 0 to 3 (1 for the sub-channel
 /// organization, 2 for the service organization), the Al flag, the CIF count 0 to 4999, and the occurrence change,
-/// which is present exactly where a flag is set.
+/// which is present exactly if a flag is set.
 #[derive(Clone, Copy, Debug, PartialEq, Eq)]
 pub struct Ensemble {
     eid: u16,
@@ -76,8 +76,8 @@ impl Model for Ensemble {
 impl Ensemble {
     ghost use Rattle.mux_entries.specs.Entries.{EnsembleInformation};
 
-    /// The ensemble information of these fields; None where `change` is above 3, `count` is above 4999, or `occurrence`
-    /// is not present exactly where `change` is not 0.
+    /// The ensemble information with these fields; None if `change` is above 3, `count` is above 4999, or `occurrence`
+    /// is present without a change flag or missing with one.
     pub fn new(
         eid: u16,
         change: u8,
@@ -143,7 +143,7 @@ impl Ensemble {
         self.count
     }
 
-    /// The occurrence change: the low part of the CIF count of the swap. Present exactly where a change flag is set.
+    /// The occurrence change: the low part of the CIF count of the swap. Present exactly if a change flag is set.
     pub fn occurrence(&self) -> Option<u8>
         ensures value { result ≡ self.now.occurrence }
         ensures flagged { IsSome result ↔ (0 < self.now.change) }
@@ -180,8 +180,8 @@ pub struct ShortEntry {
     pub table: Bits<6>,
 }
 
-/// What FIG 0/2 says of one component of a service, by its TMId (EN 300 401 clause 6.3.1). `primary` is
-/// the P/S flag, and `ca` the CA flag.
+/// The description of one component of a service in FIG 0/2, by its TMId (EN 300 401 clause 6.3.1). `primary` is the
+/// P/S flag, and `ca` the CA flag.
 #[derive(Clone, Copy, Debug, PartialEq, Eq)]
 pub enum ComponentEntry {
     /// TMId 00, audio in stream mode: ASCTy, SubChId.
@@ -198,7 +198,7 @@ pub enum ComponentEntry {
         primary: bool,
         ca: bool,
     },
-    /// TMId 10, which this profile doesn't interpret: the 14 bits after it.
+    /// TMId 10, which this profile does not interpret: the 14 bits after it.
     Other {
         bits: Bits<14>,
     },
@@ -219,8 +219,8 @@ impl Default for ComponentEntry {
     }
 }
 
-/// The basic service and service component definition, FIG 0/2 (EN 300 401 clause 6.3.1). Its SId is
-/// written with P/D 0 where it is short, and with P/D 1 where it is long.
+/// The basic service and service component definition, FIG 0/2 (EN 300 401 clause 6.3.1). A short SId is sent with P/D
+/// 0, a long one with P/D 1.
 #[derive(Drop)]
 pub struct ServiceEntry {
     /// SId.
@@ -240,7 +240,7 @@ pub struct PacketEntry {
     pub scid: ScId,
     /// Rfa, the three bits after the SCId.
     pub rfa: Bits<3>,
-    /// The DG flag as it is sent: false where data groups are used.
+    /// The DG flag as it is sent: false if data groups are used.
     pub dg: bool,
     /// Rfu, the bit after the DG flag.
     pub rfu: bool,
@@ -250,6 +250,6 @@ pub struct PacketEntry {
     pub sub: SubId,
     /// Packet address.
     pub address: Bits<10>,
-    /// CAOrg, which is present exactly where the CAOrg flag is set.
+    /// CAOrg, which is present exactly if the CAOrg flag is set.
     pub ca_org: Option<u16>,
 }

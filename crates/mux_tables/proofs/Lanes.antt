@@ -86,7 +86,7 @@ step op before blocks s from n x y lt le is made h =
       left = λ b more. let ne : b ≢ n = omega arith in others b ne ∙ h.left b (omega arith);
     }
 
--- a block outside of the span has no unit of it
+-- a block outside the span has none of its units
 none_below : (s : Span) (b j : ℕ) → j < 32 → b < s.start / 32 → share s (32 * b + j) ≡ 0
 none_below s b j less lt = let k : 32 * b + j < s.start = omega arith in grind (arith, nat_tests, k)
 

@@ -1,4 +1,4 @@
--- A table by keys is a set: the value at an index is the member of that key, and writing it edits the set.
+-- A table by keys is a set: the value at an index is the member with that key, and writing it edits the set.
 use Rattle.std.proofs.Common.{◌≡◌, ℕ, zero, suc, ◌+◌, ◌<◌, ◌≤◌, ◌==◌, true, false, not, cond, ltb, Bool, map, List, [], ◌∷◌, length, get_or, set, Option, Some, None, slice_get, refl, sym, ap, ◌∙◌, arith}
 use Rattle.std.specs.List.{find, filter, AllByRecursion}
 use Rattle.std.proofs.lemmas.Bool.{lt-ltb, le-ltb, ne_eqb, eq-eqb, eqb-true}
@@ -85,7 +85,7 @@ module _ {T : Type 0} (key : T → ℕ) where
   in_place_none n (None ∷ xs) (suc i) h = in_place_none (suc n) xs i h
   in_place_none n (Some x ∷ xs) (suc i) h = (h.0, in_place_none (suc n) xs i h.1)
 
-  -- ---- from place 0
+  -- ---- from index 0
 
   pub absent_removed : (n : ℕ) (xs : List (Option T)) (i : ℕ) → InPlace key n xs → get_or xs i None ≡ None → members (set xs i None) ≡ without_entry key (n + i) (members xs)
   absent_removed n [] i h e = refl
@@ -136,7 +136,7 @@ module _ {T : Type 0} (key : T → ℕ) where
   pub stands : (xs : List (Option T)) (j : ℕ) (y : T) → InPlace key 0 xs → slice_get (members xs) j ≡ Some y → get_or xs (key y) None ≡ Some y
   stands xs j y h e = let found = place_of 0 xs j y h e in let is : key y ≡ found.0 = (let k = found.1 in omega (arith, k)) in rw (is) found.2
 
-  -- ---- another member at a place
+  -- ---- another member at an index
 
   pub changed_at_place : (n : ℕ) (xs : List (Option T)) (i : ℕ) (x y : T) → InPlace key n xs → get_or xs i None ≡ Some x → key y ≡ n + i → members (set xs i (Some y)) ≡ with_entry_changed key y (members xs)
   changed_at_place n [] i x y h e k = absurd (cc)

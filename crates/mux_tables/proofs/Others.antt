@@ -52,7 +52,7 @@ same_subs (DropComponent sid carrier) of d = refl
 same_subs (AddPacket p) of d = refl
 same_subs (DropPacket scid) of d = refl
 
--- where no fault holds
+-- if there is no fault
 pub known : (e : Edit) → IsOfOthers e → (xs : List Sub) (old new : Configuration) → new ≡ changed e old → with_sub_channels xs new ≡ changed e (with_sub_channels xs old)
 known e of xs old new is = ap (with_sub_channels xs) is ∙ sym (same_change e of xs old)
 
@@ -63,7 +63,7 @@ known_keeps e of within xs old new none c fault is = (
   subst IsConfiguration (sym (known e of xs old new is)) (edits_keep e (with_sub_channels xs old) within c (same_fault e of xs old ∙ fault)),
 )
 
--- and with its answer
+-- and with its result
 no_fault : (f : Option EditFault) (d new : Configuration) → outcome f d ≡ Ok new → (f ≡ None) × (new ≡ d)
 no_fault None d new e = (refl, cc)
 no_fault (Some fault) d new e = absurd (cc)

@@ -1,4 +1,4 @@
--- A placed sub-channel in place of another keeps a configuration one.
+-- Replacing a sub-channel of a configuration with a placed one results in a configuration.
 use Rattle.std.proofs.lemmas.List.{length-map}
 use Rattle.mux_types.specs.declared.parts.Sub.{Sub}
 use Rattle.mux_config.specs.Configuration.{Configuration, IsConfiguration, IsPlaced, sub_key}

@@ -1,4 +1,4 @@
--- A table of sub-channels and the list of their identifiers stay in step.
+-- A table of sub-channels and the list of their identifiers stay consistent.
 use Rattle.std.proofs.Common.{◌≡◌, ℕ, zero, suc, ◌<◌, List, [], ◌∷◌, map, length, get_or, set, Option, Some, None, slice_get, refl, sym, ap, ◌∙◌, arith}
 use Rattle.std.proofs.lemmas.List.{length-map}
 use Rattle.mux_types.specs.declared.parts.Sub.{Sub}
@@ -71,7 +71,7 @@ ids_changed places ids x y p h same e there =
     same ∙ sym (changed_mapped sub_key listed_key listed (λ x. refl) y (λ x f. same_listed x y f) (members places))
     ∙ ap (λ (xs : List Sub). map listed xs) (sym (changed places x y p h e there))
 
--- the sub-channel at an index of the list stands at the place of the identifier at that index
+-- the identifier at an index of the list is that of the sub-channel at the index
 listed_at : (xs : List Sub) (i : ℕ) (l : ListedId) → slice_get (map listed xs) i ≡ Some l → (s : Sub) × (slice_get xs i ≡ Some s) × (s.id ≡ l.id)
 listed_at [] i l e = absurd (cc)
 listed_at (x ∷ xs) zero l e = let is : listed x ≡ l = cc in (x, refl, ap (λ (k : ListedId). k.id) is)

@@ -1,4 +1,4 @@
--- How many sub-channels have a unit: what edits do to it, and that a number above 1 is two that share the unit.
+-- The number of sub-channels that cover a unit: how edits change it, and that two share the unit if it is above 1.
 use Rattle.std.proofs.Common.{◌≡◌, ◌≢◌, ℕ, ◌+◌, ◌*◌, ◌<◌, ◌≤◌, ◌==◌, Bool, true, false, not, cond, ltb, List, [], ◌∷◌, length, filter, Contains, Option, Some, refl, sym, ap, ◌∙◌, subst, inl, inr, arith}
 use Rattle.std.proofs.lemmas.Bool.{cases_lt, eqb-true}
 use Rattle.std.proofs.lemmas.Bool.Decides.{nat_tests}

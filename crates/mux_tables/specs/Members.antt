@@ -7,7 +7,7 @@ members [] = []
 members (None ∷ places) = members places
 members (Some x ∷ places) = x ∷ members places
 
--- each is at the index of its key, the first slot being that of key n
+-- each is at the index of its key, the first slot being the one for key n
 abbrev pub InPlace : {T : Type 0} → (T → ℕ) → ℕ → List (Option T) → Type 0
 InPlace key n [] = Unit {0}
 InPlace key n (None ∷ places) = InPlace key (suc n) places

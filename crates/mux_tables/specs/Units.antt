@@ -1,4 +1,4 @@
--- How many sub-channels cover each capacity unit, and the lanes that hold these numbers.
+-- The number of sub-channels that cover each capacity unit, and the lanes that hold these numbers.
 use Rattle.std.specs.Prelude.{◌≡◌, ℕ, ◌+◌, ◌-◌, ◌*◌, ◌<◌, ◌≤◌, ◌&&◌, Bool, if◌then◌else◌, nat_lt, nat_le, List, [], map, length, filter, slice_index_or}
 use Rattle.std.specs.List.{range_with_len}
 use Rattle.mux_eep.specs.declared.limits.TheConstants.{CAPACITY_UNITS}
@@ -14,11 +14,11 @@ span_of s = record { start = s.start; size = size_of_sub s }
 abbrev pub has_unit : Span → ℕ → Bool
 has_unit s u = nat_le s.start u && nat_lt u (s.start + s.size)
 
--- 1 where the span covers the unit, else 0
+-- 1 if the span covers the unit, else 0
 abbrev pub share : Span → ℕ → ℕ
 share s u = if has_unit s u then 1 else 0
 
--- how many of these sub-channels cover the unit
+-- the number of these sub-channels that cover the unit
 abbrev pub users : List Sub → ℕ → ℕ
 users subs u = length (filter (λ s. has_unit (span_of s) u) subs)
 
@@ -40,7 +40,7 @@ units_at blocks b = let block = slice_index_or blocks b no_units in block.units
 pub record Counts (blocks : List Block) (uses : ℕ → ℕ) : Type 0 where
   pub each : (b : ℕ) → b < 27 → units_at blocks b ≡ counts_of_block uses b
 
--- what adding a span does, and removing it, where no number comes near the end of a lane
+-- adding a span and removing it, if no lane overflows
 abbrev pub CountsIn : List Block → List Block → Span → Type 0
 CountsIn before after s =
     (uses : ℕ → ℕ) → ((u : ℕ) → uses u < 255) → Counts before uses → Counts after (λ u. uses u + share s u)
@@ -49,7 +49,7 @@ abbrev pub CountsOut : List Block → List Block → Span → Type 0
 CountsOut before after s =
     (uses : ℕ → ℕ) → ((u : ℕ) → uses u < 255) → Counts before (λ u. uses u + share s u) → Counts after uses
 
--- a unit that two or more share, and that there is none
+-- a unit is shared by two or more, and no unit is
 abbrev pub SomeShared : (ℕ → ℕ) → Type 0
 SomeShared uses = (u : ℕ) × (1 < uses u)
 
@@ -62,7 +62,7 @@ NoneShared uses = (u : ℕ) → u < CAPACITY_UNITS → uses u ≤ 1
 abbrev pub with_sub_channels : List Sub → Configuration → Configuration
 with_sub_channels subs others = record { subs = subs; services = others.services; packets = others.packets }
 
--- the sub-channels are held apart from the rest, and each unit's lane holds how many of them cover it
+-- the sub-channels are held apart from the rest, and each unit's lane holds the number of those that cover it
 pub record CountsUsers (subs : List Sub) (units : List Block) (others : Configuration) : Type 0 where
   pub apart : others.subs ≡ []
   pub configuration : IsConfiguration (with_sub_channels subs others)

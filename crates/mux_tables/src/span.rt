@@ -1,4 +1,4 @@
-//! Capacity units that belong together.
+//! Ranges of capacity units.
 
 ghost use Rattle.std.specs.Prelude.{◌≡◌, ◌+◌, ◌≤◌};
 ghost use Rattle.mux_config.specs.Configuration.{IsPlaced};
@@ -8,12 +8,12 @@ ghost use Rattle.mux_tables.specs.Units.{span_of};
 use mux_config::Sub;
 use mux_eep::size_of;
 
-/// Neighbouring capacity units.
+/// A range of capacity units.
 #[derive(Clone, Copy, Debug, PartialEq, Eq)]
 pub(crate) struct Span {
     /// The first unit, numbered from 0.
     pub(crate) start: u16,
-    /// How many there are, in CU.
+    /// The number of units.
     pub(crate) size: u16,
 }
 

@@ -1,5 +1,4 @@
-//! `Store` for a configuration whose capacity units are counted: its sets in order, and what an edit without a fault
-//! changes.
+//! Implements `Store` for `Tables`: its sets in order, and what an edit without a fault changes.
 
 use crate::tables::Tables;
 use mux_config::{Carrier, Component, Config, Packet, ScId, Service, Sid, Store, Sub, SubId};

@@ -57,7 +57,7 @@ impl Model for SubTable {
     ghost invariant = { λ t. InPlace sub_key 0 t.by_id × (t.ids ≡ map listed (members t.by_id)) };
 }
 
-/// Slots without a sub-channel.
+/// Slots without sub-channels.
 fn empty_places() -> [Option<Sub>; 64]
     ensures { result ≡ replicate 64 None }
 {
@@ -65,7 +65,7 @@ fn empty_places() -> [Option<Sub>; 64]
 }
 
 impl SubTable {
-    /// No sub-channel.
+    /// No sub-channels.
     pub(crate) fn new() -> SubTable
         ensures { result ≡ [] }
     {
@@ -75,14 +75,14 @@ impl SubTable {
         }
     }
 
-    /// How many sub-channels there are, at most 64.
+    /// The number of sub-channels, at most 64.
     pub(crate) fn len(&self) -> usize
         ensures { result ≡ length self.now }
     {
         self.ids.len()
     }
 
-    /// The sub-channel at an index, counted from 0 in ascending order of SubChId.
+    /// The sub-channel at an index, from 0 in ascending order of SubChId.
     pub(crate) fn item(&self, index: usize) -> Sub
         requires { index < length self.now }
         ensures { slice_get self.now index ≡ Some result }
@@ -94,7 +94,7 @@ impl SubTable {
         }
     }
 
-    /// The sub-channel of an identifier; None where there is none.
+    /// The sub-channel with an identifier; None if there is none.
     pub(crate) fn get(&self, id: SubId) -> Option<Sub>
         ensures value { result ≡ entry_at sub_key id self.now }
         ensures ascending { IsAscending sub_key self.now }
@@ -102,7 +102,7 @@ impl SubTable {
         self.by_id[usize::from(id.get())]
     }
 
-    /// Inserts a sub-channel whose identifier is free.
+    /// Inserts a sub-channel whose identifier is not in use.
     pub(crate) fn insert(&mut self, sub: Sub)
         requires { entry_at sub_key sub.id self.old ≡ None }
         ensures { self.new ≡ with_entry sub_key sub self.old }
@@ -112,7 +112,7 @@ impl SubTable {
         self.by_id[place] = Some(sub);
     }
 
-    /// Replaces the sub-channel that has the same identifier; without such a one nothing changes.
+    /// Replaces the sub-channel with the same identifier; if there is none, nothing changes.
     pub(crate) fn replace(&mut self, sub: Sub)
         ensures { self.new ≡ with_entry_changed sub_key sub self.old }
     {
@@ -125,7 +125,7 @@ impl SubTable {
         }
     }
 
-    /// Drops the sub-channel of an identifier; without such a one nothing changes.
+    /// Removes the sub-channel with an identifier; if there is none, nothing changes.
     pub(crate) fn remove(&mut self, id: SubId)
         ensures { self.new ≡ without_entry sub_key id self.old }
     {
@@ -133,7 +133,7 @@ impl SubTable {
         self.by_id[usize::from(id.get())] = None;
     }
 
-    /// Drops every sub-channel.
+    /// Removes every sub-channel.
     pub(crate) fn clear(&mut self)
         ensures { self.new ≡ [] }
     {
@@ -171,7 +171,7 @@ fn has_same_places(one: &[Option<Sub>; 64], other: &[Option<Sub>; 64]) -> bool
     true
 }
 
-/// Whether two tables have the same sub-channel at an index, or none.
+/// Whether two slots have the same sub-channel, or none.
 fn is_same_entry(one: Option<Sub>, other: Option<Sub>) -> bool
     ensures { IsTrue result ↔ (one ≡ other) }
 {

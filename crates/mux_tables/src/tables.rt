@@ -1,4 +1,4 @@
-//! A configuration whose capacity units are counted.
+//! A configuration that counts the sub-channels of each capacity unit.
 
 ghost use Rattle.std.specs.Prelude.{◌≡◌, ◌↔◌, None, Some, IfSome, IsTrue, []};
 ghost use Rattle.mux_config.specs.Configuration.{Configuration, IsConfiguration, IsPlaced, sub_key, nothing};
@@ -15,8 +15,8 @@ use std::marker::Model;
 /// A configuration of the multiplex (EN 300 401 clauses 6.1 to 6.3) that counts, for each capacity unit, the
 /// sub-channels whose span covers it. Contracts see it as the configuration that it represents.
 ///
-/// It does not allocate. Its edits cost as much as those of [`Config`], and a few steps more for the blocks of 32
-/// capacity units that the span of a sub-channel touches.
+/// It does not allocate. Its edits cost as much as those of [`Config`], plus a few steps for the blocks of 32 capacity
+/// units that the span of a sub-channel touches.
 #[derive(Drop)]
 pub struct Tables {
     pub(crate) subs: SubTable,
@@ -47,7 +47,7 @@ impl Tables {
         }
     }
 
-    /// Copies the services and packet components of a configuration, and drops every sub-channel.
+    /// Copies the services and packet components of a configuration, and removes every sub-channel.
     pub(crate) fn copy_others_from(&mut self, config: &Config)
         ensures { self.new ≡ record config.now { subs = [] } }
     {
@@ -64,7 +64,7 @@ impl Tables {
         has_shared_unit(&self.units)
     }
 
-    /// The sub-channel of an identifier; None where there is none.
+    /// The sub-channel with an identifier; None if there is none.
     pub(crate) fn get(&self, id: SubId) -> Option<Sub>
         ensures value { result ≡ sub_at id self.now }
         ensures placed { IfSome result (λ s. IsPlaced s) }
@@ -73,7 +73,7 @@ impl Tables {
         self.subs.get(id)
     }
 
-    /// Adds a sub-channel, which has no fault.
+    /// Adds a sub-channel; the edit must have no fault.
     pub(crate) fn insert(&mut self, sub: Sub)
         requires { add_sub_fault sub self.old ≡ None }
         ensures { self.new ≡ sub_added sub self.old }
@@ -82,7 +82,7 @@ impl Tables {
         self.subs.insert(sub);
     }
 
-    /// Replaces the sub-channel that has the same identifier.
+    /// Replaces the sub-channel with the same identifier.
     pub(crate) fn replace(&mut self, old: Sub, new: Sub)
         requires there { entry_at sub_key new.id self.old.subs ≡ Some old }
         requires placed { IsPlaced new }
@@ -94,7 +94,7 @@ impl Tables {
         self.subs.replace(new);
     }
 
-    /// Drops a sub-channel, if it exists.
+    /// Removes a sub-channel, if it exists.
     pub(crate) fn remove(&mut self, id: SubId)
         ensures { self.new ≡ sub_dropped id self.old }
     {

@@ -1,4 +1,4 @@
-//! How many spans cover each capacity unit.
+//! The number of spans that cover each capacity unit.
 
 ghost use Rattle.std.specs.Prelude.{◌≡◌, ℕ, slice_index, true, false, ◌+◌, ◌-◌, ◌<◌, ◌≤◌, length};
 ghost use Rattle.mux_eep.specs.declared.limits.TheConstants.{CAPACITY_UNITS};
@@ -12,13 +12,13 @@ const LANES: [u8; 32] = [
     26, 27, 28, 29, 30, 31,
 ];
 
-/// 32 neighbouring capacity units, a lane for each: how many spans cover it.
+/// 32 consecutive capacity units, with a lane for each: the number of spans that cover it.
 #[derive(Clone, Copy)]
 pub(crate) struct Block {
     pub(crate) units: u8x32,
 }
 
-/// The blocks of no span.
+/// The blocks without any span.
 pub(crate) fn empty_map() -> [Block; 27]
     ensures { (uses : ℕ → ℕ) → ((u : ℕ) → uses u ≡ 0) → Counts result uses }
 {

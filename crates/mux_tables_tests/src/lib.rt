@@ -1,4 +1,4 @@
-//! Every public call of a store, over each kind of store.
+//! Tests of every public call of a store, over each kind of store.
 #![tactic(auto)]
 
 #[cfg(test)]

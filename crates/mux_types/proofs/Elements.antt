@@ -1,4 +1,4 @@
--- What a list contains, member by member.
+-- Membership in a list, element by element.
 use Rattle.std.proofs.Common.{◌≡◌, zero, suc, List, [], ◌∷◌, Contains, refl, subst, ◌⊎◌, inl, inr, arith}
 use Rattle.std.specs.List.{AllByRecursion}
 

@@ -1,4 +1,4 @@
--- A value removed from a list, by moving it to the end first.
+-- Removing a value from a list by moving it to the end first.
 use Rattle.std.proofs.Common.{◌≡◌, ℕ, ◌-◌, ◌<◌, List, [], ◌∷◌, ◌++◌, length, get_or, take, ap, ◌∙◌, arith}
 use Rattle.std.specs.List.{remove}
 use Rattle.std.proofs.lemmas.List.{append_assoc, take_at}

@@ -32,7 +32,7 @@ each_without P key k (x ∷ xs) all =
       | inr other ↦ rw (ne_eqb _ _ other) (all.0, each_without P key k xs all.1)
     ]
 
--- what holds of the new member holds of each afterwards, where it may rest on the key that was there
+-- each member keeps a property, if the new one has it whenever the old one with the same key does
 pub each_changed : {T : Type 0} (P : T → Type 0) (key : T → ℕ) (y : T) → ((x : T) → key x ≡ key y → P x → P y) → (xs : List T) → AllByRecursion P xs → AllByRecursion P (with_entry_changed key y xs)
 each_changed P key y holds [] all = tt
 each_changed P key y holds (x ∷ xs) all =
@@ -83,9 +83,9 @@ ascends_changed key y (x ∷ xs) up =
       | inr other ↦ rw (ne_eqb _ _ other) (later, ascends_changed key y xs up.1)
     ]
 
--- ---- the place of a key
+-- ---- the index of a key
 
--- how many members of a set in ascending order stand before a key
+-- the number of members of a set in ascending order before a key
 abbrev pub place_of : {T : Type 0} → (T → ℕ) → ℕ → List T → ℕ
 place_of key k [] = 0
 place_of key k (x ∷ xs) = if nat_lt (key x) k then suc (place_of key k xs) else 0
@@ -96,7 +96,7 @@ place_bound key k (x ∷ xs) =
     let more = place_bound key k xs in
     elim (cases_lt (key x) k) [ inl lt ↦ rw (lt-ltb _ _ lt) (omega (arith, more)) | inr ge ↦ rw (le-ltb _ _ ge) (omega arith) ]
 
--- a key stands after each member of a lesser key, at a member of its own, and before each of a greater
+-- the index of a key is after each lower key, at the key itself, and before each greater one
 pub place_above : {T : Type 0} (key : T → ℕ) (k : ℕ) (xs : List T) (i : ℕ) (d : T) → IsAscending key xs → i < length xs → key (get_or xs i d) < k → i < place_of key k xs
 place_above key k [] i d up lt below = absurd (omega (arith, lt))
 place_above key k (x ∷ xs) zero d up lt below = rw (lt-ltb _ _ below) (omega arith)
@@ -120,7 +120,7 @@ place_below key k (x ∷ xs) (suc i) d lt above =
     let more : place_of key k xs ≤ i = place_below key k xs i d (omega (arith, lt)) above in
     elim (cases_lt (key x) k) [ inl below ↦ rw (lt-ltb _ _ below) (omega (arith, more)) | inr ge ↦ rw (le-ltb _ _ ge) (omega arith) ]
 
--- ---- the member at that place
+-- ---- the member at that index
 
 not_later : {T : Type 0} (key : T → ℕ) (k : ℕ) (xs : List T) → AllByRecursion (λ x. k < key x) xs → entry_at key k xs ≡ None
 not_later key k [] above = refl
@@ -172,7 +172,7 @@ absent_at {T} key k (x ∷ xs) d up lt differs =
           rw (ne_eqb _ _ other) (not_later key k xs (each_weaker (λ z. key x < key z) (λ z. k < key z) (λ z h. omega (arith, ge, h)) xs up.0))
     ]
 
--- ---- what an edit at that place makes of the set
+-- ---- the set after an edit at that index
 
 skipped : {T : Type 0} (key : T → ℕ) (k : ℕ) (x : T) (xs : List T) → entry_at key k (x ∷ xs) ≡ None → (eqb (key x) k ≡ false) × (entry_at key k xs ≡ None)
 skipped key k x xs absent =
@@ -291,7 +291,7 @@ entry_absent key k (x ∷ xs) up apart =
       | inr past ↦ absent_past key k (x ∷ xs) past
     ]
 
--- no member stands past the last
+-- no member is past the last
 pub apart_at_end : {T : Type 0} (key : T → ℕ) (k : ℕ) (xs : List T) (d : T) → length xs < length xs → k < key (get_or xs (length xs) d)
 apart_at_end key k xs d past = absurd (omega (arith, past))
 
@@ -309,6 +309,6 @@ slice_get_none [] p none lt = omega (arith, lt)
 slice_get_none (x ∷ xs) zero none lt = absurd cc
 slice_get_none (x ∷ xs) (suc p) none lt = slice_get_none xs p none (omega (arith, lt))
 
--- a key that stands at a place is not absent
+-- a key that is at an index is not absent
 pub not_both : {T : Type 0} (key : T → ℕ) (k : ℕ) (xs : List T) (p : ℕ) → slice_get xs p ≡ entry_at key k xs → p < length xs → entry_at key k xs ≡ None → ⊥
 not_both key k xs p found lt absent = let there : slice_get xs p ≡ None = found ∙ absent in slice_get_none xs p there lt

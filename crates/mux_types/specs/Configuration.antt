@@ -53,7 +53,7 @@ pub record IsPlaced (s : Sub) : Type 0 where
   pub sized : IsSize s.protection s.kbits (size_of_sub s)
   pub ends : s.start + size_of_sub s ≤ CAPACITY_UNITS
 
--- what a component names as its carrier
+-- the carrier of a component's content
 abbrev pub carrier_of : Component → Carrier
 carrier_of (Sound ty sub) = BySub sub
 carrier_of (Stream ty sub) = BySub sub
@@ -74,7 +74,7 @@ IsComponent (Sound ty sub) = (ty < 64) × (sub < 64)
 IsComponent (Stream ty sub) = (ty < 64) × (sub < 64)
 IsComponent (InPackets scid) = scid < 4096
 
--- how many components a service can have: its entry takes at most 29 bytes with the header of its FIG
+-- the most components of a service: its entry takes at most 29 bytes with the header of its FIG
 abbrev pub component_limit : Sid → ℕ
 component_limit (Short n) = 12
 component_limit (Long n) = 11

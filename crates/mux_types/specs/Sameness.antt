@@ -59,6 +59,6 @@ is_same_carrier (BySub a) (ByPacket b) = false
 is_same_carrier (ByPacket a) (BySub b) = false
 is_same_carrier (ByPacket a) (ByPacket b) = a == b
 
--- whether a component names this carrier
+-- whether this is the carrier of a component
 abbrev pub names : Carrier → Component → Bool
 names carrier m = is_same_carrier (carrier_of m) carrier

@@ -1,5 +1,4 @@
--- That the lists in ascending order are finite sets, and that the functions of the tables add a member, remove one
--- and replace one.
+-- Lists in ascending order are finite sets, and the functions of the tables add a member, remove one and replace one.
 use Rattle.std.specs.Prelude.{◌≡◌, ◌≢◌, ℕ, ◌⊎◌, ◌↔◌, List, None, Contains}
 use Rattle.mux_types.specs.Configuration.{IsAscending}
 use Rattle.mux_types.specs.Tables.{entry_at, with_entry, without_entry, changed_at}
@@ -10,24 +9,24 @@ HasOneList {T} key =
     (xs ys : List T) → IsAscending key xs → IsAscending key ys → ((x : T) → Contains xs x ↔ Contains ys x)
     → xs ≡ ys
 
--- `zs` is the set that has exactly the members of this property
+-- `zs` is the set with exactly the members that have this property
 pub record IsSetOf {T : Type 0} (key : T → ℕ) (IsMember : T → Type 0) (zs : List T) : Type 0 where
   pub ascends : IsAscending key zs
   pub members : (x : T) → Contains zs x ↔ IsMember x
 
--- one more member, of a key that is free
+-- one more member, with a key that is free
 abbrev pub WithAdds : {T : Type 0} → (T → ℕ) → Type 0
 WithAdds {T} key =
     (y : T) (xs : List T) → IsAscending key xs → entry_at key (key y) xs ≡ None
     → IsSetOf key (λ x. (y ≡ x) ⊎ Contains xs x) (with_entry key y xs)
 
--- all members but that of a key
+-- all members but the one with a key
 abbrev pub WithoutTakes : {T : Type 0} → (T → ℕ) → Type 0
 WithoutTakes {T} key =
     (k : ℕ) (xs : List T) → IsAscending key xs
     → IsSetOf key (λ x. Contains xs x × (key x ≢ k)) (without_entry key k xs)
 
--- the member of a key changed, which keeps its key, and all others
+-- the member with a key changed, keeping its key, and all others
 abbrev pub ChangedReplaces : {T : Type 0} → (T → ℕ) → Type 0
 ChangedReplaces {T} key =
     (k : ℕ) (change : T → T) (xs : List T) → IsAscending key xs → ((x : T) → key x ≡ k → key (change x) ≡ k)

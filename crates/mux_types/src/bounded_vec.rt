@@ -36,7 +36,7 @@ impl<T: Default + Drop, const CAP: usize> BoundedVec<T, CAP> {
 }
 
 impl<T: Drop, const CAP: usize> BoundedVec<T, CAP> {
-    /// How many values it holds, at most `CAP`.
+    /// The number of values, at most `CAP`.
     pub fn len(&self) -> usize
         ensures value { result ≡ length self.now }
         ensures bound { result ≤ CAP }

@@ -1,4 +1,4 @@
-//! What holds of all sets, whatever holds them.
+//! Laws that hold for all sets, whatever represents them.
 
 ghost use Rattle.mux_types.specs.Sets.{HasOneList, WithAdds, WithoutTakes, ChangedReplaces};
 

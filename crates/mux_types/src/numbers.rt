@@ -32,7 +32,7 @@ impl Default for SubId {
 }
 
 impl SubId {
-    /// The identifier of this number; None where it is above 63.
+    /// The identifier with this number; None if it is above 63.
     pub fn new(id: u8) -> Option<SubId>
         ensures in_range { IsSome result ↔ (id < 64) }
         ensures value { IfSome result (λ s. s ≡ id) }
@@ -77,7 +77,7 @@ impl Default for ScId {
 }
 
 impl ScId {
-    /// The identifier of this number; None where it is above 4095.
+    /// The identifier with this number; None if it is above 4095.
     pub fn new(scid: u16) -> Option<ScId>
         ensures in_range { IsSome result ↔ (scid < 4096) }
         ensures value { IfSome result (λ s. s ≡ scid) }
@@ -127,7 +127,7 @@ impl Default for ScTy {
 }
 
 impl ScTy {
-    /// The type of this number; None where it is above 63.
+    /// The type with this number; None if it is above 63.
     pub fn new(ty: u8) -> Option<ScTy>
         ensures in_range { IsSome result ↔ (ty < 64) }
         ensures value { IfSome result (λ t. t ≡ ty) }
@@ -182,7 +182,7 @@ impl<const WIDTH: u32> Default for Bits<WIDTH> {
 }
 
 impl<const WIDTH: u32> Bits<WIDTH> {
-    /// The field of this value; None where it needs more than `WIDTH` bits.
+    /// The field with this value; None if it needs more than `WIDTH` bits.
     pub fn new(value: u16) -> Option<Self>
         ensures in_range { IsSome result ↔ (value < 2 ^ WIDTH) }
         ensures value { IfSome result (λ b. b ≡ value) }

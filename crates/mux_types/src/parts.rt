@@ -24,7 +24,7 @@ pub struct Sub {
 }
 
 impl Default for Sub {
-    /// A sub-channel of no rate, which fills the unused slots of a list.
+    /// A sub-channel with rate 0, which fills the unused slots of a list.
     fn default() -> Self {
         Sub {
             id: SubId::default(),
@@ -56,7 +56,7 @@ impl Default for Component {
 }
 
 impl Component {
-    /// What it names as the carrier of its content.
+    /// The carrier of its content.
     pub fn carrier(&self) -> Carrier
         ensures { result ≡ carrier_of self.now }
     {
@@ -68,17 +68,17 @@ impl Component {
     }
 }
 
-/// What a component names as the carrier of its content. No two components of one service name the same.
+/// The carrier of a component's content. No two components of one service have the same carrier.
 #[derive(Clone, Copy, Debug, PartialEq, Eq)]
 pub enum Carrier {
-    /// A sub-channel, of a component in stream mode.
+    /// A sub-channel, for a component in stream mode.
     Sub(SubId),
-    /// A packet component, of a component in packet mode.
+    /// A packet component, for a component in packet mode.
     Packet(ScId),
 }
 
 impl Carrier {
-    /// Whether one of the components names it.
+    /// Whether it is the carrier of one of the components.
     pub fn is_named_by(&self, components: &[Component]) -> bool
         ensures { result ≡ list_any (names self.now) components.now }
     {
@@ -113,7 +113,7 @@ impl Default for Service {
 }
 
 impl Service {
-    /// The service of an SId, without components.
+    /// The service with an SId, without components.
     pub fn new(sid: Sid) -> Service
         ensures { result ≡ record { sid = sid; components = [] } }
     {
@@ -133,7 +133,7 @@ impl Service {
         }
     }
 
-    /// How many components a service can have with its kind of SId: 12 with 16 bits, 11 with 32.
+    /// The most components that a service can have with its kind of SId: 12 with 16 bits, 11 with 32.
     pub fn limit(&self) -> usize
         ensures { result ≡ component_limit self.now.sid }
     {
@@ -149,7 +149,7 @@ impl Service {
 pub struct Packet {
     /// Its identifier.
     pub scid: ScId,
-    /// The DG flag as it is sent: false where data groups are used.
+    /// The DG flag as it is sent: false if data groups are used.
     pub dg: bool,
     /// Its type, DSCTy.
     pub ty: ScTy,

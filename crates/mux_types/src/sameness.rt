@@ -38,11 +38,11 @@ fn is_same_sid(a: Sid, b: Sid) -> bool
     a == b
 }
 
-/// A part of a configuration, which may be the same as another.
+/// A part of a configuration that can be compared with another.
 trait Same {
     ghost use Rattle.std.specs.Prelude.{◌≡◌, Bool};
 
-    /// The test of two of them.
+    /// Whether two of them are the same.
     ghost same: { Self → Self → Bool };
 
     /// Whether it is the same as another.

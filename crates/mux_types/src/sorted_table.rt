@@ -51,8 +51,7 @@ impl<T: Keyed, const CAP: usize> SortedTable<T, CAP> {
     }
 }
 
-/// The index of the entry of a key, by binary search; or, where none has it, the index at which such an entry would be
-/// inserted.
+/// The index of the entry with a key, by binary search; or, if there is none, the index at which it would be inserted.
 fn search<T: Keyed>(entries: &[T], key: u64) -> Result<usize, usize>
     requires { IsAscending T.key entries.now }
     ensures found { IfOk result (λ place.
@@ -85,7 +84,7 @@ fn search<T: Keyed>(entries: &[T], key: u64) -> Result<usize, usize>
 }
 
 impl<T: Keyed, const CAP: usize> SortedTable<T, CAP> {
-    /// How many members it has, at most `CAP`.
+    /// The number of members, at most `CAP`.
     pub fn len(&self) -> usize
         ensures value { result ≡ length self.now }
         ensures bound { result ≤ CAP }
@@ -117,7 +116,7 @@ impl<T: Keyed, const CAP: usize> SortedTable<T, CAP> {
         &self.entries.as_slice()[place]
     }
 
-    /// The index of the member of a key; None where it has none.
+    /// The index of the member with a key; None if there is none.
     pub fn place(&self, key: u64) -> Option<usize>
         ensures found { IfSome result (λ place.
             slice_get self.now place ≡ entry_at T.key key self.now) }
@@ -128,7 +127,7 @@ impl<T: Keyed, const CAP: usize> SortedTable<T, CAP> {
         search(self.entries.as_slice(), key).ok()
     }
 
-    /// The member of a key; None where it has none.
+    /// The member with a key; None if there is none.
     pub fn get(&self, key: u64) -> Option<&T>
         ensures value { option_copied result ≡ entry_at T.key key self.now }
         ensures ascending { IsAscending T.key self.now }
@@ -140,7 +139,7 @@ impl<T: Keyed, const CAP: usize> SortedTable<T, CAP> {
         }
     }
 
-    /// Inserts a member whose key no member has; there must be room.
+    /// Inserts a member whose key is not in the set; there must be room.
     pub fn insert(&mut self, entry: T)
         requires absent { entry_at T.key (T.key entry) self.old ≡ None }
         requires room { length self.old < CAP }
@@ -161,7 +160,7 @@ impl<T: Keyed, const CAP: usize> SortedTable<T, CAP> {
         self.entries.push(entry);
     }
 
-    /// Replaces the member that has the same key; without such a one nothing changes.
+    /// Replaces the member with the same key; if there is none, nothing changes.
     pub fn replace(&mut self, entry: T)
         ensures { self.new ≡ with_entry_changed T.key entry self.old }
     {
@@ -171,7 +170,7 @@ impl<T: Keyed, const CAP: usize> SortedTable<T, CAP> {
         }
     }
 
-    /// Removes the member of a key; without such a one nothing changes.
+    /// Removes the member with a key; if there is none, nothing changes.
     pub fn remove(&mut self, key: u64)
         ensures { self.new ≡ without_entry T.key key self.old }
     {

@@ -1,4 +1,4 @@
--- Lists in ascending order of a key, read from the front, and searched by bisection.
+-- Lists in ascending order of a key: reading them in order, and binary search.
 use Rattle.std.proofs.Common.{◌≡◌, ◌≢◌, ℕ, zero, suc, ◌+◌, ◌<◌, ◌≤◌, ◌↔◌, List, [], ◌∷◌, length, get_or, drop, Some, None, refl, ap, arith, inl, inr, eqb}
 use Rattle.std.specs.List.{find, AllByRecursion}
 use Rattle.std.proofs.lemmas.Bool.{cases_lt, eq-eqb, ne_eqb}
@@ -53,7 +53,7 @@ not_labels_below count low i pc xs d lt is below h =
     let cut : AreLabels count low (get_or xs i d ∷ drop (i + 1) xs) = rw (drop_more xs i d lt) at h in
     omega (arith, is, below, cut.ascending.0)
 
--- ---- searched by halves
+-- ---- binary search
 
 key_at : {T : Type 0} (key : T → ℕ) (xs : List T) (i : ℕ) (d : T) → ℕ
 key_at key xs i d = key (get_or xs i d)
@@ -84,7 +84,7 @@ find_none key k (x ∷ xs) d absent =
     let other : key x ≡ k → ⊥ = absent 0 (omega arith) in
     rw (ne_eqb _ _ other) (find_none key k xs d (λ i lt. absent (suc i) (omega (arith, lt))))
 
--- what stands below a place stands below it too, and so above
+-- if the key at an index is below k, so are all keys before it; likewise above
 pub below_middle : {T : Type 0} (key : T → ℕ) (k : ℕ) (xs : List T) (m : ℕ) (e : T) → IsAscending key xs → m < length xs → key (get_or xs m e) < k
     → (i : ℕ) (d : T) → i < m + 1 → key (get_or xs i d) < k
 below_middle key k xs m e up within below i d lt =
@@ -103,7 +103,7 @@ above_middle key k xs m e up within other above i d from lt =
       | inr here ↦ let at : i ≡ m = omega arith in rw at (omega (arith, same, above, other))
     ]
 
--- nothing is left between what is below and what is above
+-- no entry is left between those below and those above
 pub find_between : {T : Type 0} (key : T → ℕ) (k : ℕ) (xs : List T) (low high : ℕ) → high ≤ low
     → ((i : ℕ) (d : T) → i < low → key (get_or xs i d) < k) → ((i : ℕ) (d : T) → high ≤ i → i < length xs → k < key (get_or xs i d))
     → find (λ x. eqb (key x) k) xs ≡ None

@@ -1,4 +1,4 @@
--- Sets as bits: what a bit says after it was set or cleared, and one set within another.
+-- Sets as bits: the value of a bit after it was set or cleared, and inclusion of sets.
 use Rattle.std.proofs.Common.{◌≡◌, ◌≢◌, ℕ, ◌-◌, ◌<◌, ◌^◌, true, false, eqb, min, refl, sym, ap, ◌∙◌, arith, inl, inr}
 use Rattle.std.specs.Int.{Width, w8, w16, bit_at, bit_not}
 use Rattle.std.specs.Int.RustNames.{bit_and, bit_or}
@@ -49,7 +49,7 @@ contacts_change_alone contacts c true lt =
 contacts_change_alone contacts c false lt =
     (zero_is _ (bit_clear_same w16 contacts.0 c lt), λ d within apart. same_is _ _ (bit_clear_other w16 contacts.0 c d lt within apart))
 
--- ---- one set within another
+-- ---- inclusion
 
 pub all_included : (a b : Counters) → eqb (bit_and a.0 b.0) b.0 ≡ true → Includes a b
 all_included a b e = λ r has.

@@ -1,4 +1,4 @@
--- Bytes have one fault at most, and one exactly where they are the file of no code; none is out of memory.
+-- Bytes have at most one fault, and have one exactly where they are not a code file; none is out of memory.
 use Rattle.std.proofs.Common.{◌≡◌, ℕ, zero, suc, Bool, true, false, cond, eqb, ltb, not, List, [], ◌∷◌, ◌++◌, length, Result, Ok, Err, refl, sym, ap, subst, ◌∙◌}
 use Rattle.std.specs.Int.{w16, w32}
 use Rattle.byte_fields.specs.declared.record.RecordFault.{RecordFault}
@@ -15,7 +15,7 @@ use Rattle.plan_code.proofs.FileLaws.{code_front, code_again}
 abbrev is : {A : Type 0} → A → Result A CodeFault
 is x = Ok x
 
--- a reading that doesn't fail for want of memory
+-- a reading that does not fail with out of memory
 abbrev IsNamed : {A : Type 0} → Result A CodeFault → Type 0
 IsNamed (Ok x) = Unit {0}
 IsNamed (Err Magic) = Unit {0}
@@ -117,7 +117,7 @@ one_fault bytes f g first second =
     let same : (let failed : Result Program CodeFault = Err f in failed) ≡ Err g = sym first ∙ second in
     cc
 
--- what reading gives is a code or a fault
+-- reading gives a code or a fault
 fault_or_code : (bytes : List ℕ) (r : Result Program CodeFault) → code_of bytes ≡ r → AreBytes bytes → IsNoFile bytes → (f : CodeFault) × HasCodeFault bytes f
 fault_or_code bytes (Ok p) e fits none = let read = code_front bytes p fits e in absurd (none p read.formed read.spelled)
 fault_or_code bytes (Err f) e fits none = (f, e)

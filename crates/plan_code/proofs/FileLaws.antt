@@ -1,4 +1,4 @@
--- A code that is read is the one whose file it is, and the file of a code is read again.
+-- Reading a code file and spelling a code are inverse.
 use Rattle.std.proofs.Common.{◌≡◌, ◌≢◌, ℕ, zero, suc, ◌+◌, ◌<◌, ◌≤◌, Bool, true, false, cond, eqb, ltb, not, List, [], ◌∷◌, ◌++◌, length, Result, Ok, Err, IfOk, refl, sym, ap, subst, ◌∙◌, append_assoc, arith, inl, inr}
 use Rattle.std.specs.Int.{w16, w32, to_be_bytes}
 use Rattle.std.specs.List.{flat_map, AllByRecursion}
@@ -8,7 +8,7 @@ use Rattle.fib_codec.specs.declared.modes.Mode.{Mode}
 use Rattle.fib_codec.specs.declared.modes.Mode.TheVariants.{I, II, III, IV}
 use Rattle.byte_fields.specs.declared.record.RecordFault.{RecordFault}
 use Rattle.mux_config.specs.Configuration.{Configuration, IsConfiguration, IsAscending}
-use Rattle.mux_config.specs.FieldSpelling.{word_bytes}
+use Rattle.mux_config.specs.FieldSpelling.{u16_bytes}
 use Rattle.mux_config.specs.Spelling.{config_bytes}
 use Rattle.mux_config.specs.FieldReading.{Reads, place, byte_at, number_at, byte_within}
 use Rattle.mux_config.specs.Reading.{config_at}
@@ -27,7 +27,7 @@ use Rattle.plan_code.proofs.Operands.{IsReading, byte_of, word_reading, byte_fro
 use Rattle.plan_code.proofs.LabelLaws.{label_front, label_again}
 use Rattle.plan_code.proofs.LineLaws.{line_front, line_again}
 
--- ---- steps that did not fail
+-- ---- steps without a fault
 
 then_ok : {A B : Type 0} (r : Result A CodeFault) (f : A → Result B CodeFault) (y : B) → (r >>= f) ≡ Ok y → (x : A) × (r ≡ Ok x) × (f x ≡ Ok y)
 then_ok (Ok x) f y e = (x, refl, e)
@@ -50,7 +50,7 @@ read_ok start (Err d) x e = absurd cc
 ok_read : {A : Type 0} (start : ℕ) (r : Result A RecordFault) (x : A) → r ≡ Ok x → read_from start r ≡ Ok x
 ok_read start r x e = rw e refl
 
--- ---- what is read is spelled so, and formed; and what is formed and spelled so is read again
+-- ---- reading and spelling are inverse on well-formed values
 
 pub record IsParsing {T : Type 0} (read : List ℕ → Parses T) (spell : T → List ℕ) (P : T → Type 0) : Type 0 where
   pub front : (bytes : List ℕ) (x : T × List ℕ) → IsBytes bytes → read bytes ≡ Ok x → Front bytes (spell x.0) x.1 × P x.0
@@ -103,7 +103,7 @@ second_version total bytes rest x e front =
     let here : Front bytes (mode_bytes (mode_of n.0.0)) n.0.1 = subst (λ (t : List ℕ). Front bytes t n.0.1) (sym (number_bytes n.0.0 fn.1.0 fn.1.1)) both in
     subst (λ (y : Mode × List ℕ). Front bytes (mode_bytes y.0) y.1) (made_is found x n.2) here
 
--- one of the versions, or none of those before
+-- this version, or one of those tested later
 choose : {T E : Type 0} (version known : ℕ) (given other : Result (T × List ℕ) E) (x : T × List ℕ) (Q : ℕ → Type 0) → (given ≡ Ok x → Q known) → (other ≡ Ok x → Q version)
     → cond (eqb version known) given other ≡ Ok x → Q version
 choose version known given other x Q here there e =
@@ -148,8 +148,8 @@ plan_front total bytes x fits e =
     let plan : Plan × List ℕ = (record { eid = a.0.0; mode = m.0.0; period = p.0.0; notice = n.0.0; budget = b.0.0 }, b.0.1) in
     let nb = front_then p.0.1 (byte_of n.0.0) n.0.1 (byte_of b.0.0) b.0.1 fn.0 fb.0 in
     let pnb = front_then a.0.1 (byte_of p.0.0) p.0.1 (byte_of n.0.0 ++ byte_of b.0.0) b.0.1 fp.0 nb in
-    let ma = front_then bytes (mode_bytes m.0.0) m.0.1 (word_bytes a.0.0) a.0.1 fm fa.0 in
-    let all = front_then bytes (mode_bytes m.0.0 ++ word_bytes a.0.0) a.0.1 (byte_of p.0.0 ++ (byte_of n.0.0 ++ byte_of b.0.0)) b.0.1 ma pnb in
+    let ma = front_then bytes (mode_bytes m.0.0) m.0.1 (u16_bytes a.0.0) a.0.1 fm fa.0 in
+    let all = front_then bytes (mode_bytes m.0.0 ++ u16_bytes a.0.0) a.0.1 (byte_of p.0.0 ++ (byte_of n.0.0 ++ byte_of b.0.0)) b.0.1 ma pnb in
     subst (λ (y : Plan × List ℕ). Front bytes (plan_bytes y.0) y.1 × IsPlan y.0) (made_is plan x b.2)
     (all, record { ensemble = fa.1; period_from = fp.1.0; period_to = fp.1.1; notice_from = fn.1.0; notice_to = fn.1.1; budget_from = fb.1.0; budget_to = fb.1.1 })
 
@@ -157,11 +157,11 @@ plan_again : (total : ℕ) (p : Plan) (rest : List ℕ) → IsPlan p → plan_at
 unfolding plan_at
 plan_again total p rest is =
     let last : List ℕ = p.period ∷ p.notice ∷ p.budget ∷ [] in
-    let grouped : plan_bytes p ++ rest ≡ mode_bytes p.mode ++ (word_bytes p.eid ++ (last ++ rest)) =
-    append_assoc (mode_bytes p.mode ++ word_bytes p.eid) last rest ∙ append_assoc (mode_bytes p.mode) (word_bytes p.eid) (last ++ rest) in
+    let grouped : plan_bytes p ++ rest ≡ mode_bytes p.mode ++ (u16_bytes p.eid ++ (last ++ rest)) =
+    append_assoc (mode_bytes p.mode ++ u16_bytes p.eid) last rest ∙ append_assoc (mode_bytes p.mode) (u16_bytes p.eid) (last ++ rest) in
     ap (plan_at total) grouped
     ∙ rw (
-      mode_again total p.mode (word_bytes p.eid ++ (last ++ rest)),
+      mode_again total p.mode (u16_bytes p.eid ++ (last ++ rest)),
       ok_read 0 _ _ (word_reading.again p.eid (p.period ∷ p.notice ∷ p.budget ∷ rest) is.ensemble),
       ok_read 0 _ _ ((byte_from_reading total 1 60).again p.period (p.notice ∷ p.budget ∷ rest) (is.period_from, is.period_to)),
       ok_read 0 _ _ ((byte_from_reading total 12 248).again p.notice (p.budget ∷ rest) (is.notice_from, is.notice_to)),
@@ -171,7 +171,7 @@ plan_again total p rest is =
 abbrev IsCount : ℕ → ℕ → Type 0
 IsCount limit n = (1 ≤ n) × (n ≤ limit)
 
-count_front : (total limit : ℕ) (bytes : List ℕ) (x : ℕ × List ℕ) → IsBytes bytes → count_at total limit bytes ≡ Ok x → Front bytes (word_bytes x.0) x.1 × IsCount limit x.0
+count_front : (total limit : ℕ) (bytes : List ℕ) (x : ℕ × List ℕ) → IsBytes bytes → count_at total limit bytes ≡ Ok x → Front bytes (u16_bytes x.0) x.1 × IsCount limit x.0
 count_front total limit bytes x fits e =
     let a = then_ok (in_file (number_at w16 bytes)) _ x e in
     let f = word_reading.front bytes a.0 fits (read_ok 0 _ a.0 a.1) in
@@ -179,15 +179,15 @@ count_front total limit bytes x fits e =
     let k = refuse_then (ltb limit a.0.0) Limit (λ few. made a.0) x s.1 in
     let some : a.0.0 ≢ 0 = eqb-false _ _ s.0 in
     let few : a.0.0 ≤ limit = ltb-false _ _ k.0 in
-    subst (λ (y : ℕ × List ℕ). Front bytes (word_bytes y.0) y.1 × IsCount limit y.0) (made_is a.0 x k.1) (f.0, (omega (arith, some), few))
+    subst (λ (y : ℕ × List ℕ). Front bytes (u16_bytes y.0) y.1 × IsCount limit y.0) (made_is a.0 x k.1) (f.0, (omega (arith, some), few))
 
-count_again : (total limit n : ℕ) (rest : List ℕ) → limit < 65536 → IsCount limit n → count_at total limit (word_bytes n ++ rest) ≡ Ok (n, rest)
+count_again : (total limit n : ℕ) (rest : List ℕ) → limit < 65536 → IsCount limit n → count_at total limit (u16_bytes n ++ rest) ≡ Ok (n, rest)
 count_again total limit n rest small is =
     let some : eqb n 0 ≡ false = ne_eqb _ _ (λ e. omega (arith, e, is.0)) in
     let few : ltb limit n ≡ false = le-ltb _ _ is.1 in
     rw (ok_read 0 _ _ (word_reading.again n rest (omega (arith, is.1, small))), some, few) refl
 
--- ---- rows
+-- ---- tables
 
 config_parsing : (total : ℕ) → IsParsing (config_in total) config_bytes IsConfiguration
 config_parsing total = record {
@@ -201,7 +201,7 @@ line_parsing total = record {
   again = λ l rest formed. ok_read 0 _ (l, rest) (line_again total l rest formed);
 }
 
--- what was read after these items is this many more
+-- what was read extends `before` by `count` items
 pub record AreItemsRead {T : Type 0} (spell : T → List ℕ) (P : T → Type 0) (before : List T) (count : ℕ) (bytes : List ℕ) (x : List T × List ℕ) : Type 0 where
   pub more : List T
   pub is : x.0 ≡ before ++ more
@@ -244,7 +244,7 @@ any_place (x ∷ xs) = (omega arith, any_place xs)
 
 -- ---- the file
 
--- what was read is a header within its limits
+-- the header read is within its limits
 pub record IsHeaderRead (bytes : List ℕ) (h : Header) (rest : List ℕ) : Type 0 where
   pub front : Front bytes (header_bytes h.plan h.configurations h.labels h.lines) rest
   pub planned : IsPlan h.plan
@@ -263,9 +263,9 @@ header_made total h b0 b2 b3 b4 b5 b6 m fits em ep ec el ei =
     let magic_text : List ℕ = to_be_bytes w32 magic in
     let plan_text : List ℕ = plan_bytes h.plan in
     let planned = front_then b0 magic_text b2 plan_text b3 fm fp.0 in
-    let one = front_then b0 (magic_text ++ plan_text) b3 (word_bytes h.configurations) b4 planned fc.0 in
-    let two = front_then b0 (magic_text ++ plan_text ++ word_bytes h.configurations) b4 (word_bytes h.labels) b5 one fl.0 in
-    let all = front_then b0 (magic_text ++ plan_text ++ word_bytes h.configurations ++ word_bytes h.labels) b5 (word_bytes h.lines) b6 two fi.0 in
+    let one = front_then b0 (magic_text ++ plan_text) b3 (u16_bytes h.configurations) b4 planned fc.0 in
+    let two = front_then b0 (magic_text ++ plan_text ++ u16_bytes h.configurations) b4 (u16_bytes h.labels) b5 one fl.0 in
+    let all = front_then b0 (magic_text ++ plan_text ++ u16_bytes h.configurations ++ u16_bytes h.labels) b5 (u16_bytes h.lines) b6 two fi.0 in
     record { front = all; planned = fp.1; configurations = fc.1; labels = fl.1; lines = fi.1 }
 
 header_front : (total : ℕ) (bytes : List ℕ) (x : Header × List ℕ) → IsBytes bytes → header_at total bytes ≡ Ok x → IsHeaderRead bytes x.0 x.1
@@ -280,7 +280,7 @@ header_front total bytes x fits e =
     subst (λ (y : Header × List ℕ). IsHeaderRead bytes y.0 y.1) (made_is found x i.2)
     (header_made total found.0 bytes m.0.1 p.0.1 c.0.1 l.0.1 i.0.1 m.0.0 fits m.1 p.1 c.1 l.1 i.1)
 
--- what was read after a header are its tables
+-- the tables read match their header
 pub record AreTablesRead (h : Header) (bytes : List ℕ) (p : Program) (rest : List ℕ) : Type 0 where
   pub front : Front bytes (flat_map config_bytes p.configurations ++ flat_map label_bytes p.labels ++ flat_map line_bytes p.lines) rest
   pub plan : p.plan ≡ h.plan
@@ -295,7 +295,7 @@ pub record AreTablesRead (h : Header) (bytes : List ℕ) (p : Program) (rest : L
 none_before : (n m : ℕ) → n ≡ 0 + m → n ≡ m
 none_before n m e = omega (arith, e)
 
--- a row of items that were read, with nothing before it
+-- a table of `count` items, read from the start
 record IsRow {T : Type 0} (spell : T → List ℕ) (P : T → Type 0) (count : ℕ) (bytes : List ℕ) (xs : List T) (rest : List ℕ) : Type 0 where
   front : Front bytes (flat_map spell xs) rest
   many : length xs ≡ count
@@ -397,21 +397,21 @@ code_front bytes p fits e =
     let z = refuse_then (not (eqb (length t.0.1) 0)) Trailing (λ ended. made t.0.0) p t.2 in
     subst (λ (q : Program). IsCodeRead bytes q) (made_is t.0.0 p z.1) (code_made bytes h.0.1 t.0.1 h.0.0 t.0.0 fh ft (eqb-true _ _ (not_false _ z.0)))
 
--- ---- and read again
+-- ---- spelling and reading again
 
 header_again : (total : ℕ) (h : Header) (rest : List ℕ) → IsPlan h.plan → IsCount 256 h.configurations → IsCount 1024 h.labels → IsCount 4096 h.lines
     → header_at total (header_bytes h.plan h.configurations h.labels h.lines ++ rest) ≡ Ok (h, rest)
 unfolding header_at
 header_again total h rest planned configurations labels lines =
-    let b5 : List ℕ = word_bytes h.lines ++ rest in
-    let b4 : List ℕ = word_bytes h.labels ++ b5 in
-    let b3 : List ℕ = word_bytes h.configurations ++ b4 in
+    let b5 : List ℕ = u16_bytes h.lines ++ rest in
+    let b4 : List ℕ = u16_bytes h.labels ++ b5 in
+    let b3 : List ℕ = u16_bytes h.configurations ++ b4 in
     let b2 : List ℕ = plan_bytes h.plan ++ b3 in
     let front : List ℕ = to_be_bytes w32 magic ++ plan_bytes h.plan in
     let grouped : header_bytes h.plan h.configurations h.labels h.lines ++ rest ≡ to_be_bytes w32 magic ++ b2 =
-    append_assoc (front ++ word_bytes h.configurations ++ word_bytes h.labels) (word_bytes h.lines) rest
-    ∙ append_assoc (front ++ word_bytes h.configurations) (word_bytes h.labels) b5
-    ∙ append_assoc front (word_bytes h.configurations) b4
+    append_assoc (front ++ u16_bytes h.configurations ++ u16_bytes h.labels) (u16_bytes h.lines) rest
+    ∙ append_assoc (front ++ u16_bytes h.configurations) (u16_bytes h.labels) b5
+    ∙ append_assoc front (u16_bytes h.configurations) b4
     ∙ append_assoc (to_be_bytes w32 magic) (plan_bytes h.plan) b3 in
     ap (header_at total) grouped
     ∙ rw (
@@ -466,7 +466,7 @@ code_again p is = whole_again (code_bytes p) p is (parted p)
 
 -- ---- one reader after the other
 
--- the readings of a file, each by a reader that stands where the one before it left off
+-- the readings of a file, each by a reader that continues where the previous one ended
 pub read_in_turn : (bytes b0 b1 b2 b3 b4 : List ℕ) (t0 t1 t2 t3 : ℕ) (h : Header) (cs : List Configuration) (ls : List Label) (is : List Line)
     → b0 ≡ bytes → t0 ≡ length bytes → t1 ≡ t0 → t2 ≡ t1 → t3 ≡ t2
     → header_at t0 b0 ≡ Ok (h, b1) → items_at (config_in t1) [] h.configurations b1 ≡ Ok (cs, b2) → labels_in t2 h.configurations h.labels b2 ≡ Ok (ls, b3)
@@ -483,7 +483,7 @@ read_in_turn bytes b0 b1 b2 b3 b4 t0 t1 t2 t3 h cs ls is start all s1 s2 s3 rh r
     let qi : items_at (line_in (length bytes)) [] h.lines b3 ≡ Ok (is, b4) = subst (λ (t : ℕ). items_at (line_in t) [] h.lines b3 ≡ Ok (is, b4)) e3 ri in
     rw (qh, qc, ql, qi, ended) refl
 
--- ---- what a call answers
+-- ---- results of calls
 
 pub found_so : (bytes : List ℕ) (r : Result Program CodeFault) → IsBytes bytes → Gives (λ (p : Program). p) r (code_of bytes) → IfOk r (λ p. bytes ≡ code_bytes p)
 found_so bytes (Ok p) fits given = (code_front bytes p fits given).spelled

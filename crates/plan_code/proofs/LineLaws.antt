@@ -1,9 +1,9 @@
--- An instruction, and a line with it, that is read is spelled so; and what is spelled is read again.
+-- Reading an instruction or a line and spelling it are inverse.
 use Rattle.std.proofs.Common.{◌≡◌, ℕ, ◌<◌, ◌≤◌, List, [], ◌∷◌, ◌++◌, Ok, refl, ap, subst, ◌∙◌, append_assoc, arith}
 use Rattle.std.specs.Prelude.{ok_or}
 use Rattle.mux_config.specs.declared.edit.Edit.{Edit}
 use Rattle.byte_fields.specs.declared.record.RecordFault.TheVariants.{Field}
-use Rattle.mux_config.specs.FieldSpelling.{word_bytes}
+use Rattle.mux_config.specs.FieldSpelling.{u16_bytes}
 use Rattle.mux_config.specs.FieldReading.{Reads, place, byte_at, flag_at}
 use Rattle.byte_fields.proofs.FieldLaws.{IsBytes, Front, front_then, bind_ok, ok_is, byte_front}
 use Rattle.plan_code.specs.declared.instr.Instr.{Instr}
@@ -13,12 +13,12 @@ use Rattle.plan_code.specs.declared.opcode.Opcode.{Opcode}
 use Rattle.plan_code.specs.Opcodes.{opcode_byte, opcode_of}
 use Rattle.plan_code.specs.Program.{IsInstr, IsLine}
 use Rattle.plan_code.specs.Spelling.{instr_bytes, line_bytes}
-use Rattle.plan_code.specs.Parts.{contact_at, counter_at, any_word, times_at, delay_at, day_frame_at, wait_at, until_at, wait_contact_at, commit_in_at, commit_at_at, test_at, jump_at, set_at, loop_at, opcode_at, edit_instr, instr_of, instr_from, line_from}
+use Rattle.plan_code.specs.Parts.{contact_at, counter_at, any_u16, times_at, delay_at, day_frame_at, wait_at, until_at, wait_contact_at, commit_in_at, commit_at_at, test_at, jump_at, set_at, loop_at, opcode_at, edit_instr, instr_of, instr_from, line_from}
 use Rattle.plan_code.proofs.Operands.{IsReading, giving, byte_of, flag_of, long_of, byte_reading, word_from_reading, word_reading, flag_reading, day_frame_reading, one_front, one_again, two_front, two_again}
 use Rattle.plan_code.proofs.OpcodeLaws.{some_given, opcode_only}
 use Rattle.plan_code.proofs.EditLaws.{behind, IsEditRead, add_sub_front, drop_sub_front, move_sub_front, rate_sub_front, add_service_front, drop_service_front, add_component_front, drop_component_front, add_packet_front, drop_packet_front, edit_again}
 
--- what was read after an opcode is an instruction, spelled with that opcode
+-- what was read after an opcode is an instruction that is spelled with that opcode
 pub record IsInstrRead (opcode : Opcode) (bytes : List ℕ) (x : Instr × List ℕ) : Type 0 where
   pub front : Front (opcode_byte opcode ∷ bytes) (instr_bytes x.0) x.1
   pub formed : IsInstr x.0
@@ -34,10 +34,10 @@ AreTimes n = (1 ≤ n) × (n ≤ 65535)
 abbrev IsDelay : ℕ → Type 0
 IsDelay n = (1 ≤ n) × (n ≤ 60000)
 
-times_reading : (total : ℕ) → IsReading (times_at total) word_bytes AreTimes
+times_reading : (total : ℕ) → IsReading (times_at total) u16_bytes AreTimes
 times_reading total = word_from_reading total 1 65535 (omega arith)
 
-delay_reading : (total : ℕ) → IsReading (delay_at total) word_bytes IsDelay
+delay_reading : (total : ℕ) → IsReading (delay_at total) u16_bytes IsDelay
 delay_reading total = word_from_reading total 1 60000 (omega arith)
 
 -- ---- waiting and committing
@@ -45,8 +45,8 @@ delay_reading total = word_from_reading total 1 60000 (omega arith)
 wait_front : (total : ℕ) (bytes : List ℕ) (x : Instr × List ℕ) → IsBytes bytes → wait_at total bytes ≡ Ok x → IsInstrRead Opcode.Wait bytes x
 unfolding wait_at
 wait_front total bytes x fits e =
-    let t = one_front (times_at total) word_bytes AreTimes Wait (times_reading total) bytes x fits e in
-    is_read Opcode.Wait bytes (word_bytes t.first) x (Wait t.first) t.is t.front refl (t.formed.0, omega (arith, t.formed.1))
+    let t = one_front (times_at total) u16_bytes AreTimes Wait (times_reading total) bytes x fits e in
+    is_read Opcode.Wait bytes (u16_bytes t.first) x (Wait t.first) t.is t.front refl (t.formed.0, omega (arith, t.formed.1))
 
 until_front : (total : ℕ) (bytes : List ℕ) (x : Instr × List ℕ) → IsBytes bytes → until_at total bytes ≡ Ok x → IsInstrRead Opcode.Until bytes x
 unfolding until_at
@@ -63,14 +63,14 @@ wait_contact_front total bytes x fits e =
 commit_in_front : (total : ℕ) (bytes : List ℕ) (x : Instr × List ℕ) → IsBytes bytes → commit_in_at total bytes ≡ Ok x → IsInstrRead Opcode.CommitIn bytes x
 unfolding commit_in_at
 commit_in_front total bytes x fits e =
-    let t = one_front (delay_at total) word_bytes IsDelay CommitIn (delay_reading total) bytes x fits e in
-    is_read Opcode.CommitIn bytes (word_bytes t.first) x (CommitIn t.first) t.is t.front refl t.formed
+    let t = one_front (delay_at total) u16_bytes IsDelay CommitIn (delay_reading total) bytes x fits e in
+    is_read Opcode.CommitIn bytes (u16_bytes t.first) x (CommitIn t.first) t.is t.front refl t.formed
 
 commit_at_front : (bytes : List ℕ) (x : Instr × List ℕ) → IsBytes bytes → commit_at_at bytes ≡ Ok x → IsInstrRead Opcode.CommitAt bytes x
 unfolding commit_at_at
 commit_at_front bytes x fits e =
-    let t = one_front any_word word_bytes (λ n. n < 65536) CommitAt word_reading bytes x fits e in
-    is_read Opcode.CommitAt bytes (word_bytes t.first) x (CommitAt t.first) t.is t.front refl t.formed
+    let t = one_front any_u16 u16_bytes (λ n. n < 65536) CommitAt word_reading bytes x fits e in
+    is_read Opcode.CommitAt bytes (u16_bytes t.first) x (CommitAt t.first) t.is t.front refl t.formed
 
 bare_front : (opcode : Opcode) (bytes : List ℕ) (x : Instr × List ℕ) (i : Instr) → IsBytes bytes → instr_bytes i ≡ opcode_byte opcode ∷ [] → IsInstr i → giving (λ (j : Instr). j) (i, bytes) ≡ Ok x → IsInstrRead opcode bytes x
 bare_front opcode bytes x i fits spelled formed e =
@@ -83,26 +83,26 @@ bare_front opcode bytes x i fits spelled formed e =
 test_front : (total : ℕ) (bytes : List ℕ) (x : Instr × List ℕ) → IsBytes bytes → test_at total bytes ≡ Ok x → IsInstrRead Opcode.Test bytes x
 unfolding test_at
 test_front total bytes x fits e =
-    let t = two_front (contact_at total) byte_of (λ n. n < 16) any_word word_bytes (λ n. n < 65536) Test (byte_reading total 15) word_reading bytes x fits e in
-    is_read Opcode.Test bytes (byte_of t.first ++ word_bytes t.second) x (Test t.first t.second) t.is t.front refl (t.formed, t.formed')
+    let t = two_front (contact_at total) byte_of (λ n. n < 16) any_u16 u16_bytes (λ n. n < 65536) Test (byte_reading total 15) word_reading bytes x fits e in
+    is_read Opcode.Test bytes (byte_of t.first ++ u16_bytes t.second) x (Test t.first t.second) t.is t.front refl (t.formed, t.formed')
 
 jump_front : (bytes : List ℕ) (x : Instr × List ℕ) → IsBytes bytes → jump_at bytes ≡ Ok x → IsInstrRead Opcode.Jump bytes x
 unfolding jump_at
 jump_front bytes x fits e =
-    let t = one_front any_word word_bytes (λ n. n < 65536) Jump word_reading bytes x fits e in
-    is_read Opcode.Jump bytes (word_bytes t.first) x (Jump t.first) t.is t.front refl t.formed
+    let t = one_front any_u16 u16_bytes (λ n. n < 65536) Jump word_reading bytes x fits e in
+    is_read Opcode.Jump bytes (u16_bytes t.first) x (Jump t.first) t.is t.front refl t.formed
 
 set_front : (total : ℕ) (bytes : List ℕ) (x : Instr × List ℕ) → IsBytes bytes → set_at total bytes ≡ Ok x → IsInstrRead Opcode.Set bytes x
 unfolding set_at
 set_front total bytes x fits e =
-    let t = two_front (counter_at total) byte_of (λ n. n < 8) (times_at total) word_bytes AreTimes Set (byte_reading total 7) (times_reading total) bytes x fits e in
-    is_read Opcode.Set bytes (byte_of t.first ++ word_bytes t.second) x (Set t.first t.second) t.is t.front refl (t.formed, t.formed'.0, omega (arith, t.formed'.1))
+    let t = two_front (counter_at total) byte_of (λ n. n < 8) (times_at total) u16_bytes AreTimes Set (byte_reading total 7) (times_reading total) bytes x fits e in
+    is_read Opcode.Set bytes (byte_of t.first ++ u16_bytes t.second) x (Set t.first t.second) t.is t.front refl (t.formed, t.formed'.0, omega (arith, t.formed'.1))
 
 loop_front : (total : ℕ) (bytes : List ℕ) (x : Instr × List ℕ) → IsBytes bytes → loop_at total bytes ≡ Ok x → IsInstrRead Opcode.Loop bytes x
 unfolding loop_at
 loop_front total bytes x fits e =
-    let t = two_front (counter_at total) byte_of (λ n. n < 8) any_word word_bytes (λ n. n < 65536) Loop (byte_reading total 7) word_reading bytes x fits e in
-    is_read Opcode.Loop bytes (byte_of t.first ++ word_bytes t.second) x (Loop t.first t.second) t.is t.front refl (t.formed, t.formed')
+    let t = two_front (counter_at total) byte_of (λ n. n < 8) any_u16 u16_bytes (λ n. n < 65536) Loop (byte_reading total 7) word_reading bytes x fits e in
+    is_read Opcode.Loop bytes (byte_of t.first ++ u16_bytes t.second) x (Loop t.first t.second) t.is t.front refl (t.formed, t.formed')
 
 -- ---- any instruction
 
@@ -160,34 +160,34 @@ instr_front total bytes x fits e =
 pub line_front : (total : ℕ) (bytes : List ℕ) (x : Line × List ℕ) → IsBytes bytes → line_from total bytes ≡ Ok x → Front bytes (line_bytes x.0) x.1 × IsLine x.0
 unfolding line_from
 line_front total bytes x fits e =
-    let n = bind_ok (any_word bytes) _ x e in
+    let n = bind_ok (any_u16 bytes) _ x e in
     let fn = word_reading.front bytes n.0 fits n.1 in
     let i = bind_ok (instr_from total n.0.1) _ x n.2 in
     let fi = instr_front total n.0.1 i.0 fn.0.rest_fits i.1 in
     let made : Line × List ℕ = (record { number = n.0.0; instr = i.0.0 }, i.0.1) in
     subst (λ (y : Line × List ℕ). Front bytes (line_bytes y.0) y.1 × IsLine y.0) (ok_is made x i.2)
-    (front_then bytes (word_bytes n.0.0) n.0.1 (instr_bytes i.0.0) i.0.1 fn.0 fi.0, record { numbered = fn.1; formed = fi.1 })
+    (front_then bytes (u16_bytes n.0.0) n.0.1 (instr_bytes i.0.0) i.0.1 fn.0 fi.0, record { numbered = fn.1; formed = fi.1 })
 
--- ---- and read again
+-- ---- spelling and reading again
 
 instr_again : (total : ℕ) (i : Instr) (rest : List ℕ) → IsInstr i → instr_from total (instr_bytes i ++ rest) ≡ Ok (i, rest)
 unfolding opcode_of instr_from instr_of wait_at until_at wait_contact_at commit_in_at commit_at_at test_at jump_at set_at loop_at
-instr_again total (Wait n) rest is = one_again (times_at total) word_bytes AreTimes Wait (times_reading total) n rest (is.0, omega (arith, is.1))
+instr_again total (Wait n) rest is = one_again (times_at total) u16_bytes AreTimes Wait (times_reading total) n rest (is.0, omega (arith, is.1))
 instr_again total (Until t) rest is = one_again (day_frame_at total) long_of (λ n. n < 3600000) Until (day_frame_reading total) t rest is
 instr_again total (WaitContact c closed) rest is = two_again (contact_at total) byte_of (λ n. n < 16) (flag_at total) flag_of (λ b. Unit {0}) WaitContact (byte_reading total 15) (flag_reading total) c closed rest is tt
-instr_again total (CommitIn k) rest is = one_again (delay_at total) word_bytes IsDelay CommitIn (delay_reading total) k rest is
-instr_again total (CommitAt n) rest is = one_again any_word word_bytes (λ m. m < 65536) CommitAt word_reading n rest is
+instr_again total (CommitIn k) rest is = one_again (delay_at total) u16_bytes IsDelay CommitIn (delay_reading total) k rest is
+instr_again total (CommitAt n) rest is = one_again any_u16 u16_bytes (λ m. m < 65536) CommitAt word_reading n rest is
 instr_again total Join rest is = refl
 instr_again total End rest is = refl
 instr_again total Settle rest is = refl
 instr_again total (Edits e) rest is = edit_again total e rest is
-instr_again total (Test c target) rest is = two_again (contact_at total) byte_of (λ n. n < 16) any_word word_bytes (λ n. n < 65536) Test (byte_reading total 15) word_reading c target rest is.0 is.1
-instr_again total (Jump target) rest is = one_again any_word word_bytes (λ m. m < 65536) Jump word_reading target rest is
-instr_again total (Set r n) rest is = two_again (counter_at total) byte_of (λ m. m < 8) (times_at total) word_bytes AreTimes Set (byte_reading total 7) (times_reading total) r n rest is.0 (is.1, omega (arith, is.2))
-instr_again total (Loop r target) rest is = two_again (counter_at total) byte_of (λ m. m < 8) any_word word_bytes (λ m. m < 65536) Loop (byte_reading total 7) word_reading r target rest is.0 is.1
+instr_again total (Test c target) rest is = two_again (contact_at total) byte_of (λ n. n < 16) any_u16 u16_bytes (λ n. n < 65536) Test (byte_reading total 15) word_reading c target rest is.0 is.1
+instr_again total (Jump target) rest is = one_again any_u16 u16_bytes (λ m. m < 65536) Jump word_reading target rest is
+instr_again total (Set r n) rest is = two_again (counter_at total) byte_of (λ m. m < 8) (times_at total) u16_bytes AreTimes Set (byte_reading total 7) (times_reading total) r n rest is.0 (is.1, omega (arith, is.2))
+instr_again total (Loop r target) rest is = two_again (counter_at total) byte_of (λ m. m < 8) any_u16 u16_bytes (λ m. m < 65536) Loop (byte_reading total 7) word_reading r target rest is.0 is.1
 
 pub line_again : (total : ℕ) (l : Line) (rest : List ℕ) → IsLine l → line_from total (line_bytes l ++ rest) ≡ Ok (l, rest)
 unfolding line_from
 line_again total l rest is =
-    ap (line_from total) (append_assoc (word_bytes l.number) (instr_bytes l.instr) rest)
+    ap (line_from total) (append_assoc (u16_bytes l.number) (instr_bytes l.instr) rest)
     ∙ rw (word_reading.again l.number (instr_bytes l.instr ++ rest) is.numbered, instr_again total l.instr rest is.formed) refl

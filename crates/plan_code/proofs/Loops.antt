@@ -1,4 +1,4 @@
--- One step of the loops that read rows: what is still to be read gives what all of it gives.
+-- One iteration of the loops that read tables: reading the remaining items gives the same result as reading all.
 use Rattle.std.proofs.Common.{◌≡◌, ℕ, suc, ◌+◌, ◌-◌, ◌<◌, ◌≤◌, List, [], ◌∷◌, ◌++◌, Result, Ok, Err, refl, sym, ap, subst, ◌∙◌, arith}
 use Rattle.byte_fields.specs.declared.record.RecordFault.{RecordFault}
 use Rattle.byte_fields.specs.declared.record.RecordFault.TheVariants.{Short, Field as FieldOfRecord, Order}
@@ -16,7 +16,7 @@ fails_then Limit r f h = rw h refl
 fails_then Trailing r f h = rw h refl
 fails_then Memory r f h = tt
 
--- items that are read by a reader which was given `total` bytes, as it still says at `t`
+-- items read by a reader over `total` bytes, which still has this total at `t`
 module _ {T : Type 0} (item_at : ℕ → List ℕ → Parses T) (total t : ℕ) (same : t ≡ total) where
   pub items_next : (before : List T) (count i : ℕ) (bytes : List ℕ) (whole : Parses (List T)) (x : T) (rest : List ℕ) → i < count
       → items_at (item_at total) before (count - i) bytes ≡ whole → item_at t bytes ≡ Ok (x, rest) → items_at (item_at total) (before ++ x ∷ []) (count - (i + 1)) rest ≡ whole
@@ -43,7 +43,7 @@ items_done item_at before count i bytes whole past so_far =
     let none : count - i ≡ 0 = omega (arith, past) in
     sym so_far ∙ rw none refl
 
--- a fault among fields is one of the file
+-- a fault of a field is a fault of the file
 pub fails_in_file : {T : Type 0} (e : RecordFault) (r : Result T RecordFault) → r ≡ Err e → Fails (fault_from 0 e) (in_file r)
 fails_in_file Short r h = rw h refl
 fails_in_file (FieldOfRecord at) r h = rw h refl

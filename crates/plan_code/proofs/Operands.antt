@@ -1,4 +1,4 @@
--- Readings of operands: what is read is spelled so, and what is spelled is read again.
+-- Reading an operand and spelling it are inverse.
 use Rattle.std.proofs.Common.{◌≡◌, ℕ, zero, suc, ◌+◌, ◌<◌, ◌≤◌, Bool, false, cond, ltb, List, [], ◌∷◌, ◌++◌, Ok, Err, refl, sym, ap, subst, ◌∙◌, append_assoc, arith}
 use Rattle.std.specs.Int.{w32, to_be_bytes}
 use Rattle.std.proofs.lemmas.Bool.{ltb-false, le-ltb}
@@ -9,15 +9,15 @@ use Rattle.mux_types.specs.declared.parts.Carrier.{Carrier}
 use Rattle.mux_types.specs.declared.parts.Carrier.TheVariants.{Sub as BySub, Packet as ByPacket}
 use Rattle.byte_fields.specs.declared.record.RecordFault.TheVariants.{Field}
 use Rattle.mux_config.specs.Configuration.{IsSid, IsComponent}
-use Rattle.mux_config.specs.FieldSpelling.{word_bytes, flag_byte, protection_bytes, sid_field, component_bytes}
+use Rattle.mux_config.specs.FieldSpelling.{u16_bytes, flag_byte, protection_bytes, sid_field, component_bytes}
 use Rattle.mux_config.specs.Spelling.{sub_record, packet_record}
-use Rattle.mux_config.specs.FieldReading.{Reads, ◌>>=◌, place, number_at, judged, byte_within, word_within, flag_at, protection_at, sid_at, component_at}
+use Rattle.mux_config.specs.FieldReading.{Reads, ◌>>=◌, place, number_at, judged, byte_within, u16_in_range, flag_at, protection_at, sid_at, component_at}
 use Rattle.byte_fields.proofs.FieldLaws.{IsBytes, Front, front_then, bind_ok, guard_ok, done, ok_is, word_front, word_again, long_front, long_again, byte_within_front, byte_within_again, word_within_front, word_within_again, flag_front, flag_again, protection_front, protection_again, sid_front, sid_again, component_front, component_again}
 use Rattle.plan_code.specs.Program.{IsNewSub, IsNewPacket, IsCarrier}
 use Rattle.plan_code.specs.Spelling.{carrier_bytes}
-use Rattle.plan_code.specs.Parts.{sub_id_at, type_at, scid_at, start_at, any_word, day_frame_at, new_sub_at, new_packet_at, wide_sub_id_at, carrier_of_kind, carrier_at}
+use Rattle.plan_code.specs.Parts.{sub_id_at, type_at, scid_at, start_at, any_u16, day_frame_at, new_sub_at, new_packet_at, wide_sub_id_at, carrier_of_kind, carrier_at}
 
--- what is read is spelled so, and formed; and what is formed and spelled so is read again
+-- reading and spelling are inverse on well-formed values
 pub record IsReading {T : Type 0} (read : List ℕ → Reads T) (spell : T → List ℕ) (P : T → Type 0) : Type 0 where
   pub front : (bytes : List ℕ) (x : T × List ℕ) → IsBytes bytes → read bytes ≡ Ok x → Front bytes (spell x.0) x.1 × P x.0
   pub again : (x : T) (rest : List ℕ) → P x → read (spell x ++ rest) ≡ Ok (x, rest)
@@ -36,13 +36,13 @@ byte_reading total limit = record {
   again = λ n rest lt. byte_within_again total 0 limit n rest (omega arith) (omega (arith, lt));
 }
 
-pub word_below_reading : (total limit : ℕ) → limit < 65536 → IsReading (word_within total 0 limit) word_bytes (λ n. n < limit + 1)
+pub word_below_reading : (total limit : ℕ) → limit < 65536 → IsReading (u16_in_range total 0 limit) u16_bytes (λ n. n < limit + 1)
 word_below_reading total limit small = record {
   front = λ bytes x fits e. let f = word_within_front total 0 limit bytes x fits e in (f.0, omega (arith, f.2));
   again = λ n rest lt. word_within_again total 0 limit n rest (omega arith) (omega (arith, lt)) small;
 }
 
-pub word_from_reading : (total low high : ℕ) → high < 65536 → IsReading (word_within total low high) word_bytes (λ n. (low ≤ n) × (n ≤ high))
+pub word_from_reading : (total low high : ℕ) → high < 65536 → IsReading (u16_in_range total low high) u16_bytes (λ n. (low ≤ n) × (n ≤ high))
 word_from_reading total low high small = record {
   front = λ bytes x fits e. let f = word_within_front total low high bytes x fits e in (f.0, (f.1, f.2));
   again = λ n rest within. word_within_again total low high n rest within.0 within.1 small;
@@ -54,7 +54,7 @@ byte_from_reading total low high = record {
   again = λ n rest within. byte_within_again total low high n rest within.0 within.1;
 }
 
-pub word_reading : IsReading any_word word_bytes (λ n. n < 65536)
+pub word_reading : IsReading any_u16 u16_bytes (λ n. n < 65536)
 word_reading = record { front = word_front; again = word_again }
 
 pub flag_reading : (total : ℕ) → IsReading (flag_at total) flag_of (λ b. Unit {0})
@@ -152,7 +152,7 @@ pub two_again : {A B C : Type 0} (read : List ℕ → Reads A) (spell : A → Li
 two_again read spell P read' spell' Q make reading reading' a b rest formed formed' =
     rw (append_assoc (spell a) (spell' b) rest, reading.again a (spell' b ++ rest) formed, reading'.again b rest formed') refl
 
--- ---- operands that have parts
+-- ---- operands with several fields
 
 pub new_sub_reading : (total : ℕ) → IsReading (new_sub_at total) sub_record IsNewSub
 unfolding new_sub_at
@@ -164,19 +164,19 @@ new_sub_reading total = record {
       let fb = (word_below_reading total 1023 (omega arith)).front a.0.1 b.0 fa.0.rest_fits b.1 in
       let p = bind_ok (protection_at total b.0.1) _ x b.2 in
       let fp = (protection_reading total).front b.0.1 p.0 fb.0.rest_fits p.1 in
-      let k = bind_ok (any_word p.0.1) _ x p.2 in
+      let k = bind_ok (any_u16 p.0.1) _ x p.2 in
       let fk = word_reading.front p.0.1 k.0 fp.0.rest_fits k.1 in
       let made : Sub × List ℕ = (record { id = a.0.0; start = b.0.0; protection = p.0.0; kbits = k.0.0 }, k.0.1) in
-      let ab = front_then bytes (byte_of a.0.0) a.0.1 (word_bytes b.0.0) b.0.1 fa.0 fb.0 in
-      let abp = front_then bytes (byte_of a.0.0 ++ word_bytes b.0.0) b.0.1 (protection_bytes p.0.0) p.0.1 ab fp.0 in
-      let all = front_then bytes ((byte_of a.0.0 ++ word_bytes b.0.0) ++ protection_bytes p.0.0) p.0.1 (word_bytes k.0.0) k.0.1 abp fk.0 in
+      let ab = front_then bytes (byte_of a.0.0) a.0.1 (u16_bytes b.0.0) b.0.1 fa.0 fb.0 in
+      let abp = front_then bytes (byte_of a.0.0 ++ u16_bytes b.0.0) b.0.1 (protection_bytes p.0.0) p.0.1 ab fp.0 in
+      let all = front_then bytes ((byte_of a.0.0 ++ u16_bytes b.0.0) ++ protection_bytes p.0.0) p.0.1 (u16_bytes k.0.0) k.0.1 abp fk.0 in
       subst (λ (y : Sub × List ℕ). Front bytes (sub_record y.0) y.1 × IsNewSub y.0) (ok_is made x k.2)
       (all, record { named = omega (arith, fa.1); start = omega (arith, fb.1); from_one = fp.1.0; to_four = fp.1.1; rate = fk.1 });
   again = λ s rest is.
       rw (
-        (byte_reading total 63).again s.id (word_bytes s.start ++ (protection_bytes s.protection ++ (word_bytes s.kbits ++ rest))) (omega (arith, is.named)),
-        (word_below_reading total 1023 (omega arith)).again s.start (protection_bytes s.protection ++ (word_bytes s.kbits ++ rest)) (omega (arith, is.start)),
-        (protection_reading total).again s.protection (word_bytes s.kbits ++ rest) (is.from_one, is.to_four),
+        (byte_reading total 63).again s.id (u16_bytes s.start ++ (protection_bytes s.protection ++ (u16_bytes s.kbits ++ rest))) (omega (arith, is.named)),
+        (word_below_reading total 1023 (omega arith)).again s.start (protection_bytes s.protection ++ (u16_bytes s.kbits ++ rest)) (omega (arith, is.start)),
+        (protection_reading total).again s.protection (u16_bytes s.kbits ++ rest) (is.from_one, is.to_four),
         word_reading.again s.kbits rest is.rate,
       ) refl;
 }
@@ -193,21 +193,21 @@ new_packet_reading total = record {
       let ft = (byte_reading total 63).front b.0.1 t.0 fb.0.rest_fits t.1 in
       let s = bind_ok (sub_id_at total t.0.1) _ x t.2 in
       let fs = (byte_reading total 63).front t.0.1 s.0 ft.0.rest_fits s.1 in
-      let w = bind_ok (any_word s.0.1) _ x s.2 in
+      let w = bind_ok (any_u16 s.0.1) _ x s.2 in
       let fw = word_reading.front s.0.1 w.0 fs.0.rest_fits w.1 in
       let made : Packet × List ℕ = (record { scid = a.0.0; dg = b.0.0; ty = t.0.0; sub = s.0.0; address = w.0.0 }, w.0.1) in
-      let ab = front_then bytes (word_bytes a.0.0) a.0.1 (flag_of b.0.0) b.0.1 fa.0 fb.0 in
-      let abt = front_then bytes (word_bytes a.0.0 ++ flag_of b.0.0) b.0.1 (byte_of t.0.0) t.0.1 ab ft.0 in
-      let abts = front_then bytes ((word_bytes a.0.0 ++ flag_of b.0.0) ++ byte_of t.0.0) t.0.1 (byte_of s.0.0) s.0.1 abt fs.0 in
-      let all = front_then bytes (((word_bytes a.0.0 ++ flag_of b.0.0) ++ byte_of t.0.0) ++ byte_of s.0.0) s.0.1 (word_bytes w.0.0) w.0.1 abts fw.0 in
+      let ab = front_then bytes (u16_bytes a.0.0) a.0.1 (flag_of b.0.0) b.0.1 fa.0 fb.0 in
+      let abt = front_then bytes (u16_bytes a.0.0 ++ flag_of b.0.0) b.0.1 (byte_of t.0.0) t.0.1 ab ft.0 in
+      let abts = front_then bytes ((u16_bytes a.0.0 ++ flag_of b.0.0) ++ byte_of t.0.0) t.0.1 (byte_of s.0.0) s.0.1 abt fs.0 in
+      let all = front_then bytes (((u16_bytes a.0.0 ++ flag_of b.0.0) ++ byte_of t.0.0) ++ byte_of s.0.0) s.0.1 (u16_bytes w.0.0) w.0.1 abts fw.0 in
       subst (λ (y : Packet × List ℕ). Front bytes (packet_record y.0) y.1 × IsNewPacket y.0) (ok_is made x w.2)
       (all, record { named = omega (arith, fa.1); typed = omega (arith, ft.1); carried = omega (arith, fs.1); to_last = fw.1 });
   again = λ p rest is.
       rw (
-        (word_below_reading total 4095 (omega arith)).again p.scid (flag_of p.dg ++ (p.ty ∷ p.sub ∷ (word_bytes p.address ++ rest))) (omega (arith, is.named)),
-        (flag_reading total).again p.dg (p.ty ∷ p.sub ∷ (word_bytes p.address ++ rest)) tt,
-        (byte_reading total 63).again p.ty (p.sub ∷ (word_bytes p.address ++ rest)) (omega (arith, is.typed)),
-        (byte_reading total 63).again p.sub (word_bytes p.address ++ rest) (omega (arith, is.carried)),
+        (word_below_reading total 4095 (omega arith)).again p.scid (flag_of p.dg ++ (p.ty ∷ p.sub ∷ (u16_bytes p.address ++ rest))) (omega (arith, is.named)),
+        (flag_reading total).again p.dg (p.ty ∷ p.sub ∷ (u16_bytes p.address ++ rest)) tt,
+        (byte_reading total 63).again p.ty (p.sub ∷ (u16_bytes p.address ++ rest)) (omega (arith, is.typed)),
+        (byte_reading total 63).again p.sub (u16_bytes p.address ++ rest) (omega (arith, is.carried)),
         word_reading.again p.address rest is.to_last,
       ) refl;
 }
@@ -215,11 +215,11 @@ new_packet_reading total = record {
 carrier_kind_front : (total kind : ℕ) (bytes : List ℕ) (x : Carrier × List ℕ) → kind ≤ 1 → IsBytes bytes → carrier_of_kind total kind bytes ≡ Ok x
     → (text : List ℕ) × Front bytes text x.1 × (carrier_bytes x.0 ≡ kind ∷ text) × IsCarrier x.0
 carrier_kind_front total zero bytes x small fits e =
-    let t = one_front (wide_sub_id_at total) word_bytes (λ n. n < 64) BySub (word_below_reading total 63 (omega arith)) bytes x fits e in
-    (word_bytes t.first, t.front, ap carrier_bytes t.is, subst IsCarrier (sym t.is) t.formed)
+    let t = one_front (wide_sub_id_at total) u16_bytes (λ n. n < 64) BySub (word_below_reading total 63 (omega arith)) bytes x fits e in
+    (u16_bytes t.first, t.front, ap carrier_bytes t.is, subst IsCarrier (sym t.is) t.formed)
 carrier_kind_front total (suc zero) bytes x small fits e =
-    let t = one_front (scid_at total) word_bytes (λ n. n < 4096) ByPacket (word_below_reading total 4095 (omega arith)) bytes x fits e in
-    (word_bytes t.first, t.front, ap carrier_bytes t.is, subst IsCarrier (sym t.is) t.formed)
+    let t = one_front (scid_at total) u16_bytes (λ n. n < 4096) ByPacket (word_below_reading total 4095 (omega arith)) bytes x fits e in
+    (u16_bytes t.first, t.front, ap carrier_bytes t.is, subst IsCarrier (sym t.is) t.formed)
 carrier_kind_front total (suc (suc k)) bytes x small fits e = absurd (omega (arith, small))
 
 carrier_front : (total : ℕ) (bytes : List ℕ) (x : Carrier × List ℕ) → IsBytes bytes → carrier_at total bytes ≡ Ok x → Front bytes (carrier_bytes x.0) x.1 × IsCarrier x.0

@@ -1,5 +1,4 @@
--- The offset of a field that is at fault is that of one of the bytes of a file, and the bytes before it are
--- truncated.
+-- The offset of a field at fault is within the file, and the bytes before it are truncated.
 use Rattle.std.proofs.Common.{◌≡◌, ℕ, zero, suc, ◌<◌, ◌≤◌, Bool, true, false, cond, eqb, ltb, not, List, [], ◌∷◌, ◌++◌, length, take, Result, Ok, Err, refl, subst, ◌⊎◌, inl, inr, arith}
 use Rattle.std.specs.Int.{w16, w32}
 use Rattle.std.proofs.lemmas.List.{length-take-le}
@@ -19,7 +18,7 @@ use Rattle.plan_code.specs.FileFaults.{TruncatedBeforePlaces}
 use Rattle.plan_code.proofs.PlacedParts.{placed_label, placed_line}
 use Rattle.plan_code.proofs.SteadyFiles.{file_faults_are_first}
 
--- the place in a fault is below `total`
+-- the offset in a fault is below `total`
 abbrev IsWithin : ℕ → CodeFault → Type 0
 IsWithin total Magic = Unit {0}
 IsWithin total Version = Unit {0}
@@ -29,7 +28,7 @@ IsWithin total Limit = Unit {0}
 IsWithin total Trailing = Unit {0}
 IsWithin total Memory = Unit {0}
 
--- a reading of some of `total` bytes leaves no more than those, and places its fault in them
+-- a reading of some of `total` bytes leaves no more than those, and a fault has an offset among them
 abbrev Stands : {T : Type 0} → ℕ → Parses T → Type 0
 Stands total (Ok x) = length x.1 ≤ total
 Stands total (Err e) = IsWithin total e
@@ -54,7 +53,7 @@ stands_choice : {T : Type 0} (total : ℕ) (test : Bool) (r q : Parses T) → St
 stands_choice total true r q first second = first
 stands_choice total false r q first second = second
 
--- fields whose places are counted from the first byte of the file
+-- fields whose offsets are counted from the first byte of the file
 stands_field : {T : Type 0} (total : ℕ) (r : Reads T) → 0 < total → Placed total r → Stands total (in_file r)
 stands_field total (Ok x) some placed = placed
 stands_field total (Err Short) some placed = tt
@@ -152,7 +151,7 @@ field_in : (bytes : List ℕ) (p : ℕ) → HasCodeFault bytes (Field p) → p <
 field_in [] p fault = let truncated = none_read in absurd (cc)
 field_in (b ∷ rest) p fault = subst (λ (r : Result Program CodeFault). EndsWithin (length (b ∷ rest)) r) fault (within_code (b ∷ rest) (omega arith))
 
--- a fault cannot be met before its place
+-- a fault cannot be found before its offset
 truncated_by : (bytes : List ℕ) (p : ℕ) → p < length bytes → HasCodeFault (take p bytes) Truncated ⊎ HasCodeFault (take p bytes) (Field p) → HasCodeFault (take p bytes) Truncated
 truncated_by bytes p within (inl truncated) = truncated
 truncated_by bytes p within (inr field) = absurd (omega (arith, field_in (take p bytes) p field, length-take-le p bytes (omega (arith, within))))

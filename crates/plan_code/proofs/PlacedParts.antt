@@ -1,4 +1,4 @@
--- The offset of a fault of a label or an instruction is that of one of the bytes.
+-- The offset of a fault of a label or an instruction is within the file.
 use Rattle.std.proofs.Common.{ℕ, zero, suc, ◌-◌, ◌<◌, ◌≤◌, List, [], ◌∷◌, length, Option, Some, None, arith}
 use Rattle.std.specs.Prelude.{ok_or}
 use Rattle.std.specs.Int.{w16, w32}
@@ -100,7 +100,7 @@ placed_operands total Opcode.Jump bytes left = placed_bind total _ _ (placed_num
 placed_operands total Opcode.Set bytes left = placed_bind total _ _ (placed_byte_within total 0 7 bytes left) (λ counter after_counter some. placed_bind total _ _ (placed_word_within total 1 65535 after_counter some) (λ times rest after. after))
 placed_operands total Opcode.Loop bytes left = placed_bind total _ _ (placed_byte_within total 0 7 bytes left) (λ counter after_counter some. placed_bind total _ _ (placed_number total w16 after_counter some) (λ target rest after. after))
 
--- the opcode of a byte, or a fault at its place
+-- the opcode of a byte, or a fault at its offset
 placed_known : (total : ℕ) (rest : List ℕ) (opcode : Option Opcode) (at : ℕ) → at < total → length rest ≤ total → Placed total (ok_or opcode (Field at) >>= λ o. taken (o, rest))
 placed_known total rest None at within left = within
 placed_known total rest (Some opcode) at within left = left

@@ -1,4 +1,4 @@
--- Reading a code file is steady: any fault but that it is truncated is the same whatever follows the bytes.
+-- Appended bytes do not affect the reading of a code file: any fault except `Truncated` stays the same.
 use Rattle.std.proofs.Common.{◌≡◌, ◌≢◌, ℕ, zero, suc, ◌+◌, ◌<◌, Bool, true, false, cond, eqb, ltb, not, List, [], ◌∷◌, ◌++◌, length, take, drop, Result, Ok, Err, refl, sym, ap, ◌∙◌, subst, ◌⊎◌, inl, inr, arith}
 use Rattle.std.specs.Int.{w16, w32}
 use Rattle.std.proofs.lemmas.Bool.{ne_eqb}
@@ -17,10 +17,10 @@ use Rattle.plan_code.specs.FileFaults.{CutsAreTruncated, FileFaultsStay, FileFau
 use Rattle.plan_code.proofs.SteadyParts.{goes_label, goes_line}
 use Rattle.plan_code.proofs.FileLaws.{code_again}
 
--- ---- readings with more bytes behind
+-- ---- readings with appended bytes
 
--- the second reading has these bytes more: where the first reads something so does it, and where the first meets a
--- fault other than that bytes are missing so does it
+-- the second reading has these bytes appended: where the first succeeds so does the second, and any fault of the first
+-- except `Truncated` is a fault of the second
 abbrev Runs : {T : Type 0} → List ℕ → Parses T → Parses T → Type 0
 Runs more (Ok x) r = r ≡ Ok (x.0, x.1 ++ more)
 Runs more (Err Truncated) r = Unit {0}
@@ -58,7 +58,7 @@ runs_choice : {T : Type 0} (more : List ℕ) (test : Bool) (r s q t : Parses T) 
 runs_choice more true r s q t h k = h
 runs_choice more false r s q t h k = k
 
--- a part that begins at the same place
+-- a part that begins at the same offset
 runs_part : {T : Type 0} (more : List ℕ) (at by : ℕ) (r s : Reads T) → at ≡ by → Goes more r s → Runs more (read_from at r) (read_from by s)
 runs_part more at by (Ok x) s e h = ap (read_from by) h
 runs_part more at by (Err Short) s e h = tt
@@ -126,8 +126,8 @@ runs_program total header bytes more =
 
 -- ---- the file
 
--- the second reading is of more bytes: where the first is a code, some bytes are too many for it, and any fault but
--- that bytes are missing is its fault too
+-- the second reading has these bytes appended: where the first is a code and there are such bytes, the second has
+-- `Trailing`; and any fault of the first except `Truncated` is a fault of the second
 abbrev Ends : List ℕ → Result Program CodeFault → Result Program CodeFault → Type 0
 Ends more (Ok p) s = more ≢ [] → s ≡ Err Trailing
 Ends more (Err Truncated) s = Unit {0}
@@ -148,7 +148,7 @@ ends_bind more (Err Limit) s k l h f = ap (λ t. t >>= l) h
 ends_bind more (Err Trailing) s k l h f = ap (λ t. t >>= l) h
 ends_bind more (Err Memory) s k l h f = ap (λ t. t >>= l) h
 
--- bytes that are left over are too many
+-- left-over bytes are refused
 refused : (p : Program) (n : ℕ) → 0 < n → (refuse_code (not (eqb n 0)) Trailing >>= λ _. Ok p) ≡ Err Trailing
 refused p n some = ap (λ (t : Bool). refuse_code (not t) Trailing >>= λ _. Ok p) (ne_eqb n 0 (λ e. omega (arith, e, some)))
 
@@ -204,7 +204,8 @@ cuts_are_truncated p n is less =
     let both : length (take n whole ++ drop n whole) ≡ length whole = ap length (take-append-drop n whole) in
     omega (arith, less, left, both, length-append (take n whole) (drop n whole), length-take-le n whole (omega (arith, less))))
 
--- of a reading and one of more bytes: the first is short, or has the fault of the second, but that bytes are left over
+-- for a reading and one with appended bytes: the first is truncated, or has the same fault as the second, except for
+-- `Trailing`
 first_by : (more : List ℕ) (r s : Result Program CodeFault) (fault : CodeFault) → Ends more r s → (more ≡ [] → r ≡ s) → s ≡ Err fault → fault ≢ Trailing → (r ≡ Err Truncated) ⊎ (r ≡ Err fault)
 first_by [] (Ok p) s fault h same e other = inr (same refl ∙ e)
 first_by (m ∷ more) (Ok p) s fault h same e other =

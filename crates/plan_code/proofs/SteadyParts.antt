@@ -1,5 +1,5 @@
--- Reading labels and instructions is steady: what is read of some bytes, and any fault but that they are short, is the
--- same whatever follows them.
+-- Appended bytes do not affect the reading of labels and instructions: a value, and any fault except `Short`, stays the
+-- same.
 use Rattle.std.proofs.Common.{◌≡◌, ℕ, zero, suc, ◌+◌, ◌-◌, List, ◌++◌, length, Option, Some, None, refl, ap}
 use Rattle.std.specs.Prelude.{ok_or}
 use Rattle.std.specs.Int.{w16, w32}
@@ -99,7 +99,7 @@ goes_operands total Opcode.Jump bytes more = goes_bind more _ _ _ _ (goes_number
 goes_operands total Opcode.Set bytes more = goes_bind more _ _ _ _ (goes_byte_within total 0 7 bytes more) (λ counter after_counter. goes_bind more _ _ _ _ (goes_word_within total 1 65535 after_counter more) (λ times rest. refl))
 goes_operands total Opcode.Loop bytes more = goes_bind more _ _ _ _ (goes_byte_within total 0 7 bytes more) (λ counter after_counter. goes_bind more _ _ _ _ (goes_number w16 after_counter more) (λ target rest. refl))
 
--- the opcode of a byte, or a fault at a place that is the same
+-- the opcode of a byte, or a fault at the same offset
 goes_known : (more rest : List ℕ) (opcode : Option Opcode) (at by : ℕ) → at ≡ by
     → Goes more (ok_or opcode (Field at) >>= λ o. taken (o, rest)) (ok_or opcode (Field by) >>= λ o. taken (o, rest ++ more))
 goes_known more rest None at by e = goes_fault Opcode more (Field at) (Field by) (ap Field e)

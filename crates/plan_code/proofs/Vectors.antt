@@ -1,4 +1,4 @@
--- What each kind of instruction does, and each of its traps, by small states that the checker computes.
+-- Each kind of instruction and each of its traps, on small states that the checker computes.
 use Rattle.std.proofs.Common.{◌≡◌, ℕ, ◌+◌, ◌%◌, ◌≤◌, false, [], ◌∷◌, Option, Some, None, refl, arith}
 use Rattle.std.proofs.lemmas.Bool.{false≢true}
 use Rattle.mux_eep.specs.declared.sizes.EepSet.TheVariants.{A}
@@ -28,7 +28,7 @@ sub kbits = record { id = 1; start = 0; protection = record { set = A; level = 3
 abbrev with_sub : ℕ → Configuration
 with_sub kbits = record { subs = sub kbits ∷ []; services = []; packets = [] }
 
--- at instruction 7 on count 1, with these frames until a swap; counter 2 has 3 rounds left
+-- at instruction 7 on count 1, with these frames until a swap; counter 2 has 3 iterations left
 abbrev at_seven : Option ℕ → Configuration → State
 at_seven left next =
     record {
@@ -42,7 +42,7 @@ at_seven left next =
       count = 1;
       day = 0;
       eid = 0xe1c5;
-      turn = 0;
+      page_index = 0;
     }
 
 abbrev idle : State
@@ -81,7 +81,7 @@ commits_in_mode_two = refl
 commits_in_mode_four : (effect (plan IV) (CommitIn 24) changed).left ≡ Some 25
 commits_in_mode_four = refl
 
--- from count 1, the next count 1000; and the next count 24 that leaves a notice of 24 frames is a turn later
+-- from count 1, to the next count 1000; the next count 24 that leaves a notice of 24 frames is a cycle of counts later
 commits_at_a_count : (effect (plan I) (CommitAt 1000) changed).left ≡ Some 999
 commits_at_a_count = refl
 
@@ -153,7 +153,7 @@ no_commit_past_the_counts h = let e = h.1.1 in omega (arith, e)
 no_loop_on_an_unset_counter : IsAllowed (plan I) (Loop 0 4) idle → ⊥
 no_loop_on_an_unset_counter h = let e : 1 ≤ 0 = h in omega (arith, e)
 
--- and none where all that is asked for holds
+-- no trap where every condition holds
 a_join_of_a_swap : IsAllowed (plan I) Join pending
 a_join_of_a_swap = refl
 
@@ -168,10 +168,10 @@ waiting_while_pending = tt
 
 -- ---- the least number of frames
 
--- 31 frames lead from count 1 to a multiple of 4 too, but 27 do and are fewer
+-- after 31 frames the count is a multiple of 4 too, but 27 are enough
 not_the_least : IsLeastFrom 24 (λ r. (1 + r) % 4 ≡ 0) 31 → ⊥
 not_the_least h = let e : 31 ≤ 27 = h.first 27 (omega arith) refl in omega (arith, e)
 
--- and 26 lead to none
+-- and after 26 it is not
 not_reached : IsLeastFrom 24 (λ r. (1 + r) % 4 ≡ 0) 26 → ⊥
 not_reached h = let e : 3 ≡ 0 = h.holds in omega (arith, e)

@@ -1,4 +1,4 @@
--- The fault of bytes that are no code file.
+-- The fault of bytes that are not a code file.
 use Rattle.std.specs.Prelude.{◌≡◌, ◌↔◌, ℕ, ◌<◌, List, slice_index, Err}
 use Rattle.plan_code.specs.declared.fault.CodeFault.{CodeFault}
 use Rattle.plan_code.specs.declared.fault.CodeFault.TheVariants.{Memory}
@@ -9,11 +9,11 @@ use Rattle.plan_code.specs.Reading.{code_of}
 abbrev pub AreBytes : List ℕ → Type 0
 AreBytes bytes = (i : ℕ) → slice_index bytes i < 256
 
--- the bytes are the file of no code
+-- the bytes are not the file of any code
 abbrev pub IsNoFile : List ℕ → Type 0
 IsNoFile bytes = (p : Program) → IsProgram p → bytes ≡ code_bytes p → ⊥
 
--- the first fault from the front
+-- the first fault in file order
 abbrev pub HasCodeFault : List ℕ → CodeFault → Type 0
 HasCodeFault bytes fault = code_of bytes ≡ Err fault
 
@@ -21,10 +21,10 @@ HasCodeFault bytes fault = code_of bytes ≡ Err fault
 abbrev pub HasOneFault : Type 0
 HasOneFault = (bytes : List ℕ) (f g : CodeFault) → HasCodeFault bytes f → HasCodeFault bytes g → f ≡ g
 
--- there is one exactly where there is no code
+-- there is one exactly where the bytes are not a code file
 abbrev pub HasFaultWithoutCode : Type 0
 HasFaultWithoutCode = (bytes : List ℕ) → AreBytes bytes → ((f : CodeFault) × HasCodeFault bytes f) ↔ IsNoFile bytes
 
--- out of memory is no fault of the bytes
+-- out of memory is never a fault of the bytes
 abbrev pub BytesLackNoMemory : Type 0
 BytesLackNoMemory = (bytes : List ℕ) → HasCodeFault bytes Memory → ⊥

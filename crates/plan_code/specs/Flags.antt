@@ -1,4 +1,4 @@
--- Sets of counters and of contacts, a bit for each.
+-- Sets of counters and of contacts, as bit sets.
 use Rattle.std.specs.Prelude.{◌≡◌, ◌≢◌, ℕ, ◌-◌, ◌<◌, ◌^◌, ◌==◌, Bool, true, false}
 use Rattle.std.specs.Int.{bit_at}
 use Rattle.std.specs.Int.RustNames.{bit_and, bit_or}
@@ -20,7 +20,7 @@ with_counter r counters = record { 0 = bit_or counters.0 (2 ^ r) }
 abbrev pub without_counter : ℕ → Counters → Counters
 without_counter r counters = record { 0 = bit_and counters.0 (2 ^ 8 - 1 - 2 ^ r) }
 
--- each counter of the other set is in this one
+-- every counter of the other set is in this one
 abbrev pub Includes : Counters → Counters → Type 0
 Includes counters other = (r : ℕ) → is_set other r ≡ true → is_set counters r ≡ true
 
@@ -29,7 +29,7 @@ abbrev pub with_contact : ℕ → Bool → Contacts → Contacts
 with_contact c true contacts = record { 0 = bit_or contacts.0 (2 ^ c) }
 with_contact c false contacts = record { 0 = bit_and contacts.0 (2 ^ 16 - 1 - 2 ^ c) }
 
--- ---- what these change, and what they leave
+-- ---- what these change, and what they leave unchanged
 
 abbrev pub CountersChangeAlone : Type 0
 CountersChangeAlone =

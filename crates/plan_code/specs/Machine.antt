@@ -21,12 +21,12 @@ pub record State : Type 0 where
   -- the current and the next configuration
   pub current : Configuration
   pub next : Configuration
-  -- the frames until the swap, where one is pending
+  -- the number of frames until the swap, if one is pending
   pub left : Option ℕ
   -- the index of the next instruction, and what the machine waits for
   pub pc : ℕ
   pub hold : Hold
-  -- what is left of each of the eight counters: 0 where it is not set
+  -- the remaining iterations of each of the eight counters: 0 where it is not set
   pub counters : List ℕ
   pub contacts : Contacts
   -- the CIF count, and the frame of the day
@@ -34,21 +34,20 @@ pub record State : Type 0 where
   pub day : ℕ
   -- the identifier of the ensemble
   pub eid : ℕ
-  -- the number of the next page
-  pub turn : ℕ
+  -- the index of the next page
+  pub page_index : ℕ
 
 -- ---- when a swap falls
 
--- the frames from one of this CIF count, `least` of them or more, to the first whose count is a multiple of
--- the step
+-- the number of frames from this CIF count, at least `least`, to the first frame whose count is a multiple of the step
 abbrev pub left_in : (step count least : ℕ) → ℕ
 left_in step count least = least + (step - 1 - (count + least + (step - 1)) % step)
 
--- the frames from one of this CIF count, `least` of them or more, to the first whose count is `at`
+-- the number of frames from this CIF count, at least `least`, to the first frame whose count is `at`
 abbrev pub left_at : (count least at : ℕ) → ℕ
 left_at count least at = least + (at + COUNTS - (count + least) % COUNTS) % COUNTS
 
--- r is the least number from `least` on with the property
+-- r is the least number with the property, from `least` on
 pub record IsLeastFrom (least : ℕ) (P : ℕ → Type 0) (r : ℕ) : Type 0 where
   pub reached : least ≤ r
   pub holds : P r
@@ -70,14 +69,14 @@ SwapsAtCount =
 abbrev pub advance : State → State
 advance s = record s { pc = s.pc + 1 }
 
--- the next instruction runs when the hold has ended
+-- the next instruction runs when the wait has ended
 abbrev pub suspend : Hold → State → State
 suspend hold s = record s { hold = hold; pc = s.pc + 1 }
 
 abbrev pub commit : ℕ → State → State
 commit left s = record s { left = Some left; pc = s.pc + 1 }
 
--- a pending swap is waited for
+-- waits for a pending swap
 abbrev pub settle : Option ℕ → State → State
 settle None s = advance s
 settle (Some left) s = suspend WaitsSwap s
@@ -106,7 +105,7 @@ effect plan (Loop r target) s =
 
 -- ---- what an instruction needs so as not to trap
 
--- no swap is pending, or one is
+-- no swap is pending; below, one is
 abbrev pub IsIdle : State → Type 0
 IsIdle s = s.left ≡ None
 
@@ -116,13 +115,13 @@ IsPending s = IsSome s.left
 abbrev pub HasNoFault : Edit → Configuration → Type 0
 HasNoFault e c = edit_fault e c ≡ None
 
--- a reconfiguration that can be committed
+-- the next configuration can be committed
 pub record IsReady (s : State) : Type 0 where
   pub idle : IsIdle s
   pub sound : IsSound s.next
   pub changes : s.next ≢ s.current
 
--- a delay that leaves the whole notice
+-- a delay at least as long as the notice
 abbrev pub IsNoticed : Plan → ℕ → Type 0
 IsNoticed plan k = plan.notice ≤ k
 
@@ -148,13 +147,13 @@ IsAllowed plan (Jump target) s = Unit {0}
 IsAllowed plan (Set r n) s = Unit {0}
 IsAllowed plan (Loop r target) s = IsCounterSet s r
 
--- the instruction at the state's pc: there is one, and it doesn't trap
+-- there is an instruction at the state's pc, and it doesn't trap
 pub record StepIsAllowed (p : Program) (s : State) : Type 0 where
   pub instr : Instr
   pub within : instr_at p s.pc ≡ Some instr
   pub allowed : IsAllowed p.plan instr s
 
--- what it does; outside the code, nothing
+-- the effect of an instruction; none outside the code
 abbrev pub effect_of : Plan → Option Instr → State → State
 effect_of plan None s = s
 effect_of plan (Some i) s = effect plan i s
@@ -164,7 +163,7 @@ step p s = effect_of p.plan (instr_at p s.pc) s
 
 -- ---- settling and loops
 
--- `settle` does nothing where no swap is pending, and joins one that is
+-- `settle` has no effect where no swap is pending, and joins a pending one
 pub record Settles (plan : Plan) (s : State) : Type 0 where
   pub idle : IsIdle s → effect plan Settle s ≡ advance s
   pub pending : IsPending s → effect plan Settle s ≡ effect plan Join s
@@ -172,13 +171,13 @@ pub record Settles (plan : Plan) (s : State) : Type 0 where
 abbrev pub AlwaysSettles : Type 0
 AlwaysSettles = (plan : Plan) (s : State) → Settles plan s
 
--- the machine has reached a loop this many times, and has executed nothing else
+-- the state after a loop instruction was executed this many times, and nothing else
 abbrev pub looped : Plan → (r target : ℕ) → (times : ℕ) → State → State
 looped plan r target zero s = s
 looped plan r target (suc times) s = effect plan (Loop r target) (looped plan r target times s)
 
--- where a counter was set to n, its loop jumps n - 1 times; the next time it leaves the counter unset, and the
--- instruction after it follows
+-- where a counter was set to n, its loop jumps n - 1 times; the next time it leaves the counter unset and continues to
+-- the instruction after it
 pub record LoopsAsSet (plan : Plan) (r target n : ℕ) (s : State) : Type 0 where
   pub jumps : (k : ℕ) → k + 1 < n → (looped plan r target (k + 1) s).pc ≡ target
   pub ends : (looped plan r target n s).pc ≡ (looped plan r target (n - 1) s).pc + 1

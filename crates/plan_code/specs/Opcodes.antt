@@ -1,4 +1,4 @@
--- The opcodes: the byte that each instruction begins with.
+-- The opcodes: the first byte of each instruction.
 use Rattle.std.specs.Prelude.{◌≡◌, ℕ, ◌==◌, List, [], ◌∷◌, Option, Some, find}
 use Rattle.plan_code.specs.declared.opcode.Opcode.{Opcode}
 use Rattle.plan_code.specs.declared.opcode.Opcode.TheVariants.{Wait, Until, WaitContact, CommitIn, CommitAt, Join, End, Settle, AddSub, DropSub, MoveSub, RateSub, AddService, DropService, AddComponent, DropComponent, AddPacket, DropPacket, Test, Jump, Set, Loop}
@@ -32,11 +32,11 @@ opcodes = Wait ∷ Until ∷ WaitContact ∷ CommitIn ∷ CommitAt ∷ Join ∷ 
     ∷ AddSub ∷ DropSub ∷ MoveSub ∷ RateSub ∷ AddService ∷ DropService ∷ AddComponent ∷ DropComponent ∷ AddPacket ∷ DropPacket
     ∷ Test ∷ Jump ∷ Set ∷ Loop ∷ []
 
--- the opcode that a byte is; the other bytes are none
+-- the opcode of a byte; any other byte has none
 unfoldable pub opcode_of : ℕ → Option Opcode
 opcode_of byte = find (λ opcode. byte == opcode_byte opcode) opcodes
 
--- each opcode is that of its byte, and of no other
+-- opcodes and their bytes determine each other
 pub record OpcodesAgree : Type 0 where
   pub again : (opcode : Opcode) → opcode_of (opcode_byte opcode) ≡ Some opcode
   pub only : (byte : ℕ) (opcode : Opcode) → opcode_of byte ≡ Some opcode → byte ≡ opcode_byte opcode

@@ -1,8 +1,8 @@
--- Reading a label, and a line with its instruction, from left to right, up to the first fault: a field whose bytes
--- are missing, or one that is out of its range.
+-- Reading a label, and a line with its instruction, in order up to the first fault: a field whose bytes are missing, or
+-- one that is out of range.
 use Rattle.std.specs.Prelude.{ℕ, zero, suc, ◌-◌, List, ok_or, Ok}
 use Rattle.std.specs.Int.{w16, w32}
-use Rattle.mux_config.specs.FieldReading.{Reads, ◌>>=◌, place, byte_at, number_at, judged, byte_within, word_within, flag_at, protection_at, sid_at, component_at}
+use Rattle.mux_config.specs.FieldReading.{Reads, ◌>>=◌, place, byte_at, number_at, judged, byte_within, u16_in_range, flag_at, protection_at, sid_at, component_at}
 use Rattle.byte_fields.specs.declared.record.RecordFault.TheVariants.{Field}
 use Rattle.mux_types.specs.declared.parts.Sub.{Sub}
 use Rattle.mux_types.specs.declared.parts.Carrier.{Carrier}
@@ -25,16 +25,16 @@ use Rattle.plan_code.specs.Opcodes.{opcode_of}
 -- the bounds of a swap, by its kind
 abbrev pub bounds_of : (total kind : ℕ) → List ℕ → Reads Swap
 bounds_of total zero bytes = do
-  low ← word_within total 0 0 bytes
-  high ← word_within total 0 0 low.1
+  low ← u16_in_range total 0 0 bytes
+  high ← u16_in_range total 0 0 low.1
   Ok (Idle, high.1)
 bounds_of total (suc zero) bytes = do
-  low ← word_within total 1 65535 bytes
-  high ← word_within total low.0 65535 low.1
+  low ← u16_in_range total 1 65535 bytes
+  high ← u16_in_range total low.0 65535 low.1
   Ok (Within low.0 high.0, high.1)
 bounds_of total (suc (suc more)) bytes = do
-  low ← word_within total 0 0 bytes
-  high ← word_within total 1 65535 low.1
+  low ← u16_in_range total 0 0 bytes
+  high ← u16_in_range total 1 65535 low.1
   Ok (Perhaps high.0, high.1)
 
 unfoldable pub swap_at : (total : ℕ) → List ℕ → Reads Swap
@@ -42,12 +42,12 @@ swap_at total bytes = do
   kind ← byte_within total 0 2 bytes
   bounds_of total kind.0 kind.1
 
--- a label at the pc `low` or later, where the table has this many configurations
+-- a label with a pc of at least `low`, with this many configurations in the table
 unfoldable pub label_from : (total count low : ℕ) → List ℕ → Reads Label
 label_from total count low bytes = do
-  pc ← word_within total low 65535 bytes
-  cur ← word_within total 0 (count - 1) pc.1
-  next ← word_within total 0 (count - 1) cur.1
+  pc ← u16_in_range total low 65535 bytes
+  cur ← u16_in_range total 0 (count - 1) pc.1
+  next ← u16_in_range total 0 (count - 1) cur.1
   pending ← swap_at total next.1
   counters ← byte_at pending.1
   cost ← byte_within total 1 255 counters.1
@@ -69,21 +69,21 @@ abbrev pub type_at : (total : ℕ) → List ℕ → Reads ℕ
 type_at total bytes = byte_within total 0 63 bytes
 
 abbrev pub scid_at : (total : ℕ) → List ℕ → Reads ℕ
-scid_at total bytes = word_within total 0 4095 bytes
+scid_at total bytes = u16_in_range total 0 4095 bytes
 
 abbrev pub start_at : (total : ℕ) → List ℕ → Reads ℕ
-start_at total bytes = word_within total 0 1023 bytes
+start_at total bytes = u16_in_range total 0 1023 bytes
 
 -- any number of two bytes
-abbrev pub any_word : List ℕ → Reads ℕ
-any_word bytes = number_at w16 bytes
+abbrev pub any_u16 : List ℕ → Reads ℕ
+any_u16 bytes = number_at w16 bytes
 
 -- 1 or more
 abbrev pub times_at : (total : ℕ) → List ℕ → Reads ℕ
-times_at total bytes = word_within total 1 65535 bytes
+times_at total bytes = u16_in_range total 1 65535 bytes
 
 abbrev pub delay_at : (total : ℕ) → List ℕ → Reads ℕ
-delay_at total bytes = word_within total 1 60000 bytes
+delay_at total bytes = u16_in_range total 1 60000 bytes
 
 abbrev pub day_frame_at : (total : ℕ) → List ℕ → Reads ℕ
 day_frame_at total bytes = number_at w32 bytes >>= judged (place total bytes) 0 3599999
@@ -93,7 +93,7 @@ new_sub_at total bytes = do
   id ← sub_id_at total bytes
   start ← start_at total id.1
   protection ← protection_at total start.1
-  kbits ← any_word protection.1
+  kbits ← any_u16 protection.1
   Ok (record { id = id.0; start = start.0; protection = protection.0; kbits = kbits.0 }, kbits.1)
 
 unfoldable pub new_packet_at : (total : ℕ) → List ℕ → Reads Packet
@@ -102,12 +102,12 @@ new_packet_at total bytes = do
   dg ← flag_at total scid.1
   ty ← type_at total dg.1
   sub ← sub_id_at total ty.1
-  address ← any_word sub.1
+  address ← any_u16 sub.1
   Ok (record { scid = scid.0; dg = dg.0; ty = ty.0; sub = sub.0; address = address.0 }, address.1)
 
 -- a sub-channel as a carrier: its identifier in two bytes
 abbrev pub wide_sub_id_at : (total : ℕ) → List ℕ → Reads ℕ
-wide_sub_id_at total bytes = word_within total 0 63 bytes
+wide_sub_id_at total bytes = u16_in_range total 0 63 bytes
 
 abbrev pub carrier_of_kind : (total kind : ℕ) → List ℕ → Reads Carrier
 carrier_of_kind total zero bytes = wide_sub_id_at total bytes >>= λ id. Ok (BySub id.0, id.1)
@@ -139,7 +139,7 @@ move_sub_at total bytes = do
 unfoldable pub rate_sub_at : (total : ℕ) → List ℕ → Reads Edit
 rate_sub_at total bytes = do
   id ← sub_id_at total bytes
-  kbits ← any_word id.1
+  kbits ← any_u16 id.1
   Ok (RateSub id.0 kbits.0, kbits.1)
 
 unfoldable pub add_service_at : (total : ℕ) → List ℕ → Reads Edit
@@ -199,18 +199,18 @@ commit_in_at total bytes = do
 
 unfoldable pub commit_at_at : List ℕ → Reads Instr
 commit_at_at bytes = do
-  count ← any_word bytes
+  count ← any_u16 bytes
   Ok (CommitAt count.0, count.1)
 
 unfoldable pub test_at : (total : ℕ) → List ℕ → Reads Instr
 test_at total bytes = do
   contact ← contact_at total bytes
-  target ← any_word contact.1
+  target ← any_u16 contact.1
   Ok (Test contact.0 target.0, target.1)
 
 unfoldable pub jump_at : List ℕ → Reads Instr
 jump_at bytes = do
-  target ← any_word bytes
+  target ← any_u16 bytes
   Ok (Jump target.0, target.1)
 
 unfoldable pub set_at : (total : ℕ) → List ℕ → Reads Instr
@@ -222,7 +222,7 @@ set_at total bytes = do
 unfoldable pub loop_at : (total : ℕ) → List ℕ → Reads Instr
 loop_at total bytes = do
   counter ← counter_at total bytes
-  target ← any_word counter.1
+  target ← any_u16 counter.1
   Ok (Loop counter.0 target.0, target.1)
 
 -- ---- any instruction, and its line
@@ -269,6 +269,6 @@ instr_from total bytes = do
 
 unfoldable pub line_from : (total : ℕ) → List ℕ → Reads Line
 line_from total bytes = do
-  number ← any_word bytes
+  number ← any_u16 bytes
   instr ← instr_from total number.1
   Ok (record { number = number.0; instr = instr.0 }, instr.1)

@@ -28,7 +28,7 @@ pub record Program : Type 0 where
 abbrev pub label_at : Program → ℕ → Option Label
 label_at p pc = find (λ l. l.pc == pc) p.labels
 
--- the instruction there, and the number of its line
+-- the instruction there; below, its source line number
 abbrev pub instr_at : Program → ℕ → Option Instr
 instr_at p pc = option_map (λ l. l.instr) (slice_get p.lines pc)
 
@@ -46,13 +46,13 @@ pub record IsPlan (p : Plan) : Type 0 where
   pub budget_from : 1 ≤ p.budget
   pub budget_to : p.budget ≤ 255
 
--- the least and the greatest number of frames until a swap that is pending, or perhaps is
+-- the least and the greatest number of frames until a swap that is or may be pending
 abbrev pub AreBounds : Swap → Type 0
 AreBounds Idle = Unit {0}
 AreBounds (Within lo hi) = (1 ≤ lo) × (lo ≤ hi) × (hi < 65536)
 AreBounds (Perhaps hi) = (1 ≤ hi) × (hi < 65536)
 
--- a label, where the table has this many configurations
+-- a label, with this many configurations in the table
 pub record IsLabel (count : ℕ) (l : Label) : Type 0 where
   pub place : l.pc < 65536
   pub current : l.cur < count

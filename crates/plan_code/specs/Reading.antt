@@ -1,4 +1,4 @@
--- Reading a code file from left to right, up to the first fault.
+-- Reading a code file in order, up to the first fault.
 use Rattle.std.specs.Prelude.{◌≡◌, ℕ, zero, suc, ◌+◌, ◌==◌, nat_lt, if◌then◌else◌, List, [], ◌∷◌, ◌++◌, length, Bool, not, Result, Ok, Err}
 use Rattle.std.specs.Int.{w16, w32}
 use Rattle.fib_codec.specs.declared.modes.Mode.{Mode}
@@ -17,7 +17,7 @@ use Rattle.plan_code.specs.Program.{Program, label_key}
 use Rattle.plan_code.specs.Spelling.{magic}
 use Rattle.plan_code.specs.Parts.{label_from, line_from}
 
--- what is read, and the bytes after it; or the first fault
+-- a value and the bytes after it, or the first fault
 abbrev pub Parses : Type 0 → Type 0
 Parses T = Result (T × List ℕ) CodeFault
 
@@ -52,12 +52,12 @@ abbrev pub Fails : {Y : Type 0} → CodeFault → Result Y CodeFault → Type 0
 Fails Memory read = Unit {0}
 Fails fault read = read ≡ Err fault
 
--- a result, seen by view, is what reading gives
+-- a result, under `view`, is what reading gives
 abbrev pub Gives : {X Y : Type 0} → (X → Y) → Result X CodeFault → Result Y CodeFault → Type 0
 Gives view (Ok x) read = read ≡ Ok (view x)
 Gives view (Err fault) read = Fails fault read
 
--- a result, seen by view, and the bytes that are left are what reading gives
+-- a result, under `view`, and the remaining bytes are what reading gives
 abbrev pub GivesNext : {X Y : Type 0} → (X → Y) → Result X CodeFault → Unread → Parses Y → Type 0
 GivesNext view (Ok x) left read = read ≡ Ok (view x, left.rest)
 GivesNext view (Err fault) left read = Fails fault read
@@ -74,7 +74,7 @@ magic_at bytes = do
 abbrev pub mode_of : ℕ → Mode
 mode_of number = if number == 2 then II else if number == 3 then III else IV
 
--- the mode of a file of this version
+-- the mode in a file of this version
 abbrev pub mode_in : (total version : ℕ) → List ℕ → Parses Mode
 mode_in total version bytes =
     if version == 1 then Ok (I, bytes)
@@ -95,7 +95,7 @@ plan_at total bytes = do
   budget ← in_file (byte_within total 1 255 notice.1)
   Ok (record { eid = eid.0; mode = mode.0; period = period.0; notice = notice.0; budget = budget.0 }, budget.1)
 
--- how many of a kind follow: at least one, at most `limit`
+-- the number of entries of a table: at least one, at most `limit`
 abbrev pub count_at : (total limit : ℕ) → List ℕ → Parses ℕ
 count_at total limit bytes = do
   number ← in_file (number_at w16 bytes)
@@ -105,7 +105,7 @@ count_at total limit bytes = do
 
 pub record Header : Type 0 where
   pub plan : Plan
-  -- how many of each follow
+  -- the number of entries of each table
   pub configurations : ℕ
   pub labels : ℕ
   pub lines : ℕ
@@ -127,7 +127,7 @@ config_in total bytes = read_from (place total bytes) (config_at bytes)
 abbrev pub line_in : (total : ℕ) → List ℕ → Parses Line
 line_in total bytes = in_file (line_from total bytes)
 
--- this many items after those that were read before
+-- `count` more items after those in `before`
 unfoldable pub items_at : {T : Type 0} → (item_at : List ℕ → Parses T) → (before : List T) → (count : ℕ) → List ℕ → Parses (List T)
 items_at item_at before zero bytes = Ok (before, bytes)
 items_at item_at before (suc count) bytes = do
@@ -144,7 +144,7 @@ program_at total header bytes = do
   lines ← items_at (line_in total) [] header.lines labels.1
   Ok (record { plan = header.plan; configurations = configurations.0; labels = labels.0; lines = lines.0 }, lines.1)
 
--- all of these bytes
+-- the code whose file these bytes are, all of them
 unfoldable pub code_of : List ℕ → Result Program CodeFault
 code_of bytes = do
   header ← header_at (length bytes) bytes

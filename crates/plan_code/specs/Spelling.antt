@@ -1,8 +1,8 @@
--- The one file of a plan code. A number of two or four bytes is big-endian.
+-- The file of a plan code. Numbers of two or four bytes are big-endian.
 use Rattle.std.specs.Prelude.{ℕ, List, [], ◌∷◌, ◌++◌, length}
 use Rattle.std.specs.Int.{w32, to_be_bytes}
 use Rattle.std.specs.List.{flat_map}
-use Rattle.mux_config.specs.FieldSpelling.{word_bytes, flag_byte, sid_field, component_bytes}
+use Rattle.mux_config.specs.FieldSpelling.{u16_bytes, flag_byte, sid_field, component_bytes}
 use Rattle.mux_config.specs.Spelling.{sub_record, packet_record, config_bytes}
 use Rattle.mux_types.specs.declared.parts.Carrier.{Carrier}
 use Rattle.mux_types.specs.declared.parts.Carrier.TheVariants.{Sub as BySub, Packet as ByPacket}
@@ -25,7 +25,7 @@ use Rattle.plan_code.specs.Program.{Program}
 abbrev pub magic : ℕ
 magic = 0x44414250
 
--- the version of the format, which is 1 in mode I; in the others it is 2, and the mode's number follows
+-- the version of the format: 1 in mode I; in the other modes 2, followed by the mode's number
 abbrev pub mode_bytes : Mode → List ℕ
 mode_bytes I = 1 ∷ []
 mode_bytes II = 2 ∷ 2 ∷ []
@@ -33,59 +33,59 @@ mode_bytes III = 2 ∷ 3 ∷ []
 mode_bytes IV = 2 ∷ 4 ∷ []
 
 abbrev pub plan_bytes : Plan → List ℕ
-plan_bytes p = mode_bytes p.mode ++ word_bytes p.eid ++ p.period ∷ p.notice ∷ p.budget ∷ []
+plan_bytes p = mode_bytes p.mode ++ u16_bytes p.eid ++ p.period ∷ p.notice ∷ p.budget ∷ []
 
 -- with the numbers of configurations, labels and instructions
 abbrev pub header_bytes : Plan → (configurations labels lines : ℕ) → List ℕ
 header_bytes plan configurations labels lines =
     to_be_bytes w32 magic ++ plan_bytes plan
-    ++ word_bytes configurations ++ word_bytes labels ++ word_bytes lines
+    ++ u16_bytes configurations ++ u16_bytes labels ++ u16_bytes lines
 
--- the kind, and the least and the greatest number of frames until the swap; zeros where there is none
+-- the kind, and the least and the greatest number of frames until the swap; zeros where none is pending
 abbrev pub swap_bytes : Swap → List ℕ
-swap_bytes Idle = 0 ∷ word_bytes 0 ++ word_bytes 0
-swap_bytes (Within lo hi) = 1 ∷ word_bytes lo ++ word_bytes hi
-swap_bytes (Perhaps hi) = 2 ∷ word_bytes 0 ++ word_bytes hi
+swap_bytes Idle = 0 ∷ u16_bytes 0 ++ u16_bytes 0
+swap_bytes (Within lo hi) = 1 ∷ u16_bytes lo ++ u16_bytes hi
+swap_bytes (Perhaps hi) = 2 ∷ u16_bytes 0 ++ u16_bytes hi
 
 abbrev pub label_bytes : Label → List ℕ
 label_bytes l =
-    word_bytes l.pc ++ word_bytes l.cur ++ word_bytes l.next ++ swap_bytes l.pending
+    u16_bytes l.pc ++ u16_bytes l.cur ++ u16_bytes l.next ++ swap_bytes l.pending
     ++ l.counters.0 ∷ l.cost ∷ []
 
 abbrev pub carrier_bytes : Carrier → List ℕ
-carrier_bytes (BySub id) = 0 ∷ word_bytes id
-carrier_bytes (ByPacket scid) = 1 ∷ word_bytes scid
+carrier_bytes (BySub id) = 0 ∷ u16_bytes id
+carrier_bytes (ByPacket scid) = 1 ∷ u16_bytes scid
 
--- an instruction: its opcode, and its operands
+-- an instruction: its opcode and its operands
 abbrev pub edit_bytes : Edit → List ℕ
 edit_bytes (AddSub s) = opcode_byte Opcode.AddSub ∷ sub_record s
 edit_bytes (DropSub id) = opcode_byte Opcode.DropSub ∷ id ∷ []
-edit_bytes (MoveSub id start) = opcode_byte Opcode.MoveSub ∷ id ∷ word_bytes start
-edit_bytes (RateSub id kbits) = opcode_byte Opcode.RateSub ∷ id ∷ word_bytes kbits
+edit_bytes (MoveSub id start) = opcode_byte Opcode.MoveSub ∷ id ∷ u16_bytes start
+edit_bytes (RateSub id kbits) = opcode_byte Opcode.RateSub ∷ id ∷ u16_bytes kbits
 edit_bytes (AddService sid) = opcode_byte Opcode.AddService ∷ sid_field sid
 edit_bytes (DropService sid) = opcode_byte Opcode.DropService ∷ sid_field sid
 edit_bytes (AddComponent sid m) = opcode_byte Opcode.AddComponent ∷ sid_field sid ++ component_bytes m
 edit_bytes (DropComponent sid carrier) = opcode_byte Opcode.DropComponent ∷ sid_field sid ++ carrier_bytes carrier
 edit_bytes (AddPacket p) = opcode_byte Opcode.AddPacket ∷ packet_record p
-edit_bytes (DropPacket scid) = opcode_byte Opcode.DropPacket ∷ word_bytes scid
+edit_bytes (DropPacket scid) = opcode_byte Opcode.DropPacket ∷ u16_bytes scid
 
 abbrev pub instr_bytes : Instr → List ℕ
-instr_bytes (Wait n) = opcode_byte Opcode.Wait ∷ word_bytes n
+instr_bytes (Wait n) = opcode_byte Opcode.Wait ∷ u16_bytes n
 instr_bytes (Until t) = opcode_byte Opcode.Until ∷ to_be_bytes w32 t
 instr_bytes (WaitContact c closed) = opcode_byte Opcode.WaitContact ∷ c ∷ flag_byte closed ∷ []
-instr_bytes (CommitIn k) = opcode_byte Opcode.CommitIn ∷ word_bytes k
-instr_bytes (CommitAt n) = opcode_byte Opcode.CommitAt ∷ word_bytes n
+instr_bytes (CommitIn k) = opcode_byte Opcode.CommitIn ∷ u16_bytes k
+instr_bytes (CommitAt n) = opcode_byte Opcode.CommitAt ∷ u16_bytes n
 instr_bytes Join = opcode_byte Opcode.Join ∷ []
 instr_bytes End = opcode_byte Opcode.End ∷ []
 instr_bytes Settle = opcode_byte Opcode.Settle ∷ []
 instr_bytes (Edits e) = edit_bytes e
-instr_bytes (Test c target) = opcode_byte Opcode.Test ∷ c ∷ word_bytes target
-instr_bytes (Jump target) = opcode_byte Opcode.Jump ∷ word_bytes target
-instr_bytes (Set r n) = opcode_byte Opcode.Set ∷ r ∷ word_bytes n
-instr_bytes (Loop r target) = opcode_byte Opcode.Loop ∷ r ∷ word_bytes target
+instr_bytes (Test c target) = opcode_byte Opcode.Test ∷ c ∷ u16_bytes target
+instr_bytes (Jump target) = opcode_byte Opcode.Jump ∷ u16_bytes target
+instr_bytes (Set r n) = opcode_byte Opcode.Set ∷ r ∷ u16_bytes n
+instr_bytes (Loop r target) = opcode_byte Opcode.Loop ∷ r ∷ u16_bytes target
 
 abbrev pub line_bytes : Line → List ℕ
-line_bytes l = word_bytes l.number ++ instr_bytes l.instr
+line_bytes l = u16_bytes l.number ++ instr_bytes l.instr
 
 abbrev pub code_bytes : Program → List ℕ
 code_bytes p =

@@ -44,14 +44,14 @@ impl Model for Code {
     }) };
 }
 
-/// Whether a table has one member or more, and no more than this.
+/// Whether a table has at least one member and at most `limit`.
 fn is_count(len: usize, limit: u16) -> bool
     ensures { IsTrue result ↔ ((1 ≤ len) × (len ≤ limit)) }
 {
     1 <= len && len <= usize::from(limit)
 }
 
-/// Whether each label is within its limits, and their pcs ascend.
+/// Whether each label is within its limits and their pcs ascend.
 fn are_labels(labels: &[Label], configs: usize) -> bool
     ensures { IsTrue result
         ↔ (AllByRecursion (IsLabel configs) labels.now × IsAscending label_key labels.now) }
@@ -69,7 +69,7 @@ fn are_labels(labels: &[Label], configs: usize) -> bool
     true
 }
 
-/// The label at a pc, by binary search.
+/// The label at a pc, found by binary search.
 fn search(labels: &[Label], pc: u16) -> Option<Label>
     requires { IsAscending label_key labels.now }
     ensures { result ≡ find (λ l. l.pc == pc) labels.now }
@@ -92,8 +92,8 @@ fn search(labels: &[Label], pc: u16) -> Option<Label>
 }
 
 impl Code {
-    /// The code of these parts; None exactly where a field or a length is outside its limits. The vectors are then
-    /// dropped. Configurations and lines are within their limits by their types.
+    /// Builds a code from its parts; None exactly where a field or a length is outside its limits, and then the vectors
+    /// are dropped. Configurations and lines are within their limits by their types.
     pub fn new(
         plan: Plan,
         configs: Vec<Config>,
@@ -140,7 +140,7 @@ impl Code {
         })
     }
 
-    /// The code of parts that are known to be within their limits.
+    /// Builds a code from parts that are known to be within their limits.
     pub(crate) fn from_parts(
         plan: Plan,
         configs: Vec<Config>,
@@ -208,7 +208,7 @@ impl Code {
         search(&self.labels, pc)
     }
 
-    /// The instructions in order, each with the number of its line.
+    /// The instructions in order, each with its source line number.
     pub fn lines(&self) -> &[Line]
         ensures value { result.now ≡ self.now.lines }
         ensures formed { IsProgram self.now }
@@ -227,7 +227,7 @@ impl Code {
         }
     }
 
-    /// The number of the line that the instruction at a pc of the code comes from; None past its end.
+    /// The source line number of the instruction at a pc of the code; None past its end.
     pub fn line_at(&self, pc: u16) -> Option<u16>
         ensures value { result ≡ line_at self.now pc }
         ensures formed { IsProgram self.now }

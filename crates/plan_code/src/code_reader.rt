@@ -18,7 +18,7 @@ use fib_codec::Mode;
 use mux_config::{Config, read_config};
 use std::alloc::Global;
 
-/// The letters DABP.
+/// The magic number: the letters DABP.
 pub(crate) const MAGIC: u32 = 0x4441_4250;
 
 fn magic(reader: &mut Reader) -> Result<u32, CodeFault>
@@ -32,7 +32,7 @@ fn magic(reader: &mut Reader) -> Result<u32, CodeFault>
     Ok(letters)
 }
 
-/// Reads the version, and in version 2 the mode; a file of version 1 is one of mode I.
+/// Reads the version, and in version 2 the mode; version 1 implies mode I.
 #[tactic(auto, unfolding(crate::specs::Reading::mode_at))]
 fn mode(reader: &mut Reader) -> Result<Mode, CodeFault>
     ensures read { GivesNext (λ m. m) result reader.new (mode_at reader.old.total reader.old.rest) }
@@ -68,7 +68,7 @@ fn plan(reader: &mut Reader) -> Result<Plan, CodeFault>
     })
 }
 
-/// Reads how many of a kind follow, at most this.
+/// Reads the number of entries of a table: at least one, at most `limit`.
 fn count(reader: &mut Reader, limit: u16) -> Result<u16, CodeFault>
     ensures read { GivesNext (λ n. n) result reader.new
         (count_at reader.old.total limit reader.old.rest) }
@@ -86,7 +86,7 @@ fn count(reader: &mut Reader, limit: u16) -> Result<u16, CodeFault>
     Ok(number)
 }
 
-/// The header of a file, before its tables: the plan, and how many configurations, labels and instructions follow.
+/// The header of a file: the plan, and the numbers of configurations, labels and instructions that follow.
 #[derive(Clone, Copy)]
 struct Opening {
     plan: Plan,
@@ -120,7 +120,7 @@ fn header(reader: &mut Reader) -> Result<Opening, CodeFault>
     })
 }
 
-/// A value that is read as an item of a table.
+/// A value that is read as one item of a table.
 trait Item: Drop {
     ghost use Rattle.std.specs.Prelude.{ℕ, List};
     ghost use Rattle.plan_code.specs.Reading.{Parses};
@@ -156,7 +156,7 @@ impl Item for Line {
     }
 }
 
-/// Reads this many items, each of a byte or more.
+/// Reads `count` items, each of at least one byte.
 fn items<T: Item>(alloc: Global, reader: &mut Reader, count: u16) -> Result<Vec<T>, CodeFault>
     ensures read { GivesNext (λ v. v.items) result reader.new
         (items_at (T.item_at reader.old.total) [] count reader.old.rest) }
@@ -171,7 +171,7 @@ fn items<T: Item>(alloc: Global, reader: &mut Reader, count: u16) -> Result<Vec<
     Ok(items)
 }
 
-/// Reads this many labels, where the table has this many configurations.
+/// Reads `count` labels, with this many configurations in the table.
 fn labels(
     alloc: Global,
     reader: &mut Reader,
@@ -208,20 +208,20 @@ fn whole(alloc: Global, bytes: &[u8]) -> Result<Code, CodeFault>
     Ok(Code::from_parts(header.plan, configs, labels, lines))
 }
 
-/// The code whose file the bytes are.
+/// Decodes a code file.
 ///
-/// A refusal is the first fault in the order of the bytes, as soon as its field is read: `Truncated` where a field's
-/// bytes are missing; `Magic` and `Version` where these are others; `Limit` where one of the three numbers of the
-/// header is above its limit; `Field` with the offset of the first byte of a field that is out of its range; `Trailing`
-/// where bytes follow the last instruction. `Memory` may occur at any point.
+/// The error is the first fault in file order, reported as soon as its field is read: `Truncated` where bytes of a
+/// field are missing; `Magic` and `Version` where these are wrong; `Limit` where a count of the header is above its
+/// limit; `Field` with the offset of the first byte of a field that is out of range; `Trailing` where bytes follow the
+/// last instruction. `Memory` may occur at any point.
 pub fn decode(alloc: Global, bytes: &[u8]) -> Result<Code, CodeFault>
-    // What is read is within the limits of codes, and the bytes are its file.
+    // What is decoded is within the limits of codes, and encodes to these bytes.
     ensures formed { IfOk result (λ c. IsProgram c) }
     ensures found { IfOk result (λ c. bytes.now ≡ code_bytes c) }
-    // The file of a code is read as this code, unless memory runs out.
+    // The file of a code decodes to this code, unless memory runs out.
     ensures only { (p : Program) → IsProgram p → bytes.now ≡ code_bytes p
         → Gives (λ c. c) result (Ok p) }
-    // Which fault it is.
+    // Which fault is reported.
     ensures first_fault { Gives (λ c. c) result (code_of bytes.now) }
 {
     whole(alloc, bytes)

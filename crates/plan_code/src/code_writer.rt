@@ -2,7 +2,7 @@
 
 ghost use Rattle.std.specs.Prelude.{◌≡◌, ◌++◌, ◌∷◌, [], Ok, OnOk, IfOk};
 ghost use Rattle.std.specs.List.{flat_map};
-ghost use Rattle.mux_config.specs.FieldSpelling.{word_bytes};
+ghost use Rattle.mux_config.specs.FieldSpelling.{u16_bytes};
 ghost use Rattle.mux_config.specs.Spelling.{sub_record, packet_record, config_bytes};
 ghost use Rattle.plan_code.specs.Opcodes.{opcode_byte};
 ghost use Rattle.plan_code.specs.Program.{IsProgram};
@@ -22,7 +22,7 @@ use mux_config::record_writer::put_config;
 use mux_config::{Carrier, Config, Edit, NewSub, Packet};
 use std::alloc::{AllocError, Global};
 
-/// Writes the version of the file, and after version 2 the mode's number.
+/// Writes the version of the file and, in version 2, the mode's number.
 fn put_mode(out: &mut Vec<u8>, mode: Mode) -> Result<(), AllocError>
     ensures { OnOk result (out.new.items ≡ out.old.items ++ mode_bytes mode) }
 {
@@ -103,26 +103,26 @@ fn put_opcode(out: &mut Vec<u8>, opcode: Opcode) -> Result<(), AllocError>
     out.extend_from_slice(&[u8::from(opcode)])
 }
 
-/// Writes an opcode, and an operand of one byte.
+/// Writes an opcode and an operand of one byte.
 fn put_with_byte(out: &mut Vec<u8>, opcode: Opcode, byte: u8) -> Result<(), AllocError>
     ensures { OnOk result (out.new.items ≡ out.old.items ++ opcode_byte opcode ∷ byte ∷ []) }
 {
     out.extend_from_slice(&[u8::from(opcode), byte])
 }
 
-/// Writes an opcode, and an operand of two bytes.
+/// Writes an opcode and an operand of two bytes.
 fn put_with_u16(out: &mut Vec<u8>, opcode: Opcode, number: u16) -> Result<(), AllocError>
     ensures { OnOk result
-        (out.new.items ≡ out.old.items ++ opcode_byte opcode ∷ word_bytes number) }
+        (out.new.items ≡ out.old.items ++ opcode_byte opcode ∷ u16_bytes number) }
 {
     put_opcode(out, opcode)?;
     put_u16(out, number)
 }
 
-/// Writes an opcode, and operands of one and of two bytes.
+/// Writes an opcode and operands of one and of two bytes.
 fn put_with_both(out: &mut Vec<u8>, opcode: Opcode, byte: u8, number: u16) -> Result<(), AllocError>
     ensures { OnOk result
-        (out.new.items ≡ out.old.items ++ opcode_byte opcode ∷ byte ∷ word_bytes number) }
+        (out.new.items ≡ out.old.items ++ opcode_byte opcode ∷ byte ∷ u16_bytes number) }
 {
     put_with_byte(out, opcode, byte)?;
     put_u16(out, number)
@@ -255,7 +255,7 @@ fn file(alloc: Global, code: &Code) -> Result<Vec<u8>, AllocError>
     Ok(out)
 }
 
-/// The file of a code. Reading it gives the code again.
+/// Encodes a code as a file. Decoding it gives the code again.
 pub fn encode(alloc: Global, code: &Code) -> Result<Vec<u8>, AllocError>
     ensures spelled { IfOk result (λ v. v.items ≡ code_bytes code.now) }
     ensures again { IfOk result (λ v. code_of v.items ≡ Ok code.now) }

@@ -1,4 +1,4 @@
-//! Why bytes are no code.
+//! Why bytes are not a code file.
 
 ghost use Rattle.std.specs.Prelude.{◌≡◌, ℕ, ◌+◌, ◌<◌, ◌^◌};
 ghost use Rattle.plan_code.specs.Reading.{fault_from as fault_of_part};
@@ -8,7 +8,7 @@ use byte_fields::RecordFault;
 use std::alloc::{AllocError, AllocFailed};
 use thiserror::Error;
 
-/// Why bytes are no code file: the first fault from the front. Its text is its name.
+/// Why bytes are not a code file: the first fault in file order. Its text is its name.
 #[derive(Clone, Copy, Debug, PartialEq, Eq, Error)]
 pub enum CodeFault {
     /// The file doesn't begin with the four bytes `DABP`.
@@ -20,7 +20,7 @@ pub enum CodeFault {
     /// Bytes of a field are missing.
     #[error("Truncated")]
     Truncated,
-    /// A field is out of its range; its first byte is at this offset of the file.
+    /// A field is out of range; its first byte is at this offset of the file.
     #[error("Field {0}")]
     Field(usize),
     /// There are more than 256 configurations, 1,024 labels or 4,096 instructions.
@@ -34,7 +34,7 @@ pub enum CodeFault {
     Memory,
 }
 
-/// The fault of a part of a file that begins at `start`, where offsets in it are counted from there.
+/// The fault of a part of a file that begins at `start`; offsets within the part are counted from there.
 pub(crate) fn fault_from(start: usize, fault: RecordFault) -> CodeFault
     requires { (place : ℕ) → fault ≡ RecordFault.Field place → start + place < 2 ^ 64 }
     ensures { result ≡ fault_of_part start fault }
@@ -46,7 +46,7 @@ pub(crate) fn fault_from(start: usize, fault: RecordFault) -> CodeFault
     }
 }
 
-/// A fault of a part that begins with the file.
+/// The fault of a part that begins at the start of the file.
 impl From<RecordFault> for CodeFault {
     ghost use Rattle.std.specs.Prelude.{◌≡◌};
     ghost use Rattle.plan_code.specs.Reading.{fault_from};

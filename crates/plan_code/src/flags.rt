@@ -1,4 +1,4 @@
-//! Sets of counters and of contacts, a bit for each.
+//! Sets of counters and of contacts, as bit sets.
 
 ghost use Rattle.std.specs.Prelude.{⊤, ◌≡◌, ◌<◌, ◌↔◌, IsTrue, [], ◌∷◌, codes};
 ghost use Rattle.plan_code.specs.Flags.{is_set, is_closed, with_counter, without_counter, with_contact, Includes};
@@ -70,7 +70,7 @@ impl Counters {
         Counters(self.0 & !(1 << counter.get()))
     }
 
-    /// Whether each counter of the other set is in this one.
+    /// Whether every counter of the other set is in this one.
     pub fn includes(self, other: Counters) -> bool
         ensures { IsTrue result ↔ Includes self other }
     {
@@ -140,7 +140,7 @@ impl Contacts {
         (self.0 >> contact.get()) & 1 == 1
     }
 
-    /// The contacts with this one closed, or open; the others stay.
+    /// The contacts with this one closed or open, and the others unchanged.
     pub fn with(self, contact: ContactId, closed: bool) -> Contacts
         ensures value { result ≡ with_contact contact closed self }
     {

@@ -4,8 +4,8 @@ use crate::numbers::{ContactId, CounterId, DayFrame, Delay, Frames, Times};
 use mux_config::Edit;
 
 /// An instruction. There are 22 kinds: twelve here, and one for each of the ten edits. Every operand is
-/// within its range by its type; a target may be any number. An instruction that suspends ends the frame's
-/// instructions.
+/// within its range by its type; a target may be any number. An instruction that suspends is the last one that runs
+/// in its frame.
 #[derive(Clone, Copy, Debug, PartialEq, Eq)]
 pub enum Instr {
     /// Suspends; resumes after this many frames.
@@ -22,10 +22,10 @@ pub enum Instr {
     CommitAt(u16),
     /// Suspends; resumes in the frame of the swap, after it.
     Join,
-    /// Where a swap is pending, suspends, and resumes in the frame of the swap, after it. Else nothing
-    /// happens, and the next instruction runs at once.
+    /// Where a swap is pending, suspends, and resumes in the frame of the swap, after it. Otherwise the next
+    /// instruction runs at once.
     Settle,
-    /// Suspends for good. Frames are still made, and a pending swap too.
+    /// Suspends for good. Frames are still made, and so is a pending swap.
     End,
     /// Edits the next configuration.
     Edit(Edit),
@@ -35,14 +35,14 @@ pub enum Instr {
     Jump(u16),
     /// Sets a counter.
     Set { counter: CounterId, times: Times },
-    /// Decrements a counter. Jumps to the target if it is not 0 then; else the counter is no longer set.
+    /// Decrements a counter. Jumps to the target if the result is not 0; otherwise the counter is no longer set.
     Loop { counter: CounterId, target: u16 },
 }
 
-/// An instruction with the number of the line that it comes from.
+/// An instruction with its source line number.
 #[derive(Clone, Copy, Debug, PartialEq, Eq)]
 pub struct Line {
-    /// The line's number.
+    /// The source line number.
     pub number: u16,
     /// The instruction.
     pub instr: Instr,

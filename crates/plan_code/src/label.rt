@@ -1,4 +1,4 @@
-//! What a code declares of an instruction that others jump to.
+//! What a code declares at the target of a jump.
 
 ghost use Rattle.std.specs.Prelude.{◌↔◌, IsTrue};
 
@@ -9,10 +9,10 @@ use crate::flags::Counters;
 pub enum Swap {
     /// No swap is pending.
     Idle,
-    /// A swap is pending, and falls after this many frames at least and at most: 1 or more, and the least is not above
+    /// A swap is pending and falls after at least and at most this many frames; the least is 1 or more, and not above
     /// the greatest.
     Within(u16, u16),
-    /// A swap is pending and falls after this many frames at most, 1 or more; or it has been made, and the label's next
+    /// A swap is pending and falls after at most this many frames, 1 or more; or it has been made, and the label's next
     /// configuration is the current one.
     Perhaps(u16),
 }
@@ -32,7 +32,7 @@ impl Swap {
     }
 }
 
-/// A label: what holds whenever the machine reaches an instruction.
+/// A label: what holds whenever the machine reaches this instruction.
 #[derive(Clone, Copy, Debug, PartialEq, Eq)]
 pub struct Label {
     /// The index of the instruction in the code, from 0.
@@ -43,9 +43,9 @@ pub struct Label {
     pub next: u16,
     /// Whether a swap is pending, and when it falls.
     pub pending: Swap,
-    /// The counters that are set; others may be set too.
+    /// Counters that are set; others may be set too.
     pub counters: Counters,
-    /// How many instructions may still run in this frame at least, 1 to 255 in a code.
+    /// How many instructions may at least still run in this frame, 1 to 255 in a code.
     pub cost: u8,
 }
 
@@ -57,7 +57,7 @@ impl Label {
         ensures { IsTrue result ↔ IsLabel configs self.now }
     {
         let has_configs = usize::from(self.cur) < configs && usize::from(self.next) < configs;
-        // Read for the proof: the range of a field is known where the field is read.
+        // Read for the proof: a value's invariant is known where the value is read.
         let _pc = self.pc;
         let _counters = self.counters.0;
         has_configs && self.pending.is_within_limits() && 1 <= self.cost

@@ -1,9 +1,8 @@
-//! Plan codes: the small code that a reconfiguration script compiles to, as a value whose every field is
-//! within its limits, and as one file.
+//! Plan codes: the compact code that a reconfiguration script compiles to, as a value and as a file.
 //!
-//! `Code` is a plan, a table of configurations, a table of labels and the instructions; `decode` and
-//! `encode` are its file. What an instruction does, and what it needs so as not to trap, is defined in
-//! `specs/Machine.antt`; the file in `specs/Spelling.antt` and `specs/Reading.antt`.
+//! Every field of the value is within its limits. `Code` is a plan, a table of configurations, a table of labels and
+//! the instructions; `decode` and `encode` read and write its file. What an instruction does, and what it needs so as
+//! not to trap, is defined in `specs/Machine.antt`; the file format in `specs/Spelling.antt` and `specs/Reading.antt`.
 #![tactic(auto)]
 
 pub mod code;

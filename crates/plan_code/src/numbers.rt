@@ -1,4 +1,4 @@
-//! Numbers of instructions that never leave their range.
+//! Operands of instructions that are within their range by their type.
 
 ghost use Rattle.std.specs.Prelude.{◌≡◌, ◌<◌, ◌≤◌, ◌↔◌, IsSome, IfSome};
 
@@ -25,7 +25,7 @@ impl Model for ContactId {
 }
 
 impl ContactId {
-    /// The contact of this number; None where it is above 15.
+    /// The contact with this number; None where it is above 15.
     pub fn new(id: u8) -> Option<ContactId>
         ensures in_range { IsSome result ↔ (id < CONTACTS) }
         ensures value { IfSome result (λ c. c ≡ id) }
@@ -66,7 +66,7 @@ impl Model for CounterId {
 }
 
 impl CounterId {
-    /// The counter of this number; None where it is above 7.
+    /// The counter with this number; None where it is above 7.
     pub fn new(id: u8) -> Option<CounterId>
         ensures in_range { IsSome result ↔ (id < COUNTERS) }
         ensures value { IfSome result (λ c. c ≡ id) }
@@ -106,7 +106,7 @@ impl Model for Frames {
 }
 
 impl Frames {
-    /// This many frames; None where there is none.
+    /// This many frames; None for 0.
     pub fn new(frames: u16) -> Option<Frames>
         ensures in_range { IsSome result ↔ (1 ≤ frames) }
         ensures value { IfSome result (λ f. f ≡ frames) }
@@ -118,7 +118,7 @@ impl Frames {
         }
     }
 
-    /// How many frames, 1 to 65,535.
+    /// The number of frames, 1 to 65,535.
     pub fn get(self) -> u16
         ensures value { result ≡ self }
         ensures in_range { 1 ≤ result }
@@ -127,7 +127,7 @@ impl Frames {
     }
 }
 
-/// How many times the body of a loop is to run, 1 to 65,535.
+/// How many times the body of a loop runs, 1 to 65,535.
 #[derive(Clone, Copy, Debug, PartialEq, Eq, PartialOrd, Ord)]
 pub struct Times {
     times: u16,
@@ -146,7 +146,7 @@ impl Model for Times {
 }
 
 impl Times {
-    /// This many times; None where it is never.
+    /// This many times; None for 0.
     pub fn new(times: u16) -> Option<Times>
         ensures in_range { IsSome result ↔ (1 ≤ times) }
         ensures value { IfSome result (λ t. t ≡ times) }
@@ -158,7 +158,7 @@ impl Times {
         }
     }
 
-    /// How many times, 1 to 65,535.
+    /// The number of times, 1 to 65,535.
     pub fn get(self) -> u16
         ensures value { result ≡ self }
         ensures in_range { 1 ≤ result }
@@ -167,7 +167,7 @@ impl Times {
     }
 }
 
-/// The number of frames from a commit to its swap at the least, 1 to 60,000.
+/// The minimum number of frames from a commit to its swap, 1 to 60,000.
 #[derive(Clone, Copy, Debug, PartialEq, Eq, PartialOrd, Ord)]
 pub struct Delay {
     frames: u16,
@@ -187,7 +187,7 @@ impl Model for Delay {
 }
 
 impl Delay {
-    /// This many frames; None where they are not 1 to 60,000.
+    /// This many frames; None where the number is not 1 to 60,000.
     pub fn new(frames: u16) -> Option<Delay>
         ensures in_range { IsSome result ↔ ((1 ≤ frames) × (frames ≤ LONGEST_DELAY)) }
         ensures value { IfSome result (λ d. d ≡ frames) }
@@ -201,7 +201,7 @@ impl Delay {
         Some(Delay { frames })
     }
 
-    /// How many frames, 1 to 60,000.
+    /// The number of frames, 1 to 60,000.
     pub fn get(self) -> u16
         ensures value { result ≡ self }
         ensures from_one { 1 ≤ result }
@@ -231,7 +231,7 @@ impl Model for DayFrame {
 }
 
 impl DayFrame {
-    /// The frame of this number; None where the day has ended by then.
+    /// The frame with this number; None where the number is past the end of the day.
     pub fn new(frame: u32) -> Option<DayFrame>
         ensures in_range { IsSome result ↔ (frame < FRAMES_A_DAY) }
         ensures value { IfSome result (λ d. d ≡ frame) }

@@ -1,4 +1,4 @@
-//! Opcodes: the byte that an instruction begins with in a code file.
+//! Opcodes: the first byte of an instruction in a code file.
 
 /// The opcode of an instruction.
 #[derive(Clone, Copy, Debug, PartialEq, Eq)]
@@ -9,7 +9,7 @@ pub(crate) enum Opcode {
     Until = 0x02,
     /// Suspends until a contact is closed, or open.
     WaitContact = 0x03,
-    /// Commits, with the swap after at least a number of frames.
+    /// Commits, with the swap after a minimum number of frames.
     CommitIn = 0x04,
     /// Commits, with the swap at a CIF count.
     CommitAt = 0x05,
@@ -17,7 +17,7 @@ pub(crate) enum Opcode {
     Join = 0x06,
     /// Suspends for good.
     End = 0x07,
-    /// Suspends until the swap where one is pending.
+    /// Suspends until the swap if one is pending.
     Settle = 0x08,
     /// Adds a sub-channel.
     AddSub = 0x10,
@@ -25,7 +25,7 @@ pub(crate) enum Opcode {
     DropSub = 0x11,
     /// Moves a sub-channel to another start address.
     MoveSub = 0x12,
-    /// Gives a sub-channel another rate.
+    /// Changes the rate of a sub-channel.
     RateSub = 0x13,
     /// Adds a service without components.
     AddService = 0x14,
@@ -33,23 +33,23 @@ pub(crate) enum Opcode {
     DropService = 0x15,
     /// Adds a component to a service.
     AddComponent = 0x16,
-    /// Drops the component of a service that has a carrier.
+    /// Drops the component of a service with this carrier.
     DropComponent = 0x17,
     /// Adds a packet component.
     AddPacket = 0x18,
     /// Drops a packet component.
     DropPacket = 0x19,
-    /// Jumps where a contact is open.
+    /// Jumps if a contact is open.
     Test = 0x20,
     /// Jumps.
     Jump = 0x21,
     /// Sets a counter.
     Set = 0x22,
-    /// Decrements a counter, and jumps where it is not 0 then.
+    /// Decrements a counter, and jumps if the result is not 0.
     Loop = 0x23,
 }
 
-/// A byte that is the opcode of no instruction.
+/// A byte that is not an opcode.
 #[derive(Clone, Copy, Debug, PartialEq, Eq)]
 pub(crate) struct UnknownOpcode;
 

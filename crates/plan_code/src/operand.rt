@@ -48,7 +48,7 @@ pub(crate) fn frames(reader: &mut Reader) -> Result<Frames, RecordFault>
     Frames::new(number).ok_or(RecordFault::Field(offset))
 }
 
-/// Reads how many times the body of a loop is to run.
+/// Reads how many times the body of a loop runs.
 pub(crate) fn times(reader: &mut Reader) -> Result<Times, RecordFault>
     ensures read { Takes (times_at reader.old.total reader.old.rest) result reader.new }
     ensures total { reader.new.total ≡ reader.old.total }
@@ -109,7 +109,7 @@ pub(crate) fn new_packet(reader: &mut Reader) -> Result<Packet, RecordFault>
     })
 }
 
-/// A sub-channel as a carrier: its identifier in two bytes.
+/// Reads a sub-channel as a carrier: its identifier in two bytes.
 fn wide_sub_id(reader: &mut Reader) -> Result<SubId, RecordFault>
     ensures read { Takes (wide_sub_id_at reader.old.total reader.old.rest) result reader.new }
     ensures total { reader.new.total ≡ reader.old.total }

@@ -1,23 +1,23 @@
-//! What a code declares for its whole playback.
+//! What a code declares for a whole playback.
 
 ghost use Rattle.std.specs.Prelude.{◌↔◌, IsTrue};
 
 use crate::limits::{LONGEST_NOTICE, LONGEST_PERIOD, SHORTEST_NOTICE};
 use fib_codec::Mode;
 
-/// The plan of an ensemble: what its frames carry and how long its notices are.
+/// The plan of an ensemble: what its frames carry and how long its notices last.
 #[derive(Clone, Copy, Debug, PartialEq, Eq)]
 pub struct Plan {
     /// The identifier of the ensemble, EId (EN 300 401 clause 6.4).
     pub eid: u16,
     /// The transmission mode: how many FIBs a frame has, and on which CIF counts FIG 0/0 and swaps fall.
     pub mode: Mode,
-    /// The period P, in frames, 1 to 60 in a code: the whole current configuration goes out in any P
-    /// successive frames of one phase.
+    /// The period P, in frames, 1 to 60 in a code: any P successive frames of one phase carry the whole current
+    /// configuration.
     pub period: u8,
-    /// The notice, in frames, 12 to 248 in a code: for how long a swap is announced before it is made.
+    /// The notice, in frames, 12 to 248 in a code: how long a swap is announced before it is made.
     pub notice: u8,
-    /// The budget, 1 to 255 in a code: how many instructions run in one frame at most.
+    /// The budget, 1 to 255 in a code: the maximum number of instructions that run in one frame.
     pub budget: u8,
 }
 
@@ -31,7 +31,7 @@ impl Plan {
         let has_period = 1 <= self.period && self.period <= LONGEST_PERIOD;
         let has_notice = SHORTEST_NOTICE <= self.notice && self.notice <= LONGEST_NOTICE;
         let has_budget = 1 <= self.budget;
-        // Read for the proof: the range of a field is known where the field is read.
+        // Read for the proof: a value's invariant is known where the value is read.
         let _eid = self.eid;
         has_period && has_notice && has_budget
     }

@@ -1,5 +1,4 @@
-//! What the types of operands say: each is within its range. These functions do nothing; they give their contracts to a
-//! caller's proof.
+//! Range facts of operand types. These functions do nothing; their contracts state the ranges for a caller's proof.
 ghost use Rattle.mux_config.specs.Configuration.{IsConfiguration, IsSid, IsComponent};
 ghost use Rattle.std.specs.List.{AllByRecursion};
 ghost use Rattle.plan_code.specs.Program.{IsNewSub, IsNewPacket, IsCarrier, IsEdit, IsInstr, IsLine};
@@ -131,13 +130,13 @@ pub(crate) fn lines_in_range(lines: &[Line])
     ensures { AllByRecursion IsLine lines.now }
 {
     for line in lines {
-        // Read for the proof: the range of a field is known where the field is read.
+        // Read for the proof: a value's invariant is known where the value is read.
         let _number = line.number;
         instr_in_range(line.instr);
     }
 }
 
-/// Each configuration is one.
+/// Each configuration is well-formed.
 pub(crate) fn configs_in_range(configs: &[Config])
     ensures { AllByRecursion IsConfiguration configs.now }
 {

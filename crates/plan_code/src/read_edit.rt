@@ -1,4 +1,4 @@
-//! Reading an edit, after its opcode: a function for each kind.
+//! Reading an edit after its opcode, with a function for each kind.
 
 ghost use Rattle.std.specs.Prelude.{◌≡◌};
 ghost use Rattle.mux_config.specs.FieldReading.{Takes};

@@ -1,7 +1,7 @@
 //! Reading a label.
 
 ghost use Rattle.std.specs.Prelude.{◌≡◌, ◌≤◌};
-ghost use Rattle.mux_config.specs.FieldReading.{Takes, word_within};
+ghost use Rattle.mux_config.specs.FieldReading.{Takes, u16_in_range};
 ghost use Rattle.plan_code.specs.Parts.{swap_at, label_from};
 
 use crate::flags::Counters;
@@ -33,9 +33,9 @@ fn swap(reader: &mut Reader) -> Result<Swap, RecordFault>
     }
 }
 
-/// Reads the pc of a label, `low` or later.
+/// Reads the pc of a label, at least `low`.
 fn pc_from(reader: &mut Reader, low: u32) -> Result<u16, RecordFault>
-    ensures read { Takes (word_within reader.old.total low 65535 reader.old.rest) result
+    ensures read { Takes (u16_in_range reader.old.total low 65535 reader.old.rest) result
         reader.new }
     ensures total { reader.new.total ≡ reader.old.total }
 {
@@ -47,7 +47,7 @@ fn pc_from(reader: &mut Reader, low: u32) -> Result<u16, RecordFault>
     Ok(pc)
 }
 
-/// Reads a label at the pc `low` or later, where there are this many configurations.
+/// Reads a label with a pc of at least `low`, with this many configurations in the table.
 #[tactic(auto, unfolding(crate::specs::Parts::label_from))]
 pub(crate) fn label(reader: &mut Reader, configs: u16, low: u32) -> Result<Label, RecordFault>
     requires { 1 ≤ configs }

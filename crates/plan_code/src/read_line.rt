@@ -1,4 +1,4 @@
-//! Reading a line: its number and its instruction.
+//! Reading a line: its source line number and its instruction.
 
 ghost use Rattle.std.specs.Prelude.{◌≡◌};
 ghost use Rattle.mux_config.specs.FieldReading.{Takes};
@@ -98,7 +98,7 @@ fn loop_back(reader: &mut Reader) -> Result<Instr, RecordFault>
     Ok(Instr::Loop { counter, target })
 }
 
-/// An opcode.
+/// Reads an opcode.
 fn opcode(reader: &mut Reader) -> Result<Opcode, RecordFault>
     ensures read { Takes (opcode_at reader.old.total reader.old.rest) result reader.new }
     ensures total { reader.new.total ≡ reader.old.total }
@@ -111,7 +111,7 @@ fn opcode(reader: &mut Reader) -> Result<Opcode, RecordFault>
     }
 }
 
-/// An instruction, after its opcode.
+/// Reads the rest of an instruction after its opcode.
 #[tactic(auto, unfolding(crate::specs::Parts::instr_of))]
 fn instr_of(reader: &mut Reader, opcode: Opcode) -> Result<Instr, RecordFault>
     ensures read { Takes (instr_of reader.old.total opcode reader.old.rest) result reader.new }
@@ -143,7 +143,7 @@ fn instr_of(reader: &mut Reader, opcode: Opcode) -> Result<Instr, RecordFault>
     }
 }
 
-/// An instruction.
+/// Reads an instruction.
 #[tactic(auto, unfolding(crate::specs::Parts::instr_from))]
 fn instr(reader: &mut Reader) -> Result<Instr, RecordFault>
     ensures read { Takes (instr_from reader.old.total reader.old.rest) result reader.new }
@@ -153,7 +153,7 @@ fn instr(reader: &mut Reader) -> Result<Instr, RecordFault>
     instr_of(reader, opcode)
 }
 
-/// A line.
+/// Reads a line.
 #[tactic(auto, unfolding(crate::specs::Parts::line_from))]
 pub(crate) fn line(reader: &mut Reader) -> Result<Line, RecordFault>
     ensures read { Takes (line_from reader.old.total reader.old.rest) result reader.new }

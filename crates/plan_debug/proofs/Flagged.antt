@@ -1,4 +1,4 @@
--- What a debugger announces is exactly the flagged FIG 0/0 in the bytes of its frames.
+-- The announcements of a debugger are exactly the flagged FIG 0/0 in the bytes of its frames.
 use Rattle.std.specs.Prelude.{◌==◌}
 use Rattle.std.proofs.Common.{◌≡◌, ℕ, ◌≤◌, Bool, true, false, cond, List, [], ◌∷◌, ◌++◌, Option, Some, None, refl, sym, ap, ◌∙◌, arith, inl, inr}
 use Rattle.std.proofs.lemmas.Bool.{eqb-true, eqb-false}
@@ -62,7 +62,7 @@ announces_for e a (Some low) o is = announces_by e a low (e.change == 0) o refl 
 
 -- ---- the bytes of a frame
 
--- what is announced is what is flagged in the bytes, or nothing where nothing is
+-- the announcement is the flagged FIG 0/0 in the bytes, or there is none of either
 abbrev pub SaysOf : List ℕ → Option Announcement → Type 0
 SaysOf frame None = IsUnflagged frame
 SaysOf frame (Some a) = IsFlaggedOnly frame a

@@ -13,7 +13,7 @@ use Rattle.plan_debug.proofs.Flagged.{announcement_as, frame_says}
 abbrev plan : Plan
 plan = record { eid = 0xe1c5; mode = I; period = 1; notice = 12; budget = 20 }
 
--- a first packet component comes with the swap in so many frames
+-- a first packet component takes effect with the swap in this many frames
 abbrev before_swap : ℕ → State
 before_swap left =
     record {
@@ -27,7 +27,7 @@ before_swap left =
       count = 988;
       day = 0;
       eid = 0xe1c5;
-      turn = 0;
+      page_index = 0;
     }
 
 abbrev told : ℕ → Announcement

@@ -10,21 +10,21 @@ use Rattle.plan_runs.specs.Frames.{shown, ensemble_sent, after_frame}
 use Rattle.plan_runs.specs.Runs.{happens}
 use Rattle.plan_debug.specs.declared.announcement.Announcement.{Announcement}
 
--- what ensemble information with this occurrence change announces
+-- the announcement of ensemble information with this occurrence change
 abbrev pub announced_for : EnsembleInformation → Option ℕ → Option Announcement
 announced_for e None = None
 announced_for e (Some low) = if e.change == 0 then None else Some (record { count = e.count; occurrence = low; change = e.change })
 
--- what this FIG 0/0 announces, if anything
+-- the announcement of this FIG 0/0, if any
 abbrev pub announced_by : Option EnsembleInformation → Option Announcement
 announced_by None = None
 announced_by (Some e) = announced_for e e.occurrence
 
--- what the bytes that show this state announce
+-- the announcement in the bytes that show this state
 abbrev pub shown_announcement : Plan → State → Option Announcement
 shown_announcement plan s = announced_by (ensemble_sent plan s)
 
--- what the next frame announces
+-- the announcement of the next frame
 abbrev pub frame_announcement : Program → State → Option Announcement
 frame_announcement p s = shown_announcement p.plan (shown p s)
 
@@ -32,7 +32,7 @@ abbrev pub announcement_list : Option Announcement → List Announcement
 announcement_list None = []
 announcement_list (Some a) = a ∷ []
 
--- what the frames of these events announce, in order
+-- the announcements of the frames of these events, in order
 abbrev pub announced : Program → State → List Event → List Announcement
 announced p s [] = []
 announced p s (Contact c closed ∷ es) = announced p (happens p s (Contact c closed)) es

@@ -1,4 +1,4 @@
--- What the commands of a debugger mean: how many frames each plays, and the debugger after it.
+-- The debugger commands: how many frames each plays, and the debugger after it.
 use Rattle.std.specs.Prelude.{◌≡◌, ◌≢◌, ◌↔◌, ◌⊎◌, ℕ, zero, suc, ◌<◌, ◌≤◌, List, [], ◌∷◌, ◌++◌, replicate, Option, Some, None, IsTrue}
 use Rattle.circular_buffer.specs.Buffer.{keep_last}
 use Rattle.plan_code.specs.Program.{Program, line_at}
@@ -14,7 +14,7 @@ use Rattle.plan_session.specs.declared.command.Command.{Command}
 use Rattle.plan_session.specs.declared.command.Command.TheVariants.{Contact, Run, Next, Break, Clear, Show}
 use Rattle.plan_debug.specs.Announcements.{announced}
 
--- what a debugger represents: its player, its break line, and the announcements that it keeps, oldest first
+-- the view of a debugger: its player, its break line, and the recorded announcements, oldest first
 pub record Debugging : Type 0 where
   pub player : Playing
   pub stop : Option ℕ
@@ -29,7 +29,7 @@ frames n = replicate n Frame
 abbrev pub after_frames : Program → State → ℕ → State
 after_frames p s n = run p s (frames n)
 
--- the events of a command, where it plays this many frames
+-- the events of a command that plays this many frames
 abbrev pub events_of_command : Command → ℕ → List Event
 events_of_command (Contact c closed) n = ContactEvent c closed ∷ []
 events_of_command (Run most) n = frames n
@@ -71,7 +71,7 @@ EndsAt p stop command s (suc n) =
     let after = after_frames p s (suc n) in
     Ends stop command before.pc after.pc (line_at p after.pc)
 
--- a command plays this many frames: up to and including the first that ends it, and at most as many as it may
+-- a command plays this many frames: up to and including the first that ends it, and at most its maximum
 pub record IsCount (p : Program) (stop : Option ℕ) (command : Command) (s : State) (n : ℕ) : Type 0 where
   pub within : n ≤ most_frames command
   pub none_before : (m : ℕ) → m < n → EndsAt p stop command s m → ⊥

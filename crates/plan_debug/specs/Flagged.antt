@@ -1,4 +1,4 @@
--- The flagged FIG 0/0 in the bytes of frames, and that announcements are these (EN 300 401 clause 6.4).
+-- The flagged FIG 0/0 in the bytes of frames, and the announcements that match them (EN 300 401 clause 6.4).
 use Rattle.std.specs.Prelude.{◌≡◌, ◌⊎◌, ℕ, ◌≤◌, Bool, List, [], ◌∷◌, Some}
 use Rattle.std.specs.List.{AllByRecursion}
 use Rattle.mux_entries.specs.Entries.{EnsembleInformation}
@@ -21,7 +21,7 @@ pub record IsFlaggedIn (frame : List ℕ) (a : Announcement) : Type 0 where
   pub occurrence : information.occurrence ≡ Some a.occurrence
   pub count : a.count ≡ information.count
 
--- there is none, or one that has these fields and no other
+-- no announcement is flagged in the frame, or exactly this one is
 abbrev pub IsUnflagged : List ℕ → Type 0
 IsUnflagged frame = (a : Announcement) → IsFlaggedIn frame a → ⊥
 

@@ -1,4 +1,4 @@
-//! Announcements of a swap, as they are sent.
+//! An announcement of a swap, as it is sent.
 
 /// A FIG 0/0 with change flags that was sent (EN 300 401 clause 6.4).
 #[derive(Clone, Copy, Debug, PartialEq, Eq)]

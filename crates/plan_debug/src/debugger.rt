@@ -1,4 +1,4 @@
-//! The debugger.
+//! Drives a player with debugger commands.
 
 ghost use Rattle.std.specs.Prelude.{◌≡◌, false, ◌↔◌, ◌≤◌, [], ◌∷◌, ◌++◌, length, Some, None, IsTrue, IfOk, IfErr, slice_get};
 ghost use Rattle.circular_buffer.specs.Buffer.{keep_last};
@@ -22,7 +22,7 @@ use std::marker::Model;
 /// The most frames that `Next` plays.
 const MOST_TO_NEXT: u32 = 5000;
 
-/// Drives a player with debugger commands, and keeps the last 64 announcements of its frames.
+/// Drives a player with debugger commands, and records the last 64 announcements of its frames.
 #[derive(Drop)]
 pub struct Debugger<'a, S: Store> {
     player: Player<'a, S>,
@@ -41,7 +41,7 @@ impl<'a, S: Store> Model for Debugger<'a, S> {
     ghost invariant = { λ d. length d.log ≤ 64 };
 }
 
-/// The frames that a command played: how many, the last of them, and whether it ended the command.
+/// The frames that a command played: their number, the last of them, and whether it ended the command.
 #[derive(Clone, Copy)]
 struct Stretch {
     frames: u32,
@@ -63,7 +63,7 @@ fn most_of(command: Command) -> u32
     }
 }
 
-/// Whether a frame ends the command, where pc was this before it and is that after it, in this line.
+/// Whether a frame ends the command: pc before it, and pc and line after it.
 fn is_end(stop: Option<u16>, command: Command, before: u16, pc: u16, line: u16) -> bool
     ensures { IsTrue result ↔ Ends stop command before pc (Some line) }
 {
@@ -77,7 +77,7 @@ fn is_end(stop: Option<u16>, command: Command, before: u16, pc: u16, line: u16) 
     }
 }
 
-/// Plays one frame, and logs what it announces.
+/// Plays one frame, and logs its announcement.
 fn play_frame<'a, S: Store>(player: &mut Player<'a, S>, log: &mut Log) -> FibFrame
     requires few { length log.old ≤ 64 }
     ensures state { player.new ≡ played player.old (Frame ∷ []) }
@@ -125,7 +125,7 @@ fn play_frames<'a, S: Store>(
     }
 }
 
-/// The report of a player where no frame was played.
+/// The report of a player when no frame was played.
 fn report_here<'a, S: Store>(player: &Player<'a, S>) -> Report
     ensures none { (result.frames ≡ 0) × (result.broke ≡ false) × (result.fibs ≡ None) }
     ensures views { IsView player.now result }
@@ -143,8 +143,8 @@ fn report_here<'a, S: Store>(player: &Player<'a, S>) -> Report
 }
 
 impl<'a, S: Store> Debugger<'a, S> {
-    /// A debugger of this player, without a break line and without announcements. `Err` returns the player where memory
-    /// is refused.
+    /// A debugger of this player, without a break line and without announcements. `Err` returns the player if out of
+    /// memory.
     pub fn new(alloc: Global, player: Player<'a, S>) -> Result<Debugger<'a, S>, Player<'a, S>>
         ensures begins { IfOk result (λ d.
             d ≡ record { player = player.entry; stop = None; announcements = [] }) }
@@ -187,7 +187,7 @@ impl<'a, S: Store> Debugger<'a, S> {
 
     /// Executes a command, and reports the player's state after it. It does not allocate.
     ///
-    /// `Contact` sets a contact; `Run` and `Next` play frames up to one that ends them, as [`Command`] says; `Break`
+    /// `Contact` sets a contact; `Run` and `Next` play frames up to one that ends them, as [`Command`] defines; `Break`
     /// sets the break line and `Clear` removes it; `Show` changes nothing. Only frames change the announcements.
     pub fn command(&mut self, command: Command) -> Report
         ensures count { let p = self.old.player in

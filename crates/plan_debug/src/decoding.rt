@@ -1,4 +1,4 @@
-//! Decoding the announcement of a frame.
+//! Decodes the announcement of a frame.
 
 ghost use Rattle.std.specs.Prelude.{◌≡◌, Some, None, List, ◌∷◌, false};
 ghost use Rattle.std.specs.List.{AllByRecursion};
@@ -15,11 +15,11 @@ ghost use Rattle.fib_reader.specs.Raw.{raw_entry};
 ghost use Rattle.plan_debug.specs.Announcements.{announced_by, shown_announcement};
 
 use crate::announcement::Announcement;
-use fib_codec::FibFrame;
+use fib_codec::{Extension, FibFrame};
 use fib_reader::{RawEntry, check};
 use mux_config::{Ensemble, Entry};
 
-/// What ensemble information announces; None where it has no change flag.
+/// The announcement of ensemble information; `None` if it has no change flag.
 fn announcement_of(ensemble: Ensemble) -> Option<Announcement>
     ensures { result ≡ announced_by (Some ensemble) }
 {
@@ -34,7 +34,7 @@ fn announcement_of(ensemble: Ensemble) -> Option<Announcement>
     })
 }
 
-/// What an entry announces.
+/// The announcement of an entry.
 fn announcement_of_entry(entry: &RawEntry) -> Option<Announcement>
     ensures { (e : EnsembleInformation) → entry.now ≡ raw_entry (EnsembleOf e)
         → IsEnsembleInformation e → result ≡ announced_by (Some e) }
@@ -48,7 +48,7 @@ fn announcement_of_entry(entry: &RawEntry) -> Option<Announcement>
     }
 }
 
-/// What a FIB announces in its first FIG.
+/// The announcement in the first FIG of a FIB.
 fn announcement_in_fib(fib: &[u8; 32]) -> Option<Announcement>
     ensures headed { (header : Fig) (others : List Fig) (e : EnsembleInformation)
         → IsFib fib.now (header ∷ others) → IsInFig header (marked false (EnsembleOf e))
@@ -62,14 +62,14 @@ fn announcement_in_fib(fib: &[u8; 32]) -> Option<Announcement>
     };
     let first = figs.next()?;
     let head = first.head()?;
-    if head.ext != 0 {
+    if head.ext != Extension::Ensemble.number() {
         return None;
     }
     let entry = first.entries().next()?;
     announcement_of_entry(&entry)
 }
 
-/// What a frame announces.
+/// The announcement of a frame.
 pub(crate) fn announcement_in(frame: &FibFrame) -> Option<Announcement>
     ensures { (plan : Plan) (s : State) → IsRight plan s frame.now
         → result ≡ shown_announcement plan s }

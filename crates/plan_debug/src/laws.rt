@@ -1,8 +1,8 @@
-//! What holds of all announcements. The function does nothing; its contract is the law.
+//! A law of all announcements. The function does nothing; its contract is the law.
 
 ghost use Rattle.plan_debug.specs.Flagged.{AnnouncementsAreFlagged};
 
-/// The law of announcements: those that a debugger logs of the frames of a typed code are exactly the FIG 0/0 with
+/// The announcements that a debugger logs of the frames of a typed code are exactly the FIG 0/0 with
 /// change flags that are received in the bytes of these frames, one for each frame that has one, in order.
 pub fn announcements()
     ensures { AnnouncementsAreFlagged }

@@ -1,4 +1,4 @@
-//! The last announcements.
+//! The log of the last announcements.
 
 ghost use Rattle.std.specs.Prelude.{◌≡◌, ◌≤◌, IfOk, [], ◌++◌, length, slice_get};
 ghost use Rattle.circular_buffer.specs.Buffer.{keep_last};
@@ -9,7 +9,7 @@ use circular_buffer::HeapCircularBuffer;
 use std::alloc::{AllocError, Global};
 use std::marker::Model;
 
-/// How many announcements are kept.
+/// The number of announcements kept.
 const KEPT: usize = 64;
 
 /// The last 64 announcements, oldest first.
@@ -30,7 +30,7 @@ impl Model for Log {
 }
 
 impl Log {
-    /// A log without an announcement, with room for all that it keeps.
+    /// An empty log, with memory for all announcements that it keeps.
     pub fn new(alloc: Global) -> Result<Log, AllocError>
         ensures { IfOk result (λ l. l ≡ []) }
     {

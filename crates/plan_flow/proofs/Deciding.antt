@@ -1,4 +1,4 @@
--- What the tests of a flow decide, and that the causes found are the first in the order of refusals.
+-- What the tests of a flow decide, and that the causes they find are the first in the order of refusals.
 use Rattle.std.proofs.Common.{◌≡◌, ◌↔◌, IsTrue, ℕ, ◌<◌, ◌≤◌, ◌==◌, ◌⊎◌, Bool, true, false, not, ◌&&◌, ◌||◌, nat_lt, nat_le, Option, Some, None, refl, sym, ap, subst, ◌∙◌, inl, inr, arith}
 use Rattle.std.proofs.lemmas.Bool.{false≢true}
 use Rattle.mux_config.specs.Configuration.{Configuration}
@@ -15,7 +15,7 @@ use Rattle.plan_flow.specs.Rules.{Known, HasRoom, IsCertain, IsSurelyPending, Ha
 use Rattle.plan_flow.specs.Causes.{Where, WhereSome, ◌orelse◌}
 use Rattle.plan_flow.specs.Tests.{cause_if, cause_of, ◌first_or◌, is_same, is_idle, is_surely_pending, is_certain, has_room_for_notice, is_swap_count, has_configurations_of, fits_swap}
 
--- a test holds exactly where a fact does
+-- the test is true exactly where the fact holds
 pub record Decides (b : Bool) (P : Type 0) : Type 0 where
   pub told : b ≡ true → P
   pub found : P → b ≡ true
@@ -99,7 +99,7 @@ decides_same c d = record {
       (list_equal is_same_packet packet_itself c.packets d.packets (ap (λ (x : Configuration). x.packets) e)));
 }
 
--- the two comparisons of which a test is made
+-- the two comparisons that make up a test
 compared : (a b : Bool) (c d : Configuration) → a ≡ has_same_subs c d → b ≡ has_same_services c d → (a && b) ≡ is_same c d
 compared a b c d e f = ap (λ (x : Bool). x && b) e ∙ ap (λ (x : Bool). has_same_subs c d && x) f
 
@@ -163,7 +163,7 @@ decides_fits_swap (Perhaps hi) (Perhaps high) t declared = decides_no_later hi h
 
 -- ---- causes in order
 
--- the cause found is the one that holds
+-- the cause found is the one that holds, if any does
 pub record Computes (o : Option Cause) (R : Cause → Type 0) : Type 0 where
   pub found : (given : Cause) → R given → o ≡ Some given
   pub told : (given : Cause) → o ≡ Some given → R given

@@ -1,4 +1,4 @@
--- The cause that a flow finds at an instruction is the first of the definition, and none is found where it is fine.
+-- The cause found at an instruction is the first of the definition, and none is found where the instruction is fine.
 use Rattle.std.proofs.Common.{◌≡◌, ◌↔◌, ℕ, ◌<◌, ◌≤◌, Bool, true, false, not, Option, Some, None, Result, Ok, Err, IsOk, IfErr, refl, sym, ap, subst, ◌∙◌, arith}
 use Rattle.std.proofs.lemmas.Bool.{false≢true}
 use Rattle.mux_config.specs.Configuration.{IsConfiguration}
@@ -47,7 +47,7 @@ flow_computes plan (Loop counter target) t = computes_never
 flow_computes plan (Set counter times) t = computes_never
 flow_computes plan End t = computes_never
 
--- ---- none is found exactly where the instruction is fine
+-- ---- no cause is found exactly where the instruction is fine
 
 pub none_two : (o p : Option Cause) → o first_or p ≡ None → (o ≡ None) × (p ≡ None)
 none_two None p e = (refl, e)
@@ -74,14 +74,14 @@ pub not_not : (b : Bool) → not b ≡ false → b ≡ true
 not_not true e = refl
 not_not false e = sym e
 
--- a test that decides the fault
+-- a test for a fault
 pub refuted : (b : Bool) (P : Type 0) (cause : Cause) → Decides b P → cause_if b cause ≡ None → P → ⊥
 refuted b P cause d e p = not_true b (none_if b cause e) (d.found p)
 
 pub none_where : (b : Bool) (P : Type 0) (cause : Cause) → Decides b P → (P → ⊥) → cause_if b cause ≡ None
 none_where b P cause d h = if_none b cause (is_false b (λ e. h (d.told e)))
 
--- a test that decides what is needed
+-- a test for a requirement
 pub needed : (b : Bool) (P : Type 0) (cause : Cause) → Decides b P → cause_if (not b) cause ≡ None → P
 needed b P cause d e = d.told (not_not b (none_if (not b) cause e))
 
@@ -150,7 +150,7 @@ fine_none plan (Loop counter target) t formed h = refl
 fine_none plan (Set counter times) t formed h = refl
 fine_none plan End t formed h = refl
 
--- ---- answers of functions
+-- ---- results of functions
 
 pub unless_err : (o : Option Cause) (given : Cause) → Err given ≡ unless o → o ≡ Some given
 unless_err None given e = absurd cc
@@ -171,7 +171,7 @@ pub answers_refused : (plan : Plan) (i : Instr) (t : Known) (r : Result (Unit {0
 answers_refused plan i t (Ok done) e = tt
 answers_refused plan i t (Err given) e = (flow_computes plan i t).told given (unless_err _ given e)
 
--- ---- counters and the allowance have no part in it
+-- ---- the cause does not depend on the counters and the allowance
 
 pub flow_alone : (plan : Plan) (i : Instr) (t : Known) → flow_cause plan i (known_at (flow_of t)) ≡ flow_cause plan i t
 flow_alone plan (Edits edit) t = refl

@@ -1,4 +1,4 @@
--- Why an instruction is refused for what is known of the configurations and the swap: the first cause in the order
+-- Why an instruction is refused, given what is known of the configurations and the swap: the first cause in the order
 -- tested.
 use Rattle.std.specs.Prelude.{◌≡◌, ◌≢◌, ◌<◌, ◌⊎◌, Option, Some, None}
 use Rattle.mux_config.specs.Edits.{edit_fault}
@@ -14,21 +14,21 @@ use Rattle.plan_flow.specs.Rules.{Known, HasRoom, IsCertain, IsSurelyPending}
 
 -- ---- causes in order
 
--- this cause, where the fault holds
+-- this cause, if the fault holds
 abbrev pub Where : Type 0 → Cause → Cause → Type 0
 Where fault cause given = fault × (given ≡ cause)
 
--- the cause that names the fault, where there is one
+-- the cause for the fault, if there is one
 abbrev pub WhereSome : {T : Type 0} → Option T → (T → Cause) → Cause → Type 0
 WhereSome None cause given = ⊥
 WhereSome (Some fault) cause given = given ≡ cause fault
 
--- a cause tested first, or where none of those holds one tested later
+-- the first cause, or if none of those holds, a later one
 infixr 6 ◌orelse◌
 abbrev pub ◌orelse◌ : (Cause → Type 0) → (Cause → Type 0) → Cause → Type 0
 (first orelse later) given = first given ⊎ (((cause : Cause) → first cause → ⊥) × later given)
 
--- a commit; the fault is that of its delay or its count
+-- for a commit; `fault` is that of its delay or its count
 abbrev pub CommitRefused : Plan → Known → Type 0 → Cause → Cause → Type 0
 CommitRefused plan t fault cause =
     Where (t.pending ≢ Idle) Pending
@@ -37,7 +37,7 @@ CommitRefused plan t fault cause =
     orelse Where (t.next ≡ t.current) NoChange
     orelse Where (HasRoom plan t → ⊥) Round
 
--- ---- at an instruction; the verifier checks its target against the code's labels, and a loop's counter
+-- ---- at an instruction; the verifier checks the target against the code's labels, and a loop's counter
 
 abbrev pub FlowRefused : Plan → Instr → Known → Cause → Type 0
 FlowRefused plan (Edits edit) t = Where (t.pending ≢ Idle) Pending orelse WhereSome (edit_fault edit t.next) OfEdit

@@ -1,5 +1,4 @@
--- What is known of the configurations and the swap alone: what holds after an instruction, and where two paths
--- merge.
+-- What is known of the configurations and the swap alone: what holds after an instruction, and where two paths merge.
 use Rattle.std.specs.Prelude.{◌≡◌, ℕ, ◌-◌, Bool, true, false, if◌then◌else◌, min, max}
 use Rattle.mux_config.specs.Configuration.{Configuration}
 use Rattle.plan_code.specs.declared.plan.Plan.{Plan}
@@ -16,26 +15,26 @@ use Rattle.plan_flow.specs.Rules.{Known, leaves, FitsSwap}
 abbrev pub Flow : Type 0
 Flow = FlowIn Configuration
 
--- over what its stores represent
+-- a flow over stores, with their contents
 abbrev pub held : {S : Type 0} → (S → Configuration) → FlowIn S → Flow
 held content f = record { current = content f.current; next = content f.next; pending = f.pending }
 
 -- ---- what is known
 
--- with these counters set, and this allowance
+-- adds these counters and this allowance
 abbrev pub known_with : Flow → Counters → ℕ → Known
 known_with t counters allowance = record { current = t.current; next = t.next; pending = t.pending; counters = counters; allowance = allowance }
 
--- what a statement needs and leaves depends on the configurations and the swap alone
+-- without counters and an allowance: what a statement needs and leaves depends on the configurations and the swap alone
 abbrev pub known_at : Flow → Known
 known_at t = record { current = t.current; next = t.next; pending = t.pending; counters = record { 0 = 0 }; allowance = 0 }
 
 abbrev pub flow_of : Known → Flow
 flow_of t = record { current = t.current; next = t.next; pending = t.pending }
 
--- after an instruction
-abbrev pub moved : Plan → Instr → Flow → Flow
-moved plan i t = flow_of (leaves plan i (known_at t))
+-- the flow after an instruction
+abbrev pub after_instr : Plan → Instr → Flow → Flow
+after_instr plan i t = flow_of (leaves plan i (known_at t))
 
 -- a loop's counter is set
 abbrev pub HasItsCounter : Instr → Counters → Type 0
@@ -44,7 +43,7 @@ HasItsCounter _ counters = Unit {0}
 
 -- ---- counters and the allowance
 
--- the counters after an instruction
+-- the counters that are set after an instruction
 abbrev pub set_after : Instr → Counters → Counters
 set_after (Set counter times) c = with_counter counter c
 set_after (Loop counter target) c = without_counter counter c
@@ -63,26 +62,26 @@ left_over plan i allowance = if rests i then plan.budget else allowance - 1
 
 -- ---- paths that merge at a label
 
--- a state fits another: it knows as much or more
+-- a flow fits another: it implies what the other says
 abbrev pub FitsFlow : Flow → Flow → Type 0
 FitsFlow s t = FitsSwap s.pending t.pending (known_at s) (known_at t)
 
--- the most frames until a swap that is pending or may be; 0 where none is
+-- the maximum number of frames until a swap that is or may be pending; 0 where none is
 abbrev pub latest : Swap → ℕ
 latest Idle = 0
 latest (Within lo hi) = hi
 latest (Perhaps hi) = hi
 
--- of two swaps that are pending, the widest bounds; of two of which only one surely is, or none surely, the latest
+-- the union of the bounds if both swaps are pending; otherwise the swap may be pending, up to the later maximum
 abbrev pub widest : Swap → Swap → Swap
 widest Idle Idle = Idle
 widest (Within lo hi) (Within least most) = Within (min lo least) (max hi most)
 widest s t = Perhaps (max (latest s) (latest t))
 
--- where a swap is pending, or may be, on one path, the configurations are those of that path
-abbrev pub telling : Swap → Flow → Flow → Flow
-telling Idle s t = t
-telling _ s t = s
+-- the flow whose configurations are kept: the first if a swap is or may be pending on it, else the second
+abbrev pub pending_flow : Swap → Flow → Flow → Flow
+pending_flow Idle s t = t
+pending_flow _ s t = s
 
 abbrev pub merged : Flow → Flow → Flow
-merged s t = record (telling s.pending s t) { pending = widest s.pending t.pending }
+merged s t = record (pending_flow s.pending s t) { pending = widest s.pending t.pending }

@@ -19,25 +19,25 @@ use Rattle.plan_code.specs.Machine.{IsSwapCount}
 pub record Known : Type 0 where
   pub current : Configuration
   pub next : Configuration
-  -- no swap is pending, or one is, or the next configuration has taken over already
+  -- no swap is pending, one is pending, or one is pending unless it has already been made
   pub pending : Swap
-  -- counters that are set
+  -- counters that are certainly set
   pub counters : Counters
-  -- how many instructions may still run in this frame, this one included
+  -- how many instructions may still run in this frame, including this one
   pub allowance : ℕ
 
 -- ---- pages
 
--- the pages that a configuration takes by itself
+-- the number of pages that a configuration takes by itself
 abbrev pub pages_alone : Plan → Configuration → ℕ
 pages_alone plan c = rounds plan.mode (page_set c None)
 
--- the pages that the current and the next configuration take together, in the frames of a notice
+-- the number of pages that the current and the next configuration take together, in the frames of a notice
 abbrev pub notice_pages : Plan → Known → ℕ
 notice_pages plan t = rounds plan.mode (page_set t.current (Some t.next))
 
--- the notice has room for all pages within the period, and for three cycles of them, and the phase after the swap
--- has room for the pages of the next configuration within the period
+-- all pages of the notice fit within the period, and three cycles of them within the notice; after the swap, the pages
+-- of the next configuration fit within the period
 pub record HasRoom (plan : Plan) (t : Known) : Type 0 where
   pub within_period : notice_pages plan t ≤ plan.period
   pub three_times : 3 * notice_pages plan t ≤ plan.notice
@@ -45,16 +45,16 @@ pub record HasRoom (plan : Plan) (t : Known) : Type 0 where
 
 -- ---- what an instruction needs
 
--- a commit: no swap is pending, the next configuration is sound and not the current one, and there is room for
--- its pages
+-- a commit: no swap is pending, and the next configuration is sound, is not the current one, and has room for its
+-- pages
 pub record CanCommit (plan : Plan) (t : Known) : Type 0 where
   pub idle : t.pending ≡ Idle
   pub sound : IsSound t.next
   pub changes : t.next ≢ t.current
   pub room : HasRoom plan t
 
--- a wait ends before each frame in which the swap can fall, or not before the last of them; where the swap may
--- have been made already, it may have been after the wait too
+-- a wait certainly ends before the swap, or certainly not before it; a swap that may already have been made may also
+-- fall during the wait
 abbrev pub IsCertain : ℕ → Swap → Type 0
 IsCertain frames Idle = Unit {0}
 IsCertain frames (Within lo hi) = (frames < lo) ⊎ (hi ≤ frames)
@@ -86,49 +86,48 @@ IsFine plan End t = Unit {0}
 abbrev pub known_after_swap : Known → Known
 known_after_swap t = record t { current = t.next; pending = Idle }
 
--- after this many frames, where the swap is certain to fall in one of them, or after all of them, or neither is
--- certain
-abbrev pub waited : ℕ → Swap → Known → Known
-waited frames Idle t = t
-waited frames (Within lo hi) t =
+-- after this many frames, whether the swap certainly falls after them, certainly within them, or neither is certain
+abbrev pub after_wait : ℕ → Swap → Known → Known
+after_wait frames Idle t = t
+after_wait frames (Within lo hi) t =
     if nat_lt frames lo then record t { pending = Within (lo - frames) (hi - frames) } else known_after_swap t
-waited frames (Perhaps hi) t = if nat_lt frames hi then record t { pending = Perhaps (hi - frames) } else known_after_swap t
+after_wait frames (Perhaps hi) t = if nat_lt frames hi then record t { pending = Perhaps (hi - frames) } else known_after_swap t
 
--- after one frame or more, where the swap falls within this many frames
+-- after one frame or more, where the swap falls after at most this many frames
 abbrev pub perhaps_swapped : ℕ → Known → Known
 perhaps_swapped hi t = if nat_lt 1 hi then record t { pending = Perhaps (hi - 1) } else known_after_swap t
 
 -- after one frame or more
-abbrev pub paused : Swap → Known → Known
-paused Idle t = t
-paused (Within lo hi) t = perhaps_swapped hi t
-paused (Perhaps hi) t = perhaps_swapped hi t
+abbrev pub after_pause : Swap → Known → Known
+after_pause Idle t = t
+after_pause (Within lo hi) t = perhaps_swapped hi t
+after_pause (Perhaps hi) t = perhaps_swapped hi t
 
 -- after the swap, where one is pending
-abbrev pub settled : Swap → Known → Known
-settled Idle t = t
-settled (Within lo hi) t = known_after_swap t
-settled (Perhaps hi) t = known_after_swap t
+abbrev pub after_settle : Swap → Known → Known
+after_settle Idle t = t
+after_settle (Within lo hi) t = known_after_swap t
+after_settle (Perhaps hi) t = known_after_swap t
 
 -- one instruction has run
 abbrev pub spent : Known → Known
 spent t = record t { allowance = t.allowance - 1 }
 
--- the next instruction runs in a later frame, which has the whole budget
+-- the next instruction runs in a later frame, with the whole budget
 abbrev pub rested : Plan → Known → Known
 rested plan t = record t { allowance = plan.budget }
 
--- where it continues to the instruction after it: a `Settle` may continue in the same frame, so it renews nothing
+-- what holds at the following instruction; a `Settle` may continue in the same frame, so it renews no allowance
 abbrev pub leaves : Plan → Instr → Known → Known
 leaves plan (Edits edit) t = spent (record t { next = changed edit t.next })
 leaves plan (CommitIn delay) t =
     spent (record t { pending = Within delay (delay + (count_step plan.mode - 1)) })
 leaves plan (CommitAt count) t = spent (record t { pending = Within plan.notice (plan.notice + (COUNTS - 1)) })
-leaves plan (Wait frames) t = rested plan (waited frames t.pending t)
-leaves plan (Until day) t = rested plan (paused t.pending t)
-leaves plan (WaitContact contact closed) t = rested plan (paused t.pending t)
+leaves plan (Wait frames) t = rested plan (after_wait frames t.pending t)
+leaves plan (Until day) t = rested plan (after_pause t.pending t)
+leaves plan (WaitContact contact closed) t = rested plan (after_pause t.pending t)
 leaves plan Join t = rested plan (known_after_swap t)
-leaves plan Settle t = spent (settled t.pending t)
+leaves plan Settle t = spent (after_settle t.pending t)
 leaves plan (Set counter times) t = spent (record t { counters = with_counter counter t.counters })
 leaves plan (Loop counter target) t = spent (record t { counters = without_counter counter t.counters })
 leaves plan (Test contact target) t = spent t
@@ -140,8 +139,8 @@ leaves plan End t = spent t
 abbrev pub HasConfigurationsOf : Known → Known → Type 0
 HasConfigurationsOf t declared = (t.current ≡ declared.current) × (t.next ≡ declared.next)
 
--- the swap of a state and that of a label: nothing pending in both; bounds inside the label's; or a swap that
--- falls no later than the label says, or has been made, to a label at which it may have been made
+-- whether a flow's swap fits a label's: none pending in both; bounds within the label's; or, for a label with
+-- `Perhaps`, a swap that falls no later than the label says or has already been made
 abbrev pub FitsSwap : Swap → Swap → Known → Known → Type 0
 FitsSwap Idle Idle t declared = HasConfigurationsOf t declared
 FitsSwap Idle (Within low high) t declared = ⊥
@@ -155,20 +154,20 @@ FitsSwap (Perhaps hi) (Perhaps high) t declared = HasConfigurationsOf t declared
 
 -- ---- the successors of an instruction
 
--- where it jumps to its target: nothing changes, so a loop's counter is set there
+-- its jump target; a jump changes nothing, so a loop's counter is still set there
 abbrev pub target_of : Instr → Option ℕ
 target_of (Test contact target) = Some target
 target_of (Jump target) = Some target
 target_of (Loop counter target) = Some target
 target_of _ = None
 
--- it can continue to the instruction after it
+-- whether it can continue to the following instruction
 abbrev pub continues : Instr → Bool
 continues (Jump target) = false
 continues End = false
 continues _ = true
 
--- in any case, the next instruction runs in a later frame, if any does
+-- whether the next instruction, if any, runs in a later frame
 abbrev pub suspends : Instr → Bool
 suspends (Wait frames) = true
 suspends (Until day) = true

@@ -1,4 +1,4 @@
--- The tests of a flow, and the cause that they find, as functions. No public contract needs this to be believed.
+-- The tests of a flow, and the cause that they find, as functions; `Causes.antt` defines what a cause means.
 use Rattle.std.specs.Prelude.{ℕ, ◌*◌, ◌%◌, ◌==◌, ◌&&◌, ◌||◌, Bool, true, false, not, nat_lt, nat_le, Option, Some, None, Result, Ok, Err}
 use Rattle.mux_config.specs.Configuration.{Configuration}
 use Rattle.mux_config.specs.Change.{has_same_subs, has_same_services}
@@ -17,23 +17,23 @@ use Rattle.plan_flow.specs.Rules.{Known, notice_pages, pages_alone}
 
 -- ---- causes in order
 
--- this cause, where the test holds
+-- this cause, if the test holds
 abbrev pub cause_if : Bool → Cause → Option Cause
 cause_if true cause = Some cause
 cause_if false cause = None
 
--- the cause that names a fault
+-- the cause for a fault, if there is one
 abbrev pub cause_of : {T : Type 0} → Option T → (T → Cause) → Option Cause
 cause_of None cause = None
 cause_of (Some fault) cause = Some (cause fault)
 
--- the first of two
+-- the first cause of the two, if any
 infixr 6 ◌first_or◌
 abbrev pub ◌first_or◌ : Option Cause → Option Cause → Option Cause
 (None first_or later) = later
 (Some cause first_or later) = Some cause
 
--- the answer of a function that finds this cause, or none
+-- the result of a function that finds this cause, or none
 abbrev pub unless : Option Cause → Result (Unit {0}) Cause
 unless None = Ok tt
 unless (Some cause) = Err cause
@@ -82,7 +82,7 @@ fits_swap (Perhaps hi) (Perhaps high) t declared = nat_le hi high && has_configu
 
 -- ---- the cause at an instruction
 
--- of a commit, where no swap is pending and its delay or its count is right
+-- for a commit, where no swap is pending and its delay or count is valid
 abbrev pub change_cause : Plan → Known → Option Cause
 change_cause plan t =
     cause_of (first_fault t.next) OfConfig
@@ -110,6 +110,6 @@ flow_cause plan (Loop counter target) t = None
 flow_cause plan (Set counter times) t = None
 flow_cause plan End t = None
 
--- where a plan begins with a configuration
+-- for a plan that starts with this configuration
 abbrev pub start_cause : Plan → Configuration → Option Cause
 start_cause plan c = cause_of (first_fault c) OfConfig first_or cause_if (nat_lt plan.period (pages_alone plan c)) Round

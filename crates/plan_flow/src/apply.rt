@@ -1,11 +1,11 @@
-//! The transfer function: what is known after an instruction.
+//! The transfer function of the flow analysis: what is known after an instruction.
 
 ghost use Rattle.std.specs.Prelude.{◌≡◌, ◌↔◌, ℕ, IsOk, OnOk, IfErr};
 ghost use Rattle.plan_code.specs.declared.flags.Counters.{Counters};
 ghost use Rattle.plan_code.specs.declared.instr.Instr.TheVariants.{Edit as Edits, Wait, Join};
 ghost use Rattle.plan_flow.specs.Rules.{IsFine};
 ghost use Rattle.plan_flow.specs.Causes.{FlowRefused};
-ghost use Rattle.plan_flow.specs.Flows.{held, known_at, known_with, moved, HasItsCounter};
+ghost use Rattle.plan_flow.specs.Flows.{held, known_at, known_with, after_instr, HasItsCounter};
 ghost use Rattle.plan_flow.specs.Tests.{unless, flow_cause};
 
 use crate::cause::Cause;
@@ -21,7 +21,7 @@ fn edit<S: Store>(plan: &Plan, edit: Edit, flow: &mut Flow<S>) -> Result<(), Cau
         (held S.content flow.old))) }
     ensures fine { IsOk result ↔ IsFine plan.now (Edits edit) (known_at
         (held S.content flow.old)) }
-    ensures left { OnOk result (held S.content flow.new ≡ moved plan.now (Edits edit)
+    ensures left { OnOk result (held S.content flow.new ≡ after_instr plan.now (Edits edit)
         (held S.content flow.old)) }
     ensures kept { IfErr result (λ cause. held S.content flow.new ≡ held S.content flow.old) }
 {
@@ -40,7 +40,7 @@ fn wait_frames<S: Store>(plan: &Plan, frames: Frames, flow: &mut Flow<S>) -> Res
         (held S.content flow.old))) }
     ensures fine { IsOk result ↔ IsFine plan.now (Wait frames) (known_at
         (held S.content flow.old)) }
-    ensures left { OnOk result (held S.content flow.new ≡ moved plan.now (Wait frames)
+    ensures left { OnOk result (held S.content flow.new ≡ after_instr plan.now (Wait frames)
         (held S.content flow.old)) }
     ensures kept { IfErr result (λ cause. held S.content flow.new ≡ held S.content flow.old) }
 {
@@ -57,7 +57,7 @@ fn join<S: Store>(plan: &Plan, flow: &mut Flow<S>) -> Result<(), Cause>
         (held S.content flow.old))) }
     ensures fine { IsOk result ↔ IsFine plan.now Join (known_at
         (held S.content flow.old)) }
-    ensures left { OnOk result (held S.content flow.new ≡ moved plan.now Join
+    ensures left { OnOk result (held S.content flow.new ≡ after_instr plan.now Join
         (held S.content flow.old)) }
     ensures kept { IfErr result (λ cause. held S.content flow.new ≡ held S.content flow.old) }
 {
@@ -68,14 +68,14 @@ fn join<S: Store>(plan: &Plan, flow: &mut Flow<S>) -> Result<(), Cause>
     Ok(())
 }
 
-/// Updates what is known by an instruction, or returns the first cause why it is refused.
+/// Updates what is known after an instruction, or returns the first cause for refusing it.
 fn run<S: Store>(plan: &Plan, instr: Instr, flow: &mut Flow<S>) -> Result<(), Cause>
     ensures cause { result ≡ unless (flow_cause plan.now instr (known_at
         (held S.content flow.old))) }
     ensures fine { (counters : Counters) (allowance : ℕ) → HasItsCounter instr counters
         → (IsOk result ↔ IsFine plan.now instr (known_with (held S.content flow.old) counters
         allowance)) }
-    ensures left { OnOk result (held S.content flow.new ≡ moved plan.now instr
+    ensures left { OnOk result (held S.content flow.new ≡ after_instr plan.now instr
         (held S.content flow.old)) }
     ensures kept { IfErr result (λ cause. held S.content flow.new ≡ held S.content flow.old) }
 {
@@ -98,21 +98,21 @@ fn run<S: Store>(plan: &Plan, instr: Instr, flow: &mut Flow<S>) -> Result<(), Ca
 }
 
 impl<S: Store> Flow<S> {
-    /// Updates the flow to what holds after the instruction, where it continues to the one after it. Only the
-    /// configurations and the swap are checked: a loop's counter is assumed to be set, and labels are not looked at.
+    /// Updates the flow to what holds at the next instruction, if control continues there. Only the configurations and
+    /// the swap are checked: a loop's counter is assumed to be set, and labels are not checked.
     ///
     /// # Errors
     ///
-    /// The first cause in this order, and then the flow is unchanged. An edit: `Pending`, where a swap is pending or
-    /// may be; `Edit`. A commit: `Pending`; `Notice`, where the delay is shorter than the notice, or `Count`, where no
+    /// The first cause in this order; the flow is then unchanged. An edit: `Pending`, where a swap is or may be
+    /// pending; `Edit`. A commit: `Pending`; `Notice`, where the delay is shorter than the notice, or `Count`, where no
     /// swap falls on the CIF count; `Config`, where the next configuration is not sound; `NoChange`, where it is the
-    /// current one; `Round`, where its pages have no room. A wait: `SwapUncertain`, where it may end before the swap or
-    /// after it. A join: `JoinIdle`, where perhaps no swap is pending.
+    /// current one; `Round`, where there is no room for its pages. A wait: `SwapUncertain`, where it may end before or
+    /// after the swap. A join: `JoinIdle`, where a swap may not be pending.
     pub fn apply(&mut self, plan: &Plan, instr: Instr) -> Result<(), Cause>
         ensures fine { (counters : Counters) (allowance : ℕ) → HasItsCounter instr counters
             → (IsOk result ↔ IsFine plan.now instr (known_with (held S.content self.old)
             counters allowance)) }
-        ensures left { OnOk result (held S.content self.new ≡ moved plan.now instr
+        ensures left { OnOk result (held S.content self.new ≡ after_instr plan.now instr
             (held S.content self.old)) }
         ensures refused { IfErr result (λ cause. FlowRefused plan.now instr (known_at
             (held S.content self.old)) cause) }

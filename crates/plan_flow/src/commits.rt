@@ -5,7 +5,7 @@ ghost use Rattle.mux_config.specs.Sound.{IsSound};
 ghost use Rattle.plan_code.specs.Machine.{IsSwapCount};
 ghost use Rattle.plan_code.specs.declared.instr.Instr.TheVariants.{CommitIn, CommitAt};
 ghost use Rattle.plan_flow.specs.Rules.{HasRoom, IsFine};
-ghost use Rattle.plan_flow.specs.Flows.{held, known_at, moved};
+ghost use Rattle.plan_flow.specs.Flows.{held, known_at, after_instr};
 ghost use Rattle.plan_flow.specs.Tests.{unless, is_swap_count, has_room_for_notice, change_cause, flow_cause};
 
 use crate::cause::Cause;
@@ -15,7 +15,8 @@ use mux_config::{Store, soundness};
 use plan_code::limits::COUNTS;
 use plan_code::{Delay, Plan, Swap};
 
-/// Whether a notice has room for the pages of both configurations, and the period for those of each.
+/// Whether the pages of both configurations fit in the period and, three times, in the notice, and those of the next
+/// one in the period.
 fn has_room<S: Store>(plan: &Plan, flow: &Flow<S>) -> bool
     ensures value { result ≡ has_room_for_notice plan.now (known_at (held S.content flow.now)) }
     ensures room { IsTrue result ↔ HasRoom plan.now (known_at (held S.content flow.now)) }
@@ -26,7 +27,7 @@ fn has_room<S: Store>(plan: &Plan, flow: &Flow<S>) -> bool
         && pages_alone(plan, &flow.next) <= usize::from(plan.period)
 }
 
-/// Whether the next configuration can be committed, where no swap is pending. Refusals: `Config`, where it is not
+/// Whether the next configuration can be committed when no swap is pending. Refusals: `Config`, where it is not
 /// sound, `NoChange` and `Round`.
 fn test_change<S: Store>(plan: &Plan, flow: &Flow<S>) -> Result<(), Cause>
     ensures cause { result ≡ unless (change_cause plan.now (known_at (held S.content flow.now))) }
@@ -64,7 +65,7 @@ pub(crate) fn commit_in<S: Store>(
         (held S.content flow.old))) }
     ensures fine { IsOk result ↔ IsFine plan.now (CommitIn delay) (known_at
         (held S.content flow.old)) }
-    ensures left { OnOk result (held S.content flow.new ≡ moved plan.now (CommitIn delay)
+    ensures left { OnOk result (held S.content flow.new ≡ after_instr plan.now (CommitIn delay)
         (held S.content flow.old)) }
     ensures kept { IfErr result (λ cause. flow.new ≡ flow.old) }
 {
@@ -86,7 +87,7 @@ pub(crate) fn commit_at<S: Store>(plan: &Plan, count: u16, flow: &mut Flow<S>) -
         (held S.content flow.old))) }
     ensures fine { IsOk result ↔ IsFine plan.now (CommitAt count) (known_at
         (held S.content flow.old)) }
-    ensures left { OnOk result (held S.content flow.new ≡ moved plan.now (CommitAt count)
+    ensures left { OnOk result (held S.content flow.new ≡ after_instr plan.now (CommitAt count)
         (held S.content flow.old)) }
     ensures kept { IfErr result (λ cause. flow.new ≡ flow.old) }
 {

@@ -1,4 +1,4 @@
-//! What is known of the configurations and of the swap.
+//! What is known of the configurations and the swap.
 
 ghost use Rattle.std.specs.Prelude.{◌≡◌, ◌↔◌, IsTrue};
 ghost use Rattle.plan_code.specs.declared.label.Swap.TheVariants.{Idle};
@@ -8,8 +8,8 @@ use mux_config::Store;
 use mux_config::reconfiguration::{has_same_services, has_same_subs};
 use plan_code::Swap;
 
-/// What is known of the configurations and of the swap from the current one to the next, with the configurations in two
-/// stores.
+/// What is known of the configurations and of the swap from the current one to the next, with each configuration in a
+/// store.
 #[derive(Drop)]
 pub struct Flow<S: Store> {
     /// The current configuration.
@@ -32,7 +32,7 @@ pub fn is_idle(pending: Swap) -> bool
     }
 }
 
-/// Whether two stores, of one type or two, hold one configuration.
+/// Whether two stores, of the same type or not, hold the same configuration.
 pub fn is_same<S: Store, T: Store>(a: &S, b: &T) -> bool
     ensures value { result ≡ is_same (S.content a.now) (T.content b.now) }
     ensures same { IsTrue result ↔ (S.content a.now ≡ T.content b.now) }

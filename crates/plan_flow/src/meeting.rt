@@ -8,7 +8,7 @@ use crate::flow::{Flow, is_idle, is_same};
 use mux_config::Store;
 use plan_code::Swap;
 
-/// The most frames until a swap that is pending or may be; 0 where none is.
+/// The maximum number of frames until a swap that is or may be pending; 0 where none is.
 fn latest(pending: Swap) -> u16
     ensures { result ≡ latest pending }
 {
@@ -19,21 +19,21 @@ fn latest(pending: Swap) -> u16
     }
 }
 
-/// The greater of two.
+/// The maximum of two numbers.
 fn greater(a: u16, b: u16) -> u16
     ensures { result ≡ max a b }
 {
     if a < b { b } else { a }
 }
 
-/// The lesser of two.
+/// The minimum of two numbers.
 fn lesser(a: u16, b: u16) -> u16
     ensures { result ≡ min a b }
 {
     if a < b { a } else { b }
 }
 
-/// What a label declares of the swap where two paths merge.
+/// The swap bounds of a label where two paths merge.
 fn widest(first: Swap, second: Swap) -> Swap
     ensures { result ≡ widest first second }
 {
@@ -56,7 +56,7 @@ fn has<S: Store, T: Store>(flow: &Flow<S>, current: &T, next: &T) -> bool
     is_same(&flow.current, current) && is_same(&flow.next, next)
 }
 
-/// Whether two paths can merge: each fits what is known after the merge.
+/// Whether two paths can merge: each fits the merged flow.
 fn agree<S: Store>(first: &Flow<S>, second: &Flow<S>) -> bool
     ensures { IsTrue result ↔ (FitsFlow (held S.content first.now) (merged
         (held S.content first.now) (held S.content second.now)) × FitsFlow
@@ -74,7 +74,7 @@ fn agree<S: Store>(first: &Flow<S>, second: &Flow<S>) -> bool
 }
 
 impl<S: Store> Flow<S> {
-    /// Whether what is known fits a label that declares these configurations and this swap: it says as much or more.
+    /// Whether the flow implies what a label with these configurations and this swap declares.
     pub fn fits<T: Store>(&self, current: &T, next: &T, pending: Swap) -> bool
         ensures fits { IsTrue result ↔ FitsFlow (held S.content self.now) (record {
           current = T.content current.now;
@@ -104,7 +104,7 @@ impl<S: Store> Flow<S> {
         }
     }
 
-    /// Merges this path with another. False where one of them does not fit the result, and then this one is unchanged.
+    /// Merges this path with another. False where one of them does not fit the merged flow; this one is then unchanged.
     pub fn meet(&mut self, other: &Flow<S>) -> bool
         ensures met { result ≡ true → held S.content self.new ≡ merged (held S.content self.old)
             (held S.content other.now) }

@@ -1,4 +1,4 @@
-//! Whether a plan can begin with a configuration.
+//! Whether a plan can start with a configuration.
 
 ghost use Rattle.std.specs.Prelude.{◌≡◌, ◌≤◌, ◌↔◌, IsOk};
 ghost use Rattle.mux_config.specs.Sound.{IsSound};
@@ -10,7 +10,7 @@ use crate::pages::pages_alone;
 use mux_config::{Store, soundness};
 use plan_code::Plan;
 
-/// Whether a plan can begin with this configuration. Refusals, in this order: `Config`, where it is not sound, and
+/// Whether a plan can start with this configuration. Refusals, in this order: `Config`, where it is not sound, and
 /// `Round`, where its pages take longer than the period.
 pub fn test_opening<S: Store>(plan: &Plan, opening: &S) -> Result<(), Cause>
     ensures cause { result ≡ unless (start_cause plan.now (S.content opening.now)) }

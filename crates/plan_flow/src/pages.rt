@@ -1,4 +1,4 @@
-//! How many pages configurations take.
+//! Page counts of configurations.
 
 ghost use Rattle.std.specs.Prelude.{◌≡◌, Some, None};
 ghost use Rattle.fib_carousel.specs.Pages.{page_set, rounds};
@@ -8,7 +8,7 @@ use fib_carousel::pages;
 use mux_config::Store;
 use plan_code::Plan;
 
-/// How many pages the current and the next configuration take together, in the frames of a notice.
+/// The number of pages that the current and the next configuration take together, in the frames of a notice.
 pub(crate) fn notice_pages<'a, S: Store>(plan: &Plan, current: &'a S, next: &'a S) -> usize
     ensures { result ≡ rounds plan.now.mode (page_set (S.content current.now) (Some
         (S.content next.now))) }
@@ -16,7 +16,7 @@ pub(crate) fn notice_pages<'a, S: Store>(plan: &Plan, current: &'a S, next: &'a 
     pages(plan.mode, current, Some(next))
 }
 
-/// How many pages a configuration takes by itself.
+/// The number of pages that a configuration takes by itself.
 pub(crate) fn pages_alone<'a, S: Store>(plan: &Plan, store: &'a S) -> usize
     ensures { result ≡ pages_alone plan.now (S.content store.now) }
 {

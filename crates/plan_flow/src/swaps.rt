@@ -1,7 +1,7 @@
-//! A pending swap while the machine waits.
+//! How waiting affects a pending swap.
 
 ghost use Rattle.std.specs.Prelude.{◌≡◌};
-ghost use Rattle.plan_flow.specs.Rules.{known_after_swap, waited, perhaps_swapped, paused, settled};
+ghost use Rattle.plan_flow.specs.Rules.{known_after_swap, after_wait, perhaps_swapped, after_pause, after_settle};
 ghost use Rattle.plan_flow.specs.Flows.{held, known_at, flow_of};
 ghost use Rattle.plan_flow.specs.Tests.{is_certain, is_surely_pending};
 
@@ -9,8 +9,8 @@ use crate::flow::Flow;
 use mux_config::Store;
 use plan_code::Swap;
 
-/// Whether it is certain that a wait of this many frames ends before the swap, or that it ends after it; or the swap
-/// may have been made already, and may have been after the wait too.
+/// Whether a wait of this many frames certainly ends before the swap, or certainly not before it. A swap that may
+/// already have been made may also fall during the wait.
 pub(crate) fn is_certain(frames: u16, pending: Swap) -> bool
     ensures { result ≡ is_certain frames pending }
 {
@@ -32,7 +32,7 @@ pub(crate) fn is_surely_pending(pending: Swap) -> bool
     }
 }
 
-/// The swap has been made.
+/// Updates the flow: the swap has been made.
 pub(crate) fn swap<S: Store>(flow: &mut Flow<S>)
     ensures { held S.content flow.new ≡ flow_of (known_after_swap (known_at
         (held S.content flow.old))) }
@@ -41,9 +41,9 @@ pub(crate) fn swap<S: Store>(flow: &mut Flow<S>)
     flow.pending = Swap::Idle;
 }
 
-/// This many frames have passed.
+/// Updates the flow: this many frames have passed.
 pub(crate) fn wait<S: Store>(frames: u16, flow: &mut Flow<S>)
-    ensures { held S.content flow.new ≡ flow_of (waited frames flow.old.pending (known_at
+    ensures { held S.content flow.new ≡ flow_of (after_wait frames flow.old.pending (known_at
         (held S.content flow.old))) }
 {
     match flow.pending {
@@ -65,7 +65,7 @@ pub(crate) fn wait<S: Store>(frames: u16, flow: &mut Flow<S>)
     }
 }
 
-/// One frame or more has passed, where the swap falls after this many at most.
+/// Updates the flow: one frame or more has passed, and the swap falls after at most this many.
 fn perhaps_swap<S: Store>(high: u16, flow: &mut Flow<S>)
     ensures { held S.content flow.new ≡ flow_of (perhaps_swapped high (known_at
         (held S.content flow.old))) }
@@ -77,9 +77,9 @@ fn perhaps_swap<S: Store>(high: u16, flow: &mut Flow<S>)
     }
 }
 
-/// One frame or more has passed.
+/// Updates the flow: one frame or more has passed.
 pub(crate) fn pause<S: Store>(flow: &mut Flow<S>)
-    ensures { held S.content flow.new ≡ flow_of (paused flow.old.pending (known_at
+    ensures { held S.content flow.new ≡ flow_of (after_pause flow.old.pending (known_at
         (held S.content flow.old))) }
 {
     match flow.pending {
@@ -89,9 +89,9 @@ pub(crate) fn pause<S: Store>(flow: &mut Flow<S>)
     }
 }
 
-/// The swap has been made, where one was pending.
+/// Updates the flow: if a swap was pending, it has been made.
 pub(crate) fn settle<S: Store>(flow: &mut Flow<S>)
-    ensures { held S.content flow.new ≡ flow_of (settled flow.old.pending (known_at
+    ensures { held S.content flow.new ≡ flow_of (after_settle flow.old.pending (known_at
         (held S.content flow.old))) }
 {
     match flow.pending {

@@ -1,4 +1,4 @@
--- What the FIBs of a frame say.
+-- The entries that the FIBs of a frame carry.
 use Rattle.std.specs.Prelude.{Contains, flat_map, map, drop, ◌*◌}
 use Rattle.std.proofs.Common.{◌≡◌, ℕ, suc, ◌+◌, ◌==◌, Bool, true, false, cond, List, [], ◌∷◌, ◌++◌, length, Option, Some, None, inl, inr, ◌⊎◌, refl, ap, sym, ◌∙◌, subst, arith}
 use Rattle.std.proofs.lemmas.List.{drop-drop}
@@ -28,7 +28,7 @@ use Rattle.plan_listeners.proofs.Pictures.{entries_of, contains_in, fact_in, in_
 use Rattle.plan_listeners.proofs.Hearing.{first_heard, figs_heard}
 use Rattle.plan_listeners.proofs.Tuned.{IsSentOf, AreSentOf, SaidIn, SaidInSome, Says, AllSay}
 
--- the laws of pages, of reading and of writing that are used
+-- the laws of pages and FIBs that are used
 pub record Laws : Type 0 where
   pub pages : PageLaws
   pub fibs : PageIsFibs
@@ -67,7 +67,7 @@ fibs_sent : (plan : Plan) (u : State) (ns : List ℕ) → AreSentOf (is_noticed 
 fibs_sent plan u [] = tt
 fibs_sent plan u (n ∷ ns) = (fib_sent plan u n, fibs_sent plan u ns)
 
--- ---- what the FIBs say
+-- ---- what the FIBs carry
 
 later_say : (mode : Mode) (es : List Marked) (ns : List ℕ) (place : ℕ) (frame : List ℕ)
     → AreFibs (map (λ n. figs_of (fib_entries mode n es)) ns) (drop (32 * place) frame) → AllSay (fibs_from (length ns) place frame) (map (λ n. fib_entries mode n es) ns)
@@ -115,7 +115,7 @@ frame_says laws plan u a =
     let mode : Mode = plan.mode in
     let es : List Marked = sent_entries plan u in
     let o : Option EnsembleInformation = ensemble_sent plan u in
-    let k : ℕ = u.turn in
+    let k : ℕ = u.page_index in
     let frame : List ℕ = shown_bytes plan u in
     let ns : List ℕ = later_fibs mode k in
     let are = (laws.pages.valid mode o k es (pageable laws.pages plan u a)).0 in

@@ -1,4 +1,4 @@
--- A listener that hears one frame of a typed code.
+-- A listener hearing one frame of a typed code.
 use Rattle.std.specs.Prelude.{take}
 use Rattle.std.proofs.Common.{◌≡◌, ◌≢◌, ℕ, zero, suc, ◌+◌, ◌%◌, ◌==◌, Bool, true, false, cond, List, ◌∷◌, Option, Some, None, inl, inr, ◌⊎◌, refl, ap, sym, ◌∙◌, subst, arith}
 use Rattle.std.proofs.lemmas.Bool.{eq-eqb, eqb-true}
@@ -44,7 +44,7 @@ pub zero_or_not : (n : ℕ) → (n ≡ 0) ⊎ (n ≢ 0)
 zero_or_not zero = inl refl
 zero_or_not (suc n) = inr (λ e. omega (arith, e))
 
--- ---- the frame after FIG 0/0
+-- ---- the rest of the frame after FIG 0/0
 
 -- an entry under this C/N flag that is heard in the frame
 abbrev pub RowSaid : List ℕ → Bool → Raw → Type 0
@@ -92,7 +92,7 @@ frame_heard laws plan u a C N l h =
       };
     }
 
--- the first FIBs of the frame
+-- hearing the first FIBs of the frame
 pub record HearsSome (plan : Plan) (u : State) (C : Raw → Type 0) (k : ℕ) (l : Listening) : Type 0 where
   pub after : Listening
   pub hears : HearsAll (take (suc k) (fibs_in plan u)) l after
@@ -115,7 +115,7 @@ some_heard laws plan u a C N k l h =
       current = weaker (whole_of u.current) (Or (Or C (SaidIn false says.entries)) (SaidInSome false (take k says.more))) C rest.after.current (λ x c. inl (inl c)) rest.knows.current;
     }
 
--- before the first FIG 0/0 the frame is passed over
+-- an untuned listener ignores a frame without FIG 0/0
 pub frame_passed : Laws → (plan : Plan) (u : State) → Airs plan u → u.count % count_step plan.mode ≢ 0 → HearsAll (fibs_in plan u) untuned untuned
 frame_passed laws plan u a apart =
     let says = frame_says laws plan u a in
@@ -126,12 +126,12 @@ frame_passed laws plan u a apart =
     let all : HearsAll (says.first_fib_is ∷ says.later_are) untuned untuned = (untuned, first, passes_fibs on u.current u.next says.later_are says.more says.later says.more_sent) in
     as_fibs (fibs_in plan u) (says.first_fib_is ∷ says.later_are) untuned untuned says.fibs all
 
--- ---- FIG 0/0 of the frame, by the state before it
+-- ---- FIG 0/0 of the frame, given the state before it
 
 as_headed : (plan : Plan) (u : State) (C N : Raw → Type 0) (l : Listening) (o : Option EnsembleInformation) → ensemble_sent plan u ≡ o → InFrame plan u C N (headed o l) → InFrame plan u C N (headed (ensemble_sent plan u) l)
 as_headed plan u C N l o e h = subst (λ (x : Option EnsembleInformation). InFrame plan u C N (headed x l)) (sym e) h
 
-turned : (u : State) (b : Bool) → (cond b (let r : State = record u { turn = 0 } in r) u).current ≡ u.current
+turned : (u : State) (b : Bool) → (cond b (let r : State = record u { page_index = 0 } in r) u).current ≡ u.current
 turned u true = refl
 turned u false = refl
 
@@ -166,7 +166,7 @@ due_left (Some l) e = ap (λ (x : ℕ). Some x) (due_is l e)
 pub due_current : (s : State) → is_due s.left ≡ true → (with_due_swap s).current ≡ s.next
 due_current s e = ap (λ (b : Bool). (cond b (with_swap s) s).current) e
 
--- the swap
+-- the swap is due
 pub enters_swap : (p : Program) (ts : List Known) → IsCode p ts → (s : State) → Holds p ts s → (C N : Raw → Type 0) (l : Listening) → is_due s.left ≡ true → KnowsBy p.plan s.left s.current s.next s.count C N l
     → InFrame p.plan (shown p s) N (λ x. ⊥) (headed (ensemble_sent p.plan (shown p s)) l)
 enters_swap p ts c s h C N l due knows =

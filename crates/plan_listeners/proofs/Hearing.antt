@@ -1,4 +1,4 @@
--- A listener that hears the FIGs of entries: it hears the entries one after another.
+-- A listener hearing the FIGs of some entries hears the entries one after another.
 use Rattle.std.specs.Prelude.{IfSome}
 use Rattle.std.proofs.Common.{◌≡◌, ℕ, ◌/◌, ◌%◌, ◌≤◌, ◌==◌, Bool, true, false, cond, List, [], ◌∷◌, ◌++◌, map, Option, Some, None, refl, ap, ◌∙◌, subst, arith}
 use Rattle.mux_entries.specs.Entries.{EnsembleInformation}
@@ -10,7 +10,7 @@ use Rattle.fib_codec.specs.Spelling.{Written, head_of, head_byte, bit_of, entry_
 use Rattle.fib_codec.specs.Grammar.{fig_of, is_next, is_long}
 use Rattle.fib_codec.specs.declared.head.Head.{Head}
 use Rattle.fib_carousel.specs.Packing.{same_head}
-use Rattle.fib_carousel.specs.Bytes.{joined, figs_of, ensemble_figs}
+use Rattle.fib_carousel.specs.Bytes.{with_entry_first, figs_of, ensemble_figs}
 use Rattle.fib_carousel.proofs.Sharing.{same_head_is}
 use Rattle.fib_reader.specs.Raw.{Raw, raw_of, raw_entry}
 use Rattle.fib_reader.specs.Listening.{Listening, where_heard, hear_entry, hear_entries, hear_fig, hear_figs, at_ensemble}
@@ -77,7 +77,7 @@ raw_is m =
     ∙ ap (λ (b : Bool). raw_of (ext_of m.entry) b (entry_bytes m.entry)) (second_long m)
     ∙ raw_said m.entry
 
--- an entry under its own head
+-- an entry in a FIG with its own head
 entry_heard : (m : Marked) (l : Listening)
     → hear_entry (is_next (head_byte (head_of m))) (raw_of (head_byte (head_of m) % 32) (is_long (head_byte (head_of m))) (entry_bytes m.entry)) l
     ≡ hear_entry m.next (raw_entry m.entry) l
@@ -114,7 +114,7 @@ joined_by m f fs l true e =
 joined_by m f fs l false e =
     ap (λ (o : Option Listening). where_heard o (hear_figs (map fig_of (f ∷ fs)))) (fig_one m l)
 
-joined_heard : (m : Marked) (fs : List Written) (l : Listening) → hear_figs (map fig_of (joined m fs)) l ≡ where_heard (hear_entry m.next (raw_entry m.entry) l) (hear_figs (map fig_of fs))
+joined_heard : (m : Marked) (fs : List Written) (l : Listening) → hear_figs (map fig_of (with_entry_first m fs)) l ≡ where_heard (hear_entry m.next (raw_entry m.entry) l) (hear_figs (map fig_of fs))
 joined_heard m [] l =
     ap (λ (o : Option Listening). where_heard o (hear_figs [])) (fig_one m l)
 joined_heard m (f ∷ fs) l = joined_by m f fs l (same_head (head_of m) f.head) refl
@@ -124,7 +124,7 @@ figs_heard [] l = refl
 figs_heard (m ∷ ms) l =
     joined_heard m (figs_of ms) l ∙ then_last (hear_entry m.next (raw_entry m.entry) l) (hear_figs (map fig_of (figs_of ms))) (hear_marked ms) (figs_heard ms)
 
--- ---- FIG 0/0 before them
+-- ---- FIG 0/0 before the entries
 
 abbrev pub headed : Option EnsembleInformation → Listening → Listening
 headed None l = l

@@ -21,7 +21,7 @@ use Rattle.plan_runs.proofs.Announcing.{noticed_information}
 use Rattle.plan_listeners.proofs.Pictures.{whole_of, IsPartial, weaker, empty_is_partial}
 use Rattle.plan_listeners.proofs.Tuned.{NextBy, Tuned, tuned_weaker}
 
--- with k frames left until the swap: the low part of its count is awaited, or no FIG 0/0 came since the notice began
+-- with k frames left until the swap: the low part of its count is awaited, or the notice has sent no FIG 0/0 so far
 abbrev pub Waits : Plan → ℕ → ℕ → Option ℕ → Type 0
 Waits plan k count None = plan.notice - k ≤ (count + (count_step plan.mode - 1)) % count_step plan.mode
 Waits plan k count (Some low) = low ≡ (count + k) % 5000 % 250
@@ -55,14 +55,14 @@ pub record Ready (plan : Plan) (left : Option ℕ) (c n : Configuration) (count 
   pub knows : Tuned (is_noticed plan.notice left) c n C N awaited l
   pub waits : WaitsBy plan left count awaited
 
--- FIG 0/0 is heard, where it is sent
+-- FIG 0/0, if it is sent, has been heard
 pub record InFrame (plan : Plan) (u : State) (C N : Raw → Type 0) (l : Listening) : Type 0 where
   pub awaited : Option ℕ
   pub knows : Tuned (is_noticed plan.notice u.left) u.current u.next C N awaited l
   pub waits : WaitsBy plan u.left u.count awaited
   pub headless : is_noticed plan.notice u.left ≡ true → awaited ≡ None → u.count % count_step plan.mode ≢ 0
 
--- ---- from before the frame to the state that its bytes show
+-- ---- from before the frame to the state that its bytes are made from
 
 retuned : (c n m : Configuration) (C N M : Raw → Type 0) (awaited : Option ℕ) (l : Listening) → Tuned false c n C N awaited l → Tuned false c m C M awaited l
 retuned c n m C N M awaited l h = record { is_tuned = h.is_tuned; current = h.current; next = h.next; awaits = h.awaits }
@@ -73,7 +73,7 @@ begun c n m C N M awaited l none h =
     let empty : IsPartial (whole_of m) M blank = weaker (whole_of m) (λ x. ⊥) M blank none (empty_is_partial (whole_of m)) in
     record { is_tuned = h.is_tuned; current = h.current; next = subst (λ (p : Pictured). IsPartial (whole_of m) M p) (sym h.next) empty; awaits = h.awaits }
 
--- what is kept of the next picture where a notice continues
+-- what is known of the next picture if a notice continues
 abbrev pub Still : Plan → Option ℕ → (Raw → Type 0) → Raw → Type 0
 Still plan left N x = (is_first_noticed plan.notice left ≡ false) × N x
 
@@ -186,7 +186,7 @@ none_awaited plan (Some k) count awaited ahead e w =
       | inr past ↦ w.outside past
     ]
 
--- a tuned listener with these pictures, after the flags of FIG 0/0
+-- a tuned listener with these pictures, after the change flags of FIG 0/0
 settled_by : (plan : Plan) (u : State) → Airs plan u → (C N : Raw → Type 0) (pc pn : Pictured) (a : Option ℕ) → IsPartial (whole_of u.current) C pc → NextBy (is_noticed plan.notice u.left) u.next N pn
     → (is_noticed plan.notice u.left ≡ false → a ≡ None) → (b : Bool) → is_noticed plan.notice u.left ≡ b
     → InFrame plan u C N (awaiting (ensemble_of plan u) (record { tuned = true; current = pc; next = pn; awaited = a }))
@@ -223,7 +223,7 @@ settled : (plan : Plan) (u : State) → Airs plan u → (C N : Raw → Type 0) (
     → InFrame plan u C N (awaiting (ensemble_of plan u) (record { tuned = true; current = pc; next = pn; awaited = a }))
 settled plan u airs C N pc pn a is_part next none = settled_by plan u airs C N pc pn a is_part next none (is_noticed plan.notice u.left) refl
 
--- ---- no swap is taken for made in a frame that makes none
+-- ---- no swap is assumed in a frame that makes none
 
 swap_not_now : (count low k : ℕ) → count < 5000 → 1 ≤ k → k < 250 → low ≡ (count + k) % 5000 % 250 → count % 250 ≢ low
 swap_not_now count low k below some short is e = omega (arith, below, some, short, is, e)
@@ -295,7 +295,7 @@ headed_swap plan u c n count C N l airs long below same current h =
     subst (λ (x : Listening). InFrame plan u N (λ x. ⊥) x) (sym (heard_swap e l made))
     (settled plan u airs N (λ x. ⊥) l.next blank None is_part (next_blank (is_noticed plan.notice u.left) u.next) (λ off. refl))
 
--- the first FIG 0/0 of all
+-- the first FIG 0/0 that is heard
 pub headed_untuned : (plan : Plan) (u : State) → Airs plan u → InFrame plan u (λ x. ⊥) (λ x. ⊥) (at_ensemble (ensemble_of plan u) untuned)
 headed_untuned plan u airs =
     subst (λ (x : Listening). InFrame plan u (λ x. ⊥) (λ x. ⊥) x) (sym (heard_plain (ensemble_of plan u) untuned refl))

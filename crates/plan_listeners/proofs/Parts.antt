@@ -1,4 +1,4 @@
--- Part of a set of entries, by the identifiers that are known, and the part after one more entry.
+-- A part of a set of entries, given by the known identifiers, and the part after one more entry.
 use Rattle.std.specs.Prelude.{◌||◌, slice_get}
 use Rattle.std.proofs.Common.{◌≡◌, ◌≢◌, ℕ, suc, ◌<◌, ◌≤◌, ◌==◌, Bool, true, false, cond, List, [], ◌∷◌, length, Some, inl, inr, ◌⊎◌, refl, ap, sym, ◌∙◌, subst, lt-ltb, le-ltb, arith}
 use Rattle.std.proofs.lemmas.Bool.{eq-eqb, ne_eqb}
@@ -58,7 +58,7 @@ ascends_partly known [] up = tt
 ascends_partly known (x ∷ xs) up =
     ascends_cond x (partly known xs) (known (identifier_of x)) (each_partly (λ y. identifier_of x < identifier_of y) known xs up.0) (ascends_partly known xs up.1)
 
--- ---- an entry that is not known yet
+-- ---- an entry that is not yet known
 
 with_front : (raw : Raw) (xs : List Raw) → AllByRecursion (λ y. identifier_of raw < identifier_of y) xs → with_entry identifier_of raw xs ≡ raw ∷ xs
 with_front raw [] h = refl
@@ -140,7 +140,7 @@ fewer known (x ∷ xs) raw (inl same) new =
     subst (λ (ys : List Raw). length ys < suc (length xs)) (sym e) (omega (arith, less))
 fewer known (x ∷ xs) raw (inr more) new = fewer_by x (partly known xs) (length xs) (known (identifier_of x)) (fewer known xs raw more new)
 
--- ---- an entry that is known
+-- ---- an entry that is already known
 
 in_cond : (x raw : Raw) (ps : List Raw) (b : Bool) → In raw ps → In raw (cond b (x ∷ ps) ps)
 in_cond x raw ps true h = inr h
@@ -162,13 +162,13 @@ place_of (x ∷ xs) raw (inr more) = let there = place_of xs raw more in (suc th
 
 -- ---- parts
 
--- a part of the full set, which has each entry of the property
+-- a part of the full set that has every entry with the property
 pub record IsPart (full : List Raw) (C : Raw → Type 0) (part : List Raw) : Type 0 where
   pub known : ℕ → Bool
   pub is : part ≡ partly known full
   pub has : (raw : Raw) → In raw full → C raw → known (identifier_of raw) ≡ true
 
--- with an entry more
+-- the property, and one more entry
 abbrev pub Also : (Raw → Type 0) → Raw → Raw → Type 0
 Also C raw x = C x ⊎ (raw ≡ x)
 

@@ -1,4 +1,4 @@
--- Pictures that have part of a configuration's entries.
+-- Pictures with a part of a configuration's entries.
 use Rattle.std.specs.Prelude.{Contains}
 use Rattle.std.proofs.Common.{◌≡◌, ℕ, zero, suc, ◌<◌, ◌≤◌, ◌==◌, Bool, cond, List, [], ◌∷◌, ◌++◌, length, map, Option, Some, None, inl, inr, ◌⊎◌, refl, ap, sym, ◌∙◌, subst, arith}
 use Rattle.std.proofs.lemmas.List.{length-map}
@@ -37,7 +37,7 @@ pub record IsSet (full : Pictured) : Type 0 where
 abbrev pub IsOf : Raw → Pictured → Type 0
 IsOf raw full = ((raw.ext ≡ 1) × In raw full.subs) ⊎ (((raw.ext ≡ 2) × In raw full.services) ⊎ ((raw.ext ≡ 3) × In raw full.packets))
 
--- a part of the picture, which has each entry of the property
+-- a part of the picture that has every entry with the property
 pub record IsPartial (full : Pictured) (C : Raw → Type 0) (p : Pictured) : Type 0 where
   pub subs : IsPart full.subs C p.subs
   pub services : IsPart full.services C p.services
@@ -60,7 +60,7 @@ with_packets p xs = record { subs = p.subs; services = p.services; packets = xs 
 abbrev by_ext : ℕ → Option Pictured → Option Pictured → Option Pictured → Option Pictured
 by_ext n a b c = cond (n == 1) a (cond (n == 2) b c)
 
--- an entry of another extension is none of this list
+-- an entry of another extension is not in this list
 others : (m n : ℕ) (C : Raw → Type 0) (raw : Raw) (full : List Raw) → raw.ext ≡ m → (m ≡ n → ⊥) → AllByRecursion (λ r. r.ext ≡ n) full
     → (x : Raw) → In x full → Also C raw x → C x
 others m n C raw full is apart all x inside (inl old) = old
@@ -178,7 +178,7 @@ entry_is_of c e h =
       ]
     ]
 
--- an entry as a fact
+-- a fact is an entry with the C/N flag
 pub fact_in : (flag : Bool) (es : List Entry) (m : Marked) → In m (map (marked flag) es) → (flag ≡ m.next) × In m.entry es
 fact_in flag [] m h = absurd h
 fact_in flag (e ∷ es) m (inl same) = (ap (λ (x : Marked). x.next) same, inl (ap (λ (x : Marked). x.entry) same))
@@ -189,7 +189,7 @@ in_fact flag [] e h = absurd h
 in_fact flag (x ∷ xs) e (inl same) = inl (ap (marked flag) same)
 in_fact flag (x ∷ xs) e (inr more) = inr (in_fact flag xs e more)
 
--- ---- the picture of a configuration is a set
+-- ---- the picture of a configuration has each entry once
 
 each_said : {T : Type 0} (f : T → Raw) (n : ℕ) (xs : List T) → ((x : T) → (f x).ext ≡ n) → AllByRecursion (λ (r : Raw). r.ext ≡ n) (map f xs)
 each_said f n [] all = tt
@@ -224,7 +224,7 @@ whole_is_set c h =
       packets_few = omega (arith, packets, h.packets_few);
     }
 
--- ---- a picture that has all of them
+-- ---- a picture with all entries
 
 abbrev pub HasAll : Configuration → (Raw → Type 0) → Type 0
 HasAll c C = (e : Entry) → In e (entries_of c) → C (raw_entry e)

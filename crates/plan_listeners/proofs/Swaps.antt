@@ -172,7 +172,7 @@ due_after p s [] is = absurd is
 due_after p s (Contact d closed ∷ es) is = due_after p (happens p s (Contact d closed)) es is
 due_after p s (Frame ∷ es) is = is.2
 
--- the whole next configuration was heard of it
+-- the notice carried the whole next configuration
 notice_whole : Laws → (p : Program) (ts : List Known) → IsCode p ts → (s : State) → Holds p ts s → is_due s.left ≡ true → HasAll s.next (SomeSaid (heard_of p.plan s) true)
 notice_whole laws p ts code s h due e inside =
     let runs = swaps_run laws.pages p ts code s (Frame ∷ []) h in
@@ -193,7 +193,7 @@ take_none : (k : ℕ) (fibs : List (List ℕ)) → fibs ≡ [] → take k fibs �
 take_none zero fibs e = refl
 take_none (suc k) fibs e = ap (take (suc k)) e
 
--- some FIBs, of the frame or of more
+-- hearing some FIBs of this frame, or also later ones
 frame_take : Laws → (p : Program) (ts : List Known) → IsCode p ts → (s : State) (es : List Event) → Holds p ts s → (c : Configuration) → (shown p s).current ≡ c → (C N : Raw → Type 0) (j : ℕ) (l : Listening)
     → InFrame p.plan (shown p s) C N (headed (ensemble_sent p.plan (shown p s)) l)
     → ((d : ℕ) (m : Listening) → KnowsAt p.plan (after_frame p s) (Or C (RowSaid (frame_bytes p s) false)) (Or N (RowSaid (frame_bytes p s) true)) m
@@ -265,7 +265,7 @@ after_swap laws p ts code s (Frame ∷ es) h is C N j l knows =
     frame_take laws p ts code s es h s.next current N Nothing j l (enters_swap p ts code s h C N l is.0 knows)
     (λ d m here. after_on laws p ts code (after_frame p s) es (frame_holds p ts code s h) is.1 s.next current (Or N (RowSaid (frame_bytes p s) false)) (Or Nothing (RowSaid (frame_bytes p s) true)) d m here)
 
--- ---- the sentence
+-- ---- the law
 
 record IsFollowed (p : Program) (s : State) (after : List Event) (fibs : ℕ) (l : Listening) : Type 0 where
   heard : Listening

@@ -1,4 +1,4 @@
--- A listener that is tuned, before and after entries of the current and of the next configuration.
+-- A tuned listener, before and after entries of the current and the next configuration.
 use Rattle.std.proofs.Common.{◌≡◌, ℕ, ◌==◌, Bool, true, false, cond, List, [], ◌∷◌, take, zero, suc, Option, Some, None, inl, inr, ◌⊎◌, refl, ap, sym, ◌∙◌, subst}
 use Rattle.mux_config.specs.Configuration.{Configuration}
 use Rattle.std.specs.List.{AllByRecursion}
@@ -12,19 +12,19 @@ use Rattle.plan_listeners.proofs.Parts.{In, Also}
 use Rattle.plan_listeners.proofs.Pictures.{whole_of, IsSet, IsOf, IsPartial, grows, weaker, entries_of, entry_is_of}
 use Rattle.plan_listeners.proofs.Hearing.{hear_marked, headed}
 
--- in a notice the next picture is part of the next configuration, and outside there is none
+-- in a notice the next picture is part of the next configuration; otherwise it is empty
 abbrev pub NextBy : Bool → Configuration → (Raw → Type 0) → Pictured → Type 0
 NextBy true n N p = IsPartial (whole_of n) N p
 NextBy false n N p = p ≡ blank
 
--- it has heard the entries of these properties
+-- a tuned listener that has heard the entries with these properties
 pub record Tuned (noticed : Bool) (c n : Configuration) (C N : Raw → Type 0) (awaited : Option ℕ) (l : Listening) : Type 0 where
   pub is_tuned : l.tuned ≡ true
   pub current : IsPartial (whole_of c) C l.current
   pub next : NextBy noticed n N l.next
   pub awaits : l.awaited ≡ awaited
 
--- an entry of the current configuration, or in a notice of the next one
+-- an entry of the current configuration or, in a notice, of the next one
 abbrev pub IsSentOf : Bool → Configuration → Configuration → Marked → Type 0
 IsSentOf noticed c n m = ((m.next ≡ false) × In m.entry (entries_of c)) ⊎ ((noticed ≡ true) × (m.next ≡ true) × In m.entry (entries_of n))
 
@@ -168,7 +168,7 @@ passes_entries noticed c n (m ∷ ms) sent =
 
 -- ---- FIBs without FIG 0/0
 
--- what the FIB says: FIG 0/0, where it is there, and then these entries
+-- what the FIB carries: FIG 0/0, if present, and then these entries
 pub record Says (fib : List ℕ) (o : Option EnsembleInformation) (ms : List Marked) : Type 0 where
   pub figs : List Fig
   pub is_fib : IsFib fib figs
@@ -227,7 +227,7 @@ some_sent noticed c n zero mss h = tt
 some_sent noticed c n (suc k) [] h = tt
 some_sent noticed c n (suc k) (ms ∷ mss) h = (h.0, some_sent noticed c n k mss h.1)
 
--- ---- what is heard is settled
+-- ---- what is heard is unique
 
 some_same : (a b : Listening) → Some a ≡ Some b → a ≡ b
 some_same a b e = cc e

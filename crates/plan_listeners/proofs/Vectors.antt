@@ -1,4 +1,4 @@
--- Small examples: a listener to one FIB, and statements that hold of one run and fail of another.
+-- Small examples: a listener hearing one FIB, and statements that hold for one run and fail for another.
 use Rattle.std.specs.Prelude.{take, map, ◌++◌}
 use Rattle.std.proofs.Common.{◌≡◌, ℕ, true, false, List, [], ◌∷◌, Option, Some, None, inr, refl, ap, replicate, arith}
 use Rattle.mux_eep.specs.declared.sizes.EepSet.TheVariants.{A}
@@ -94,17 +94,17 @@ state left count = record {
   count = count;
   day = 0;
   eid = 0xe1c5;
-  turn = 0;
+  page_index = 0;
 }
 
--- in mode II every frame has FIG 0/0, the next one too
+-- in mode II every frame has FIG 0/0, and so has the next one
 tuned_at_once : IsTunedBy (code 1) (state None 7) []
 tuned_at_once = inr refl
 
 no_frame_yet : HasCount (code 1) (state None 7) [] → ⊥
 no_frame_yet h = h
 
--- a period of no frames would promise what nobody heard
+-- with a period of no frames the law would fail: nothing was heard
 no_period : KnowsTheCurrent (code 0) (state None 7) → ⊥
 no_period h = not_blank (h [] [] untuned (inr refl) tt refl refl)
 

@@ -1,4 +1,4 @@
--- Listeners to small codes: each definition of listening where it holds, and where it fails.
+-- Listeners to small codes: for each definition of listening, examples that hold and examples that fail.
 use Rattle.std.specs.Prelude.{is_some, get_or}
 use Rattle.std.proofs.Common.{◌≡◌, ℕ, zero, suc, ◌+◌, ◌*◌, ◌/◌, ◌%◌, ◌==◌, cond, ◌<◌, Bool, true, false, List, [], ◌∷◌, ◌++◌, length, map, Option, Some, None, inl, inr, refl, sym, ap, ◌∙◌, replicate, arith}
 use Rattle.std.proofs.lemmas.Bool.{false≢true}
@@ -100,10 +100,10 @@ first count =
       count = count;
       day = 0;
       eid = 0xe1c5;
-      turn = 0;
+      page_index = 0;
     }
 
--- ---- the code is played
+-- ---- playing the code
 
 sub_is : IsPlaced (sub 128)
 sub_is = record {
@@ -178,11 +178,11 @@ played = record {
         count = refl;
         day = refl;
         eid = refl;
-        turn = refl;
+        page_index = refl;
       });
 }
 
--- ---- ensemble information is heard as it is sent: change flags, Al flag and count share a byte
+-- ---- ensemble information is heard as sent: change flags, Al flag and the high part of the count share a byte
 
 abbrev shared : ℕ → Bool → ℕ → ℕ
 shared change al count = change * 64 + bit_of al * 32 + count / 250
@@ -311,7 +311,7 @@ same_heard fib old new other h g =
 not_passed_over : HearsFib (fib_at page 0) untuned untuned → ⊥
 not_passed_over h = false≢true (sym (ap (λ (l : Listening). l.tuned) (same_heard (fib_at page 0) untuned knows untuned hears_the_first h)))
 
--- ---- a notice of what is no configuration: two sub-channels of one number
+-- ---- a notice of an invalid configuration: two sub-channels with the same identifier
 
 abbrev twice : Configuration
 twice = record { subs = sub 96 ∷ sub 96 ∷ []; services = []; packets = [] }
@@ -340,7 +340,7 @@ noticed_is = record { entries = (current_sendable, (sendable true, (sendable tru
 swapped_is : IsPageable (Some (unflagged 8)) (page_set twice None)
 swapped_is = record { entries = (sendable false, (sendable false, tt)); ensemble_within = unflagged_is 8 (omega arith) }
 
--- a picture keeps one of them
+-- a picture keeps only one of them
 abbrev knows_both : Listening
 knows_both = record { tuned = true; current = whole_of (with_sub 128); next = whole_of (with_sub 96); awaited = Some 8 }
 

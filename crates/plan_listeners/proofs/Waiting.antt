@@ -1,4 +1,4 @@
--- A listener that hears the frames of a run: it always has room, and it is tuned after the first FIG 0/0.
+-- A listener hearing the frames of a run: it always has room, and it is tuned after the first FIG 0/0.
 use Rattle.std.proofs.Common.{◌≡◌, ◌≢◌, ℕ, ◌%◌, Bool, true, false, List, [], ◌∷◌, ◌++◌, Option, Some, None, inl, inr, ◌⊎◌, refl, ap, sym, ◌∙◌, subst}
 use Rattle.std.proofs.lemmas.List.Concat.{flat_map-cons}
 use Rattle.mux_config.specs.Configuration.{Configuration}
@@ -69,7 +69,7 @@ frame_then p s frames l m after h g =
     as_fibs (fibs_of p.plan.mode (frame_bytes p s ∷ frames)) (fibs_in p.plan (shown p s) ++ fibs_of p.plan.mode frames) l after (fibs_more p.plan.mode (frame_bytes p s) frames)
     (hears_join (fibs_in p.plan (shown p s)) (fibs_of p.plan.mode frames) l m after h g)
 
--- ---- a listener that is tuned
+-- ---- a tuned listener
 
 -- FIG 0/0 of the next frame is heard
 pub enters_known : (p : Program) (ts : List Known) → IsCode p ts → (s : State) → Holds p ts s → (l : Listening) → KnowsAt p.plan s Nothing Nothing l
@@ -155,9 +155,9 @@ waits_run laws p ts c s (Frame ∷ es) h =
           }
     ]
 
--- ---- tuned no later than by the next frame
+-- ---- tuned by the next frame at the latest
 
--- it is tuned, or will be by FIG 0/0 of the next frame
+-- it is tuned, or FIG 0/0 of the next frame will tune it
 abbrev pub IsTuning : Plan → State → Listening → Type 0
 IsTuning plan s l = KnowsAt plan s Nothing Nothing l ⊎ ((l ≡ untuned) × (s.count % count_step plan.mode ≡ 0))
 

@@ -123,7 +123,7 @@ window_from laws p ts code s (Frame ∷ es) h phase some l tuning =
           (said_on Nothing (frame_bytes p s) (run_frames p (after_frame p s) es) false) rest.current;
     }
 
--- ---- the sentences
+-- ---- the laws
 
 frames_join : (p : Program) (s : State) (events more : List Event) → run_frames p s (events ++ more) ≡ run_frames p s events ++ run_frames p (run p s events) more
 frames_join p s [] more = refl
@@ -144,7 +144,7 @@ pub tuning : (p : Program) (s : State) (events : List Event) → (w : HearsWaiti
 tuning p s events w (inl there) = inl (w.tuned there)
 tuning p s events w (inr next) = tuning_by p.plan (run p s events) w.after w.either next
 
--- what is heard whole, all of it is had
+-- what was heard in full includes every entry
 pub whole_had : (c : Configuration) (flag : Bool) (frames : List (List ℕ)) → IsHeardWhole c flag frames → HasAll c (SomeSaid frames flag)
 whole_had c flag frames whole e inside = (e, refl, whole (marked flag e) (in_contains (facts_of c flag) (marked flag e) (in_fact flag (entries_of c) e inside)))
 

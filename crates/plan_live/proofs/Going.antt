@@ -34,7 +34,7 @@ went_none skip status p n a = record {
   count = omega arith;
   left = refl;
   out = appends_as a.written a.written [] (kept_bytes (skip - n) p []) (sym (kept_none (skip - n) p)) (Appends-nil a.written);
-  telling = grows_as a.told a.told [] (notes_if status n p.code p.state []) (sym (notes_none status n p.code p.state)) (grows_same a.told a.told refl);
+  reports = grows_as a.reported a.reported [] (notes_if status n p.code p.state []) (sym (notes_none status n p.code p.state)) (grows_same a.reported a.reported refl);
 }
 
 contact_notes : (status : Bool) (n : ℕ) (p : Program) (s : State) (c : ℕ) (closed : Bool) → notes_if status n p s (Contact c closed ∷ []) ≡ []
@@ -47,7 +47,7 @@ went_contact skip status p q n c closed a state = record {
   count = omega arith;
   left = refl;
   out = appends_as a.written a.written [] (kept_bytes (skip - n) p (Contact c closed ∷ [])) (sym (kept_none (skip - n) p)) (Appends-nil a.written);
-  telling = grows_as a.told a.told [] (notes_if status n p.code p.state (Contact c closed ∷ [])) (sym (contact_notes status n p.code p.state c closed)) (grows_same a.told a.told refl);
+  reports = grows_as a.reported a.reported [] (notes_if status n p.code p.state (Contact c closed ∷ [])) (sym (contact_notes status n p.code p.state c closed)) (grows_same a.reported a.reported refl);
 }
 
 kept_one : (skip n : ℕ) (frame : List ℕ) → kept skip n frame ≡ concat (drop (skip - n) (frame ∷ []))
@@ -61,19 +61,19 @@ kept_one skip n frame = elim (cases_lt n skip) [
 ]
 
 went_frame : (skip : ℕ) (status : Bool) (p q : Playing) (n m : ℕ) (a b : Streamed) → q ≡ played p (Frame ∷ []) → m ≡ n + 1 → b.left ≡ a.left
-    → Appends a.written b.written (kept skip n (next_frame p)) → Grows a.told b.told (notes_if status n p.code p.state (Frame ∷ [])) → Went skip status p n (Frame ∷ []) q m a b
-went_frame skip status p q n m a b state count left out telling = record {
+    → Appends a.written b.written (kept skip n (next_frame p)) → Grows a.reported b.reported (notes_if status n p.code p.state (Frame ∷ [])) → Went skip status p n (Frame ∷ []) q m a b
+went_frame skip status p q n m a b state count left out reports = record {
   state = state;
   count = count;
   left = left;
   out = appends_as a.written b.written (kept skip n (next_frame p)) (kept_bytes (skip - n) p (Frame ∷ [])) (kept_one skip n (next_frame p)) out;
-  telling = telling;
+  reports = reports;
 }
 
 -- the output fails in a frame
-cut_frame : (skip : ℕ) (status : Bool) (p : Playing) (n k : ℕ) (a b : Streamed) → skip ≤ n → k < length (next_frame p) → b.left ≡ a.left → b.told ≡ a.told
+cut_frame : (skip : ℕ) (status : Bool) (p : Playing) (n k : ℕ) (a b : Streamed) → skip ≤ n → k < length (next_frame p) → b.left ≡ a.left → b.reported ≡ a.reported
     → Appends a.written b.written (take k (next_frame p)) → CutIn skip status p n (Frame ∷ []) a b n (n - skip) k
-cut_frame skip status p n k a b passed bound left told out = record {
+cut_frame skip status p n k a b passed bound left reported out = record {
   done = [];
   rest = Frame ∷ [];
   cut = refl;
@@ -82,10 +82,10 @@ cut_frame skip status p n k a b passed bound left told out = record {
   part = inr ([], refl, bound, omega (arith, passed));
   left = left;
   out = appends_as a.written b.written (take k (next_frame p)) (kept_bytes (skip - n) p [] ++ take k (next_frame p)) (ap (λ (l : List ℕ). l ++ take k (next_frame p)) (sym (kept_none (skip - n) p))) out;
-  telling = grows_as a.told b.told [] (notes_if status n p.code p.state []) (sym (notes_none status n p.code p.state)) (grows_same a.told b.told told);
+  reports = grows_as a.reported b.reported [] (notes_if status n p.code p.state []) (sym (notes_none status n p.code p.state)) (grows_same a.reported b.reported reported);
 }
 
--- nothing of these events is done
+-- none of these events is played
 cut_none : (skip : ℕ) (status : Bool) (p : Playing) (n : ℕ) (events : List Event) (a : Streamed) → CutIn skip status p n events a a n (n - skip) 0
 cut_none skip status p n events a = record {
   done = [];
@@ -96,14 +96,14 @@ cut_none skip status p n events a = record {
   part = inl refl;
   left = refl;
   out = appends_as a.written a.written [] (kept_bytes (skip - n) p [] ++ []) (ap (λ (l : List ℕ). l ++ []) (sym (kept_none (skip - n) p))) (Appends-nil a.written);
-  telling = grows_as a.told a.told [] (notes_if status n p.code p.state []) (sym (notes_none status n p.code p.state)) (grows_same a.told a.told refl);
+  reports = grows_as a.reported a.reported [] (notes_if status n p.code p.state []) (sym (notes_none status n p.code p.state)) (grows_same a.reported a.reported refl);
 }
 
 pub frame_stops : (skip : ℕ) (status : Bool) (p : Playing) (n : ℕ) (a b : Streamed) (bytes : List ℕ) (stop : Stop) → bytes ≡ next_frame p → FrameStops skip bytes n a b stop → StopsIn skip status p n (Frame ∷ []) a b stop
 frame_stops skip status p n a b bytes (Write f k) is h =
     let bound : k < length (next_frame p) = subst (λ (l : List ℕ). k < length l) is h.bound in
     let out : Appends a.written b.written (take k (next_frame p)) = subst (λ (l : List ℕ). Appends a.written b.written (take k l)) is h.out in
-    (n, subst (λ (f : ℕ). CutIn skip status p n (Frame ∷ []) a b n f k) (sym h.whole) (cut_frame skip status p n k a b h.passed bound h.left h.told out))
+    (n, subst (λ (f : ℕ). CutIn skip status p n (Frame ∷ []) a b n f k) (sym h.whole) (cut_frame skip status p n k a b h.passed bound h.left h.reported out))
 frame_stops skip status p n a b bytes Read is h = absurd h
 frame_stops skip status p n a b bytes Memory is h = absurd h
 frame_stops skip status p n a b bytes TooMany is h =
@@ -112,17 +112,17 @@ frame_stops skip status p n a b bytes TooMany is h =
     (n - skip, subst (λ (m : ℕ). CutIn skip status p n (Frame ∷ []) a b m (n - skip) 0) h.1 here)
 
 pub frame_went : (skip : ℕ) (status : Bool) (p q : Playing) (n m : ℕ) (a b c : Streamed) (bytes : List ℕ) → bytes ≡ next_frame p → q ≡ played p (Frame ∷ []) → FrameWent skip bytes n m a b
-    → c.left ≡ b.left → c.written ≡ b.written → Grows b.told c.told (notes_if status n p.code p.state (Frame ∷ [])) → Went skip status p n (Frame ∷ []) q m a c
-frame_went skip status p q n m a b c bytes is state h left written telling =
+    → c.left ≡ b.left → c.written ≡ b.written → Grows b.reported c.reported (notes_if status n p.code p.state (Frame ∷ [])) → Went skip status p n (Frame ∷ []) q m a c
+frame_went skip status p q n m a b c bytes is state h left written reports =
     let out : Appends a.written c.written (kept skip n (next_frame p)) =
     subst (λ (o : Option (List ℕ)). Appends a.written o (kept skip n (next_frame p))) (sym written) (subst (λ (l : List ℕ). Appends a.written b.written (kept skip n l)) is h.out) in
-    let told : Grows a.told c.told (notes_if status n p.code p.state (Frame ∷ [])) = subst (λ (o : Option (List Message)). Grows o c.told (notes_if status n p.code p.state (Frame ∷ []))) h.told telling in
-    went_frame skip status p q n m a c state h.count (left ∙ h.left) out told
+    let reported : Grows a.reported c.reported (notes_if status n p.code p.state (Frame ∷ [])) = subst (λ (o : Option (List Message)). Grows o c.reported (notes_if status n p.code p.state (Frame ∷ []))) h.reported reports in
+    went_frame skip status p q n m a c state h.count (left ∙ h.left) out reported
 
--- all of them are, and then the output fails
+-- all of them are played, and then the output fails
 cut_after : (skip : ℕ) (status : Bool) (p q : Playing) (n m : ℕ) (events : List Event) (a b c : Streamed) → Went skip status p n events q m a b
-    → c.left ≡ b.left → Keeps b.written c.written → c.told ≡ b.told → CutIn skip status p n events a c m (m - skip) 0
-cut_after skip status p q n m events a b c h left keeps told = record {
+    → c.left ≡ b.left → Keeps b.written c.written → c.reported ≡ b.reported → CutIn skip status p n events a c m (m - skip) 0
+cut_after skip status p q n m events a b c h left keeps reported = record {
   done = events;
   rest = [];
   cut = sym (append-nil events);
@@ -132,23 +132,23 @@ cut_after skip status p q n m events a b c h left keeps told = record {
   left = left ∙ h.left;
   out = appends_as a.written c.written (kept_bytes (skip - n) p events) (kept_bytes (skip - n) p events ++ []) (sym (append-nil (kept_bytes (skip - n) p events)))
       (Appends-kept a.written b.written c.written (kept_bytes (skip - n) p events) h.out keeps);
-  telling = subst (λ (o : Option (List Message)). Grows a.told o (notes_if status n p.code p.state events)) (sym told) h.telling;
+  reports = subst (λ (o : Option (List Message)). Grows a.reported o (notes_if status n p.code p.state events)) (sym reported) h.reports;
 }
 
 pub stops_after : (skip : ℕ) (status : Bool) (p q : Playing) (n m : ℕ) (events : List Event) (a b c : Streamed) (stop : Stop) → Went skip status p n events q m a b
-    → c.left ≡ b.left → Keeps b.written c.written → c.told ≡ b.told → stop ≡ Write (m - skip) 0 → StopsIn skip status p n events a c stop
-stops_after skip status p q n m events a b c stop h left keeps told is =
-    subst (λ (s : Stop). StopsIn skip status p n events a c s) (sym is) (m, cut_after skip status p q n m events a b c h left keeps told)
+    → c.left ≡ b.left → Keeps b.written c.written → c.reported ≡ b.reported → stop ≡ Write (m - skip) 0 → StopsIn skip status p n events a c stop
+stops_after skip status p q n m events a b c stop h left keeps reported is =
+    subst (λ (s : Stop). StopsIn skip status p n events a c s) (sym is) (m, cut_after skip status p q n m events a b c h left keeps reported)
 
--- all of them are, and the output has passed them on
+-- all of them are played, and the output is flushed
 pub went_flushed : (skip : ℕ) (status : Bool) (p q : Playing) (n m : ℕ) (events : List Event) (a b c : Streamed) → Went skip status p n events q m a b
-    → c.left ≡ b.left → Keeps b.written c.written → c.told ≡ b.told → Went skip status p n events q m a c
-went_flushed skip status p q n m events a b c h left keeps told = record {
+    → c.left ≡ b.left → Keeps b.written c.written → c.reported ≡ b.reported → Went skip status p n events q m a c
+went_flushed skip status p q n m events a b c h left keeps reported = record {
   state = h.state;
   count = h.count;
   left = left ∙ h.left;
   out = Appends-kept a.written b.written c.written (kept_bytes (skip - n) p events) h.out keeps;
-  telling = subst (λ (o : Option (List Message)). Grows a.told o (notes_if status n p.code p.state events)) (sym told) h.telling;
+  reports = subst (λ (o : Option (List Message)). Grows a.reported o (notes_if status n p.code p.state events)) (sym reported) h.reports;
 }
 
 -- ---- events, and then more
@@ -164,8 +164,8 @@ went_join skip status p q r n m k xs ys a b c h g =
       left = g.left ∙ h.left;
       out = appends_as a.written c.written (kept_bytes (skip - n) p xs ++ kept_bytes (skip - m) q ys) (kept_bytes (skip - n) p (xs ++ ys)) (kept_from skip p q n m xs ys h.state h.count)
           (Appends-trans a.written b.written c.written (kept_bytes (skip - n) p xs) (kept_bytes (skip - m) q ys) h.out g.out);
-      telling = grows_as a.told c.told (notes_if status n p.code p.state xs ++ notes_if status m q.code q.state ys) (notes_if status n p.code p.state (xs ++ ys)) (notes_from status p q n m xs ys h.state h.count)
-          (grows_more a.told b.told c.told (notes_if status n p.code p.state xs) (notes_if status m q.code q.state ys) h.telling g.telling);
+      reports = grows_as a.reported c.reported (notes_if status n p.code p.state xs ++ notes_if status m q.code q.state ys) (notes_if status n p.code p.state (xs ++ ys)) (notes_from status p q n m xs ys h.state h.count)
+          (grows_more a.reported b.reported c.reported (notes_if status n p.code p.state xs) (notes_if status m q.code q.state ys) h.reports g.reports);
     }
 
 cut_later : (skip : ℕ) (status : Bool) (p q : Playing) (n m : ℕ) (xs ys : List Event) (a b c : Streamed) (made f k : ℕ)
@@ -189,8 +189,8 @@ cut_later skip status p q n m xs ys a b c made f k h g =
       left = g.left ∙ h.left;
       out = appends_as a.written c.written (kept_bytes (skip - n) p xs ++ (kept_bytes (skip - m) q done ++ take k (next_frame (played q done)))) (kept_bytes (skip - n) p (xs ++ done) ++ take k (next_frame (played p (xs ++ done)))) bytes
           (Appends-trans a.written b.written c.written (kept_bytes (skip - n) p xs) (kept_bytes (skip - m) q done ++ take k (next_frame (played q done))) h.out g.out);
-      telling = grows_as a.told c.told (notes_if status n p.code p.state xs ++ notes_if status m q.code q.state done) (notes_if status n p.code p.state (xs ++ done)) (notes_from status p q n m xs done h.state h.count)
-          (grows_more a.told b.told c.told (notes_if status n p.code p.state xs) (notes_if status m q.code q.state done) h.telling g.telling);
+      reports = grows_as a.reported c.reported (notes_if status n p.code p.state xs ++ notes_if status m q.code q.state done) (notes_if status n p.code p.state (xs ++ done)) (notes_from status p q n m xs done h.state h.count)
+          (grows_more a.reported b.reported c.reported (notes_if status n p.code p.state xs) (notes_if status m q.code q.state done) h.reports g.reports);
     }
 
 still_cut : (bytes passed : ℕ) (p : Playing) (rest more : List Event) → IsCutAt bytes passed p rest → IsCutAt bytes passed p (rest ++ more)
@@ -207,7 +207,7 @@ cut_before skip status p n xs ys a b made f k h = record {
   part = still_cut k (skip - made) (played p h.done) h.rest ys h.part;
   left = h.left;
   out = h.out;
-  telling = h.telling;
+  reports = h.reports;
 }
 
 pub stops_later : (skip : ℕ) (status : Bool) (p q : Playing) (n m : ℕ) (xs ys : List Event) (a b c : Streamed) (stop : Stop)

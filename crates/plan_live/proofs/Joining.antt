@@ -1,4 +1,4 @@
--- Playing continues: events, and then more of them.
+-- Playing events, and then more of them.
 use Rattle.std.proofs.Common.{◌≡◌, ℕ, zero, suc, ◌+◌, ◌-◌, Bool, true, false, List, [], ◌∷◌, ◌++◌, length, drop, refl, sym, ap, ◌∙◌, arith, append_assoc, length-append}
 use Rattle.std.specs.List.{concat}
 use Rattle.std.proofs.lemmas.List.Folds.{concat-append}
@@ -35,7 +35,7 @@ frames_join p events more = (runs_join p.code p.state [] events more).frames
 pub counts_join : (p : Playing) (events more : List Event) → length (frames_of p (events ++ more)) ≡ length (frames_of p events) + length (frames_of (played p events) more)
 counts_join p events more = ap (λ (fs : List (List ℕ)). length fs) (frames_join p events more) ∙ length-append (frames_of p events) (frames_of (played p events) more)
 
--- ---- the bytes but for those of the first frames
+-- ---- the bytes, except those of the first frames
 
 pub drop_none : (n : ℕ) (xs : List (List ℕ)) → xs ≡ [] → drop n xs ≡ []
 drop_none zero xs none = none
@@ -61,7 +61,7 @@ kept_join skip p xs ys =
 pub kept_none : (skip : ℕ) (p : Playing) → kept_bytes skip p [] ≡ []
 kept_none skip p = ap (λ (fs : List (List ℕ)). concat fs) (drop_none skip (frames_of p []) refl)
 
--- the same where the player and its count of frames are known
+-- the bytes from a known player and frame count
 pub kept_from : (skip : ℕ) (p q : Playing) (n m : ℕ) (xs ys : List Event) → q ≡ played p xs → m ≡ n + length (frames_of p xs)
     → kept_bytes (skip - n) p xs ++ kept_bytes (skip - m) q ys ≡ kept_bytes (skip - n) p (xs ++ ys)
 kept_from skip p q n m xs ys state count =

@@ -39,12 +39,12 @@ gives_kept (Some x) None c lines p q = absurd p
 gives_kept (Some x) (Some y) None lines p q = absurd q
 gives_kept (Some x) (Some y) (Some z) lines p q = p ∙ ap (λ (l : List ℕ). lines ++ lines_of l) (sym q)
 
--- ---- what lines come to, and one more
+-- ---- the outcome of lines, and of one more
 
-do_more : (status : Bool) (p q : Playing) (n m number : ℕ) (lines : List (List ℕ)) (line : List ℕ) (steps more : List Step) (told said : List Message)
-    → LinesDo status p n number lines steps told → q ≡ played p (events_of steps) → m ≡ n + length (frames_of p (events_of steps))
-    → LineDoes status q m (number + length lines + 1) line more said → LinesDo status p n number (lines ++ line ∷ []) (steps ++ more) (told ++ said)
-do_more status p q n m number [] line steps more told said h state count does =
+do_more : (status : Bool) (p q : Playing) (n m number : ℕ) (lines : List (List ℕ)) (line : List ℕ) (steps more : List Step) (reported said : List Message)
+    → LinesDo status p n number lines steps reported → q ≡ played p (events_of steps) → m ≡ n + length (frames_of p (events_of steps))
+    → LineDoes status q m (number + length lines + 1) line more said → LinesDo status p n number (lines ++ line ∷ []) (steps ++ more) (reported ++ said)
+do_more status p q n m number [] line steps more reported said h state count does =
     let now : q ≡ p = state ∙ ap (λ (l : List Step). played p (events_of l)) h.0 in
     let none : length (frames_of p (events_of steps)) ≡ 0 = ap (λ (l : List Step). length (frames_of p (events_of l))) h.0 in
     let same : m ≡ n = omega (arith, count, none) in
@@ -52,7 +52,7 @@ do_more status p q n m number [] line steps more told said h state count does =
     let here : LineDoes status p n (number + 1) line more said =
     subst (λ (j : ℕ). LineDoes status p n j line more said) next (subst (λ (k : ℕ). LineDoes status p k (number + 0 + 1) line more said) same (subst (λ (x : Playing). LineDoes status x m (number + 0 + 1) line more said) now does)) in
     (more, [], said, [], ap (λ (l : List Step). l ++ more) h.0 ∙ sym (append-nil more), ap (λ (l : List Message). l ++ said) h.1 ∙ sym (append-nil said), here, (refl, refl))
-do_more status p q n m number (x ∷ xs) line steps more told said (first, rest, front, back, cut, parts, one, others) state count does =
+do_more status p q n m number (x ∷ xs) line steps more reported said (first, rest, front, back, cut, parts, one, others) state count does =
     let r : Playing = played p (events_of first) in
     let events : events_of steps ≡ events_of first ++ events_of rest = ap (λ (l : List Step). events_of l) cut ∙ events_join first rest in
     let at : q ≡ played r (events_of rest) = state ∙ ap (λ (l : List Event). played p l) events ∙ played_join p (events_of first) (events_of rest) in
@@ -70,7 +70,7 @@ do_more status p q n m number (x ∷ xs) line steps more told said (first, rest,
       do_more status r q (n + length (frames_of p (events_of first))) m (number + 1) xs line rest more back said others at made later,
     )
 
--- ---- some lines are done
+-- ---- some lines are processed
 
 pub going_first : (skip : ℕ) (status : Bool) (p : Playing) (a : Streamed) → Going skip status p a a p 0 0
 going_first skip status p a = record {
@@ -81,7 +81,7 @@ going_first skip status p a = record {
     messages = [];
     does = (refl, refl);
     out = appends_as a.written a.written [] (kept_bytes skip p []) (sym (kept_none skip p)) (Appends-nil a.written);
-    telling = grows_none a.told;
+    reports = grows_none a.reported;
   };
   player = refl;
   count = refl;
@@ -89,7 +89,7 @@ going_first skip status p a = record {
 }
 
 going_more : (skip : ℕ) (status : Bool) (p q r : Playing) (m k number : ℕ) (line : List ℕ) (old now after : Streamed) (rest : Option (List ℕ))
-    → Going skip status p old now q m number → GivesLine now.left line rest → LineWent skip status q m (number + 1) line r k (streamed rest now.written now.told) after
+    → Going skip status p old now q m number → GivesLine now.left line rest → LineWent skip status q m (number + 1) line r k (streamed rest now.written now.reported) after
     → Going skip status p old after r k (number + 1)
 going_more skip status p q r m k number line old now after rest h given w =
     let steps : List Step = h.reached.steps in
@@ -120,18 +120,18 @@ going_more skip status p q r m k number line old now after rest h given w =
         does = do_more status p q 0 m 0 h.lines line steps more h.reached.messages w.messages h.reached.does h.player counted (subst (λ (j : ℕ). LineDoes status q m j line more w.messages) next w.does);
         out = appends_as old.written after.written (kept_bytes skip p (events_of steps) ++ kept_bytes (skip - m) q (events_of more)) (kept_bytes skip p (events_of (steps ++ more))) bytes
             (Appends-trans old.written now.written after.written (kept_bytes skip p (events_of steps)) (kept_bytes (skip - m) q (events_of more)) h.reached.out w.out);
-        telling = grows_more old.told now.told after.told h.reached.messages w.messages h.reached.telling w.telling;
+        reports = grows_more old.reported now.reported after.reported h.reached.messages w.messages h.reached.reports w.reports;
       };
       player = at;
       count = omega (arith, w.count, h.count, sum, later);
       numbered = omega (arith, longer, one, h.numbered);
     }
 
--- ---- a line that holds no steps
+-- ---- a line that lists no steps
 
 pub line_bad : (skip : ℕ) (status : Bool) (q : Playing) (m number : ℕ) (line : List ℕ) (fault : LineFault) (a b : Streamed)
-    → IsLineFault line fault → b.left ≡ a.left → b.written ≡ a.written → Grows a.told b.told (Bad number fault ∷ []) → LineWent skip status q m number line q m a b
-line_bad skip status q m number line fault a b is left written told = record {
+    → IsLineFault line fault → b.left ≡ a.left → b.written ≡ a.written → Grows a.reported b.reported (Bad number fault ∷ []) → LineWent skip status q m number line q m a b
+line_bad skip status q m number line fault a b is left written reported = record {
   steps = [];
   messages = Bad number fault ∷ [];
   does = inr (fault, is, refl, refl);
@@ -139,10 +139,10 @@ line_bad skip status q m number line fault a b is left written told = record {
   count = omega arith;
   left = left;
   out = appends_as a.written b.written [] (kept_bytes (skip - m) q []) (sym (kept_none (skip - m) q)) (appends_none a.written b.written written);
-  telling = told;
+  reports = reported;
 }
 
--- and one that holds some
+-- a line that lists some
 pub line_good : (skip : ℕ) (status : Bool) (q r : Playing) (m k number : ℕ) (line : List ℕ) (steps : List Step) (a b : Streamed)
     → LineHolds line steps → Went skip status q m (events_of steps) r k a b → LineWent skip status q m number line r k a b
 line_good skip status q r m k number line steps a b holds w = record {
@@ -153,7 +153,7 @@ line_good skip status q r m k number line steps a b holds w = record {
   count = w.count;
   left = w.left;
   out = w.out;
-  telling = w.telling;
+  reports = w.reports;
 }
 
 pub line_cut : (skip : ℕ) (status : Bool) (q : Playing) (m : ℕ) (line : List ℕ) (steps : List Step) (a b : Streamed) (stop : Stop)
@@ -166,7 +166,7 @@ line_cut skip status q m line steps a b TooMany holds s = (steps, holds, s)
 -- ---- the run stops
 
 cut_line : (skip : ℕ) (status : Bool) (p q : Playing) (m number : ℕ) (line : List ℕ) (steps : List Step) (old now after : Streamed) (rest : Option (List ℕ)) (made f k : ℕ)
-    → Going skip status p old now q m number → GivesLine now.left line rest → LineHolds line steps → CutIn skip status q m (events_of steps) (streamed rest now.written now.told) after made f k
+    → Going skip status p old now q m number → GivesLine now.left line rest → LineHolds line steps → CutIn skip status q m (events_of steps) (streamed rest now.written now.reported) after made f k
     → Cut skip status p old after made f k
 cut_line skip status p q m number line steps old now after rest made f k h given holds c =
     let before : List Event = events_of h.reached.steps in
@@ -202,30 +202,30 @@ cut_line skip status p q m number line steps old now after rest made f k h given
       part = subst (λ (x : Playing). IsCutAt k (skip - made) x c.rest) at c.part;
       out = appends_as old.written after.written (kept_bytes skip p before ++ (kept_bytes (skip - m) q done ++ take k (next_frame (played q done)))) (kept_bytes skip p (before ++ done) ++ take k (next_frame (played p (before ++ done)))) bytes
           (Appends-trans old.written now.written after.written (kept_bytes skip p before) (kept_bytes (skip - m) q done ++ take k (next_frame (played q done))) h.reached.out c.out);
-      telling = grows_as old.told after.told (h.reached.messages ++ notes_if status m q.code q.state done)
+      reports = grows_as old.reported after.reported (h.reached.messages ++ notes_if status m q.code q.state done)
           (h.reached.messages ++ notes_if status (length (frames_of p before)) p.code (played p before).state done)
           (ap (λ (l : List Message). h.reached.messages ++ l) notes)
-          (grows_more old.told now.told after.told h.reached.messages (notes_if status m q.code q.state done) h.reached.telling c.telling);
+          (grows_more old.reported now.reported after.reported h.reached.messages (notes_if status m q.code q.state done) h.reached.reports c.reports);
     }
 
 unserved : (skip : ℕ) (status : Bool) (p q : Playing) (m number : ℕ) (line : List ℕ) (old now after : Streamed) (rest : Option (List ℕ))
-    → Going skip status p old now q m number → GivesLine now.left line rest → after ≡ streamed rest now.written now.told → Unserved skip status p old after
+    → Going skip status p old now q m number → GivesLine now.left line rest → after ≡ streamed rest now.written now.reported → Unserved skip status p old after
 unserved skip status p q m number line old now after rest h given same =
-    let there : Unserved skip status p old (streamed rest now.written now.told) =
+    let there : Unserved skip status p old (streamed rest now.written now.reported) =
     (h.lines, line, now.left, h.reached, gives_more old.left now.left rest h.lines line h.reached.given given) in
     subst (λ (s : Streamed). Unserved skip status p old s) (sym same) there
 
 line_stops : (skip : ℕ) (status : Bool) (p q : Playing) (m number : ℕ) (line : List ℕ) (old now after : Streamed) (rest : Option (List ℕ)) (stop : Stop)
-    → Going skip status p old now q m number → GivesLine now.left line rest → LineStops skip status q m line (streamed rest now.written now.told) after stop
+    → Going skip status p old now q m number → GivesLine now.left line rest → LineStops skip status q m line (streamed rest now.written now.reported) after stop
     → StoppedBy skip status p old after stop
 line_stops skip status p q m number line old now after rest (Write f k) h given s = (s.2.0, cut_line skip status p q m number line s.0 old now after rest s.2.0 f k h given s.1 s.2.1)
 line_stops skip status p q m number line old now after rest Read h given s = absurd s
 line_stops skip status p q m number line old now after rest Memory h given s = unserved skip status p q m number line old now after rest h given s
 line_stops skip status p q m number line old now after rest TooMany h given s = inr (s.2.0, cut_line skip status p q m number line s.0 old now after rest most s.2.0 0 h given s.1 s.2.1)
 
--- the input ends, or gives no more
+-- the input ends, or can't be read
 whole : (skip : ℕ) (status : Bool) (p q : Playing) (m number : ℕ) (old now : Streamed) (rest : Option (List ℕ))
-    → Going skip status p old now q m number → Keeps now.left rest → (lines : List (List ℕ)) × Reached skip status p old (streamed rest now.written now.told) lines
+    → Going skip status p old now q m number → Keeps now.left rest → (lines : List (List ℕ)) × Reached skip status p old (streamed rest now.written now.reported) lines
 whole skip status p q m number old now rest h kept = (
   h.lines,
   record {
@@ -234,50 +234,50 @@ whole skip status p q m number old now rest h kept = (
     messages = h.reached.messages;
     does = h.reached.does;
     out = h.reached.out;
-    telling = h.reached.telling;
+    reports = h.reached.reports;
   },
 )
 
 broken : (skip : ℕ) (status : Bool) (p q : Playing) (m number : ℕ) (old now : Streamed) (rest : Option (List ℕ))
-    → Going skip status p old now q m number → Broken skip status p old (streamed rest now.written now.told)
+    → Going skip status p old now q m number → Broken skip status p old (streamed rest now.written now.reported)
 broken skip status p q m number old now rest h = (h.lines, now.left, h.reached)
 
--- ---- where the input is that of the line, and the rest as it was
+-- ---- with the input after the line, and everything else unchanged
 
 mid_as : (rest w x : Option (List ℕ)) (t u : Option (List Message)) → w ≡ x → t ≡ u → streamed rest w t ≡ streamed rest x u
 mid_as rest w x t u e d = ap (λ (o : Option (List ℕ)). streamed rest o t) e ∙ ap (λ (o : Option (List Message)). streamed rest x o) d
 
 pub going_line : (skip : ℕ) (status : Bool) (p q r : Playing) (m k number : ℕ) (line : List ℕ) (old now after : Streamed) (rest w : Option (List ℕ)) (t : Option (List Message))
-    → Going skip status p old now q m number → GivesLine now.left line rest → w ≡ now.written → t ≡ now.told → LineWent skip status q m (number + 1) line r k (streamed rest w t) after
+    → Going skip status p old now q m number → GivesLine now.left line rest → w ≡ now.written → t ≡ now.reported → LineWent skip status q m (number + 1) line r k (streamed rest w t) after
     → Going skip status p old after r k (number + 1)
 going_line skip status p q r m k number line old now after rest w t h given e d went =
     going_more skip status p q r m k number line old now after rest h given
-    (subst (λ (s : Streamed). LineWent skip status q m (number + 1) line r k s after) (mid_as rest w now.written t now.told e d) went)
+    (subst (λ (s : Streamed). LineWent skip status q m (number + 1) line r k s after) (mid_as rest w now.written t now.reported e d) went)
 
 pub stops_line : (skip : ℕ) (status : Bool) (p q : Playing) (m number : ℕ) (line : List ℕ) (old now after : Streamed) (rest w : Option (List ℕ)) (t : Option (List Message)) (stop : Stop)
-    → Going skip status p old now q m number → GivesLine now.left line rest → w ≡ now.written → t ≡ now.told → LineStops skip status q m line (streamed rest w t) after stop
+    → Going skip status p old now q m number → GivesLine now.left line rest → w ≡ now.written → t ≡ now.reported → LineStops skip status q m line (streamed rest w t) after stop
     → StoppedBy skip status p old after stop
 stops_line skip status p q m number line old now after rest w t stop h given e d stops =
     line_stops skip status p q m number line old now after rest stop h given
-    (subst (λ (s : Streamed). LineStops skip status q m line s after stop) (mid_as rest w now.written t now.told e d) stops)
+    (subst (λ (s : Streamed). LineStops skip status q m line s after stop) (mid_as rest w now.written t now.reported e d) stops)
 
 pub whole_at : (skip : ℕ) (status : Bool) (p q : Playing) (m number : ℕ) (old now : Streamed) (rest w : Option (List ℕ)) (t : Option (List Message))
-    → Going skip status p old now q m number → Keeps now.left rest → IsAtEnd rest → w ≡ now.written → t ≡ now.told → Whole skip status p old (streamed rest w t)
+    → Going skip status p old now q m number → Keeps now.left rest → IsAtEnd rest → w ≡ now.written → t ≡ now.reported → Whole skip status p old (streamed rest w t)
 whole_at skip status p q m number old now rest w t h kept end e d =
     let there = whole skip status p q m number old now rest h kept in
-    subst (λ (s : Streamed). Whole skip status p old s) (sym (mid_as rest w now.written t now.told e d)) (there.0, there.1, end)
+    subst (λ (s : Streamed). Whole skip status p old s) (sym (mid_as rest w now.written t now.reported e d)) (there.0, there.1, end)
 
 pub broken_at : (skip : ℕ) (status : Bool) (p q : Playing) (m number : ℕ) (old now : Streamed) (rest w : Option (List ℕ)) (t : Option (List Message))
-    → Going skip status p old now q m number → w ≡ now.written → t ≡ now.told → Broken skip status p old (streamed rest w t)
+    → Going skip status p old now q m number → w ≡ now.written → t ≡ now.reported → Broken skip status p old (streamed rest w t)
 broken_at skip status p q m number old now rest w t h e d =
-    subst (λ (s : Streamed). Broken skip status p old s) (sym (mid_as rest w now.written t now.told e d)) (broken skip status p q m number old now rest h)
+    subst (λ (s : Streamed). Broken skip status p old s) (sym (mid_as rest w now.written t now.reported e d)) (broken skip status p q m number old now rest h)
 
--- the count of lines is at its end
+-- the line count is at its maximum
 pub too_many : (skip : ℕ) (status : Bool) (p q : Playing) (m number : ℕ) (old now : Streamed)
     → Going skip status p old now q m number → number ≡ most → StoppedBy skip status p old now TooMany
 too_many skip status p q m number old now h all = inl (h.lines, h.reached, h.numbered ∙ all)
 
--- ---- the moments at which a line is asked for
+-- ---- the requests for lines
 
 pub prompt_first : (skip : ℕ) (status : Bool) (p : Playing) (old : Streamed) (before : Option (List Streamed)) → IsPrompt skip status p old before before
 prompt_first skip status p old before = record { moments = []; grows = grows_none before; done = tt }

@@ -16,10 +16,10 @@ use Rattle.plan_session.specs.Parts.{IsCodeFault}
 use Rattle.plan_live.specs.Beginning.{Begins, IsBeginFault}
 
 abbrev opening : Configuration → Starting → State
-opening current start = record { current = current; next = current; left = None; pc = 0; hold = Waits 0; counters = replicate 8 0; contacts = start.contacts; count = start.count; day = start.day; eid = start.eid; turn = 0 }
+opening current start = record { current = current; next = current; left = None; pc = 0; hold = Waits 0; counters = replicate 8 0; contacts = start.contacts; count = start.count; day = start.day; eid = start.eid; page_index = 0 }
 
 is_opening : (code : Program) (start : Starting) (s : State) → IsStart code start s → s ≡ opening s.current start
-is_opening code start s h = rw (h.next, h.left, h.pc, h.hold, h.counters, h.contacts, h.count, h.day, h.eid, h.turn) refl
+is_opening code start s h = rw (h.next, h.left, h.pc, h.hold, h.counters, h.contacts, h.count, h.day, h.eid, h.page_index) refl
 
 same_current : (code : Program) (start : Starting) (s t : State) → IsStart code start s → IsStart code start t → s.current ≡ t.current
 same_current code start s t h k =
@@ -38,14 +38,14 @@ same_start code start p q h k =
     ∙ ap (λ (s : State). let r : Playing = record { code = q.code; state = s; steps = p.steps } in r) states
     ∙ ap (λ (n : ℕ). let r : Playing = record { code = q.code; state = q.state; steps = n } in r) steps
 
--- the player that was made of the code is the one that is asked for
+-- the player made of the code is the requested one
 pub one_player : (r : Request) (code : Program) (start : Starting) (p q : Playing) → Begins r p → code ≡ p.code → start ≡ start_of code r → IsAtStart code start q → q ≡ p
 one_player r code start p q h codes starts begins =
     let here : IsAtStart code (start_of code r) q = subst (λ (s : Starting). IsAtStart code s q) starts begins in
     let there : IsAtStart p.code (start_of p.code r) q = subst (λ (c : Program). IsAtStart c (start_of c r) q) codes here in
     same_start p.code (start_of p.code r) q p there h.begins
 
--- and it is one
+-- the player made of the code is one for the request
 pub begun : (r : Request) (code : Program) (start : Starting) (q : Playing) → IsTypedFileOf code r.file → start ≡ start_of code r → start_fault start ≡ None → IsAtStart code start q → Begins r q
 begun r code start q file starts fine begins =
     let here : IsAtStart code (start_of code r) q = subst (λ (s : Starting). IsAtStart code s q) starts begins in

@@ -1,4 +1,4 @@
--- Frames one after another, and the events of steps: those of the first of them, of the next, and of the rest.
+-- Frames one after another, and the events of steps: those of the first, of the next, and of the rest.
 use Rattle.std.specs.Prelude.{replicate}
 use Rattle.std.proofs.Common.{◌≡◌, ℕ, zero, suc, ◌+◌, List, [], ◌∷◌, ◌++◌, take, drop, sym, ap, ◌∙◌, arith, take-append-drop, append-nil}
 use Rattle.plan_runs.specs.declared.event.Event.{Event}
@@ -15,7 +15,7 @@ replicate_more (suc m) n =
     let next : suc m + n ≡ suc (m + n) = omega arith in
     ap (λ (k : ℕ). replicate k Frame) next ∙ ap (λ (l : List Event). Frame ∷ l) (replicate_more m n)
 
--- the events of one step more
+-- the events of one more step
 pub events_more : (steps : List Step) (i : ℕ) (step : Step) → take (i + 1) steps ≡ take i steps ++ step ∷ [] → events_of (take (i + 1) steps) ≡ events_of (take i steps) ++ events_of_step step
 events_more steps i step more =
     ap (λ (l : List Step). events_of l) more ∙ events_join (take i steps) (step ∷ [])

@@ -1,4 +1,4 @@
--- Lines, and what is reported of them and of frames: each definition where it holds, and where it fails.
+-- Lines, and the messages for them and for frames: each definition where it holds, and where it fails.
 use Rattle.std.specs.Prelude.{codes, replicate}
 use Rattle.std.proofs.Common.{◌≡◌, ℕ, List, [], ◌∷◌, length, Result, Ok, Err, Some, None, true, false, refl, sym, ap, arith, inl, inr}
 use Rattle.std.proofs.lemmas.Fmt.{decimal_digit}
@@ -8,7 +8,7 @@ use Rattle.script_tokens.specs.declared.fault.ScriptFault.TheVariants.{Byte as B
 use Rattle.script_tokens.specs.declared.token.Token.{Token}
 use Rattle.script_tokens.specs.declared.token.Inside.TheVariants.{Nothing}
 use Rattle.script_tokens.specs.declared.token.TheConstants.{NO_LIMITS}
-use Rattle.script_tokens.specs.Bytes.{first_place}
+use Rattle.script_tokens.specs.Bytes.{first_position}
 use Rattle.script_tokens.specs.Lexing.{lexed}
 use Rattle.plan_code.specs.declared.hold.Hold.TheVariants.{Waits, WaitsSwap, Ended}
 use Rattle.plan_code.specs.Machine.{State}
@@ -70,7 +70,7 @@ first =
       count = 0;
       day = 0;
       eid = 0xe1c5;
-      turn = 0;
+      page_index = 0;
     }
 
 abbrev pub fresh : Playing
@@ -82,7 +82,7 @@ frames n = replicate n Frame
 abbrev with_packet : Configuration
 with_packet = record { subs = []; services = []; packets = record { scid = 5; dg = false; ty = 5; sub = 1; address = 9 } ∷ [] }
 
--- ---- what is told of a frame
+-- ---- the notes of a frame
 
 abbrev due : State
 due = record first { left = Some 0; count = 28 }
@@ -99,7 +99,7 @@ no_swap = refl
 a_notice : notice_note 4 4 plan (record first { left = Some 24; next = with_packet }) ≡ Notice 4 4 2 28 ∷ []
 a_notice = refl
 
--- the swap comes at the CIF count 14, which is 4990 + 24 - 5000
+-- the swap is at the CIF count 14, which is 4990 + 24 - 5000
 a_notice_over_the_last_count : notice_note 6 4990 plan (record first { left = Some 24; next = with_packet }) ≡ Notice 6 4990 2 14 ∷ []
 a_notice_over_the_last_count = refl
 
@@ -124,7 +124,7 @@ is_ended = refl
 is_not_ended : has_ended WaitsSwap ≡ false
 is_not_ended = refl
 
--- the swap is told before the end
+-- the swap is reported before the end
 both : frame_notes 28 waits (record due { pc = 1; hold = WaitsSwap }) ≡ Swap 28 28 ∷ End 28 28 ∷ []
 both = refl
 
@@ -170,12 +170,12 @@ two_are_held =
       holds = record {
         tokens = record { start = 0; end = 6; position = record { line = 1; column = 1 } } ∷ record { start = 7; end = 8; position = record { line = 1; column = 8 } } ∷ [];
         cut = refl;
-        words = ap (λ (digits : List ℕ). codes "frames" ∷ digits ∷ []) (sym (decimal_digit 2 (omega arith)));
+        lexemes = ap (λ (digits : List ℕ). codes "frames" ∷ digits ∷ []) (sym (decimal_digit 2 (omega arith)));
         in_range = ((omega arith, omega arith), tt);
       };
     }
 
--- a line holds no other steps than these, by the law that a text holds one list of steps at most
+-- a line lists no other steps than these, by the law that a text lists at most one list of steps
 pub only_two : HoldsOneList → (steps : List Step) → LineHolds two_frames steps → steps ≡ Frames 2 ∷ []
 only_two law steps h = law two_frames steps (Frames 2 ∷ []) h.holds two_are_held.holds
 
@@ -184,16 +184,16 @@ not_none law h = let n : 0 ≡ 1 = ap (λ (l : List Step). length l) (only_two l
 
 empty : LineHolds [] []
 unfolding lexed
-empty = record { short = omega arith; text = ([], (refl, refl)); holds = record { tokens = []; cut = refl; words = refl; in_range = tt } }
+empty = record { short = omega arith; text = ([], (refl, refl)); holds = record { tokens = []; cut = refl; lexemes = refl; in_range = tt } }
 
--- `@` has no place in an event file
+-- `@` is not allowed in an event file
 abbrev pub at_sign : List ℕ
 at_sign = 64 ∷ []
 
-not_cut : (tokens : List Token) → lexed NO_LIMITS Nothing first_place at_sign ≡ Ok tokens → ⊥
+not_cut : (tokens : List Token) → lexed NO_LIMITS Nothing first_position at_sign ≡ Ok tokens → ⊥
 unfolding lexed
 not_cut tokens cut =
-    let fault : Result (List Token) ScriptFault = Err (ByteAt first_place.position) in
+    let fault : Result (List Token) ScriptFault = Err (ByteAt first_position.position) in
     let same : fault ≡ Ok tokens = cut in
     absurd cc
 
@@ -204,7 +204,7 @@ no_steps = record { short = omega arith; text = (at_sign, (refl, refl)); none = 
 some_steps : HoldsNone two_frames → ⊥
 some_steps h = h.none (Frames 2 ∷ []) two_are_held.holds
 
--- ---- why a line holds none
+-- ---- why a line lists none
 
 abbrev blanks : ℕ → List ℕ
 blanks n = replicate n 32
@@ -224,7 +224,7 @@ a_byte = no_steps
 held_after_all : IsLineFault two_frames (Expected 1) → ⊥
 held_after_all h = some_steps h
 
--- ---- what lines do
+-- ---- the outcome of lines
 
 abbrev pub end_told : List Message
 end_told = End 1 1 ∷ []
@@ -246,18 +246,18 @@ bad_is_not_told : LineDoes true fresh 0 1 at_sign [] [] → ⊥
 bad_is_not_told (inl h) = no_steps.none [] h.0.holds
 bad_is_not_told (inr h) = let n : 0 ≡ 1 = ap (λ (l : List Message). length l) h.3 in omega (arith, n)
 
-bad_is_played : (told : List Message) → LineDoes true fresh 0 1 at_sign (Frames 2 ∷ []) told → ⊥
-bad_is_played told (inl h) = no_steps.none (Frames 2 ∷ []) h.0.holds
-bad_is_played told (inr h) = let n : 1 ≡ 0 = ap (λ (l : List Step). length l) h.2 in omega (arith, n)
+bad_is_played : (reported : List Message) → LineDoes true fresh 0 1 at_sign (Frames 2 ∷ []) reported → ⊥
+bad_is_played reported (inl h) = no_steps.none (Frames 2 ∷ []) h.0.holds
+bad_is_played reported (inr h) = let n : 1 ≡ 0 = ap (λ (l : List Step). length l) h.2 in omega (arith, n)
 
--- the numbers of frames and of lines go on from line to line
+-- frames and lines are numbered on from line to line
 two_lines : LinesDo true fresh 0 0 (at_sign ∷ two_frames ∷ []) (Frames 2 ∷ []) (Bad 1 (Byte 1) ∷ End 1 1 ∷ [])
 two_lines = ([], Frames 2 ∷ [], bad_told, end_told, refl, refl, bad_is_told, (Frames 2 ∷ [], [], end_told, [], refl, refl, inl (two_are_held, refl), (refl, refl)))
 
 no_line : LinesDo true fresh 0 0 [] (Frames 2 ∷ []) [] → ⊥
 no_line h = let n : 1 ≡ 0 = ap (λ (l : List Step). length l) h.0 in omega (arith, n)
 
--- ---- the fault of an event file, as that of its only line
+-- ---- the fault of an event file as that of its only line
 
 a_number : unread_of (AtNumber (record { line = 1; column = 8 })) ≡ IsBad (Number 8)
 a_number = refl

@@ -30,13 +30,13 @@ abbrev taken : List ℕ → Streamed
 taken bytes = streamed None (Some bytes) (Some [])
 
 written : FrameWent 2 (7 ∷ 8 ∷ []) 2 3 (taken (5 ∷ [])) (taken (5 ∷ 7 ∷ 8 ∷ []))
-written = record { count = refl; left = refl; told = refl; out = refl }
+written = record { count = refl; left = refl; reported = refl; out = refl }
 
 written_though_skipped : FrameWent 2 (7 ∷ 8 ∷ []) 1 2 (taken []) (taken (7 ∷ 8 ∷ [])) → ⊥
 written_though_skipped h = let n : 2 ≡ 0 = ap (λ (l : List ℕ). length l) h.out in omega (arith, n)
 
 partly : FrameCut 2 (7 ∷ 8 ∷ []) 5 (taken []) (taken (7 ∷ [])) 3 1
-partly = record { whole = refl; passed = omega arith; bound = omega arith; left = refl; told = refl; out = refl }
+partly = record { whole = refl; passed = omega arith; bound = omega arith; left = refl; reported = refl; out = refl }
 
 partly_though_skipped : FrameCut 2 (7 ∷ 8 ∷ []) 1 (taken []) (taken (7 ∷ [])) 0 1 → ⊥
 partly_though_skipped h = let e : 2 ≤ 1 = h.passed in omega (arith, e)
@@ -70,14 +70,14 @@ abbrev later : Playing
 later = played fresh (frames 2)
 
 went : Went 1 true fresh 0 (frames 2) later 2 before (record after { left = Some input })
-went = record { state = refl; count = refl; left = refl; out = refl; telling = refl }
+went = record { state = refl; count = refl; left = refl; out = refl; reports = refl }
 
 -- a frame is counted though it is skipped
 miscounted : Went 1 true fresh 0 (frames 2) later 1 before (record after { left = Some input }) → ⊥
 miscounted h = let e : 1 ≡ 2 = h.count in omega (arith, e)
 
 cut : CutIn 1 true fresh 0 (frames 2) (record before { left = Some [] }) four_bytes 1 0 4
-cut = record { done = frames 1; rest = frames 1; cut = refl; count = refl; whole = refl; part = in_a_frame; left = refl; out = refl; telling = refl }
+cut = record { done = frames 1; rest = frames 1; cut = refl; count = refl; whole = refl; part = in_a_frame; left = refl; out = refl; reports = refl }
 
 skipped_is_counted : CutIn 1 true fresh 0 (frames 2) (record before { left = Some [] }) four_bytes 1 1 4 → ⊥
 skipped_is_counted h = let e : 1 ≡ 1 - 1 = h.whole in omega (arith, e)
@@ -91,17 +91,17 @@ stops_by_memory h = h
 -- ---- lines
 
 line_went : LineWent 1 true fresh 0 1 two_frames later 2 before (record after { left = Some input })
-line_went = record { steps = Frames 2 ∷ []; messages = end_told; does = two_are_played; state = refl; count = refl; left = refl; out = refl; telling = refl }
+line_went = record { steps = Frames 2 ∷ []; messages = end_told; does = two_are_played; state = refl; count = refl; left = refl; out = refl; reports = refl }
 
-bad_went : LineWent 1 true fresh 0 1 at_sign fresh 0 before (record before { told = Some bad_told })
-bad_went = record { steps = []; messages = bad_told; does = bad_is_told; state = refl; count = refl; left = refl; out = refl; telling = refl }
+bad_went : LineWent 1 true fresh 0 1 at_sign fresh 0 before (record before { reported = Some bad_told })
+bad_went = record { steps = []; messages = bad_told; does = bad_is_told; state = refl; count = refl; left = refl; out = refl; reports = refl }
 
-at_no_frame : (steps : List Step) (told : List Message) → LineDoes true fresh 0 1 at_sign steps told → 1 ≡ 0 + length (frames_of fresh (events_of steps)) → ⊥
-at_no_frame steps told (inl h) count = no_steps.none steps h.0.holds
-at_no_frame steps told (inr h) count = let n : length (frames_of fresh (events_of steps)) ≡ 0 = ap (λ (l : List Step). length (frames_of fresh (events_of l))) h.2 in omega (arith, n, count)
+at_no_frame : (steps : List Step) (reported : List Message) → LineDoes true fresh 0 1 at_sign steps reported → 1 ≡ 0 + length (frames_of fresh (events_of steps)) → ⊥
+at_no_frame steps reported (inl h) count = no_steps.none steps h.0.holds
+at_no_frame steps reported (inr h) count = let n : length (frames_of fresh (events_of steps)) ≡ 0 = ap (λ (l : List Step). length (frames_of fresh (events_of l))) h.2 in omega (arith, n, count)
 
--- one that holds no steps counts no frame
-bad_counted : LineWent 1 true fresh 0 1 at_sign fresh 1 before (record before { told = Some bad_told }) → ⊥
+-- a line that lists no steps counts no frame
+bad_counted : LineWent 1 true fresh 0 1 at_sign fresh 1 before (record before { reported = Some bad_told }) → ⊥
 bad_counted h = at_no_frame h.steps h.messages h.does h.count
 
 line_stops : LineStops 1 true fresh 0 two_frames (record before { left = Some [] }) four_bytes (Write 0 4)
@@ -123,6 +123,6 @@ no_more lines n given =
     let m : length (lines_of input) ≡ length (lines ++ lines_of input) = ap (λ (l : List (List ℕ)). length l) given in
     omega (arith, n, m, length-append lines (lines_of input))
 
--- no line is given, and one is counted
+-- no line is given, but one is counted
 line_invented : Going 1 true fresh before before fresh 0 1 → ⊥
 line_invented h = no_more h.lines h.numbered h.reached.given

@@ -55,22 +55,22 @@ pub one_does : LinesDo true fresh 0 0 one (Frames 2 ∷ []) end_told
 one_does = (Frames 2 ∷ [], [], end_told, [], refl, refl, two_are_played, (refl, refl))
 
 abbrev pub reached : Reached 1 true fresh before after one
-reached = record { given = refl; steps = Frames 2 ∷ []; messages = end_told; does = one_does; out = refl; telling = refl }
+reached = record { given = refl; steps = Frames 2 ∷ []; messages = end_told; does = one_does; out = refl; reports = refl }
 
 abbrev pub reached_first : Reached 1 true fresh before before []
-reached_first = record { given = refl; steps = []; messages = []; does = (refl, refl); out = refl; telling = refl }
+reached_first = record { given = refl; steps = []; messages = []; does = (refl, refl); out = refl; reports = refl }
 
--- what a line that is read leads to
+-- reading a line
 no_bytes : (p : Playing) (steps : List Step) → steps ≡ [] → length (kept_bytes 1 p (events_of steps)) ≡ 0
 no_bytes p steps none = ap (λ (l : List Step). length (kept_bytes 1 p (events_of l))) none
 
--- bytes of no line
+-- bytes without a line
 unasked_bytes : Reached 1 true fresh before (streamed (Some input) (Some (7 ∷ [])) (Some [])) [] → ⊥
 unasked_bytes h =
     let n : 1 ≡ length (kept_bytes 1 fresh (events_of h.steps)) = ap (λ (l : List ℕ). length l) h.out in
     omega (arith, n, no_bytes fresh h.steps h.does.0)
 
--- a line that was read is one of the lines
+-- a line that was read is missing
 line_forgotten : (w : Option (List ℕ)) (t : Option (List Message)) → Reached 1 true fresh before (streamed (Some []) w t) [] → ⊥
 line_forgotten w t h = let n : 1 ≡ 0 = ap (λ (l : List (List ℕ)). length l) h.given in omega (arith, n)
 
@@ -80,11 +80,11 @@ done = (one, reached)
 whole : Whole 1 true fresh before after
 whole = (one, reached, refl)
 
--- input is left
+-- bytes are left in the input
 not_whole : (w : Option (List ℕ)) (t : Option (List Message)) → Whole 1 true fresh before (streamed (Some input) w t) → ⊥
 not_whole w t h = let n : 9 ≡ 0 = ap (λ (l : List ℕ). length l) h.2 in omega (arith, n)
 
--- ---- the moments at which a line was asked for
+-- ---- the requests for lines
 
 prompt : IsPrompt 1 true fresh before (Some []) (Some (before ∷ after ∷ []))
 prompt = record { moments = before ∷ after ∷ []; grows = refl; done = (([], reached_first), (done, tt)) }
@@ -100,10 +100,10 @@ no_fault (Byte column) h = h.none (Frames 2 ∷ []) two_are_held.holds
 no_fault (Number column) h = h.none (Frames 2 ∷ []) two_are_held.holds
 no_fault (Expected column) h = h.none (Frames 2 ∷ []) two_are_held.holds
 
-steps_of_one : HoldsOneList → (steps : List Step) (told : List Message) → LinesDo true fresh 0 0 one steps told → steps ≡ Frames 2 ∷ []
-steps_of_one law steps told (a, rest, front, back, cut, parts, inl h, others) =
+steps_of_one : HoldsOneList → (steps : List Step) (reported : List Message) → LinesDo true fresh 0 0 one steps reported → steps ≡ Frames 2 ∷ []
+steps_of_one law steps reported (a, rest, front, back, cut, parts, inl h, others) =
     cut ∙ ap (λ (l : List Step). l ++ rest) (only_two law a h.0) ∙ ap (λ (l : List Step). Frames 2 ∷ l) others.0
-steps_of_one law steps told (a, rest, front, back, cut, parts, inr h, others) = absurd (no_fault h.0 h.1)
+steps_of_one law steps reported (a, rest, front, back, cut, parts, inr h, others) = absurd (no_fault h.0 h.1)
 
 not_done : HoldsOneList → (lines : List (List ℕ)) → Reached 1 true fresh before late lines → ⊥
 not_done law lines h =
@@ -131,7 +131,7 @@ no_lines [] rest h = refl
 no_lines (x ∷ xs) None h = absurd h
 no_lines (x ∷ xs) (Some r) h = let n : 0 ≡ length (x ∷ (xs ++ lines_of r)) = ap (λ (l : List (List ℕ)). length l) h in absurd (omega (arith, n))
 
--- bytes of no line
+-- bytes without a line
 broken_with_bytes : Broken 1 true fresh nothing_left (streamed None (Some (7 ∷ [])) (Some [])) → ⊥
 broken_with_bytes (lines, rest, h) =
     let none = no_lines lines rest h.given in
@@ -140,7 +140,7 @@ broken_with_bytes (lines, rest, h) =
     omega (arith, n, no_bytes fresh h.steps does.0)
 
 unserved : Unserved 1 true fresh before nothing_left
-unserved = ([], two_frames, Some input, record { given = refl; steps = []; messages = []; does = (refl, refl); out = refl; telling = refl }, refl)
+unserved = ([], two_frames, Some input, record { given = refl; steps = []; messages = []; does = (refl, refl); out = refl; reports = refl }, refl)
 
 -- no line was read
 unserved_of_none : Unserved 1 true fresh nothing_left nothing_left → ⊥
@@ -159,12 +159,12 @@ in_a_frame = inr ([], refl, omega (arith, a_frame), refl)
 between_frames : IsCutAt 0 3 fresh (frames 5)
 between_frames = inl refl
 
--- a frame of which all bytes are out is none that was cut
+-- a frame of which all bytes were written was not cut
 whole_frame : IsCutAt 96 0 (played fresh (frames 1)) (frames 1) → ⊥
 whole_frame (inl e) = omega (arith, e)
 whole_frame (inr h) = omega (arith, a_frame, h.2)
 
--- nor is one that is skipped
+-- nor was one that is skipped
 skipped_frame : IsCutAt 4 1 fresh (frames 1) → ⊥
 skipped_frame (inl e) = omega (arith, e)
 skipped_frame (inr h) = let e : 1 ≡ 0 = h.3 in omega (arith, e)
@@ -189,10 +189,10 @@ cut = record {
   whole = refl;
   part = in_a_frame;
   out = refl;
-  telling = refl;
+  reports = refl;
 }
 
--- the skipped frame is none that went out
+-- the skipped frame is not among those written
 skipped_is_counted : Cut 1 true fresh before four_bytes 1 1 4 → ⊥
 skipped_is_counted h = let e : 1 ≡ 1 - 1 = h.whole in omega (arith, e)
 
@@ -237,7 +237,7 @@ starts h = record {
       count = refl;
       day = refl;
       eid = refl;
-      turn = refl;
+      page_index = refl;
     };
     none_yet = refl;
   };
@@ -249,7 +249,7 @@ starts_later h = let e : 1 ≡ 0 = h.begins.none_yet in omega (arith, e)
 lives : Lives 1 true fresh before after (Ok tt)
 lives = whole
 
--- a code that begins so is one
+-- a run that begins does not report a fault of the code
 lives_as_no_code : Lives 1 true fresh before after (Err (Playback (Code Magic))) → ⊥
 lives_as_no_code h = let e : Code Magic ≡ Code NoMemoryForCode = h in absurd cc
 

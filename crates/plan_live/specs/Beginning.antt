@@ -1,4 +1,4 @@
--- How a live run of a code's file begins, and its outcome.
+-- How a live run of a code file begins, and its outcome.
 use Rattle.std.specs.Prelude.{◌≡◌, ◌≢◌, ℕ, Bool, Result, Ok, Err, Some}
 use Rattle.plan_code.specs.declared.fault.CodeFault.TheVariants.{Memory as NoMemoryForCode}
 use Rattle.plan_code.specs.Faults.{HasCodeFault}
@@ -12,7 +12,7 @@ use Rattle.plan_live.specs.declared.fault.LiveFault.{LiveFault}
 use Rattle.plan_live.specs.declared.fault.LiveFault.TheVariants.{Playback, Stopped}
 use Rattle.plan_live.specs.Living.{Streamed, Whole, StoppedBy, HasFailed}
 
--- the code can be played from the start, and this is the player there
+-- the code can be played from the start, and this is the player at the start
 pub record Begins (r : Request) (p : Playing) : Type 0 where
   pub ready : CanStart p.code r
   pub begins : IsAtStart p.code (start_of p.code r) p
@@ -23,7 +23,7 @@ Lives skip status p old new (Ok done) = Whole skip status p old new
 Lives skip status p old new (Err (Playback fault)) = fault ≡ Code NoMemoryForCode
 Lives skip status p old new (Err (Stopped stop)) = StoppedBy skip status p old new stop
 
--- what holds where a run does not begin
+-- the fault with which a run does not begin
 abbrev pub IsBeginFault : Request → RunFault → Type 0
 IsBeginFault r (Code fault) = fault ≢ NoMemoryForCode → HasCodeFault r.file fault
 IsBeginFault r (Refused pc line cause) = (code : Program) × IsFileOf code r.file × IsRefused code pc cause × (line ≡ or_zero (line_at code pc))
@@ -31,8 +31,7 @@ IsBeginFault r (Start fault) = (code : Program) × IsTypedFileOf code r.file × 
 IsBeginFault r (Events fault) = ⊥
 IsBeginFault r (Write frames bytes) = ⊥
 
--- what holds where a fault is returned: it is one, or the run began; and where it did not, nothing was read,
--- written or reported
+-- a returned fault is present, or the run began; and if it did not begin, nothing was read, written or reported
 abbrev pub IsLiveFault : Request → Streamed → Streamed → LiveFault → Type 0
 IsLiveFault r old new (Playback fault) = IsBeginFault r fault × (new ≡ old)
 IsLiveFault r old new (Stopped stop) = (p : Playing) × Begins r p

@@ -18,20 +18,20 @@ use Rattle.plan_live.specs.Growing.{Grows}
 abbrev pub kept : ℕ → ℕ → List ℕ → List ℕ
 kept skip n frame = if nat_lt n skip then [] else frame
 
--- a frame of this number and these bytes was written, or is skipped, and was counted
+-- a frame of this number and these bytes was written or skipped, and was counted
 pub record FrameWent (skip : ℕ) (bytes : List ℕ) (n m : ℕ) (before after : Streamed) : Type 0 where
   pub count : m ≡ n + 1
   pub left : after.left ≡ before.left
-  pub told : after.told ≡ before.told
+  pub reported : after.reported ≡ before.reported
   pub out : Appends before.written after.written (kept skip n bytes)
 
--- the output took this many bytes of it, which is no skipped one
+-- a frame that is not skipped was cut: the output took this many bytes of it
 pub record FrameCut (skip : ℕ) (bytes : List ℕ) (n : ℕ) (before after : Streamed) (frames taken : ℕ) : Type 0 where
   pub whole : frames ≡ n - skip
   pub passed : skip ≤ n
   pub bound : taken < length bytes
   pub left : after.left ≡ before.left
-  pub told : after.told ≡ before.told
+  pub reported : after.reported ≡ before.reported
   pub out : Appends before.written after.written (take taken bytes)
 
 abbrev pub FrameStops : ℕ → List ℕ → ℕ → Streamed → Streamed → Stop → Type 0
@@ -40,17 +40,17 @@ FrameStops skip bytes n before after Read = ⊥
 FrameStops skip bytes n before after Memory = ⊥
 FrameStops skip bytes n before after TooMany = (after ≡ before) × (n ≡ most)
 
--- from a player whose next frame has number n these events lead to another, whose next frame has number m; their
--- frames were written, but for those that are skipped, and their notes were reported
+-- these events take a player whose next frame has number n to another, whose next frame has number m; their
+-- frames were written, except those skipped, and their notes were reported
 pub record Went (skip : ℕ) (status : Bool) (old : Playing) (n : ℕ) (events : List Event) (new : Playing) (m : ℕ) (before after : Streamed) : Type 0 where
   pub state : new ≡ played old events
   pub count : m ≡ n + length (frames_of old events)
   pub left : after.left ≡ before.left
   pub out : Appends before.written after.written (kept_bytes (skip - n) old events)
-  pub telling : Grows before.told after.told (notes_if status n old.code old.state events)
+  pub reports : Grows before.reported after.reported (notes_if status n old.code old.state events)
 
--- some of them were played, which makes this many frames in all, and then the output failed, or the count was at
--- its end
+-- some of the events were played, up to this many frames in all, and then the output failed, or the frame count
+-- reached its maximum
 pub record CutIn (skip : ℕ) (status : Bool) (old : Playing) (n : ℕ) (events : List Event) (before after : Streamed) (made frames bytes : ℕ) : Type 0 where
   pub done : List Event
   pub rest : List Event
@@ -60,7 +60,7 @@ pub record CutIn (skip : ℕ) (status : Bool) (old : Playing) (n : ℕ) (events 
   pub part : IsCutAt bytes (skip - made) (played old done) rest
   pub left : after.left ≡ before.left
   pub out : Appends before.written after.written (kept_bytes (skip - n) old done ++ take bytes (next_frame (played old done)))
-  pub telling : Grows before.told after.told (notes_if status n old.code old.state done)
+  pub reports : Grows before.reported after.reported (notes_if status n old.code old.state done)
 
 abbrev pub StopsIn : ℕ → Bool → Playing → ℕ → List Event → Streamed → Streamed → Stop → Type 0
 StopsIn skip status old n events before after (Write frames bytes) = (made : ℕ) × CutIn skip status old n events before after made frames bytes
@@ -77,9 +77,9 @@ pub record LineWent (skip : ℕ) (status : Bool) (old : Playing) (n number : ℕ
   pub count : m ≡ n + length (frames_of old (events_of steps))
   pub left : after.left ≡ before.left
   pub out : Appends before.written after.written (kept_bytes (skip - n) old (events_of steps))
-  pub telling : Grows before.told after.told messages
+  pub reports : Grows before.reported after.reported messages
 
--- or was not
+-- a line was not processed
 abbrev pub LineStops : ℕ → Bool → Playing → ℕ → List ℕ → Streamed → Streamed → Stop → Type 0
 LineStops skip status old n line before after (Write frames bytes) = (steps : List Step) × LineHolds line steps × ((made : ℕ) × CutIn skip status old n (events_of steps) before after made frames bytes)
 LineStops skip status old n line before after Read = ⊥
@@ -87,7 +87,7 @@ LineStops skip status old n line before after Memory = after ≡ before
 LineStops skip status old n line before after TooMany =
     (steps : List Step) × LineHolds line steps × ((frames : ℕ) × CutIn skip status old n (events_of steps) before after most frames 0)
 
--- some lines are processed: this is the player, its next frame has number m, and the next line follows this many
+-- some lines are processed: this is the player, its next frame has number m, and this many lines precede the next line
 pub record Going (skip : ℕ) (status : Bool) (p : Playing) (old now : Streamed) (q : Playing) (m number : ℕ) : Type 0 where
   pub lines : List (List ℕ)
   pub reached : Reached skip status p old now lines

@@ -1,7 +1,7 @@
--- What is known of a list that grows.
+-- A list that grows, if it is known.
 use Rattle.std.specs.Prelude.{◌≡◌, List, ◌++◌, Option, None, Some}
 
--- where the list is known, these were added at its end
+-- if the list is known, these were appended to it
 abbrev pub Grows : {A : Type 0} → Option (List A) → Option (List A) → List A → Type 0
 Grows None new more = Unit {0}
 Grows (Some old) None more = ⊥

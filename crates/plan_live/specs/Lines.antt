@@ -1,4 +1,4 @@
--- What the lines of a live run list, and what is reported of them.
+-- The steps of the lines of a live run, and the messages reported for them.
 use Rattle.std.specs.Prelude.{◌≡◌, ◌⊎◌, ℕ, ◌+◌, ◌<◌, ◌≤◌, Bool, List, [], ◌∷◌, ◌++◌, length}
 use Rattle.std.specs.Str.{IsUtf8}
 use Rattle.plan_player.specs.Playing.{Playing, played}
@@ -17,19 +17,19 @@ use Rattle.plan_live.specs.Notes.{notes_if}
 
 -- ---- one line
 
--- a line lists these steps: it is short enough, a text, and as an event file of its own it lists them
+-- a line lists these steps: it is short enough, it is text, and as an event file it lists them
 pub record LineHolds (line : List ℕ) (steps : List Step) : Type 0 where
   pub short : length line ≤ 65536
   pub text : IsUtf8 line
   pub holds : Holds line steps
 
--- a line that is short enough and a text, but lists no steps
+-- a line that is short enough and text, but lists no steps
 pub record HoldsNone (line : List ℕ) : Type 0 where
   pub short : length line ≤ 65536
   pub text : IsUtf8 line
   pub none : (steps : List Step) → Holds line steps → ⊥
 
--- the line lists no steps, and this is why
+-- the line lists no steps, for this reason
 abbrev pub IsLineFault : List ℕ → LineFault → Type 0
 IsLineFault line Limit = 65536 < length line
 IsLineFault line NoText = (length line ≤ 65536) × (IsUtf8 line → ⊥)
@@ -39,31 +39,31 @@ IsLineFault line (Expected column) = HoldsNone line
 
 -- ---- the outcome of a line
 
--- the line of this number has these steps, from this player on, whose next frame has number n: it lists them, and
+-- the line of this number has these steps, for this player, whose next frame has number n: it lists them, and
 -- the notes of their frames are reported; or it lists none, does nothing, and its fault is reported
 abbrev pub LineDoes : Bool → Playing → ℕ → ℕ → List ℕ → List Step → List Message → Type 0
-LineDoes status p n number line steps told =
-    (LineHolds line steps × (told ≡ notes_if status n p.code p.state (events_of steps)))
-    ⊎ ((fault : LineFault) × IsLineFault line fault × (steps ≡ []) × (told ≡ Bad number fault ∷ []))
+LineDoes status p n number line steps reported =
+    (LineHolds line steps × (reported ≡ notes_if status n p.code p.state (events_of steps)))
+    ⊎ ((fault : LineFault) × IsLineFault line fault × (steps ≡ []) × (reported ≡ Bad number fault ∷ []))
 
 -- the lines, of which the first has the number after this one, have these steps and messages, one after another
 abbrev pub LinesDo : Bool → Playing → ℕ → ℕ → List (List ℕ) → List Step → List Message → Type 0
-LinesDo status p n number [] steps told = (steps ≡ []) × (told ≡ [])
-LinesDo status p n number (line ∷ lines) steps told =
+LinesDo status p n number [] steps reported = (steps ≡ []) × (reported ≡ [])
+LinesDo status p n number (line ∷ lines) steps reported =
     (first : List Step) × (rest : List Step) × (front : List Message) × (back : List Message)
-    × (steps ≡ first ++ rest) × (told ≡ front ++ back) × LineDoes status p n (number + 1) line first front
+    × (steps ≡ first ++ rest) × (reported ≡ front ++ back) × LineDoes status p n (number + 1) line first front
     × LinesDo status (played p (events_of first)) (n + length (frames_of p (events_of first))) (number + 1) lines rest back
 
 -- ---- reading a line
 
--- the fault of a line, given that of the event file which it forms
+-- the fault of a line, given the fault of the event file that it forms
 abbrev pub unread_of : EventFault → Unread
 unread_of (AtByte position) = IsBad (Byte position.column)
 unread_of (AtNumber position) = IsBad (Number position.column)
 unread_of (AtOther position) = IsBad (Expected position.column)
 unread_of NoMemory = Memory
 
--- what is known where the steps of a line can't be read
+-- why the steps of a line can't be read
 abbrev pub IsUnread : List ℕ → Unread → Type 0
 IsUnread line (IsBad fault) = IsLineFault line fault
 IsUnread line Memory = Unit {0}

@@ -16,7 +16,7 @@ use Rattle.plan_live.specs.Lines.{LineHolds, LinesDo}
 use Rattle.plan_live.specs.Notes.{notes_if}
 use Rattle.plan_live.specs.Growing.{Grows}
 
--- the bytes of the frames of these events, but for the first `skip` of them
+-- the bytes of the frames of these events, except the first `skip` of them
 abbrev pub kept_bytes : ℕ → Playing → List Event → List ℕ
 kept_bytes skip p events = concat (drop skip (frames_of p events))
 
@@ -25,14 +25,14 @@ kept_bytes skip p events = concat (drop skip (frames_of p events))
 pub record Streamed : Type 0 where
   pub left : Option (List ℕ)
   pub written : Option (List ℕ)
-  pub told : Option (List Message)
+  pub reported : Option (List Message)
 
 abbrev pub streamed : Option (List ℕ) → Option (List ℕ) → Option (List Message) → Streamed
-streamed left written told = record { left = left; written = written; told = told }
+streamed left written reported = record { left = left; written = written; reported = reported }
 
 -- ---- lines that are processed
 
--- these lines were read; the frames of the steps that they list were written, but for the first `skip`; and their
+-- these lines were read; the frames of the steps that they list were written, except the first `skip`; and their
 -- notes were reported
 pub record Reached (skip : ℕ) (status : Bool) (p : Playing) (old new : Streamed) (lines : List (List ℕ)) : Type 0 where
   pub given : GivesLines old.left lines new.left
@@ -40,18 +40,18 @@ pub record Reached (skip : ℕ) (status : Bool) (p : Playing) (old new : Streame
   pub messages : List Message
   pub does : LinesDo status p 0 0 lines steps messages
   pub out : Appends old.written new.written (kept_bytes skip p (events_of steps))
-  pub telling : Grows old.told new.told messages
+  pub reports : Grows old.reported new.reported messages
 
 -- some lines are processed
 abbrev pub AreDone : ℕ → Bool → Playing → Streamed → Streamed → Type 0
 AreDone skip status p old new = (lines : List (List ℕ)) × Reached skip status p old new lines
 
--- all lines are, and the input is at its end
+-- all lines are processed, and the input is at its end
 abbrev pub Whole : ℕ → Bool → Playing → Streamed → Streamed → Type 0
 Whole skip status p old new = (lines : List (List ℕ)) × Reached skip status p old new lines × IsAtEnd new.left
 
--- each time that a line was asked for, all lines before it had been processed: these are the states at which it
--- was
+-- each time a line was requested, all lines before it had been processed; `moments` are the states at these
+-- requests
 pub record IsPrompt (skip : ℕ) (status : Bool) (p : Playing) (old : Streamed) (before after : Option (List Streamed)) : Type 0 where
   pub moments : List Streamed
   pub grows : Grows before after moments
@@ -59,7 +59,7 @@ pub record IsPrompt (skip : ℕ) (status : Bool) (p : Playing) (old : Streamed) 
 
 -- ---- a run that stops
 
--- as many as are counted of lines, and of frames
+-- the largest count of lines, and of frames
 abbrev pub most : ℕ
 most = 18446744073709551615
 
@@ -72,15 +72,14 @@ abbrev pub Unserved : ℕ → Bool → Playing → Streamed → Streamed → Typ
 Unserved skip status p old new = (lines : List (List ℕ)) × (last : List ℕ) × (rest : Option (List ℕ))
     × Reached skip status p old (record new { left = rest }) lines × GivesLines old.left (lines ++ last ∷ []) new.left
 
--- where the output fails at the next of these events, of which it took this many bytes; or between two frames
+-- the output fails at the next of these events, of which it took this many bytes; or between two frames
 abbrev pub IsCutAt : ℕ → ℕ → Playing → List Event → Type 0
 IsCutAt bytes passed p rest =
     (bytes ≡ 0)
     ⊎ ((more : List Event) × (rest ≡ Frame ∷ more) × (bytes < length (next_frame p)) × (passed ≡ 0))
 
 -- some lines were processed, and one more was read, of which the first events were played: this many frames were
--- made in all, this many of them were written, which are those without the skipped ones, and this many bytes of
--- the next one
+-- made in all, and this many were written, which are those not skipped, and this many bytes of the next frame
 pub record Cut (skip : ℕ) (status : Bool) (p : Playing) (old new : Streamed) (made frames bytes : ℕ) : Type 0 where
   pub lines : List (List ℕ)
   pub last : List ℕ
@@ -98,7 +97,7 @@ pub record Cut (skip : ℕ) (status : Bool) (p : Playing) (old new : Streamed) (
   pub part : IsCutAt bytes (skip - made) (played p (events_of steps ++ done)) rest
   pub out : Appends old.written new.written
       (kept_bytes skip p (events_of steps ++ done) ++ take bytes (next_frame (played p (events_of steps ++ done))))
-  pub telling : Grows old.told new.told (messages ++ notes_if status (length (frames_of p (events_of steps)))
+  pub reports : Grows old.reported new.reported (messages ++ notes_if status (length (frames_of p (events_of steps)))
       p.code (played p (events_of steps)).state done)
 
 abbrev pub StoppedBy : ℕ → Bool → Playing → Streamed → Streamed → Stop → Type 0

@@ -1,4 +1,4 @@
--- What is reported of the frames of a run: the swaps, the notices that begin, and the end.
+-- The notes of the frames of a run: swaps, the start of notices, and the end.
 use Rattle.std.specs.Prelude.{ℕ, ◌+◌, Bool, true, false, if◌then◌else◌, List, [], ◌∷◌, ◌++◌}
 use Rattle.mux_config.specs.Change.{change_of, bits_of}
 use Rattle.plan_code.specs.declared.hold.Hold.{Hold}
@@ -17,8 +17,8 @@ use Rattle.plan_live.specs.declared.message.Message.TheVariants.{Swap, Notice, E
 abbrev pub swap_note : ℕ → State → List Message
 swap_note n s = if is_due s.left then Swap n s.count ∷ [] else []
 
--- the frame of this number and count, whose bytes show the state t, is the first of a notice: the change flags that it
--- announces, and the low part of the count of the swap
+-- the frame of this number and count, whose bytes show the state t, is the first of a notice: the announced change
+-- flags, and the low part of the count of the swap
 abbrev pub notice_note : ℕ → ℕ → Plan → State → List Message
 notice_note n count plan t =
     if is_first_noticed plan.notice t.left then Notice n count (bits_of (change_of t.current t.next)) (low_of_swap count t.left) ∷ [] else []
@@ -34,12 +34,11 @@ has_ended Ended = true
 abbrev pub end_note : ℕ → State → State → List Message
 end_note n s t = if has_ended s.hold then [] else if has_ended t.hold then End n s.count ∷ [] else []
 
--- what is reported of the frame of this number
+-- the notes of the frame of this number
 abbrev pub frame_notes : ℕ → Program → State → List Message
 frame_notes n p s = swap_note n s ++ (notice_note n s.count p.plan (shown p s) ++ end_note n s (after_frame p s))
 
--- what is reported of the frames of these events, of which the first has this number; nothing where no status is
--- wanted
+-- the notes of the frames of these events, of which the first has this number; none if status is off
 abbrev pub notes : ℕ → Program → State → List Event → List Message
 notes n p s [] = []
 notes n p s (Contact c closed ∷ es) = notes n p (happens p s (Contact c closed)) es

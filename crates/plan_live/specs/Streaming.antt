@@ -1,4 +1,4 @@
--- The reader, writer and messages of streams.
+-- The reader, writer and message sink of streams.
 use Rattle.plan_live.specs.declared.streams.Streams.{Streams}
 
 abbrev pub writer_of : {R W M : Type 0} → Streams R W M → W

@@ -1,4 +1,4 @@
-//! What a live run reads from and writes to.
+//! The three streams of a live run, as traits: lines in, bytes out, and messages.
 
 ghost use Rattle.std.specs.Prelude.{◌≡◌, ◌<◌, ◌≤◌, ℕ, List, ◌∷◌, [], length, take, true, false, OnOk, OnErr, IfErr};
 ghost use Rattle.std.specs.Io.KnownBytes.{Appends, Keeps, IsAtEnd};
@@ -11,17 +11,17 @@ use crate::message::Message;
 use arrayvec::ArrayVec;
 use console::lines::Heard;
 
-/// Takes messages. One that can't be delivered is lost; nothing blocks on it.
+/// A message sink. A message that can't be delivered is lost; a call never blocks.
 pub trait Messages {
     ghost use Rattle.std.specs.Prelude.{List, Option};
     ghost use Rattle.plan_live.specs.declared.message.Message.{Message};
 
-    /// The messages so far, where they are known.
-    ghost told: { Self → Option (List Message) };
+    /// The messages so far, if known.
+    ghost reported: { Self → Option (List Message) };
 
     /// Takes a message.
-    fn tell(&mut self, message: Message)
-        ensures { Grows (told self.old) (told self.new) (message ∷ []) };
+    fn report(&mut self, message: Message)
+        ensures { Grows (reported self.old) (reported self.new) (message ∷ []) };
 }
 
 /// The three streams of a live run: an input of lines, an output of bytes, and a sink of messages. No line is read
@@ -31,19 +31,19 @@ pub trait Ends {
     ghost use Rattle.plan_live.specs.declared.message.Message.{Message};
     ghost use Rattle.plan_live.specs.Living.{Streamed};
 
-    /// The bytes that are left of the input, where they are known.
+    /// The remaining bytes of the input, if known.
     ghost left: { Self → Option (List ℕ) };
 
-    /// The bytes that the output has taken, where they are known.
+    /// The bytes that the output has taken, if known.
     ghost written: { Self → Option (List ℕ) };
 
-    /// The messages so far, where they are known.
-    ghost told: { Self → Option (List Message) };
+    /// The messages so far, if known.
+    ghost reported: { Self → Option (List Message) };
 
     /// Whether the output is flushed.
     ghost is_flushed: { Self → Bool };
 
-    /// What was left, written and reported each time that a line was asked for, where that is known.
+    /// The remaining, written and reported items at each request for a line, if known.
     ghost moments: { Self → Option (List Streamed) };
 
     /// Whether the input could not be read.
@@ -52,8 +52,8 @@ pub trait Ends {
     /// Whether a write to the output or a flush of it has failed.
     ghost output_failed: { Self → Bool };
 
-    /// Reads up to the next line feed and no byte further, and puts the line, without its feed, into `line`. At any
-    /// result but `Line` the content of `line` is unspecified.
+    /// Reads up to the next line feed and no byte further, and puts the line, without its line feed, into `line`. With
+    /// any result but `Line` the content of `line` is unspecified.
     fn next(&mut self, line: &mut ArrayVec<u8, 65536>) -> Heard
         requires flushed { is_flushed self.old ≡ true }
         ensures line { result ≡ IsLine → GivesLine (left self.old) line.new.items (left self.new) }
@@ -64,10 +64,10 @@ pub trait Ends {
             → Keeps (left self.old) (left self.new) × IsAtEnd (left self.new) }
         ensures failed { result ≡ IsFailed → input_failed self.new ≡ true }
         ensures moments { Grows (moments self.old) (moments self.new)
-            (streamed (left self.old) (written self.old) (told self.old) ∷ []) }
+            (streamed (left self.old) (written self.old) (reported self.old) ∷ []) }
         ensures flushed { is_flushed self.new ≡ true }
         ensures written { written self.new ≡ written self.old }
-        ensures told { told self.new ≡ told self.old };
+        ensures reported { reported self.new ≡ reported self.old };
 
     /// Writes these bytes. `Err`: the output failed after this many of them, fewer than all.
     fn write(&mut self, bytes: &[u8]) -> Result<(), usize>
@@ -78,7 +78,7 @@ pub trait Ends {
         ensures failed { OnErr result (output_failed self.new ≡ true) }
         ensures moments { moments self.new ≡ moments self.old }
         ensures left { left self.new ≡ left self.old }
-        ensures told { told self.new ≡ told self.old };
+        ensures reported { reported self.new ≡ reported self.old };
 
     /// Flushes the output, and returns whether that succeeded.
     fn flush(&mut self) -> bool
@@ -87,11 +87,11 @@ pub trait Ends {
         ensures written { Keeps (written self.old) (written self.new) }
         ensures moments { moments self.new ≡ moments self.old }
         ensures left { left self.new ≡ left self.old }
-        ensures told { told self.new ≡ told self.old };
+        ensures reported { reported self.new ≡ reported self.old };
 
     /// Takes a message.
-    fn tell(&mut self, message: Message)
-        ensures told { Grows (told self.old) (told self.new) (message ∷ []) }
+    fn report(&mut self, message: Message)
+        ensures reported { Grows (reported self.old) (reported self.new) (message ∷ []) }
         ensures moments { moments self.new ≡ moments self.old }
         ensures flushed { is_flushed self.new ≡ is_flushed self.old }
         ensures written { written self.new ≡ written self.old }

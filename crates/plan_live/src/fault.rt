@@ -6,8 +6,8 @@ use thiserror::Error;
 /// Why no further line is read.
 #[derive(Clone, Copy, Debug, PartialEq, Eq, Error)]
 pub enum Stop {
-    /// The output failed: it took this many whole frames, without those that were skipped, and this many bytes of the
-    /// one after them, fewer than a frame has.
+    /// The output failed: it took this many whole frames, not counting those skipped, and this many bytes of the
+    /// next frame, fewer than a frame has.
     #[error("write failed after {frames} frames and {bytes} bytes")]
     Write { frames: u64, bytes: usize },
     /// The input could not be read.
@@ -16,15 +16,15 @@ pub enum Stop {
     /// Out of memory for the steps of a line.
     #[error("no memory")]
     Memory,
-    /// 2^64 - 1 frames were made, or as many lines were read.
+    /// 2^64 - 1 frames were made, or 2^64 - 1 lines were read.
     #[error("too many frames or lines")]
     TooMany,
 }
 
-/// Why a code's file is not played to the end of the input: the first of these that holds.
+/// Why a code file is not played to the end of the input: the first of these that holds.
 #[derive(Clone, Copy, Debug, PartialEq, Eq, Error)]
 pub enum LiveFault {
-    /// The code can't be played from the start, as `run` would say: `Code`, `Refused` or `Start`. No line was read.
+    /// The code can't be played from the start, as in `run`: `Code`, `Refused` or `Start`. No line was read.
     #[error("{0}")]
     Playback(RunFault),
     /// The run began, and stopped.

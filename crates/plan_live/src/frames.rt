@@ -1,4 +1,4 @@
-//! Making and writing the frames of steps.
+//! Makes and writes the frames of steps.
 
 ghost use Rattle.std.specs.Prelude.{◌≡◌, ◌-◌, ◌<◌, ◌≤◌, [], ◌∷◌, length, take, true, replicate, OnOk, OnErr, IfErr};
 ghost use Rattle.std.specs.List.{AllByRecursion};
@@ -13,21 +13,21 @@ ghost use Rattle.plan_live.specs.declared.fault.Stop.TheVariants.{Write};
 
 use crate::ends::Ends;
 use crate::fault::Stop;
-use crate::notes::{look_at, tell_frame};
+use crate::notes::{look_at, report_frame};
 use crate::options::LiveOptions;
 use fib_codec::FibFrame;
 use mux_config::Store;
 use plan_player::Player;
 use plan_session::Step;
 
-/// How many frames were written of this many that were made.
+/// How many of the frames made so far were written.
 fn written_of(made: u64, skip: u32) -> u64
     ensures { result ≡ made - skip }
 {
     made.saturating_sub(u64::from(skip))
 }
 
-/// Writes the bytes of the frame of this number, unless it is skipped. `Err`: the output took this many of them.
+/// Writes the bytes of the frame of this number, unless it is skipped. `Err`: the output took only this many.
 fn put<E: Ends>(bytes: &[u8], number: u64, skip: u32, ends: &mut E) -> Result<(), usize>
     ensures all { OnOk result
         (Appends (E.written ends.old) (E.written ends.new) (kept skip number bytes.now)) }
@@ -38,7 +38,7 @@ fn put<E: Ends>(bytes: &[u8], number: u64, skip: u32, ends: &mut E) -> Result<()
     ensures failed { OnErr result (E.output_failed ends.new ≡ true) }
     ensures moments { E.moments ends.new ≡ E.moments ends.old }
     ensures left { E.left ends.new ≡ E.left ends.old }
-    ensures told { E.told ends.new ≡ E.told ends.old }
+    ensures reported { E.reported ends.new ≡ E.reported ends.old }
 {
     if number < u64::from(skip) {
         return Ok(());
@@ -49,11 +49,11 @@ fn put<E: Ends>(bytes: &[u8], number: u64, skip: u32, ends: &mut E) -> Result<()
 /// Writes the bytes of the next frame, unless it is skipped, and counts it.
 fn write_frame<E: Ends>(bytes: &[u8], made: &mut u64, skip: u32, ends: &mut E) -> Result<(), Stop>
     ensures done { OnOk result (FrameWent skip bytes.now made.old made.new
-        (streamed (E.left ends.old) (E.written ends.old) (E.told ends.old))
-        (streamed (E.left ends.new) (E.written ends.new) (E.told ends.new))) }
+        (streamed (E.left ends.old) (E.written ends.old) (E.reported ends.old))
+        (streamed (E.left ends.new) (E.written ends.new) (E.reported ends.new))) }
     ensures stopped { IfErr result (λ stop. FrameStops skip bytes.now made.old
-        (streamed (E.left ends.old) (E.written ends.old) (E.told ends.old))
-        (streamed (E.left ends.new) (E.written ends.new) (E.told ends.new)) stop) }
+        (streamed (E.left ends.old) (E.written ends.old) (E.reported ends.old))
+        (streamed (E.left ends.new) (E.written ends.new) (E.reported ends.new)) stop) }
     ensures failed { IfErr result (λ stop.
         HasFailed stop (E.input_failed ends.new) (E.output_failed ends.new)) }
     ensures moments { E.moments ends.new ≡ E.moments ends.old }
@@ -91,12 +91,12 @@ fn play_frame<'a, S: Store, E: Ends>(
 ) -> Result<(), Stop>
     ensures done { OnOk result (Went options.skip options.status
         player.old made.old (Frame ∷ []) player.new made.new
-        (streamed (E.left ends.old) (E.written ends.old) (E.told ends.old))
-        (streamed (E.left ends.new) (E.written ends.new) (E.told ends.new))) }
+        (streamed (E.left ends.old) (E.written ends.old) (E.reported ends.old))
+        (streamed (E.left ends.new) (E.written ends.new) (E.reported ends.new))) }
     ensures stopped { IfErr result (λ stop. StopsIn options.skip options.status
         player.old made.old (Frame ∷ [])
-        (streamed (E.left ends.old) (E.written ends.old) (E.told ends.old))
-        (streamed (E.left ends.new) (E.written ends.new) (E.told ends.new)) stop) }
+        (streamed (E.left ends.old) (E.written ends.old) (E.reported ends.old))
+        (streamed (E.left ends.new) (E.written ends.new) (E.reported ends.new)) stop) }
     ensures failed { IfErr result (λ stop.
         HasFailed stop (E.input_failed ends.new) (E.output_failed ends.new)) }
     ensures moments { E.moments ends.new ≡ E.moments ends.old }
@@ -106,7 +106,7 @@ fn play_frame<'a, S: Store, E: Ends>(
     let frame = make_frame(player);
     match write_frame(frame.bytes(), made, options.skip, ends) {
         Ok(()) => {
-            tell_frame(player, before, number, options.status, ends);
+            report_frame(player, before, number, options.status, ends);
             Ok(())
         }
         Err(stop) => Err(stop),
@@ -123,12 +123,12 @@ fn play_frames<'a, S: Store, E: Ends>(
 ) -> Result<(), Stop>
     ensures done { OnOk result (Went options.skip options.status
         player.old made.old (replicate count Frame) player.new made.new
-        (streamed (E.left ends.old) (E.written ends.old) (E.told ends.old))
-        (streamed (E.left ends.new) (E.written ends.new) (E.told ends.new))) }
+        (streamed (E.left ends.old) (E.written ends.old) (E.reported ends.old))
+        (streamed (E.left ends.new) (E.written ends.new) (E.reported ends.new))) }
     ensures stopped { IfErr result (λ stop. StopsIn options.skip options.status
         player.old made.old (replicate count Frame)
-        (streamed (E.left ends.old) (E.written ends.old) (E.told ends.old))
-        (streamed (E.left ends.new) (E.written ends.new) (E.told ends.new)) stop) }
+        (streamed (E.left ends.old) (E.written ends.old) (E.reported ends.old))
+        (streamed (E.left ends.new) (E.written ends.new) (E.reported ends.new)) stop) }
     ensures failed { IfErr result (λ stop.
         HasFailed stop (E.input_failed ends.new) (E.output_failed ends.new)) }
     ensures moments { E.moments ends.new ≡ E.moments ends.old }
@@ -153,12 +153,12 @@ fn play_step<'a, S: Store, E: Ends>(
 ) -> Result<(), Stop>
     ensures done { OnOk result (Went options.skip options.status
         player.old made.old (events_of_step step) player.new made.new
-        (streamed (E.left ends.old) (E.written ends.old) (E.told ends.old))
-        (streamed (E.left ends.new) (E.written ends.new) (E.told ends.new))) }
+        (streamed (E.left ends.old) (E.written ends.old) (E.reported ends.old))
+        (streamed (E.left ends.new) (E.written ends.new) (E.reported ends.new))) }
     ensures stopped { IfErr result (λ stop. StopsIn options.skip options.status
         player.old made.old (events_of_step step)
-        (streamed (E.left ends.old) (E.written ends.old) (E.told ends.old))
-        (streamed (E.left ends.new) (E.written ends.new) (E.told ends.new)) stop) }
+        (streamed (E.left ends.old) (E.written ends.old) (E.reported ends.old))
+        (streamed (E.left ends.new) (E.written ends.new) (E.reported ends.new)) stop) }
     ensures failed { IfErr result (λ stop.
         HasFailed stop (E.input_failed ends.new) (E.output_failed ends.new)) }
     ensures moments { E.moments ends.new ≡ E.moments ends.old }
@@ -182,12 +182,12 @@ fn play_steps<'a, S: Store, E: Ends>(
 ) -> Result<(), Stop>
     ensures done { OnOk result (Went options.skip options.status
         player.old made.old (events_of steps.now) player.new made.new
-        (streamed (E.left ends.old) (E.written ends.old) (E.told ends.old))
-        (streamed (E.left ends.new) (E.written ends.new) (E.told ends.new))) }
+        (streamed (E.left ends.old) (E.written ends.old) (E.reported ends.old))
+        (streamed (E.left ends.new) (E.written ends.new) (E.reported ends.new))) }
     ensures stopped { IfErr result (λ stop. StopsIn options.skip options.status
         player.old made.old (events_of steps.now)
-        (streamed (E.left ends.old) (E.written ends.old) (E.told ends.old))
-        (streamed (E.left ends.new) (E.written ends.new) (E.told ends.new)) stop) }
+        (streamed (E.left ends.old) (E.written ends.old) (E.reported ends.old))
+        (streamed (E.left ends.new) (E.written ends.new) (E.reported ends.new)) stop) }
     ensures failed { IfErr result (λ stop.
         HasFailed stop (E.input_failed ends.new) (E.output_failed ends.new)) }
     ensures moments { E.moments ends.new ≡ E.moments ends.old }
@@ -210,7 +210,7 @@ fn flush_line<E: Ends>(made: u64, skip: u32, ends: &mut E) -> Result<(), Stop>
     ensures moments { E.moments ends.new ≡ E.moments ends.old }
     ensures written { Keeps (E.written ends.old) (E.written ends.new) }
     ensures left { E.left ends.new ≡ E.left ends.old }
-    ensures told { E.told ends.new ≡ E.told ends.old }
+    ensures reported { E.reported ends.new ≡ E.reported ends.old }
 {
     if ends.flush() {
         Ok(())
@@ -232,12 +232,12 @@ pub(crate) fn play_line<'a, S: Store, E: Ends>(
 ) -> Result<(), Stop>
     ensures done { OnOk result (Went options.skip options.status
         player.old made.old (events_of steps.now) player.new made.new
-        (streamed (E.left ends.old) (E.written ends.old) (E.told ends.old))
-        (streamed (E.left ends.new) (E.written ends.new) (E.told ends.new))) }
+        (streamed (E.left ends.old) (E.written ends.old) (E.reported ends.old))
+        (streamed (E.left ends.new) (E.written ends.new) (E.reported ends.new))) }
     ensures stopped { IfErr result (λ stop. StopsIn options.skip options.status
         player.old made.old (events_of steps.now)
-        (streamed (E.left ends.old) (E.written ends.old) (E.told ends.old))
-        (streamed (E.left ends.new) (E.written ends.new) (E.told ends.new)) stop) }
+        (streamed (E.left ends.old) (E.written ends.old) (E.reported ends.old))
+        (streamed (E.left ends.new) (E.written ends.new) (E.reported ends.new)) stop) }
     ensures failed { IfErr result (λ stop.
         HasFailed stop (E.input_failed ends.new) (E.output_failed ends.new)) }
     ensures moments { E.moments ends.new ≡ E.moments ends.old }

@@ -11,13 +11,13 @@ use std::str;
 /// Why the steps of a line can't be read.
 #[derive(Clone, Copy)]
 pub(crate) enum Unread {
-    /// It lists none.
+    /// The line lists none.
     Bad(LineFault),
     /// Out of memory.
     Memory,
 }
 
-/// The fault of a line, given that of the event file which it forms.
+/// The fault of a line, given the fault of the event file that it forms.
 fn fault_of(fault: EventFault) -> Unread
     ensures { result ≡ unread_of fault }
 {

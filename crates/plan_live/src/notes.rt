@@ -1,4 +1,4 @@
-//! What is reported of a frame: a swap, a notice that begins, the end.
+//! The notes of a frame: a swap, the start of a notice, the end.
 
 ghost use Rattle.std.specs.Prelude.{◌≡◌, ◌<◌, ℕ, ◌∷◌, [], Option};
 ghost use Rattle.plan_code.specs.Machine.{State};
@@ -24,7 +24,7 @@ pub(crate) struct Look {
     has_ended: bool,
 }
 
-/// Whether a machine that waits for this has ended.
+/// Whether a machine in this wait state has ended.
 fn has_ended(hold: Hold) -> bool
     ensures { result ≡ has_ended hold }
 {
@@ -51,24 +51,24 @@ pub(crate) fn look_at<S: Store>(player: &Player<'_, S>) -> Look
     }
 }
 
-/// Appends a swap.
-fn tell_swap<E: Ends>(before: Look, frame: u64, ends: &mut E)
-    ensures told { (s : State) → before ≡ look_of s →
-        Grows (E.told ends.old) (E.told ends.new) (swap_note frame s) }
+/// Reports a swap, if one is due.
+fn report_swap<E: Ends>(before: Look, frame: u64, ends: &mut E)
+    ensures reported { (s : State) → before ≡ look_of s →
+        Grows (E.reported ends.old) (E.reported ends.new) (swap_note frame s) }
     ensures flushed { E.is_flushed ends.new ≡ E.is_flushed ends.old }
     ensures moments { E.moments ends.new ≡ E.moments ends.old }
     ensures written { E.written ends.new ≡ E.written ends.old }
     ensures left { E.left ends.new ≡ E.left ends.old }
 {
     if before.is_due {
-        ends.tell(Message::Swap {
+        ends.report(Message::Swap {
             frame,
             count: before.count,
         });
     }
 }
 
-/// Whether the frame after which this many frames are left until a swap was the first of its notice.
+/// Whether the last frame, after which this many frames are left until a swap, was the first of its notice.
 fn begins_notice(notice: u8, left: Option<u16>) -> bool
     requires { 1 < notice }
     ensures { (before : Option ℕ) → left ≡ left_after_frame before
@@ -80,10 +80,10 @@ fn begins_notice(notice: u8, left: Option<u16>) -> bool
     }
 }
 
-/// Appends that a notice begins with the last frame, which had this count.
-fn tell_notice<S: Store, E: Ends>(player: &Player<'_, S>, count: u16, frame: u64, ends: &mut E)
-    ensures told { let p = player.now in (t : State) → p.state ≡ with_next_counts p.code.plan t →
-        Grows (E.told ends.old) (E.told ends.new) (notice_note frame count p.code.plan t) }
+/// Reports that a notice begins with the last frame, which had this count.
+fn report_notice<S: Store, E: Ends>(player: &Player<'_, S>, count: u16, frame: u64, ends: &mut E)
+    ensures reported { let p = player.now in (t : State) → p.state ≡ with_next_counts p.code.plan t →
+        Grows (E.reported ends.old) (E.reported ends.new) (notice_note frame count p.code.plan t) }
     ensures flushed { E.is_flushed ends.new ≡ E.is_flushed ends.old }
     ensures moments { E.moments ends.new ≡ E.moments ends.old }
     ensures written { E.written ends.new ≡ E.written ends.old }
@@ -91,7 +91,7 @@ fn tell_notice<S: Store, E: Ends>(player: &Player<'_, S>, count: u16, frame: u64
 {
     let notice = player.plan().notice;
     if begins_notice(notice, player.remaining()) {
-        ends.tell(Message::Notice {
+        ends.report(Message::Notice {
             frame,
             count,
             change: change(player.current(), player.next()).bits(),
@@ -100,50 +100,49 @@ fn tell_notice<S: Store, E: Ends>(player: &Player<'_, S>, count: u16, frame: u64
     }
 }
 
-/// Appends the end.
-fn tell_end<E: Ends>(before: Look, hold: Hold, frame: u64, ends: &mut E)
-    ensures told { (s t : State) → before ≡ look_of s → hold ≡ t.hold →
-        Grows (E.told ends.old) (E.told ends.new) (end_note frame s t) }
+/// Reports the end of the plan, if it came with the last frame.
+fn report_end<E: Ends>(before: Look, hold: Hold, frame: u64, ends: &mut E)
+    ensures reported { (s t : State) → before ≡ look_of s → hold ≡ t.hold →
+        Grows (E.reported ends.old) (E.reported ends.new) (end_note frame s t) }
     ensures flushed { E.is_flushed ends.new ≡ E.is_flushed ends.old }
     ensures moments { E.moments ends.new ≡ E.moments ends.old }
     ensures written { E.written ends.new ≡ E.written ends.old }
     ensures left { E.left ends.new ≡ E.left ends.old }
 {
     if !before.has_ended && has_ended(hold) {
-        ends.tell(Message::End {
+        ends.report(Message::End {
             frame,
             count: before.count,
         });
     }
 }
 
-/// Appends the notes of the last frame of a player, which had this number in the run, and before which its state was
-/// this.
-fn tell_notes<S: Store, E: Ends>(player: &Player<'_, S>, before: Look, frame: u64, ends: &mut E)
-    ensures told { (s t : State) → before ≡ look_of s
+/// Reports the notes of the last frame of a player, which had this number in the run, given the state before it.
+fn report_notes<S: Store, E: Ends>(player: &Player<'_, S>, before: Look, frame: u64, ends: &mut E)
+    ensures reported { (s t : State) → before ≡ look_of s
         → player.now.state ≡ with_next_counts player.now.code.plan t →
-        Grows (E.told ends.old) (E.told ends.new) (notes_between frame player.now.code.plan s t) }
+        Grows (E.reported ends.old) (E.reported ends.new) (notes_between frame player.now.code.plan s t) }
     ensures flushed { E.is_flushed ends.new ≡ E.is_flushed ends.old }
     ensures moments { E.moments ends.new ≡ E.moments ends.old }
     ensures written { E.written ends.new ≡ E.written ends.old }
     ensures left { E.left ends.new ≡ E.left ends.old }
 {
-    tell_swap(before, frame, ends);
-    tell_notice(player, before.count, frame, ends);
-    tell_end(before, player.hold(), frame, ends);
+    report_swap(before, frame, ends);
+    report_notice(player, before.count, frame, ends);
+    report_end(before, player.hold(), frame, ends);
 }
 
-/// Appends the notes of the last frame of a player, where status is wanted; the frame had this number in the run, and
-/// before it the player's state was this.
-pub(crate) fn tell_frame<S: Store, E: Ends>(
+/// Reports the notes of the last frame of a player, if status is on; the frame had this number in the run, and
+/// `before` is the state before it.
+pub(crate) fn report_frame<S: Store, E: Ends>(
     player: &Player<'_, S>,
     before: Look,
     frame: u64,
     status: bool,
     ends: &mut E,
 )
-    ensures told { (p : Playing) → player.now ≡ played p (Frame ∷ []) → before ≡ look_of p.state →
-        Grows (E.told ends.old) (E.told ends.new)
+    ensures reported { (p : Playing) → player.now ≡ played p (Frame ∷ []) → before ≡ look_of p.state →
+        Grows (E.reported ends.old) (E.reported ends.new)
         (notes_if status frame p.code p.state (Frame ∷ [])) }
     ensures flushed { E.is_flushed ends.new ≡ E.is_flushed ends.old }
     ensures moments { E.moments ends.new ≡ E.moments ends.old }
@@ -151,6 +150,6 @@ pub(crate) fn tell_frame<S: Store, E: Ends>(
     ensures left { E.left ends.new ≡ E.left ends.old }
 {
     if status {
-        tell_notes(player, before, frame, ends);
+        report_notes(player, before, frame, ends);
     }
 }

@@ -1,4 +1,4 @@
-//! A code's file, driven line by line.
+//! Plays a code file line by line.
 
 ghost use Rattle.std.specs.Prelude.{◌≡◌, [], true, OnOk, IfErr};
 ghost use Rattle.plan_player.specs.Playing.{Playing};
@@ -6,9 +6,9 @@ ghost use Rattle.plan_session.specs.Playback.{asked};
 ghost use Rattle.plan_live.specs.Beginning.{Begins, Lives, IsLiveFault, HasLiveFailed};
 ghost use Rattle.plan_live.specs.Living.{streamed, IsPrompt};
 
+use crate::driving::drive;
 use crate::ends::Ends;
 use crate::fault::LiveFault;
-use crate::leading::lead;
 use crate::options::LiveOptions;
 use mux_tables::Tables;
 use plan_code::Contacts;
@@ -17,12 +17,12 @@ use plan_session::{RunFault, typed_code};
 use std::alloc::Global;
 
 /// Plays the code in a file over the lines of an input as they arrive: the player starts at this CIF count and frame of
-/// the day, with these contacts closed. It ends where the input does.
+/// the day, with these contacts closed. It ends at the end of the input.
 ///
 /// # Errors
 ///
-/// The first of these: `Playback` where the code can't be played from there, with `Code`, `Refused` or `Start`; nothing
-/// was read, written or reported then. `Stopped` where the run stops, as [`lead`] says.
+/// The first of these: `Playback` if the code can't be played from there, with `Code`, `Refused` or `Start`; nothing
+/// was read, written or reported then. `Stopped` if the run stops, as in [`drive`].
 pub fn live<E: Ends>(
     alloc: Global,
     code: &[u8],
@@ -33,23 +33,23 @@ pub fn live<E: Ends>(
     ends: &mut E,
 ) -> Result<(), LiveFault>
     requires flushed { E.is_flushed ends.old ≡ true }
-    // A typed code and a start in range are played, unless memory for the code is refused.
+    // A typed code and a start in range are played, barring allocation failure for the code.
     ensures played { (p : Playing) → Begins (asked code.now [] count day contacts) p
         → Lives options.skip options.status p
-        (streamed (E.left ends.old) (E.written ends.old) (E.told ends.old))
-        (streamed (E.left ends.new) (E.written ends.new) (E.told ends.new)) result }
-    // Nothing else is.
+        (streamed (E.left ends.old) (E.written ends.old) (E.reported ends.old))
+        (streamed (E.left ends.new) (E.written ends.new) (E.reported ends.new)) result }
+    // Nothing else is played.
     ensures only { OnOk result ((p : Playing) × Begins (asked code.now [] count day contacts) p) }
     ensures first_fault { IfErr result (λ e. IsLiveFault (asked code.now [] count day contacts)
-        (streamed (E.left ends.old) (E.written ends.old) (E.told ends.old))
-        (streamed (E.left ends.new) (E.written ends.new) (E.told ends.new)) e) }
-    // A stop names a stream only where that stream has failed.
+        (streamed (E.left ends.old) (E.written ends.old) (E.reported ends.old))
+        (streamed (E.left ends.new) (E.written ends.new) (E.reported ends.new)) e) }
+    // A stop names a stream only if that stream has failed.
     ensures failed { IfErr result (λ e.
         HasLiveFailed e (E.input_failed ends.new) (E.output_failed ends.new)) }
-    // Each time that a line is asked for, all lines before it have been processed.
+    // Each time a line is requested, all lines before it have been processed.
     ensures prompt { (p : Playing) → Begins (asked code.now [] count day contacts) p
         → IsPrompt options.skip options.status p
-        (streamed (E.left ends.old) (E.written ends.old) (E.told ends.old))
+        (streamed (E.left ends.old) (E.written ends.old) (E.reported ends.old))
         (E.moments ends.old) (E.moments ends.new) }
 {
     let verified = match typed_code(alloc, code) {
@@ -66,7 +66,7 @@ pub fn live<E: Ends>(
         Ok(player) => player,
         Err(fault) => return Err(LiveFault::Playback(RunFault::Start(fault))),
     };
-    match lead(alloc, &mut player, options, ends) {
+    match drive(alloc, &mut player, options, ends) {
         Ok(()) => Ok(()),
         Err(stop) => Err(LiveFault::Stopped(stop)),
     }

@@ -9,7 +9,7 @@ use console::lines::{Heard, Lines};
 use console::output::write_out;
 use std::io::{Read, Write};
 
-/// The lines of a reader, a writer that is flushed, and a sink of messages. A write that fails, takes nothing or is
+/// The lines of a reader, a writer that is flushed, and a message sink. A write that fails, takes nothing or is
 /// interrupted is not retried. What is known of the reader, the writer and the messages is known of the streams.
 #[derive(Drop)]
 pub struct Streams<'a, R: Read + Drop, W, M> {
@@ -25,11 +25,11 @@ impl<'a, R: Read + Drop, W: Write, M: Messages> Streams<'a, R, W, M> {
     ghost use Rattle.std.specs.Prelude.{◌≡◌, true, false};
     ghost use Rattle.plan_live.specs.Streaming.{writer_of, messages_of};
 
-    /// The streams over these, to which nothing was written so far.
+    /// The streams, with nothing written so far.
     pub fn new(reader: R, out: &'a mut W, messages: &'a mut M) -> Self
         ensures left { result.lines ≡ R.remaining reader }
         ensures written { W.contents (writer_of result) ≡ W.contents out.old }
-        ensures told { M.told (messages_of result) ≡ M.told messages.old }
+        ensures reported { M.reported (messages_of result) ≡ M.reported messages.old }
         ensures flushed { result.is_flushed ≡ true }
         ensures working { (result.input_failed ≡ false) × (result.output_failed ≡ false) }
     {
@@ -52,7 +52,7 @@ impl<R: Read + Drop, W: Write, M: Messages> Ends for Streams<'_, R, W, M> {
 
     ghost written = { λ s. W.contents (writer_of s) };
 
-    ghost told = { λ s. M.told (messages_of s) };
+    ghost reported = { λ s. M.reported (messages_of s) };
 
     ghost is_flushed = { λ s. s.is_flushed };
 
@@ -96,7 +96,7 @@ impl<R: Read + Drop, W: Write, M: Messages> Ends for Streams<'_, R, W, M> {
         }
     }
 
-    fn tell(&mut self, message: Message) {
-        self.messages.tell(message);
+    fn report(&mut self, message: Message) {
+        self.messages.report(message);
     }
 }

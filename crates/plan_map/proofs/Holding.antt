@@ -15,7 +15,7 @@ more_is_some a b h = omega arith
 le_trans : (a b c : ℕ) → a ≤ b → b ≤ c → a ≤ c
 le_trans a b c h k = omega arith
 
--- what is found has no less than what there was, and than what it is compared with
+-- the sub-channel found has no fewer units than the best so far, and than the one it is compared with
 record Grows (cell : ℕ) (best more : Option Sub) (s : Sub) : Type 0 where
   kept : most_units cell best ≤ most_units cell more
   beats : units_in cell s ≤ most_units cell more
@@ -39,7 +39,7 @@ fullest_most cell best [] = tt
 fullest_most cell best (s ∷ ss) =
     (le_trans _ _ _ (fuller_grows cell best s).beats (fullest_keeps cell (fuller cell best s) ss), fullest_most cell (fuller cell best s) ss)
 
--- one that is found has units of the cell, where the one there was has
+-- the sub-channel found has units of the cell
 abbrev pub HasUnits : ℕ → Option Sub → Type 0
 HasUnits cell best = IfSome best (λ s. 0 < units_in cell s)
 
@@ -54,6 +54,6 @@ pub fullest_some : (cell : ℕ) (best : Option Sub) (ss : List Sub) → HasUnits
 fullest_some cell best [] h = h
 fullest_some cell best (s ∷ ss) h = fullest_some cell (fuller cell best s) ss (fuller_some cell best s h)
 
--- the loop has come to the end of the list
+-- the loop is at the end of the list
 pub held : (cell : ℕ) (best : Option Sub) (subs : List Sub) (i : ℕ) → length subs ≤ i → fullest cell best (drop i subs) ≡ holder cell subs → best ≡ holder cell subs
 held cell best subs i past so_far = sym (ap (fullest cell best) (drop_all i subs past)) ∙ so_far

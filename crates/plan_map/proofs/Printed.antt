@@ -15,7 +15,7 @@ pub then_appends : {X E : Type 0} (r : Result X E) (old mid new : Option (List �
 then_appends (Ok x) old mid new xs ys zs before after e = appended old mid new xs ys zs before after e
 then_appends (Err e') old mid new xs ys zs before after e = tt
 
--- an element more
+-- one more element
 pub texts_more : {X : Type 0} (f : X → List ℕ) (xs : List X) (i : ℕ) (x : X) → i < length xs → x ≡ get_or xs i x → flat_map f (take i xs) ++ f x ≡ flat_map f (take (i + 1) xs)
 texts_more {X = X} f xs i x lt same =
     let one : flat_map f (x ∷ []) ≡ f x = append-nil (f x) in

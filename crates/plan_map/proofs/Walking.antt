@@ -7,7 +7,7 @@ use Rattle.plan_code.specs.declared.instr.Line.{Line}
 use Rattle.plan_map.specs.declared.rows.Row.{Row}
 use Rattle.plan_map.specs.Rows.{known_next, left_by, row_at, commits_from}
 
--- an instruction more
+-- one more instruction
 pub row_more : (p : Program) (rows more all : List Row) (ls : List Line) (i : ℕ) (l : Line) (next here : Configuration) → i < length ls → l ≡ get_or ls i l
     → here ≡ known_next p i next → more ≡ rows ++ row_at l here → rows ++ commits_from p i next (drop i ls) ≡ all
     → more ++ commits_from p (i + 1) (left_by l.instr here) (drop (i + 1) ls) ≡ all

@@ -8,9 +8,9 @@ use Rattle.plan_map.specs.declared.rows.RowKind.{RowKind}
 use Rattle.plan_map.specs.declared.rows.RowKind.TheVariants.{Begin, Commit}
 use Rattle.plan_map.specs.Cells.{holder, free_units}
 
-abbrev pub kind_word : RowKind → List ℕ
-kind_word Begin = codes "begin"
-kind_word Commit = codes "commit"
+abbrev pub kind_text : RowKind → List ℕ
+kind_text Begin = codes "begin"
+kind_text Commit = codes "commit"
 
 -- the blanks after a number of at most five digits
 abbrev pub padding : ℕ → List ℕ
@@ -25,7 +25,7 @@ filling Commit = codes ""
 
 -- the statement and its line, in 12 columns, and a blank
 abbrev pub label_text : Row → List ℕ
-label_text r = kind_word r.kind ++ codes " " ++ decimal r.line ++ padding r.line ++ filling r.kind ++ codes " "
+label_text r = kind_text r.kind ++ codes " " ++ decimal r.line ++ padding r.line ++ filling r.kind ++ codes " "
 
 -- two columns for a cell
 abbrev pub number_text : ℕ → List ℕ
@@ -39,7 +39,7 @@ cell_text (Some s) = number_text s.id
 unfoldable pub bar : List Sub → List ℕ
 bar subs = flat_map (λ cell. cell_text (holder cell subs)) (range_with_len 0 72)
 
--- how many units are free, to the end of the line
+-- the number of free units, to the end of the line
 abbrev pub free_text : ℕ → List ℕ
 free_text free = codes " free " ++ decimal free ++ codes "\n"
 

@@ -17,7 +17,7 @@ units_of s = size_if_any (size_or_fault s.protection s.kbits)
 abbrev pub end_of : Sub → ℕ
 end_of s = s.start + units_of s
 
--- how many of the 12 units of a cell it has: all but those before its first and after its last
+-- its units within the 12 units of a cell: all but those before its first and after its last
 abbrev pub units_in : ℕ → Sub → ℕ
 units_in cell s = min (end_of s) (cell * 12 + 12) - max s.start (cell * 12)
 
@@ -25,7 +25,7 @@ abbrev pub most_units : ℕ → Option Sub → ℕ
 most_units cell None = 0
 most_units cell (Some s) = units_in cell s
 
--- the one that has more of a cell; the first where both have as much
+-- the one with more units of a cell; the first in a tie
 abbrev pub fuller : ℕ → Option Sub → Sub → Option Sub
 fuller cell best s = if nat_lt (most_units cell best) (units_in cell s) then Some s else best
 
@@ -37,7 +37,7 @@ fullest cell best (s ∷ ss) = fullest cell (fuller cell best s) ss
 abbrev pub holder : ℕ → List Sub → Option Sub
 holder cell subs = fullest cell None subs
 
--- what is left of some units without those of sub-channels
+-- the number of units left after those of sub-channels
 abbrev pub left_of : ℕ → List Sub → ℕ
 left_of free [] = free
 left_of free (s ∷ ss) = left_of (free - units_of s) ss

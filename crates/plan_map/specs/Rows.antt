@@ -1,4 +1,4 @@
--- The rows of a map: the configuration that a code begins with, and what is committed at each commit.
+-- The rows of a map: the configuration that a code begins with, and the configuration committed by each commit.
 use Rattle.std.specs.Prelude.{ℕ, ◌+◌, Bool, true, false, if◌then◌else◌, List, [], ◌∷◌, ◌++◌, Option, Some, None, slice_get}
 use Rattle.mux_types.specs.Configuration.{Configuration, nothing}
 use Rattle.mux_config.specs.declared.fault.EditFault.{EditFault}
@@ -11,7 +11,7 @@ use Rattle.plan_code.specs.Program.{Program, label_at}
 use Rattle.plan_map.specs.declared.rows.Row.{Row}
 use Rattle.plan_map.specs.declared.rows.RowKind.TheVariants.{Begin, Commit}
 
--- one, if it is there, or else another
+-- one, if present, else another
 abbrev pub or_else : Option Configuration → Configuration → Configuration
 or_else None other = other
 or_else (Some c) other = c
@@ -20,8 +20,8 @@ abbrev pub declared_by : Program → Option Label → Configuration → Configur
 declared_by p None next = next
 declared_by p (Some l) next = or_else (slice_get p.configurations l.next) next
 
--- the next configuration at a pc, where the instruction before left this one: what a label there declares, if
--- there is one
+-- the next configuration at a pc, given the one that the instruction before left: the one that a label there
+-- declares, if there is one
 abbrev pub known_next : Program → ℕ → Configuration → Configuration
 known_next p pc next = declared_by p (label_at p pc) next
 
@@ -29,7 +29,7 @@ known_next p pc next = declared_by p (label_at p pc) next
 abbrev pub opening_of : Program → Configuration
 opening_of p = known_next p 0 nothing
 
--- the next configuration after an instruction: an edit that has no fault changes it
+-- the next configuration after an instruction: an edit without a fault changes it
 abbrev pub unless_at_fault : Option EditFault → Configuration → Configuration → Configuration
 unless_at_fault None after before = after
 unless_at_fault (Some fault) after before = before
@@ -64,11 +64,11 @@ commits (Jump t) = false
 commits (Set k n) = false
 commits (Loop k t) = false
 
--- the row of an instruction that commits this configuration; none of another instruction
+-- the row of an instruction that commits this configuration; none for another instruction
 abbrev pub row_at : Line → Configuration → List Row
 row_at l here = if commits l.instr then record { kind = Commit; line = l.number; config = here } ∷ [] else []
 
--- the commits of instructions from a pc on, each with what it commits
+-- the commits among the instructions from a pc on, each with the configuration that it commits
 abbrev pub commits_from : Program → ℕ → Configuration → List Line → List Row
 commits_from p pc next [] = []
 commits_from p pc next (l ∷ ls) =

@@ -4,7 +4,7 @@ use crate::cells::{end_of, free_units, units_of};
 use crate::drawing::{BAR, LEFT, UNIT};
 use crate::key::is_carried_by;
 use crate::rows::Row;
-use crate::text::kind_word;
+use crate::text::kind_text;
 use mux_config::{Config, Sid, Sub, SubId};
 use mux_eep::{CAPACITY_UNITS, EepSet, Protection};
 use std::io::{self, Write};
@@ -69,7 +69,7 @@ fn draw_title<W: Write>(sub: &Sub, config: &Config, out: &mut W) -> io::Result<(
     out.write_all(b"</title>")
 }
 
-/// Writes the label of a sub-channel in three lines, centred here.
+/// Writes the label of a sub-channel in three lines, centred at `x`.
 fn draw_wide_label<W: Write>(sub: &Sub, x: u32, y: u32, out: &mut W) -> io::Result<()> {
     let id = sub.id.get();
     let kbits = sub.kbits;
@@ -127,7 +127,7 @@ fn draw_sub<W: Write>(sub: &Sub, config: &Config, y: u32, out: &mut W) -> io::Re
     out.write_all(b"</g>\n")
 }
 
-/// The first capacity unit from this one on at which a sub-channel begins; the end of the multiplex where none does.
+/// The first capacity unit at or after `from` at which a sub-channel begins; the end of the multiplex if none does.
 fn next_start(subs: &[Sub], from: u32) -> u32 {
     let mut next = u32::from(CAPACITY_UNITS);
     for sub in subs {
@@ -149,7 +149,7 @@ fn is_used(subs: &[Sub], unit: u32) -> bool {
     false
 }
 
-/// Writes the free units from this one on, where it is free.
+/// Writes the free units that begin at `from`, if it is free.
 fn draw_gap<W: Write>(subs: &[Sub], from: u32, y: u32, out: &mut W) -> io::Result<()> {
     if is_used(subs, from) {
         return Ok(());
@@ -180,7 +180,7 @@ fn draw_gap<W: Write>(subs: &[Sub], from: u32, y: u32, out: &mut W) -> io::Resul
 /// Writes a row whose top is at `y`: its label, its bar, and how many capacity units are free.
 pub(crate) fn draw_row<W: Write>(row: &Row, y: u32, out: &mut W) -> io::Result<()> {
     let subs = row.config.subs();
-    let word = kind_word(row.kind);
+    let word = kind_text(row.kind);
     let line = row.line;
     let free = free_units(subs);
     let base = y.saturating_add(BAR / 2 + 5);

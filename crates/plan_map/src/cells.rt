@@ -7,13 +7,13 @@ ghost use Rattle.plan_map.specs.Cells.{units_of, end_of, units_in, most_units, f
 use mux_config::Sub;
 use mux_eep::{CAPACITY_UNITS, size_of};
 
-/// How many cells a bar has.
+/// The number of cells in a bar.
 pub const CELLS: u16 = 72;
 
-/// How many capacity units a cell has.
+/// The number of capacity units in a cell.
 pub const CELL_UNITS: u16 = 12;
 
-/// The size of a sub-channel in capacity units; 0 where its profile has no size at its rate.
+/// The size of a sub-channel in capacity units; 0 if its profile has no size at its rate.
 pub fn units_of(sub: &Sub) -> u16
     ensures value { result ≡ units_of sub.now }
     ensures bound { result ≤ 864 }
@@ -31,7 +31,7 @@ pub fn end_of(sub: &Sub) -> u32
     u32::from(sub.start) + u32::from(units_of(sub))
 }
 
-/// How many of the capacity units of a cell a sub-channel has.
+/// How many capacity units of a cell belong to a sub-channel.
 fn units_in(cell: u16, sub: &Sub) -> u32
     requires { cell < 72 }
     ensures { result ≡ units_in cell sub.now }
@@ -42,7 +42,7 @@ fn units_in(cell: u16, sub: &Sub) -> u32
     high.saturating_sub(low)
 }
 
-/// How many of them the sub-channel with the most so far has; 0 where there is none.
+/// How many units of a cell the best sub-channel so far has; 0 if there is none.
 fn most_units(cell: u16, best: &Option<Sub>) -> u32
     requires { cell < 72 }
     ensures { result ≡ most_units cell best.now }
@@ -53,7 +53,7 @@ fn most_units(cell: u16, best: &Option<Sub>) -> u32
     }
 }
 
-/// The one of two sub-channels that has more of a cell; the first where both have as much. There may be no first.
+/// The one of two sub-channels that has more of a cell; the first in a tie. There may be no first.
 fn fuller(cell: u16, best: Option<Sub>, sub: &Sub) -> Option<Sub>
     requires { cell < 72 }
     ensures { result ≡ fuller cell best sub.now }
@@ -65,7 +65,7 @@ fn fuller(cell: u16, best: Option<Sub>, sub: &Sub) -> Option<Sub>
     }
 }
 
-/// The sub-channel that has most of a cell, the first in a tie; None where the cell is free.
+/// The sub-channel that has most of a cell, the first in a tie; `None` if the cell is free.
 pub fn holder(cell: u16, subs: &[Sub]) -> Option<Sub>
     requires { cell < 72 }
     ensures value { result ≡ holder cell subs.now }
@@ -79,7 +79,7 @@ pub fn holder(cell: u16, subs: &[Sub]) -> Option<Sub>
     best
 }
 
-/// How many capacity units are free, where no two sub-channels share any: 864 less the sizes of all.
+/// The number of free capacity units, if no two sub-channels share any: 864 less the sizes of all.
 pub fn free_units(subs: &[Sub]) -> u16
     ensures { result ≡ free_units subs.now }
 {

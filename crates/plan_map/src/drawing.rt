@@ -1,4 +1,4 @@
-//! A map as a drawing: an SVG document, in which a capacity unit is two units wide.
+//! Draws a map as an SVG document, in which a capacity unit is two units wide.
 
 use crate::bars::draw_row;
 use crate::cells::CELLS;

@@ -13,7 +13,7 @@ pub struct Use {
     pub sub: SubId,
 }
 
-/// The sub-channel that carries a component: that of its packet component in packet mode. None where that does not
+/// The sub-channel that carries a component: that of its packet component in packet mode. `None` if that does not
 /// exist.
 pub(crate) fn sub_of(config: &Config, component: &Component) -> Option<SubId> {
     match *component {

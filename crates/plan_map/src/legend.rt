@@ -1,4 +1,4 @@
-//! The key of the services in a drawing.
+//! Draws the key of the services.
 
 ghost use Rattle.std.specs.Prelude.{◌≤◌};
 
@@ -29,7 +29,7 @@ fn is_first(key: &[Use], at: usize, sid: Sid) -> bool {
     true
 }
 
-/// How many services a key has.
+/// The number of services in a key.
 fn service_count(key: &[Use]) -> u32
     ensures { result ≤ 100000 }
 {
@@ -72,7 +72,7 @@ fn draw_subs<W: Write>(key: &[Use], sid: Sid, left: u32, y: u32, out: &mut W) ->
     Ok(())
 }
 
-/// Writes a service and its sub-channels: the entry of this number.
+/// Writes the service of this entry, and its sub-channels.
 fn draw_service<W: Write>(
     key: &[Use],
     sid: Sid,

@@ -1,4 +1,4 @@
-//! The configurations of a plan, in the order of its text.
+//! The rows of a map: the configurations of a plan, in the order of its text.
 
 ghost use Rattle.std.specs.Prelude.{◌≡◌, ◌++◌, ◌∷◌, [], IfOk, OnOk};
 ghost use Rattle.plan_map.specs.Rows.{rows_of, row_at, known_next, left_by, commits};
@@ -7,7 +7,7 @@ use mux_config::Config;
 use plan_code::{Code, Instr, Line};
 use std::alloc::{AllocError, Global};
 
-/// What a row of a map shows.
+/// The kind of a row.
 #[derive(Clone, Copy, Debug, PartialEq, Eq)]
 pub enum RowKind {
     /// The configuration that the plan begins with.
@@ -19,7 +19,7 @@ pub enum RowKind {
 /// A row of a map: a configuration, and the line of the script that it comes from.
 #[derive(Drop)]
 pub struct Row {
-    /// What it shows.
+    /// Its kind.
     pub kind: RowKind,
     /// The line of `begin`, or that of the commit.
     pub line: u16,
@@ -27,8 +27,8 @@ pub struct Row {
     pub config: Config,
 }
 
-/// The next configuration at a pc of a code, where the instruction before left this one: that of the label there, if
-/// there is one.
+/// The next configuration at a pc of a code, given the one that the instruction before left: that of the label
+/// there, if there is one.
 fn enter(code: &Code, pc: u16, next: &mut Config)
     ensures { next.new ≡ known_next code.now pc next.old }
 {
@@ -40,7 +40,7 @@ fn enter(code: &Code, pc: u16, next: &mut Config)
     }
 }
 
-/// Applies an instruction to the next configuration. An edit that has a fault leaves it unchanged.
+/// Applies an instruction to the next configuration. An edit with a fault leaves it unchanged.
 fn follow(instr: Instr, next: &mut Config)
     ensures { next.new ≡ left_by instr next.old }
 {
@@ -93,7 +93,7 @@ fn push(rows: &mut Vec<Row>, row: Row) -> Result<(), AllocError>
     }
 }
 
-/// Appends a row, where an instruction commits this configuration.
+/// Appends a row, if an instruction commits this configuration.
 fn push_commit(rows: &mut Vec<Row>, line: &Line, next: &Config) -> Result<(), AllocError>
     ensures { OnOk result (rows.new.items ≡ rows.old.items ++ row_at line.now next.now) }
 {
@@ -103,9 +103,9 @@ fn push_commit(rows: &mut Vec<Row>, line: &Line, next: &Config) -> Result<(), Al
     Ok(())
 }
 
-/// The rows of a code's map: its opening at the line of `begin`, and what is committed at each commit, in the order of
+/// The rows of a code's map: its opening at the line of `begin`, and the configuration of each commit, in the order of
 /// the code, which is that of the script's text with each block where it is applied. At a label, the next configuration
-/// is the one that it declares: what holds there on every path.
+/// is the one that it declares, which holds there on every path.
 ///
 /// # Errors
 ///

@@ -1,18 +1,18 @@
-//! A map as text: a line for each row.
+//! Prints a map as text: a line for each row.
 
 ghost use Rattle.std.specs.Prelude.{◌≡◌, ◌<◌, OnOk};
 ghost use Rattle.plan_map.specs.Cells.{holder};
 ghost use Rattle.std.specs.Io.KnownBytes.{Appends};
-ghost use Rattle.plan_map.specs.Bars.{kind_word, padding, filling, label_text, cell_text, bar, free_text, row_line, map_text};
+ghost use Rattle.plan_map.specs.Bars.{kind_text, padding, filling, label_text, cell_text, bar, free_text, row_line, map_text};
 
 use crate::cells::{CELLS, free_units, holder};
 use crate::rows::{Row, RowKind};
 use mux_config::Sub;
 use std::io::{self, Write};
 
-/// The keyword of the statement that a row shows.
-pub fn kind_word(kind: RowKind) -> &'static str
-    ensures { result.now ≡ kind_word kind }
+/// The keyword of a row's statement.
+pub fn kind_text(kind: RowKind) -> &'static str
+    ensures { result.now ≡ kind_text kind }
 {
     match kind {
         RowKind::Begin => "begin",
@@ -20,7 +20,7 @@ pub fn kind_word(kind: RowKind) -> &'static str
     }
 }
 
-/// The blanks after the number of a line, with which it takes five columns.
+/// The blanks that pad a line number to five columns.
 fn padding(line: u16) -> &'static str
     ensures { result.now ≡ padding line }
 {
@@ -39,7 +39,7 @@ fn padding(line: u16) -> &'static str
     ""
 }
 
-/// A blank where the keyword of a row is the shorter one.
+/// A blank after the shorter of the two keywords.
 fn filling(kind: RowKind) -> &'static str
     ensures { result.now ≡ filling kind }
 {
@@ -54,14 +54,14 @@ fn print_label<W: Write>(row: &Row, out: &mut W) -> io::Result<()>
     ensures { OnOk result (Appends (W.contents out.old) (W.contents out.new)
         (label_text row.now)) }
 {
-    let word = kind_word(row.kind);
+    let word = kind_text(row.kind);
     let line = row.line;
     let blanks = padding(line);
     let blank = filling(row.kind);
     write!(out, "{word} {line}{blanks}{blank} ")
 }
 
-/// Prints a cell: the number of the sub-channel that has most of it, or `..` where it is free.
+/// Prints a cell: the number of the sub-channel that has most of it, or `..` if it is free.
 fn print_cell<W: Write>(cell: u16, subs: &[Sub], out: &mut W) -> io::Result<()>
     requires { cell < 72 }
     ensures { OnOk result (Appends (W.contents out.old) (W.contents out.new)
@@ -91,14 +91,14 @@ fn print_bar<W: Write>(subs: &[Sub], out: &mut W) -> io::Result<()>
     Ok(())
 }
 
-/// Prints how many capacity units are free, to the end of the line.
+/// Prints the number of free capacity units, to the end of the line.
 fn print_free<W: Write>(free: u16, out: &mut W) -> io::Result<()>
     ensures { OnOk result (Appends (W.contents out.old) (W.contents out.new) (free_text free)) }
 {
     writeln!(out, " free {free}")
 }
 
-/// Prints a row: its label, its cells, and how many capacity units are free.
+/// Prints a row: its label, its cells, and the number of free capacity units.
 fn print_row<W: Write>(row: &Row, out: &mut W) -> io::Result<()>
     ensures { OnOk result (Appends (W.contents out.old) (W.contents out.new) (row_line row.now)) }
 {
@@ -109,8 +109,8 @@ fn print_row<W: Write>(row: &Row, out: &mut W) -> io::Result<()>
 }
 
 /// Prints a map: a line for each row, with the statement and its line in 12 columns, the 72 cells of 12 capacity units
-/// in two columns each, and how many capacity units are free. A cell has the number of the sub-channel that has most of
-/// it, the first in a tie, and `..` where no sub-channel has any of it.
+/// in two columns each, and the number of free capacity units. A cell has the number of the sub-channel that has most
+/// of it, the first in a tie, and `..` if no sub-channel has any of it.
 pub fn print_map<W: Write>(rows: &[Row], out: &mut W) -> io::Result<()>
     ensures { OnOk result (Appends (W.contents out.old) (W.contents out.new) (map_text rows.now)) }
 {

@@ -13,7 +13,7 @@ use Rattle.fib_codec.specs.Spelling.{Written, occurrence_bytes, entries_bytes, f
 use Rattle.fib_codec.specs.declared.modes.Mode.{Mode}
 use Rattle.fib_codec.specs.declared.modes.Mode.TheVariants.{I, II, III, IV}
 use Rattle.fib_codec.proofs.Finished.{length-filled}
-use Rattle.fib_codec.proofs.Words.{checked_len}
+use Rattle.fib_codec.proofs.U16.{checked_len}
 use Rattle.fib_carousel.specs.Pages.{fib_entries, first_fib, later_fibs}
 use Rattle.fib_carousel.specs.Bytes.{figs_of, ensemble_figs, page_bytes}
 use Rattle.fib_carousel.specs.Carried.{IsPageable}
@@ -30,7 +30,7 @@ use Rattle.plan_player.proofs.Together.{ensemble_is, bytes_more}
 
 -- ---- the first FIB, with FIG 0/0
 
--- what stands behind six bytes that begin a FIB
+-- what follows six bytes at the front of a FIB
 abbrev rest_of : List ℕ → List ℕ
 rest_of t =
     cond (ltb (length (0 ∷ 0 ∷ 0 ∷ 0 ∷ 0 ∷ 0 ∷ t)) 30) (t ++ 255 ∷ replicate (29 - length (0 ∷ 0 ∷ 0 ∷ 0 ∷ 0 ∷ 0 ∷ t)) 0) t
@@ -44,14 +44,14 @@ filled_six : (p q r u x y : ℕ) (t : List ℕ) → filled (p ∷ q ∷ r ∷ u 
 filled_six p q r u x y t =
     six_by (ltb (length (0 ∷ 0 ∷ 0 ∷ 0 ∷ 0 ∷ 0 ∷ t)) 30) p q r u x y t (255 ∷ replicate (29 - length (0 ∷ 0 ∷ 0 ∷ 0 ∷ 0 ∷ 0 ∷ t)) 0)
 
--- its length and its head, which the count leaves as they are
+-- its length and its head, which do not depend on the count
 abbrev fig_len : Header → ℕ
 fig_len h = 1 + length (entries_bytes (EnsembleOf (ensemble_at h 0) ∷ []))
 
 abbrev fig_head : Header → ℕ
 fig_head h = head_byte (head_of (marked false (EnsembleOf (ensemble_at h 0))))
 
--- what stands behind the count
+-- what follows the count
 abbrev behind : Header → List Written → List ℕ
 behind h figs = rest_of ((occurrence_bytes h.swap ++ []) ++ figs_bytes figs)
 
@@ -64,7 +64,7 @@ headed_filled h c figs =
     filled_six (fig_len h) (fig_head h) (h.eid / 256 % 256) (h.eid % 256) (h.change * 64 + 0 * 32 + c / 250) (c % 250)
     ((occurrence_bytes h.swap ++ []) ++ figs_bytes figs)
 
--- a page's first FIB gets another count
+-- the first FIB of a page gets another count
 pub page_recounted : (mode : Mode) (h : Header) (c later k : ℕ) (ms : List Marked) → IsPageable (Some (ensemble_at h later)) ms
     → (before after bytes fib new : List ℕ) (offset high low : ℕ)
     → bytes ≡ before ++ (page_bytes mode (Some (ensemble_at h c)) k ms ++ after) → length before ≡ offset
@@ -103,7 +103,7 @@ page_recounted mode h c later k ms pageable before after bytes fib new offset hi
 abbrev pub rest_from : Plan → ℕ → ℕ → State → List ℕ
 rest_from plan n k s = concat (notice_frames plan (n - k) (counted_on plan k s))
 
--- the first k frames are those from the second state on, the others those from the first
+-- the first k frames are those from the second state on, the others are those from the first
 abbrev pub mixed : Plan → ℕ → ℕ → State → State → List ℕ
 mixed plan n k s t = concat (notice_frames plan k t) ++ rest_from plan n k s
 
@@ -137,13 +137,13 @@ mixed_all plan n k s t e =
 
 -- ---- frames without FIG 0/0
 
-no_fig : (plan : Plan) (s : State) → (s.count % count_step plan.mode == 0) ≡ false → shown_bytes plan s ≡ page_bytes plan.mode None s.turn (sent_entries plan s)
-no_fig plan s off = ap (λ (b : Bool). page_bytes plan.mode (cond b (Some (ensemble_of plan s)) None) s.turn (sent_entries plan s)) off
+no_fig : (plan : Plan) (s : State) → (s.count % count_step plan.mode == 0) ≡ false → shown_bytes plan s ≡ page_bytes plan.mode None s.page_index (sent_entries plan s)
+no_fig plan s off = ap (λ (b : Bool). page_bytes plan.mode (cond b (Some (ensemble_of plan s)) None) s.page_index (sent_entries plan s)) off
 
 same_frame : (plan : Plan) (header : Header) (s t : State) → IsAlike plan header s t → (t.count % count_step plan.mode == 0) ≡ false → shown_bytes plan s ≡ shown_bytes plan t
 same_frame plan header s t h off =
     no_fig plan s (h.on_step ∙ off)
-    ∙ ap₂ (λ (k : ℕ) (ms : List Marked). page_bytes plan.mode None k ms) h.turn h.entries
+    ∙ ap₂ (λ (k : ℕ) (ms : List Marked). page_bytes plan.mode None k ms) h.page_index h.entries
     ∙ sym (no_fig plan t off)
 
 pub passed_over : (plan : Plan) (header : Header) (n k m : ℕ) (s t : State) → AreAlike plan header n s t → k + m ≤ n
@@ -170,7 +170,7 @@ with_fig plan header s is on =
     ∙ ap (λ (e : EnsembleInformation). Some e) (ensemble_is plan s ∙ ap (λ (h : Header). ensemble_at h s.count) is)
 
 frame_long : (plan : Plan) (header : Header) (s t : State) → IsAlike plan header s t → length (shown_bytes plan t) ≡ 32 * fib_count plan.mode
-frame_long plan header s t h = (pages_are_valid plan.mode (ensemble_sent plan t) t.turn (sent_entries plan t) h.pageable).1
+frame_long plan header s t h = (pages_are_valid plan.mode (ensemble_sent plan t) t.page_index (sent_entries plan t) h.pageable).1
 
 pub all_long : (plan : Plan) (header : Header) (n k : ℕ) (s t : State) → AreAlike plan header n s t → k ≤ n → length (concat (notice_frames plan k t)) ≡ k * (32 * fib_count plan.mode)
 all_long plan header n zero s t alike le =
@@ -202,15 +202,15 @@ frame_recounted plan header n k number offset high low s t bytes fib new alike l
     let there : (b.count % count_step plan.mode == 0) ≡ true = ap (λ (c : ℕ). c % count_step plan.mode == 0) at ∙ ap (λ (c : ℕ). c == 0) on in
     let old : ensemble_sent plan a ≡ Some (ensemble_at header a.count) = with_fig plan header a h.first (h.on_step ∙ there) in
     let late : ensemble_sent plan b ≡ Some (ensemble_at header number) = with_fig plan header b h.second there ∙ ap (λ (c : ℕ). Some (ensemble_at header c)) at in
-    let old_page : shown_bytes plan a ≡ page_bytes plan.mode (Some (ensemble_at header a.count)) b.turn (sent_entries plan b) =
-    ap (λ (o : Option EnsembleInformation). page_bytes plan.mode o a.turn (sent_entries plan a)) old
-    ∙ ap₂ (λ (i : ℕ) (ms : List Marked). page_bytes plan.mode (Some (ensemble_at header a.count)) i ms) h.turn h.entries in
-    let new_page : shown_bytes plan b ≡ page_bytes plan.mode (Some (ensemble_at header number)) b.turn (sent_entries plan b) =
-    ap (λ (o : Option EnsembleInformation). page_bytes plan.mode o b.turn (sent_entries plan b)) late in
+    let old_page : shown_bytes plan a ≡ page_bytes plan.mode (Some (ensemble_at header a.count)) b.page_index (sent_entries plan b) =
+    ap (λ (o : Option EnsembleInformation). page_bytes plan.mode o a.page_index (sent_entries plan a)) old
+    ∙ ap₂ (λ (i : ℕ) (ms : List Marked). page_bytes plan.mode (Some (ensemble_at header a.count)) i ms) h.page_index h.entries in
+    let new_page : shown_bytes plan b ≡ page_bytes plan.mode (Some (ensemble_at header number)) b.page_index (sent_entries plan b) =
+    ap (λ (o : Option EnsembleInformation). page_bytes plan.mode o b.page_index (sent_entries plan b)) late in
     let pageable : IsPageable (Some (ensemble_at header number)) (sent_entries plan b) = subst (λ (o : Option EnsembleInformation). IsPageable o (sent_entries plan b)) late h.pageable in
     let text = is ∙ mixed_at plan n k s t lt ∙ ap (λ (l : List ℕ). before ++ (l ++ after)) old_page in
     let long : length before ≡ offset = all_long plan header n k s t alike (omega (arith, lt)) ∙ sym at_offset in
-    page_recounted plan.mode header a.count number b.turn (sent_entries plan b) pageable before after bytes fib new offset high low text long is_high is_low part step
+    page_recounted plan.mode header a.count number b.page_index (sent_entries plan b) pageable before after bytes fib new offset high low text long is_high is_low part step
     ∙ ap (λ (l : List ℕ). before ++ (l ++ after)) (sym new_page)
     ∙ mixed_next plan n k s t
 

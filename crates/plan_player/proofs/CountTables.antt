@@ -1,10 +1,10 @@
--- What the tables of the count's bytes hold.
+-- The contents of the tables for the bytes of the count.
 use Rattle.std.proofs.Common.{◌≡◌, ℕ, zero, suc, ◌+◌, ◌<◌, Bool, true, ◌==◌, ◌&&◌, List, [], ◌∷◌, length, get_or, refl, sym, ◌∙◌, ap, arith}
 use Rattle.std.proofs.lemmas.Bool.{and_parts, eqb-true}
 use Rattle.fib_codec.specs.Register.{after, later}
 use Rattle.plan_player.specs.declared.count_tables.TheConstants.{LOWS, HIGHS}
 
--- a table of what each byte and then this many bytes of zeros make of an empty register, from the byte at hand on
+-- from `byte` on, a table of the CRC register after each byte and n zero bytes, from a register of zero
 abbrev is_late_table : ℕ → List ℕ → ℕ → Bool
 is_late_table n [] byte = true
 is_late_table n (entry ∷ entries) byte = entry == later n (after 8 byte 0) && is_late_table n entries (suc byte)

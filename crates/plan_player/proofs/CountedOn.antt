@@ -1,4 +1,4 @@
--- The counts taken forward by frames, one after another or many at once.
+-- Advancing the counts, frame by frame or by many frames at once.
 use Rattle.std.proofs.Common.{◌≡◌, ℕ, zero, suc, ◌+◌, ◌-◌, ◌%◌, ◌<◌, ◌≤◌, Bool, true, false, cond, ltb, List, [], ◌∷◌, ◌++◌, Option, Some, None, refl, sym, ap, subst, ◌∙◌, arith}
 use Rattle.std.proofs.lemmas.Bool.{ltb-true, ltb-false}
 use Rattle.std.proofs.Math.Nat.{mod-eq_of_lt, mod-add-mod, mod_self, mod-lt}
@@ -26,10 +26,10 @@ frames_more plan (suc k) s = ap (λ (fs : List (List ℕ)). shown_bytes plan s �
 
 -- ---- each part of the state after k frames
 
--- all but the counts stays
+-- everything but the counts is unchanged
 pub apart : (plan : Plan) (k : ℕ) (s : State) → counted_on plan k s
     ≡ (let t : State = counted_on plan k s in
-    let r : State = record s { left = t.left; hold = t.hold; count = t.count; day = t.day; turn = t.turn } in
+    let r : State = record s { left = t.left; hold = t.hold; count = t.count; day = t.day; page_index = t.page_index } in
     r)
 apart plan zero s = refl
 apart plan (suc k) s = apart plan k (with_next_counts plan s)
@@ -85,43 +85,43 @@ day_on : (plan : Plan) (k : ℕ) (s : State) → (counted_on plan (suc k) s).day
 day_on plan zero s = refl
 day_on plan (suc k) s = day_on plan k (with_next_counts plan s) ∙ wraps_later s.day k FRAMES_A_DAY
 
-turns_by : (pages turn : ℕ) → turn < pages → (b : Bool) → ltb (turn + 1) pages ≡ b → cond b (turn + 1) 0 ≡ (turn + 1) % pages
-turns_by pages turn lt true e = sym (mod-eq_of_lt (ltb-true (turn + 1) pages e))
-turns_by pages turn lt false e =
-    let past = ltb-false (turn + 1) pages e in
-    let last : turn + 1 ≡ pages = omega (arith, lt, past) in
+turns_by : (pages page_index : ℕ) → page_index < pages → (b : Bool) → ltb (page_index + 1) pages ≡ b → cond b (page_index + 1) 0 ≡ (page_index + 1) % pages
+turns_by pages page_index lt true e = sym (mod-eq_of_lt (ltb-true (page_index + 1) pages e))
+turns_by pages page_index lt false e =
+    let past = ltb-false (page_index + 1) pages e in
+    let last : page_index + 1 ≡ pages = omega (arith, lt, past) in
     sym (ap (λ (x : ℕ). x % pages) last ∙ mod_self pages)
 
-turns : (pages turn : ℕ) → turn < pages → page_after pages turn ≡ (turn + 1) % pages
-turns pages turn lt = turns_by pages turn lt (ltb (turn + 1) pages) refl
+cycle : (pages page_index : ℕ) → page_index < pages → page_after pages page_index ≡ (page_index + 1) % pages
+cycle pages page_index lt = turns_by pages page_index lt (ltb (page_index + 1) pages) refl
 
-pub turn_on : (plan : Plan) (k pages : ℕ) (s : State) → s.turn < pages → HasRounds plan k s pages → (counted_on plan k s).turn ≡ (s.turn + k) % pages
+pub turn_on : (plan : Plan) (k pages : ℕ) (s : State) → s.page_index < pages → HasRounds plan k s pages → (counted_on plan k s).page_index ≡ (s.page_index + k) % pages
 turn_on plan zero pages s lt rounds =
-    let same : s.turn + 0 ≡ s.turn = omega arith in
+    let same : s.page_index + 0 ≡ s.page_index = omega arith in
     sym (ap (λ (x : ℕ). x % pages) same ∙ mod-eq_of_lt lt)
 turn_on plan (suc k) pages s lt rounds =
     let first : sent_rounds plan s ≡ pages = rounds 0 (omega arith) in
-    let next : (with_next_counts plan s).turn ≡ (s.turn + 1) % pages = ap (λ (r : ℕ). page_after r s.turn) first ∙ turns pages s.turn lt in
+    let next : (with_next_counts plan s).page_index ≡ (s.page_index + 1) % pages = ap (λ (r : ℕ). page_after r s.page_index) first ∙ cycle pages s.page_index lt in
     let some : 0 < pages = omega (arith, lt) in
-    let within : (with_next_counts plan s).turn < pages = subst (λ (x : ℕ). x < pages) (sym next) (mod-lt (s.turn + 1) some) in
+    let within : (with_next_counts plan s).page_index < pages = subst (λ (x : ℕ). x < pages) (sym next) (mod-lt (s.page_index + 1) some) in
     let later : HasRounds plan k (with_next_counts plan s) pages = λ j below. rounds (suc j) (omega (arith, below)) in
-    let same : s.turn + 1 + k ≡ s.turn + suc k = omega arith in
+    let same : s.page_index + 1 + k ≡ s.page_index + suc k = omega arith in
     turn_on plan k pages (with_next_counts plan s) within later
     ∙ ap (λ (x : ℕ). (x + k) % pages) next
-    ∙ mod-add-mod (s.turn + 1) pages k
+    ∙ mod-add-mod (s.page_index + 1) pages k
     ∙ ap (λ (x : ℕ). x % pages) same
 
 -- ---- all parts at once
 
-pub passed : (plan : Plan) (n pages : ℕ) (s : State) → 1 ≤ n → s.turn < pages → HasRounds plan n s pages
-    → (let r : State = record s { left = left_later n s.left; hold = hold_later n s.hold; count = (s.count + n) % COUNTS; day = (s.day + n) % FRAMES_A_DAY; turn = (s.turn + n) % pages } in
+pub passed : (plan : Plan) (n pages : ℕ) (s : State) → 1 ≤ n → s.page_index < pages → HasRounds plan n s pages
+    → (let r : State = record s { left = left_later n s.left; hold = hold_later n s.hold; count = (s.count + n) % COUNTS; day = (s.day + n) % FRAMES_A_DAY; page_index = (s.page_index + n) % pages } in
     r ≡ counted_on plan n s)
 passed plan zero pages s some lt rounds = absurd (omega (arith, some))
 passed plan (suc k) pages s some lt rounds =
     let n : ℕ = suc k in
     let t : State = counted_on plan n s in
-    let before : State = record s { left = t.left; hold = t.hold; count = t.count; day = t.day; turn = t.turn } in
-    let after : State = record s { left = left_later n s.left; hold = hold_later n s.hold; count = (s.count + n) % COUNTS; day = (s.day + n) % FRAMES_A_DAY; turn = (s.turn + n) % pages } in
+    let before : State = record s { left = t.left; hold = t.hold; count = t.count; day = t.day; page_index = t.page_index } in
+    let after : State = record s { left = left_later n s.left; hold = hold_later n s.hold; count = (s.count + n) % COUNTS; day = (s.day + n) % FRAMES_A_DAY; page_index = (s.page_index + n) % pages } in
     let parts : before ≡ after =
-    λ i. record s { left = left_on plan n s i; hold = hold_on plan n s i; count = count_on plan k s i; day = day_on plan k s i; turn = turn_on plan n pages s lt rounds i } in
+    λ i. record s { left = left_on plan n s i; hold = hold_on plan n s i; count = count_on plan k s i; day = day_on plan k s i; page_index = turn_on plan n pages s lt rounds i } in
     sym (apart plan n s ∙ parts)

@@ -1,4 +1,4 @@
--- What the player's calls need of a state that a typed code comes to.
+-- What the player's calls require of a state that a typed code reaches.
 use Rattle.std.specs.Prelude.{◌||◌}
 use Rattle.std.proofs.Common.{◌≡◌, ℕ, ◌<◌, Bool, true, false, cond, List, [], ◌∷◌, Option, Some, None, refl, sym, ap, subst, ◌∙◌, arith}
 use Rattle.std.proofs.lemmas.Bool.{eqb-false}
@@ -25,40 +25,40 @@ use Rattle.plan_runs.proofs.Knowledge.{IsAhead}
 use Rattle.plan_runs.proofs.Tracked.{noticed, noticed_from}
 use Rattle.plan_runs.proofs.Notice.{Links, links}
 use Rattle.plan_runs.proofs.Periods.{sends, after_goes}
-use Rattle.plan_player.proofs.GoesOn.{typed_code_goes_on, frame_plays}
+use Rattle.plan_player.proofs.Continuing.{typed_code_progresses, frame_plays}
 use Rattle.plan_player.specs.declared.phase_pages.PhasePages.{PhasePages}
 use Rattle.plan_player.specs.Phase.{Keeps, HasChange, KeepsChange, IsFrameReady, IsGoing}
 
 -- ---- the page in turn as a phase begins
 
-due_turn : (s : State) (b : Bool) → b ≡ true → (cond b (with_swap s) s).turn ≡ 0
+due_turn : (s : State) (b : Bool) → b ≡ true → (cond b (with_swap s) s).page_index ≡ 0
 due_turn s true e = refl
 due_turn s false e = absurd cc
 
-first_turn : (u : State) (b : Bool) → b ≡ true → (cond b (let r : State = record u { turn = 0 } in r) u).turn ≡ 0
+first_turn : (u : State) (b : Bool) → b ≡ true → (cond b (let r : State = record u { page_index = 0 } in r) u).page_index ≡ 0
 first_turn u true e = refl
 first_turn u false e = absurd cc
 
-kept_turn : (u : State) (b : Bool) → u.turn ≡ 0 → (cond b (let r : State = record u { turn = 0 } in r) u).turn ≡ 0
+kept_turn : (u : State) (b : Bool) → u.page_index ≡ 0 → (cond b (let r : State = record u { page_index = 0 } in r) u).page_index ≡ 0
 kept_turn u true e = refl
 kept_turn u false e = e
 
-left_kept : (u : State) (b : Bool) → (cond b (let r : State = record u { turn = 0 } in r) u).left ≡ u.left
+left_kept : (u : State) (b : Bool) → (cond b (let r : State = record u { page_index = 0 } in r) u).left ≡ u.left
 left_kept u true = refl
 left_kept u false = refl
 
-begun : (u : State) (due first : Bool) (b : Bool) → (due || first) ≡ true → (due ≡ true → u.turn ≡ 0) → (first ≡ b) → (cond b (let r : State = record u { turn = 0 } in r) u).turn ≡ 0
+begun : (u : State) (due first : Bool) (b : Bool) → (due || first) ≡ true → (due ≡ true → u.page_index ≡ 0) → (first ≡ b) → (cond b (let r : State = record u { page_index = 0 } in r) u).page_index ≡ 0
 begun u true first b e zero same = kept_turn u b (zero refl)
 begun u false first b e zero same = first_turn u b (sym same ∙ e)
 
-first_page : (p : Program) (s : State) → IsPlayed p s → begins_phase p s ≡ true → (shown p s).turn ≡ 0
+first_page : (p : Program) (s : State) → IsPlayed p s → begins_phase p s ≡ true → (shown p s).page_index ≡ 0
 first_page p s h begins =
     let u : State = after_burst p s in
     let frame = (typed_code_runs p s (Frame ∷ []) h).allowed.0 in
     let carried = frame_carries p h.program s frame.steps frame.executes in
     let same = ap (is_first_noticed p.plan.notice) (left_kept u (is_first_noticed p.plan.notice u.left)) in
     begun u (is_due s.left) (is_first_noticed p.plan.notice (shown p s).left) (is_first_noticed p.plan.notice u.left) begins
-    (λ due. carried.turn ∙ due_turn s (is_due s.left) due) same
+    (λ due. carried.page_index ∙ due_turn s (is_due s.left) due) same
 
 -- ---- the change flags of a notice
 
@@ -89,13 +89,13 @@ change_later notice (Some l) c n change a h = λ earlier. h (noticed notice l a 
 
 -- ---- a frame
 
-same_pages : (mode : Mode) (pages : PhasePages) (ms ns : List Marked) (turn page : ℕ) → ns ≡ ms → page ≡ turn → Keeps mode ms turn pages → Keeps mode ns page pages
-same_pages mode pages ms ns turn page e f k =
+same_pages : (mode : Mode) (pages : PhasePages) (ms ns : List Marked) (page_index page : ℕ) → ns ≡ ms → page ≡ page_index → Keeps mode ms page_index pages → Keeps mode ns page pages
+same_pages mode pages ms ns page_index page e f k =
     subst (λ (es : List Marked). Keeps mode es page pages) (sym e) (subst (λ (n : ℕ). Keeps mode ms n pages) (sym f) k)
 
 pub frame_ready : (p : Program) (s : State) (steps : ℕ) (pages : PhasePages) → IsGoing p s steps pages → IsFrameReady p s pages
 frame_ready p s steps pages h =
-    let goes = typed_code_goes_on p s h.played in
+    let goes = typed_code_progresses p s h.played in
     let ms : List Marked = h.phase.entries in
     record {
       runs = goes.runs;
@@ -103,15 +103,15 @@ frame_ready p s steps pages h =
       few = goes.few;
       first = first_page p s h.played;
       kept = λ no_phase.
-          let sent = sends p h.played.typed.0 (code_of p s h.played) s (played_holds p s h.played) no_phase ms s.turn (record { sent = h.phase.sent; turn_is = refl }) in
-          same_pages p.plan.mode pages ms (sent_entries p.plan (shown p s)) s.turn (shown p s).turn sent.entries sent.turn_is h.phase.keeps;
+          let sent = sends p h.played.typed.0 (code_of p s h.played) s (played_holds p s h.played) no_phase ms s.page_index (record { sent = h.phase.sent; turn_is = refl }) in
+          same_pages p.plan.mode pages ms (sent_entries p.plan (shown p s)) s.page_index (shown p s).page_index sent.entries sent.turn_is h.phase.keeps;
       change = λ other.
           let link = links p h.played.typed.0 (code_of p s h.played) s (played_holds p s h.played) in
           change_known p.plan s (shown p s) pages.change link (is_due s.left) refl other h.phase.change;
     }
 
 pub frame_goes : (p : Program) (s : State) (steps : ℕ) (pages after : PhasePages) → IsGoing p s steps pages
-    → Keeps p.plan.mode (sent_entries p.plan (shown p s)) (after_frame p s).turn after → HasChange p.plan.notice (shown p s).left (shown p s).current (shown p s).next after.change
+    → Keeps p.plan.mode (sent_entries p.plan (shown p s)) (after_frame p s).page_index after → HasChange p.plan.notice (shown p s).left (shown p s).current (shown p s).next after.change
     → IsGoing p (after_frame p s) (frame_steps p s) after
 frame_goes p s steps pages after h keeps change =
     let u : State = shown p s in
@@ -129,15 +129,15 @@ frame_goes p s steps pages after h keeps change =
       within = omega (arith, frame.counted, frame.within);
     }
 
--- the same of a code that is lent
+-- the same for a borrowed code
 pub lent_ready : (p q : Program) (s : State) (steps : ℕ) (pages : PhasePages) → q ≡ p → IsGoing p s steps pages → IsFrameReady q s pages
 lent_ready p q s steps pages e h = subst (λ (x : Program). IsFrameReady x s pages) (sym e) (frame_ready p s steps pages h)
 
 pub lent_goes : (p q : Program) (s t : State) (steps made : ℕ) (pages after : PhasePages) → q ≡ p → IsGoing p s steps pages → t ≡ after_frame q s → made ≡ frame_steps q s
-    → Keeps q.plan.mode (sent_entries q.plan (shown q s)) (after_frame q s).turn after → HasChange q.plan.notice (shown q s).left (shown q s).current (shown q s).next after.change → IsGoing p t made after
+    → Keeps q.plan.mode (sent_entries q.plan (shown q s)) (after_frame q s).page_index after → HasChange q.plan.notice (shown q s).left (shown q s).current (shown q s).next after.change → IsGoing p t made after
 lent_goes p q s t steps made pages after e h state count keeps change =
-    let here : Keeps p.plan.mode (sent_entries p.plan (shown p s)) (after_frame p s).turn after =
-    subst (λ (x : Program). Keeps x.plan.mode (sent_entries x.plan (shown x s)) (after_frame x s).turn after) e keeps in
+    let here : Keeps p.plan.mode (sent_entries p.plan (shown p s)) (after_frame p s).page_index after =
+    subst (λ (x : Program). Keeps x.plan.mode (sent_entries x.plan (shown x s)) (after_frame x s).page_index after) e keeps in
     let flags : HasChange p.plan.notice (shown p s).left (shown p s).current (shown p s).next after.change =
     subst (λ (x : Program). HasChange x.plan.notice (shown x s).left (shown x s).current (shown x s).next after.change) e change in
     let on = frame_goes p s steps pages after h here flags in
@@ -165,7 +165,7 @@ start_goes p start s pages formed typed range starts none =
       phase = record {
         entries = ms;
         sent = subst (λ (o : Option ℕ). SentBy p.plan o s.current s.next ms) (sym starts.left) sent;
-        keeps = subst (λ (n : ℕ). Keeps p.plan.mode ms n pages) (sym starts.turn) (none p.plan.mode ms);
+        keeps = subst (λ (n : ℕ). Keeps p.plan.mode ms n pages) (sym starts.page_index) (none p.plan.mode ms);
         change = subst (λ (o : Option ℕ). KeepsChange p.plan.notice o s.current s.next pages.change) (sym starts.left) tt;
       };
       within = omega arith;

@@ -1,4 +1,4 @@
--- Playing continues: events that were delivered, and then more of them.
+-- Playing events, and then more events.
 use Rattle.std.specs.Prelude.{replicate}
 use Rattle.std.proofs.Common.{◌≡◌, ℕ, zero, suc, ◌+◌, ◌<◌, ◌≤◌, List, [], ◌∷◌, ◌++◌, length, take, Option, refl, sym, ap, subst, ◌∙◌, arith, append_assoc, length-append}
 use Rattle.std.specs.Io.KnownBytes.{Appends}
@@ -20,7 +20,7 @@ frames_join p events more = (runs_join p.code p.state [] events more).frames
 counts_join : (p : Playing) (events more : List Event) → length (frames_of p (events ++ more)) ≡ length (frames_of p events) + length (frames_of (played p events) more)
 counts_join p events more = ap (λ (fs : List (List ℕ)). length fs) (frames_join p events more) ∙ length-append (frames_of p events) (frames_of (played p events) more)
 
--- ---- events delivered, and more
+-- ---- events that were delivered, and then more
 
 pub joined : (a b c : Playing) (es fs : List Event) (x y z : Option (List ℕ)) (m n : ℕ) → Delivered a b es x y m → Delivered b c fs y z n → Delivered a c (es ++ fs) x z (m + n)
 joined a b c es fs x y z m n d e =
@@ -33,7 +33,7 @@ joined a b c es fs x y z m n d e =
       whole = omega (arith, d.whole, e.whole, count, all);
     }
 
--- ---- the sink fails in later ones
+-- ---- the sink fails in the later events
 
 pub stopped_later : (a b c : Playing) (es fs : List Event) (x y z : Option (List ℕ)) (m n k : ℕ) → Delivered a b es x y m → Stopped b c fs y z n k → Stopped a c (es ++ fs) x z (m + n) k
 stopped_later a b c es fs x y z m n k d s =
@@ -57,7 +57,7 @@ stopped_later a b c es fs x y z m n k d s =
       out = subst (λ (l : List ℕ). Appends x z l) bytes (Appends-trans x y z (played_bytes a es) (played_bytes b s.done ++ take k (next_frame (played b s.done))) d.out s.out);
     }
 
--- and no later one is done
+-- no later event was played
 pub stopped_before : (a c : Playing) (es fs : List Event) (x z : Option (List ℕ)) (n k : ℕ) → Stopped a c es x z n k → Stopped a c (es ++ fs) x z n k
 stopped_before a c es fs x z n k s = record {
   done = s.done;

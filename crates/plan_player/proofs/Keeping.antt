@@ -1,4 +1,4 @@
--- Pages of a phase that are kept.
+-- Keeping the pages of a phase.
 use Rattle.std.specs.Prelude.{slice_get, slice_set}
 use Rattle.std.proofs.Common.{◌≡◌, ℕ, zero, suc, ◌+◌, ◌<◌, ◌≤◌, Bool, true, false, cond, eqb, List, [], ◌∷◌, length, length-set, Option, Some, refl, sym, ap, subst, ◌∙◌, arith}
 use Rattle.std.proofs.Math.Dec.{ltb}
@@ -9,7 +9,7 @@ use Rattle.fib_carousel.specs.declared.kept_page.KeptPage.{KeptPage}
 use Rattle.fib_carousel.specs.declared.page_cursor.Cursor.{Cursor}
 use Rattle.fib_carousel.specs.Pages.{rounds, page_after}
 use Rattle.fib_carousel.specs.Kept.{IsKept}
-use Rattle.fib_carousel.specs.Walk.{StandsAt, cursor_page}
+use Rattle.fib_carousel.specs.Walk.{IsAtPage, cursor_page}
 use Rattle.plan_player.specs.declared.phase_pages.PhasePages.{PhasePages}
 use Rattle.plan_player.specs.Phase.{HasPage, Keeps}
 
@@ -40,7 +40,7 @@ each_more mode ms made pages page room kept each n below false e =
     let old = each n earlier in
     record { page = old.page; held = get_set_other pages made n (Some page) earlier ∙ old.held; kept = old.kept }
 
--- the page after a page that is there: page 0 where it is the last, and else one that is there too
+-- the index after a valid page index: 0 after the last, and otherwise valid too
 last_of : (b : Bool) (count k : ℕ) → ltb (k + 1) count ≡ b → k < count → cond b (k + 1) 0 ≡ 0 → k + 1 ≡ count
 last_of true count k e lt none = absurd (omega (arith, none))
 last_of false count k e lt none = omega (arith, lt, ltb-false (k + 1) count e)
@@ -50,48 +50,48 @@ more_of true count k e other = ltb-true (k + 1) count e
 more_of false count k e other = absurd (other refl)
 
 pub one_more : (mode : Mode) (ms : List Marked) (p : PhasePages) (place : ℕ) (page : KeptPage) (number : ℕ) (cursor : Cursor) → Keeps mode ms p.made p → place ≡ p.made → p.made < 60 → p.made < rounds mode ms
-    → IsKept mode ms p.made page → StandsAt mode ms (page_after (rounds mode ms) p.made) cursor → number ≡ cursor_page cursor
+    → IsKept mode ms p.made page → IsAtPage mode ms (page_after (rounds mode ms) p.made) cursor → number ≡ cursor_page cursor
     → Keeps mode ms p.made (record { pages = slice_set p.pages place (Some page); made = p.made + 1; is_whole = eqb number 0; cursor = cursor; change = p.change; sent = p.sent; headed = p.headed })
 one_more mode ms p place page number cursor k at room within kept stands is =
-    let turns : number ≡ page_after (rounds mode ms) p.made = is ∙ stands.1 in
+    let cycle : number ≡ page_after (rounds mode ms) p.made = is ∙ stands.1 in
     record {
       whole = length-set p.pages place (Some page) ∙ k.whole;
       room = omega (arith, room);
-      turn_in = omega arith;
+      index_within = omega arith;
       each = λ n below. subst (λ (i : ℕ). HasPage mode ms n (slice_set p.pages i (Some page))) (sym at) (each_more mode ms p.made p.pages page (omega (arith, room, k.whole)) kept k.each n below (eqb n p.made) refl);
-      all = λ e. last_of (ltb (p.made + 1) (rounds mode ms)) (rounds mode ms) p.made refl within (sym turns ∙ eqb-true number 0 e);
-      more = λ e. more_of (ltb (p.made + 1) (rounds mode ms)) (rounds mode ms) p.made refl (λ none. eqb-false number 0 e (turns ∙ none));
-      cursor = λ more. subst (λ (t : ℕ). StandsAt mode ms t cursor) (page_up (rounds mode ms) p.made more) stands;
+      all = λ e. last_of (ltb (p.made + 1) (rounds mode ms)) (rounds mode ms) p.made refl within (sym cycle ∙ eqb-true number 0 e);
+      more = λ e. more_of (ltb (p.made + 1) (rounds mode ms)) (rounds mode ms) p.made refl (λ none. eqb-false number 0 e (cycle ∙ none));
+      cursor = λ more. subst (λ (t : ℕ). IsAtPage mode ms t cursor) (page_up (rounds mode ms) p.made more) stands;
     }
 
--- where all pages were made, they are counted; before that, one more than were made does as well
-page_next : (mode : Mode) (ms : List Marked) (turn count : ℕ) (p : PhasePages) → Keeps mode ms turn p → turn < p.made → (b : Bool) → p.is_whole ≡ b
-    → (p.is_whole ≡ true → count ≡ p.made) → (p.is_whole ≡ false → count ≡ p.made + 1) → page_after count turn ≡ page_after (rounds mode ms) turn
-page_next mode ms turn count p k lt true e whole more = ap (λ (n : ℕ). page_after n turn) (whole e ∙ k.all e)
-page_next mode ms turn count p k lt false e whole more =
-    page_up count turn (omega (arith, lt, more e)) ∙ sym (page_up (rounds mode ms) turn (omega (arith, lt, k.more e)))
+-- the next index, with the page count or, before all pages have been made, with one more than were made
+page_next : (mode : Mode) (ms : List Marked) (page_index count : ℕ) (p : PhasePages) → Keeps mode ms page_index p → page_index < p.made → (b : Bool) → p.is_whole ≡ b
+    → (p.is_whole ≡ true → count ≡ p.made) → (p.is_whole ≡ false → count ≡ p.made + 1) → page_after count page_index ≡ page_after (rounds mode ms) page_index
+page_next mode ms page_index count p k lt true e whole more = ap (λ (n : ℕ). page_after n page_index) (whole e ∙ k.all e)
+page_next mode ms page_index count p k lt false e whole more =
+    page_up count page_index (omega (arith, lt, more e)) ∙ sym (page_up (rounds mode ms) page_index (omega (arith, lt, k.more e)))
 
-pub next_page : (mode : Mode) (ms : List Marked) (turn count : ℕ) (p : PhasePages) → Keeps mode ms turn p → turn < p.made
-    → (p.is_whole ≡ true → count ≡ p.made) → (p.is_whole ≡ false → count ≡ p.made + 1) → page_after count turn ≡ page_after (rounds mode ms) turn
-next_page mode ms turn count p k lt whole more = page_next mode ms turn count p k lt p.is_whole refl whole more
+pub next_page : (mode : Mode) (ms : List Marked) (page_index count : ℕ) (p : PhasePages) → Keeps mode ms page_index p → page_index < p.made
+    → (p.is_whole ≡ true → count ≡ p.made) → (p.is_whole ≡ false → count ≡ p.made + 1) → page_after count page_index ≡ page_after (rounds mode ms) page_index
+next_page mode ms page_index count p k lt whole more = page_next mode ms page_index count p k lt p.is_whole refl whole more
 
--- the page that is in turn next is one of those made, or page 0
-next_within : (b : Bool) (turn made : ℕ) → turn < made → cond b (turn + 1) 0 ≤ made
-next_within true turn made lt = omega (arith, lt)
-next_within false turn made lt = omega arith
+-- the page in turn next is one of those made, or page 0
+next_within : (b : Bool) (page_index made : ℕ) → page_index < made → cond b (page_index + 1) 0 ≤ made
+next_within true page_index made lt = omega (arith, lt)
+next_within false page_index made lt = omega arith
 
-pub turned : (mode : Mode) (ms : List Marked) (turn count : ℕ) (p : PhasePages) → Keeps mode ms turn p → turn < p.made → Keeps mode ms (page_after count turn) p
-turned mode ms turn count p k lt = record {
+pub turned : (mode : Mode) (ms : List Marked) (page_index count : ℕ) (p : PhasePages) → Keeps mode ms page_index p → page_index < p.made → Keeps mode ms (page_after count page_index) p
+turned mode ms page_index count p k lt = record {
   whole = k.whole;
   room = k.room;
-  turn_in = next_within (ltb (turn + 1) count) turn p.made lt;
+  index_within = next_within (ltb (page_index + 1) count) page_index p.made lt;
   each = k.each;
   all = k.all;
   more = k.more;
   cursor = k.cursor;
 }
 
--- the page that a place holds is that page
+-- the page stored at an index is that page
 pub held_is : (mode : Mode) (ms : List Marked) (n : ℕ) (pages : List (Option KeptPage)) (page : KeptPage) → HasPage mode ms n pages → slice_get pages n ≡ Some (Some page) → IsKept mode ms n page
 held_is mode ms n pages page h e =
     let both : Some (Some h.page) ≡ Some (Some page) = sym h.held ∙ e in

@@ -1,5 +1,5 @@
 pub mod Remaining
-pub mod GoesOn
+pub mod Continuing
 pub mod Keeping
 pub mod FrameFacts
 pub mod Delivering
@@ -19,4 +19,4 @@ mod VectorsOfStretches
 mod CountTables
 mod Recounting
 mod Alike
-mod Turns
+mod Cycles

@@ -1,4 +1,4 @@
--- One frame, as a run of one frame event.
+-- One frame as a run of one frame event.
 use Rattle.std.specs.Prelude.{replicate}
 use Rattle.std.proofs.Common.{◌≡◌, ℕ, zero, suc, ◌<◌, List, [], ◌∷◌, ◌++◌, length, take, Option, refl, sym, ap, subst}
 use Rattle.std.proofs.lemmas.List.{append-nil}
@@ -21,11 +21,11 @@ pub one_stopped : (a b : Playing) (x y : Option (List ℕ)) (k : ℕ) → b ≡ 
     → Stopped a b (replicate 1 Frame) x y 0 k
 one_stopped a b x y k state part out = record { done = []; rest = []; cut = refl; whole = refl; part = part; state = state; out = out }
 
--- as many frames as frame events
+-- there are as many frames as frame events
 pub all_frames : (p : Program) (s : State) (n : ℕ) → n ≡ length (run_frames p s (replicate n Frame))
 all_frames p s zero = refl
 all_frames p s (suc n) = ap (λ (k : ℕ). suc k) (all_frames p (after_frame p s) n)
 
--- the first of quiet frames, and the rest of them
+-- the first of some quiet frames, and the rest
 pub first_quiet : (p : Program) (s : State) (n m : ℕ) → n ≡ suc m → AreQuiet p n s → AreQuiet p (suc m) s
 first_quiet p s n m e quiet = subst (λ (k : ℕ). AreQuiet p k s) e quiet

@@ -1,4 +1,4 @@
--- The place of the instruction to come is within the code, in every state that a typed code comes to.
+-- The pc is within the code in every state that a typed code reaches.
 use Rattle.std.specs.Prelude.{slice_get, option_map, IsSome}
 use Rattle.std.proofs.Common.{◌≡◌, ℕ, zero, suc, ◌<◌, Bool, true, false, cond, eqb, List, [], ◌∷◌, length, Option, Some, None, refl, sym, ap, subst, ◌∙◌, arith}
 use Rattle.std.proofs.lemmas.Bool.{eqb-true}
@@ -26,7 +26,7 @@ use Rattle.plan_runs.proofs.Reached.{starts_are_reached}
 abbrev pub IsInside : Program → ℕ → Type 0
 IsInside p pc = pc < length p.lines
 
--- ---- after a suspension but the last
+-- ---- after a suspension other than `End`
 
 arrives_inside : (p : Program) (ts : List Known) → IsTyping p ts → (pc : ℕ) (t : Known) (o : Option Label) → label_at p pc ≡ o → Arrives p ts pc o t → IsInside p pc
 arrives_inside p ts ty pc t None e arrives = omega (arith, get_below ts pc t arrives, ty.each)
@@ -39,7 +39,7 @@ arrives_inside p ts ty pc t (Some label) e arrives =
 expects_inside : (p : Program) (ts : List Known) → IsTyping p ts → (pc : ℕ) (counters : List ℕ) (R : Known → Type 0) → Expects p ts pc counters R → IsInside p pc
 expects_inside p ts ty pc counters R h = arrives_inside p ts ty pc h.known (label_at p pc) refl h.arrives
 
--- ---- after the last
+-- ---- after `End`
 
 line_inside : (lines : List Line) (pc : ℕ) (i : Instr) (o : Option Line) → slice_get lines pc ≡ o → option_map (λ (l : Line). l.instr) o ≡ Some i → pc < length lines
 line_inside lines pc i None e h = absurd cc
@@ -94,7 +94,7 @@ held_place s false = refl
 ready_place : (s : State) → (ready s).pc ≡ s.pc
 ready_place s = held_place (with_due_swap s) (is_here (with_due_swap s) (with_due_swap s).hold) ∙ due_place s (is_due s.left)
 
-turned_place : (u : State) (b : Bool) → (cond b (let r : State = record u { turn = 0 } in r) u).pc ≡ u.pc
+turned_place : (u : State) (b : Bool) → (cond b (let r : State = record u { page_index = 0 } in r) u).pc ≡ u.pc
 turned_place u true = refl
 turned_place u false = refl
 
@@ -136,7 +136,7 @@ some_line [] pc below = absurd (omega (arith, below))
 some_line (l ∷ ls) zero below = refl
 some_line (l ∷ ls) (suc pc) below = some_line ls pc (omega (arith, below))
 
--- so it has a line
+-- so the next instruction has a line
 pub has_line : (p q : Program) (s : State) (o : Option ℕ) → IsPlayed p s → q ≡ p → o ≡ line_at q s.pc → IsSome o
 has_line p q s o h same is =
     let here : o ≡ line_at p s.pc = is ∙ ap (λ (x : Program). line_at x s.pc) same in

@@ -1,4 +1,4 @@
--- Quiet frames: what they are by the state alone, and how many there are before something comes.
+-- Quiet frames: what they are, from the state alone, and how many there are.
 use Rattle.std.specs.Prelude.{◌||◌, replicate}
 use Rattle.std.proofs.Common.{◌≡◌, ℕ, zero, suc, ◌+◌, ◌%◌, ◌≤◌, ◌==◌, Bool, true, false, cond, List, ◌∷◌, Option, Some, None, refl, sym, ap, subst, ◌∙◌, arith}
 use Rattle.std.proofs.lemmas.Bool.{eqb-true}
@@ -46,7 +46,7 @@ held_steps zero p s held = refl
 held_steps (suc most) p s held = rw held refl
 
 abbrev at_first_page : State → State
-at_first_page s = record s { turn = 0 }
+at_first_page s = record s { page_index = 0 }
 
 no_phase_begun : (s : State) (b : Bool) → b ≡ false → cond b (at_first_page s) s ≡ s
 no_phase_begun s true e = absurd cc
@@ -60,7 +60,7 @@ or_false : (a b : Bool) → (a || b) ≡ false → b ≡ false
 or_false true b e = absurd cc
 or_false false b e = e
 
--- what a quiet frame is by the state alone
+-- a quiet frame, from the state alone
 pub record Stays (p : Program) (s : State) : Type 0 where
   pub shows : shown p s ≡ s
   pub bytes : frame_bytes p s ≡ shown_bytes p.plan s
@@ -101,7 +101,7 @@ quiet_frames_are_copied p (suc n) s quiet =
       no_steps = ap (λ (k : ℕ). last_steps p (after_frame p s) k (replicate n Frame)) now.no_steps ∙ later.no_steps;
     }
 
--- ---- how many there are
+-- ---- counting them
 
 pub fewer_swap : (notice : ℕ) (left : Option ℕ) (m n : ℕ) → n ≤ m → SwapIsAway notice left m → SwapIsAway notice left n
 fewer_swap notice None m n le away = tt
@@ -160,7 +160,7 @@ neither : (a b : Bool) → a ≡ false → b ≡ false → (a || b) ≡ false
 neither true b e f = absurd cc
 neither false b e f = f
 
--- what isn't here holds the machine
+-- a machine whose wait condition is not met is suspended
 not_running : (s : State) (hold : Hold) → is_here s hold ≡ false → is_running hold ≡ false
 not_running s (Waits k) e = e
 not_running s (WaitsDay t) e = refl
@@ -168,7 +168,7 @@ not_running s (WaitsContact c closed) e = refl
 not_running s WaitsSwap e = refl
 not_running s Ended e = refl
 
--- nothing that is looked for comes with the next frame
+-- neither a swap nor a notice nor the end of the wait falls on the next frame
 pub is_quiet : (p : Program) (s : State) (n : ℕ) → SwapIsAway p.plan.notice s.left (suc n) → HoldIsAway s s.hold (suc n) → IsQuiet p s
 is_quiet p s n swap hold =
     let notice = p.plan.notice in

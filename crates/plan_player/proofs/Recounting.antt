@@ -1,33 +1,33 @@
--- The CRC is linear, so that two bytes of a FIB turn it by what each of them contributes.
+-- The CRC is linear, so changing two bytes of a FIB changes it by the contribution of each.
 use Rattle.std.specs.Prelude.{slice_index_or, slice_set, bit_xor}
 use Rattle.std.proofs.Common.{◌≡◌, ℕ, zero, suc, ◌+◌, ◌*◌, ◌/◌, ◌%◌, ◌<◌, List, [], ◌∷◌, ◌++◌, length, refl, sym, ◌∙◌, ap, ap₂, arith}
 use Rattle.std.specs.Int.Bits.{xor_assoc, xor_self}
 use Rattle.std.proofs.lemmas.Nat.{xor_comm, xor_of_16}
 use Rattle.std.proofs.lemmas.List.{set-append_right, get_or-append_right}
-use Rattle.fib_codec.specs.Crc.{check_word}
+use Rattle.fib_codec.specs.Crc.{crc_value}
 use Rattle.fib_codec.specs.Spelling.{checked}
 use Rattle.fib_codec.specs.Register.{after, after_all, later}
 use Rattle.fib_codec.proofs.Division.{word_checks}
 use Rattle.fib_codec.proofs.Linear.{apart, zeros_apart, one_byte, byte_below}
-use Rattle.fib_codec.proofs.Words.{word_checked, check_word_below}
+use Rattle.fib_codec.proofs.U16.{word_checked, check_word_below}
 
--- ---- sums of words
+-- ---- sums modulo 2
 
 nothing : (a : ℕ) → bit_xor 0 a ≡ a
 nothing a = refl
 
--- what stands in both is gone
+-- what is in both terms cancels
 gone : (a b c : ℕ) → bit_xor (bit_xor a b) (bit_xor c a) ≡ bit_xor c b
 gone a b c =
     xor_comm (bit_xor a b) (bit_xor c a)
     ∙ xor_assoc c a (bit_xor a b)
     ∙ ap (bit_xor c) (sym (xor_assoc a a b) ∙ ap (λ z. bit_xor z b) (xor_self a) ∙ nothing b)
 
--- the last of three before the second
+-- the last of three terms before the second
 turned_round : (a b c : ℕ) → bit_xor (bit_xor a b) c ≡ bit_xor (bit_xor a c) b
 turned_round a b c = xor_assoc a b c ∙ ap (bit_xor a) (xor_comm b c) ∙ sym (xor_assoc a c b)
 
--- ---- a byte that becomes another
+-- ---- changing a byte
 
 high_byte : (k b : ℕ) → after 8 k (b * 256) ≡ after 8 (bit_xor b k) 0
 high_byte k b =
@@ -45,16 +45,16 @@ both_bytes x y =
     ∙ apart y (x * 256)
     ∙ ap (bit_xor (after 8 y 0)) (high_byte 0 x ∙ ap (λ n. after 8 n 0) alone)
 
--- another byte turns the register by what the two bytes together make of an empty one
+-- changing a byte changes the register by the contribution of the sum of both bytes
 other_byte : (x y r : ℕ) → after 8 y r ≡ bit_xor (after 8 x r) (after 8 (bit_xor x y) 0)
 other_byte x y r =
     apart y r
     ∙ sym (gone (after 8 x 0) (after 8 0 r) (after 8 y 0))
     ∙ ap₂ (λ m n. bit_xor m n) (sym (apart x r)) (sym (both_bytes x y))
 
--- ---- bytes behind it
+-- ---- the bytes after it
 
--- what a register was turned by goes on as behind zeros
+-- a change of the register continues as over zero bytes
 one_on : (k r d : ℕ) → after 8 k (bit_xor r d) ≡ bit_xor (after 8 k r) (after 8 0 d)
 one_on k r d =
     apart k (bit_xor r d)
@@ -73,7 +73,7 @@ all_on (k ∷ ys) r d =
     ∙ all_on ys (after 8 k r) (after 8 0 d)
     ∙ ap (bit_xor (after_all ys (after 8 k r))) (later_more (length ys) d)
 
--- two bytes that become others, and bytes behind them
+-- two changed bytes, followed by others
 two_others : (x y high low r : ℕ) (rest : List ℕ)
     → after_all rest (after 8 low (after 8 high r))
     ≡ bit_xor (bit_xor (after_all rest (after 8 y (after 8 x r))) (later (suc (length rest)) (after 8 (bit_xor x high) 0))) (later (length rest) (after 8 (bit_xor y low) 0))
@@ -95,14 +95,14 @@ all_below : (bytes : List ℕ) (r : ℕ) → r < 65536 → after_all bytes r < 6
 all_below [] r lt = lt
 all_below (k ∷ bytes) r lt = all_below bytes (after 8 k r) (byte_below k r)
 
-word_is : (bytes : List ℕ) → bit_xor (after_all bytes 65535) 65535 ≡ check_word bytes
+word_is : (bytes : List ℕ) → bit_xor (after_all bytes 65535) 65535 ≡ crc_value bytes
 word_is bytes =
     let r = after_all bytes 65535 in
     word_checked bytes (bit_xor r 65535) (xor_of_16 r 65535 (all_below bytes 65535 (omega arith)) (omega arith)) (word_checks bytes r refl)
 
 other_word : (a b c d x y high low : ℕ) (rest : List ℕ) → length rest ≡ 24
-    → bit_xor (check_word (a ∷ b ∷ c ∷ d ∷ x ∷ y ∷ rest)) (bit_xor (later 25 (after 8 (bit_xor x high) 0)) (later 24 (after 8 (bit_xor y low) 0)))
-    ≡ check_word (a ∷ b ∷ c ∷ d ∷ high ∷ low ∷ rest)
+    → bit_xor (crc_value (a ∷ b ∷ c ∷ d ∷ x ∷ y ∷ rest)) (bit_xor (later 25 (after 8 (bit_xor x high) 0)) (later 24 (after 8 (bit_xor y low) 0)))
+    ≡ crc_value (a ∷ b ∷ c ∷ d ∷ high ∷ low ∷ rest)
 other_word a b c d x y high low rest long =
     let old = a ∷ b ∷ c ∷ d ∷ x ∷ y ∷ rest in
     let new = a ∷ b ∷ c ∷ d ∷ high ∷ low ∷ rest in
@@ -135,8 +135,8 @@ pub recounted : (fib : List ℕ) (high low p q hi lo a b c d x y : ℕ) (rest : 
 recounted fib high low p q hi lo a b c d x y rest long is is_p is_q is_hi is_lo =
     let old = a ∷ b ∷ c ∷ d ∷ x ∷ y ∷ rest in
     let new = a ∷ b ∷ c ∷ d ∷ high ∷ low ∷ rest in
-    let old_word = check_word old in
-    let new_word = check_word new in
+    let old_word = crc_value old in
+    let new_word = crc_value new in
     let v = old_word / 256 % 256 in
     let w = old_word % 256 in
     let whole : length old ≡ 30 = omega (arith, long) in

@@ -1,4 +1,4 @@
--- What is still to be carried out of a frame's instructions.
+-- The instructions of a frame that remain to be executed.
 use Rattle.std.proofs.Common.{◌≡◌, ℕ, zero, suc, ◌+◌, ◌≤◌, true, false, sym, subst, ◌∙◌, arith}
 use Rattle.plan_code.specs.Program.{Program, IsProgram}
 use Rattle.plan_code.specs.Machine.{State, step, StepIsAllowed}
@@ -6,7 +6,7 @@ use Rattle.plan_runs.specs.Frames.{is_running, Executes, burst, burst_steps}
 use Rattle.plan_runs.proofs.Bursts.{bursts_are_one}
 use Rattle.plan_player.specs.Positions.{CanRun}
 
--- this many instructions have led from the first state to this one, and the rest of the frame's is still to come
+-- this many instructions took the first state to this one, and the rest of the frame's instructions remain
 pub record Remains (p : Program) (first : State) (steps : ℕ) (s : State) : Type 0 where
   pub left : ℕ
   pub counted : steps + left ≡ burst_steps p.plan.budget p first
@@ -24,7 +24,7 @@ remains_all p s program can =
       executes = subst (λ (t : State). Executes p s can.steps t) (sym one.0) can.executes;
     }
 
--- what a machine that runs can do next, and what then remains
+-- what a running machine can execute next, and what then remains
 pub record Goes (p : Program) (first : State) (steps : ℕ) (s : State) : Type 0 where
   pub allowed : StepIsAllowed p s
   pub counted : steps + 1 ≤ 255
@@ -44,7 +44,7 @@ goes_by p first s steps (suc left) counted within executes runs =
 pub goes : (p : Program) (first : State) (steps : ℕ) (s : State) → Remains p first steps s → is_running s.hold ≡ true → Goes p first steps s
 goes p first steps s h runs = goes_by p first s steps h.left h.counted h.within h.executes runs
 
--- a machine that is suspended has come to the end of the frame's instructions
+-- a suspended machine is at the end of the frame's instructions
 pub record Stops (p : Program) (first : State) (steps : ℕ) (s : State) : Type 0 where
   pub state : s ≡ burst p.plan.budget p first
   pub counted : steps ≡ burst_steps p.plan.budget p first

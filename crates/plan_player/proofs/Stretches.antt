@@ -1,4 +1,4 @@
--- What the player's calls need of quiet frames that go to a sink together.
+-- What the player's calls require of quiet frames that go to a sink together.
 use Rattle.std.specs.Prelude.{replicate, Result, Ok, Err, IfOk, IfErr, OnOk}
 use Rattle.std.proofs.Common.{◌≡◌, ℕ, zero, suc, ◌+◌, ◌-◌, ◌<◌, ◌≤◌, true, false, List, [], ◌∷◌, ◌++◌, length, take, Option, Some, None, refl, sym, ap, subst, ◌∙◌, arith}
 use Rattle.std.specs.List.{concat}
@@ -25,7 +25,7 @@ use Rattle.plan_player.proofs.QuietFacts.{quiet_ready, quiet_goes}
 use Rattle.plan_player.proofs.OneFrame.{all_frames}
 use Rattle.plan_player.proofs.Joining.{replicate_more, stopped_before}
 
--- ---- fewer of them, and each of them
+-- ---- fewer frames, and each of them
 
 pub fewer_quiet : (p : Program) (m n : ℕ) (s : State) → n ≤ m → AreQuiet p m s → AreQuiet p n s
 fewer_quiet p m zero s le quiet = tt
@@ -40,7 +40,7 @@ quiet_at p zero k s lt quiet = absurd (omega (arith, lt))
 quiet_at p (suc n) zero s lt quiet = quiet.0
 quiet_at p (suc n) (suc k) s lt quiet = quiet_at p n k (with_next_counts p.plan s) (omega (arith, lt)) (quiet_on p n s quiet.0 quiet.1)
 
--- ---- the swap is away
+-- ---- no swap within the stretch
 
 away_more : (notice n : ℕ) (left : Option ℕ) → is_due left ≡ false → is_first_noticed notice left ≡ false → SwapIsAway notice (left_after_frame left) n → SwapIsAway notice left (suc n)
 away_more notice n None due first away = tt
@@ -59,13 +59,13 @@ swap_away p (suc n) s quiet =
     away_more p.plan.notice n s.left quiet.0.no_swap (stays p s quiet.0).no_notice
     (swap_away p n (with_next_counts p.plan s) (quiet_on p n s quiet.0 quiet.1))
 
--- ---- what holds between them
+-- ---- the invariant between the frames
 
 next_goes : (p : Program) (s : State) (steps : ℕ) (pages : PhasePages) → pages.is_whole ≡ true → IsGoing p s steps pages → IsQuiet p s → IsGoing p (with_next_counts p.plan s) 0 pages
 next_goes p s steps pages whole h quiet =
     let ready = quiet_ready p p.plan s steps pages refl h quiet in
     let made = ready.keeps.all whole in
-    let keeps = turned p.plan.mode (sent_entries p.plan s) s.turn (sent_rounds p.plan s) pages ready.keeps (omega (arith, made, ready.sent.turn)) in
+    let keeps = turned p.plan.mode (sent_entries p.plan s) s.page_index (sent_rounds p.plan s) pages ready.keeps (omega (arith, made, ready.sent.page_index)) in
     quiet_goes p p.plan s (with_next_counts p.plan s) steps pages pages refl h quiet refl keeps refl
 
 pub going_on : (p : Program) (n k : ℕ) (s : State) (steps : ℕ) (pages : PhasePages) → k ≤ n → pages.is_whole ≡ true → IsGoing p s steps pages → AreQuiet p n s → IsGoing p (counted_on p.plan k s) 0 pages
@@ -83,7 +83,7 @@ stretch p plan n s steps pages e whole h quiet =
     } in
     subst (λ (q : Plan). IsStretch q n s pages) (sym e) here
 
--- ---- the player after them
+-- ---- the player after the frames
 
 steps_on : (p : Program) (n : ℕ) (s : State) (steps : ℕ) → 1 ≤ n → AreQuiet p n s → last_steps p s steps (replicate n Frame) ≡ 0
 steps_on p zero s steps some quiet = absurd (omega (arith, some))
@@ -145,7 +145,7 @@ stretch_stopped p n s t steps x y frames bytes quiet cut =
       out = subst (λ (l : List ℕ). Appends x y l) text cut.out;
     }
 
--- ---- what is answered
+-- ---- results
 
 pub quiet_done : (p : Program) (plan : Plan) (n : ℕ) (s t : State) (steps : ℕ) (x y : Option (List ℕ)) (r : Result ℕ Cut) → plan ≡ p.plan → 1 ≤ n → AreQuiet p n s
     → IfOk r (λ k. k ≡ n) → OnOk r (t ≡ counted_on plan n s) → OnOk r (Appends x y (concat (notice_frames plan n s)))
@@ -182,7 +182,7 @@ goes_quiet p plan n k s t steps pages e le whole h quiet state =
     let at : t ≡ counted_on p.plan k s = state ∙ ap (λ (q : Plan). counted_on q k s) e in
     subst (λ (u : State). IsGoing p u 0 pages) (sym at) (going_on p n k s steps pages le whole h quiet)
 
--- after some of them the others are quiet
+-- after some of them the remaining ones are quiet
 pub quiet_rest : (p : Program) (n k : ℕ) (s : State) → k ≤ n → AreQuiet p n s → AreQuiet p (n - k) (run p s (replicate k Frame))
 quiet_rest p n zero s le quiet =
     let same : n ≡ n - 0 = omega arith in

@@ -1,4 +1,4 @@
--- Quiet frames that go to a sink together: what each of them is, and where they are cut.
+-- Quiet frames that go to a sink together: the content of each, and cutting their bytes.
 use Rattle.std.specs.Prelude.{slice_get}
 use Rattle.std.proofs.Common.{◌≡◌, ℕ, zero, suc, ◌+◌, ◌-◌, ◌*◌, ◌/◌, ◌%◌, ◌<◌, ◌≤◌, ◌==◌, Bool, true, false, cond, List, [], ◌∷◌, ◌++◌, length, take, Option, Some, None, IfSome, refl, sym, ap, subst, ◌∙◌, arith, inl, inr, append_assoc, length-append}
 use Rattle.std.specs.List.{concat}
@@ -90,23 +90,23 @@ stretch_rounds plan n s pages h = λ k lt. sym ((h.ready k lt).keeps.all h.whole
 
 pub stretch_page : (plan : Plan) (n k : ℕ) (s : State) (pages : PhasePages) → IsStretch plan n s pages → k < n
     → (let t : State = counted_on plan k s in
-    HasPage plan.mode (sent_entries plan t) t.turn pages.pages)
+    HasPage plan.mode (sent_entries plan t) t.page_index pages.pages)
 stretch_page plan n k s pages h lt =
     let ready = h.ready k lt in
     let made = ready.keeps.all h.whole in
-    ready.keeps.each (counted_on plan k s).turn (omega (arith, made, ready.sent.turn))
+    ready.keeps.each (counted_on plan k s).page_index (omega (arith, made, ready.sent.page_index))
 
-pub turn_within : (plan : Plan) (n : ℕ) (s : State) (pages : PhasePages) → 1 ≤ n → IsStretch plan n s pages → s.turn < pages.made
+pub turn_within : (plan : Plan) (n : ℕ) (s : State) (pages : PhasePages) → 1 ≤ n → IsStretch plan n s pages → s.page_index < pages.made
 turn_within plan n s pages some h =
     let ready = h.ready 0 (omega (arith, some)) in
     let made = ready.keeps.all h.whole in
-    omega (arith, made, ready.sent.turn)
+    omega (arith, made, ready.sent.page_index)
 
 pub frame_size : (plan : Plan) (n k : ℕ) (s : State) (pages : PhasePages) → IsStretch plan n s pages → k < n → length (shown_bytes plan (counted_on plan k s)) ≡ 32 * fib_count plan.mode
 frame_size plan n k s pages h lt =
     let t : State = counted_on plan k s in
     let page = stretch_page plan n k s pages h lt in
-    (pages_are_valid plan.mode (ensemble_sent plan t) t.turn (sent_entries plan t) (record { entries = page.kept.sendable; ensemble_within = (h.ready k lt).sent.ensemble })).1
+    (pages_are_valid plan.mode (ensemble_sent plan t) t.page_index (sent_entries plan t) (record { entries = page.kept.sendable; ensemble_within = (h.ready k lt).sent.ensemble })).1
 
 -- ---- the bytes
 
@@ -114,7 +114,7 @@ pub concat_join : (xs ys : List (List ℕ)) → concat (xs ++ ys) ≡ concat xs 
 concat_join [] ys = refl
 concat_join (x ∷ xs) ys = ap (λ (l : List ℕ). x ++ l) (concat_join xs ys) ∙ sym (append_assoc x (concat xs) (concat ys))
 
--- one frame more
+-- one more frame
 pub bytes_more : (plan : Plan) (k : ℕ) (s : State) → concat (notice_frames plan (suc k) s) ≡ concat (notice_frames plan k s) ++ shown_bytes plan (counted_on plan k s)
 bytes_more plan k s =
     let last : List ℕ = shown_bytes plan (counted_on plan k s) in
@@ -122,7 +122,7 @@ bytes_more plan k s =
     ∙ concat_join (notice_frames plan k s) (last ∷ [])
     ∙ ap (λ (l : List ℕ). concat (notice_frames plan k s) ++ l) (append-nil last)
 
--- ---- cut anywhere: whole frames, and a part of the next
+-- ---- cut at any offset: whole frames, and a part of the next
 
 pub record Cut (plan : Plan) (n : ℕ) (s : State) (taken frames bytes : ℕ) : Type 0 where
   pub few : frames < n
@@ -161,7 +161,7 @@ cut_at plan size (suc n) s taken (suc k) bytes sized split part inside =
           ∙ sym (append_assoc frame (concat (notice_frames plan k on)) (take bytes (shown_bytes plan (counted_on plan k on))));
     }
 
--- ---- a batch, and one frame more
+-- ---- a batch, and one more frame
 
 within_by : (b : Bool) (e : EnsembleInformation) → IfSome (cond b (Some e) None) IsEnsembleInformation → b ≡ true → IsEnsembleInformation e
 within_by true e h is = h
@@ -175,33 +175,33 @@ headed_within plan n k s pages header number h lt is at =
     let now = subst (λ (x : ℕ). IfSome (headed_at plan.mode header x) IsEnsembleInformation) (sym at) mine in
     within_by (number % count_step plan.mode == 0) (ensemble_at header number) now
 
--- the page in turn is the one that its place holds
-pub page_kept : (plan : Plan) (n k : ℕ) (s : State) (pages : PhasePages) (turn : ℕ) (page : KeptPage) → IsStretch plan n s pages → k < n
-    → turn ≡ (counted_on plan k s).turn → slice_get pages.pages turn ≡ Some (Some page)
+-- the page in turn is the one stored at its index
+pub page_kept : (plan : Plan) (n k : ℕ) (s : State) (pages : PhasePages) (page_index : ℕ) (page : KeptPage) → IsStretch plan n s pages → k < n
+    → page_index ≡ (counted_on plan k s).page_index → slice_get pages.pages page_index ≡ Some (Some page)
     → (let t : State = counted_on plan k s in
-    IsKept plan.mode (sent_entries plan t) t.turn page)
-page_kept plan n k s pages turn page h lt at held =
+    IsKept plan.mode (sent_entries plan t) t.page_index page)
+page_kept plan n k s pages page_index page h lt at held =
     let t : State = counted_on plan k s in
-    held_is plan.mode (sent_entries plan t) t.turn pages.pages page (stretch_page plan n k s pages h lt) (subst (λ (x : ℕ). slice_get pages.pages x ≡ Some (Some page)) at held)
+    held_is plan.mode (sent_entries plan t) t.page_index pages.pages page (stretch_page plan n k s pages h lt) (subst (λ (x : ℕ). slice_get pages.pages x ≡ Some (Some page)) at held)
 
 pub batch_more : (plan : Plan) (n k : ℕ) (s : State) (pages : PhasePages) (header : Header) (number : ℕ) (old new : List ℕ) → IsStretch plan n s pages → k < n
     → header ≡ header_of plan s → number ≡ (counted_on plan k s).count → old ≡ concat (notice_frames plan k s)
     → (let t : State = counted_on plan k s in
-    new ≡ old ++ page_bytes plan.mode (headed_at plan.mode header number) t.turn (sent_entries plan t)) → new ≡ concat (notice_frames plan (suc k) s)
+    new ≡ old ++ page_bytes plan.mode (headed_at plan.mode header number) t.page_index (sent_entries plan t)) → new ≡ concat (notice_frames plan (suc k) s)
 batch_more plan n k s pages header number old new h lt is at before more =
     let t : State = counted_on plan k s in
     let ms : List Marked = sent_entries plan t in
-    let frame = ap (λ (x : Header). page_bytes plan.mode (headed_at plan.mode x number) t.turn ms) is
-    ∙ ap (λ (x : ℕ). page_bytes plan.mode (headed_at plan.mode (header_of plan s) x) t.turn ms) at
-    ∙ ap (λ (o : Option EnsembleInformation). page_bytes plan.mode o t.turn ms) (sym (headed_later plan n k s h.away lt)) in
+    let frame = ap (λ (x : Header). page_bytes plan.mode (headed_at plan.mode x number) t.page_index ms) is
+    ∙ ap (λ (x : ℕ). page_bytes plan.mode (headed_at plan.mode (header_of plan s) x) t.page_index ms) at
+    ∙ ap (λ (o : Option EnsembleInformation). page_bytes plan.mode o t.page_index ms) (sym (headed_later plan n k s h.away lt)) in
     more
-    ∙ ap (λ (l : List ℕ). l ++ page_bytes plan.mode (headed_at plan.mode header number) t.turn ms) before
+    ∙ ap (λ (l : List ℕ). l ++ page_bytes plan.mode (headed_at plan.mode header number) t.page_index ms) before
     ∙ ap (λ (l : List ℕ). concat (notice_frames plan k s) ++ l) frame
     ∙ sym (bytes_more plan k s)
 
-pub turn_more : (plan : Plan) (n k : ℕ) (s : State) (pages : PhasePages) → IsStretch plan n s pages → k < n → (counted_on plan (suc k) s).turn ≡ page_after pages.made (counted_on plan k s).turn
+pub turn_more : (plan : Plan) (n k : ℕ) (s : State) (pages : PhasePages) → IsStretch plan n s pages → k < n → (counted_on plan (suc k) s).page_index ≡ page_after pages.made (counted_on plan k s).page_index
 turn_more plan n k s pages h lt =
-    ap (λ (u : State). u.turn) (on_more plan k s) ∙ ap (λ (r : ℕ). page_after r (counted_on plan k s).turn) (stretch_rounds plan n s pages h k lt)
+    ap (λ (u : State). u.page_index) (on_more plan k s) ∙ ap (λ (r : ℕ). page_after r (counted_on plan k s).page_index) (stretch_rounds plan n s pages h k lt)
 
 pub count_more : (plan : Plan) (k : ℕ) (s : State) → (counted_on plan (suc k) s).count ≡ ((counted_on plan k s).count + 1) % COUNTS
 count_more plan k s = ap (λ (u : State). u.count) (on_more plan k s)

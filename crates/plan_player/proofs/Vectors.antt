@@ -1,5 +1,5 @@
--- What a player stands for and what a sink is given of a run, by a code that waits for a frame and ends: each definition
--- where it holds, and where it fails.
+-- The state of a player and what a sink receives, for a code that waits for a frame and ends: examples that hold and
+-- examples that fail for each definition.
 use Rattle.std.proofs.Common.{◌≡◌, ℕ, List, [], ◌∷◌, ◌++◌, length, take, replicate, Some, None, true, refl, ap, arith}
 use Rattle.std.proofs.lemmas.List.{length-append}
 use Rattle.mux_config.specs.Configuration.{nothing}
@@ -62,7 +62,7 @@ first =
       count = 0;
       day = 0;
       eid = 0xe1c5;
-      turn = 0;
+      page_index = 0;
     }
 
 abbrev fresh : Playing
@@ -79,7 +79,7 @@ in_range = refl
 last_count_and_day : start_fault (record start { count = 4999; day = 3599999 }) ≡ None
 last_count_and_day = refl
 
--- of two faults the count is told
+-- of two faults, that of the count is reported
 count_first : start_fault (record start { count = 5000; day = 3600000 }) ≡ Some Count
 count_first = refl
 
@@ -102,12 +102,12 @@ begins = record {
     count = refl;
     day = refl;
     eid = refl;
-    turn = refl;
+    page_index = refl;
   };
   none_yet = refl;
 }
 
--- with an instruction that no frame has carried out
+-- with an instruction although no frame was executed
 begins_with_a_step : IsAtStart waits start (record fresh { steps = 1 }) → ⊥
 begins_with_a_step h = let e : 1 ≡ 0 = h.none_yet in omega (arith, e)
 
@@ -150,9 +150,9 @@ stops_in_the_second = record {
 told_so : StoppedBy fresh (played fresh (frames 2)) (frames 3) (Some []) (Some taken) (Write 1 4)
 told_so = stops_in_the_second
 
--- ---- what is no such stop
+-- ---- what is not such a stop
 
--- what one frame before others is cut at
+-- a single frame can only be cut with no event before it
 nothing_done : (done rest : List Event) → Frame ∷ [] ≡ done ++ Frame ∷ rest → done ≡ []
 nothing_done [] rest e = refl
 nothing_done (d ∷ done) rest e =
@@ -164,7 +164,7 @@ contacts_alone h =
     let n : 0 ≡ length (h.done ++ Frame ∷ h.rest) = ap length h.cut in
     omega (arith, n, length-append h.done (Frame ∷ h.rest))
 
--- the frame that was cut has been played
+-- the cut frame has been played
 frame_not_played : Stopped fresh fresh (frames 1) (Some []) (Some []) 0 0 → ⊥
 frame_not_played h =
     let none = nothing_done h.done h.rest h.cut in
@@ -172,7 +172,7 @@ frame_not_played h =
     let same = ap (λ (done : List Event). (played fresh (done ++ Frame ∷ [])).state.count) none in
     omega (arith, count, same)
 
--- a frame of which all bytes are out is none that was cut
+-- a frame with all bytes written was not cut
 all_bytes : Stopped fresh (played fresh (frames 1)) (frames 1) (Some []) (Some (played_bytes fresh (frames 1))) 0 96 → ⊥
 all_bytes h =
     let same : length (next_frame (played fresh h.done)) ≡ 96 = ap (λ (done : List Event). length (next_frame (played fresh done))) (nothing_done h.done h.rest h.cut) in
@@ -184,7 +184,7 @@ told_of_too_many h =
     let same : length (frames_of fresh h.done) ≡ 0 = ap (λ (done : List Event). length (frames_of fresh done)) (nothing_done h.done h.rest h.cut) in
     omega (arith, none, same)
 
--- ---- the change flags of a notice of 24 frames, where nothing changes
+-- ---- the change flags of a notice of 24 frames that changes nothing
 
 first_of_a_notice : HasChange 24 (Some 24) nothing nothing 0
 first_of_a_notice = λ noticed. refl
@@ -192,14 +192,14 @@ first_of_a_notice = λ noticed. refl
 other_flags : HasChange 24 (Some 24) nothing nothing 1 → ⊥
 other_flags h = let e : 1 ≡ 0 = h refl in omega (arith, e)
 
--- those of the frames before it are any
+-- before the notice any change flags will do
 before_a_notice : KeepsChange 24 (Some 24) nothing nothing 1
 before_a_notice = λ less. omega (arith, less)
 
 in_a_notice : KeepsChange 24 (Some 23) nothing nothing 1 → ⊥
 in_a_notice h = let e : 1 ≡ 0 = h (omega arith) in omega (arith, e)
 
--- ---- pages that are kept
+-- ---- kept pages
 
 abbrev kept : KeptPage
 kept = record { plain = page_bytes I None 0 [] }

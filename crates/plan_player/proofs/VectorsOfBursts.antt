@@ -1,4 +1,4 @@
--- What a frame of a machine rests on: where it holds, and where it fails.
+-- The preconditions of a frame: examples that hold and examples that fail.
 use Rattle.std.proofs.Common.{◌≡◌, ℕ, zero, suc, ◌<◌, true, false, List, [], ◌∷◌, replicate, Some, None, refl, sym, subst, arith}
 use Rattle.mux_config.specs.Configuration.{IsConfiguration, nothing}
 use Rattle.fib_codec.specs.declared.modes.Mode.TheVariants.{I}
@@ -14,7 +14,7 @@ use Rattle.plan_code.specs.declared.instr.Instr.TheVariants.{Wait, Join, End}
 use Rattle.plan_code.specs.Program.{Program}
 use Rattle.plan_code.specs.Machine.{State, IsAllowed}
 use Rattle.plan_runs.specs.Frames.{Executes, ready, after_burst}
-use Rattle.plan_player.specs.Positions.{CanRun, CanGoOn}
+use Rattle.plan_player.specs.Positions.{CanRun, CanContinue}
 
 abbrev plan : Plan
 plan = record { eid = 0xe1c5; mode = I; period = 4; notice = 24; budget = 20 }
@@ -40,7 +40,7 @@ waits = code (line (Wait 1) ∷ line End ∷ [])
 abbrev joins : Program
 joins = code (line Join ∷ [])
 
--- at count 1, on which no FIG 0/0 is sent
+-- at count 1, where no FIG 0/0 is sent
 abbrev first : State
 first =
     record {
@@ -54,7 +54,7 @@ first =
       count = 1;
       day = 0;
       eid = 0xe1c5;
-      turn = 0;
+      page_index = 0;
     }
 
 -- ---- instructions
@@ -96,16 +96,16 @@ empty_is = record {
   packets_few = omega arith;
 }
 
-goes_on : CanGoOn waits first
-goes_on = record {
+progress : CanContinue waits first
+progress = record {
   runs = waits_for_a_frame;
-  sent = record { turn = omega arith; current = empty_is; next = empty_is; count = omega arith; ensemble = tt };
+  sent = record { page_index = omega arith; current = empty_is; next = empty_is; count = omega arith; ensemble = tt };
   few = omega arith;
 }
 
--- all entries stand on page 0
-no_second_page : CanGoOn waits (record first { turn = 1 }) → ⊥
-no_second_page h = let e : 1 < 1 = h.sent.turn in omega (arith, e)
+-- all entries are on page 0
+no_second_page : CanContinue waits (record first { page_index = 1 }) → ⊥
+no_second_page h = let e : 1 < 1 = h.sent.page_index in omega (arith, e)
 
-join_goes_nowhere : CanGoOn joins first → ⊥
+join_goes_nowhere : CanContinue joins first → ⊥
 join_goes_nowhere h = joins_no_swap h.runs

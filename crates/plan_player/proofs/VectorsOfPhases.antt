@@ -1,5 +1,5 @@
--- The pages that a player keeps of a phase, and what holds of it between frames, by a code over one sub-channel that waits
--- for a frame and ends: each definition where it holds, and where it fails.
+-- The pages that a player keeps of a phase, and its invariant between frames, for a code with one sub-channel that
+-- waits for a frame and ends: examples that hold and examples that fail for each definition.
 use Rattle.std.specs.Prelude.{get_or}
 use Rattle.std.proofs.Common.{◌≡◌, ℕ, zero, suc, ◌+◌, ◌*◌, ◌<◌, ◌≤◌, true, false, List, [], ◌∷◌, Some, None, replicate, refl, ap, arith}
 use Rattle.mux_eep.specs.declared.sizes.EepSet.TheVariants.{A}
@@ -36,7 +36,7 @@ use Rattle.plan_player.specs.declared.phase_pages.Sent.TheVariants.{Kept, Headed
 use Rattle.plan_player.specs.Phase.{HasPage, Keeps, ShowsBytes, IsInPhase, IsFrameReady, IsGoing}
 use Rattle.plan_player.proofs.FrameFacts.{frame_ready}
 
--- ---- values shared by these vectors: one sub-channel, at 128 kbit/s and at 96, and a code over it
+-- ---- values shared by these vectors: one sub-channel, at 128 kbit/s and at 96 kbit/s, and a code with it
 
 abbrev pub plan : Plan
 plan = record { eid = 0xe1c5; mode = I; period = 4; notice = 24; budget = 20 }
@@ -84,17 +84,17 @@ first =
       count = 0;
       day = 0;
       eid = 0xe1c5;
-      turn = 0;
+      page_index = 0;
     }
 
 abbrev pub second : State
 second = after_frame waits first
 
--- a swap that is due in 23 frames, of which the notice has begun
+-- with a swap due in 23 frames, whose notice has begun
 abbrev noticed : State
 noticed = record second { next = with_sub 96; left = Some 23 }
 
--- this many sub-channels of 8 kbit/s, one after the other: 24 take two pages
+-- n sub-channels of 8 kbit/s, one after the other: 24 of them take two pages
 abbrev small_subs : ℕ → ℕ → List Sub
 small_subs zero id = []
 small_subs (suc n) id = record { id = id; start = 6 * id; protection = record { set = A; level = 3 }; kbits = 8 } ∷ small_subs n (id + 1)
@@ -122,7 +122,7 @@ page_of kbits = record { plain = page_bytes I None 0 (entries kbits) }
 abbrev at_page : ℕ → Cursor
 at_page k = record { page = k; position = record { index = 0; state = before_all } }
 
--- no page was made yet
+-- no page has been made yet
 abbrev pub fresh : PhasePages
 fresh = record {
   pages = replicate 60 None;
@@ -134,7 +134,7 @@ fresh = record {
   headed = replicate 96 0;
 }
 
--- the one page was made, and was the last frame
+-- the only page has been made, and was the last frame
 abbrev pub kept : PhasePages
 kept = record {
   pages = Some (page_of 128) ∷ replicate 59 None;
@@ -175,7 +175,7 @@ keeps_none : Keeps I (entries 128) 0 fresh
 keeps_none = record {
   whole = refl;
   room = omega arith;
-  turn_in = omega arith;
+  index_within = omega arith;
   each = λ n below. absurd (omega (arith, below));
   all = λ e. absurd cc;
   more = λ e. omega arith;
@@ -186,12 +186,12 @@ each_made : (n : ℕ) → n < 1 → HasPage I (entries 128) n kept.pages
 each_made zero below = has_page
 each_made (suc n) below = absurd (omega (arith, below))
 
--- the page in turn is the one that was made, or none is left
-keeps_one : (turn : ℕ) → turn ≤ 1 → Keeps I (entries 128) turn kept
-keeps_one turn le = record {
+-- the page in turn is the one that was made, or there is none left
+keeps_one : (page_index : ℕ) → page_index ≤ 1 → Keeps I (entries 128) page_index kept
+keeps_one page_index le = record {
   whole = refl;
   room = omega arith;
-  turn_in = le;
+  index_within = le;
   each = each_made;
   all = λ e. refl;
   more = λ e. absurd cc;
@@ -200,17 +200,17 @@ keeps_one turn le = record {
 
 -- page 2 can't be in turn before page 1 was made
 turn_past_made : Keeps I (entries 128) 2 kept → ⊥
-turn_past_made h = let e : 2 ≤ 1 = h.turn_in in omega (arith, e)
+turn_past_made h = let e : 2 ≤ 1 = h.index_within in omega (arith, e)
 
 -- one of two pages isn't all of them
 not_all : Keeps I two_pages 0 kept → ⊥
 not_all h = let e : 1 ≡ 2 = h.all refl in omega (arith, e)
 
--- and where all were made, no more are to come
+-- and where all have been made, no more remain
 no_more : Keeps I (entries 128) 0 (record kept { is_whole = false }) → ⊥
 no_more h = let e : 1 < 1 = h.more refl in omega (arith, e)
 
--- the next page to be made is page 0, and not the one at which this cursor stands
+-- the next page to be made is page 0, and this cursor is at another one
 another_place : Keeps I two_pages 0 (record fresh { cursor = at_page 1 }) → ⊥
 another_place h = let e : 1 ≡ 0 = (h.cursor (omega arith)).1 in omega (arith, e)
 
@@ -218,7 +218,7 @@ another_place h = let e : 1 ≡ 0 = (h.cursor (omega arith)).1 in omega (arith, 
 abbrev size_in : List ℕ → ℕ
 size_in bytes = get_or bytes 5 0
 
--- a page of the sub-channel at 96 kbit/s is none of these entries
+-- a page of the sub-channel at 96 kbit/s is not a page of these entries
 page_of_others : Keeps I (entries 128) 0 (record kept { pages = Some (page_of 96) ∷ replicate 59 None }) → ⊥
 page_of_others h =
     let first_page = h.each 0 (omega arith) in
@@ -241,7 +241,7 @@ shows_no_other h =
     let other : 96 ≡ size_in h.0.plain = ap (λ (p : KeptPage). size_in p.plain) same in
     omega (arith, plain, other)
 
--- a page that no place holds
+-- a page that is not in the table
 shows_nothing : (bytes : List ℕ) → ShowsBytes (record kept { sent = Kept 1 }) bytes → ⊥
 shows_nothing bytes h = let e : Some None ≡ Some (Some h.0) = h.1 in absurd cc
 
@@ -253,15 +253,15 @@ shows_the_headed = refl
 in_phase : IsInPhase plan first kept
 in_phase = record { entries = entries 128; sent = refl; keeps = keeps_one 0 (omega arith); change = tt }
 
--- page 2 is in turn, of one page
-not_at_page_two : IsInPhase plan (record first { turn = 2 }) kept → ⊥
-not_at_page_two h = let e : 2 ≤ 1 = h.keeps.turn_in in omega (arith, e)
+-- page 2 can't be in turn if there is one page
+not_at_page_two : IsInPhase plan (record first { page_index = 2 }) kept → ⊥
+not_at_page_two h = let e : 2 ≤ 1 = h.keeps.index_within in omega (arith, e)
 
--- in a notice of another rate, whose change flags are 1, with those of no change
+-- in a notice of another rate, whose change flags are 1, but with those of no change
 not_these_flags : IsInPhase plan noticed kept → ⊥
 not_these_flags h = let e : 0 ≡ 1 = h.change (omega arith) in omega (arith, e)
 
--- in that notice, with the pages that were sent before it
+-- in that notice, but with the pages that were sent before it
 not_these_pages : IsInPhase plan noticed (record kept { change = 1 }) → ⊥
 not_these_pages h =
     let first_page = h.keeps.each 0 (omega arith) in
@@ -273,7 +273,7 @@ not_these_pages h =
     let there : 5 ≡ fig_after (page_bytes I None 0 h.entries) = ap (λ (ms : List Marked). fig_after (page_bytes I None 0 ms)) sent in
     omega (arith, plain, here, there)
   where
-    -- what stands behind the FIG 0/1 of the current configuration: that of the next one, or the end marker
+    -- what follows the FIG 0/1 of the current configuration: that of the next one, or the end marker
     fig_after : List ℕ → ℕ
     fig_after bytes = get_or bytes 6 0
 
@@ -331,7 +331,7 @@ it_starts = record {
   count = refl;
   day = refl;
   eid = refl;
-  turn = refl;
+  page_index = refl;
 }
 
 in_range : StartIsInRange start
@@ -344,7 +344,7 @@ played = record {
   reached = reached_is_kept waits first (Frame ∷ []) (starts_are_reached waits start first in_range it_starts) (tt, tt);
 }
 
--- the first frame carried out the wait, and sent page 0, which is in turn again
+-- the first frame executed the wait, and sent page 0, which is in turn again
 going : IsGoing waits second 1 kept
 going = record {
   played = played;
@@ -356,7 +356,7 @@ going = record {
 not_of_21_steps : IsGoing waits second 21 kept → ⊥
 not_of_21_steps h = let e : 21 ≤ 20 = h.within in omega (arith, e)
 
-not_past_its_pages : IsGoing waits (record second { turn = 2 }) 1 kept → ⊥
+not_past_its_pages : IsGoing waits (record second { page_index = 2 }) 1 kept → ⊥
 not_past_its_pages h = not_at_page_two (record { entries = h.phase.entries; sent = h.phase.sent; keeps = h.phase.keeps; change = h.phase.change })
 
 -- ---- before a frame
@@ -365,13 +365,13 @@ pub ready_for_the_second : IsFrameReady waits second kept
 ready_for_the_second = frame_ready waits second 1 kept going
 
 -- there is no page 1
-no_page_one : IsFrameReady waits (record second { turn = 1 }) kept → ⊥
-no_page_one h = let e : 1 < 1 = h.sent.turn in omega (arith, e)
+no_page_one : IsFrameReady waits (record second { page_index = 1 }) kept → ⊥
+no_page_one h = let e : 1 < 1 = h.sent.page_index in omega (arith, e)
 
--- no phase begins, and the pages kept are those of other entries
+-- no phase begins, but the pages kept are those of other entries
 no_pages_of_others : IsFrameReady waits second (record kept { pages = Some (page_of 96) ∷ replicate 59 None }) → ⊥
 no_pages_of_others h = page_of_others (h.kept refl)
 
--- in a notice, its change flags aren't known
+-- in a notice, but its change flags are not known
 no_flags : IsFrameReady waits noticed kept → ⊥
 no_flags h = let e : 0 ≡ 1 = h.change refl refl in omega (arith, e)

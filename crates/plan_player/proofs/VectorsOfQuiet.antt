@@ -1,4 +1,4 @@
--- Quiet frames, by a code that waits over an empty multiplex: each definition where it holds, and where it fails.
+-- Quiet frames of a code that waits, with an empty multiplex: examples that hold and examples that fail.
 use Rattle.std.proofs.Common.{◌≡◌, ℕ, zero, suc, true, false, [], ◌∷◌, Option, Some, None, replicate, refl, arith}
 use Rattle.mux_config.specs.Configuration.{nothing}
 use Rattle.fib_codec.specs.declared.modes.Mode.TheVariants.{I}
@@ -26,7 +26,7 @@ waits = record {
 abbrev all_open : Contacts
 all_open = record { 0 = 0 }
 
--- suspended in this way, with this swap pending
+-- suspended by this hold, with this swap pending
 abbrev at : Hold → Option ℕ → State
 at hold left =
     record {
@@ -40,7 +40,7 @@ at hold left =
       count = 4999;
       day = 3599998;
       eid = 0xe1c5;
-      turn = 0;
+      page_index = 0;
     }
 
 -- ---- one frame
@@ -69,7 +69,7 @@ two_frames : AreQuiet waits (suc (suc zero)) (at (Waits 2) None)
 two_frames =
     (record { no_swap = refl; suspended = refl; no_phase = refl }, (record { no_swap = refl; suspended = refl; no_phase = refl }, tt))
 
--- the third carries out an instruction
+-- the third executes an instruction
 no_third : AreQuiet waits (suc (suc (suc zero))) (at (Waits 2) None) → ⊥
 no_third h = let third = h.1.1.0 in let e : true ≡ false = third.suspended in absurd cc
 
@@ -82,11 +82,11 @@ days_wrap = refl
 two_copied : AreCopied waits (suc (suc zero)) (at (Waits 2) None)
 two_copied = quiet_frames_are_copied waits (suc (suc zero)) (at (Waits 2) None) two_frames
 
--- it carries out an instruction
+-- it executes an instruction
 not_copied : AreCopied waits (suc zero) (at (Waits 0) None) → ⊥
 not_copied h = let e : 1 ≡ 0 = h.no_steps in omega (arith, e)
 
--- ---- how many there are
+-- ---- counting them
 
 six_before_the_notice : SwapIsAway 24 (Some 30) 6
 six_before_the_notice = (omega arith, λ from. omega arith)
@@ -112,7 +112,7 @@ one_before_it = λ some. (omega arith, λ before. omega arith)
 not_two : HoldIsAway (at Ended None) (WaitsDay 3599999) 2 → ⊥
 not_two h = let e = (h (omega arith)).1 (omega arith) in omega (arith, e)
 
--- a later day is not looked at
+-- days after this one are not considered
 two_to_midnight : HoldIsAway (at Ended None) (WaitsDay 7) 2
 two_to_midnight = λ some. (omega arith, λ before. omega (arith, before))
 

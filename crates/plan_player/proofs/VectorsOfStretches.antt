@@ -1,4 +1,4 @@
--- Quiet frames that go to a sink together: each definition where it holds, and where it fails.
+-- Quiet frames that go to a sink together: for each definition, an example that holds and one that fails.
 use Rattle.std.proofs.Common.{◌≡◌, ℕ, zero, suc, ◌<◌, false, true, List, [], length, take, Option, Some, None, refl, ap, ◌∙◌, arith}
 use Rattle.std.specs.List.{concat}
 use Rattle.fib_carousel.specs.Carried.{IsPageable}
@@ -11,7 +11,7 @@ use Rattle.plan_player.specs.declared.machine.sending.Header.{Header}
 use Rattle.plan_player.specs.Quiet.{counted_on}
 use Rattle.plan_player.specs.Stretch.{header_of, ensemble_at, headed_at, IsPageReady, IsStretch, IsCut, IsAlike, AreAlike, AreRecounted, left_later, hold_later, HasRounds}
 use Rattle.plan_player.proofs.Together.{stretch_page}
-use Rattle.plan_player.proofs.Turns.{bytes_long}
+use Rattle.plan_player.proofs.Cycles.{bytes_long}
 use Rattle.plan_player.proofs.VectorsOfPhases.{plan, waits, second, fresh, kept, ready_for_the_second}
 
 -- ---- the counts
@@ -39,7 +39,7 @@ before_swap left = record at { left = Some left; count = 4990 }
 unflagged : header_of plan (before_swap 25) ≡ record { eid = 0xe1c5; change = 0; swap = None }
 unflagged = refl
 
--- the swap comes at count 10
+-- the swap falls on count 10
 flagged : (header_of plan (before_swap 20)).swap ≡ Some 10
 flagged = refl
 
@@ -72,8 +72,8 @@ page_ready = record {
 }
 
 -- there is no page 1
-no_page_one : IsPageReady plan (record at { turn = 1 }) kept → ⊥
-no_page_one h = let e : 1 < 1 = h.sent.turn in omega (arith, e)
+no_page_one : IsPageReady plan (record at { page_index = 1 }) kept → ⊥
+no_page_one h = let e : 1 < 1 = h.sent.page_index in omega (arith, e)
 
 each_ready : (k : ℕ) → k < 1 → IsPageReady plan (counted_on plan k at) kept
 each_ready zero lt = page_ready
@@ -82,7 +82,7 @@ each_ready (suc k) lt = absurd (omega (arith, lt))
 one_frame : IsStretch plan 1 at kept
 one_frame = record { whole = refl; away = tt; ready = each_ready }
 
--- the page was not made yet
+-- the page has not been made yet
 not_made : IsStretch plan 1 at fresh → ⊥
 not_made h = let e : false ≡ true = h.whole in absurd cc
 
@@ -96,7 +96,7 @@ one_page = each
 not_two_pages : HasRounds plan 1 at 2 → ⊥
 not_two_pages h = let e : 1 ≡ 2 = h 0 (omega arith) in omega (arith, e)
 
--- the sink took five bytes of the frame
+-- the sink accepted five bytes of the frame
 five_bytes : IsCut plan 1 at (counted_on plan 1 at) (Some []) (Some (take 5 (shown_bytes plan at))) 0 5
 five_bytes = record { few = omega arith; part = omega arith; state = refl; out = refl }
 
@@ -110,24 +110,24 @@ pageable : IsPageable (ensemble_sent plan at) (sent_entries plan at)
 pageable = record { entries = (stretch_page plan 1 0 at kept one_frame (omega arith)).kept.sendable; ensemble_within = page_ready.sent.ensemble }
 
 as_itself : IsAlike plan (header_of plan at) at at
-as_itself = record { turn = refl; entries = refl; first = refl; second = refl; on_step = refl; pageable = pageable }
+as_itself = record { page_index = refl; entries = refl; first = refl; second = refl; on_step = refl; pageable = pageable }
 
 -- another page is in turn
-no_other_page : IsAlike plan (header_of plan at) (record at { turn = 1 }) at → ⊥
-no_other_page h = let e : 1 ≡ 0 = h.turn in omega (arith, e)
+no_other_page : IsAlike plan (header_of plan at) (record at { page_index = 1 }) at → ⊥
+no_other_page h = let e : 1 ≡ 0 = h.page_index in omega (arith, e)
 
 one_alike : AreAlike plan (header_of plan at) 1 at at
 one_alike zero lt = as_itself
 one_alike (suc k) lt = absurd (omega (arith, lt))
 
-not_alike : AreAlike plan (header_of plan at) 1 (record at { turn = 1 }) at → ⊥
+not_alike : AreAlike plan (header_of plan at) 1 (record at { page_index = 1 }) at → ⊥
 not_alike h = no_other_page (h 0 (omega arith))
 
--- no frame became none
+-- no frames become no frames
 none_recounted : AreRecounted plan (header_of plan at) 0 0 [] []
 none_recounted s t alike counts old = refl
 
--- one frame did not
+-- but one frame does not
 one_not_gone : AreRecounted plan (header_of plan at) at.count 1 (concat (notice_frames plan 1 at)) [] → ⊥
 one_not_gone h =
     let gone : [] ≡ concat (notice_frames plan 1 at) = h at at one_alike refl refl in

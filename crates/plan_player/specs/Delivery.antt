@@ -1,4 +1,4 @@
--- What a sink is given of a run, whole or up to where it fails.
+-- What a sink receives of a run, in full or up to where it fails.
 use Rattle.std.specs.Prelude.{◌≡◌, ℕ, ◌<◌, List, [], ◌∷◌, ◌++◌, length, take, Option}
 use Rattle.std.specs.List.{concat}
 use Rattle.std.specs.Io.KnownBytes.{Appends}
@@ -10,7 +10,7 @@ use Rattle.plan_player.specs.declared.fault.PlayFault.{PlayFault}
 use Rattle.plan_player.specs.declared.fault.PlayFault.TheVariants.{Write}
 use Rattle.plan_player.specs.Playing.{Playing, played}
 
--- the frames of these events, and their bytes one after another
+-- the frames of these events; below, their bytes one after another
 abbrev pub frames_of : Playing → List Event → List (List ℕ)
 frames_of p events = run_frames p.code p.state events
 
@@ -20,15 +20,15 @@ played_bytes p events = concat (frames_of p events)
 abbrev pub next_frame : Playing → List ℕ
 next_frame p = frame_bytes p.code p.state
 
--- playing came to the end of these events: the player is as they leave it, the sink has their bytes, and this many frames
--- went out
+-- these events were played to the end: the player is in the state after them, the sink has their bytes, and this many
+-- frames were written
 pub record Delivered (old new : Playing) (events : List Event) (before after : Option (List ℕ)) (frames : ℕ) : Type 0 where
   pub state : new ≡ played old events
   pub out : Appends before after (played_bytes old events)
   pub whole : frames ≡ length (frames_of old events)
 
--- playing stopped in a frame that the sink didn't take whole: the events before it are done and it too, no later one
--- is; this many frames went out before it, and this many of its bytes, fewer than all
+-- playback stopped in a frame that the sink didn't accept in full: the events up to and including it were played, and
+-- no later one; this many frames were written before it, and this many of its bytes, fewer than all
 pub record Stopped (old new : Playing) (events : List Event) (before after : Option (List ℕ)) (frames bytes : ℕ) : Type 0 where
   pub done : List Event
   pub rest : List Event

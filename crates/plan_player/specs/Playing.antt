@@ -1,5 +1,5 @@
--- What a player stands for: the code that it plays, the machine's state, and how many instructions its last frame
--- carried out.
+-- What a player represents: the code that it plays, the machine's state, and how many instructions its last frame
+-- executed.
 use Rattle.std.specs.Prelude.{◌≡◌, ℕ, if◌then◌else◌, nat_le, List, [], ◌∷◌, Option, Some, None}
 use Rattle.mux_entries.specs.declared.limits.TheConstants.{COUNTS}
 use Rattle.plan_code.specs.declared.limits.TheConstants.{FRAMES_A_DAY}
@@ -27,7 +27,7 @@ start_fault start =
     else if nat_le FRAMES_A_DAY start.day then Some Day
     else None
 
--- the code is played from this start, and no frame was made yet
+-- the code is at this start, and no frame has been made yet
 pub record IsAtStart (code : Program) (start : Start) (p : Playing) : Type 0 where
   pub code_is : p.code ≡ code
   pub state_is : IsStart code start p.state
@@ -35,7 +35,7 @@ pub record IsAtStart (code : Program) (start : Start) (p : Playing) : Type 0 whe
 
 -- ---- events
 
--- the number of instructions of the last frame of these events; of the last one before, where they have none
+-- the number of instructions in the last frame of these events, or in the last one before them if they have none
 abbrev pub last_steps : Program → State → ℕ → List Event → ℕ
 last_steps p s before [] = before
 last_steps p s before (Contact c closed ∷ es) = last_steps p (happens p s (Contact c closed)) before es

@@ -1,4 +1,4 @@
--- The state that a machine over stores stands for, and what it needs so as to carry out a frame's instructions.
+-- The state that a machine over stores represents, and what it needs to execute a frame's instructions.
 use Rattle.std.specs.Prelude.{ℕ, ◌≤◌, if◌then◌else◌}
 use Rattle.mux_config.specs.Configuration.{Configuration}
 use Rattle.plan_code.specs.declared.plan.Plan.{Plan}
@@ -21,26 +21,26 @@ state_of content m =
       count = m.count;
       day = m.day;
       eid = m.eid;
-      turn = m.turn;
+      page_index = m.page_index;
     }
 
--- a number of instructions within the budget, none of which traps, leads from the state to a suspension
+-- within the budget, instructions without a trap take the state to a suspension
 pub record CanRun (p : Program) (s : State) : Type 0 where
   pub steps : ℕ
   pub end : State
   pub within : steps ≤ p.plan.budget
   pub executes : Executes p s steps end
 
--- the state whose page is sent: where the frame is the first of a notice, page 0 is in turn
+-- the state whose page is sent: in the first frame of a notice page 0 is in turn
 abbrev pub with_notice_begun : Plan → State → State
-with_notice_begun plan s = if is_first_noticed plan.notice s.left then record s { turn = 0 } else s
+with_notice_begun plan s = if is_first_noticed plan.notice s.left then record s { page_index = 0 } else s
 
--- what the next frame rests on: its instructions can be run, and then what it sends can be sent, in 60 pages or fewer
-pub record CanGoOn (p : Program) (s : State) : Type 0 where
+-- the preconditions of the next frame: its instructions can be executed, and then it can be sent, in 60 pages or fewer
+pub record CanContinue (p : Program) (s : State) : Type 0 where
   pub runs : CanRun p (ready s)
   pub sent : CanBeSent p.plan (shown p s)
   pub few : sent_rounds p.plan (shown p s) ≤ 60
 
 -- a typed code can always continue
-abbrev pub TypedCodeGoesOn : Type 0
-TypedCodeGoesOn = (p : Program) (s : State) → IsPlayed p s → CanGoOn p s
+abbrev pub Progress : Type 0
+Progress = (p : Program) (s : State) → IsPlayed p s → CanContinue p s

@@ -1,4 +1,4 @@
--- Quiet frames: they make no swap, carry out no instruction and begin no phase.
+-- Quiet frames: they make no swap, execute no instruction and begin no phase.
 use Rattle.std.specs.Prelude.{◌≡◌, ℕ, zero, suc, ◌+◌, ◌≤◌, true, false, replicate, Option, Some, None}
 use Rattle.plan_code.specs.declared.hold.Hold.{Hold}
 use Rattle.plan_code.specs.declared.hold.Hold.TheVariants.{Waits, WaitsDay, WaitsContact, WaitsSwap, Ended}
@@ -14,7 +14,7 @@ use Rattle.plan_runs.specs.Runs.{run, run_frames}
 use Rattle.plan_runs.specs.Announced.{notice_frames}
 use Rattle.plan_player.specs.Playing.{last_steps}
 
--- the next frame is quiet: no swap is due in it, it stays suspended, and no phase begins with it
+-- the next frame is quiet: no swap is due in it, the machine stays suspended, and no phase begins with it
 pub record IsQuiet (p : Program) (s : State) : Type 0 where
   pub no_swap : is_due s.left ≡ false
   pub suspended : is_running (ready s).hold ≡ false
@@ -27,19 +27,19 @@ AreQuiet p (suc n) s = IsQuiet p s × AreQuiet p n (after_frame p s)
 
 -- ---- the law
 
--- the counts taken forward by n frames
+-- the state with its counts advanced by n frames
 abbrev pub counted_on : Plan → ℕ → State → State
 counted_on plan zero s = s
 counted_on plan (suc n) s = counted_on plan n (with_next_counts plan s)
 
--- the next n frames are pages in turn of what the state sends, and take its counts forward; none of them carries out an
+-- the next n frames are the pages in turn of what the state sends, and advance its counts; none of them executes an
 -- instruction
 pub record AreCopied (p : Program) (n : ℕ) (s : State) : Type 0 where
   pub frames : run_frames p s (replicate n Frame) ≡ notice_frames p.plan n s
   pub state : run p s (replicate n Frame) ≡ counted_on p.plan n s
   pub no_steps : last_steps p s 0 (replicate n Frame) ≡ 0
 
--- n quiet frames are so; the plan and the state alone say what they are
+-- this holds for n quiet frames: the plan and the state alone determine them
 abbrev pub QuietFramesAreCopied : Type 0
 QuietFramesAreCopied = (p : Program) (n : ℕ) (s : State) → AreQuiet p n s → AreCopied p n s
 
@@ -50,7 +50,7 @@ abbrev pub SwapIsAway : ℕ → Option ℕ → ℕ → Type 0
 SwapIsAway notice None n = Unit {0}
 SwapIsAway notice (Some left) n = (n ≤ left) × (notice ≤ left → notice + n ≤ left)
 
--- what is waited for comes with none of n frames
+-- this wait ends in none of n frames
 abbrev pub HoldIsAway : State → Hold → ℕ → Type 0
 HoldIsAway s (Waits frames) n = n ≤ frames
 HoldIsAway s (WaitsDay t) n = 1 ≤ n → (s.day + n ≤ FRAMES_A_DAY) × (s.day ≤ t → s.day + n ≤ t)

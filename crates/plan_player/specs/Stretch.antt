@@ -1,4 +1,4 @@
--- Quiet frames that go to a sink together: their pages were all made, and their FIG 0/0 differs in the count alone.
+-- Quiet frames that go to a sink together: all their pages have been made, and their FIG 0/0 differ in the count alone.
 use Rattle.std.specs.Prelude.{◌≡◌, ℕ, suc, ◌-◌, ◌<◌, ◌≤◌, ◌%◌, ◌==◌, ◌++◌, true, false, if◌then◌else◌, List, length, take, Option, Some, None}
 use Rattle.std.specs.List.{concat}
 use Rattle.std.specs.Io.KnownBytes.{Appends}
@@ -21,14 +21,14 @@ use Rattle.plan_player.specs.Quiet.{counted_on, SwapIsAway}
 
 -- ---- FIG 0/0
 
--- all that it says but for the count
+-- its content except for the count
 abbrev pub header_of : Plan → State → Header
 header_of plan s =
     if is_noticed plan.notice s.left then
     record { eid = s.eid; change = bits_of (change_of s.current s.next); swap = Some (low_of_swap s.count s.left) }
     else record { eid = s.eid; change = 0; swap = None }
 
--- what it says in a frame of this count
+-- its content in a frame with this count
 abbrev pub ensemble_at : Header → ℕ → EnsembleInformation
 ensemble_at header count = record { eid = header.eid; change = header.change; al = false; count = count; occurrence = header.swap }
 
@@ -37,21 +37,21 @@ headed_at mode header count = if count % count_step mode == 0 then Some (ensembl
 
 -- ---- the frames
 
--- a frame whose page was made, or is the next to be made, can be sent as the state has it
+-- a frame can be sent in this state, and its page has been made or is the next to be made
 pub record IsPageReady (plan : Plan) (s : State) (pages : PhasePages) : Type 0 where
   pub sent : CanBeSent plan s
   pub few : sent_rounds plan s ≤ 60
-  pub keeps : Keeps plan.mode (sent_entries plan s) s.turn pages
+  pub keeps : Keeps plan.mode (sent_entries plan s) s.page_index pages
   pub change : HasChange plan.notice s.left s.current s.next pages.change
 
--- each of n frames is so, all pages were made, and no notice begins or ends
+-- this holds for each of n frames, all pages have been made, and no notice begins or ends
 pub record IsStretch (plan : Plan) (n : ℕ) (s : State) (pages : PhasePages) : Type 0 where
   pub whole : pages.is_whole ≡ true
   pub away : SwapIsAway plan.notice s.left n
   pub ready : (k : ℕ) → k < n → IsPageReady plan (counted_on plan k s) pages
 
--- a sink took so many of n frames whole, and so many bytes of the next one, fewer than all: the counts are those after
--- that one
+-- a sink accepted this many of n frames in full, and this many bytes of the next one, fewer than all; the counts are
+-- those after that one
 pub record IsCut (plan : Plan) (n : ℕ) (s t : State) (before after : Option (List ℕ)) (frames bytes : ℕ) : Type 0 where
   pub few : frames < n
   pub part : bytes < length (shown_bytes plan (counted_on plan frames s))
@@ -60,9 +60,9 @@ pub record IsCut (plan : Plan) (n : ℕ) (s t : State) (before after : Option (L
 
 -- ---- frames that differ in the count alone
 
--- two frames have the same page, and FIG 0/0 with this header, or both none; the second one can be sent
+-- two frames have the same page, and both FIG 0/0 with this header or both none; the second one can be sent
 pub record IsAlike (plan : Plan) (header : Header) (s t : State) : Type 0 where
-  pub turn : s.turn ≡ t.turn
+  pub page_index : s.page_index ≡ t.page_index
   pub entries : sent_entries plan s ≡ sent_entries plan t
   pub first : header_of plan s ≡ header
   pub second : header_of plan t ≡ header
@@ -72,7 +72,7 @@ pub record IsAlike (plan : Plan) (header : Header) (s t : State) : Type 0 where
 abbrev pub AreAlike : Plan → Header → ℕ → State → State → Type 0
 AreAlike plan header n s t = (k : ℕ) → k < n → IsAlike plan header (counted_on plan k s) (counted_on plan k t)
 
--- whatever n frames these bytes are, they became those of as many frames from this count on that are alike
+-- if the old bytes are n frames, the new ones are the n frames that start with this count and are otherwise alike
 abbrev pub AreRecounted : Plan → Header → ℕ → ℕ → List ℕ → List ℕ → Type 0
 AreRecounted plan header count n old new =
     (s t : State) → AreAlike plan header n s t → t.count ≡ count
@@ -80,7 +80,7 @@ AreRecounted plan header count n old new =
 
 -- ---- the counts
 
--- the frames until a swap and what is waited for, n frames later
+-- the frames left until a swap, n frames later; below, the wait condition
 abbrev pub left_later : ℕ → Option ℕ → Option ℕ
 left_later n None = None
 left_later n (Some left) = Some (left - n)
@@ -92,6 +92,6 @@ hold_later n (WaitsContact c closed) = WaitsContact c closed
 hold_later n WaitsSwap = WaitsSwap
 hold_later n Ended = Ended
 
--- in each of n frames that many pages are sent in turn
+-- in each of n frames what is sent takes this many pages
 abbrev pub HasRounds : Plan → ℕ → State → ℕ → Type 0
 HasRounds plan n s pages = (k : ℕ) → k < n → sent_rounds plan (counted_on plan k s) ≡ pages

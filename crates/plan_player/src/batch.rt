@@ -1,4 +1,4 @@
-//! Bytes of frames that go to a sink together.
+//! A buffer of frames that go to a sink together.
 
 ghost use Rattle.std.specs.Prelude.{◌≡◌, ℕ, List, ◌+◌, ◌*◌, ◌<◌, ◌≤◌, [], ◌++◌, length, take, drop};
 ghost use Rattle.fib_codec.specs.Modes.{fib_count};
@@ -10,13 +10,13 @@ use plan_code::Plan;
 use plan_code::limits::COUNTS;
 use std::marker::Model;
 
-/// How many bytes a batch has room for.
+/// The size of a batch in bytes.
 const SIZE: usize = 16_384;
 
-/// The most frames of a batch, for which there is room in every mode.
+/// The maximum number of frames in a batch; they fit in every mode.
 pub(crate) const MOST_FRAMES: u16 = 128;
 
-/// The bytes of up to 128 frames, one after another. It is emptied by its length; no byte is written for it.
+/// The bytes of up to 128 frames, one after another. Clearing it only resets the length.
 #[derive(Drop)]
 pub(crate) struct Batch {
     bytes: [u8; SIZE],
@@ -33,7 +33,7 @@ impl Model for Batch {
     ghost invariant = { λ b. (b.len ≤ 16384) × (length b.bytes ≡ 16384) };
 }
 
-/// Writes a piece over the bytes from an offset on.
+/// Overwrites bytes with a piece, from an offset on.
 fn write_at(bytes: &mut [u8], offset: usize, piece: &[u8])
     requires { offset + length piece.now ≤ length bytes.old }
     ensures { bytes.new ≡ take offset bytes.old
@@ -42,7 +42,7 @@ fn write_at(bytes: &mut [u8], offset: usize, piece: &[u8])
     bytes[offset..offset + piece.len()].copy_from_slice(piece);
 }
 
-/// Copies this many bytes from the front over those from an offset on.
+/// Copies the first `len` bytes to an offset.
 fn copy_front(bytes: &mut [u8], len: usize, offset: usize)
     requires before { len ≤ offset }
     requires within { offset + len ≤ length bytes.old }
@@ -54,7 +54,7 @@ fn copy_front(bytes: &mut [u8], len: usize, offset: usize)
 }
 
 impl Batch {
-    /// No bytes.
+    /// An empty batch.
     pub(crate) fn new() -> Batch
         ensures { result ≡ [] }
     {
@@ -71,7 +71,7 @@ impl Batch {
         &self.bytes[..self.len]
     }
 
-    /// Takes these bytes, for which there has to be room.
+    /// Appends these bytes, for which there has to be room.
     pub(crate) fn append(&mut self, bytes: &[u8])
         requires { length self.old + length bytes.now ≤ 16384 }
         ensures { self.new ≡ self.old ++ bytes.now }
@@ -80,8 +80,8 @@ impl Batch {
         self.len += bytes.len();
     }
 
-    /// Takes as many frames as given, from one of this count on, for which there has to be room: those that are alike
-    /// to the first ones that it has.
+    /// Appends this many frames, starting with this count, for which there has to be room: copies of its first frames
+    /// that differ in the count alone.
     pub(crate) fn repeat(&mut self, plan: &Plan, header: Header, count: u16, frames: u16)
         requires count { count < COUNTS }
         requires change { header.change < 4 }
@@ -100,7 +100,7 @@ impl Batch {
         self.len += len;
     }
 
-    /// Lets all bytes go.
+    /// Removes all bytes.
     pub(crate) fn clear(&mut self)
         ensures { self.new ≡ [] }
     {

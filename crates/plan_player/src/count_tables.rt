@@ -1,9 +1,9 @@
-//! What a byte of FIG 0/0's count contributes to the CRC of its FIB (EN 300 401 clauses 5.2.1 and 6.4).
+//! What a byte of the count in FIG 0/0 contributes to the CRC of its FIB (EN 300 401 clauses 5.2.1 and 6.4).
 
 ghost use Rattle.std.specs.Prelude.{◌≡◌};
 ghost use Rattle.fib_codec.specs.Register.{after, later};
 
-/// What each byte and then 24 bytes of zeros make of an empty register.
+/// The CRC register after each byte and 24 zero bytes, from a register of zero.
 #[rattlefmt::skip]
 const LOWS: [u16; 256] = [
     0x0000, 0x45b4, 0x8b68, 0xcedc, 0x06f1, 0x4345, 0x8d99, 0xc82d, 0x0de2, 0x4856, 0x868a, 0xc33e, 0x0b13, 0x4ea7, 0x807b, 0xc5cf,
@@ -24,7 +24,7 @@ const LOWS: [u16; 256] = [
     0x9d7c, 0xd8c8, 0x1614, 0x53a0, 0x9b8d, 0xde39, 0x10e5, 0x5551, 0x909e, 0xd52a, 0x1bf6, 0x5e42, 0x966f, 0xd3db, 0x1d07, 0x58b3,
 ];
 
-/// What each byte and then 25 bytes of zeros make of it.
+/// The CRC register after each byte and 25 zero bytes, from a register of zero.
 #[rattlefmt::skip]
 const HIGHS: [u16; 256] = [
     0x0000, 0xac61, 0x48e3, 0xe482, 0x91c6, 0x3da7, 0xd925, 0x7544, 0x33ad, 0x9fcc, 0x7b4e, 0xd72f, 0xa26b, 0x0e0a, 0xea88, 0x46e9,
@@ -45,17 +45,17 @@ const HIGHS: [u16; 256] = [
     0x2e14, 0x8275, 0x66f7, 0xca96, 0xbfd2, 0x13b3, 0xf731, 0x5b50, 0x1db9, 0xb1d8, 0x555a, 0xf93b, 0x8c7f, 0x201e, 0xc49c, 0x68fd,
 ];
 
-/// The register after this byte and 24 bytes of zeros, where it was empty.
+/// The CRC register after this byte and 24 zero bytes, from a register of zero.
 #[tactic(auto, using(crate::proofs::CountTables::in_lows))]
-pub(crate) fn low_turned(byte: u8) -> u16
+pub(crate) fn low_byte_crc(byte: u8) -> u16
     ensures { result ≡ later 24 (after 8 byte 0) }
 {
     LOWS[usize::from(byte)]
 }
 
-/// The register after this byte and 25 bytes of zeros, where it was empty.
+/// The CRC register after this byte and 25 zero bytes, from a register of zero.
 #[tactic(auto, using(crate::proofs::CountTables::in_highs))]
-pub(crate) fn high_turned(byte: u8) -> u16
+pub(crate) fn high_byte_crc(byte: u8) -> u16
     ensures { result ≡ later 25 (after 8 byte 0) }
 {
     HIGHS[usize::from(byte)]

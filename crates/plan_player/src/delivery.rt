@@ -1,4 +1,4 @@
-//! Events played into a sink.
+//! Playing events into a sink.
 
 ghost use Rattle.std.specs.Prelude.{◌≡◌, ◌<◌, ◌≤◌, [], ◌∷◌, length, take, false, true, IfOk, OnOk, IfErr, OnErr};
 ghost use Rattle.std.specs.Io.KnownBytes.{Appends};
@@ -13,8 +13,8 @@ use crate::sink::Sink;
 use mux_config::Store;
 use plan_runs::{Event, laws};
 
-/// Plays one event. How many frames it made is the result. `Err`: the event is a frame, of which the sink took this many
-/// bytes, fewer than all.
+/// Plays one event and returns the number of frames made. `Err`: the event is a frame, of which the sink accepted this
+/// many bytes, fewer than all.
 fn play_event<'a, S: Store, K: Sink>(
     player: &mut Player<'a, S>,
     event: Event,
@@ -45,20 +45,21 @@ fn play_event<'a, S: Store, K: Sink>(
     }
 }
 
-/// The headline, of these events.
+/// The guarantees of the headline for these events.
 fn promise<'a, S: Store>(player: &Player<'a, S>, events: &[Event])
     ensures { KeepsItsWord player.now.code player.now.state events.now }
 {
+    // Read for the proof: a value's invariant is known where the value is read.
     let _current = player.current();
     let _count = events.len();
     laws::headline();
 }
 
-/// Plays these events, and puts each frame into the sink, which must not have failed. How many frames it made is the
-/// result. No trap is met in them, every frame is right, and each swap comes at the announced count, after its change
-/// flags went out and the whole next configuration could be read three times.
+/// Plays these events, writes each frame to the sink, which must not have failed, and returns the number of frames.
+/// There is no trap, every frame is correct, and each swap falls on the announced count, after its change
+/// flags were sent and the whole next configuration could be read three times.
 ///
-/// `Write`: the sink failed. The event whose frame it didn't take whole has been done, and later ones have not.
+/// `Write`: the sink failed. The event whose frame it didn't accept in full has been played, and later ones have not.
 pub fn play<'a, S: Store, K: Sink>(
     player: &mut Player<'a, S>,
     events: &[Event],

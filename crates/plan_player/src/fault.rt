@@ -1,8 +1,8 @@
-//! Why a player doesn't start, and how playing stops.
+//! Why a player doesn't start, and why playback stops.
 
 use thiserror::Error;
 
-/// Why a player doesn't start: the first of these that holds. Its text is its name.
+/// Why a player doesn't start: the first fault in this order. Its text is its name.
 #[derive(Clone, Copy, Debug, PartialEq, Eq, Error)]
 pub enum StartFault {
     /// The CIF count is 5000 or more.
@@ -13,20 +13,20 @@ pub enum StartFault {
     Day = 2,
 }
 
-/// Why playing stopped before its last event.
+/// Why playback stopped before its last event.
 #[derive(Clone, Copy, Debug, PartialEq, Eq, Error)]
 pub enum PlayFault {
-    /// The sink took no more.
+    /// The sink failed.
     #[error("write failed after {frames} frames and {bytes} bytes")]
     Write {
-        /// The frames that the sink took whole.
+        /// The number of frames that the sink accepted in full.
         frames: u64,
-        /// The bytes that it took of the frame after them, fewer than a frame has: 0 to 95, in mode III to 127.
+        /// The number of bytes that it accepted of the next frame, fewer than a frame has: 0 to 95, in mode III to 127.
         bytes: usize,
     },
 }
 
-/// How far playing came where the sink failed: this many frames went out whole, and this many bytes of the one after them.
+/// How far playback got before the sink failed: the full frames, and the bytes of the next one, that were accepted.
 #[derive(Clone, Copy, Debug, PartialEq, Eq)]
 pub(crate) struct Cut {
     pub(crate) frames: u32,

@@ -1,4 +1,4 @@
-//! One frame, from its swap to its counts.
+//! Making one frame, from its swap to its counts.
 
 ghost use Rattle.std.specs.Prelude.{◌≡◌, ℕ, ◌<◌, ◌≤◌, List, Some, true, false};
 ghost use Rattle.mux_entries.specs.Facts.{Marked};
@@ -17,29 +17,35 @@ use crate::phase_pages::{PhasePages, Sent, held, make_if_new};
 use mux_config::{Ensemble, Store, change};
 use plan_code::{Code, Plan};
 
-/// Makes the page in turn of what the machine sends, where it wasn't yet in this phase.
+/// Makes the page in turn, unless it has already been made in this phase.
 fn make_page_to_send<S: Store>(plan: &Plan, machine: &Machine<S>, pages: &mut PhasePages)
     requires keeps { let s = state_of S.content machine.now in
-        Keeps plan.now.mode (sent_entries plan.now s) s.turn pages.old }
-    requires within { let s = state_of S.content machine.now in s.turn < sent_rounds plan.now s }
+        Keeps plan.now.mode (sent_entries plan.now s) s.page_index pages.old }
+    requires within { let s = state_of S.content machine.now in s.page_index < sent_rounds plan.now s }
     requires few { sent_rounds plan.now (state_of S.content machine.now) ≤ 60 }
     ensures keeps { let s = state_of S.content machine.now in
-        Keeps plan.now.mode (sent_entries plan.now s) s.turn pages.new }
-    ensures made { machine.now.turn < pages.new.made }
+        Keeps plan.now.mode (sent_entries plan.now s) s.page_index pages.new }
+    ensures made { machine.now.page_index < pages.new.made }
     ensures change { pages.new.change ≡ pages.old.change }
 {
     let next = next_sent(plan, machine);
-    make_if_new(pages, plan.mode, machine.turn(), machine.current(), next);
+    make_if_new(
+        pages,
+        plan.mode,
+        machine.page_index(),
+        machine.current(),
+        next,
+    );
 }
 
-/// Makes a frame of the page of this number, which was made, with this FIG 0/0.
+/// Makes a frame from this page, which has been made, with this FIG 0/0.
 #[inline(never)]
 fn show_headed(pages: &mut PhasePages, number: u8, ensemble: Ensemble)
     requires { (mode : Mode) × (ms : List Marked) × HasPage mode ms number pages.old.pages }
     ensures bytes { (mode : Mode) (ms : List Marked) → HasPage mode ms number pages.old.pages
         → ShowsBytes pages.new (page_bytes mode (Some ensemble) number ms) }
-    ensures keeps { (mode : Mode) (ms : List Marked) (turn : ℕ) →
-        Keeps mode ms turn pages.old → Keeps mode ms turn pages.new }
+    ensures keeps { (mode : Mode) (ms : List Marked) (page_index : ℕ) →
+        Keeps mode ms page_index pages.old → Keeps mode ms page_index pages.new }
     ensures made { pages.new.made ≡ pages.old.made }
     ensures change { pages.new.change ≡ pages.old.change }
 {
@@ -47,13 +53,13 @@ fn show_headed(pages: &mut PhasePages, number: u8, ensemble: Ensemble)
     pages.sent = Sent::Headed;
 }
 
-/// Makes a frame of the page of this number, which was made: with this FIG 0/0 where there is one.
+/// Makes a frame from this page, which has been made, with this FIG 0/0 if there is one.
 fn show(pages: &mut PhasePages, number: u8, ensemble: Option<Ensemble>)
     requires { (mode : Mode) × (ms : List Marked) × HasPage mode ms number pages.old.pages }
     ensures bytes { (mode : Mode) (ms : List Marked) → HasPage mode ms number pages.old.pages
         → ShowsBytes pages.new (page_bytes mode ensemble number ms) }
-    ensures keeps { (mode : Mode) (ms : List Marked) (turn : ℕ) →
-        Keeps mode ms turn pages.old → Keeps mode ms turn pages.new }
+    ensures keeps { (mode : Mode) (ms : List Marked) (page_index : ℕ) →
+        Keeps mode ms page_index pages.old → Keeps mode ms page_index pages.new }
     ensures made { pages.new.made ≡ pages.old.made }
     ensures change { pages.new.change ≡ pages.old.change }
 {
@@ -63,30 +69,30 @@ fn show(pages: &mut PhasePages, number: u8, ensemble: Option<Ensemble>)
     }
 }
 
-/// Makes a frame of the page in turn, and takes the counts forward: all that a quiet frame does.
+/// Makes a frame from the page in turn and advances the counts, which is all that a quiet frame needs.
 pub(crate) fn send<S: Store>(plan: &Plan, machine: &mut Machine<S>, pages: &mut PhasePages)
     requires sent { CanBeSent plan.now (state_of S.content machine.old) }
     requires few { sent_rounds plan.now (state_of S.content machine.old) ≤ 60 }
     requires keeps { let s = state_of S.content machine.old in
-        Keeps plan.now.mode (sent_entries plan.now s) s.turn pages.old }
+        Keeps plan.now.mode (sent_entries plan.now s) s.page_index pages.old }
     requires change { let s = state_of S.content machine.old in
         HasChange plan.now.notice s.left s.current s.next pages.old.change }
     ensures bytes { ShowsBytes pages.new (shown_bytes plan.now (state_of S.content machine.old)) }
     ensures state { state_of S.content machine.new ≡
         with_next_counts plan.now (state_of S.content machine.old) }
     ensures keeps { let s = state_of S.content machine.old in
-        let turn = page_after (sent_rounds plan.now s) s.turn in
-        Keeps plan.now.mode (sent_entries plan.now s) turn pages.new }
+        let page_index = page_after (sent_rounds plan.now s) s.page_index in
+        Keeps plan.now.mode (sent_entries plan.now s) page_index pages.new }
     ensures change { pages.new.change ≡ pages.old.change }
 {
     make_page_to_send(plan, machine, pages);
     let ensemble = ensemble(plan, machine, pages.change);
-    let turn = machine.turn();
-    show(pages, turn, ensemble);
-    pass(page_after(pages.count(), turn), machine);
+    let page_index = machine.page_index();
+    show(pages, page_index, ensemble);
+    pass(page_after(pages.count(), page_index), machine);
 }
 
-/// Lets the pages go, where a phase begins.
+/// Discards the pages at the start of a phase.
 fn renew(begins: bool, pages: &mut PhasePages)
     ensures began { begins ≡ true → (mode : Mode) (ms : List Marked) → Keeps mode ms 0 pages.new }
     ensures stays { begins ≡ false → pages.new ≡ pages.old }
@@ -97,23 +103,23 @@ fn renew(begins: bool, pages: &mut PhasePages)
     }
 }
 
-/// Takes note of the change flags, where a notice begins with this frame.
+/// Stores the change flags if a notice begins with this frame.
 fn note_change<S: Store>(plan: &Plan, machine: &Machine<S>, pages: &mut PhasePages)
     requires { let s = state_of S.content machine.now in
         is_first_noticed plan.now.notice s.left ≡ false →
         HasChange plan.now.notice s.left s.current s.next pages.old.change }
     ensures change { let s = state_of S.content machine.now in
         HasChange plan.now.notice s.left s.current s.next pages.new.change }
-    ensures keeps { (mode : Mode) (ms : List Marked) (turn : ℕ) →
-        Keeps mode ms turn pages.old → Keeps mode ms turn pages.new }
+    ensures keeps { (mode : Mode) (ms : List Marked) (page_index : ℕ) →
+        Keeps mode ms page_index pages.old → Keeps mode ms page_index pages.new }
 {
     if is_first_noticed(plan.notice, machine.left()) {
         pages.change = change(machine.current(), machine.next()).bits();
     }
 }
 
-/// Carries out the frame's instructions, after the swap where one is due, up to the state that its bytes show. How
-/// many they are is the result.
+/// Makes a due swap and executes the frame's instructions, up to the state that its bytes are made from. Returns the
+/// number of instructions.
 fn prepare<S: Store>(
     code: &Code,
     plan: &Plan,
@@ -126,7 +132,7 @@ fn prepare<S: Store>(
         shown code.now (state_of S.content machine.old) }
     ensures steps { result ≡ frame_steps code.now (state_of S.content machine.old) }
     ensures keeps { let u = shown code.now (state_of S.content machine.old) in
-        Keeps code.now.plan.mode (sent_entries code.now.plan u) u.turn pages.new }
+        Keeps code.now.plan.mode (sent_entries code.now.plan u) u.page_index pages.new }
     ensures change { pages.new.change ≡ pages.old.change }
 {
     let swapped = begin(machine);
@@ -136,7 +142,7 @@ fn prepare<S: Store>(
     steps
 }
 
-/// Makes one frame, which the pages then show. How many instructions it carried out is the result.
+/// Makes one frame, which can then be read from the pages. Returns the number of instructions executed.
 pub(crate) fn make_frame<S: Store>(
     code: &Code,
     machine: &mut Machine<S>,
@@ -149,7 +155,7 @@ pub(crate) fn make_frame<S: Store>(
         after_frame code.now (state_of S.content machine.old) }
     ensures keeps { let u = shown code.now (state_of S.content machine.old) in
         let t = after_frame code.now (state_of S.content machine.old) in
-        Keeps code.now.plan.mode (sent_entries code.now.plan u) t.turn pages.new }
+        Keeps code.now.plan.mode (sent_entries code.now.plan u) t.page_index pages.new }
     ensures change { let u = shown code.now (state_of S.content machine.old) in
         HasChange code.now.plan.notice u.left u.current u.next pages.new.change }
 {

@@ -1,4 +1,4 @@
-//! Frames played one after another into a sink, with no event between them.
+//! Playing a number of frames into a sink, with no event between them.
 
 ghost use Rattle.std.specs.Prelude.{◌≡◌, ◌≤◌, List, false, true, length, replicate, IfOk, OnOk, IfErr, OnErr};
 ghost use Rattle.std.specs.Io.KnownBytes.{Appends};
@@ -15,15 +15,16 @@ use crate::sink::Sink;
 use mux_config::Store;
 use plan_runs::laws;
 
-/// The headline, of any events.
+/// The guarantees of the headline for any events.
 fn promise<'a, S: Store>(player: &Player<'a, S>)
     ensures { (events : List Event) → KeepsItsWord player.now.code player.now.state events }
 {
+    // Read for the proof: a value's invariant is known where the value is read.
     let _current = player.current();
     laws::headline();
 }
 
-/// Plays this many frames, all of them quiet.
+/// Plays this many frames, all of which are quiet.
 #[inline(never)]
 fn play_quiet<'a, S: Store, K: Sink>(
     player: &mut Player<'a, S>,
@@ -72,8 +73,8 @@ fn play_one<'a, S: Store, K: Sink>(player: &mut Player<'a, S>, sink: &mut K) -> 
     }
 }
 
-/// Plays the quiet frames from the next one on, at most this many; or the next frame, where it isn't quiet. How many
-/// frames it played is the result.
+/// Plays quiet frames from the next one on, at most this many; or one frame, if it isn't quiet. Returns the number of
+/// frames played.
 fn play_some<'a, S: Store, K: Sink>(
     player: &mut Player<'a, S>,
     most: u32,
@@ -102,11 +103,11 @@ fn play_some<'a, S: Store, K: Sink>(
     }
 }
 
-/// Plays this many frames one after another, and puts each into the sink, which must not have failed: what
-/// [`play`](crate::play) does with as many frame events. How many frames it made is the result. A stretch of frames in
-/// which no swap is made, no instruction carried out and no phase begun is looked for once, and not frame by frame.
+/// Plays this many frames, writes each to the sink, which must not have failed, and returns the number of frames: the
+/// same as [`play`](crate::play) with that many frame events. A stretch of frames without a swap, an instruction or the
+/// start of a phase is detected once, not frame by frame.
 ///
-/// `Write`: the sink failed. The frame that it didn't take whole has been made, and later ones have not.
+/// `Write`: the sink failed. The frame that it didn't accept in full has been made, and later ones have not.
 pub fn play_frames<'a, S: Store, K: Sink>(
     player: &mut Player<'a, S>,
     count: u32,

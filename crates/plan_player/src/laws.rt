@@ -1,7 +1,7 @@
-//! What holds of runs of typed codes, of interleaved contacts and of listeners: the laws of the crates below, and the laws
-//! on which the player rests. Such a law is a function that does nothing; its contract is the law.
+//! Laws of the player, and those of the crates below on runs of typed codes, contacts and listeners.
+//! Each law is a function that does nothing; its contract is the law.
 
-ghost use Rattle.plan_player.specs.Positions.{TypedCodeGoesOn};
+ghost use Rattle.plan_player.specs.Positions.{Progress};
 ghost use Rattle.plan_player.specs.Quiet.{QuietFramesAreCopied};
 
 pub use plan_listeners::laws::listener;
@@ -10,14 +10,14 @@ pub use plan_runs::laws::{
     runs, swaps, typed_code_runs, waits,
 };
 
-/// The law of continuing: in every state that a typed code comes to, the instructions of the next frame can be run
-/// without a test of any trap or of the budget, and then what the frame sends can be sent, in 60 pages or fewer.
-pub fn goes_on()
-    ensures { TypedCodeGoesOn }
+/// The law of progress: in every state that a typed code reaches, the instructions of the next frame can be executed
+/// without a test for traps or for the budget, and then the frame can be sent, in 60 pages or fewer.
+pub fn progress()
+    ensures { Progress }
 {}
 
-/// The law of quiet frames: frames that make no swap, carry out no instruction and begin no phase are pages in turn of what
-/// the state sends, whatever the code is, and after n of them the counts are those of n frames.
+/// The law of quiet frames: in any code, frames that make no swap, execute no instruction and begin no phase are the
+/// pages in turn of what the state sends, and n of them advance the counts by n frames.
 pub fn quiet()
     ensures { QuietFramesAreCopied }
 {}

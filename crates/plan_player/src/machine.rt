@@ -1,4 +1,4 @@
-//! The state of a machine, over any store of configurations.
+//! The state of the machine, over any store of configurations.
 
 mod burst;
 mod commit;
@@ -26,25 +26,24 @@ pub(crate) use sending::{
     Header, begin_notice, ensemble, is_first_noticed, is_on_step, make_header, next_sent,
 };
 
-/// A machine between two steps of a frame: its current and its next configuration in two stores, what it waits for,
-/// and its counts. Contracts see it as a `State`. The steps of a frame are functions of their own: `begin` makes a
-/// swap that is due and ends a hold, `run` carries out the frame's instructions without a test of any trap,
-/// `begin_notice` and `ensemble` give what is sent, and `pass` takes the counts forward. `quiet_frames` says in how
-/// many frames from now on the first three have nothing to do; of these `make_header` gives what is sent, and `pass_many`
-/// takes the counts forward.
+/// The machine between two steps of a frame: its current and its next configuration in two stores, its wait condition
+/// and its counts. In contracts it is a `State`. Each step of a frame is a function: `begin` makes a due swap and ends
+/// a wait, `run` executes the frame's instructions without testing for traps, `begin_notice` and `ensemble` give what
+/// is sent, and `pass` advances the counts. `quiet_frames` counts frames in which the first three have nothing to do;
+/// for these, `make_header` gives what is sent, and `pass_many` advances the counts.
 #[derive(Drop)]
 pub(crate) struct Machine<S: Store> {
     /// The current configuration.
     current: S,
     /// The next configuration.
     next: S,
-    /// How many frames are left until the swap, where one is pending.
+    /// The number of frames left until the swap, if one is pending.
     left: Option<u16>,
-    /// The place of the instruction to come, counted from 0.
+    /// The index of the next instruction, from 0.
     pc: u16,
-    /// What has to come before it is carried out.
+    /// What the machine waits for before it executes that instruction.
     hold: Hold,
-    /// What is left of each of the eight counters: 0 where it is not set.
+    /// The remaining iterations of each of the eight counters: 0 where it is not set.
     counters: [u16; 8],
     /// The contacts that are closed.
     contacts: Contacts,
@@ -54,13 +53,13 @@ pub(crate) struct Machine<S: Store> {
     day: u32,
     /// The identifier of the ensemble, EId (EN 300 401 clause 6.4).
     eid: u16,
-    /// The number of the page in turn, counted from 0.
-    turn: u8,
+    /// The index of the page in turn, from 0.
+    page_index: u8,
 }
 
 impl<S: Store> Machine<S> {
     /// The machine at the start of a typed code: both configurations are those of its first label, no swap is
-    /// pending, no counter is set, and the instructions begin with the first frame. No memory is taken.
+    /// pending, no counter is set, and the instructions start in the first frame. It does not allocate.
     pub(crate) fn start(code: &Verified, start: Start) -> Machine<S>
         ensures { IsStart code.now start (state_of S.content result) }
     {
@@ -78,11 +77,11 @@ impl<S: Store> Machine<S> {
             count: start.count,
             day: start.day,
             eid: start.eid,
-            turn: 0,
+            page_index: 0,
         }
     }
 
-    /// Closes a contact, or opens it; the others stay.
+    /// Closes or opens a contact, and leaves the others unchanged.
     pub(crate) fn set_contact(&mut self, contact: ContactId, closed: bool)
         ensures { (p : Program) → state_of S.content self.new ≡
             happens p (state_of S.content self.old) (Contact contact closed) }
@@ -104,21 +103,21 @@ impl<S: Store> Machine<S> {
         &self.next
     }
 
-    /// How many frames are left until the swap, where one is pending.
+    /// The number of frames left until the swap, if one is pending.
     pub(crate) fn left(&self) -> Option<u16>
         ensures { result ≡ self.now.left }
     {
         self.left
     }
 
-    /// The place of the instruction to come, counted from 0.
+    /// The index of the next instruction, from 0.
     pub(crate) fn pc(&self) -> u16
         ensures { result ≡ self.now.pc }
     {
         self.pc
     }
 
-    /// What has to come before that instruction is carried out.
+    /// What the machine waits for before it executes that instruction.
     pub(crate) fn hold(&self) -> Hold
         ensures { result ≡ self.now.hold }
     {
@@ -139,10 +138,10 @@ impl<S: Store> Machine<S> {
         self.day
     }
 
-    /// The number of the page in turn, counted from 0.
-    pub(crate) fn turn(&self) -> u8
-        ensures { result ≡ self.now.turn }
+    /// The index of the page in turn, from 0.
+    pub(crate) fn page_index(&self) -> u8
+        ensures { result ≡ self.now.page_index }
     {
-        self.turn
+        self.page_index
     }
 }

@@ -12,39 +12,39 @@ use fib_carousel::{Cursor, KeptPage};
 use fib_codec::{FibFrame, Mode};
 use mux_config::Store;
 
-/// The most pages that a phase of a typed code has: the longest period of a plan.
+/// The maximum number of pages in a phase of a typed code: the longest period of a plan.
 const MOST_PAGES: usize = 60;
 
-/// What a frame is.
+/// Where the bytes of a frame are stored.
 #[derive(Clone, Copy, Debug, PartialEq, Eq)]
 pub(crate) enum Sent {
-    /// The page of this number, without FIG 0/0: as it is kept.
+    /// In the kept page with this index, which has no FIG 0/0.
     Kept(u8),
-    /// A page with a FIG 0/0 of its own.
+    /// In a buffer of its own, as a page with FIG 0/0.
     Headed,
 }
 
-/// The pages of a phase that were made so far. Each is packed when it is first in turn, and then kept until the phase
+/// The pages of a phase that have been made. Each is packed when it is first in turn, and then kept until the phase
 /// ends.
 #[derive(Drop)]
 pub(crate) struct PhasePages {
-    /// The pages made, from page 0 on; what stands after them is of an earlier phase.
+    /// The pages made so far, from page 0 on; later entries are from an earlier phase.
     pub(crate) pages: [Option<KeptPage>; MOST_PAGES],
-    /// How many were made in this phase.
+    /// The number of pages made in this phase.
     pub(crate) made: u8,
-    /// Whether all pages of the phase were made.
+    /// Whether all pages of the phase have been made.
     pub(crate) is_whole: bool,
-    /// Where the next one to be made starts.
+    /// Where the next page to be made starts.
     pub(crate) cursor: Cursor,
-    /// The change flags of the notice, once it has begun.
+    /// The change flags of the notice, if it has begun.
     pub(crate) change: u8,
-    /// What the last frame was.
+    /// Where the last frame is stored.
     pub(crate) sent: Sent,
     /// The last frame that had a FIG 0/0.
     pub(crate) headed: FibFrame,
 }
 
-/// A page that was made in this phase.
+/// A page that has been made.
 pub(crate) fn held(pages: &[Option<KeptPage>; MOST_PAGES], number: u8) -> &KeptPage
     requires { (page : KeptPage) × (slice_get pages.now number ≡ Some (Some page)) }
     ensures { slice_get pages.now number ≡ Some (Some result.now) }
@@ -72,31 +72,31 @@ fn make<'a, 'b, S: Store>(pages: &mut PhasePages, mode: Mode, current: &'a S, ne
     pages.made += 1;
 }
 
-/// Makes the page in turn of these configurations where it wasn't yet in this phase.
+/// Makes the page in turn of these configurations, unless it has already been made in this phase.
 pub(crate) fn make_if_new<'a, 'b, S: Store>(
     pages: &mut PhasePages,
     mode: Mode,
-    turn: u8,
+    page_index: u8,
     current: &'a S,
     next: Option<&'b S>,
 )
     requires keeps { let ms = page_set_of S.content current.now (option_copied next) in
-        Keeps mode ms turn pages.old }
-    requires within { turn < rounds mode (page_set_of S.content current.now (option_copied next)) }
-    requires few { turn < 60 }
+        Keeps mode ms page_index pages.old }
+    requires within { page_index < rounds mode (page_set_of S.content current.now (option_copied next)) }
+    requires few { page_index < 60 }
     ensures keeps { let ms = page_set_of S.content current.now (option_copied next.entry) in
-        Keeps mode ms turn pages.new }
-    ensures made { turn < pages.new.made }
+        Keeps mode ms page_index pages.new }
+    ensures made { page_index < pages.new.made }
     ensures change { pages.new.change ≡ pages.old.change }
 {
-    if turn < pages.made {
+    if page_index < pages.made {
         return;
     }
     make(pages, mode, current, next);
 }
 
 impl PhasePages {
-    /// No pages.
+    /// A phase without pages.
     pub(crate) fn new() -> PhasePages
         ensures { (mode : Mode) (ms : List Marked) → Keeps mode ms 0 result }
     {
@@ -111,7 +111,7 @@ impl PhasePages {
         }
     }
 
-    /// How many pages the phase has, once all were made; before that, one more than were made.
+    /// The number of pages of the phase if all have been made; otherwise the number made plus one.
     pub(crate) fn count(&self) -> usize
         ensures whole { self.now.is_whole ≡ true → result ≡ self.now.made }
         ensures more { self.now.is_whole ≡ false → result ≡ self.now.made + 1 }
@@ -120,7 +120,7 @@ impl PhasePages {
         usize::from(self.made) + usize::from(!self.is_whole)
     }
 
-    /// The last frame, which is still there.
+    /// The last frame.
     pub(crate) fn frame(&self) -> &FibFrame
         requires { (bytes : List ℕ) × ShowsBytes self.now bytes }
         ensures { (bytes : List ℕ) → ShowsBytes self.now bytes → result.now ≡ bytes }
@@ -131,7 +131,7 @@ impl PhasePages {
         }
     }
 
-    /// Lets the pages go, as a phase begins.
+    /// Discards the pages at the start of a phase.
     pub(crate) fn restart(&mut self)
         ensures pages { (mode : Mode) (ms : List Marked) → Keeps mode ms 0 self.new }
         ensures change { self.new.change ≡ self.old.change }

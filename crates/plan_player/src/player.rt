@@ -1,4 +1,4 @@
-//! The player.
+//! The player of typed codes.
 
 ghost use Rattle.std.specs.Prelude.{◌≡◌, ◌<◌, ◌≤◌, List, [], ◌∷◌, length, take, replicate, true, false, Some, None, IfOk, IfErr, OnOk, OnErr};
 ghost use Rattle.std.specs.Result.{result_err};
@@ -33,11 +33,11 @@ use plan_runs::{Start, laws};
 use plan_verifier::Verified;
 use std::marker::Model;
 
-/// How many instructions a quiet frame carries out.
+/// The number of instructions that a quiet frame executes.
 const QUIET_STEPS: u8 = 0;
 
 /// Plays a typed code, frame by frame, with the current and the next configuration in two stores of this type. It
-/// takes no memory, and tests for no trap: a typed code meets none.
+/// does not allocate, and does not test for traps: a typed code has none.
 #[derive(Drop)]
 pub struct Player<'a, S: Store> {
     code: &'a Verified,
@@ -68,6 +68,7 @@ fn fault_of(start: Start) -> Option<StartFault>
     ensures first { result ≡ start_fault start }
     ensures none { result ≡ None → StartIsInRange start }
 {
+    // Read for the proof: a value's invariant is known where the value is read.
     let _eid = start.eid;
     let _contacts = start.contacts.0;
     if start.count >= COUNTS {
@@ -79,8 +80,8 @@ fn fault_of(start: Start) -> Option<StartFault>
     None
 }
 
-/// The headline, of the frame that is next: it meets no trap, a swap in it was announced, its bytes are right, and in each
-/// period from it on the whole configuration is heard; and each swap after it comes at the announced count.
+/// The guarantees of the headline for the next frame: it has no trap, a swap in it was announced, its bytes are
+/// correct; from it on, each period carries the whole configuration, and each swap falls on the announced count.
 fn promise<S: Store>(code: &Code, machine: &Machine<S>)
     requires { IsPlayed code.now (state_of S.content machine.now) }
     ensures announced { let s = state_of S.content machine.now in
@@ -94,9 +95,10 @@ fn promise<S: Store>(code: &Code, machine: &Machine<S>)
 }
 
 impl<'a, S: Store> Player<'a, S> {
-    /// A player of this code that begins with this start. No frame is made yet.
+    /// A player of this code with this start. No frame has been made yet.
     ///
-    /// `Count`: the CIF count is 5000 or more; `Day`: the frame of the day is 3,600,000 or more. `Count` comes first.
+    /// `Count`: the CIF count is 5000 or more; `Day`: the frame of the day is 3,600,000 or more. `Count` takes
+    /// precedence.
     pub fn new(code: &'a Verified, start: Start) -> Result<Player<'a, S>, StartFault>
         ensures begins { IfOk result (λ p. IsAtStart code.now start p) }
         ensures fault { result_err result ≡ start_fault start }
@@ -104,6 +106,7 @@ impl<'a, S: Store> Player<'a, S> {
         if let Some(fault) = fault_of(start) {
             return Err(fault);
         }
+        // Read for the proof: a value's invariant is known where the value is read.
         let _typed = code.code();
         Ok(Player {
             code,
@@ -114,7 +117,7 @@ impl<'a, S: Store> Player<'a, S> {
         })
     }
 
-    /// Closes a contact, or opens it, between two frames; the others stay.
+    /// Closes or opens a contact between two frames, and leaves the others unchanged.
     pub fn contact(&mut self, contact: ContactId, closed: bool)
         ensures state { self.new ≡ record self.old {
           state =
@@ -122,15 +125,16 @@ impl<'a, S: Store> Player<'a, S> {
         } }
         ensures played { IsPlayed self.new.code self.new.state }
     {
+        // Read for the proof: a value's invariant is known where the value is read.
         let _number = contact.get();
         self.machine.set_contact(contact, closed);
     }
 
-    /// Makes the next frame: a swap that is due, the instructions, the FIBs, and then the counts. It always answers.
+    /// Makes the next frame: a due swap, the instructions, the FIBs, and then the counts. It cannot fail.
     ///
-    /// Its bytes and the state after it are those of the definitions. It meets no trap, carries out no more
-    /// instructions than the budget, and its FIBs are right; a swap in it was announced by the frames before it. Whatever
-    /// comes, from it on each period has the whole current configuration, and each swap comes at the announced count.
+    /// Its bytes and the state after it are those of the definitions. It has no trap, executes no more instructions
+    /// than the budget, and its FIBs are correct; a swap in it was announced by the frames before it. For any later
+    /// events, each period from it on has the whole current configuration, and each swap falls on the announced count.
     pub fn frame(&mut self) -> FibFrame
         ensures bytes { result ≡ frame_bytes self.old.code self.old.state }
         ensures state { self.new ≡ record self.old {
@@ -152,7 +156,7 @@ impl<'a, S: Store> Player<'a, S> {
         *self.pages.frame()
     }
 
-    /// Makes the next frame, and puts it into the sink. `Err`: the sink took this many of its bytes, fewer than all.
+    /// Makes the next frame and writes it to the sink. `Err`: the sink accepted this many of its bytes, fewer than all.
     pub(crate) fn put_frame<K: Sink>(&mut self, sink: &mut K) -> Result<(), usize>
         requires working { K.has_failed sink.old ≡ false }
         ensures state { self.new ≡ played self.old (Frame ∷ []) }
@@ -169,7 +173,7 @@ impl<'a, S: Store> Player<'a, S> {
         put_all(sink, self.pages.frame().bytes())
     }
 
-    /// How many frames from the next one on are quiet, of at most this many.
+    /// A number of frames, at most `most`, that are quiet from the next one on.
     pub(crate) fn quiet_frames(&self, most: u32) -> u32
         ensures quiet { AreQuiet self.now.code result self.now.state }
         ensures bound { result ≤ most }
@@ -177,8 +181,8 @@ impl<'a, S: Store> Player<'a, S> {
         quiet_frames(self.code.code(), &self.machine, most)
     }
 
-    /// Makes the next frame where it is quiet, and puts it into the sink: what [`Player::put_frame`] does, without asking
-    /// for a swap, instructions and the begin of a phase.
+    /// Makes the next frame, which is quiet, and writes it to the sink: the same as [`Player::put_frame`], without
+    /// testing for a swap, instructions and the start of a phase.
     pub(crate) fn put_quiet_frame<K: Sink>(
         &mut self,
         plan: &Plan,
@@ -201,8 +205,8 @@ impl<'a, S: Store> Player<'a, S> {
         put_all(sink, self.pages.frame().bytes())
     }
 
-    /// Makes the next frames, of which this many at least are quiet, and puts them into the sink: some of these, at least
-    /// one. How many is the result. Where all pages of the phase were made, they go there together.
+    /// Makes at most `most` of the next frames, all of them quiet, writes them to the sink, and returns their number,
+    /// at least one. If all pages of the phase have been made, they are written together.
     pub(crate) fn put_quiet<K: Sink>(
         &mut self,
         plan: &Plan,
@@ -240,7 +244,7 @@ impl<'a, S: Store> Player<'a, S> {
         )
     }
 
-    /// The current configuration, in every state a sound one.
+    /// The current configuration, which is always sound.
     pub fn current(&self) -> &S
         ensures value { S.content result.now ≡ self.now.state.current }
         ensures sound { IsSound self.now.state.current }
@@ -249,14 +253,14 @@ impl<'a, S: Store> Player<'a, S> {
         self.machine.current()
     }
 
-    /// The next configuration: the one that a pending swap makes the current one, or that edits prepare.
+    /// The next configuration: the one that a pending swap makes current, or that edits prepare.
     pub fn next(&self) -> &S
         ensures value { S.content result.now ≡ self.now.state.next }
     {
         self.machine.next()
     }
 
-    /// How many frames are left until the swap; None where none is pending. It is 0 where the next frame makes it.
+    /// The number of frames left until the swap; None where none is pending. It is 0 if the next frame makes the swap.
     pub fn remaining(&self) -> Option<u16>
         ensures value { result ≡ self.now.state.left }
     {
@@ -270,21 +274,21 @@ impl<'a, S: Store> Player<'a, S> {
         self.machine.count()
     }
 
-    /// The frame of the day that comes next, 0 to 3,599,999.
+    /// The frame of the day of the next frame, 0 to 3,599,999.
     pub fn day(&self) -> u32
         ensures value { result ≡ self.now.state.day }
     {
         self.machine.day()
     }
 
-    /// The place of the instruction that comes next, counted from 0.
+    /// The index of the next instruction, from 0.
     pub fn pc(&self) -> u16
         ensures value { result ≡ self.now.state.pc }
     {
         self.machine.pc()
     }
 
-    /// What has to come before that instruction is carried out.
+    /// What the machine waits for before it executes that instruction.
     pub fn hold(&self) -> Hold
         ensures value { result ≡ self.now.state.hold }
     {
@@ -299,14 +303,14 @@ impl<'a, S: Store> Player<'a, S> {
         self.code.code().plan()
     }
 
-    /// The number of the line that the instruction at this place comes from.
+    /// The source line number of the next instruction.
     pub fn line(&self) -> u16
         ensures value { line_at self.now.code self.now.state.pc ≡ Some result }
     {
         self.code.code().line_at(self.machine.pc()).unwrap()
     }
 
-    /// How many instructions the last frame carried out, at most the budget; 0 before the first frame.
+    /// The number of instructions that the last frame executed, at most the budget; 0 before the first frame.
     pub fn steps(&self) -> u8
         ensures value { result ≡ self.now.steps }
         ensures within { self.now.steps ≤ self.now.code.plan.budget }

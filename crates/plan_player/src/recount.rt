@@ -1,17 +1,17 @@
-//! Frames whose FIG 0/0 gets another count.
+//! Changing the count of FIG 0/0 in finished frames.
 
 ghost use Rattle.std.specs.Prelude.{◌≡◌, ℕ, ◌*◌, ◌-◌, ◌%◌, ◌<◌, ◌≤◌, List, ◌∷◌, length};
 ghost use Rattle.fib_codec.specs.Modes.{fib_count};
 ghost use Rattle.fib_codec.specs.Spelling.{checked};
 ghost use Rattle.plan_player.specs.Stretch.{AreRecounted};
 
-use crate::count_tables::{high_turned, low_turned};
+use crate::count_tables::{high_byte_crc, low_byte_crc};
 use crate::machine::{Header, count_later};
 use plan_code::Plan;
 use plan_code::limits::COUNTS;
 
-/// Writes another count over that of FIG 0/0, which begins this FIB: its third and its fourth byte, and of the CRC what
-/// these two turn.
+/// Replaces the count of the FIG 0/0 at the start of a FIB: its third and fourth byte of data, and the CRC, updated by
+/// the contributions of these two.
 pub(crate) fn recount(fib: &mut [u8], high: u8, low: u8)
     requires { length fib.old ≡ 32 }
     ensures bytes { (a b c d x y : ℕ) (rest : List ℕ) → length rest ≡ 24
@@ -19,7 +19,7 @@ pub(crate) fn recount(fib: &mut [u8], high: u8, low: u8)
         → fib.new ≡ checked (a ∷ b ∷ c ∷ d ∷ high ∷ low ∷ rest) }
     ensures size { length fib.new ≡ length fib.old }
 {
-    let turned = high_turned(fib[4] ^ high) ^ low_turned(fib[5] ^ low);
+    let turned = high_byte_crc(fib[4] ^ high) ^ low_byte_crc(fib[5] ^ low);
     let word = (u16::from(fib[30]) * 256 + u16::from(fib[31])) ^ turned;
     fib[4] = high;
     fib[5] = low;
@@ -27,7 +27,7 @@ pub(crate) fn recount(fib: &mut [u8], high: u8, low: u8)
     fib[31] = (word % 256) as u8;
 }
 
-/// How many frames come before the first whose count is a multiple of the step, from one of this count on.
+/// The number of frames before the first whose count is a multiple of the step, starting with this count.
 fn before_step(step: u16, count: u16) -> u16
     requires { 1 ≤ step }
     ensures { result ≡ (step - count % step) % step }
@@ -35,8 +35,8 @@ fn before_step(step: u16, count: u16) -> u16
     (step - count % step) % step
 }
 
-/// Makes these frames, one after another, those that are alike but begin with this count: in each frame in which the
-/// mode sends FIG 0/0 its count becomes another.
+/// Changes these frames into the ones that are alike but start with this count: the count is replaced in each frame
+/// with FIG 0/0.
 pub(crate) fn recount_frames(plan: &Plan, header: Header, count: u16, frames: u16, bytes: &mut [u8])
     requires count { count < COUNTS }
     requires change { header.change < 4 }

@@ -1,22 +1,22 @@
-//! What takes the bytes of frames.
+//! Receivers of the bytes of frames.
 
 ghost use Rattle.std.specs.Prelude.{◌≡◌, ◌<◌, ◌≤◌, length, take, true, false, IfSome, IfNone, IfErr, OnOk, OnErr};
 ghost use Rattle.std.specs.Io.KnownBytes.{Appends, Keeps};
 
 use std::io::Write;
 
-/// Takes bytes, as many at a time as it likes, until it fails.
+/// Accepts bytes, any number at a time, until it fails.
 pub trait Sink {
     ghost use Rattle.std.specs.Prelude.{ℕ, List, Option, Bool};
 
-    /// The bytes that it has taken, where it tells them.
+    /// The bytes that it has accepted, if it reports them.
     ghost taken: { Self → Option (List ℕ) };
 
     /// Whether it has failed.
     ghost has_failed: { Self → Bool };
 
-    /// Takes the first bytes of these, at least one, and answers how many; there must be one. `None`: it took
-    /// nothing, and from then on it has failed. Nothing else makes it fail.
+    /// Accepts a non-empty prefix of these bytes, which must not be empty, and returns its length. `None`: it accepted
+    /// nothing, and has failed from then on. Nothing else makes it fail.
     fn put(&mut self, bytes: &[u8]) -> Option<usize>
         requires { 0 < length bytes.now }
         ensures bound { IfSome result (λ n. (1 ≤ n) × (n ≤ length bytes.now)) }
@@ -31,8 +31,8 @@ pub trait Sink {
         ensures { result ≡ has_failed self.now };
 }
 
-/// A writer as a sink. It fails where the writer fails, an interrupted write too, and where the writer takes
-/// nothing. It tells its bytes where the writer does.
+/// A writer as a sink. It fails if the writer fails, also if the write is interrupted, and if the writer accepts
+/// nothing. It reports its bytes if the writer does.
 #[derive(Drop)]
 pub struct Writer<W> {
     inner: W,
@@ -40,7 +40,7 @@ pub struct Writer<W> {
 }
 
 impl<W: Write> Writer<W> {
-    /// A sink over this writer, which hasn't failed.
+    /// A sink over this writer that has not failed.
     pub fn new(inner: W) -> Self
         ensures works { result.is_failed ≡ false }
         ensures inner { result.inner ≡ inner }
@@ -84,7 +84,7 @@ impl<W: Write> Sink for Writer<W> {
     }
 }
 
-/// Puts all bytes into a sink that hasn't failed, in as many calls as it likes. `Err`: it failed after this many of
+/// Writes all bytes to a sink that has not failed, in any number of calls. `Err`: it failed after this many of
 /// them, fewer than all.
 pub fn put_all<K: Sink>(sink: &mut K, bytes: &[u8]) -> Result<(), usize>
     requires working { K.has_failed sink.old ≡ false }

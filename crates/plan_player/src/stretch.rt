@@ -1,4 +1,4 @@
-//! Quiet frames that go to a sink together.
+//! Writing a stretch of quiet frames to a sink in one batch.
 
 ghost use Rattle.std.specs.Prelude.{◌≡◌, ℕ, ◌+◌, ◌≤◌, ◌<◌, ◌%◌, ◌==◌, ◌++◌, List, length, true, false, IfOk, IfErr, OnOk, OnErr};
 ghost use Rattle.std.specs.List.{concat};
@@ -25,7 +25,7 @@ use fib_codec::FibFrame;
 use mux_config::Store;
 use plan_code::{Mode, Plan};
 
-/// Appends a frame of this page: with FIG 0/0 where the mode sends it at this count.
+/// Appends a frame with this page, and with FIG 0/0 if the mode sends it at this count.
 fn push(
     mode: Mode,
     header: Header,
@@ -49,12 +49,12 @@ fn push(
     }
 }
 
-/// In how many frames the same pages come with and without FIG 0/0 as before: whole turns of this many pages, and whole
-/// steps of the counts.
-fn whole_turns(pages: u8, step: u16) -> u16
+/// After this many frames, the pages with and without FIG 0/0 repeat: a multiple of the number of pages and of the step
+/// of the counts.
+fn whole_cycle(pages: u8, step: u16) -> u16
     requires pages { (1 ≤ pages) × (pages ≤ 60) }
     requires step { (1 ≤ step) × (step ≤ 4) }
-    ensures turns { result % pages ≡ 0 }
+    ensures cycle { result % pages ≡ 0 }
     ensures steps { result % step ≡ 0 }
     ensures some { 1 ≤ result }
 {
@@ -86,42 +86,43 @@ fn begin<S: Store>(
     batch.clear();
     let rounds = usize::from(pages.made);
     let mut headed = FibFrame::new(plan.mode);
-    let mut turn = machine.turn();
+    let mut page_index = machine.page_index();
     let mut number = machine.count();
     let mut done = 0u16;
     while done < count {
-        let page = held(&pages.pages, turn);
+        let page = held(&pages.pages, page_index);
         push(plan.mode, header, number, page, &mut headed, batch);
-        turn = page_after(rounds, turn);
+        page_index = page_after(rounds, page_index);
         number = count_after(number);
         done += 1;
     }
 }
 
-/// Appends the quiet frames up to this many to a batch that has whole turns of them: those that it has, with other
+/// Extends a batch that has whole cycles of quiet frames to this many: with copies of its frames that have other
 /// counts.
 fn repeat<S: Store>(
     plan: &Plan,
     machine: &Machine<S>,
     pages: &PhasePages,
     header: Header,
-    turns: u16,
+    cycle: u16,
     count: u16,
     batch: &mut Batch,
 )
     requires few { count ≤ 128 }
-    requires within { (1 ≤ turns) × (turns ≤ count) }
-    requires pages { turns % pages.now.made ≡ 0 }
-    requires steps { turns % count_step plan.now.mode ≡ 0 }
+    requires within { (1 ≤ cycle) × (cycle ≤ count) }
+    requires pages { cycle % pages.now.made ≡ 0 }
+    requires steps { cycle % count_step plan.now.mode ≡ 0 }
     requires stretch { IsStretch plan.now count (state_of S.content machine.now) pages.now }
     requires header { header ≡ header_of plan.now (state_of S.content machine.now) }
     requires begun { batch.old ≡
-        concat (notice_frames plan.now turns (state_of S.content machine.now)) }
+        concat (notice_frames plan.now cycle (state_of S.content machine.now)) }
     ensures { batch.new ≡
         concat (notice_frames plan.now count (state_of S.content machine.now)) }
 {
+    // Read for the proof: a value's invariant is known where the value is read.
     let _made = pages.made;
-    let mut done = turns;
+    let mut done = cycle;
     while done < count {
         let more = done.min(count - done);
         batch.repeat(plan, header, count_later(machine.count(), done), more);
@@ -145,16 +146,16 @@ fn fill<S: Store>(
         concat (notice_frames plan.now count (state_of S.content machine.now)) }
 {
     let header = make_header(plan, machine, pages.change);
-    let turns = whole_turns(pages.made, plan.mode.step());
-    if count <= turns {
+    let cycle = whole_cycle(pages.made, plan.mode.step());
+    if count <= cycle {
         begin(plan, machine, pages, header, count, batch);
         return;
     }
-    begin(plan, machine, pages, header, turns, batch);
-    repeat(plan, machine, pages, header, turns, count, batch);
+    begin(plan, machine, pages, header, cycle, batch);
+    repeat(plan, machine, pages, header, cycle, count, batch);
 }
 
-/// Makes this many quiet frames, and puts them into the sink together; how many is the result. `Err`: it failed in one
+/// Makes this many quiet frames, writes them to the sink together, and returns their number. `Err`: it failed in one
 /// of them, which has been made, and later ones have not.
 pub(crate) fn put_stretch<S: Store, K: Sink>(
     plan: &Plan,

@@ -31,7 +31,7 @@ use Rattle.plan_runs.proofs.Facts.{Holds, IsCode, frame_holds, happens_holds, co
 use Rattle.plan_runs.proofs.Right.{PageLaws, pageable}
 use Rattle.plan_runs.proofs.Notice.{frames_from, frames_cut, frames_get, frames_contain, contains_frame, noticed_state, both_rounds, notice_at, notice_at_is, base_of, heard_is, heard_frame}
 
--- ---- pages come round
+-- ---- the cycle of pages
 
 page_up : (pages k : ℕ) → k < pages → page_of pages k ≡ k
 page_up pages zero below = page_of_first pages
@@ -48,7 +48,7 @@ wraps_by pages k last false e = refl
 page_wraps : (pages k : ℕ) → k + 1 ≡ pages → page_after pages k ≡ 0
 page_wraps pages k last = wraps_by pages k last (ltb (k + 1) pages) refl
 
--- after as many frames as there are pages, page 0 comes again
+-- after as many frames as there are pages, page 0 is in turn again
 page_whole : (pages : ℕ) → 1 ≤ pages → page_of pages pages ≡ 0
 page_whole zero some = absurd (omega (arith, some))
 page_whole (suc k) some = page_of_next (suc k) k ∙ ap (page_after (suc k)) (page_up (suc k) k (omega arith)) ∙ page_wraps (suc k) k (omega arith)
@@ -63,7 +63,7 @@ page_round pages (suc k) some =
 
 -- ---- one frame of a notice
 
--- what is needed of a swap that is due
+-- what is known where a swap is due
 pub record IsDue (plan : Plan) (c n : Configuration) (eid count : ℕ) : Type 0 where
   pub notice_from : 12 ≤ plan.notice
   pub notice_to : plan.notice ≤ 248
@@ -98,7 +98,7 @@ notice_airs plan c n eid count i d below =
       on_air = d.on_air;
       committed = d.committed;
       swaps = swap_base plan.mode plan.notice count i below d.notice_to d.count_low d.on_step;
-      turn = record {
+      page_index = record {
         within = λ inside. sym (ap (page_of (both_rounds plan c n)) back);
         before = λ past. absurd (omega (arith, past));
       };
@@ -116,14 +116,14 @@ notice_hears laws plan c n eid count i d below m inside =
     let base : ℕ = base_of plan count 0 in
     let st : State = noticed_state plan c n eid base i in
     let a = notice_airs plan c n eid count i d below in
-    let there : Contains (page_entries plan.mode st.turn (sent_entries plan st)) m =
+    let there : Contains (page_entries plan.mode st.page_index (sent_entries plan st)) m =
     subst (λ (es : List Marked). Contains (page_entries plan.mode (page_of (both_rounds plan c n) i) es) m) (sym (notice_entries plan c n eid base i below)) inside in
-    let heard : IsHeardInRow (shown_bytes plan st) m = (laws.heard plan.mode (ensemble_sent plan st) st.turn (sent_entries plan st) (pageable laws plan st a) m).1 there in
+    let heard : IsHeardInRow (shown_bytes plan st) m = (laws.heard plan.mode (ensemble_sent plan st) st.page_index (sent_entries plan st) (pageable laws plan st a) m).1 there in
     subst (λ (b : List ℕ). IsHeardInRow b m) (sym (notice_at_is plan c n eid base i)) heard
 
 -- ---- three parts
 
--- a part of the notice that begins where page 0 is in turn, and has all pages
+-- a part of the notice that starts when page 0 is in turn, and has all pages
 part_whole : PageLaws → (plan : Plan) (c n : Configuration) (eid count a k : ℕ) → IsDue plan c n eid count → ((j : ℕ) → page_of (both_rounds plan c n) (a + j) ≡ page_of (both_rounds plan c n) j)
     → both_rounds plan c n ≤ k → a + k ≤ plan.notice → IsHeardWhole n true (frames_from (notice_at plan c n eid (base_of plan count 0)) a k)
 part_whole laws plan c n eid count a k d again long within m inside =
@@ -131,15 +131,15 @@ part_whole laws plan c n eid count a k d again long within m inside =
     let pages : ℕ = both_rounds plan c n in
     let there = laws.each plan.mode (page_set c (Some n)) m (Contains-append_right (facts_of c false) (facts_of n true) m inside) in
     let j : ℕ = there.0 in
-    let turn : page_of pages (a + j) ≡ j = again j ∙ page_up pages j there.1 in
+    let page_index : page_of pages (a + j) ≡ j = again j ∙ page_up pages j there.1 in
     let here : Contains (page_entries plan.mode (page_of pages (a + j)) (page_set c (Some n))) m =
-    subst (λ (x : ℕ). Contains (page_entries plan.mode x (page_set c (Some n))) m) (sym turn) there.2 in
+    subst (λ (x : ℕ). Contains (page_entries plan.mode x (page_set c (Some n))) m) (sym page_index) there.2 in
     let below : a + j < plan.notice = omega (arith, there.1, long, within) in
     (f (a + j), contains_frame f a k (a + j) (omega arith) (omega (arith, there.1, long)), notice_hears laws plan c n eid count (a + j) d below m here)
 
 -- ---- FIG 0/0 of the notice
 
--- the frame in which FIG 0/0 is sent, three of them before the swap
+-- a frame in which FIG 0/0 is sent: there are three of them before the swap
 header_count : (m : Mode) (notice count j : ℕ) → 1 ≤ j → j ≤ 3 → 12 ≤ notice → notice ≤ 248 → count < 5000 → count % count_step m ≡ 0
     → ((count + 0 + 5000 - notice) % 5000 + (notice - j * count_step m)) % 5000 % count_step m ≡ 0
 header_count I notice count j some three long short low whole = omega (arith, some, three, long, short, low, whole)
@@ -163,7 +163,7 @@ header_at laws plan c n eid count i d below whole =
     let st : State = noticed_state plan c n eid base i in
     let a = notice_airs plan c n eid count i d below in
     let heard : IsEnsembleHeardInRow (shown_bytes plan st) false (ensemble_of plan st) =
-    (laws.ensemble plan.mode (ensemble_sent plan st) st.turn (sent_entries plan st) (pageable laws plan st a) false (ensemble_of plan st)).1 (refl, sent_here plan st whole) in
+    (laws.ensemble plan.mode (ensemble_sent plan st) st.page_index (sent_entries plan st) (pageable laws plan st a) false (ensemble_of plan st)).1 (refl, sent_here plan st whole) in
     (false, ensemble_of plan st, subst (λ (b : List ℕ). IsEnsembleHeardInRow b false (ensemble_of plan st)) (sym (notice_at_is plan c n eid base i)) heard)
 
 header_below : (m : Mode) (notice j : ℕ) → 1 ≤ j → 12 ≤ notice → notice - j * count_step m < notice
@@ -202,7 +202,7 @@ three_headers laws plan c n eid count d =
       in_third = headed_at laws plan c n eid count 1 d (omega arith) (omega arith);
     }
 
--- ---- each of them is flagged
+-- ---- each FIG 0/0 is flagged
 
 swap_low : (notice count i : ℕ) → i < notice → notice ≤ 248 → count < 5000 → (((count + 0 + 5000 - notice) % 5000 + i) % 5000 + (notice - i)) % 5000 % 250 ≡ count % 250
 swap_low notice count i below short low = omega (arith, below, short, low)
@@ -237,7 +237,7 @@ flagged_at laws plan c n eid count i d below marked e heard =
     let st : State = noticed_state plan c n eid base i in
     let a = notice_airs plan c n eid count i d below in
     let there : IsEnsembleHeardInRow (shown_bytes plan st) marked e = subst (λ (b : List ℕ). IsEnsembleHeardInRow b marked e) (notice_at_is plan c n eid base i) heard in
-    let sent = (laws.ensemble plan.mode (ensemble_sent plan st) st.turn (sent_entries plan st) (pageable laws plan st a) marked e).0 there in
+    let sent = (laws.ensemble plan.mode (ensemble_sent plan st) st.page_index (sent_entries plan st) (pageable laws plan st a) marked e).0 there in
     let same = sent_is plan st e sent.1 in
     let info = noticed_information plan st (noticed plan.notice (plan.notice - i) (omega (arith, below)) (omega arith)) in
     let low = swap_low plan.notice count i below d.notice_to d.count_low in
@@ -303,7 +303,7 @@ swap_announced laws p ts c s h due =
     heard_is p.plan s 0 is ∙ ap (frames_from (notice_at p.plan s.current s.next s.eid (base_of p.plan s.count 0)) 0) all in
     subst (λ (xs : List (List ℕ)). IsAnnounced s.current s.next s.count xs) (sym heard) (notice_announces laws p.plan s.current s.next s.eid s.count d)
 
--- contacts have no part in what was heard
+-- contacts do not affect what was heard
 pub heard_contacts : (plan : Plan) (s : State) (d : ℕ) (closed : Bool) (left : Option ℕ) → s.left ≡ left → heard_of plan (let r : State = record s { contacts = with_contact d closed s.contacts } in r) ≡ heard_of plan s
 heard_contacts plan s d closed None e = ap (heard_left plan (record s { contacts = with_contact d closed s.contacts })) e ∙ sym (ap (heard_left plan s) e)
 heard_contacts plan s d closed (Some l) e = heard_is plan (record s { contacts = with_contact d closed s.contacts }) l e ∙ sym (heard_is plan s l e)

@@ -1,4 +1,4 @@
--- A typed code between frames: what is expected of it, and that each frame meets no trap.
+-- A typed code between frames: what is expected where it resumes, and that each frame is free of traps.
 use Rattle.std.specs.Prelude.{slice_get, option_map}
 use Rattle.std.proofs.Common.{◌≡◌, ℕ, zero, suc, ◌+◌, ◌-◌, ◌≤◌, Bool, true, false, cond, List, [], ◌∷◌, Option, Some, None, refl, sym, ap, subst, arith, inl, inr}
 use Rattle.std.proofs.lemmas.Bool.{eqb-true, eqb-false}
@@ -20,7 +20,7 @@ use Rattle.plan_runs.proofs.Bursts.{bursts_are_one}
 
 -- ---- a burst
 
--- instructions lead to a suspension, within the budget
+-- instructions reach a suspension, within the budget
 pub record Bursts (p : Program) (ts : List Known) (b : ℕ) (s : State) : Type 0 where
   pub steps : ℕ
   pub end : State
@@ -83,7 +83,7 @@ pub record Between (p : Program) (ts : List Known) (s : State) : Type 0 where
 expects_as : (p : Program) (ts : List Known) (pc : ℕ) (counters : List ℕ) (R Q : Known → Type 0) → ((t : Known) → R t → Q t) → Expects p ts pc counters R → Expects p ts pc counters Q
 expects_as p ts pc counters R Q f h = record { known = h.known; arrives = h.arrives; affords = h.affords; set = h.set; comes = f h.known h.comes }
 
--- a swap that is due is made
+-- a due swap is made
 swap_resumes : (p : Program) (ts : List Known) (pc : ℕ) (hold : Hold) (left : Option ℕ) (c n : Configuration) (counters : List ℕ) → is_due left ≡ true
     → ResumesBy p ts pc hold left c n counters → ResumesBy p ts pc (hold_after_swap hold) None n n counters
 swap_resumes p ts pc (Waits k) left c n counters due h = expects_as p ts pc counters _ _ (λ t. swap_comes k t.pending t left c n due) h
@@ -115,7 +115,7 @@ opens p ts s h = by (is_due s.left) refl
         }
     by false e = record { between = h; ahead = ahead_from s.left e }
 
--- what holds it is over
+-- the wait is over
 resumed : (p : Program) (ts : List Known) (ty : IsTyping p ts) (s : State) (hold : Hold) → is_here s hold ≡ true → IsAhead s.left → IsKept p.plan s.left s.current s.next s.counters
     → ResumesBy p ts s.pc hold s.left s.current s.next s.counters → RunsAt p ts p.plan.budget (let r : State = record s { hold = Waits 0 } in r)
 resumed p ts ty s (Waits k) here ahead kept h =
@@ -131,7 +131,7 @@ resumed p ts ty s (WaitsContact d closed) here ahead kept h =
 resumed p ts ty s WaitsSwap here ahead kept h = absurd cc
 resumed p ts ty s Ended here ahead kept h = absurd cc
 
--- it holds for another frame
+-- the wait continues for another frame
 holds : (p : Program) (ts : List Known) (s : State) (hold : Hold) → is_here s hold ≡ false → IsAhead s.left
     → ResumesBy p ts s.pc hold s.left s.current s.next s.counters → ResumesBy p ts s.pc (hold_after_frame hold) (left_after_frame s.left) s.current s.next s.counters
 holds p ts s (Waits k) away ahead h =
@@ -163,7 +163,7 @@ begins p ts ty s h = by (is_here s s.hold) refl
 pub frame_bursts : (p : Program) (ts : List Known) → IsProgram p → IsTyping p ts → (s : State) → Between p ts s → Bursts p ts p.plan.budget (ready s)
 frame_bursts p ts pr ty s h = bursts p.plan.budget p ts (ready s) pr ty (omega arith) (begins p ts ty (with_due_swap s) (opens p ts s h))
 
--- a frame is allowed, and the state that its instructions leave is as it should be
+-- a frame is allowed, and the state after its instructions is as expected
 pub record FrameGoes (p : Program) (ts : List Known) (s : State) : Type 0 where
   pub allowed : FrameIsAllowed p s
   pub suspends : Suspends p ts (after_burst p s)
@@ -182,20 +182,20 @@ frame_goes p ts pr ty s h =
       suspends = subst (λ (t : State). Suspends p ts t) (sym one.0) b.after;
     }
 
--- the counts are taken forward
+-- the counts advance
 later_kept : (p : Program) (left : Option ℕ) (c n : Configuration) → CommittedBy p.plan left c n → CommittedBy p.plan (left_after_frame left) c n
 later_kept p None c n h = tt
 later_kept p (Some l) c n h = h
 
-suspended_later : (p : Program) (ts : List Known) (s : State) → Suspends p ts s → (turn : ℕ) → Between p ts (let r : State = record s { turn = turn } in with_next_counts p.plan r)
-suspended_later p ts s h turn = record {
+suspended_later : (p : Program) (ts : List Known) (s : State) → Suspends p ts s → (page_index : ℕ) → Between p ts (let r : State = record s { page_index = page_index } in with_next_counts p.plan r)
+suspended_later p ts s h page_index = record {
   resumes = h.resumes;
   kept = record { on_air = h.kept.on_air; committed = later_kept p s.left s.current s.next h.kept.committed; eight = h.kept.eight };
 }
 
-turned : (p : Program) (ts : List Known) (s : State) → Suspends p ts s → (b : Bool) → Between p ts (with_next_counts p.plan (cond b (let r : State = record s { turn = 0 } in r) s))
+turned : (p : Program) (ts : List Known) (s : State) → Suspends p ts s → (b : Bool) → Between p ts (with_next_counts p.plan (cond b (let r : State = record s { page_index = 0 } in r) s))
 turned p ts s h true = suspended_later p ts s h 0
-turned p ts s h false = suspended_later p ts s h s.turn
+turned p ts s h false = suspended_later p ts s h s.page_index
 
 pub frame_between : (p : Program) (ts : List Known) → IsProgram p → IsTyping p ts → (s : State) → Between p ts s → Between p ts (after_frame p s)
 frame_between p ts pr ty s h = turned p ts (after_burst p s) (frame_goes p ts pr ty s h).suspends (is_first_noticed p.plan.notice (after_burst p s).left)

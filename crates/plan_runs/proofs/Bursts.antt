@@ -1,4 +1,4 @@
--- A frame's instructions lead to one state, and are as many as the frame counts.
+-- A frame's instructions determine one final state, and their number is the frame's step count.
 use Rattle.std.proofs.Common.{◌≡◌, ℕ, zero, suc, ◌+◌, ◌≤◌, cond, refl, sym, ap, ◌∙◌, arith}
 use Rattle.plan_code.specs.Program.{Program}
 use Rattle.plan_code.specs.Machine.{State, step}

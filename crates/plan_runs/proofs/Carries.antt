@@ -1,4 +1,4 @@
--- What instructions leave as it was, whatever the code: the current configuration, the counts, and a pending swap.
+-- What instructions leave unchanged in any code: the current configuration, the counts, and a pending swap.
 use Rattle.std.proofs.Common.{◌≡◌, ℕ, zero, suc, ◌+◌, ◌%◌, ◌<◌, ◌≤◌, Bool, true, false, cond, Option, Some, None, refl, sym, subst, ◌∙◌, arith}
 use Rattle.mux_config.specs.Configuration.{Configuration, IsConfiguration}
 use Rattle.mux_config.specs.Edits.{changed, IsInRange}
@@ -17,7 +17,7 @@ use Rattle.plan_code.specs.Machine.{State, step, settle, effect, IsAllowed, left
 use Rattle.plan_runs.specs.Frames.{with_due_swap, is_here, with_hold_ended, ready, Executes, after_burst}
 use Rattle.plan_runs.proofs.Between.{line_formed, step_is}
 
--- a swap that was not pending is not, or was committed with the whole notice, to a count that the step divides
+-- where no swap was pending there is none, or one was committed with the whole notice, to a count on the mode's step
 abbrev pub IsNewly : Plan → ℕ → Option ℕ → Type 0
 IsNewly plan count None = Unit {0}
 IsNewly plan count (Some l) = (plan.notice ≤ l) × ((count + l) % count_step plan.mode ≡ 0)
@@ -30,7 +30,7 @@ pub record Carries (plan : Plan) (s t : State) : Type 0 where
   pub current : t.current ≡ s.current
   pub count : t.count ≡ s.count
   pub eid : t.eid ≡ s.eid
-  pub turn : t.turn ≡ s.turn
+  pub page_index : t.page_index ≡ s.page_index
   pub left : LeftBy plan s.count s.left s.next t.left t.next
   pub next : IsConfiguration s.next → IsConfiguration t.next
 
@@ -46,14 +46,14 @@ left_joined plan count (Some l) b c x y z h g =
     (again.0, again.1 ∙ h.1)
 
 pub carries_itself : (plan : Plan) (s : State) → Carries plan s s
-carries_itself plan s = record { current = refl; count = refl; eid = refl; turn = refl; left = left_same plan s.count s.left s.next; next = λ c. c }
+carries_itself plan s = record { current = refl; count = refl; eid = refl; page_index = refl; left = left_same plan s.count s.left s.next; next = λ c. c }
 
 pub carries_joined : (plan : Plan) (s t u : State) → Carries plan s t → Carries plan t u → Carries plan s u
 carries_joined plan s t u h g = record {
   current = g.current ∙ h.current;
   count = g.count ∙ h.count;
   eid = g.eid ∙ h.eid;
-  turn = g.turn ∙ h.turn;
+  page_index = g.page_index ∙ h.page_index;
   left = left_joined plan s.count s.left t.left u.left s.next t.next u.next h.left (subst (λ (k : ℕ). LeftBy plan k t.left t.next u.left u.next) h.count g.left);
   next = λ c. g.next (h.next c);
 }
@@ -97,35 +97,35 @@ at_notice : (count notice n : ℕ) → notice ≤ left_at count notice n
 at_notice count notice n = omega arith
 
 settle_carries : (plan : Plan) (left : Option ℕ) (s : State) → Carries plan s (settle left s)
-settle_carries plan None s = record { current = refl; count = refl; eid = refl; turn = refl; left = left_same plan s.count s.left s.next; next = λ c. c }
-settle_carries plan (Some l) s = record { current = refl; count = refl; eid = refl; turn = refl; left = left_same plan s.count s.left s.next; next = λ c. c }
+settle_carries plan None s = record { current = refl; count = refl; eid = refl; page_index = refl; left = left_same plan s.count s.left s.next; next = λ c. c }
+settle_carries plan (Some l) s = record { current = refl; count = refl; eid = refl; page_index = refl; left = left_same plan s.count s.left s.next; next = λ c. c }
 
 effect_carries : (plan : Plan) (i : Instr) (s : State) → IsInstr i → IsAllowed plan i s → Carries plan s (effect plan i s)
-effect_carries plan (Wait n) s f a = record { current = refl; count = refl; eid = refl; turn = refl; left = left_same plan s.count s.left s.next; next = λ c. c }
-effect_carries plan (Until d) s f a = record { current = refl; count = refl; eid = refl; turn = refl; left = left_same plan s.count s.left s.next; next = λ c. c }
-effect_carries plan (WaitContact d closed) s f a = record { current = refl; count = refl; eid = refl; turn = refl; left = left_same plan s.count s.left s.next; next = λ c. c }
+effect_carries plan (Wait n) s f a = record { current = refl; count = refl; eid = refl; page_index = refl; left = left_same plan s.count s.left s.next; next = λ c. c }
+effect_carries plan (Until d) s f a = record { current = refl; count = refl; eid = refl; page_index = refl; left = left_same plan s.count s.left s.next; next = λ c. c }
+effect_carries plan (WaitContact d closed) s f a = record { current = refl; count = refl; eid = refl; page_index = refl; left = left_same plan s.count s.left s.next; next = λ c. c }
 effect_carries plan (CommitIn k) s f a =
     let new : IsNewly plan s.count (Some (left_in (count_step plan.mode) s.count k)) = (in_notice plan.mode s.count k plan.notice a.1, in_step plan.mode s.count k) in
-    record { current = refl; count = refl; eid = refl; turn = refl; left = left_new plan s.count s.left (Some (left_in (count_step plan.mode) s.count k)) s.next s.next a.0.idle new; next = λ c. c }
+    record { current = refl; count = refl; eid = refl; page_index = refl; left = left_new plan s.count s.left (Some (left_in (count_step plan.mode) s.count k)) s.next s.next a.0.idle new; next = λ c. c }
 effect_carries plan (CommitAt n) s f a =
     let new : IsNewly plan s.count (Some (left_at s.count plan.notice n)) = (at_notice s.count plan.notice n, at_step plan.mode s.count plan.notice n a.1.1 a.1.0) in
-    record { current = refl; count = refl; eid = refl; turn = refl; left = left_new plan s.count s.left (Some (left_at s.count plan.notice n)) s.next s.next a.0.idle new; next = λ c. c }
-effect_carries plan Join s f a = record { current = refl; count = refl; eid = refl; turn = refl; left = left_same plan s.count s.left s.next; next = λ c. c }
+    record { current = refl; count = refl; eid = refl; page_index = refl; left = left_new plan s.count s.left (Some (left_at s.count plan.notice n)) s.next s.next a.0.idle new; next = λ c. c }
+effect_carries plan Join s f a = record { current = refl; count = refl; eid = refl; page_index = refl; left = left_same plan s.count s.left s.next; next = λ c. c }
 effect_carries plan Settle s f a = settle_carries plan s.left s
-effect_carries plan End s f a = record { current = refl; count = refl; eid = refl; turn = refl; left = left_same plan s.count s.left s.next; next = λ c. c }
+effect_carries plan End s f a = record { current = refl; count = refl; eid = refl; page_index = refl; left = left_same plan s.count s.left s.next; next = λ c. c }
 effect_carries plan (Edits e) s f a =
     record {
       current = refl;
       count = refl;
       eid = refl;
-      turn = refl;
+      page_index = refl;
       left = left_new plan s.count s.left s.left s.next (changed e s.next) a.0 (still_none plan s.count s.left a.0);
       next = λ c. edits_keep e s.next (edit_in_range e f) c a.1;
     }
-effect_carries plan (Test d target) s f a = record { current = refl; count = refl; eid = refl; turn = refl; left = left_same plan s.count s.left s.next; next = λ c. c }
-effect_carries plan (Jump target) s f a = record { current = refl; count = refl; eid = refl; turn = refl; left = left_same plan s.count s.left s.next; next = λ c. c }
-effect_carries plan (Set r n) s f a = record { current = refl; count = refl; eid = refl; turn = refl; left = left_same plan s.count s.left s.next; next = λ c. c }
-effect_carries plan (Loop r target) s f a = record { current = refl; count = refl; eid = refl; turn = refl; left = left_same plan s.count s.left s.next; next = λ c. c }
+effect_carries plan (Test d target) s f a = record { current = refl; count = refl; eid = refl; page_index = refl; left = left_same plan s.count s.left s.next; next = λ c. c }
+effect_carries plan (Jump target) s f a = record { current = refl; count = refl; eid = refl; page_index = refl; left = left_same plan s.count s.left s.next; next = λ c. c }
+effect_carries plan (Set r n) s f a = record { current = refl; count = refl; eid = refl; page_index = refl; left = left_same plan s.count s.left s.next; next = λ c. c }
+effect_carries plan (Loop r target) s f a = record { current = refl; count = refl; eid = refl; page_index = refl; left = left_same plan s.count s.left s.next; next = λ c. c }
 
 -- ---- a burst
 
@@ -138,7 +138,7 @@ burst_carries p pr s (suc n) t h =
     carries_joined p.plan s (step p s) t first (burst_carries p pr (step p s) n t h.2)
 
 held_carries : (plan : Plan) (s : State) (b : Bool) → Carries plan s (cond b (let r : State = record s { hold = Waits 0 } in r) s)
-held_carries plan s true = record { current = refl; count = refl; eid = refl; turn = refl; left = left_same plan s.count s.left s.next; next = λ c. c }
+held_carries plan s true = record { current = refl; count = refl; eid = refl; page_index = refl; left = left_same plan s.count s.left s.next; next = λ c. c }
 held_carries plan s false = carries_itself plan s
 
 ended_carries : (plan : Plan) (s : State) → Carries plan s (with_hold_ended s)

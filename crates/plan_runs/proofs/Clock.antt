@@ -1,5 +1,5 @@
--- What no instruction changes, whatever the code: the current configuration, the CIF count, and the frame of the day; and
--- what a run makes of the counts and of the contacts.
+-- What no instruction changes in any code: the current configuration, the CIF count and the frame of the day; and the
+-- counts and the contacts along a run.
 use Rattle.std.proofs.Common.{◌≡◌, ◌≢◌, ℕ, zero, suc, ◌+◌, ◌%◌, ◌<◌, Bool, true, false, cond, eqb, List, [], ◌∷◌, length, Option, Some, None, refl, sym, ap, subst, ◌∙◌, arith}
 use Rattle.std.proofs.lemmas.Bool.{eqb-true, eqb-false}
 use Rattle.mux_config.specs.Configuration.{Configuration}

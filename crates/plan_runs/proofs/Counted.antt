@@ -1,4 +1,4 @@
--- All announcements of a notice name one count, and the swap comes in the first later frame that has it.
+-- All announcements of a notice name one count, and the swap falls on the first later frame with that count.
 use Rattle.std.specs.Prelude.{MatchBool, ◌==◌}
 use Rattle.std.proofs.Common.{◌≡◌, ◌≢◌, ℕ, zero, suc, ◌+◌, ◌-◌, ◌%◌, ◌<◌, ◌≤◌, Bool, true, false, cond, List, [], ◌∷◌, Option, Some, None, refl, sym, ap, ◌∙◌, arith, inl, inr, ◌⊎◌}
 use Rattle.std.proofs.lemmas.Bool.{eqb-true, eq-eqb}
@@ -21,7 +21,7 @@ use Rattle.plan_runs.proofs.Right.{PageLaws, pageable}
 use Rattle.plan_runs.proofs.Notice.{links}
 use Rattle.plan_runs.proofs.Announcing.{sent_is, noticed_information}
 
--- what a frame announces: it is one of the notice, and the low part is that of the swap's count
+-- a frame that makes an announcement is in the notice, and the low part is that of the swap's count
 pub record IsOfNotice (plan : Plan) (u : State) (low : ℕ) : Type 0 where
   pub frames : ℕ
   pub left : u.left ≡ Some frames
@@ -57,14 +57,14 @@ announced_by plan u low false e o =
 
 pub of_notice : PageLaws → (plan : Plan) (u : State) (low : ℕ) → Airs plan u → IsAnnouncedIn (shown_bytes plan u) low → IsOfNotice plan u low
 of_notice laws plan u low a (next, e, heard, occurrence) =
-    let sent = (laws.ensemble plan.mode (ensemble_sent plan u) u.turn (sent_entries plan u) (pageable laws plan u a) next e).0 heard in
+    let sent = (laws.ensemble plan.mode (ensemble_sent plan u) u.page_index (sent_entries plan u) (pageable laws plan u a) next e).0 heard in
     let same = sent_is plan u e sent.1 in
     let here : (ensemble_of plan u).occurrence ≡ Some low = ap (λ (x : EnsembleInformation). x.occurrence) same ∙ occurrence in
     announced_by plan u low (is_noticed plan.notice u.left) refl here
 
 -- ---- frames after an announcement
 
--- a state whose swap has this low part, and comes within the notice
+-- a state whose swap has this low part, and falls within the notice
 pub record Awaits (plan : Plan) (s : State) (low : ℕ) : Type 0 where
   pub frames : ℕ
   pub left : s.left ≡ Some frames
@@ -88,7 +88,7 @@ swap_now count low below is = omega (arith, below, is)
 swap_not_now : (count low l : ℕ) → count < 5000 → 1 ≤ l → l < 250 → low ≡ (count + l) % 5000 % 250 → count % 250 ≢ low
 swap_not_now count low l below some short is e = omega (arith, below, some, short, is, e)
 
--- the frames from here on keep it, up to the swap
+-- the frames from here to the swap keep the announcement
 match_yes : (b : Bool) (P Q : Type 0) → b ≡ true → P → MatchBool b P Q
 match_yes true P Q e p = p
 match_yes false P Q e p = absurd cc
@@ -110,7 +110,7 @@ not_due_left left l is some = ap is_due is ∙ not_due_from (Some l) some
 due_left : (left : Option ℕ) → left ≡ Some 0 → is_due left ≡ true
 due_left left is = ap is_due is
 
--- the state that the bytes show has the same frames left
+-- the state that the bytes are made from has the same number of frames left
 shown_left : (plan : Plan) (s u : State) (l : ℕ) (before : Option ℕ) → before ≡ Some l → LeftBy plan s.count before s.next u.left u.next → u.left ≡ Some l
 shown_left plan s u l None e h = absurd cc
 shown_left plan s u l (Some k) e h = h.0 ∙ e

@@ -1,4 +1,4 @@
--- What holds of every state that a typed code comes to.
+-- Facts about every state that a typed code reaches.
 use Rattle.std.proofs.Common.{ℕ, ◌<◌, List, [], ◌∷◌, Option, None, sym, subst}
 use Rattle.mux_config.specs.Configuration.{Configuration, IsConfiguration}
 use Rattle.fib_carousel.specs.Pages.{page_set}
@@ -43,7 +43,7 @@ happens_holds p ts c s (Contact d closed) h =
         current = h.tracked.current;
         next = h.tracked.next;
         swaps = h.tracked.swaps;
-        turn = h.tracked.turn;
+        page_index = h.tracked.page_index;
       };
     }
 happens_holds p ts c s Frame h = frame_holds p ts c s h
@@ -55,14 +55,14 @@ run_holds p ts c s (e ∷ es) h = run_holds p ts c (happens p s e) es (happens_h
 started_tracked : (p : Program) (start : Start) (s : State) → IsProgram p → StartIsInRange start → IsStart p start s → Tracked p.plan s
 started_tracked p start s pr range st =
     let current : IsConfiguration s.current = each_get IsConfiguration p.configurations st.label.cur s.current pr.configurations_formed st.current in
-    let turn : TurnBefore p.plan None s.current s.next 0 = some_rounds p.plan.mode (page_set s.current None) in
+    let page_index : TurnBefore p.plan None s.current s.next 0 = some_rounds p.plan.mode (page_set s.current None) in
     record {
       count = subst (λ (x : ℕ). x < 5000) (sym st.count) range.count;
       eid = subst (λ (x : ℕ). x < 65536) (sym st.eid) range.eid;
       current = current;
       next = subst (λ (x : Configuration). IsConfiguration x) (sym st.next) current;
       swaps = subst (λ (o : Option ℕ). SwapsOn p.plan s.count o) (sym st.left) tt;
-      turn = subst (λ (o : Option ℕ). TurnBefore p.plan o s.current s.next s.turn) (sym st.left) (subst (λ (x : ℕ). TurnBefore p.plan None s.current s.next x) (sym st.turn) turn);
+      page_index = subst (λ (o : Option ℕ). TurnBefore p.plan o s.current s.next s.page_index) (sym st.left) (subst (λ (x : ℕ). TurnBefore p.plan None s.current s.next x) (sym st.page_index) page_index);
     }
 
 pub code_of : (p : Program) (s : State) → (h : IsPlayed p s) → IsCode p h.typed.0

@@ -1,4 +1,4 @@
--- What a typed code promises.
+-- The guarantees of a typed code.
 use Rattle.std.proofs.Common.{List, [], ◌∷◌}
 use Rattle.plan_code.specs.Program.{Program}
 use Rattle.plan_code.specs.Machine.{State}
@@ -21,7 +21,7 @@ pub frames_can_be_sent : FramesCanBeSent
 frames_can_be_sent p s h =
     let a = airs p h.typed.0 (code_of p s h) s (played_holds p s h) in
     record {
-      turn = turn_is_page p.plan (shown p s) a;
+      page_index = turn_is_page p.plan (shown p s) a;
       current = a.current;
       next = a.next;
       count = a.count;

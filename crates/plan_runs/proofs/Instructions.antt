@@ -1,4 +1,4 @@
--- Each kind of instruction of a typed code: it is allowed, and leaves what is known where the machine goes.
+-- Each kind of instruction of a typed code is allowed, and leaves what is known wherever the machine continues.
 use Rattle.std.specs.Prelude.{nat_lt, slice_index, slice_set}
 use Rattle.std.proofs.Common.{◌≡◌, ◌≢◌, ℕ, ◌+◌, ◌-◌, ◌<◌, ◌≤◌, Bool, true, false, cond, eqb, List, length, set, Option, Some, None, is_some, refl, sym, ap, subst, ◌∙◌, arith, inl, inr}
 use Rattle.std.proofs.lemmas.Bool.{eqb-true, eqb-false, ltb-true}
@@ -21,13 +21,13 @@ use Rattle.plan_code.specs.Flags.{is_set, is_closed, with_counter, without_count
 use Rattle.plan_code.proofs.Bits.{counters_change_alone}
 use Rattle.plan_code.specs.Program.{Program, IsProgram, IsInstr, label_at}
 use Rattle.plan_code.specs.Machine.{State, advance, suspend, commit, settle, effect, left_in, left_at, counter_of, IsAllowed, IsReady}
-use Rattle.plan_verifier.specs.Typing.{Known, CanCommit, IsTyping, IsSafe, IsSurelyPending, Arrives, Reaches, leaves, spent, known_after_swap, waited, paused, settled}
+use Rattle.plan_verifier.specs.Typing.{Known, CanCommit, IsTyping, IsSafe, IsSurelyPending, Arrives, Reaches, leaves, spent, known_after_swap, after_wait, after_pause, after_settle}
 use Rattle.plan_runs.specs.Frames.{is_running, left_after_frame}
 use Rattle.plan_runs.proofs.Knowledge.{IsIdleAs, IsPendingAs, AgreesBy, ComesBy, PausesBy, JoinsBy, IsAhead, AreSet, IsCommitted, CommittedBy, IsKept}
 use Rattle.plan_runs.proofs.Passing.{wait_by, pause_by, after_some}
 use Rattle.plan_runs.proofs.Steps.{Expects, Outcome, arrive}
 
--- what is known where an instruction is carried out
+-- what is known where an instruction is executed
 pub record IsHere (p : Program) (ts : List Known) (b : ℕ) (s : State) (i : Instr) (t : Known) : Type 0 where
   pub program : IsProgram p
   pub typing : IsTyping p ts
@@ -40,11 +40,11 @@ pub record IsHere (p : Program) (ts : List Known) (b : ℕ) (s : State) (i : Ins
   pub set : AreSet t.counters s.counters
   pub kept : IsKept p.plan s.left s.current s.next s.counters
 
--- it doesn't trap, and what it leaves is right
+-- it doesn't trap, and the state after it is as expected
 abbrev pub Succeeds : Program → List Known → ℕ → State → Instr → Type 0
 Succeeds p ts b s i = IsAllowed p.plan i s × Outcome p ts b (effect p.plan i s)
 
--- ---- swaps that are pending, or not
+-- ---- pending swaps
 
 agrees_ahead : (pending : Swap) (x y : Configuration) (left : Option ℕ) (c n : Configuration) → AgreesBy pending x y left c n → IsAhead left
 agrees_ahead Idle x y left c n h = subst IsAhead (sym h.none) tt
@@ -58,7 +58,7 @@ idle_agrees t left c n e h = subst (λ (q : Swap). AgreesBy q t.current t.next l
 agrees_idle : (t : Known) (left : Option ℕ) (c n : Configuration) → t.pending ≡ Idle → IsIdleAs t.current t.next left c n → AgreesBy t.pending t.current t.next left c n
 agrees_idle t left c n e h = subst (λ (q : Swap). AgreesBy q t.current t.next left c n) (sym e) h
 
--- what is kept, of another next configuration while nothing is pending
+-- the kept facts hold for another next configuration while no swap is pending
 kept_idle : (p : Program) (s : State) (n : Configuration) (counters : List ℕ) → s.left ≡ None → IsKept p.plan s.left s.current s.next s.counters → length counters ≡ 8
     → IsKept p.plan s.left s.current n counters
 kept_idle p s n counters none kept eight =
@@ -66,8 +66,8 @@ kept_idle p s n counters none kept eight =
 
 -- ---- suspending
 
--- the known counters stay as time passes
-waited_counters : (n : ℕ) (q : Swap) (t : Known) → (waited n q t).counters ≡ t.counters
+-- the known counters do not change as time passes
+waited_counters : (n : ℕ) (q : Swap) (t : Known) → (after_wait n q t).counters ≡ t.counters
 waited_counters n Idle t = refl
 waited_counters n (Within lo hi) t = by (nat_lt n lo)
   where
@@ -84,7 +84,7 @@ within_counters : (hi : ℕ) (t : Known) (test : Bool) → (let u : Known = cond
 within_counters hi t true = refl
 within_counters hi t false = refl
 
-paused_counters : (q : Swap) (t : Known) → (paused q t).counters ≡ t.counters
+paused_counters : (q : Swap) (t : Known) → (after_pause q t).counters ≡ t.counters
 paused_counters Idle t = refl
 paused_counters (Within lo hi) t = within_counters hi t (nat_lt 1 hi)
 paused_counters (Perhaps hi) t = within_counters hi t (nat_lt 1 hi)
@@ -134,7 +134,7 @@ wait_contact p ts b s d closed t h =
     } in
     (tt, inl (record { stops = refl; ahead = agrees_ahead t.pending t.current t.next s.left s.current s.next h.agrees; resumes = expects; kept = h.kept }))
 
--- what waits for the swap expects it
+-- a wait for the swap
 joins : (p : Program) (ts : List Known) (s : State) (u : Known) (l : ℕ) → s.left ≡ Some l → Arrives p ts (s.pc + 1) (label_at p (s.pc + 1)) u → u.allowance ≤ p.plan.budget → AreSet u.counters s.counters
     → u.pending ≡ Idle → s.next ≡ u.current → s.next ≡ u.next → Expects p ts (s.pc + 1) s.counters (λ k. JoinsBy k (left_after_frame s.left) s.next)
 joins p ts s u l is arrives affords set idle current next = record {
@@ -145,7 +145,7 @@ joins p ts s u l is arrives affords set idle current next = record {
   comes = record { frames = l - 1; is = after_some s.left l is; idle = idle; current = current; next = next };
 }
 
--- the frames that are left of a swap that is surely pending
+-- a swap that is certainly pending, and its frames left
 pub record IsSure (y : Configuration) (left : Option ℕ) (n : Configuration) : Type 0 where
   pub frames : ℕ
   pub is : left ≡ Some frames
@@ -186,7 +186,7 @@ settle_idle p ts ty b s u none runs arrives affords agrees set kept =
     subst (λ (o : Option ℕ). Outcome p ts b (settle o s)) (sym none) out
 
 settle_by : (p : Program) (ts : List Known) (b : ℕ) (s : State) (t : Known) (q : Swap) → t.pending ≡ q → IsHere p ts b s Settle t
-    → Arrives p ts (s.pc + 1) (label_at p (s.pc + 1)) (spent (settled q t)) → AgreesBy q t.current t.next s.left s.current s.next → Outcome p ts b (settle s.left s)
+    → Arrives p ts (s.pc + 1) (label_at p (s.pc + 1)) (spent (after_settle q t)) → AgreesBy q t.current t.next s.left s.current s.next → Outcome p ts b (settle s.left s)
 settle_by p ts b s t Idle is h arrives agrees =
     settle_idle p ts h.typing b s (spent t) agrees.none h.runs arrives (omega (arith, h.affords)) (agrees_idle t s.left s.current s.next is agrees) h.set h.kept
 settle_by p ts b s t (Within lo hi) is h arrives agrees =
@@ -273,7 +273,7 @@ commit_at p ts b s n t h =
 
 -- ---- jumps
 
--- a label stands at the target, so the machine arrives there
+-- there is a label at the target, and the machine arrives there
 target_arrives : (p : Program) (ts : List Known) (target : ℕ) (u : Known) → Reaches p target u → Arrives p ts target (label_at p target) u
 target_arrives p ts target u h = subst (λ (o : Option Label). Arrives p ts target o u) (sym h.there) h.comes
 
@@ -295,7 +295,7 @@ test p ts b s c target t h = (tt, test_by p ts b s c target t (is_closed s.conta
 
 -- ---- counters
 
--- the level of a counter after another or the same one was written
+-- the value of a counter after it, or another one, was written
 written_same : (xs : List ℕ) (r n : ℕ) → r < length xs → slice_index (slice_set xs r n) r ≡ n
 written_same xs r n below = get_or-set_same xs r n 0 below
 
@@ -316,7 +316,7 @@ set_one known xs r n low eight some h q below on = by (eqb q r) refl
         let before : 1 ≤ slice_index xs q = h q below (sym bit ∙ on) in
         omega (arith, written_other xs r q n apart, before)
 
--- a counter that is lowered and no longer known to be set
+-- a counter is decremented and no longer known to be set
 clear_one : (known : Counters) (xs : List ℕ) (r n : ℕ) → r < 8 → AreSet known xs → AreSet (without_counter r known) (slice_set xs r n)
 clear_one known xs r n low h q below on = by (eqb q r) refl
   where
@@ -333,7 +333,7 @@ clear_one known xs r n low h q below on = by (eqb q r) refl
         let before : 1 ≤ slice_index xs q = h q below (sym bit ∙ on) in
         omega (arith, written_other xs r q n apart, before)
 
--- a counter that is lowered and stays set
+-- a counter is decremented and stays set
 lower_one : (known : Counters) (xs : List ℕ) (r n : ℕ) → r < 8 → length xs ≡ 8 → 1 ≤ n → AreSet known xs → AreSet known (slice_set xs r n)
 lower_one known xs r n low eight some h q below on = by (eqb q r) refl
   where

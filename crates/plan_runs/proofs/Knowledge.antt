@@ -1,4 +1,4 @@
--- What a typing knows of a state, now and in some frames.
+-- What a typing says about a state, now and some frames later.
 use Rattle.std.specs.Prelude.{slice_index}
 use Rattle.std.proofs.Common.{◌≡◌, ◌≢◌, ℕ, ◌+◌, ◌*◌, ◌<◌, ◌≤◌, true, List, length, Option, Some, None, ◌⊎◌}
 use Rattle.mux_config.specs.Configuration.{Configuration}
@@ -11,13 +11,13 @@ use Rattle.plan_code.specs.declared.label.Swap.TheVariants.{Idle, Within, Perhap
 use Rattle.plan_code.specs.Flags.{is_set}
 use Rattle.plan_verifier.specs.Typing.{Known}
 
--- nothing is pending, and the configurations are these
+-- no swap is pending, and these are the configurations
 pub record IsIdleAs (a b : Configuration) (left : Option ℕ) (c n : Configuration) : Type 0 where
   pub none : left ≡ None
   pub current : c ≡ a
   pub next : n ≡ b
 
--- a swap is pending within these bounds, and the configurations are these
+-- a swap is pending within these bounds, and these are the configurations
 pub record IsPendingAs (a b : Configuration) (first least greatest : ℕ) (left : Option ℕ) (c n : Configuration) : Type 0 where
   pub frames : ℕ
   pub is : left ≡ Some frames
@@ -27,7 +27,7 @@ pub record IsPendingAs (a b : Configuration) (first least greatest : ℕ) (left 
   pub current : c ≡ a
   pub next : n ≡ b
 
--- a swap is pending and comes after this many frames at most; after it, both configurations are these
+-- a swap is pending and falls after at most this many frames; after it, both configurations are these
 pub record IsPendingTo (a b : Configuration) (limit : ℕ) (left : Option ℕ) (n : Configuration) : Type 0 where
   pub frames : ℕ
   pub is : left ≡ Some frames
@@ -35,7 +35,7 @@ pub record IsPendingTo (a b : Configuration) (limit : ℕ) (left : Option ℕ) (
   pub current : n ≡ a
   pub next : n ≡ b
 
--- now, as an instruction is carried out
+-- now, as an instruction is executed
 abbrev pub AgreesBy : Swap → Configuration → Configuration → Option ℕ → Configuration → Configuration → Type 0
 AgreesBy Idle a b left c n = IsIdleAs a b left c n
 AgreesBy (Within lo hi) a b left c n = IsPendingAs a b 1 lo hi left c n
@@ -65,14 +65,14 @@ pub record JoinsBy (t : Known) (left : Option ℕ) (n : Configuration) : Type 0 
 abbrev pub AreSet : Counters → List ℕ → Type 0
 AreSet known counters = (r : ℕ) → r < 8 → is_set known r ≡ true → 1 ≤ slice_index counters r
 
--- a swap that is pending is not in this very frame
+-- a pending swap is not in this very frame
 abbrev pub IsAhead : Option ℕ → Type 0
 IsAhead None = Unit {0}
 IsAhead (Some left) = 1 ≤ left
 
--- ---- what the bytes rest on
+-- ---- what the bytes depend on
 
--- a configuration that is on the air: sound, and whole in each period
+-- a configuration that is on the air: sound, and sent in full in each period
 pub record IsOnAir (plan : Plan) (c : Configuration) : Type 0 where
   pub sound : IsSound c
   pub within_period : rounds plan.mode (page_set c None) ≤ plan.period

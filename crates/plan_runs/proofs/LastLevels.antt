@@ -1,4 +1,4 @@
--- Contact settings count by the last level of each contact alone.
+-- Only the last level of each contact counts in contact settings.
 use Rattle.std.proofs.Common.{◌≡◌, ◌≢◌, ℕ, ◌-◌, ◌<◌, ◌^◌, Bool, true, false, cond, eqb, List, [], ◌∷◌, ◌++◌, Option, Some, None, refl, sym, ap, subst, ◌∙◌, arith}
 use Rattle.std.specs.Int.{bit_at}
 use Rattle.std.proofs.lemmas.Nat.{pow_below, or_lt, and_le_l}
@@ -17,7 +17,7 @@ use Rattle.plan_runs.specs.Runs.{run, run_frames, run_states}
 use Rattle.plan_runs.specs.Settings.{Setting, IsSetting, last_of, level_by, last_level, AgreeOnContacts, set_events, schedule, LastLevelsCount}
 use Rattle.plan_runs.proofs.Unmoved.{frame_contacts}
 
--- ---- what settings make of the contacts
+-- ---- the contacts after settings
 
 abbrev contacts_after : List Setting → Contacts → Contacts
 contacts_after [] contacts = contacts
@@ -35,7 +35,7 @@ below_after [] contacts within below = below
 below_after (x ∷ xs) contacts within below =
     below_after xs (with_contact x.contact x.closed contacts) within.1 (with_contact_below contacts x.contact x.closed within.0 below)
 
--- a level, where there is one
+-- a level, if there is one
 abbrev level_or : Option Bool → Bool → Bool
 level_or None before = before
 level_or (Some closed) before = closed
@@ -61,7 +61,7 @@ level_after (x ∷ xs) contacts c within low =
     ∙ ap (λ b. level_or (last_level c xs) b) (level_after_one x contacts c within.0 low (eqb x.contact c) refl)
     ∙ level_joined (level_by c x) (last_level c xs) (is_closed contacts c)
 
--- ---- alike settings make the same of them
+-- ---- equivalent settings have the same effect
 
 one_bit : (a b : ℕ) → a < 2 → b < 2 → eqb a 1 ≡ eqb b 1 → a ≡ b
 one_bit a b below_a below_b same = grind (arith, below_a, below_b, same)
@@ -95,7 +95,7 @@ states_settings : (xs : List Setting) (p : Program) (s : State) (es : List Event
 states_settings [] p s es = refl
 states_settings (x ∷ xs) p s es = states_settings xs p (at_contacts s (with_contact x.contact x.closed s.contacts)) es
 
--- the trailing settings may stand at the end of a list
+-- the trailing settings can be at the end of a list
 end_list : (es : List Event) → es ++ [] ≡ es
 end_list [] = refl
 end_list (e ∷ es) = ap (λ xs. e ∷ xs) (end_list es)

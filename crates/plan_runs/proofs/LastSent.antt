@@ -1,4 +1,4 @@
--- The frames heard of a notice are the last that a run sent.
+-- The frames heard of a notice are the last ones that a run sent.
 use Rattle.std.proofs.Common.{◌≡◌, ℕ, zero, suc, ◌-◌, ◌≤◌, Bool, true, false, cond, List, [], ◌∷◌, ◌++◌, length, Option, Some, None, refl, sym, ap, append_assoc, ◌∙◌, arith, inl, inr}
 use Rattle.std.proofs.lemmas.List.{append-nil}
 use Rattle.plan_code.specs.declared.plan.Plan.{Plan}
@@ -35,16 +35,16 @@ unnoticed_left plan u (Some l) is ahead off =
 
 -- ---- frame by frame
 
--- these frames were sent, and those heard are the last of them
+-- what was heard is the end of what was sent
 abbrev IsEndOf : List (List ℕ) → List (List ℕ) → Type 0
 IsEndOf heard sent = (earlier : List (List ℕ)) × (sent ≡ earlier ++ heard)
 
--- before a frame what was heard is forgotten, or not
+-- before a frame, what was heard is dropped if a swap is due
 begun : (s : State) (heard sent : List (List ℕ)) (due : Bool) → is_due s.left ≡ due → IsEndOf heard sent → IsEndOf (heard_before s heard) sent
 begun s heard sent true e h = (sent, sym (append-nil sent) ∙ ap (λ xs. sent ++ xs) (sym (ap (λ (b : Bool). cond b [] heard) e)))
 begun s heard sent false e h = (h.0, h.1 ∙ ap (λ xs. h.0 ++ xs) (sym (ap (λ (b : Bool). cond b [] heard) e)))
 
--- the frame is one of the notice, or not
+-- whether or not the frame is in the notice
 frame_sent : (p : Program) (ts : List Known) → IsCode p ts → (s : State) → Holds p ts s → (sent : List (List ℕ)) → IsEndOf (heard_of p.plan s) sent
     → (on : Bool) → is_noticed p.plan.notice (shown p s).left ≡ on → IsEndOf (heard_of p.plan (after_frame p s)) (sent ++ frame_bytes p s ∷ [])
 frame_sent p ts c s h sent end true e =
@@ -72,7 +72,7 @@ run_sent p ts c s sent (Frame ∷ es) h end =
     let rest = run_sent p ts c t (sent ++ bytes ∷ []) es (frame_holds p ts c s h) (frame_sent p ts c s h sent end (is_noticed p.plan.notice (shown p s).left) refl) in
     (rest.0, sym (append_assoc sent (bytes ∷ []) (run_frames p t es)) ∙ rest.1)
 
--- ---- how many
+-- ---- the number of frames
 
 frames_length : (plan : Plan) (n : ℕ) (s : State) → length (notice_frames plan n s) ≡ n
 frames_length plan zero s = refl

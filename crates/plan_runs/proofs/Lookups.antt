@@ -1,9 +1,9 @@
--- Look-ups in lists: what is found is inside.
+-- Lookup in lists: what is found is in the list.
 use Rattle.std.specs.Prelude.{Contains, find, slice_get}
 use Rattle.std.proofs.Common.{◌≡◌, ℕ, zero, suc, ◌<◌, Bool, true, false, cond, List, [], ◌∷◌, length, Some, refl, subst, arith}
 use Rattle.std.proofs.lemmas.Option.{slice_get_within}
 
--- an element that is found is one of the list, and passes the test
+-- an element that is found is in the list and passes the test
 pub record IsFound {X : Type 0} (test : X → Bool) (xs : List X) (x : X) : Type 0 where
   pub inside : Contains xs x
   pub passes : test x ≡ true

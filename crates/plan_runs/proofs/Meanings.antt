@@ -1,4 +1,4 @@
--- Each definition of runs, once where it holds and once where it fails.
+-- For each definition of runs, an example that holds and one that fails.
 use Rattle.std.specs.Prelude.{Contains}
 use Rattle.std.proofs.Common.{◌≡◌, ℕ, zero, suc, ◌<◌, ◌≤◌, true, false, List, [], ◌∷◌, Some, None, replicate, refl, sym, ap, subst, arith, inl, inr}
 use Rattle.mux_config.specs.Configuration.{Configuration, nothing}
@@ -37,7 +37,7 @@ all_open = record { 0 = 0 }
 abbrev first_label : Label
 first_label = record { pc = 0; cur = 0; next = 0; pending = Idle; counters = no_counters; cost = 1 }
 
--- the code of one instruction, over an empty configuration
+-- a code of one instruction, with an empty configuration
 abbrev lone : ℕ → Instr → Program
 lone budget i = record { plan = plan_of budget; configurations = nothing ∷ []; labels = first_label ∷ []; lines = record { number = 1; instr = i } ∷ [] }
 
@@ -57,7 +57,7 @@ first_state count =
       count = count;
       day = 0;
       eid = 0xe1c5;
-      turn = 0;
+      page_index = 0;
     }
 
 -- ---- instructions of a frame
@@ -71,14 +71,14 @@ ends_at_once = record { instr = End; within = refl; allowed = tt }
 one_instruction : Executes (lone 20 End) (first_state 0) 1 ended
 one_instruction = (refl, ends_at_once, (refl, refl))
 
--- it is one instruction and not none
+-- there is one instruction, not none
 not_none : Executes (lone 20 End) (first_state 0) 0 (first_state 0) → ⊥
 not_none h = let runs = h.0 in cc
 
 frame_allowed : FrameIsAllowed (lone 20 End) (first_state 0)
 frame_allowed = record { steps = 1; within = omega arith; executes = one_instruction; counted = refl }
 
--- a join with nothing pending traps
+-- a join without a pending swap traps
 joins_nothing : (i : Instr) → Some Join ≡ Some i → IsAllowed (plan_of 20) i (first_state 0) → ⊥
 joins_nothing i at allowed =
     let same : Join ≡ i = cc at in
@@ -93,7 +93,7 @@ join_traps (suc n) t h = joins_nothing h.1.instr h.1.within h.1.allowed
 frame_traps : FrameIsAllowed (lone 20 Join) (first_state 0) → ⊥
 frame_traps h = join_traps h.steps (after_burst (lone 20 Join) (first_state 0)) h.executes
 
--- one instruction is more than a budget of none
+-- one instruction exceeds a budget of none
 over_budget : FrameIsAllowed (lone 0 End) (first_state 0) → ⊥
 over_budget h = by h.steps h.within h.executes
   where
@@ -123,7 +123,7 @@ started = record {
   count = refl;
   day = refl;
   eid = refl;
-  turn = refl;
+  page_index = refl;
 }
 
 not_started : IsStart (lone 20 End) (start_at 4999) (first_state 0) → ⊥
@@ -166,7 +166,7 @@ no_bytes s h = omega (arith, h.length_of_fibs)
 abbrev due : State
 due = record (first_state 0) { left = Some 0 }
 
--- a frame of a swap begins a phase, and only the first frame may
+-- the frame of a swap begins a phase, so it has to be the first one
 swap_first : IsOnePhase (lone 20 End) due (Frame ∷ [])
 swap_first = tt
 

@@ -1,4 +1,4 @@
--- The frames of a notice, one after another, and that what was heard of them is a function of the state.
+-- The frames of a notice, one after another; what was heard of them is a function of the state.
 use Rattle.std.specs.Prelude.{Contains, slice_get}
 use Rattle.std.proofs.Common.{◌≡◌, ℕ, zero, suc, ◌+◌, ◌-◌, ◌%◌, ◌<◌, ◌≤◌, Bool, true, false, cond, List, [], ◌∷◌, ◌++◌, Option, Some, None, refl, sym, ap, subst, ◌∙◌, arith, inl, inr}
 use Rattle.mux_config.specs.Configuration.{Configuration}
@@ -52,7 +52,7 @@ frames_get f a (suc k) (suc i) below =
     let same : suc a + i ≡ a + suc i = omega arith in
     frames_get f (suc a) k i (omega (arith, below)) ∙ ap (λ (n : ℕ). Some (f n)) same
 
--- a frame of such a list
+-- a frame in such a list
 pub record IsFrameOf (f : ℕ → List ℕ) (a k : ℕ) (frame : List ℕ) : Type 0 where
   pub number : ℕ
   pub from : a ≤ number
@@ -84,7 +84,7 @@ contains_frame f a (suc k) i from below =
 -- ---- the frames of a notice
 
 abbrev pub notice_state : Configuration → Configuration → ℕ → Option ℕ → ℕ → ℕ → State
-notice_state c n eid left count turn =
+notice_state c n eid left count page_index =
     record {
       current = c;
       next = n;
@@ -96,13 +96,13 @@ notice_state c n eid left count turn =
       count = count;
       day = 0;
       eid = eid;
-      turn = turn;
+      page_index = page_index;
     }
 
 abbrev pub both_rounds : Plan → Configuration → Configuration → ℕ
 both_rounds plan c n = rounds plan.mode (page_set c (Some n))
 
--- frame i of the notice that begins at a CIF count
+-- frame i of the notice that begins at CIF count `base`
 abbrev pub noticed_state : Plan → Configuration → Configuration → ℕ → ℕ → ℕ → State
 noticed_state plan c n eid base i = notice_state c n eid (Some (plan.notice - i)) ((base + i) % 5000) (page_of (both_rounds plan c n) i)
 
@@ -113,14 +113,14 @@ pub notice_at_is : (plan : Plan) (c n : Configuration) (eid base i : ℕ) → no
 unfolding notice_at
 notice_at_is plan c n eid base i = refl
 
--- the bytes of a state that is frame i of a notice
-pub shown_as : (plan : Plan) (s : State) (base i : ℕ) → s.left ≡ Some (plan.notice - i) → s.count ≡ (base + i) % 5000 → s.turn ≡ page_of (both_rounds plan s.current s.next) i
+-- the bytes made from frame i of a notice
+pub shown_as : (plan : Plan) (s : State) (base i : ℕ) → s.left ≡ Some (plan.notice - i) → s.count ≡ (base + i) % 5000 → s.page_index ≡ page_of (both_rounds plan s.current s.next) i
     → shown_bytes plan s ≡ notice_at plan s.current s.next s.eid base i
 unfolding notice_at
-shown_as plan s base i left count turn =
-    ap (λ (o : Option ℕ). shown_bytes plan (notice_state s.current s.next s.eid o s.count s.turn)) left
-    ∙ ap (λ (x : ℕ). shown_bytes plan (notice_state s.current s.next s.eid (Some (plan.notice - i)) x s.turn)) count
-    ∙ ap (λ (x : ℕ). shown_bytes plan (notice_state s.current s.next s.eid (Some (plan.notice - i)) ((base + i) % 5000) x)) turn
+shown_as plan s base i left count page_index =
+    ap (λ (o : Option ℕ). shown_bytes plan (notice_state s.current s.next s.eid o s.count s.page_index)) left
+    ∙ ap (λ (x : ℕ). shown_bytes plan (notice_state s.current s.next s.eid (Some (plan.notice - i)) x s.page_index)) count
+    ∙ ap (λ (x : ℕ). shown_bytes plan (notice_state s.current s.next s.eid (Some (plan.notice - i)) ((base + i) % 5000) x)) page_index
 
 rounds_noticed : (plan : Plan) (s : State) (l : ℕ) → s.left ≡ Some l → 1 ≤ l → l ≤ plan.notice → sent_rounds plan s ≡ both_rounds plan s.current s.next
 rounds_noticed plan s l is some within =
@@ -130,11 +130,11 @@ rounds_noticed plan s l is some within =
 count_up : (base a : ℕ) → ((base + a) % 5000 + 1) % 5000 ≡ (base + suc a) % 5000
 count_up base a = omega arith
 
-notice_is : (plan : Plan) (k a base : ℕ) (s : State) → s.left ≡ Some (plan.notice - a) → s.count ≡ (base + a) % 5000 → s.turn ≡ page_of (both_rounds plan s.current s.next) a → a + k ≤ plan.notice
+notice_is : (plan : Plan) (k a base : ℕ) (s : State) → s.left ≡ Some (plan.notice - a) → s.count ≡ (base + a) % 5000 → s.page_index ≡ page_of (both_rounds plan s.current s.next) a → a + k ≤ plan.notice
     → notice_frames plan k s ≡ frames_from (notice_at plan s.current s.next s.eid base) a k
 unfolding frames_from
-notice_is plan zero a base s left count turn within = refl
-notice_is plan (suc k) a base s left count turn within =
+notice_is plan zero a base s left count page_index within = refl
+notice_is plan (suc k) a base s left count page_index within =
     let t : State = with_next_counts plan s in
     let f : ℕ → List ℕ = notice_at plan s.current s.next s.eid base in
     let some : 1 ≤ plan.notice - a = omega (arith, within) in
@@ -143,12 +143,12 @@ notice_is plan (suc k) a base s left count turn within =
     let left_next : t.left ≡ Some (plan.notice - suc a) = ap left_after_frame left ∙ ap (λ (x : ℕ). Some x) fewer in
     let count_next : t.count ≡ (base + suc a) % 5000 = ap (λ (x : ℕ). (x + 1) % 5000) count ∙ count_up base a in
     let pages : ℕ = both_rounds plan s.current s.next in
-    let turn_next : t.turn ≡ page_of pages (suc a) =
-    ap (λ (x : ℕ). page_after x s.turn) (rounds_noticed plan s (plan.notice - a) left some inside) ∙ ap (page_after pages) turn ∙ sym (page_of_next pages a) in
+    let turn_next : t.page_index ≡ page_of pages (suc a) =
+    ap (λ (x : ℕ). page_after x s.page_index) (rounds_noticed plan s (plan.notice - a) left some inside) ∙ ap (page_after pages) page_index ∙ sym (page_of_next pages a) in
     let rest = notice_is plan k (suc a) base t left_next count_next turn_next (omega (arith, within)) in
-    ap (λ (x : List ℕ). x ∷ notice_frames plan k t) (shown_as plan s base a left count turn) ∙ ap (λ xs. f a ∷ xs) rest
+    ap (λ (x : List ℕ). x ∷ notice_frames plan k t) (shown_as plan s base a left count page_index) ∙ ap (λ xs. f a ∷ xs) rest
 
--- the CIF count at which the notice began whose swap comes after this many frames
+-- the CIF count at the beginning of the notice whose swap falls this many frames later
 abbrev pub base_of : Plan → ℕ → ℕ → ℕ
 base_of plan count l = (count + l + 5000 - plan.notice) % 5000
 
@@ -163,7 +163,7 @@ heard_is plan s l is =
 heard_none : (plan : Plan) (s : State) → s.left ≡ None → heard_of plan s ≡ []
 heard_none plan s none = ap (heard_left plan s) none
 
--- ---- from a state to the one that its frame's bytes show
+-- ---- from a state to the one that its frame's bytes are made from
 
 pub record Links (plan : Plan) (s u : State) : Type 0 where
   pub due : is_due s.left ≡ true → IsNewly plan s.count u.left
@@ -190,7 +190,7 @@ links_by plan s u false e h =
       eid = h.eid;
     }
 
-links_turned : (plan : Plan) (s u : State) → Links plan s u → (b : Bool) → Links plan s (cond b (let r : State = record u { turn = 0 } in r) u)
+links_turned : (plan : Plan) (s u : State) → Links plan s u → (b : Bool) → Links plan s (cond b (let r : State = record u { page_index = 0 } in r) u)
 links_turned plan s u h true = record { due = h.due; left = h.left; current = h.current; count = h.count; eid = h.eid }
 links_turned plan s u h false = h
 
@@ -211,7 +211,7 @@ not_due_same s heard e = ap (λ (b : Bool). cond b [] heard) e
 none_some : {X : Type 0} (l : ℕ) (o : Option ℕ) → o ≡ None → o ≡ Some l → X
 none_some l o e f = absurd cc
 
--- by the frames left in the state that the bytes show
+-- by the frames left in the state that the bytes are made from
 nothing_heard : (plan : Plan) (s u : State) (before : Option ℕ) → s.left ≡ before → LeftBy plan s.count before s.next u.left u.next → u.left ≡ None → heard_of plan s ≡ []
 nothing_heard plan s u None e g none = heard_none plan s e
 nothing_heard plan s u (Some k) e g none = none_some k u.left none g.0
@@ -261,7 +261,7 @@ before_late plan s u l h is below true e = absurd (omega (arith, below, new_late
 before_late plan s u l h is below false e =
     not_due_same s (heard_of plan s) e ∙ late_heard plan s u s.left l refl (h.left e) is below (h.current e) h.count h.eid
 
--- in a frame of the notice: the frames before it
+-- in a frame of the notice: what was heard are the frames before it
 before_noticed : (plan : Plan) (s u : State) (l : ℕ) → Links plan s u → u.left ≡ Some l → l ≤ plan.notice
     → heard_before s (heard_of plan s) ≡ frames_from (notice_at plan u.current u.next u.eid (base_of plan u.count l)) 0 (plan.notice - l)
 unfolding frames_from
@@ -292,7 +292,7 @@ heard_next plan s u bytes (Some l) short is h a shows =
     let ahead : IsAhead (Some l) = subst IsAhead is a.ahead in
     let left : t.left ≡ Some (l - 1) = ap left_after_frame is in
     let f : ℕ → List ℕ = notice_at plan u.current u.next u.eid (base_of plan u.count l) in
-    let turn : IsTurn plan l u.current u.next u.turn = subst (λ (o : Option ℕ). TurnShown plan o u.current u.next u.turn) is a.turn in
+    let page_index : IsTurn plan l u.current u.next u.page_index = subst (λ (o : Option ℕ). TurnShown plan o u.current u.next u.page_index) is a.page_index in
     let base : base_of plan t.count (l - 1) ≡ base_of plan u.count l = same_base plan.notice u.count l ahead short in
     let after : heard_of plan t ≡ frames_from f 0 (plan.notice - (l - 1)) =
     heard_is plan t (l - 1) left ∙ ap (λ (x : ℕ). frames_from (notice_at plan u.current u.next u.eid x) 0 (plan.notice - (l - 1))) base in
@@ -303,7 +303,7 @@ heard_next plan s u bytes (Some l) short is h a shows =
           let back : plan.notice - (plan.notice - l) ≡ l = omega (arith, within) in
           let this : bytes ≡ f (0 + (plan.notice - l)) =
           shows
-          ∙ shown_as plan u (base_of plan u.count l) (plan.notice - l) (is ∙ ap (λ (x : ℕ). Some x) (sym back)) (this_count plan.notice u.count l a.count within short) (turn.within within)
+          ∙ shown_as plan u (base_of plan u.count l) (plan.notice - l) (is ∙ ap (λ (x : ℕ). Some x) (sym back)) (this_count plan.notice u.count l a.count within short) (page_index.within within)
           ∙ ap f (omega arith) in
           ap (λ (b : Bool). cond b (heard_before s (heard_of plan s) ++ bytes ∷ []) (heard_before s (heard_of plan s))) yes
           ∙ ap (λ xs. xs ++ bytes ∷ []) (before_noticed plan s u l h is within)

@@ -1,15 +1,15 @@
--- What is known stays right as a swap is made and as frames pass.
+-- What is known remains valid as a swap is made and as frames pass.
 use Rattle.std.specs.Prelude.{nat_lt}
 use Rattle.std.proofs.Common.{◌≡◌, ℕ, ◌+◌, ◌-◌, ◌<◌, ◌≤◌, Bool, true, false, cond, Option, Some, None, refl, sym, ap, subst, ◌∙◌, arith, inl, inr, ◌⊎◌}
 use Rattle.std.proofs.lemmas.Bool.{eqb-true, eqb-false, ltb-true, ltb-false}
 use Rattle.mux_config.specs.Configuration.{Configuration}
 use Rattle.plan_code.specs.declared.label.Swap.{Swap}
 use Rattle.plan_code.specs.declared.label.Swap.TheVariants.{Idle, Within, Perhaps}
-use Rattle.plan_verifier.specs.Typing.{Known, IsCertain, waited, paused, known_after_swap, FitsSwap}
+use Rattle.plan_verifier.specs.Typing.{Known, IsCertain, after_wait, after_pause, known_after_swap, FitsSwap}
 use Rattle.plan_runs.specs.Frames.{is_due, left_after_frame}
 use Rattle.plan_runs.proofs.Knowledge.{IsIdleAs, IsPendingAs, AgreesBy, ComesBy, PausesBy, JoinsBy, IsAhead}
 
--- ---- which number of frames is left
+-- ---- how many frames are left
 
 pub some_is : {A : Type 0} (a b : A) → Some a ≡ Some b → a ≡ b
 some_is a b e = cc e
@@ -64,7 +64,7 @@ joins_idle (Perhaps hi) t n e a b = absurd cc
 pub swap_joins : (t : Known) (left : Option ℕ) (n : Configuration) → JoinsBy t left n → ComesBy 0 t.pending t.current t.next None n n
 swap_joins t left n h = joins_idle t.pending t n h.idle h.current h.next
 
--- ---- an instruction is carried out
+-- ---- an instruction is executed
 
 pub now : (pending : Swap) (t : Known) (left : Option ℕ) (c n : Configuration) → IsAhead left → ComesBy 0 pending t.current t.next left c n → AgreesBy pending t.current t.next left c n
 now Idle t left c n a (inl h) = h
@@ -140,7 +140,7 @@ wait_perhaps n hi t left c x some (inr h) true e = inr (record { none = after_no
 wait_perhaps n hi t left c x some (inr h) false e = inl (record { none = after_none left h.none; current = h.current; next = h.next })
 
 pub wait_by : (n : ℕ) (pending : Swap) (t : Known) (left : Option ℕ) (c x : Configuration) → t.pending ≡ pending → 1 ≤ n → IsCertain n pending → AgreesBy pending t.current t.next left c x
-    → (let u = waited n pending t in ComesBy (n - 1) u.pending u.current u.next (left_after_frame left) c x)
+    → (let u = after_wait n pending t in ComesBy (n - 1) u.pending u.current u.next (left_after_frame left) c x)
 wait_by n Idle t left c x is some certain h =
     subst (λ (p : Swap). ComesBy (n - 1) p t.current t.next (left_after_frame left) c x) (sym is)
     (inl (record { none = after_none left h.none; current = h.current; next = h.next }))
@@ -164,7 +164,7 @@ pause_idle hi t left c x h true = inr (record { none = after_none left h.none; c
 pause_idle hi t left c x h false = inl (record { none = after_none left h.none; current = h.current; next = h.next })
 
 pub pause_by : (pending : Swap) (t : Known) (left : Option ℕ) (c x : Configuration) → t.pending ≡ pending → AgreesBy pending t.current t.next left c x
-    → (let u = paused pending t in PausesBy u.pending u.current u.next (left_after_frame left) c x)
+    → (let u = after_pause pending t in PausesBy u.pending u.current u.next (left_after_frame left) c x)
 pause_by Idle t left c x is h =
     subst (λ (p : Swap). PausesBy p t.current t.next (left_after_frame left) c x) (sym is)
     (inl (record { none = after_none left h.none; current = h.current; next = h.next }))

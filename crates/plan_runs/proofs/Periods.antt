@@ -1,4 +1,4 @@
--- In any period of a phase the whole current configuration is heard.
+-- The whole current configuration is heard in any period of a phase.
 use Rattle.std.specs.Prelude.{Contains, ◌||◌}
 use Rattle.std.proofs.Common.{◌≡◌, ℕ, zero, suc, ◌+◌, ◌-◌, ◌<◌, ◌≤◌, Bool, true, false, cond, ltb, List, [], ◌∷◌, length, Option, Some, None, refl, sym, ap, subst, ◌∙◌, arith, inl, inr}
 use Rattle.std.proofs.lemmas.Bool.{eqb-false, ltb-true, lt-ltb}
@@ -28,14 +28,14 @@ use Rattle.plan_runs.proofs.Facts.{Holds, IsCode, airs, frame_holds, happens_hol
 use Rattle.plan_runs.proofs.Right.{PageLaws, pageable}
 use Rattle.plan_runs.proofs.Notice.{links}
 
--- ---- each page comes within as many frames as there are pages
+-- ---- each page is in turn within as many frames as there are pages
 
 pages_on : ℕ → ℕ → ℕ → ℕ
-pages_on pages zero turn = turn
-pages_on pages (suc d) turn = pages_on pages d (page_after pages turn)
+pages_on pages zero page_index = page_index
+pages_on pages (suc d) page_index = pages_on pages d (page_after pages page_index)
 
-after_up : (pages turn : ℕ) → turn + 1 < pages → page_after pages turn ≡ turn + 1
-after_up pages turn below = ap (λ (b : Bool). cond b (turn + 1) 0) (lt-ltb (turn + 1) pages below)
+after_up : (pages page_index : ℕ) → page_index + 1 < pages → page_after pages page_index ≡ page_index + 1
+after_up pages page_index below = ap (λ (b : Bool). cond b (page_index + 1) 0) (lt-ltb (page_index + 1) pages below)
 
 wraps_by : (pages k : ℕ) → k + 1 ≡ pages → (b : Bool) → ltb (k + 1) pages ≡ b → cond b (k + 1) 0 ≡ 0
 wraps_by pages k last true e = let below = ltb-true (k + 1) pages e in absurd (omega (arith, below, last))
@@ -44,52 +44,52 @@ wraps_by pages k last false e = refl
 after_last : (pages k : ℕ) → k + 1 ≡ pages → page_after pages k ≡ 0
 after_last pages k last = wraps_by pages k last (ltb (k + 1) pages) refl
 
-pages_up : (pages d turn : ℕ) → turn + d < pages → pages_on pages d turn ≡ turn + d
+pages_up : (pages d page_index : ℕ) → page_index + d < pages → pages_on pages d page_index ≡ page_index + d
 unfolding pages_on
-pages_up pages zero turn below = omega arith
-pages_up pages (suc d) turn below =
-    let one : turn + 1 + d ≡ turn + suc d = omega arith in
-    ap (pages_on pages d) (after_up pages turn (omega (arith, below))) ∙ pages_up pages d (turn + 1) (omega (arith, below)) ∙ one
+pages_up pages zero page_index below = omega arith
+pages_up pages (suc d) page_index below =
+    let one : page_index + 1 + d ≡ page_index + suc d = omega arith in
+    ap (pages_on pages d) (after_up pages page_index (omega (arith, below))) ∙ pages_up pages d (page_index + 1) (omega (arith, below)) ∙ one
 
-pages_joined : (pages d e turn : ℕ) → pages_on pages (d + e) turn ≡ pages_on pages e (pages_on pages d turn)
+pages_joined : (pages d e page_index : ℕ) → pages_on pages (d + e) page_index ≡ pages_on pages e (pages_on pages d page_index)
 unfolding pages_on
-pages_joined pages zero e turn =
+pages_joined pages zero e page_index =
     let none : 0 + e ≡ e = omega arith in
-    ap (λ (x : ℕ). pages_on pages x turn) none
-pages_joined pages (suc d) e turn =
+    ap (λ (x : ℕ). pages_on pages x page_index) none
+pages_joined pages (suc d) e page_index =
     let up : suc d + e ≡ suc (d + e) = omega arith in
-    ap (λ (x : ℕ). pages_on pages x turn) up ∙ pages_joined pages d e (page_after pages turn)
+    ap (λ (x : ℕ). pages_on pages x page_index) up ∙ pages_joined pages d e (page_after pages page_index)
 
-pages_one : (pages e turn : ℕ) → pages_on pages (suc e) turn ≡ pages_on pages e (page_after pages turn)
+pages_one : (pages e page_index : ℕ) → pages_on pages (suc e) page_index ≡ pages_on pages e (page_after pages page_index)
 unfolding pages_on
-pages_one pages e turn = refl
+pages_one pages e page_index = refl
 
-pages_none : (pages turn : ℕ) → pages_on pages 0 turn ≡ turn
+pages_none : (pages page_index : ℕ) → pages_on pages 0 page_index ≡ page_index
 unfolding pages_on
-pages_none pages turn = refl
+pages_none pages page_index = refl
 
-record IsWay (pages turn page : ℕ) : Type 0 where
+record IsWay (pages page_index page : ℕ) : Type 0 where
   pub frames : ℕ
   pub within : frames < pages
-  pub there : pages_on pages frames turn ≡ page
+  pub there : pages_on pages frames page_index ≡ page
 
-reaches : (pages turn page : ℕ) → turn < pages → page < pages → IsWay pages turn page
-reaches pages turn page t p =
-    elim (split_le turn page) [
+reaches : (pages page_index page : ℕ) → page_index < pages → page < pages → IsWay pages page_index page
+reaches pages page_index page t p =
+    elim (split_le page_index page) [
       | inl up ↦
-          let sum : turn + (page - turn) ≡ page = omega (arith, up) in
-          record { frames = page - turn; within = omega (arith, p); there = pages_up pages (page - turn) turn (omega (arith, up, p)) ∙ sum }
+          let sum : page_index + (page - page_index) ≡ page = omega (arith, up) in
+          record { frames = page - page_index; within = omega (arith, p); there = pages_up pages (page - page_index) page_index (omega (arith, up, p)) ∙ sum }
       | inr down ↦
-          let last : ℕ = pages - 1 - turn in
-          let top : turn + last ≡ pages - 1 = omega (arith, t) in
+          let last : ℕ = pages - 1 - page_index in
+          let top : page_index + last ≡ pages - 1 = omega (arith, t) in
           let end : pages - 1 + 1 ≡ pages = omega (arith, t) in
           let zero_page : 0 + page ≡ page = omega arith in
           record {
             frames = last + suc page;
             within = omega (arith, t, down);
             there =
-                pages_joined pages last (suc page) turn
-                ∙ ap (pages_on pages (suc page)) (pages_up pages last turn (omega (arith, t)) ∙ top)
+                pages_joined pages last (suc page) page_index
+                ∙ ap (pages_on pages (suc page)) (pages_up pages last page_index (omega (arith, t)) ∙ top)
                 ∙ pages_one pages page (pages - 1)
                 ∙ ap (pages_on pages page) (after_last pages (pages - 1) end)
                 ∙ pages_up pages page 0 (omega (arith, p))
@@ -97,7 +97,7 @@ reaches pages turn page t p =
           }
     ]
 
--- ---- what is sent stays within a phase
+-- ---- what is sent is the same throughout a phase
 
 sent_later : (plan : Plan) (left : Option ℕ) (c n : Configuration) (ms : List Marked) → IsAhead left → page_set c (cond (is_noticed plan.notice left) (Some n) None) ≡ ms → SentBy plan (left_after_frame left) c n ms
 sent_later plan None c n ms a e = e
@@ -110,7 +110,7 @@ sent_later plan (Some l) c n ms a e = (
       sym (ap (λ (b : Bool). page_set c (cond b (Some n) None)) off) ∙ e,
 )
 
--- by the frames left before the frame and in the state that its bytes show
+-- by the frames left before the frame, and in the state that its bytes are made from
 sent_new : (plan : Plan) (count : ℕ) (left : Option ℕ) (c n : Configuration) (ms : List Marked) → IsNewly plan count left → is_first_noticed plan.notice left ≡ false → page_set c None ≡ ms
     → page_set c (cond (is_noticed plan.notice left) (Some n) None) ≡ ms
 sent_new plan count None c n ms new other e = e
@@ -142,12 +142,12 @@ sent_same plan count (Some l) left c n m ms a g other h =
     ∙ ap (λ (x : Configuration). page_set c (cond (is_noticed plan.notice (Some l)) (Some x) None)) g.1
     ∙ there
 
--- ---- a frame is heard
+-- ---- hearing a frame
 
-heard_page : PageLaws → (plan : Plan) (u : State) → Airs plan u → (ms : List Marked) → sent_entries plan u ≡ ms → (m : Marked) → Contains (page_entries plan.mode u.turn ms) m → IsHeardInRow (shown_bytes plan u) m
+heard_page : PageLaws → (plan : Plan) (u : State) → Airs plan u → (ms : List Marked) → sent_entries plan u ≡ ms → (m : Marked) → Contains (page_entries plan.mode u.page_index ms) m → IsHeardInRow (shown_bytes plan u) m
 heard_page laws plan u a ms e m inside =
-    let there : Contains (page_entries plan.mode u.turn (sent_entries plan u)) m = subst (λ (es : List Marked). Contains (page_entries plan.mode u.turn es) m) (sym e) inside in
-    (laws.heard plan.mode (ensemble_sent plan u) u.turn (sent_entries plan u) (pageable laws plan u a) m).1 there
+    let there : Contains (page_entries plan.mode u.page_index (sent_entries plan u)) m = subst (λ (es : List Marked). Contains (page_entries plan.mode u.page_index es) m) (sym e) inside in
+    (laws.heard plan.mode (ensemble_sent plan u) u.page_index (sent_entries plan u) (pageable laws plan u a) m).1 there
 
 heard_first : (frame : List ℕ) (frames : List (List ℕ)) (m : Marked) → IsHeardInRow frame m → IsHeardInSome (frame ∷ frames) m
 heard_first frame frames m h = (frame, (0, omega arith, refl), h)
@@ -161,40 +161,40 @@ or_parts false b e = (refl, e)
 
 -- ---- the frames of a phase after its first one
 
--- a state whose next frame sends these entries, with the page in turn
-pub record Goes (plan : Plan) (s : State) (ms : List Marked) (turn : ℕ) : Type 0 where
+-- a state whose next frame sends these entries, with this page in turn
+pub record Goes (plan : Plan) (s : State) (ms : List Marked) (page_index : ℕ) : Type 0 where
   pub sent : SentBy plan s.left s.current s.next ms
-  pub turn_is : s.turn ≡ turn
+  pub turn_is : s.page_index ≡ page_index
 
-pub after_goes : (plan : Plan) (u : State) → Airs plan u → (ms : List Marked) → sent_entries plan u ≡ ms → Goes plan (with_next_counts plan u) ms (page_after (rounds plan.mode ms) u.turn)
+pub after_goes : (plan : Plan) (u : State) → Airs plan u → (ms : List Marked) → sent_entries plan u ≡ ms → Goes plan (with_next_counts plan u) ms (page_after (rounds plan.mode ms) u.page_index)
 after_goes plan u a ms e = record {
   sent = sent_later plan u.left u.current u.next ms a.ahead e;
-  turn_is = ap (λ (es : List Marked). page_after (rounds plan.mode es) u.turn) e;
+  turn_is = ap (λ (es : List Marked). page_after (rounds plan.mode es) u.page_index) e;
 }
 
--- the state that the bytes of such a frame show
-pub record Sends (plan : Plan) (u : State) (ms : List Marked) (turn : ℕ) : Type 0 where
+-- the state that the bytes of such a frame are made from
+pub record Sends (plan : Plan) (u : State) (ms : List Marked) (page_index : ℕ) : Type 0 where
   pub entries : sent_entries plan u ≡ ms
-  pub turn_is : u.turn ≡ turn
+  pub turn_is : u.page_index ≡ page_index
 
-turn_kept : (u : State) (b : Bool) → b ≡ false → (cond b (let r : State = record u { turn = 0 } in r) u).turn ≡ u.turn
+turn_kept : (u : State) (b : Bool) → b ≡ false → (cond b (let r : State = record u { page_index = 0 } in r) u).page_index ≡ u.page_index
 turn_kept u true e = absurd cc
 turn_kept u false e = refl
 
-left_kept : (u : State) (b : Bool) → (cond b (let r : State = record u { turn = 0 } in r) u).left ≡ u.left
+left_kept : (u : State) (b : Bool) → (cond b (let r : State = record u { page_index = 0 } in r) u).left ≡ u.left
 left_kept u true = refl
 left_kept u false = refl
 
-current_kept : (u : State) (b : Bool) → (cond b (let r : State = record u { turn = 0 } in r) u).current ≡ u.current
+current_kept : (u : State) (b : Bool) → (cond b (let r : State = record u { page_index = 0 } in r) u).current ≡ u.current
 current_kept u true = refl
 current_kept u false = refl
 
-due_turn : (s : State) (b : Bool) → b ≡ false → (cond b (with_swap s) s).turn ≡ s.turn
+due_turn : (s : State) (b : Bool) → b ≡ false → (cond b (with_swap s) s).page_index ≡ s.page_index
 due_turn s true e = absurd cc
 due_turn s false e = refl
 
-pub sends : (p : Program) (ts : List Known) → IsCode p ts → (s : State) → Holds p ts s → begins_phase p s ≡ false → (ms : List Marked) (turn : ℕ) → Goes p.plan s ms turn → Sends p.plan (shown p s) ms turn
-sends p ts c s h no_phase ms turn g =
+pub sends : (p : Program) (ts : List Known) → IsCode p ts → (s : State) → Holds p ts s → begins_phase p s ≡ false → (ms : List Marked) (page_index : ℕ) → Goes p.plan s ms page_index → Sends p.plan (shown p s) ms page_index
+sends p ts c s h no_phase ms page_index g =
     let u : State = shown p s in
     let v : State = after_burst p s in
     let parts = or_parts (is_due s.left) (is_first_noticed p.plan.notice u.left) no_phase in
@@ -206,33 +206,33 @@ sends p ts c s h no_phase ms turn g =
     let same = sent_same p.plan s.count s.left u.left s.current s.next u.next ms (ahead_from s.left parts.0) (link.left parts.0) parts.1 g.sent in
     record {
       entries = ap (λ (x : Configuration). page_set x (cond (is_noticed p.plan.notice u.left) (Some u.next) None)) (link.current parts.0) ∙ same;
-      turn_is = turn_kept v (is_first_noticed p.plan.notice v.left) other ∙ carried.turn ∙ due_turn s (is_due s.left) parts.0 ∙ g.turn_is;
+      turn_is = turn_kept v (is_first_noticed p.plan.notice v.left) other ∙ carried.page_index ∙ due_turn s (is_due s.left) parts.0 ∙ g.turn_is;
     }
 
--- a page that comes in d frames is heard
-comes : PageLaws → (p : Program) (ts : List Known) → IsCode p ts → (s : State) (es : List Event) → Holds p ts s → BeginsNoPhase p s es → (ms : List Marked) (turn d page : ℕ) → Goes p.plan s ms turn
-    → pages_on (rounds p.plan.mode ms) d turn ≡ page → d < length (run_frames p s es) → (m : Marked) → Contains (page_entries p.plan.mode page ms) m → IsHeardInSome (run_frames p s es) m
-comes laws p ts c s [] h phase ms turn d page g there below m inside = absurd (omega (arith, below))
-comes laws p ts c s (Contact k closed ∷ es) h phase ms turn d page g there below m inside =
-    comes laws p ts c (happens p s (Contact k closed)) es (happens_holds p ts c s (Contact k closed) h) phase ms turn d page (record { sent = g.sent; turn_is = g.turn_is }) there below m inside
-comes laws p ts c s (Frame ∷ es) h phase ms turn zero page g there below m inside =
+-- a page that is in turn d frames later is heard
+comes : PageLaws → (p : Program) (ts : List Known) → IsCode p ts → (s : State) (es : List Event) → Holds p ts s → BeginsNoPhase p s es → (ms : List Marked) (page_index d page : ℕ) → Goes p.plan s ms page_index
+    → pages_on (rounds p.plan.mode ms) d page_index ≡ page → d < length (run_frames p s es) → (m : Marked) → Contains (page_entries p.plan.mode page ms) m → IsHeardInSome (run_frames p s es) m
+comes laws p ts c s [] h phase ms page_index d page g there below m inside = absurd (omega (arith, below))
+comes laws p ts c s (Contact k closed ∷ es) h phase ms page_index d page g there below m inside =
+    comes laws p ts c (happens p s (Contact k closed)) es (happens_holds p ts c s (Contact k closed) h) phase ms page_index d page (record { sent = g.sent; turn_is = g.turn_is }) there below m inside
+comes laws p ts c s (Frame ∷ es) h phase ms page_index zero page g there below m inside =
     let u : State = shown p s in
-    let sent = sends p ts c s h phase.0 ms turn g in
-    let here : page ≡ u.turn = sym there ∙ pages_none (rounds p.plan.mode ms) turn ∙ sym sent.turn_is in
-    let now : Contains (page_entries p.plan.mode u.turn ms) m = subst (λ (x : ℕ). Contains (page_entries p.plan.mode x ms) m) here inside in
+    let sent = sends p ts c s h phase.0 ms page_index g in
+    let here : page ≡ u.page_index = sym there ∙ pages_none (rounds p.plan.mode ms) page_index ∙ sym sent.turn_is in
+    let now : Contains (page_entries p.plan.mode u.page_index ms) m = subst (λ (x : ℕ). Contains (page_entries p.plan.mode x ms) m) here inside in
     heard_first (frame_bytes p s) (run_frames p (after_frame p s) es) m (heard_page laws p.plan u (airs p ts c s h) ms sent.entries m now)
-comes laws p ts c s (Frame ∷ es) h phase ms turn (suc d) page g there below m inside =
+comes laws p ts c s (Frame ∷ es) h phase ms page_index (suc d) page g there below m inside =
     let u : State = shown p s in
     let pages : ℕ = rounds p.plan.mode ms in
-    let sent = sends p ts c s h phase.0 ms turn g in
+    let sent = sends p ts c s h phase.0 ms page_index g in
     let next = after_goes p.plan u (airs p ts c s h) ms sent.entries in
-    let step : pages_on pages d (page_after pages u.turn) ≡ page = ap (λ (x : ℕ). pages_on pages d (page_after pages x)) sent.turn_is ∙ sym (pages_one pages d turn) ∙ there in
+    let step : pages_on pages d (page_after pages u.page_index) ≡ page = ap (λ (x : ℕ). pages_on pages d (page_after pages x)) sent.turn_is ∙ sym (pages_one pages d page_index) ∙ there in
     heard_later (frame_bytes p s) (run_frames p (after_frame p s) es) m
-    (comes laws p ts c (after_frame p s) es (frame_holds p ts c s h) phase.1 ms (page_after pages u.turn) d page next step (omega (arith, below)) m inside)
+    (comes laws p ts c (after_frame p s) es (frame_holds p ts c s h) phase.1 ms (page_after pages u.page_index) d page next step (omega (arith, below)) m inside)
 
 -- ---- a period
 
--- the pages of what is sent are no more than the period
+-- what is sent has no more pages than the period has frames
 rounds_by : (plan : Plan) (left : Option ℕ) (c n : Configuration) (b : Bool) → b ≡ is_noticed plan.notice left → IsOnAir plan c → CommittedBy plan left c n → rounds plan.mode (page_set c (cond b (Some n) None)) ≤ plan.period
 rounds_by plan left c n false e a h = a.within_period
 rounds_by plan None c n true e a h = absurd cc
@@ -250,18 +250,18 @@ contact_current s t true c n = n
 contact_current s t false c n = c
 
 way_heard : PageLaws → (p : Program) (ts : List Known) → IsCode p ts → (s : State) (es : List Event) → Holds p ts s → BeginsNoPhase p (after_frame p s) es → (u : State) → shown p s ≡ u → Airs p.plan (shown p s)
-    → (ms : List Marked) → sent_entries p.plan (shown p s) ≡ ms → (page d : ℕ) → pages_on (rounds p.plan.mode ms) d (shown p s).turn ≡ page → d < length (run_frames p s (Frame ∷ es))
+    → (ms : List Marked) → sent_entries p.plan (shown p s) ≡ ms → (page d : ℕ) → pages_on (rounds p.plan.mode ms) d (shown p s).page_index ≡ page → d < length (run_frames p s (Frame ∷ es))
     → (m : Marked) → Contains (page_entries p.plan.mode page ms) m → IsHeardInSome (run_frames p s (Frame ∷ es)) m
 way_heard laws p ts c s es h phase u is a ms e page zero there below m inside =
-    let here : page ≡ (shown p s).turn = sym there ∙ pages_none (rounds p.plan.mode ms) (shown p s).turn in
-    let now : Contains (page_entries p.plan.mode (shown p s).turn ms) m = subst (λ (x : ℕ). Contains (page_entries p.plan.mode x ms) m) here inside in
+    let here : page ≡ (shown p s).page_index = sym there ∙ pages_none (rounds p.plan.mode ms) (shown p s).page_index in
+    let now : Contains (page_entries p.plan.mode (shown p s).page_index ms) m = subst (λ (x : ℕ). Contains (page_entries p.plan.mode x ms) m) here inside in
     heard_first (frame_bytes p s) (run_frames p (after_frame p s) es) m (heard_page laws p.plan (shown p s) a ms e m now)
 way_heard laws p ts c s es h phase u is a ms e page (suc d) there below m inside =
     let pages : ℕ = rounds p.plan.mode ms in
     let next = after_goes p.plan (shown p s) a ms e in
-    let step : pages_on pages d (page_after pages (shown p s).turn) ≡ page = sym (pages_one pages d (shown p s).turn) ∙ there in
+    let step : pages_on pages d (page_after pages (shown p s).page_index) ≡ page = sym (pages_one pages d (shown p s).page_index) ∙ there in
     heard_later (frame_bytes p s) (run_frames p (after_frame p s) es) m
-    (comes laws p ts c (after_frame p s) es (frame_holds p ts c s h) phase ms (page_after pages (shown p s).turn) d page next step (omega (arith, below)) m inside)
+    (comes laws p ts c (after_frame p s) es (frame_holds p ts c s h) phase ms (page_after pages (shown p s).page_index) d page next step (omega (arith, below)) m inside)
 
 whole : PageLaws → (p : Program) (ts : List Known) → IsCode p ts → (s : State) (es : List Event) → Holds p ts s → IsOnePhase p s es → length (run_frames p s es) ≡ p.plan.period → 1 ≤ p.plan.period
     → IsHeardWhole (with_due_swap s).current false (run_frames p s es)
@@ -282,7 +282,7 @@ whole laws p ts c s (Frame ∷ es) h phase long some m inside =
     let mine : Contains (facts_of u.current false) m = subst (λ (x : Configuration). Contains (facts_of x false) m) (sym current) inside in
     let among : Contains ms m = current_inside u.current u.next (is_noticed p.plan.notice u.left) m mine in
     let page = laws.each p.plan.mode ms m among in
-    let way = reaches pages u.turn page.0 (turn_is_page p.plan u a) page.1 in
+    let way = reaches pages u.page_index page.0 (turn_is_page p.plan u a) page.1 in
     let short : pages ≤ p.plan.period = sent_period p.plan u a in
     way_heard laws p ts c s es h phase u refl a ms refl page.0 way.frames way.there (omega (arith, way.within, short, long)) m page.2
 

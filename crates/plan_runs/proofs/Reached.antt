@@ -1,4 +1,4 @@
--- The start is a reached state, and what follows a reached state is reached.
+-- A start is reached, and so is every state that follows a reached one.
 use Rattle.std.proofs.Common.{List, [], ◌∷◌, ◌++◌, refl, ap, ◌∙◌}
 use Rattle.std.specs.List.{AllByRecursion}
 use Rattle.plan_runs.specs.declared.event.Event.{Event}

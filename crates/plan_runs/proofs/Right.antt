@@ -1,4 +1,4 @@
--- The bytes of every frame are right.
+-- The bytes of every frame are correct.
 use Rattle.std.specs.Prelude.{Contains, slice_get, map, take, drop, IfSome, ◌==◌, ◌&&◌, not}
 use Rattle.std.proofs.Common.{◌≡◌, ◌≢◌, ℕ, zero, suc, ◌+◌, ◌*◌, ◌/◌, ◌%◌, ◌<◌, ◌≤◌, Bool, true, false, cond, List, [], ◌∷◌, ◌++◌, length, Option, Some, None, refl, sym, ap, subst, ◌∙◌, arith, inl, inr, ◌⊎◌}
 use Rattle.std.proofs.lemmas.List.{drop-drop}
@@ -24,7 +24,7 @@ use Rattle.fib_codec.specs.declared.head.Head.{Head}
 use Rattle.fib_carousel.specs.Packing.{same_head, entries_in_fib, entries_where}
 use Rattle.fib_carousel.specs.Pages.{page_set, page_entries, EachInAPage, first_fib, later_fibs}
 use Rattle.fib_carousel.specs.Greedy.{packing}
-use Rattle.fib_carousel.specs.Bytes.{page_figs, AreFibs, ensemble_figs, figs_of, joined}
+use Rattle.fib_carousel.specs.Bytes.{page_figs, AreFibs, ensemble_figs, figs_of, with_entry_first}
 use Rattle.fib_carousel.specs.Carried.{IsPageable, IsSendable, AreSendable, PageSetsArePageable, PagesAreValid, PagesAreHeard, EnsembleIsCarried}
 use Rattle.plan_code.specs.declared.plan.Plan.{Plan}
 use Rattle.plan_code.specs.Machine.{State}
@@ -33,7 +33,7 @@ use Rattle.plan_runs.specs.RightBytes.{IsNoHeader, IsFlaggedBy, IsEnsembleOf, Is
 use Rattle.plan_runs.proofs.Knowledge.{CommittedBy}
 use Rattle.plan_runs.proofs.Tracked.{Airs}
 
--- ---- what is used of pages
+-- ---- the laws of pages that are used
 
 pub record PageLaws : Type 0 where
   pub each : EachInAPage
@@ -42,7 +42,7 @@ pub record PageLaws : Type 0 where
   pub heard : PagesAreHeard
   pub ensemble : EnsembleIsCarried
 
--- ---- a change has a flag
+-- ---- every change sets a change flag
 
 not_both : (a b : Bool) → (cond (not a) 1 0) + (cond (not b) 2 0) ≡ 0 → (a ≡ true) × (b ≡ true)
 not_both true true e = (refl, refl)
@@ -150,12 +150,12 @@ set_by c n true m h = elim (Contains-append_cases (facts_of c false) (facts_of n
 entries_right : PageLaws → (plan : Plan) (s : State) → Airs plan s → (m : Marked) → IsHeardInRow (shown_bytes plan s) m
     → Contains (facts_of s.current false) m ⊎ ((is_noticed plan.notice s.left ≡ true) × Contains (facts_of s.next true) m)
 entries_right laws plan s h m heard =
-    let inside = (laws.heard plan.mode (ensemble_sent plan s) s.turn (sent_entries plan s) (pageable laws plan s h) m).0 heard in
-    set_by s.current s.next (is_noticed plan.notice s.left) m (page_inside plan.mode s.turn (sent_entries plan s) m inside)
+    let inside = (laws.heard plan.mode (ensemble_sent plan s) s.page_index (sent_entries plan s) (pageable laws plan s h) m).0 heard in
+    set_by s.current s.next (is_noticed plan.notice s.left) m (page_inside plan.mode s.page_index (sent_entries plan s) m inside)
 
 -- ---- FIGs that are not FIG 0/0
 
--- a FIG that is written under a head of extension 1 to 3
+-- a FIG with a head of extension 1 to 3
 abbrev IsOrganized : Written → Type 0
 IsOrganized w = (1 ≤ w.head.ext) × (w.head.ext ≤ 3) × (w.head.oe ≡ false)
 
@@ -174,7 +174,7 @@ join_by : (m : Marked) (f : Written) (fs : List Written) → 1 ≤ ext_of m.entr
 join_by m f fs some h hs true = (h, hs)
 join_by m f fs some h hs false = (head_organized m (m.entry ∷ []) some, (h, hs))
 
-join_organized : (m : Marked) (fs : List Written) → 1 ≤ ext_of m.entry → AllByRecursion IsOrganized fs → AllByRecursion IsOrganized (joined m fs)
+join_organized : (m : Marked) (fs : List Written) → 1 ≤ ext_of m.entry → AllByRecursion IsOrganized fs → AllByRecursion IsOrganized (with_entry_first m fs)
 join_organized m [] some h = (head_organized m (m.entry ∷ []) some, tt)
 join_organized m (f ∷ fs) some h = join_by m f fs some h.0 h.1 (same_head (head_of m) f.head)
 
@@ -248,11 +248,11 @@ later_figs mode o k ms h (suc n) figs some e = mapped_organized mode ms h (later
 
 -- ---- the frame
 
-valid_at : PageLaws → (plan : Plan) (s : State) → Airs plan s → (n : ℕ) → n < fib_count plan.mode → IsFibAt (page_figs plan.mode (ensemble_sent plan s) s.turn (sent_entries plan s)) (shown_bytes plan s) n
+valid_at : PageLaws → (plan : Plan) (s : State) → Airs plan s → (n : ℕ) → n < fib_count plan.mode → IsFibAt (page_figs plan.mode (ensemble_sent plan s) s.page_index (sent_entries plan s)) (shown_bytes plan s) n
 valid_at laws plan s h n below =
-    let figs : List (List Written) = page_figs plan.mode (ensemble_sent plan s) s.turn (sent_entries plan s) in
-    let long : length figs ≡ fib_count plan.mode = page_length plan.mode (ensemble_sent plan s) s.turn (sent_entries plan s) in
-    let are = (laws.valid plan.mode (ensemble_sent plan s) s.turn (sent_entries plan s) (pageable laws plan s h)).0 in
+    let figs : List (List Written) = page_figs plan.mode (ensemble_sent plan s) s.page_index (sent_entries plan s) in
+    let long : length figs ≡ fib_count plan.mode = page_length plan.mode (ensemble_sent plan s) s.page_index (sent_entries plan s) in
+    let are = (laws.valid plan.mode (ensemble_sent plan s) s.page_index (sent_entries plan s) (pageable laws plan s h)).0 in
     fib_is figs (shown_bytes plan s) are n (omega (arith, below, long))
 
 some_fibs : (mode : Mode) → 0 < fib_count mode
@@ -264,9 +264,9 @@ some_fibs IV = omega arith
 first_sendable : PageLaws → (plan : Plan) (s : State) → Airs plan s → AreSendable (sent_entries plan s)
 first_sendable laws plan s h = (pageable laws plan s h).entries
 
--- the first FIB, where FIG 0/0 is sent or not
+-- the first FIB, with or without FIG 0/0
 abbrev FirstFigs : Plan → State → Option EnsembleInformation → List Written
-FirstFigs plan s o = ensemble_figs o ++ figs_of (entries_in_fib (first_fib plan.mode s.turn) (sent_entries plan s) (packing plan.mode (sent_entries plan s)))
+FirstFigs plan s o = ensemble_figs o ++ figs_of (entries_in_fib (first_fib plan.mode s.page_index) (sent_entries plan s) (packing plan.mode (sent_entries plan s)))
 
 first_valid : PageLaws → (plan : Plan) (s : State) → Airs plan s → (o : Option EnsembleInformation) → ensemble_sent plan s ≡ o → IsValid (fib_at (shown_bytes plan s) 0) (map fig_of (FirstFigs plan s o))
 first_valid laws plan s h o e =
@@ -277,12 +277,12 @@ first_valid laws plan s h o e =
     subst (λ (f : List Written). IsValid (fib_at (shown_bytes plan s) 0) (map fig_of f)) (sym now) at.valid
 
 others_organized : PageLaws → (plan : Plan) (s : State) → Airs plan s
-    → AllByRecursion IsOrganized (figs_of (entries_in_fib (first_fib plan.mode s.turn) (sent_entries plan s) (packing plan.mode (sent_entries plan s))))
+    → AllByRecursion IsOrganized (figs_of (entries_in_fib (first_fib plan.mode s.page_index) (sent_entries plan s) (packing plan.mode (sent_entries plan s))))
 others_organized laws plan s h =
     let es : List Marked = sent_entries plan s in
-    figs_organized (entries_in_fib (first_fib plan.mode s.turn) es (packing plan.mode es)) (sendable_where (λ x. x == first_fib plan.mode s.turn) es (packing plan.mode es) (first_sendable laws plan s h))
+    figs_organized (entries_in_fib (first_fib plan.mode s.page_index) es (packing plan.mode es)) (sendable_where (λ x. x == first_fib plan.mode s.page_index) es (packing plan.mode es) (first_sendable laws plan s h))
 
--- what FIG 0/0 says
+-- the content of FIG 0/0
 flagged_right : (plan : Plan) (s : State) (left : Option ℕ) → (e : EnsembleInformation) → is_noticed plan.notice left ≡ true
     → e.change ≡ bits_of (change_of s.current s.next) → e.occurrence ≡ Some (low_of_swap s.count left) → IsFlaggedBy s left e
 flagged_right plan s None e noticed change occurrence = absurd cc
@@ -334,7 +334,7 @@ headed : PageLaws → (plan : Plan) (s : State) → Airs plan s → s.count % co
 headed laws plan s h whole =
     let e : EnsembleInformation = ensemble_of plan s in
     let valid = first_valid laws plan s h (Some e) (is_sent plan s whole) in
-    let rest : List Written = figs_of (entries_in_fib (first_fib plan.mode s.turn) (sent_entries plan s) (packing plan.mode (sent_entries plan s))) in
+    let rest : List Written = figs_of (entries_in_fib (first_fib plan.mode s.page_index) (sent_entries plan s) (packing plan.mode (sent_entries plan s))) in
     record {
       header = fig_of (record { head = head_of (marked false (EnsembleOf e)); entries = EnsembleOf e ∷ [] });
       others = map fig_of rest;
@@ -348,18 +348,18 @@ headed laws plan s h whole =
 unheaded : PageLaws → (plan : Plan) (s : State) → Airs plan s → s.count % count_step plan.mode ≢ 0 → IsUnheaded (fib_at (shown_bytes plan s) 0)
 unheaded laws plan s h apart =
     let valid = first_valid laws plan s h None (not_sent plan s apart) in
-    let rest : List Written = figs_of (entries_in_fib (first_fib plan.mode s.turn) (sent_entries plan s) (packing plan.mode (sent_entries plan s))) in
+    let rest : List Written = figs_of (entries_in_fib (first_fib plan.mode s.page_index) (sent_entries plan s) (packing plan.mode (sent_entries plan s))) in
     (map fig_of rest, valid.fib, no_headers rest (others_organized laws plan s h))
 
 others_unheaded : PageLaws → (plan : Plan) (s : State) → Airs plan s → (n : ℕ) → 1 ≤ n → n < fib_count plan.mode → IsUnheaded (fib_at (shown_bytes plan s) n)
 others_unheaded laws plan s h n some below =
     let at = valid_at laws plan s h n below in
-    let organized = later_figs plan.mode (ensemble_sent plan s) s.turn (sent_entries plan s) (first_sendable laws plan s h) n at.figs some at.there in
+    let organized = later_figs plan.mode (ensemble_sent plan s) s.page_index (sent_entries plan s) (first_sendable laws plan s h) n at.figs some at.there in
     (map fig_of at.figs, at.valid.fib, no_headers at.figs organized)
 
 pub frame_right : PageLaws → (plan : Plan) (s : State) → Airs plan s → IsRight plan s (shown_bytes plan s)
 frame_right laws plan s h = record {
-  length_of_fibs = (laws.valid plan.mode (ensemble_sent plan s) s.turn (sent_entries plan s) (pageable laws plan s h)).1;
+  length_of_fibs = (laws.valid plan.mode (ensemble_sent plan s) s.page_index (sent_entries plan s) (pageable laws plan s h)).1;
   valid = λ n below. let at = valid_at laws plan s h n below in (map fig_of at.figs, at.valid);
   headed = headed laws plan s h;
   unheaded = unheaded laws plan s h;

@@ -1,4 +1,4 @@
--- One instruction of a typed code: it is allowed, and leaves what is known where the machine goes.
+-- One instruction of a typed code is allowed, and leaves what is known wherever the machine continues.
 use Rattle.std.specs.Prelude.{slice_get, option_map}
 use Rattle.std.proofs.Common.{◌≡◌, ℕ, ◌<◌, ◌≤◌, true, false, eqb, List, length, Option, Some, None, refl, sym, ap, subst, ◌∙◌, arith, ◌⊎◌}
 use Rattle.std.proofs.lemmas.Bool.{eqb-true}
@@ -40,7 +40,7 @@ pub record Suspends (p : Program) (ts : List Known) (s : State) : Type 0 where
   pub resumes : ResumesBy p ts s.pc (hold_after_frame s.hold) (left_after_frame s.left) s.current s.next s.counters
   pub kept : IsKept p.plan s.left s.current s.next s.counters
 
--- an instruction is carried out, of which this is known
+-- an instruction is executed, and this is known there
 pub record RunsAt (p : Program) (ts : List Known) (b : ℕ) (s : State) : Type 0 where
   pub runs : is_running s.hold ≡ true
   pub instr : Instr
@@ -55,7 +55,7 @@ pub record RunsAt (p : Program) (ts : List Known) (b : ℕ) (s : State) : Type 0
 abbrev pub Outcome : Program → List Known → ℕ → State → Type 0
 Outcome p ts b s = Suspends p ts s ⊎ RunsAt p ts b s
 
--- ---- the machine comes to an instruction
+-- ---- the machine arrives at an instruction
 
 same_known : (a b : Known) → a.current ≡ b.current → a.next ≡ b.next → a.pending ≡ b.pending → a.counters ≡ b.counters → a.allowance ≡ b.allowance → a ≡ b
 same_known a b c n p s w =
@@ -77,7 +77,7 @@ declares_one p label a b d e =
     (sym d.counters ∙ e.counters)
     (sym d.cost ∙ e.cost)
 
--- what is known there, of a state that arrives
+-- what is known there, for a state that arrives
 pub record IsThere (p : Program) (ts : List Known) (pc b : ℕ) (s : State) : Type 0 where
   pub known : Known
   pub there : slice_get ts pc ≡ Some known

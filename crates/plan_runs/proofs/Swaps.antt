@@ -1,4 +1,4 @@
--- A swap is made in the frame that its commit asked for, and changes the current configuration in that frame alone.
+-- A swap is made in the frame that its commit requested, and changes the current configuration in that frame alone.
 use Rattle.std.proofs.Common.{◌≡◌, ℕ, zero, suc, ◌+◌, ◌-◌, ◌%◌, ◌<◌, ◌≤◌, Bool, true, false, cond, List, [], ◌∷◌, Option, Some, None, refl, sym, ap, subst, ◌∙◌, arith, inl, inr, ◌⊎◌}
 use Rattle.fib_codec.specs.declared.modes.Mode.{Mode}
 use Rattle.fib_codec.specs.declared.modes.Mode.TheVariants.{I, II, III, IV}
@@ -14,7 +14,7 @@ use Rattle.plan_runs.specs.declared.event.Event.TheVariants.{Contact, Frame}
 use Rattle.plan_runs.specs.Frames.{is_due, ready, Executes, burst, after_burst, is_first_noticed, shown, left_after_frame, after_frame}
 use Rattle.plan_runs.specs.Runs.{happens}
 use Rattle.plan_runs.specs.Firsts.{CarriesOut, IsFirstWhere}
-use Rattle.plan_runs.specs.Swaps.{ComesAtCount, ComesInTime, SwapsAreOnSteps, SwapsChangeTheCurrent, CommitsAreKept}
+use Rattle.plan_runs.specs.Swaps.{IsSwapAtCount, IsSwapAfterDelay, SwapsAreOnSteps, SwapsChangeTheCurrent, CommitsAreKept}
 use Rattle.plan_runs.proofs.Passing.{some_is, due_is, not_due_from}
 use Rattle.plan_runs.proofs.Between.{step_is, frame_goes}
 use Rattle.plan_runs.proofs.Carries.{LeftBy, Carries, burst_carries}
@@ -45,7 +45,7 @@ swaps_change_the_current p s =
 
 -- ---- an instruction of a frame
 
--- the machine is about to carry out an instruction, and comes to be suspended in this state
+-- the machine is about to execute an instruction, and reaches a suspension in this state
 pub record IsMidway (p : Program) (end at : State) : Type 0 where
   pub allowed : StepIsAllowed p at
   pub more : ℕ
@@ -59,18 +59,18 @@ midway p s end (suc n) (suc k) h below =
     let rest : IsMidway p end (burst k p (step p s)) = midway p (step p s) end n k h.2 (omega (arith, below)) in
     subst (λ (t : State). IsMidway p end t) (sym same) rest
 
--- a commit that a frame carried out: what it needed, and the frames that it left after this frame's instructions
+-- a commit executed in a frame: its preconditions, and the frames left after this frame's instructions
 pub record IsCommitted (p : Program) (s : State) (i : Instr) (left : ℕ → ℕ) : Type 0 where
   pub at : State
   pub allowed : IsAllowed p.plan i at
   pub remains : (shown p s).left ≡ Some (left at.count)
   pub count : at.count ≡ s.count
 
-left_turned : (s : State) (b : Bool) → (cond b (let r : State = record s { turn = 0 } in r) s).left ≡ s.left
+left_turned : (s : State) (b : Bool) → (cond b (let r : State = record s { page_index = 0 } in r) s).left ≡ s.left
 left_turned s true = refl
 left_turned s false = refl
 
-count_turned : (s : State) (b : Bool) → (cond b (let r : State = record s { turn = 0 } in r) s).count ≡ s.count
+count_turned : (s : State) (b : Bool) → (cond b (let r : State = record s { page_index = 0 } in r) s).count ≡ s.count
 count_turned s true = refl
 count_turned s false = refl
 
@@ -100,7 +100,7 @@ shown_left : (plan : Plan) (s u : State) (l : ℕ) (before : Option ℕ) → bef
 shown_left plan s u l None e h = absurd cc
 shown_left plan s u l (Some k) e h = h.0 ∙ e
 
--- the swap is due in the frame of this number, of which the property holds, and it holds of none before
+-- the swap is due in the frame with this number, where the property holds, and it holds in none before
 pub record IsAwaited (Q : ℕ → ℕ → Type 0) (number count left : ℕ) : Type 0 where
   pub here : Q (number + left) ((count + left) % 5000)
   pub none_before : (i : ℕ) → i < left → Q (number + i) ((count + i) % 5000) → ⊥
@@ -162,7 +162,7 @@ first_after p ts c Q left s events h some is w =
 
 -- ---- the commits
 
-comes_at_count : SwapsAtCount → (p : Program) (ts : List Known) → IsCode p ts → (s : State) (n : ℕ) (events : List Event) → Holds p ts s → ComesAtCount n p s events
+comes_at_count : SwapsAtCount → (p : Program) (ts : List Known) → IsCode p ts → (s : State) (n : ℕ) (events : List Event) → Holds p ts s → IsSwapAtCount n p s events
 comes_at_count least p ts c s n events h carries =
     let m = committed p ts c s h (CommitAt n) (λ count. left_at count p.plan.notice n) (λ t. refl) carries in
     let r : ℕ = left_at m.at.count p.plan.notice n in
@@ -182,7 +182,7 @@ whole_turns II a = omega arith
 whole_turns III a = omega arith
 whole_turns IV a = omega arith
 
-comes_in_time : SwapsInTime → (p : Program) (ts : List Known) → IsCode p ts → (s : State) (k : ℕ) (events : List Event) → Holds p ts s → ComesInTime k p s events
+comes_in_time : SwapsInTime → (p : Program) (ts : List Known) → IsCode p ts → (s : State) (k : ℕ) (events : List Event) → Holds p ts s → IsSwapAfterDelay k p s events
 comes_in_time least p ts c s k events h carries =
     let mode : Mode = p.plan.mode in
     let m = committed p ts c s h (CommitIn k) (λ count. left_in (count_step mode) count k) (λ t. refl) carries in

@@ -33,12 +33,12 @@ pub page_of_next : (pages k : ℕ) → page_of pages (suc k) ≡ page_after page
 unfolding page_of
 page_of_next pages k = refl
 
-after_by : (pages turn : ℕ) → 1 ≤ pages → (b : Bool) → nat_lt (turn + 1) pages ≡ b → cond b (turn + 1) 0 < pages
-after_by pages turn some true e = ltb-true (turn + 1) pages e
-after_by pages turn some false e = omega (arith, some)
+after_by : (pages page_index : ℕ) → 1 ≤ pages → (b : Bool) → nat_lt (page_index + 1) pages ≡ b → cond b (page_index + 1) 0 < pages
+after_by pages page_index some true e = ltb-true (page_index + 1) pages e
+after_by pages page_index some false e = omega (arith, some)
 
-pub page_after_below : (pages turn : ℕ) → 1 ≤ pages → page_after pages turn < pages
-page_after_below pages turn some = after_by pages turn some (nat_lt (turn + 1) pages) refl
+pub page_after_below : (pages page_index : ℕ) → 1 ≤ pages → page_after pages page_index < pages
+page_after_below pages page_index some = after_by pages page_index some (nat_lt (page_index + 1) pages) refl
 
 pub page_of_below : (pages k : ℕ) → 1 ≤ pages → page_of pages k < pages
 unfolding page_of
@@ -71,23 +71,23 @@ abbrev pub SwapsOn : Plan → ℕ → Option ℕ → Type 0
 SwapsOn plan count None = Unit {0}
 SwapsOn plan count (Some l) = (count + l) % count_step plan.mode ≡ 0
 
-pub record IsTurn (plan : Plan) (l : ℕ) (c n : Configuration) (turn : ℕ) : Type 0 where
-  pub within : l ≤ plan.notice → turn ≡ page_of (rounds plan.mode (page_set c (Some n))) (plan.notice - l)
-  pub before : plan.notice < l → turn < rounds plan.mode (page_set c None)
+pub record IsTurn (plan : Plan) (l : ℕ) (c n : Configuration) (page_index : ℕ) : Type 0 where
+  pub within : l ≤ plan.notice → page_index ≡ page_of (rounds plan.mode (page_set c (Some n))) (plan.notice - l)
+  pub before : plan.notice < l → page_index < rounds plan.mode (page_set c None)
 
--- in the state that the bytes show
+-- for the state that the bytes are made from
 abbrev pub TurnShown : Plan → Option ℕ → Configuration → Configuration → ℕ → Type 0
-TurnShown plan None c n turn = turn < rounds plan.mode (page_set c None)
-TurnShown plan (Some l) c n turn = IsTurn plan l c n turn
+TurnShown plan None c n page_index = page_index < rounds plan.mode (page_set c None)
+TurnShown plan (Some l) c n page_index = IsTurn plan l c n page_index
 
--- before a frame: where the notice is still to begin, the page is one of the current configuration
-pub record IsTurnBefore (plan : Plan) (l : ℕ) (c n : Configuration) (turn : ℕ) : Type 0 where
-  pub within : l < plan.notice → turn ≡ page_of (rounds plan.mode (page_set c (Some n))) (plan.notice - l)
-  pub before : plan.notice ≤ l → turn < rounds plan.mode (page_set c None)
+-- before a frame: if the notice has not yet begun, the page is one of the current configuration
+pub record IsTurnBefore (plan : Plan) (l : ℕ) (c n : Configuration) (page_index : ℕ) : Type 0 where
+  pub within : l < plan.notice → page_index ≡ page_of (rounds plan.mode (page_set c (Some n))) (plan.notice - l)
+  pub before : plan.notice ≤ l → page_index < rounds plan.mode (page_set c None)
 
 abbrev pub TurnBefore : Plan → Option ℕ → Configuration → Configuration → ℕ → Type 0
-TurnBefore plan None c n turn = turn < rounds plan.mode (page_set c None)
-TurnBefore plan (Some l) c n turn = IsTurnBefore plan l c n turn
+TurnBefore plan None c n page_index = page_index < rounds plan.mode (page_set c None)
+TurnBefore plan (Some l) c n page_index = IsTurnBefore plan l c n page_index
 
 pub record Tracked (plan : Plan) (s : State) : Type 0 where
   pub count : s.count < 5000
@@ -95,7 +95,7 @@ pub record Tracked (plan : Plan) (s : State) : Type 0 where
   pub current : IsConfiguration s.current
   pub next : IsConfiguration s.next
   pub swaps : SwapsOn plan s.count s.left
-  pub turn : TurnBefore plan s.left s.current s.next s.turn
+  pub page_index : TurnBefore plan s.left s.current s.next s.page_index
 
 pub record Airs (plan : Plan) (s : State) : Type 0 where
   pub count : s.count < 5000
@@ -106,9 +106,9 @@ pub record Airs (plan : Plan) (s : State) : Type 0 where
   pub on_air : IsOnAir plan s.current
   pub committed : CommittedBy plan s.left s.current s.next
   pub swaps : SwapsOn plan s.count s.left
-  pub turn : TurnShown plan s.left s.current s.next s.turn
+  pub page_index : TurnShown plan s.left s.current s.next s.page_index
 
--- ---- the page in turn is a page
+-- ---- the page in turn is a valid page
 
 sent_alone : (plan : Plan) (c n : Configuration) (b : Bool) → b ≡ false → rounds plan.mode (page_set c (cond b (Some n) None)) ≡ rounds plan.mode (page_set c None)
 sent_alone plan c n b e = ap (λ (x : Bool). rounds plan.mode (page_set c (cond x (Some n) None))) e
@@ -123,23 +123,23 @@ split_le a b = by (leb a b) refl
     by true e = inl (leb-true a b e)
     by false e = inr (leb-false a b e)
 
-turn_below : (plan : Plan) (left : Option ℕ) (c n : Configuration) (turn : ℕ) → IsAhead left → TurnShown plan left c n turn
-    → turn < rounds plan.mode (page_set c (cond (is_noticed plan.notice left) (Some n) None))
-turn_below plan None c n turn a h = h
-turn_below plan (Some l) c n turn a h =
+turn_below : (plan : Plan) (left : Option ℕ) (c n : Configuration) (page_index : ℕ) → IsAhead left → TurnShown plan left c n page_index
+    → page_index < rounds plan.mode (page_set c (cond (is_noticed plan.notice left) (Some n) None))
+turn_below plan None c n page_index a h = h
+turn_below plan (Some l) c n page_index a h =
     elim (split_le l plan.notice) [
       | inl within ↦
           let e = sent_both plan c n (is_noticed plan.notice (Some l)) (noticed plan.notice l a within) in
           let is = h.within within in
           let below = page_of_below (rounds plan.mode (page_set c (Some n))) (plan.notice - l) (some_rounds plan.mode (page_set c (Some n))) in
-          subst (λ (x : ℕ). turn < x) (sym e) (subst (λ (x : ℕ). x < rounds plan.mode (page_set c (Some n))) (sym is) below)
+          subst (λ (x : ℕ). page_index < x) (sym e) (subst (λ (x : ℕ). x < rounds plan.mode (page_set c (Some n))) (sym is) below)
       | inr past ↦
           let e = sent_alone plan c n (is_noticed plan.notice (Some l)) (not_noticed plan.notice l past) in
-          subst (λ (x : ℕ). turn < x) (sym e) (h.before past)
+          subst (λ (x : ℕ). page_index < x) (sym e) (h.before past)
     ]
 
-pub turn_is_page : (plan : Plan) (s : State) → Airs plan s → s.turn < sent_rounds plan s
-turn_is_page plan s h = turn_below plan s.left s.current s.next s.turn h.ahead h.turn
+pub turn_is_page : (plan : Plan) (s : State) → Airs plan s → s.page_index < sent_rounds plan s
+turn_is_page plan s h = turn_below plan s.left s.current s.next s.page_index h.ahead h.page_index
 
 -- ---- the next frame
 
@@ -161,10 +161,10 @@ page_step pages l notice some within =
     let up : notice - (l - 1) ≡ suc (notice - l) = omega (arith, some, within) in
     sym (ap (page_of pages) up ∙ page_of_next pages (notice - l))
 
-turn_later : (plan : Plan) (left : Option ℕ) (c n : Configuration) (turn : ℕ) → IsAhead left → TurnShown plan left c n turn
-    → TurnBefore plan (left_after_frame left) c n (page_after (rounds plan.mode (page_set c (cond (is_noticed plan.notice left) (Some n) None))) turn)
-turn_later plan None c n turn a h = page_after_below (rounds plan.mode (page_set c None)) turn (some_rounds plan.mode (page_set c None))
-turn_later plan (Some l) c n turn a h =
+turn_later : (plan : Plan) (left : Option ℕ) (c n : Configuration) (page_index : ℕ) → IsAhead left → TurnShown plan left c n page_index
+    → TurnBefore plan (left_after_frame left) c n (page_after (rounds plan.mode (page_set c (cond (is_noticed plan.notice left) (Some n) None))) page_index)
+turn_later plan None c n page_index a h = page_after_below (rounds plan.mode (page_set c None)) page_index (some_rounds plan.mode (page_set c None))
+turn_later plan (Some l) c n page_index a h =
     let both : ℕ = rounds plan.mode (page_set c (Some n)) in
     let alone : ℕ = rounds plan.mode (page_set c None) in
     let sent : ℕ = rounds plan.mode (page_set c (cond (is_noticed plan.notice (Some l)) (Some n) None)) in
@@ -172,11 +172,11 @@ turn_later plan (Some l) c n turn a h =
       within = λ earlier.
           let inside : l ≤ plan.notice = omega (arith, earlier, a) in
           let e : sent ≡ both = sent_both plan c n (is_noticed plan.notice (Some l)) (noticed plan.notice l a inside) in
-          ap (λ (x : ℕ). page_after x turn) e ∙ ap (page_after both) (h.within inside) ∙ page_step both l plan.notice a inside;
+          ap (λ (x : ℕ). page_after x page_index) e ∙ ap (page_after both) (h.within inside) ∙ page_step both l plan.notice a inside;
       before = λ later.
           let past : plan.notice < l = omega (arith, later, a) in
           let e : sent ≡ alone = sent_alone plan c n (is_noticed plan.notice (Some l)) (not_noticed plan.notice l past) in
-          subst (λ (x : ℕ). page_after x turn < alone) (sym e) (page_after_below alone turn (some_rounds plan.mode (page_set c None)));
+          subst (λ (x : ℕ). page_after x page_index < alone) (sym e) (page_after_below alone page_index (some_rounds plan.mode (page_set c None)));
     }
 
 pub airs_later : (plan : Plan) (s : State) → Airs plan s → Tracked plan (with_next_counts plan s)
@@ -186,35 +186,35 @@ airs_later plan s h = record {
   current = h.current;
   next = h.next;
   swaps = swaps_on_later plan s.count s.left h.ahead h.swaps;
-  turn = turn_later plan s.left s.current s.next s.turn h.ahead h.turn;
+  page_index = turn_later plan s.left s.current s.next s.page_index h.ahead h.page_index;
 }
 
--- ---- from the state before a frame to the one that its bytes show
+-- ---- from the state before a frame to the one that its bytes are made from
 
 -- before it is known whether a notice begins
-pub record IsTurnAfter (plan : Plan) (l : ℕ) (c n : Configuration) (turn : ℕ) : Type 0 where
-  pub within : l < plan.notice → turn ≡ page_of (rounds plan.mode (page_set c (Some n))) (plan.notice - l)
-  pub before : plan.notice < l → turn < rounds plan.mode (page_set c None)
+pub record IsTurnAfter (plan : Plan) (l : ℕ) (c n : Configuration) (page_index : ℕ) : Type 0 where
+  pub within : l < plan.notice → page_index ≡ page_of (rounds plan.mode (page_set c (Some n))) (plan.notice - l)
+  pub before : plan.notice < l → page_index < rounds plan.mode (page_set c None)
 
 abbrev pub TurnAfter : Plan → Option ℕ → Configuration → Configuration → ℕ → Type 0
-TurnAfter plan None c n turn = turn < rounds plan.mode (page_set c None)
-TurnAfter plan (Some l) c n turn = IsTurnAfter plan l c n turn
+TurnAfter plan None c n page_index = page_index < rounds plan.mode (page_set c None)
+TurnAfter plan (Some l) c n page_index = IsTurnAfter plan l c n page_index
 
-newly_turn : (plan : Plan) (count : ℕ) (left : Option ℕ) (c n : Configuration) (turn : ℕ) → IsNewly plan count left → turn < rounds plan.mode (page_set c None) → TurnAfter plan left c n turn
-newly_turn plan count None c n turn new below = below
-newly_turn plan count (Some l) c n turn new below = record { within = λ earlier. absurd (omega (arith, earlier, new.0)); before = λ past. below }
+newly_turn : (plan : Plan) (count : ℕ) (left : Option ℕ) (c n : Configuration) (page_index : ℕ) → IsNewly plan count left → page_index < rounds plan.mode (page_set c None) → TurnAfter plan left c n page_index
+newly_turn plan count None c n page_index new below = below
+newly_turn plan count (Some l) c n page_index new below = record { within = λ earlier. absurd (omega (arith, earlier, new.0)); before = λ past. below }
 
 newly_swaps : (plan : Plan) (count : ℕ) (left : Option ℕ) → IsNewly plan count left → SwapsOn plan count left
 newly_swaps plan count None new = tt
 newly_swaps plan count (Some l) new = new.1
 
 -- no swap was due
-turn_carried : (plan : Plan) (count : ℕ) (before left : Option ℕ) (c n m : Configuration) (turn : ℕ) → LeftBy plan count before n left m → TurnBefore plan before c n turn → TurnAfter plan left c m turn
-turn_carried plan count None left c n m turn g h = newly_turn plan count left c m turn g h
-turn_carried plan count (Some l) left c n m turn g h =
-    let there : TurnAfter plan (Some l) c n turn =
+turn_carried : (plan : Plan) (count : ℕ) (before left : Option ℕ) (c n m : Configuration) (page_index : ℕ) → LeftBy plan count before n left m → TurnBefore plan before c n page_index → TurnAfter plan left c m page_index
+turn_carried plan count None left c n m page_index g h = newly_turn plan count left c m page_index g h
+turn_carried plan count (Some l) left c n m page_index g h =
+    let there : TurnAfter plan (Some l) c n page_index =
     record { within = h.within; before = λ past. h.before (omega (arith, past)) } in
-    subst (λ (o : Option ℕ). TurnAfter plan o c m turn) (sym g.0) (subst (λ (x : Configuration). TurnAfter plan (Some l) c x turn) (sym g.1) there)
+    subst (λ (o : Option ℕ). TurnAfter plan o c m page_index) (sym g.0) (subst (λ (x : Configuration). TurnAfter plan (Some l) c x page_index) (sym g.1) there)
 
 swaps_carried : (plan : Plan) (count : ℕ) (before left : Option ℕ) (n m : Configuration) → LeftBy plan count before n left m → SwapsOn plan count before → SwapsOn plan count left
 swaps_carried plan count None left n m g h = newly_swaps plan count left g
@@ -227,27 +227,27 @@ pub record Carried (plan : Plan) (s u : State) : Type 0 where
   pub current : IsConfiguration u.current
   pub next : IsConfiguration u.next
   pub swaps : SwapsOn plan u.count u.left
-  pub turn : TurnAfter plan u.left u.current u.next u.turn
+  pub page_index : TurnAfter plan u.left u.current u.next u.page_index
 
-at_state : (plan : Plan) (u : State) (count turn : ℕ) (c : Configuration) → u.count ≡ count → u.turn ≡ turn → u.current ≡ c → SwapsOn plan count u.left → TurnAfter plan u.left c u.next turn
-    → SwapsOn plan u.count u.left × TurnAfter plan u.left u.current u.next u.turn
-at_state plan u count turn c a b d swaps t = (
+at_state : (plan : Plan) (u : State) (count page_index : ℕ) (c : Configuration) → u.count ≡ count → u.page_index ≡ page_index → u.current ≡ c → SwapsOn plan count u.left → TurnAfter plan u.left c u.next page_index
+    → SwapsOn plan u.count u.left × TurnAfter plan u.left u.current u.next u.page_index
+at_state plan u count page_index c a b d swaps t = (
   subst (λ (x : ℕ). SwapsOn plan x u.left) (sym a) swaps,
-  subst (λ (x : ℕ). TurnAfter plan u.left u.current u.next x) (sym b) (subst (λ (x : Configuration). TurnAfter plan u.left x u.next turn) (sym d) t),
+  subst (λ (x : ℕ). TurnAfter plan u.left u.current u.next x) (sym b) (subst (λ (x : Configuration). TurnAfter plan u.left x u.next page_index) (sym d) t),
 )
 
 carried_by : (plan : Plan) (s u : State) (due : Bool) → Tracked plan s → Carries plan (cond due (with_swap s) s) u → Carried plan s u
 carried_by plan s u true h g =
-    let at = at_state plan u s.count 0 s.next g.count g.turn g.current (newly_swaps plan s.count u.left g.left) (newly_turn plan s.count u.left s.next u.next 0 g.left (some_rounds plan.mode (page_set s.next None))) in
-    record { count = g.count; eid = g.eid; current = subst (λ (x : Configuration). IsConfiguration x) (sym g.current) h.next; next = g.next h.next; swaps = at.0; turn = at.1 }
+    let at = at_state plan u s.count 0 s.next g.count g.page_index g.current (newly_swaps plan s.count u.left g.left) (newly_turn plan s.count u.left s.next u.next 0 g.left (some_rounds plan.mode (page_set s.next None))) in
+    record { count = g.count; eid = g.eid; current = subst (λ (x : Configuration). IsConfiguration x) (sym g.current) h.next; next = g.next h.next; swaps = at.0; page_index = at.1 }
 carried_by plan s u false h g =
-    let at = at_state plan u s.count s.turn s.current g.count g.turn g.current (swaps_carried plan s.count s.left u.left s.next u.next g.left h.swaps) (turn_carried plan s.count s.left u.left s.current s.next u.next s.turn g.left h.turn) in
-    record { count = g.count; eid = g.eid; current = subst (λ (x : Configuration). IsConfiguration x) (sym g.current) h.current; next = g.next h.next; swaps = at.0; turn = at.1 }
+    let at = at_state plan u s.count s.page_index s.current g.count g.page_index g.current (swaps_carried plan s.count s.left u.left s.next u.next g.left h.swaps) (turn_carried plan s.count s.left u.left s.current s.next u.next s.page_index g.left h.page_index) in
+    record { count = g.count; eid = g.eid; current = subst (λ (x : Configuration). IsConfiguration x) (sym g.current) h.current; next = g.next h.next; swaps = at.0; page_index = at.1 }
 
 -- page 0 is in turn where a notice begins
-first_turn : (plan : Plan) (left : Option ℕ) (c n : Configuration) (turn : ℕ) → is_first_noticed plan.notice left ≡ true → TurnShown plan left c n 0
-first_turn plan None c n turn e = absurd cc
-first_turn plan (Some l) c n turn e =
+first_turn : (plan : Plan) (left : Option ℕ) (c n : Configuration) (page_index : ℕ) → is_first_noticed plan.notice left ≡ true → TurnShown plan left c n 0
+first_turn plan None c n page_index e = absurd cc
+first_turn plan (Some l) c n page_index e =
     let is : l ≡ plan.notice = eqb-true l plan.notice e in
     let none : plan.notice - l ≡ 0 = omega (arith, is) in
     record {
@@ -255,14 +255,14 @@ first_turn plan (Some l) c n turn e =
       before = λ past. absurd (omega (arith, past, is));
     }
 
-other_turn : (plan : Plan) (left : Option ℕ) (c n : Configuration) (turn : ℕ) → is_first_noticed plan.notice left ≡ false → TurnAfter plan left c n turn → TurnShown plan left c n turn
-other_turn plan None c n turn e h = h
-other_turn plan (Some l) c n turn e h =
+other_turn : (plan : Plan) (left : Option ℕ) (c n : Configuration) (page_index : ℕ) → is_first_noticed plan.notice left ≡ false → TurnAfter plan left c n page_index → TurnShown plan left c n page_index
+other_turn plan None c n page_index e h = h
+other_turn plan (Some l) c n page_index e h =
     let apart = eqb-false l plan.notice e in
     record { within = λ inside. h.within (omega (arith, inside, apart)); before = h.before }
 
 airs_by : (p : Program) (ts : List Known) (s u : State) (first : Bool) → is_first_noticed p.plan.notice u.left ≡ first → Tracked p.plan s → Suspends p ts u → Carried p.plan s u
-    → Airs p.plan (cond first (let r : State = record u { turn = 0 } in r) u)
+    → Airs p.plan (cond first (let r : State = record u { page_index = 0 } in r) u)
 airs_by p ts s u true e h d g = record {
   count = subst (λ (x : ℕ). x < 5000) (sym g.count) h.count;
   eid = subst (λ (x : ℕ). x < 65536) (sym g.eid) h.eid;
@@ -272,7 +272,7 @@ airs_by p ts s u true e h d g = record {
   on_air = d.kept.on_air;
   committed = d.kept.committed;
   swaps = g.swaps;
-  turn = first_turn p.plan u.left u.current u.next u.turn e;
+  page_index = first_turn p.plan u.left u.current u.next u.page_index e;
 }
 airs_by p ts s u false e h d g = record {
   count = subst (λ (x : ℕ). x < 5000) (sym g.count) h.count;
@@ -283,7 +283,7 @@ airs_by p ts s u false e h d g = record {
   on_air = d.kept.on_air;
   committed = d.kept.committed;
   swaps = g.swaps;
-  turn = other_turn p.plan u.left u.current u.next u.turn e g.turn;
+  page_index = other_turn p.plan u.left u.current u.next u.page_index e g.page_index;
 }
 
 pub frame_carried : (p : Program) (ts : List Known) → IsProgram p → IsTyping p ts → (s : State) → Between p ts s → Tracked p.plan s → Carried p.plan s (after_burst p s)

@@ -1,4 +1,4 @@
--- A typed code doesn't go wrong.
+-- A typed code never traps.
 use Rattle.std.specs.Prelude.{slice_get}
 use Rattle.std.proofs.Common.{◌≡◌, ℕ, true, false, eqb, List, [], ◌∷◌, length, replicate, Option, Some, None, refl, sym, ap, subst, ◌∙◌, arith, inl}
 use Rattle.std.specs.Int.{bit_at}
@@ -12,7 +12,7 @@ use Rattle.plan_code.specs.declared.label.Swap.{Swap}
 use Rattle.plan_code.specs.declared.label.Swap.TheVariants.{Idle, Within, Perhaps}
 use Rattle.plan_code.specs.Program.{Program, IsProgram, label_at}
 use Rattle.plan_code.specs.Machine.{State}
-use Rattle.plan_verifier.specs.Typing.{Known, IsTyping, Arrives, ComesTo, FitsSwap}
+use Rattle.plan_verifier.specs.Typing.{Known, IsTyping, Arrives, CanEnter, FitsSwap}
 use Rattle.plan_runs.specs.declared.event.Event.{Event}
 use Rattle.plan_runs.specs.declared.event.Event.TheVariants.{Contact, Frame}
 use Rattle.plan_runs.specs.declared.event.Start.{Start}
@@ -64,7 +64,7 @@ started_between p ts start s ty st =
     let next : s.next ≡ known.next = st.next ∙ sym current ∙ o.opening.initial.same in
     let place = ty.labels label (found (λ (l : Label). eqb l.pc 0) p.labels label o.first).inside in
     let cost : label.cost ≡ known.allowance = o.declares.cost in
-    let comes_to : ComesTo p label known =
+    let comes_to : CanEnter p label known =
     record {
       declared = known;
       declares = o.declares;

@@ -1,4 +1,4 @@
--- Without a commit no swap comes to be pending.
+-- Without a commit no swap becomes pending.
 use Rattle.std.proofs.Common.{◌≡◌, ℕ, zero, suc, ◌+◌, ◌<◌, Bool, true, false, cond, Option, Some, None, refl, sym, ap, ◌∙◌, arith, inl, inr, ◌⊎◌}
 use Rattle.plan_code.specs.declared.plan.Plan.{Plan}
 use Rattle.plan_code.specs.declared.hold.Hold.TheVariants.{Waits}
@@ -32,7 +32,7 @@ step_left : (plan : Plan) (o : Option Instr) (s : State) → ((i : Instr) → o 
 step_left plan None s other = refl
 step_left plan (Some i) s other = effect_left plan i s (other i refl)
 
--- no commit is one of the instructions that the machine carries out from this state
+-- the machine executes no commit from this state on
 abbrev IsWithoutCommit : ℕ → Program → State → Type 0
 IsWithoutCommit most p s = (k : ℕ) (i : Instr) → k < burst_steps most p s → instr_at p (burst k p s).pc ≡ Some i → IsCommit i → ⊥
 
@@ -71,5 +71,5 @@ swaps_are_committed p s idle other =
     let before : (ready s).left ≡ None = either_left (is_here t t.hold) (record t { hold = Waits 0 }) t refl ∙ begun s idle in
     let end : State = after_burst p s in
     let after : end.left ≡ None = burst_left p.plan.budget p (ready s) (λ k i below at. other i (k, below, at)) ∙ before in
-    let shows = either_left (is_first_noticed p.plan.notice end.left) (record end { turn = 0 }) end refl ∙ after in
+    let shows = either_left (is_first_noticed p.plan.notice end.left) (record end { page_index = 0 }) end refl ∙ after in
     ap left_after_frame shows

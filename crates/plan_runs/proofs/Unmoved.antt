@@ -1,4 +1,4 @@
--- A frame leaves the contacts as they are.
+-- A frame does not change the contacts.
 use Rattle.std.proofs.Common.{◌≡◌, ℕ, zero, suc, Bool, true, false, cond, Option, Some, None, refl, ◌∙◌}
 use Rattle.plan_code.specs.declared.plan.Plan.{Plan}
 use Rattle.plan_code.specs.declared.flags.Contacts.{Contacts}
@@ -8,7 +8,7 @@ use Rattle.plan_code.specs.Program.{Program, instr_at}
 use Rattle.plan_code.specs.Machine.{State, step, settle, effect, effect_of}
 use Rattle.plan_runs.specs.Frames.{is_due, with_swap, with_due_swap, is_running, is_here, burst, ready, after_burst, is_first_noticed, after_frame}
 
--- of two states with the same contacts, whichever is taken
+-- either of two states with the same contacts
 either_contacts : (test : Bool) (s t : State) (contacts : Contacts) → s.contacts ≡ contacts → t.contacts ≡ contacts → (cond test s t).contacts ≡ contacts
 either_contacts true s t contacts here there = here
 either_contacts false s t contacts here there = there

@@ -1,4 +1,4 @@
--- Small runs, computed by the checker: the bytes and the counts are those of worked examples of the field.
+-- Small runs, computed by the checker: the bytes and counts are those of worked examples from practice.
 use Rattle.std.proofs.Common.{◌≡◌, ℕ, zero, suc, true, false, List, [], ◌∷◌, ◌++◌, Some, None, take, drop, replicate, refl}
 use Rattle.mux_eep.specs.declared.sizes.EepSet.TheVariants.{A}
 use Rattle.mux_types.specs.declared.parts.Sub.{Sub}
@@ -40,7 +40,7 @@ abbrev frames : ℕ → List Event
 frames zero = []
 frames (suc n) = Frame ∷ frames n
 
--- a state in which a code starts with this configuration, at this count
+-- a start of a code with this configuration, at this count
 abbrev starts : Configuration → ℕ → State
 starts c count =
     record {
@@ -54,7 +54,7 @@ starts c count =
       count = count;
       day = 0;
       eid = 0xe1c5;
-      turn = 0;
+      page_index = 0;
     }
 
 abbrev sub_at_rate : ℕ → Sub
@@ -81,11 +81,11 @@ begins =
           ∷ [];
     }
 
--- the first frame carries out five instructions, and then 25 frames are left
+-- the first frame executes five instructions, and then 25 frames are left
 first_frame : (frame_steps begins (starts nothing 4990) ≡ 5) × ((run begins (starts nothing 4990) (frames 1)).left ≡ Some 25)
 first_frame = (refl, refl)
 
--- the first flagged frame is that of count 4992: change flags 11, occurrence change 16, the next configuration
+-- the first flagged frame has count 4992: change flags 11, occurrence change 16, the next configuration
 first_flagged : take 20 (frame_bytes begins (run begins (starts nothing 4990) (frames 2)))
     ≡ 0x06 ∷ 0x00 ∷ 0xe1 ∷ 0xc5 ∷ 0xd3 ∷ 0xf2 ∷ 0x10 ∷ 0x05 ∷ 0x81 ∷ 0x04 ∷ 0x00 ∷ 0x88 ∷ 0x60 ∷ 0x06 ∷ 0x82 ∷ 0xc2 ∷ 0x21 ∷ 0x01 ∷ 0x3f ∷ 0x06 ∷ []
 first_flagged = refl
@@ -97,15 +97,15 @@ swap_count = (refl, refl)
 swap_bytes : take 6 (frame_bytes begins (run begins (starts nothing 4990) (frames 26))) ≡ 0x05 ∷ 0x00 ∷ 0xe1 ∷ 0xc5 ∷ 0x00 ∷ 0x10 ∷ []
 swap_bytes = refl
 
--- a commit for the present count waits for a whole turn of the count, and is announced from count 976 on
+-- a commit for the present count waits for a whole cycle of the count, and is announced from count 976 on
 whole_turn : left_at 1000 24 1000 ≡ 5000
 whole_turn = refl
 
--- the frame of count 976 with 24 frames left, of the same change
+-- the frame of count 976 with 24 frames left and the same change
 abbrev awaited : State
 awaited =
     let s = run begins (starts nothing 976) (frames 1) in
-    record s { count = 976; left = Some 24; turn = 0 }
+    record s { count = 976; left = Some 24; page_index = 0 }
 
 flagged_at_976 : take 7 (frame_bytes begins awaited) ≡ 0x06 ∷ 0x00 ∷ 0xe1 ∷ 0xc5 ∷ 0xc3 ∷ 0xe2 ∷ 0x00 ∷ []
 flagged_at_976 = refl
@@ -143,7 +143,7 @@ lowers =
           ∷ [];
     }
 
--- one frame, and then contact 3 is closed, open and closed again
+-- one frame, and then contact 3 is closed, opened and closed again
 abbrev closing : List Event
 closing = Frame ∷ Contact 3 true ∷ Contact 3 false ∷ Contact 3 true ∷ []
 
@@ -152,7 +152,7 @@ after_closing : (frame_steps lowers (run lowers (starts opening 0) closing) ≡ 
 after_closing = (refl, refl)
 
 -- the frame of count 4 is the first of the notice: FIG 0/0 with change flags 01 and occurrence change 28, the current
--- configuration, and the next sub-channel; the next service stands in the second FIB
+-- configuration, and the next sub-channel; the next service is in the second FIB
 flagged_at_4 : take 26 (frame_bytes lowers (run lowers (starts opening 0) (closing ++ frames 3)))
     ≡ 0x06 ∷ 0x00 ∷ 0xe1 ∷ 0xc5 ∷ 0x40 ∷ 0x04 ∷ 0x1c ∷ 0x05 ∷ 0x01 ∷ 0x04 ∷ 0x00 ∷ 0x88 ∷ 0x60 ∷ 0x06 ∷ 0x02 ∷ 0xc2 ∷ 0x21 ∷ 0x01 ∷ 0x3f ∷ 0x06
     ∷ 0x05 ∷ 0x81 ∷ 0x04 ∷ 0x00 ∷ 0x88 ∷ 0x48 ∷ []

@@ -1,4 +1,4 @@
--- Frames of one sub-channel and of a notice that lowers its rate: what has to be heard in them, where it is and where not.
+-- Frames of one sub-channel, and of a notice that lowers its rate: what is heard in them, and what is not.
 use Rattle.std.proofs.Common.{◌≡◌, ℕ, zero, suc, ◌<◌, Bool, true, false, List, [], ◌∷◌, Contains, Option, Some, None, replicate, refl, sym, ap, subst, ◌∙◌, arith}
 use Rattle.std.proofs.lemmas.Option.{slice_get_within}
 use Rattle.std.specs.List.{AllByRecursion}
@@ -33,7 +33,7 @@ use Rattle.plan_runs.proofs.VectorsOfRuns.{sub, with_sub, all_open, configuratio
 abbrev plan : Mode → Plan
 plan mode = record { eid = 0xe1c5; mode = mode; period = 1; notice = 12; budget = 20 }
 
--- a code that has ended, on the air with 128 kbit/s; 96 kbit/s come with the swap, where one is pending
+-- a code that has ended, on the air with 128 kbit/s; a pending swap changes it to 96 kbit/s
 abbrev code : Mode → Program
 code mode = record { plan = plan mode; configurations = []; labels = []; lines = [] }
 
@@ -50,7 +50,7 @@ on_air left count =
       count = count;
       day = 0;
       eid = 0xe1c5;
-      turn = 0;
+      page_index = 0;
     }
 
 -- ---- FIGs
@@ -71,12 +71,12 @@ other_extension = no_header
 is_one : IsNoHeader (Open 0 []) → ⊥
 is_one h = h a_header
 
--- ---- the information of FIG 0/0, where a swap comes in 12 frames
+-- ---- the information of FIG 0/0, with a swap 12 frames later
 
 abbrev unflagged : ℕ → EnsembleInformation
 unflagged count = record { eid = 0xe1c5; change = 0; al = false; count = count; occurrence = None }
 
--- the sub-channel organization changes
+-- with the change flag of the sub-channel organization
 abbrev flagged : ℕ → ℕ → EnsembleInformation
 flagged count low = record { eid = 0xe1c5; change = 1; al = false; count = count; occurrence = Some low }
 
@@ -231,7 +231,7 @@ two_headers h =
     let within : h.third < 2 = slice_get_within (headed ∷ headed ∷ []) h.third h.in_third.0 h.in_third.1 in
     omega (arith, within, h.before_second, h.before_third)
 
--- ---- right frames
+-- ---- correct frames
 
 pub laws : PageLaws
 laws = record { each = each_in_a_page; pageable = page_sets_are_pageable; valid = pages_are_valid; heard = pages_are_heard; ensemble = ensemble_is_heard }
@@ -246,7 +246,7 @@ airs count below = record {
   on_air = record { sound = sound_told (with_sub 128) refl; within_period = omega arith };
   committed = tt;
   swaps = tt;
-  turn = omega arith;
+  page_index = omega arith;
 }
 
 frame_of_8 : IsRight (plan I) (on_air None 8) headed
@@ -264,12 +264,12 @@ no_header_at_all = frame_of_9.unheaded (λ e. let one : 1 ≡ 0 = e in omega (ar
 no_header_in_its_second : IsUnheaded (fib_at headed 1)
 no_header_in_its_second = frame_of_8.others_unheaded 1 (omega arith) (omega arith)
 
--- what says FIG 0/0 is one
+-- a FIG with ensemble information is a FIG 0/0
 says_header : (fig : Fig) (e : EnsembleInformation) → IsInFig fig (marked false (EnsembleOf e)) → IsEnsembleFig fig
 says_header (Open second es) e h = h.2.ext
 says_header (Other bytes) e h = h
 
--- the same bytes don't begin with FIG 0/0 and go without it
+-- the same bytes can't both begin with FIG 0/0 and be without it
 not_both : (plan : Plan) (s : State) (fib : List ℕ) → IsHeadedBy plan s fib → IsUnheaded fib → ⊥
 not_both plan s fib h u =
     let same : u.0 ≡ h.header ∷ h.others = one_fib fib u.0 (h.header ∷ h.others) u.1 h.first in
@@ -296,7 +296,7 @@ not_for_count_12 h =
     some_information : (e other : EnsembleInformation) → Some e ≡ Some other → e ≡ other
     some_information e other same = cc
 
--- ---- a notice in mode II: the swap comes at count 10
+-- ---- a notice in mode II: the swap falls on count 10
 
 abbrev noticed : ℕ → ℕ → State
 noticed count left = on_air (Some left) count
@@ -404,7 +404,7 @@ announced_for_11 h =
     let same : 10 ≡ 11 = some_count 10 11 ((h.flagged (notice_frame 7 3) false (flagged 7 10) (0, omega arith, refl) (header_of 7 3 three_before)).1) in
     omega (arith, same)
 
--- and two of them announce none
+-- and two frames alone announce no swap
 announced_by_two : IsAnnounced (with_sub 128) (with_sub 96) 10 (notice_frame 8 2 ∷ notice_frame 9 1 ∷ []) → ⊥
 announced_by_two h =
     let within : h.headers.third < 2 = slice_get_within (notice_frame 8 2 ∷ notice_frame 9 1 ∷ []) h.headers.third h.headers.in_third.0 h.headers.in_third.1 in
@@ -428,7 +428,7 @@ announces_only_11 h = let e : 10 ≡ 11 = h 10 announces_10 in omega (arith, e)
 announces_11 : IsAnnouncedIn (notice_frame 9 1) 11 → ⊥
 announces_11 h = let e : 11 ≡ 10 = only_10 11 h in omega (arith, e)
 
--- without a swap none is announced
+-- without a swap no count is announced
 announces_nothing : (low : ℕ) → IsAnnouncedIn headed low → ⊥
 announces_nothing low h =
     let said = (ensemble_is_heard I (ensemble_sent (plan I) (on_air None 8)) 0 (sent_entries (plan I) (on_air None 8)) with_header h.0 h.1).0 h.2 in
@@ -440,7 +440,7 @@ swap_at_10 = refl
 no_swap_at_10 : SwapsAt 10 (code II) (on_air (Some 1) 10) (Frame ∷ []) → ⊥
 no_swap_at_10 h = let e : false ≡ true = h in absurd cc
 
--- a swap comes in the frame after the one that announces it
+-- a swap falls on the frame after the one that announces it
 keeps_its_count : KeepsCount (code II) (noticed 9 1) (Frame ∷ Frame ∷ [])
 keeps_its_count = ((λ low h. at_10 low (only_10 low h)), ((λ low h. tt), tt))
   where
@@ -466,7 +466,7 @@ names_the_second = (
 not_its_swap : KeepsCount too_long (noticed 0 251) (Frame ∷ Frame ∷ []) → ⊥
 not_its_swap h = let e : false ≡ true = h.0 1 names_the_second in absurd cc
 
--- ---- the frame of a swap, which was announced
+-- ---- the frame of an announced swap
 
 abbrev swapping : State
 swapping = on_air (Some 0) 10

@@ -1,4 +1,4 @@
--- Swaps, waits, counts, contacts and what was heard: each definition where it holds, and where it fails.
+-- Swaps, waits, counts, contacts and what was heard: for each definition, examples that hold and examples that fail.
 use Rattle.std.specs.Prelude.{map, get_or}
 use Rattle.std.proofs.Common.{◌≡◌, ℕ, zero, suc, ◌<◌, ◌≤◌, ◌%◌, true, false, List, [], ◌∷◌, length, Some, None, refl, sym, ap, arith, inl, inr}
 use Rattle.mux_types.specs.declared.parts.Sub.{Sub}
@@ -18,7 +18,7 @@ use Rattle.plan_runs.specs.declared.event.Event.TheVariants.{Contact, Frame}
 use Rattle.plan_runs.specs.declared.event.Start.{Start}
 use Rattle.plan_runs.specs.Frames.{is_due, ensemble_of, shown, frame_bytes, after_frame}
 use Rattle.plan_runs.specs.Firsts.{is_active, CarriesOut, IsFirstWhere}
-use Rattle.plan_runs.specs.Swaps.{IsOnStep, SwapsWhereDue, ComesAtCount, ComesInTime, IsCommit}
+use Rattle.plan_runs.specs.Swaps.{IsOnStep, SwapsWhereDue, IsSwapAtCount, IsSwapAfterDelay, IsCommit}
 use Rattle.plan_runs.specs.Waits.{IsWaitOf, HasCome, WaitsUntil}
 use Rattle.plan_runs.specs.Clock.{IsCounted, level_after}
 use Rattle.plan_runs.specs.LastSent.{AreLastSent}
@@ -63,7 +63,7 @@ not_the_second : IsFirstWhere (is_active waits) (λ n t. n ≡ 2) 1 waits second
 not_the_second (inl h) = let e : 1 ≡ 2 = h.1 in omega (arith, e)
 not_the_second (inr h) = let clash : true ≡ false = h.0 in absurd cc
 
--- ---- swaps, with 128 kbit/s on the air and 96 kbit/s to come
+-- ---- swaps, with 128 kbit/s on the air and 96 kbit/s next
 
 abbrev due_at : ℕ → State
 due_at count = record first { next = with_sub 96; left = Some 0; count = count }
@@ -93,27 +93,27 @@ no_commit : IsCommit (Wait 24) → ⊥
 no_commit h = h
 
 -- a commit for the next count, at count 0
-at_its_count : ComesAtCount 1 (code 20 (line (CommitAt 1) ∷ line End ∷ [])) first (Frame ∷ [])
+at_its_count : IsSwapAtCount 1 (code 20 (line (CommitAt 1) ∷ line End ∷ [])) first (Frame ∷ [])
 at_its_count carries = inl (refl, (omega arith, refl))
 
--- a second commit in the same frame, which is not allowed, takes the place of the first
+-- a second commit in the same frame, which is not allowed, replaces the first
 abbrev commits_twice : Program
 commits_twice = code 20 (line (CommitAt 1) ∷ line (CommitAt 2) ∷ line End ∷ [])
 
-at_another_count : ComesAtCount 1 commits_twice first (Frame ∷ []) → ⊥
+at_another_count : IsSwapAtCount 1 commits_twice first (Frame ∷ []) → ⊥
 at_another_count h = by (h (0, omega arith, refl))
   where
     by : IsFirstWhere (λ t. is_due t.left) (λ later t. (1 ≤ later) × (t.count ≡ 1)) 1 commits_twice (after_frame commits_twice first) (Frame ∷ []) → ⊥
     by (inl g) = let clash : false ≡ true = g.0 in absurd cc
     by (inr g) = g.1 (omega arith, refl)
 
-in_time : ComesInTime 1 (code 20 (line (CommitIn 1) ∷ line End ∷ [])) first (Frame ∷ [])
+in_time : IsSwapAfterDelay 1 (code 20 (line (CommitIn 1) ∷ line End ∷ [])) first (Frame ∷ [])
 in_time carries = inl (refl, (omega arith, refl))
 
 abbrev commits_again : Program
 commits_again = code 20 (line (CommitIn 1) ∷ line (CommitIn 2) ∷ line End ∷ [])
 
-out_of_time : ComesInTime 1 commits_again first (Frame ∷ []) → ⊥
+out_of_time : IsSwapAfterDelay 1 commits_again first (Frame ∷ []) → ⊥
 out_of_time h = by (h (0, omega arith, refl))
   where
     by : IsFirstWhere (λ t. is_due t.left) (λ later t. (1 ≤ later) × (t.count % 1 ≡ 0)) 1 commits_again (after_frame commits_again first) (Frame ∷ []) → ⊥
@@ -126,10 +126,10 @@ suspends_for_three : IsWaitOf (Wait 3) (Waits 3)
 suspends_for_three = refl
 
 suspends_for_two : IsWaitOf (Wait 3) (Waits 2) → ⊥
-suspends_for_two h = let e : 2 ≡ 3 = waited 2 3 h in omega (arith, e)
+suspends_for_two h = let e : 2 ≡ 3 = after_wait 2 3 h in omega (arith, e)
   where
-    waited : (a b : ℕ) → Waits a ≡ Waits b → a ≡ b
-    waited a b same = cc same
+    after_wait : (a b : ℕ) → Waits a ≡ Waits b → a ≡ b
+    after_wait a b same = cc same
 
 third_frame : HasCome (Waits 3) 3 first
 third_frame = refl
@@ -137,7 +137,7 @@ third_frame = refl
 second_frame : HasCome (Waits 3) 2 first → ⊥
 second_frame h = let e : 2 ≡ 3 = h in omega (arith, e)
 
--- 22:00:00 is 79,200 s of 24 ms a frame
+-- 22:00:00 is 79,200 s, in frames of 24 ms
 at_ten : HasCome (WaitsDay 3300000) 1 (record first { day = 3300000 })
 at_ten = refl
 
@@ -165,7 +165,7 @@ never h = h
 waits_for_one : WaitsUntil waits second (Frame ∷ Contact 3 true ∷ Frame ∷ [])
 waits_for_one = waits_are_kept waits second (Frame ∷ Contact 3 true ∷ Frame ∷ []) played
 
--- a code that a budget of one instruction cuts off in the middle of a frame
+-- a code that a budget of one instruction cuts off within a frame
 abbrev cut_off : Program
 cut_off = code 1 (line (Set 0 1) ∷ line (Set 0 1) ∷ line End ∷ [])
 
@@ -195,7 +195,7 @@ earlier_setting e = let clash : false ≡ true = e in absurd cc
 nothing_was_heard : AreLastSent waits first (Frame ∷ [])
 nothing_was_heard = record { along = refl; earlier = frame_bytes waits first ∷ []; sent = refl; whole = λ due. let clash : false ≡ true = due in absurd cc }
 
--- one frame of a notice of 12 frames is past, but none was sent
+-- one frame of a notice of 12 frames has passed, but none was sent
 heard_unsent : AreLastSent (record waits { plan = plan I 12 20 }) (record (due_at 1) { left = Some 11 }) [] → ⊥
 heard_unsent h = let e : 0 ≡ 1 = ap (λ (frames : List (List ℕ)). length frames) h.along in omega (arith, e)
 

@@ -1,5 +1,5 @@
--- What typed codes promise: where it holds of a small code, and where a code without a type, or a state that no run comes
--- to, breaks it.
+-- The guarantees of typed codes: for a small code they hold; for an untyped code, or a state that no run reaches, they
+-- fail.
 use Rattle.std.proofs.Common.{◌≡◌, ◌<◌, true, false, List, [], ◌∷◌, refl, arith}
 use Rattle.mux_entries.specs.Facts.{marked, sub_entry}
 use Rattle.mux_entries.specs.Entries.{EnsembleInformation}
@@ -48,7 +48,7 @@ always_runs more = swaps_are_announced laws waits second more played
 not_always : AlwaysRuns joins first → ⊥
 not_always h = frame_traps (h events).0.allowed
 
--- ---- right bytes
+-- ---- correct bytes
 
 frame_right : FrameIsRight waits second
 frame_right = frames_are_right laws waits second played
@@ -79,7 +79,7 @@ wrong_frames h = wrong_frame h.0
 heard_each_period : IsHeardEachPeriod waits second
 heard_each_period = periods_are_whole laws waits second played
 
--- in a period of no frames nothing is heard
+-- with a period of no frames nothing is heard
 no_period : IsHeardEachPeriod (record waits { plan = record plan { period = 0 } }) first → ⊥
 no_period h =
     let heard : IsHeardInSome [] (marked false (sub_entry (sub 128))) = h [] [] tt refl (marked false (sub_entry (sub 128))) (0, omega arith, refl) in

@@ -1,4 +1,4 @@
--- Runs of a code that waits for a frame and ends: each definition of runs where it holds, and where it fails.
+-- Runs of a code that waits for a frame and ends: for each definition, an example that holds and one that fails.
 use Rattle.std.proofs.Common.{◌≡◌, ℕ, zero, suc, ◌<◌, ◌≤◌, Bool, true, false, cond, List, [], ◌∷◌, length, Some, None, ◌==◌, replicate, refl, sym, ap, subst, arith}
 use Rattle.std.proofs.lemmas.Bool.{false≢true}
 use Rattle.mux_eep.specs.declared.sizes.EepSet.TheVariants.{A}
@@ -31,7 +31,7 @@ use Rattle.plan_runs.specs.Announced.{IsJoined}
 use Rattle.plan_runs.proofs.Joined.{runs_join}
 use Rattle.plan_runs.proofs.Reached.{starts_are_reached, reached_is_kept}
 
--- ---- values shared by these vectors: one sub-channel, at 128 kbit/s and at 96
+-- ---- values shared by these vectors: one sub-channel, at 128 kbit/s and at 96 kbit/s
 
 abbrev pub plan : Plan
 plan = record { eid = 0xe1c5; mode = I; period = 4; notice = 24; budget = 20 }
@@ -79,7 +79,7 @@ first =
       count = 0;
       day = 0;
       eid = 0xe1c5;
-      turn = 0;
+      page_index = 0;
     }
 
 abbrev pub second : State
@@ -116,7 +116,7 @@ it_starts = record {
   count = refl;
   day = refl;
   eid = refl;
-  turn = refl;
+  page_index = refl;
 }
 
 some_left : (left : ℕ) → Some left ≡ None → ⊥
@@ -126,7 +126,7 @@ some_left left e = absurd cc
 not_with_a_swap : IsStart waits start (record first { left = Some 4 }) → ⊥
 not_with_a_swap h = some_left 4 h.left
 
--- ---- events that meet no trap
+-- ---- events without a trap
 
 pub one_instruction : Executes waits (ready first) 1 (after_burst waits first)
 one_instruction = (refl, record { instr = Wait 1; within = refl; allowed = tt }, (refl, refl))
@@ -148,7 +148,7 @@ second_frame = record {
 frame_is_allowed : EventIsAllowed waits first Frame
 frame_is_allowed = first_frame
 
--- a contact closes, and then come two frames
+-- a frame, a contact that closes, and another frame
 two_frames : RunIsAllowed waits first (Frame ∷ Contact 3 true ∷ Frame ∷ [])
 two_frames = (first_frame, (tt, (third, tt)))
   where
@@ -160,7 +160,7 @@ two_frames = (first_frame, (tt, (third, tt)))
       counted = refl;
     }
 
--- a join with nothing pending
+-- a join without a pending swap
 no_join : (c : Contacts) (i : Instr) → Some Join ≡ Some i → IsAllowed plan i (record first { contacts = c }) → ⊥
 no_join c i at allowed =
     let same : Join ≡ i = cc in
@@ -181,12 +181,12 @@ third_closed = record { 0 = 8 }
 run_traps : RunIsAllowed joins first (Contact 3 true ∷ Frame ∷ []) → ⊥
 run_traps h = join_traps third_closed h.1.0.steps _ h.1.0.executes
 
--- ---- a run in two parts is one: this holds of every run
+-- ---- a run in two parts, which joins for every run
 
 frame_by_frame : IsJoined waits first [] (Frame ∷ []) (Contact 3 true ∷ Frame ∷ [])
 frame_by_frame = runs_join waits first [] (Frame ∷ []) (Contact 3 true ∷ Frame ∷ [])
 
--- ---- states that a run comes to
+-- ---- states that a run reaches
 
 reached_by_a_frame : IsReached waits second
 reached_by_a_frame = reached_is_kept waits first (Frame ∷ []) (starts_are_reached waits start first in_range it_starts) (tt, tt)
@@ -195,7 +195,7 @@ reached_by_a_frame = reached_is_kept waits first (Frame ∷ []) (starts_are_reac
 never_reached : IsReached (record waits { labels = [] }) first → ⊥
 never_reached h = let e : None ≡ Some h.started.label = h.started.first in absurd cc
 
--- ---- typed codes in states that they come to
+-- ---- typed codes in states that they reach
 
 sub_is : IsPlaced (sub 128)
 sub_is = record {
@@ -295,22 +295,22 @@ played = record { program = waits_is; typed = typed_if waits waits_is refl; reac
 pub played_first : IsPlayed waits first
 played_first = record { program = waits_is; typed = typed_if waits waits_is refl; reached = starts_are_reached waits start first in_range it_starts }
 
--- its verifier refuses the join
+-- the verifier refuses its join
 not_played : (s : State) → IsPlayed joins s → ⊥
 not_played s h = (codes_have_one_verdict joins joins_is).never_both 0 JoinIdle h.typed (refused_if joins 0 JoinIdle joins_is refl)
 
 can_be_sent : CanBeSent plan first
 can_be_sent = record {
-  turn = omega arith;
+  page_index = omega arith;
   current = configuration_is;
   next = configuration_is;
   count = omega arith;
   ensemble = record { eid = omega arith; change = omega arith; count = omega arith; flagged = (λ none. absurd cc, λ some. absurd (omega (arith, some))); occurrence = tt };
 }
 
--- all entries stand on page 0
-no_second_page : CanBeSent plan (record first { turn = 1 }) → ⊥
-no_second_page h = let e : 1 < 1 = h.turn in omega (arith, e)
+-- all entries are on page 0
+no_second_page : CanBeSent plan (record first { page_index = 1 }) → ⊥
+no_second_page h = let e : 1 < 1 = h.page_index in omega (arith, e)
 
 -- ---- what a phase sends, with a notice of 24 frames
 
@@ -340,7 +340,7 @@ a_setting = omega arith
 no_setting : IsSetting (closes 16) → ⊥
 no_setting h = let e : 16 < 16 = h in omega (arith, e)
 
--- contact 3 opens and closes
+-- contact 3 opens and then closes
 last_counts : AgreeOnContacts (opens 3 ∷ closes 3 ∷ []) (closes 3 ∷ [])
 last_counts contact = by (3 == contact)
   where

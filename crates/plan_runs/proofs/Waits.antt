@@ -1,4 +1,4 @@
--- A suspended code goes on in the first frame with which what it waits for has come.
+-- A suspended code resumes in the first frame with which its wait ends.
 use Rattle.std.specs.Prelude.{nat_le, ◌==◌}
 use Rattle.std.proofs.Common.{◌≡◌, ℕ, zero, suc, ◌+◌, ◌-◌, ◌≤◌, Bool, true, false, cond, List, [], ◌∷◌, refl, sym, ap, subst, ◌∙◌, arith, inl, inr}
 use Rattle.std.proofs.lemmas.Bool.{eqb-true, eqb-false, le-leb}
@@ -48,7 +48,7 @@ ends_is : (s : State) (due : Bool) → is_due s.left ≡ due → is_here (cond d
 ends_is s true e = after_swap s s.hold e
 ends_is s false e = without_swap s s.hold e
 
--- ---- then, and only then, the frame carries out instructions
+-- ---- then, and only then, the frame executes instructions
 
 steps_by : (budget : ℕ) (p : Program) (s : State) (runs : Bool) → is_running s.hold ≡ runs → 1 ≤ budget → nat_le 1 (burst_steps budget p s) ≡ runs
 steps_by zero p s runs e some = absurd (omega (arith, some))
@@ -65,13 +65,13 @@ active_is p s some =
     let t : State = with_due_swap s in
     steps_by p.plan.budget p (ready s) (is_here t t.hold) (ready_runs t (is_here t t.hold) refl) some ∙ ends_is s (is_due s.left) refl
 
--- ---- else it is still held after the frame
+-- ---- otherwise it is still suspended after the frame
 
 burst_stays : (most : ℕ) (p : Program) (s : State) → is_running s.hold ≡ false → burst most p s ≡ s
 burst_stays zero p s e = refl
 burst_stays (suc most) p s e = ap (λ (b : Bool). cond b (burst most p (step p s)) s) e
 
-hold_turned : (s : State) (b : Bool) → (cond b (let r : State = record s { turn = 0 } in r) s).hold ≡ s.hold
+hold_turned : (s : State) (b : Bool) → (cond b (let r : State = record s { page_index = 0 } in r) s).hold ≡ s.hold
 hold_turned s true = refl
 hold_turned s false = refl
 
@@ -104,7 +104,7 @@ still_held p s away =
 
 -- ---- frame by frame
 
--- this holds the machine before the n-th frame after one that left it in `hold`
+-- the hold before the n-th frame after one that left the machine in `hold`
 abbrev IsHeld : Hold → ℕ → Hold → Type 0
 IsHeld (Waits frames) n h = (h ≡ Waits (frames - n)) × (n ≤ frames)
 IsHeld (WaitsDay t) n h = h ≡ WaitsDay t

@@ -1,4 +1,4 @@
--- What was heard of a notice, and when it is enough for the swap.
+-- What was heard of a notice, and when that announces the swap.
 use Rattle.std.specs.Prelude.{◌≡◌, ◌↔◌, ℕ, zero, suc, ◌+◌, ◌-◌, ◌%◌, ◌<◌, Bool, true, if◌then◌else◌, List, [], ◌∷◌, ◌++◌, Contains, slice_get, Option, Some, None}
 use Rattle.mux_config.specs.Configuration.{Configuration}
 use Rattle.mux_entries.specs.Entries.{EnsembleInformation}
@@ -14,35 +14,35 @@ use Rattle.plan_runs.specs.declared.event.Event.TheVariants.{Contact, Frame}
 use Rattle.plan_runs.specs.Frames.{is_due, is_noticed, shown, shown_bytes, with_next_counts, frame_bytes, FrameIsAllowed}
 use Rattle.plan_runs.specs.Runs.{happens, run, run_frames, RunIsAllowed}
 
--- ---- what is heard of frames, by their bytes alone
+-- ---- what is heard in frames, from their bytes alone
 
 abbrev pub IsHeardInSome : List (List ℕ) → Marked → Type 0
 IsHeardInSome frames m = (frame : List ℕ) × Contains frames frame × IsHeardInRow frame m
 
--- the whole configuration is heard in these frames, marked as the next one or as the current one
+-- the whole configuration is heard in these frames, with C/N as the next or as the current one
 abbrev pub IsHeardWhole : Configuration → Bool → List (List ℕ) → Type 0
 IsHeardWhole c next frames = (m : Marked) → Contains (facts_of c next) m → IsHeardInSome frames m
 
 -- ---- the frames of the notice so far
 
--- they are forgotten at the swap
+-- they are dropped at the swap
 abbrev pub heard_before : State → List (List ℕ) → List (List ℕ)
 heard_before s heard = if is_due s.left then [] else heard
 
--- one frame more, where it is one of the notice
+-- adds the frame, if it is one of the notice
 abbrev pub heard_after : Program → State → List (List ℕ) → List (List ℕ)
 heard_after p s heard =
     if is_noticed p.plan.notice (shown p s).left then heard_before s heard ++ frame_bytes p s ∷ [] else heard_before s heard
 
--- the same by the state alone: this many frames from this state on, each with its page in turn
+-- the same from the state alone: this many frames from this state on, each with its page in turn
 abbrev pub notice_frames : Plan → ℕ → State → List (List ℕ)
 notice_frames plan zero s = []
 notice_frames plan (suc n) s = shown_bytes plan s ∷ notice_frames plan n (with_next_counts plan s)
 
--- the first frame of the notice whose swap comes after this many frames more
+-- the first frame of the notice whose swap falls this many frames later
 abbrev pub notice_begin : Plan → ℕ → State → State
 notice_begin plan frames s =
-    record s { count = (s.count + frames + COUNTS - plan.notice) % COUNTS; left = Some plan.notice; turn = 0 }
+    record s { count = (s.count + frames + COUNTS - plan.notice) % COUNTS; left = Some plan.notice; page_index = 0 }
 
 abbrev pub heard_left : Plan → State → Option ℕ → List (List ℕ)
 heard_left plan s None = []
@@ -53,7 +53,7 @@ heard_of plan s = heard_left plan s s.left
 
 -- ---- when a swap was announced
 
--- FIG 0/0 is heard in the frame at this place
+-- FIG 0/0 is heard in the frame; below, in the frame at this index
 abbrev pub HasHeader : List ℕ → Type 0
 HasHeader frame = (next : Bool) × (e : EnsembleInformation) × IsEnsembleHeardInRow frame next e
 
@@ -74,8 +74,8 @@ pub record HasThreeHeaders (frames : List (List ℕ)) : Type 0 where
 abbrev pub IsFlagged : Configuration → Configuration → ℕ → EnsembleInformation → Type 0
 IsFlagged current next count e = (e.change ≡ bits_of (change_of current next)) × (e.occurrence ≡ Some (count % 250))
 
--- the frames of a notice announce the swap at this count: they are three successive parts, each of which has the
--- whole next configuration; and there are three FIG 0/0 or more, all of which are flagged
+-- the frames of a notice announce the swap at this count: they consist of three successive parts, each with the whole
+-- next configuration; and there are at least three FIG 0/0, all of which are flagged
 pub record IsAnnounced (current next : Configuration) (count : ℕ) (heard : List (List ℕ)) : Type 0 where
   pub first : List (List ℕ)
   pub second : List (List ℕ)
@@ -90,7 +90,7 @@ pub record IsAnnounced (current next : Configuration) (count : ℕ) (heard : Lis
 
 -- ---- runs
 
--- a frame meets no trap, and a swap in it was announced by the frames heard so far
+-- a frame has no trap, and a swap in it was announced by the frames heard so far
 pub record FrameRuns (p : Program) (s : State) (heard : List (List ℕ)) : Type 0 where
   pub allowed : FrameIsAllowed p s
   pub announced : is_due s.left ≡ true → IsAnnounced s.current s.next s.count heard
@@ -103,7 +103,7 @@ abbrev pub heard_by : Program → State → List (List ℕ) → Event → List (
 heard_by p s heard (Contact c closed) = heard
 heard_by p s heard Frame = heard_after p s heard
 
--- no event of the list meets a trap, where these frames were heard before
+-- no event of the list has a trap or an unannounced swap, where these frames were heard before
 abbrev pub Runs : Program → State → List (List ℕ) → List Event → Type 0
 Runs p s heard [] = Unit {0}
 Runs p s heard (e ∷ es) = EventRuns p s heard e × Runs p (happens p s e) (heard_by p s heard e) es
@@ -117,8 +117,8 @@ heard_along p s heard (e ∷ es) = heard_along p (happens p s e) (heard_by p s h
 abbrev pub AlwaysRuns : Program → State → Type 0
 AlwaysRuns p s = (events : List Event) → Runs p s (heard_of p.plan s) events
 
--- a run over some events and then over more is the run over all of them: its state, its frames, those that are heard of
--- a notice, and that it meets no trap
+-- a run over some events and then over more is the run over all of them: its state, its frames, the frames heard of
+-- a notice, and that it has no trap
 pub record IsJoined (p : Program) (s : State) (heard : List (List ℕ)) (events more : List Event) : Type 0 where
   pub state : run p s (events ++ more) ≡ run p (run p s events) more
   pub frames : run_frames p s (events ++ more) ≡ run_frames p s events ++ run_frames p (run p s events) more

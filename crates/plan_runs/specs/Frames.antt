@@ -1,4 +1,4 @@
--- One frame of the player, in four steps: a swap that is due, the instructions, the bytes, and the counts.
+-- One frame of the player, in four steps: a due swap, the instructions, the bytes, and the counts.
 use Rattle.std.specs.Prelude.{◌≡◌, ℕ, zero, suc, ◌+◌, ◌-◌, ◌%◌, ◌≤◌, ◌==◌, ◌&&◌, ◌||◌, Bool, true, false, if◌then◌else◌, nat_le, List, Option, Some, None}
 use Rattle.mux_config.specs.Configuration.{Configuration}
 use Rattle.mux_entries.specs.Entries.{EnsembleInformation}
@@ -24,7 +24,7 @@ abbrev pub is_due : Option ℕ → Bool
 is_due None = false
 is_due (Some left) = left == 0
 
--- what waits for the swap resumes
+-- a wait for the swap ends
 abbrev pub hold_after_swap : Hold → Hold
 hold_after_swap WaitsSwap = Waits 0
 hold_after_swap (Waits n) = Waits n
@@ -34,14 +34,14 @@ hold_after_swap Ended = Ended
 
 -- the next configuration becomes the current one, and page 0 is in turn
 abbrev pub with_swap : State → State
-with_swap s = record s { current = s.next; left = None; hold = hold_after_swap s.hold; turn = 0 }
+with_swap s = record s { current = s.next; left = None; hold = hold_after_swap s.hold; page_index = 0 }
 
 abbrev pub with_due_swap : State → State
 with_due_swap s = if is_due s.left then with_swap s else s
 
 -- ---- second: the instructions
 
--- nothing holds it: instructions are carried out
+-- the machine is not suspended: instructions are executed
 abbrev pub is_running : Hold → Bool
 is_running (Waits n) = n == 0
 is_running (WaitsDay t) = false
@@ -49,7 +49,7 @@ is_running (WaitsContact c closed) = false
 is_running WaitsSwap = false
 is_running Ended = false
 
--- what it waits for is here
+-- the wait condition is met
 abbrev pub is_here : State → Hold → Bool
 is_here s (Waits n) = n == 0
 is_here s (WaitsDay t) = s.day == t
@@ -60,16 +60,16 @@ is_here s Ended = false
 abbrev pub with_hold_ended : State → State
 with_hold_ended s = if is_here s s.hold then record s { hold = Waits 0 } else s
 
--- the state in which instructions are carried out
+-- the state in which instructions are executed
 abbrev pub ready : State → State
 ready s = with_hold_ended (with_due_swap s)
 
--- n instructions, none of which traps, lead from s to t, in which the machine is suspended
+-- n instructions, none of which traps, take s to t, where the machine is suspended
 abbrev pub Executes : Program → State → ℕ → State → Type 0
 Executes p s zero t = (is_running s.hold ≡ false) × (s ≡ t)
 Executes p s (suc n) t = (is_running s.hold ≡ true) × StepIsAllowed p s × Executes p (step p s) n t
 
--- instructions until one suspends, at most as many as given, and how many those are
+-- executes instructions until one suspends, at most `most`; below, the number executed
 abbrev pub burst : ℕ → Program → State → State
 burst zero p s = s
 burst (suc most) p s = if is_running s.hold then burst most p (step p s) else s
@@ -78,21 +78,21 @@ abbrev pub burst_steps : ℕ → Program → State → ℕ
 burst_steps zero p s = 0
 burst_steps (suc most) p s = if is_running s.hold then 1 + burst_steps most p (step p s) else 0
 
--- the state that the instructions leave, and how many of them a frame carries out
+-- the state after the instructions of a frame, and how many of them it executes
 abbrev pub after_burst : Program → State → State
 after_burst p s = burst p.plan.budget p (ready s)
 
 abbrev pub frame_steps : Program → State → ℕ
 frame_steps p s = burst_steps p.plan.budget p (ready s)
 
--- the frame meets no trap: its instructions are allowed and lead to a suspension, and they are no more than the budget
+-- the frame has no trap: its instructions are allowed and reach a suspension, within the budget
 pub record FrameIsAllowed (p : Program) (s : State) : Type 0 where
   pub steps : ℕ
   pub within : steps ≤ p.plan.budget
   pub executes : Executes p (ready s) steps (after_burst p s)
   pub counted : frame_steps p s ≡ steps
 
--- a number of instructions that leads to a suspension is the only one, and within the budget it is that of the frame
+-- a number of instructions that reaches a suspension is unique, and within the budget it is the number of the frame
 pub record IsOneBurst (p : Program) (s : State) (n : ℕ) (t : State) : Type 0 where
   pub only : (m : ℕ) (u : State) → Executes p s m u → (m ≡ n) × (u ≡ t)
   pub computed : (most : ℕ) → n ≤ most → (burst most p s ≡ t) × (burst_steps most p s ≡ n)
@@ -102,7 +102,7 @@ BurstsAreOne = (p : Program) (s : State) (n : ℕ) (t : State) → Executes p s 
 
 -- ---- third: the bytes
 
--- the frame is one of the notice: from W frames before the swap to the last one before it
+-- the frame is in the notice: from W frames before the swap to the last one before it
 abbrev pub is_noticed : ℕ → Option ℕ → Bool
 is_noticed notice None = false
 is_noticed notice (Some left) = nat_le 1 left && nat_le left notice
@@ -112,24 +112,24 @@ abbrev pub is_first_noticed : ℕ → Option ℕ → Bool
 is_first_noticed notice None = false
 is_first_noticed notice (Some left) = left == notice
 
--- a notice begins with page 0; this is the state that the bytes show
+-- a notice begins with page 0; this is the state that the bytes are made from
 abbrev pub shown : Program → State → State
 shown p s =
     let t = after_burst p s in
-    if is_first_noticed p.plan.notice t.left then record t { turn = 0 } else t
+    if is_first_noticed p.plan.notice t.left then record t { page_index = 0 } else t
 
--- what is sent: the current configuration, and in a notice the next one beside it
+-- the next configuration if it is sent with the current one, that is, in a notice
 abbrev pub announced_next : Plan → State → Option Configuration
 announced_next plan s = if is_noticed plan.notice s.left then Some s.next else None
 
 abbrev pub sent_entries : Plan → State → List Marked
 sent_entries plan s = page_set s.current (announced_next plan s)
 
--- how many pages they take
+-- the number of pages of what is sent
 abbrev pub sent_rounds : Plan → State → ℕ
 sent_rounds plan s = rounds plan.mode (sent_entries plan s)
 
--- the low part of the count of a swap that comes after this many frames
+-- the low part of the count of a swap that falls this many frames later
 abbrev pub low_of_swap : ℕ → Option ℕ → ℕ
 low_of_swap count None = 0
 low_of_swap count (Some left) = (count + left) % COUNTS % 250
@@ -141,12 +141,12 @@ ensemble_of plan s =
     record { eid = s.eid; change = bits_of (change_of s.current s.next); al = false; count = s.count; occurrence = Some (low_of_swap s.count s.left) }
     else record { eid = s.eid; change = 0; al = false; count = s.count; occurrence = None }
 
--- it is sent where the count is a multiple of the mode's step
+-- it is sent if the count is a multiple of the mode's step
 abbrev pub ensemble_sent : Plan → State → Option EnsembleInformation
 ensemble_sent plan s = if s.count % count_step plan.mode == 0 then Some (ensemble_of plan s) else None
 
 abbrev pub shown_bytes : Plan → State → List ℕ
-shown_bytes plan s = page_bytes plan.mode (ensemble_sent plan s) s.turn (sent_entries plan s)
+shown_bytes plan s = page_bytes plan.mode (ensemble_sent plan s) s.page_index (sent_entries plan s)
 
 abbrev pub frame_bytes : Program → State → List ℕ
 frame_bytes p s = shown_bytes p.plan (shown p s)
@@ -171,7 +171,7 @@ with_next_counts plan s =
       hold = hold_after_frame s.hold;
       count = (s.count + 1) % COUNTS;
       day = (s.day + 1) % FRAMES_A_DAY;
-      turn = page_after (sent_rounds plan s) s.turn;
+      page_index = page_after (sent_rounds plan s) s.page_index;
     }
 
 abbrev pub after_frame : Program → State → State
@@ -179,6 +179,6 @@ after_frame p s = with_next_counts p.plan (shown p s)
 
 -- ---- phases
 
--- a phase begins with a frame of a swap, and with the first frame of a notice
+-- a phase begins with the frame of a swap and with the first frame of a notice
 abbrev pub begins_phase : Program → State → Bool
 begins_phase p s = is_due s.left || is_first_noticed p.plan.notice (shown p s).left

@@ -1,4 +1,4 @@
--- What a typed code promises, for every list of events from every state that it comes to.
+-- The guarantees of a typed code, for every list of events from every state that it reaches.
 use Rattle.std.specs.Prelude.{◌≡◌, ℕ, ◌%◌, ◌==◌, Bool, true, false, MatchBool, List, [], ◌∷◌, Some}
 use Rattle.mux_entries.specs.Entries.{EnsembleInformation}
 use Rattle.fib_codec.specs.Heard.{IsEnsembleHeardInRow}
@@ -12,13 +12,13 @@ use Rattle.plan_runs.specs.TypedRuns.{IsPlayed}
 use Rattle.plan_runs.specs.Announced.{Runs, heard_along, heard_of}
 use Rattle.plan_runs.specs.RightBytes.{FrameIsRight, FramesAreRight, IsHeardEachPeriod}
 
--- ---- the swap comes at the announced count
+-- ---- the swap falls on the announced count
 
--- an announcement in the bytes of a frame: a FIG 0/0, whatever its C/N flag, with the low part of the swap's count
+-- an announcement in the bytes of a frame: a FIG 0/0, with any C/N flag, with the low part of the swap's count
 abbrev pub IsAnnouncedIn : List ℕ → ℕ → Type 0
 IsAnnouncedIn frame low = (next : Bool) × (e : EnsembleInformation) × IsEnsembleHeardInRow frame next e × (e.occurrence ≡ Some low)
 
--- each announcement of this frame is of this count
+-- every announcement in this frame is of this count
 abbrev pub AnnouncesOnly : ℕ → List ℕ → Type 0
 AnnouncesOnly low frame = (other : ℕ) → IsAnnouncedIn frame other → other ≡ low
 
@@ -32,7 +32,7 @@ SwapsAt low p s (Frame ∷ es) =
     (is_due s.left ≡ true)
     ((is_due s.left ≡ false) × AnnouncesOnly low (frame_bytes p s) × SwapsAt low p (after_frame p s) es)
 
--- what a frame announces, the frames after it keep
+-- each announcement is kept by the frames after it
 abbrev pub KeepsCount : Program → State → List Event → Type 0
 KeepsCount p s [] = Unit {0}
 KeepsCount p s (Contact c closed ∷ es) = KeepsCount p (happens p s (Contact c closed)) es
@@ -41,8 +41,8 @@ KeepsCount p s (Frame ∷ es) =
 
 -- ---- the headline
 
--- over these events: no trap is met, the budget is kept, and each swap was announced; every frame has right FIBs; each
--- swap comes at the announced count; and each period has the whole current configuration
+-- over these events: there is no trap, the budget is kept, and each swap was announced; every frame has correct FIBs;
+-- each swap falls on the announced count; and each period has the whole current configuration
 pub record KeepsItsWord (p : Program) (s : State) (events : List Event) : Type 0 where
   pub runs : Runs p s (heard_of p.plan s) events
   pub right : FramesAreRight p s events
@@ -52,7 +52,7 @@ pub record KeepsItsWord (p : Program) (s : State) (events : List Event) : Type 0
 abbrev pub HeadlineHolds : Type 0
 HeadlineHolds = (p : Program) (s : State) (events : List Event) → IsPlayed p s → KeepsItsWord p s events
 
--- ---- its parts, each a law of its own
+-- ---- its parts, each a separate law
 
 abbrev pub FramesOfTypedCodeAreRight : Type 0
 FramesOfTypedCodeAreRight = (p : Program) (s : State) → IsPlayed p s → FrameIsRight p s
@@ -66,7 +66,7 @@ SwapsAreAnnounced = (p : Program) (s : State) (events : List Event) → IsPlayed
 abbrev pub SwapsComeAsAnnounced : Type 0
 SwapsComeAsAnnounced = (p : Program) (s : State) (events : List Event) → IsPlayed p s → KeepsCount p s events
 
--- the frames heard of a notice are a function of the state, so that a player stores none
+-- the frames heard of a notice are a function of the state, so a player need not store them
 abbrev pub HeardIsKnown : Type 0
 HeardIsKnown =
     (p : Program) (s : State) (events : List Event) → IsPlayed p s

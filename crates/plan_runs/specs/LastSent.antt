@@ -9,8 +9,8 @@ use Rattle.plan_runs.specs.Frames.{is_due}
 use Rattle.plan_runs.specs.Runs.{StartIsInRange, IsStart, run, run_frames}
 use Rattle.plan_runs.specs.Announced.{heard_of, heard_along}
 
--- over these events from a start: the frames that the state at the end says were heard of a notice are those heard along
--- the run; they are the last ones that it sent; and where a swap is due, they are as many as a notice has
+-- over these events from a start: the frames of a notice that the final state implies are those heard along the run;
+-- they are the last ones that it sent; and where a swap is due, there are as many as a notice has
 pub record AreLastSent (p : Program) (first : State) (events : List Event) : Type 0 where
   pub along : heard_along p first [] events ≡ heard_of p.plan (run p first events)
   pub earlier : List (List ℕ)

@@ -1,4 +1,4 @@
--- What a listener knows that hears the frames of a run, and when it knows the current configuration
+-- What a listener knows after hearing the frames of a run, and when it knows the current configuration
 -- (EN 300 401 clause 6.5).
 use Rattle.std.specs.Prelude.{◌≡◌, ℕ, zero, suc, ◌+◌, ◌%◌, ◌≤◌, ◌⊎◌, true, false, List, [], ◌∷◌, ◌++◌, length, flat_map, take, Some}
 use Rattle.fib_codec.specs.Grammar.{Fig, IsFib}
@@ -18,16 +18,16 @@ use Rattle.plan_runs.specs.TypedRuns.{IsPlayed}
 
 -- ---- hearing
 
--- the FIBs of a frame that has as many, in order
+-- `count` FIBs of a frame, in order, starting with FIB n
 abbrev pub fibs_from : ℕ → ℕ → List ℕ → List (List ℕ)
 fibs_from zero n frame = []
 fibs_from (suc count) n frame = fib_at frame n ∷ fibs_from count (n + 1) frame
 
--- the FIBs of each frame, as many as the mode has, in order
+-- the FIBs of each frame in this mode, in order
 abbrev pub fibs_of : Mode → List (List ℕ) → List (List ℕ)
 fibs_of mode frames = flat_map (fibs_from (fib_count mode) 0) frames
 
--- a listener that knows `old` hears this FIB and then knows `new`
+-- a listener that knows `old` and hears this FIB then knows `new`
 abbrev pub HearsFib : List ℕ → Listening → Listening → Type 0
 HearsFib fib old new = (figs : List Fig) × IsFib fib figs × (hear_figs figs old ≡ Some new)
 
@@ -35,15 +35,15 @@ abbrev pub HearsAll : List (List ℕ) → Listening → Listening → Type 0
 HearsAll [] old new = new ≡ old
 HearsAll (fib ∷ fibs) old new = (between : Listening) × HearsFib fib old between × HearsAll fibs between new
 
--- ---- when a listener has been tuned
+-- ---- when a listener is tuned
 
--- the count of a frame of these events is a multiple of the mode's step, so that FIG 0/0 was heard
+-- the count of a frame of these events is a multiple of the mode's step, so FIG 0/0 was heard
 abbrev pub HasCount : Program → State → List Event → Type 0
 HasCount p s [] = ⊥
 HasCount p s (Contact c closed ∷ es) = HasCount p (happens p s (Contact c closed)) es
 HasCount p s (Frame ∷ es) = (s.count % count_step p.plan.mode ≡ 0) ⊎ HasCount p (after_frame p s) es
 
--- FIG 0/0 was heard in these events or is in the frame after them
+-- FIG 0/0 was heard in these events, or is in the frame after them
 abbrev pub IsTunedBy : Program → State → List Event → Type 0
 IsTunedBy p s events = HasCount p s events ⊎ ((run p s events).count % count_step p.plan.mode ≡ 0)
 
@@ -60,7 +60,7 @@ KnowsTheCurrent p s =
 
 -- ---- a swap that is heard
 
--- these events go from the first frame of a notice to its swap, which is due after them
+-- these events run from the first frame of a notice to its swap, which is due after them
 abbrev pub IsNotice : Program → State → List Event → Type 0
 IsNotice p s [] = ⊥
 IsNotice p s (Contact c closed ∷ es) = IsNotice p (happens p s (Contact c closed)) es
@@ -74,14 +74,15 @@ MakesNoSwap p s [] = Unit {0}
 MakesNoSwap p s (Contact c closed ∷ es) = MakesNoSwap p (happens p s (Contact c closed)) es
 MakesNoSwap p s (Frame ∷ es) = (is_due s.left ≡ false) × MakesNoSwap p (after_frame p s) es
 
--- the first frame makes one, and no other
+-- the first frame makes a swap, and the others don't
 abbrev pub IsUntilNextSwap : Program → State → List Event → Type 0
 IsUntilNextSwap p s [] = ⊥
 IsUntilNextSwap p s (Contact c closed ∷ es) = IsUntilNextSwap p (happens p s (Contact c closed)) es
 IsUntilNextSwap p s (Frame ∷ es) = (is_due s.left ≡ true) × MakesNoSwap p (after_frame p s) es
 
 -- a new listener hears all frames of `waiting`, is tuned no later than in the first frame of the notice, hears the
--- notice, and then at least one FIB from the frame of the swap on, before the next swap: it knows the new configuration
+-- notice, and then at least one FIB from the frame of the swap on, before the next swap: then it knows the new
+-- configuration
 abbrev pub KnowsTheNew : Program → State → Type 0
 KnowsTheNew p s =
     (waiting notice after : List Event) (fibs : ℕ) (heard : Listening)
@@ -95,7 +96,7 @@ KnowsTheNew p s =
     heard
     → Shows heard.current (run p s (waiting ++ notice)).next
 
--- whatever a listener hears of a typed code, it has room for, and then it knows the configuration
+-- a listener has room for whatever it hears of a typed code
 abbrev pub IsNeverFull : Program → State → Type 0
 IsNeverFull p s = (events : List Event) → (heard : Listening) × HearsAll (fibs_of p.plan.mode (run_frames p s events)) untuned heard
 
@@ -104,6 +105,6 @@ pub record ListenersKnow (p : Program) (s : State) : Type 0 where
   pub current : KnowsTheCurrent p s
   pub after_swap : KnowsTheNew p s
 
--- the law of listeners: one that is new before any frame of a run
+-- the law of listeners: for one that starts before any frame of a run
 abbrev pub ListenersAreRight : Type 0
 ListenersAreRight = (p : Program) (s : State) → IsPlayed p s → ListenersKnow p s

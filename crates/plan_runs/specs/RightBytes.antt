@@ -1,4 +1,4 @@
--- What the bytes of a frame have to be, and of the frames of a phase (EN 300 401 clauses 5.2.1, 6.4 and 6.5).
+-- When the bytes of a frame, and the frames of a phase, are correct (EN 300 401 clauses 5.2.1, 6.4 and 6.5).
 use Rattle.std.specs.Prelude.{◌≡◌, ◌≢◌, ℕ, ◌+◌, ◌*◌, ◌%◌, ◌<◌, ◌≤◌, ◌⊎◌, true, false, List, [], ◌∷◌, length, Contains, Option, Some, None}
 use Rattle.std.specs.List.{AllByRecursion}
 use Rattle.mux_entries.specs.Entries.{EnsembleInformation}
@@ -26,12 +26,12 @@ IsEnsembleFig (Other bytes) = ⊥
 abbrev pub IsNoHeader : Fig → Type 0
 IsNoHeader fig = IsEnsembleFig fig → ⊥
 
--- the count of the swap that comes after this many frames
+-- flagged with the count of the swap that falls this many frames later
 abbrev pub IsFlaggedBy : State → Option ℕ → EnsembleInformation → Type 0
 IsFlaggedBy s None e = ⊥
 IsFlaggedBy s (Some left) e = IsFlagged s.current s.next ((s.count + left) % COUNTS) e
 
--- ensemble information as the state has it: flagged exactly in the frames of a notice
+-- the ensemble information of the state: flagged exactly in the frames of a notice
 pub record IsEnsembleOf (plan : Plan) (s : State) (e : EnsembleInformation) : Type 0 where
   pub eid : e.eid ≡ s.eid
   pub alarm : e.al ≡ false
@@ -39,7 +39,7 @@ pub record IsEnsembleOf (plan : Plan) (s : State) (e : EnsembleInformation) : Ty
   pub flagged : is_noticed plan.notice s.left ≡ true → IsFlaggedBy s s.left e
   pub unflagged : is_noticed plan.notice s.left ≡ false → (e.change ≡ 0) × (e.occurrence ≡ None)
 
--- FIG 0/0 stands first in these FIGs, with C/N 0, and no other
+-- FIG 0/0 is the first of these FIGs, with C/N 0, and there is no other FIG 0/0
 pub record IsHeadedBy (plan : Plan) (s : State) (bytes : List ℕ) : Type 0 where
   pub header : Fig
   pub others : List Fig
@@ -55,7 +55,7 @@ IsUnheaded bytes = (figs : List Fig) × IsFib bytes figs × AllByRecursion IsNoH
 
 -- ---- the bytes of a frame
 
--- the state is the one that the bytes show
+-- the bytes are correct for the state that they are made from
 pub record IsRight (plan : Plan) (s : State) (bytes : List ℕ) : Type 0 where
   pub length_of_fibs : length bytes ≡ 32 * fib_count plan.mode
   pub valid : (n : ℕ) → n < fib_count plan.mode → (figs : List Fig) × IsValid (fib_at bytes n) figs
@@ -68,7 +68,7 @@ pub record IsRight (plan : Plan) (s : State) (bytes : List ℕ) : Type 0 where
 abbrev pub FrameIsRight : Program → State → Type 0
 FrameIsRight p s = IsRight p.plan (shown p s) (frame_bytes p s)
 
--- every frame of a run is right
+-- every frame of a run is correct
 abbrev pub FramesAreRight : Program → State → List Event → Type 0
 FramesAreRight p s [] = Unit {0}
 FramesAreRight p s (Contact c closed ∷ es) = FramesAreRight p (happens p s (Contact c closed)) es
@@ -82,7 +82,7 @@ BeginsNoPhase p s [] = Unit {0}
 BeginsNoPhase p s (Contact c closed ∷ es) = BeginsNoPhase p (happens p s (Contact c closed)) es
 BeginsNoPhase p s (Frame ∷ es) = (begins_phase p s ≡ false) × BeginsNoPhase p (after_frame p s) es
 
--- the frames of these events are of one phase: no frame but maybe the first of them begins one
+-- the frames of these events are of one phase: no frame begins one, except perhaps the first
 abbrev pub IsOnePhase : Program → State → List Event → Type 0
 IsOnePhase p s [] = Unit {0}
 IsOnePhase p s (Contact c closed ∷ es) = IsOnePhase p (happens p s (Contact c closed)) es

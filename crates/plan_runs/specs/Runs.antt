@@ -1,4 +1,4 @@
--- Runs: what the states and the bytes are over a list of events, and that no trap is met.
+-- Runs: the states and the bytes over a list of events, and that there is no trap.
 use Rattle.std.specs.Prelude.{◌≡◌, ℕ, ◌<◌, List, [], ◌∷◌, Some, None, slice_get, replicate}
 use Rattle.std.specs.List.{AllByRecursion}
 use Rattle.mux_entries.specs.declared.limits.TheConstants.{COUNTS}
@@ -25,8 +25,8 @@ abbrev pub IsEvent : Event → Type 0
 IsEvent (Contact c closed) = c < 16
 IsEvent Frame = Unit {0}
 
--- the state in which a code starts: the configuration of its first label is current and next, and nothing is
--- pending, suspended or set
+-- the state in which a code starts: the configuration of its first label is current and next, no swap is pending, the
+-- machine is running and no counter is set
 pub record IsStart (p : Program) (start : Start) (s : State) : Type 0 where
   pub label : Label
   pub first : label_at p 0 ≡ Some label
@@ -40,11 +40,11 @@ pub record IsStart (p : Program) (start : Start) (s : State) : Type 0 where
   pub count : s.count ≡ start.count
   pub day : s.day ≡ start.day
   pub eid : s.eid ≡ start.eid
-  pub turn : s.turn ≡ 0
+  pub page_index : s.page_index ≡ 0
 
 -- ---- runs
 
--- a contact event sets one level, and a frame event makes one whole frame
+-- a contact event sets one contact, and a frame event makes one whole frame
 abbrev pub happens : Program → State → Event → State
 happens p s (Contact c closed) = record s { contacts = with_contact c closed s.contacts }
 happens p s Frame = after_frame p s
@@ -60,13 +60,13 @@ run_frames p s [] = []
 run_frames p s (Contact c closed ∷ es) = run_frames p (happens p s (Contact c closed)) es
 run_frames p s (Frame ∷ es) = frame_bytes p s ∷ run_frames p (after_frame p s) es
 
--- the states before each frame, and after it
+-- the states before and after each frame
 abbrev pub run_states : Program → State → List Event → List State
 run_states p s [] = []
 run_states p s (Contact c closed ∷ es) = run_states p (happens p s (Contact c closed)) es
 run_states p s (Frame ∷ es) = s ∷ after_frame p s ∷ run_states p (after_frame p s) es
 
--- no frame of the plain run meets a trap: the run without the test that a swap was announced
+-- no frame has a trap; whether a swap was announced is not considered
 abbrev pub EventIsAllowed : Program → State → Event → Type 0
 EventIsAllowed p s (Contact c closed) = Unit {0}
 EventIsAllowed p s Frame = FrameIsAllowed p s
@@ -75,9 +75,9 @@ abbrev pub RunIsAllowed : Program → State → List Event → Type 0
 RunIsAllowed p s [] = Unit {0}
 RunIsAllowed p s (e ∷ es) = EventIsAllowed p s e × RunIsAllowed p (happens p s e) es
 
--- ---- states that a run comes to
+-- ---- states that a run reaches
 
--- some start in range and some events lead to the state: what holds of a player at every moment
+-- some start in range and some events reach the state: so the states of a player at any time
 pub record IsReached (p : Program) (s : State) : Type 0 where
   pub start : Start
   pub first : State

@@ -8,7 +8,7 @@ use Rattle.plan_code.specs.Machine.{State}
 use Rattle.plan_runs.specs.Frames.{ensemble_sent, shown, frame_bytes}
 use Rattle.plan_runs.specs.TypedRuns.{IsPlayed}
 
--- the FIG 0/0 heard in these bytes is the one that this state sends, with C/N 0, and no other
+-- exactly the FIG 0/0 that this state sends, with C/N 0, is heard in these bytes
 abbrev pub HasHeaderOf : Plan → State → List ℕ → Type 0
 HasHeaderOf plan s bytes =
     (next : Bool) (e : EnsembleInformation)

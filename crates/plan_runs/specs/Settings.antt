@@ -15,7 +15,7 @@ pub record Setting : Type 0 where
 abbrev pub IsSetting : Setting → Type 0
 IsSetting x = x.contact < 16
 
--- the last level that the settings give a contact, where they name it
+-- the last level that the settings give a contact, if any
 abbrev pub last_of : Option Bool → Option Bool → Option Bool
 last_of earlier None = earlier
 last_of earlier (Some closed) = Some closed
@@ -27,7 +27,7 @@ abbrev pub last_level : ℕ → List Setting → Option Bool
 last_level contact [] = None
 last_level contact (x ∷ xs) = last_of (level_by contact x) (last_level contact xs)
 
--- settings that leave each contact at the same level
+-- settings with the same last level for each contact
 abbrev pub AgreeOnContacts : List Setting → List Setting → Type 0
 AgreeOnContacts xs ys = (contact : ℕ) → last_level contact xs ≡ last_level contact ys
 
@@ -37,7 +37,7 @@ AreAllAlike [] (y ∷ ys) = ⊥
 AreAllAlike (x ∷ xs) [] = ⊥
 AreAllAlike (x ∷ xs) (y ∷ ys) = AgreeOnContacts x y × AreAllAlike xs ys
 
--- the settings as events, and frames with settings before each of them and after the last
+-- the settings as events; below, frames with settings before each of them and after the last
 abbrev pub set_events : List Setting → List Event
 set_events [] = []
 set_events (x ∷ xs) = Contact x.contact x.closed ∷ set_events xs
@@ -46,8 +46,8 @@ abbrev pub schedule : List (List Setting) → List Setting → List Event
 schedule [] last = set_events last
 schedule (xs ∷ more) last = set_events xs ++ Frame ∷ schedule more last
 
--- lists of events that differ only in contact settings between two frames, and there not in the last level of any
--- contact, give the same bytes, the same states before and after each frame, and the same state at the end
+-- lists of events that differ only in contact settings between two frames, with the same last level for each contact,
+-- give the same bytes, the same states before and after each frame, and the same final state
 abbrev pub LastLevelsCount : Type 0
 LastLevelsCount =
     (p : Program) (s : State) (these those : List (List Setting)) (last other : List Setting)

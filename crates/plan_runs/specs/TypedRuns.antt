@@ -1,4 +1,4 @@
--- A typed code doesn't go wrong: the statements.
+-- Statements about every state that a typed code reaches.
 use Rattle.std.specs.Prelude.{◌<◌, List, IfSome}
 use Rattle.mux_config.specs.Configuration.{IsConfiguration}
 use Rattle.std.specs.List.{AllByRecursion}
@@ -14,13 +14,13 @@ use Rattle.plan_runs.specs.declared.event.Start.{Start}
 use Rattle.plan_runs.specs.Frames.{shown, sent_rounds, ensemble_sent}
 use Rattle.plan_runs.specs.Runs.{IsStart, StartIsInRange, IsEvent, IsReached, RunIsAllowed, run}
 
--- a typed code, in a state that it comes to
+-- a typed code, in a state that it reaches
 pub record IsPlayed (p : Program) (s : State) : Type 0 where
   pub program : IsProgram p
   pub typed : IsTyped p
   pub reached : IsReached p s
 
--- over these events no trap is met, no frame carries out more instructions than the budget, and then the current
+-- over these events there is no trap, no frame executes more instructions than the budget, and the final current
 -- configuration is sound
 pub record RunsWell (p : Program) (s : State) (events : List Event) : Type 0 where
   pub allowed : RunIsAllowed p s events
@@ -29,9 +29,9 @@ pub record RunsWell (p : Program) (s : State) (events : List Event) : Type 0 whe
 abbrev pub TypedCodeRuns : Type 0
 TypedCodeRuns = (p : Program) (s : State) (events : List Event) → IsPlayed p s → RunsWell p s events
 
--- what the next frame sends can be sent: the page in turn is one of its pages, and FIG 0/0 is within its bits
+-- the next frame can be sent: the page in turn is one of its pages, and the fields of FIG 0/0 fit in their bits
 pub record CanBeSent (plan : Plan) (s : State) : Type 0 where
-  pub turn : s.turn < sent_rounds plan s
+  pub page_index : s.page_index < sent_rounds plan s
   pub current : IsConfiguration s.current
   pub next : IsConfiguration s.next
   pub count : s.count < COUNTS
@@ -40,7 +40,7 @@ pub record CanBeSent (plan : Plan) (s : State) : Type 0 where
 abbrev pub FramesCanBeSent : Type 0
 FramesCanBeSent = (p : Program) (s : State) → IsPlayed p s → CanBeSent p.plan (shown p s)
 
--- the start is reached, and what follows a reached state is reached
+-- a start is reached, and so is every state that follows a reached one
 abbrev pub StartsAreReached : Type 0
 StartsAreReached = (p : Program) (start : Start) (s : State) → StartIsInRange start → IsStart p start s → IsReached p s
 

@@ -12,7 +12,7 @@ use Rattle.plan_runs.specs.Frames.{is_due, shown, after_frame}
 use Rattle.plan_runs.specs.Firsts.{is_active, CarriesOut, IsFirstWhere}
 use Rattle.plan_runs.specs.TypedRuns.{IsPlayed}
 
--- where the instruction suspends whatever the state is, this is what the machine waits for after it
+-- what the machine waits for after the instruction, if that suspends in every state
 abbrev pub IsWaitOf : Instr → Hold → Type 0
 IsWaitOf (Wait frames) hold = hold ≡ Waits frames
 IsWaitOf (Until t) hold = hold ≡ WaitsDay t
@@ -28,7 +28,7 @@ IsWaitOf (Jump target) hold = Unit {0}
 IsWaitOf (Set r n) hold = Unit {0}
 IsWaitOf (Loop r target) hold = Unit {0}
 
--- what is waited for has come with the frame from this state, the n-th after the one that suspended
+-- the wait ends with the frame from this state, the n-th after the one that suspended
 abbrev pub HasCome : Hold → ℕ → State → Type 0
 HasCome (Waits frames) n s = n ≡ frames
 HasCome (WaitsDay t) n s = s.day ≡ t
@@ -36,7 +36,7 @@ HasCome (WaitsContact c closed) n s = is_closed s.contacts c ≡ closed
 HasCome WaitsSwap n s = is_due s.left ≡ true
 HasCome Ended n s = ⊥
 
--- the first frame after this one that carries out instructions is the first with which what is waited for has come
+-- the first frame after this one that executes instructions is the first with which the wait ends
 abbrev pub WaitsUntil : Program → State → List Event → Type 0
 WaitsUntil p s events = IsFirstWhere (is_active p) (HasCome (shown p s).hold) 1 p (after_frame p s) events
 

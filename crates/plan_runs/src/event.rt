@@ -1,14 +1,14 @@
-//! What happens to a player, and what it starts with.
+//! The events of a run, and the start of a player.
 
 use plan_code::{ContactId, Contacts};
 
-/// One atomic step: one contact is set, or one whole frame is made.
+/// One atomic step: a contact is set, or a whole frame is made.
 #[derive(Clone, Copy, Debug, PartialEq, Eq)]
 pub enum Event {
-    /// The contact is closed, or open where the flag is false.
+    /// The contact is closed, or opened where the flag is false.
     Contact(ContactId, bool),
-    /// One frame of 24 ms is made: a swap that is due, instructions, as many FIBs as the mode has, and the
-    /// counts advance.
+    /// One frame of 24 ms is made: a due swap, the instructions, the FIBs of the mode, and then the counts
+    /// advance.
     Frame,
 }
 
@@ -21,6 +21,6 @@ pub struct Start {
     pub count: u16,
     /// The frame of the day, 0 to 3,599,999, in frames of 24 ms.
     pub day: u32,
-    /// The contacts that are closed at first.
+    /// The contacts that are closed at the start.
     pub contacts: Contacts,
 }

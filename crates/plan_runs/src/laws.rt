@@ -1,5 +1,5 @@
-//! What holds of every run, whatever plays it. Each law is a function that does nothing; its contract is the
-//! law.
+//! Laws of every run, for any implementation of a player.
+//! Each law is a function that does nothing; its contract is the law.
 
 ghost use Rattle.plan_runs.specs.Frames.{BurstsAreOne};
 ghost use Rattle.plan_runs.specs.TypedRuns.{StartsAreReached, ReachedIsKept, TypedCodeRuns, FramesCanBeSent};
@@ -12,12 +12,12 @@ ghost use Rattle.plan_runs.specs.Clock.{FramesAreCounted, ContactsAreAsSet};
 ghost use Rattle.plan_runs.specs.Swaps.{SwapsAreOnSteps, SwapsChangeTheCurrent, CommitsAreKept, SwapsAreCommitted};
 ghost use Rattle.plan_runs.specs.Waits.{InstructionsSuspend, WaitsAreKept};
 
-/// The law of bursts: a frame's instructions lead to one state, and are as many as the frame counts.
+/// The law of bursts: a frame's instructions determine one final state, and their number is the frame's step count.
 pub fn bursts()
     ensures { BurstsAreOne }
 {}
 
-/// The law of reached states: a start in range is one, and what follows one is one.
+/// The law of reached states: a start in range is reached, and so is every state that follows a reached one.
 pub fn reached()
     ensures start { StartsAreReached }
     ensures kept { ReachedIsKept }
@@ -29,17 +29,17 @@ pub fn runs()
     ensures { RunsJoin }
 {}
 
-/// The law of contacts: of the settings of a contact between two frames only the last counts, and the order
-/// of settings of different contacts doesn't.
+/// The law of contacts: only the last setting of a contact between two frames counts, and the order
+/// of settings of different contacts doesn't matter.
 pub fn contacts()
     ensures { LastLevelsCount }
 {}
 
 /// The law of swaps: a swap is due only in a frame whose CIF count is a multiple of the mode's step. In that frame the
-/// next configuration becomes the current one, and in every other frame the current one stays. After a frame that
-/// carries out `CommitAt n` the first swap is due in the first frame of count n that comes at least a notice later, and
-/// after `CommitIn k` in the first one on a multiple of the step that comes at least k frames later; without a commit
-/// none comes.
+/// next configuration becomes the current one; in every other frame the current one is unchanged. After a frame that
+/// executes `CommitAt n` the first swap is due in the first frame with count n that is at least a notice later, and
+/// after `CommitIn k` in the first one on a multiple of the step that is at least k frames later; without a commit
+/// there is none.
 pub fn swaps()
     ensures on_steps { SwapsAreOnSteps }
     ensures current { SwapsChangeTheCurrent }
@@ -49,11 +49,11 @@ pub fn swaps()
     plan_code::laws::commits();
 }
 
-/// The law of waits: an instruction that suspends is the last of its frame, and says what is waited for. After that
-/// frame the first one that carries out instructions is the n-th, where the code waits n frames; the first with the
-/// frame of the day, the first with the contact at the level, or the first in which a swap is due, where it waits for
-/// these; and none where the code has ended. The counts are those of the start and one more for each frame, and a
-/// contact is at the level to which it was set last.
+/// The law of waits: an instruction that suspends is the last of its frame and determines what is waited for. After
+/// that frame, the first one that executes instructions is the n-th for a wait of n frames; the first at the frame of
+/// the day, the first with the contact at the level, or the first in which a swap is due, for a wait for one of these;
+/// and none where the code has ended. The counts are those of the start plus one for each frame, and a contact is at
+/// the level to which it was last set.
 pub fn waits()
     ensures suspends { InstructionsSuspend }
     ensures kept { WaitsAreKept }
@@ -61,22 +61,21 @@ pub fn waits()
     ensures levels { ContactsAreAsSet }
 {}
 
-/// The law of typed codes: from every state that a typed code comes to, over every list of events, no trap is
-/// met, each frame's instructions lead to a suspension within the budget, and the current configuration stays
-/// sound.
+/// The law of typed codes: from every state that a typed code reaches, over every list of events, there is no trap,
+/// each frame's instructions reach a suspension within the budget, and the current configuration stays sound.
 pub fn typed_code_runs()
     ensures { TypedCodeRuns }
 {}
 
 /// The law of pages: in every frame of a typed code the page in turn is one of the pages of what is sent, and
-/// FIG 0/0 is within its bits.
+/// the fields of FIG 0/0 fit in their bits.
 pub fn pages_in_turn()
     ensures { FramesCanBeSent }
 {}
 
-/// The law of frames: in every state that a typed code comes to the bytes of the next frame are right. They are
-/// as many valid FIBs as the mode has; FIG 0/0 stands first where it is due and nowhere else, with change flags
-/// and occurrence in a notice and without them elsewhere; and no entry is there but those of the current
+/// The law of frames: in every state that a typed code reaches, the bytes of the next frame are correct. They are
+/// the mode's number of valid FIBs; FIG 0/0 comes first where it is due and is nowhere else, with change flags
+/// and occurrence change in a notice and without them otherwise; and all entries are those of the current
 /// configuration and, in a notice, of the next one.
 pub fn frames()
     ensures { FramesOfTypedCodeAreRight }
@@ -93,10 +92,10 @@ pub fn periods()
     fib_carousel::laws::carried();
 }
 
-/// The law of notices: no swap is unannounced. In the frames before it that are its notice, the whole next
-/// configuration is heard three times over, and FIG 0/0 is there three times or more, each with the change flags
-/// and the low part of the swap's count. Every announcement of a notice names one count, and the swap comes in the
-/// first later frame that has it. What was heard of a notice is a function of the state.
+/// The law of notices: no swap is unannounced. In the frames of its notice, the whole next configuration is heard
+/// three times, and FIG 0/0 three times or more, each with the change flags and the low part of the swap's count. All
+/// announcements of a notice name one count, and the swap falls on the first later frame with that count. What was
+/// heard of a notice is a function of the state.
 pub fn notices()
     ensures announced { SwapsAreAnnounced }
     ensures counted { SwapsComeAsAnnounced }
@@ -106,14 +105,14 @@ pub fn notices()
     fib_carousel::laws::carried();
 }
 
-/// The law of what was heard: over every run of a typed code from its start, the frames that the state says were heard
-/// of a notice are those heard along the run, and the last ones that it sent; before a swap they are as many as a
-/// notice has.
+/// The law of what was heard: over every run of a typed code from its start, the frames of a notice that the state
+/// implies are those heard along the run, and are the last frames that it sent; at a swap there are as many as a notice
+/// has.
 pub fn heard()
     ensures { HeardWasSent }
 {}
 
-/// The law of FIG 0/0: what is heard of it in the bytes of a frame is what the state sends, with C/N 0, and nothing else.
+/// The law of FIG 0/0: exactly the FIG 0/0 that the state sends, with C/N 0, is heard in the bytes of a frame.
 pub fn headers()
     ensures { HeadersAreSent }
 {
@@ -121,10 +120,10 @@ pub fn headers()
     fib_carousel::laws::carried();
 }
 
-/// The headline: from every state that a typed code comes to, over every list of contact changes and frames, no
-/// trap is met, no frame carries out more instructions than the budget, every frame is as many right FIBs as the
-/// mode has, and each swap comes at the announced count, after its change flags went out and the whole next
-/// configuration could be read three times from those bytes.
+/// The headline: from every state that a typed code reaches, over every list of contact changes and frames, there is
+/// no trap, no frame executes more instructions than the budget, every frame is the mode's number of correct FIBs,
+/// and each swap falls on the announced count, after its change flags were sent and the whole next configuration
+/// could be read three times from the bytes.
 pub fn headline()
     ensures { HeadlineHolds }
 {

@@ -1,8 +1,8 @@
-//! Runs of plan codes: what a player has to do, frame by frame, and what holds of every typed code.
+//! Runs of plan codes: the player's behaviour frame by frame, and laws of every typed code.
 //!
-//! `specs/Frames.antt` says what one frame is, `Runs.antt` what a list of events makes of a state,
-//! `Announced.antt` and `RightBytes.antt` what the bytes say, `Headline.antt` what is promised of it all, and
-//! `Listening.antt` what a listener knows. The functions of `laws` do nothing: their contracts are the laws.
+//! `specs/Frames.antt` defines one frame, `Runs.antt` the state after a list of events, `Announced.antt` and
+//! `RightBytes.antt` requirements on the bytes, `Headline.antt` the guarantees of a typed code, and `Listening.antt`
+//! what a listener knows. The functions of `laws` do nothing: their contracts are the laws.
 #![tactic(auto)]
 
 pub mod event;

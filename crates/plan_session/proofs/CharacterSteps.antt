@@ -1,4 +1,4 @@
--- Bytes one by one, and the characters that they form.
+-- The characters of a text, byte by byte.
 use Rattle.std.proofs.Common.{◌≡◌, ℕ, ◌+◌, ◌<◌, ◌≤◌, ◌==◌, true, false, List, [], ◌∷◌, ◌++◌, length, take, refl, sym, ap, subst, ◌∙◌, arith, inl, inr, append_assoc, length-append}
 use Rattle.std.specs.Prelude.{IsUtf8}
 use Rattle.std.specs.List.{AllByRecursion}
@@ -11,7 +11,7 @@ use Rattle.std.specs.Str.{encode_utf8_all, all_scalars, IsAscii}
 use lib.Utf8.{scalar, low_scalar}
 use Rattle.plan_session.specs.Gathered.{HaveNoCharacter, AreCharacters, IsPlain}
 
--- the rest of a text after a text is a text
+-- a text without a text at its front is a text
 behind_text : (xs ys : List ℕ) → IsUtf8 (xs ++ ys) → IsUtf8 xs → IsUtf8 ys
 behind_text xs ys u v =
     let lengths : length (xs ++ ys) ≡ length xs + length ys = length-append xs ys in
@@ -19,7 +19,7 @@ behind_text xs ys u v =
     let seam = IsCharBoundary-from_take (xs ++ ys) (length xs) u (omega (arith, lengths)) front in
     subst IsUtf8 (drop-append_seam xs ys) (IsUtf8-drop (xs ++ ys) (length xs) u seam)
 
--- ---- a character that is not whole
+-- ---- incomplete characters
 
 none_more : (begun : List ℕ) (b : ℕ) → HaveNoCharacter begun → (IsUtf8 (begun ++ b ∷ []) → ⊥) → HaveNoCharacter (begun ++ b ∷ [])
 none_more begun b none bad = λ n some most u.
@@ -48,11 +48,11 @@ no_text_of begun rest [] none long s e =
     omega (arith, lengths, zero, long)
 no_text_of begun rest (c ∷ cs) none long s e = first_char begun rest c cs none long (and_parts (scalar c) (all_scalars cs) s).0 e
 
--- four bytes with no character at their front begin no text
+-- no text begins with four bytes of which no prefix is a character
 no_text : (begun rest : List ℕ) → HaveNoCharacter begun → 4 ≤ length begun → IsUtf8 (begun ++ rest) → ⊥
 no_text begun rest none long u = no_text_of begun rest u.0 none long u.1.0 u.1.1
 
--- ---- the bytes that came
+-- ---- the bytes so far
 
 pub none_yet : AreCharacters [] []
 none_yet = record {
@@ -111,7 +111,7 @@ last_byte seen begun pushed b h is text = record {
   few = omega arith;
 }
 
--- a byte before the last of a character
+-- a byte of a character before its last
 pub byte_within : (seen begun pushed : List ℕ) (b : ℕ) → AreCharacters seen begun → pushed ≡ begun ++ b ∷ [] → (IsUtf8 pushed → ⊥) → length pushed < 4 → AreCharacters (seen ++ b ∷ []) pushed
 byte_within seen begun pushed b h is bad few = record {
   done = h.done;
@@ -121,14 +121,14 @@ byte_within seen begun pushed b h is bad few = record {
   few = few;
 }
 
--- a fourth byte with which no character ends
+-- a fourth byte that completes no character
 pub no_character : (seen begun pushed rest : List ℕ) (b : ℕ) → AreCharacters seen begun → pushed ≡ begun ++ b ∷ [] → (IsUtf8 pushed → ⊥) → 4 ≤ length pushed → IsUtf8 (seen ++ b ∷ rest) → ⊥
 no_character seen begun pushed rest b h is bad long u =
     let none : HaveNoCharacter pushed = subst HaveNoCharacter (sym is) (none_more begun b h.none (λ v. bad (subst IsUtf8 (sym is) v))) in
     let all : IsUtf8 (h.done ++ (pushed ++ rest)) = subst IsUtf8 (with_byte seen begun pushed rest b h is) u in
     no_text pushed rest none long (behind_text h.done (pushed ++ rest) all h.text)
 
--- ---- at the end
+-- ---- at the end of the text
 
 pub ends_whole : (seen begun : List ℕ) → AreCharacters seen begun → begun ≡ [] → IsUtf8 seen
 ends_whole seen begun h none = subst IsUtf8 (sym (h.whole ∙ ap (λ (l : List ℕ). h.done ++ l) none ∙ append-nil h.done)) h.text

@@ -1,4 +1,4 @@
--- The bytes of a playback cut anywhere: whole frames, and a part of the next.
+-- The bytes of a playback cut at any point: whole frames, and a part of the next.
 use Rattle.std.proofs.Common.{◌≡◌, ℕ, zero, suc, ◌+◌, ◌*◌, ◌<◌, ◌≤◌, List, [], ◌∷◌, ◌++◌, length, take, drop, Option, Bool, true, false, if◌then◌else◌, Some, None, refl, sym, ap, subst, ◌∙◌, arith, append_assoc, length-append}
 use Rattle.std.specs.List.{concat}
 use Rattle.std.proofs.lemmas.List.{take-append-le, take-append-drop, length-take-le, append-nil}
@@ -28,7 +28,7 @@ use Rattle.plan_session.specs.declared.step.Step.{Step}
 use Rattle.plan_session.specs.Playback.{IsStarted}
 use Rattle.std.proofs.KnownBytes.{Appends-nil, Appends-kept}
 
--- the first n bytes of a run are those of the events done, and a part of the frame after them
+-- the first n bytes of a playback are those of the events done, and a part of the next frame
 record Cut (code : Program) (s : State) (events : List Event) (n frames bytes : ℕ) : Type 0 where
   done : List Event
   rest : List Event
@@ -83,7 +83,7 @@ cut_at code size s (Frame ∷ es) n (suc k) bytes sized right split part inside 
           ∙ sym (append_assoc frame (concat (run_frames code (after_frame code s) later.done)) (take bytes (frame_bytes code (run code (after_frame code s) later.done))));
     }
 
--- playing that stopped with these bytes out
+-- a playback that stopped after these bytes
 stopped_at : (p : Playing) (events : List Event) (size n frames bytes : ℕ) → size ≡ 32 * fib_count p.code.plan.mode → FramesAreRight p.code p.state events → n ≡ frames * size + bytes → bytes < size → n < length (played_bytes p events)
     → (new : Playing) × Stopped p new events (Some []) (Some (take n (played_bytes p events))) frames bytes
 stopped_at p events size n frames bytes sized right split part inside =
@@ -145,9 +145,9 @@ right_there code s [] rest right = right.0
 right_there code s (Contact c closed ∷ es) rest right = right_there code (happens code s (Contact c closed)) es rest right
 right_there code s (Frame ∷ es) rest right = right_there code (after_frame code s) es rest right.1
 
--- ---- bytes that a buffer holds back
+-- ---- bytes held in a buffer
 
--- what a writer has that had nothing
+-- what a writer that had nothing has now
 known : (before begun taken after : Option (List ℕ)) (held text : List ℕ) → before ≡ Some [] → Keeps before begun → Appends begun taken text → Keeps taken (append_known after held)
     → (x : List ℕ) × (after ≡ Some x) × (x ++ held ≡ text)
 known None begun taken after held text e k a m = absurd (cc)
@@ -162,7 +162,7 @@ pub kept_same : (taken : Option (List ℕ)) → Keeps taken taken
 kept_same None = tt
 kept_same (Some bytes) = refl
 
--- all was handed on
+-- all was delivered
 pub handed_on : (before begun taken after : Option (List ℕ)) (held text : List ℕ) → before ≡ Some [] → Keeps before begun → Appends begun taken text → Keeps taken (append_known after held) → length held ≡ 0
     → Appends before after text
 handed_on before begun taken after [] text e k a m none =
@@ -175,8 +175,8 @@ cut_out : (p : Playing) (events : List Event) (size : ℕ) (x held rest : List �
 cut_out p events size x held rest frames bytes is right all some count part =
     let split : played_bytes p events ≡ x ++ (held ++ rest) = all ∙ append_assoc x held rest in
     let lengths : length (played_bytes p events) ≡ length x + length (held ++ rest) = ap (λ (l : List ℕ). length l) split ∙ length-append x (held ++ rest) in
-    let behind : length (held ++ rest) ≡ length held + length rest = length-append held rest in
-    let stopped = stopped_at p events size (length x) frames bytes is right (sym count) part (omega (arith, lengths, behind, some)) in
+    let preceded_by : length (held ++ rest) ≡ length held + length rest = length-append held rest in
+    let stopped = stopped_at p events size (length x) frames bytes is right (sym count) part (omega (arith, lengths, preceded_by, some)) in
     let text : take (length x) (played_bytes p events) ≡ x = ap (λ (l : List ℕ). take (length x) l) split ∙ take-append_seam x (held ++ rest) in
     (stopped.0, subst (λ (l : List ℕ). Stopped p stopped.0 events (Some []) (Some l) frames bytes) text stopped.1)
 
@@ -184,7 +184,7 @@ stopped_in : (p new : Playing) (events : List Event) (frames bytes : ℕ) (befor
 stopped_in p new events frames bytes before after x e f s =
     subst (λ (o : Option (List ℕ)). Stopped p new events o after frames bytes) (sym e) (subst (λ (o : Option (List ℕ)). Stopped p new events (Some []) o frames bytes) (sym f) s)
 
--- the run was whole, and its end was not handed on
+-- playback was complete, but its end was not delivered
 pub cut_at_end : (p : Playing) (events : List Event) (size total frames bytes : ℕ) (before begun taken after : Option (List ℕ)) (held : List ℕ) → size ≡ 32 * fib_count p.code.plan.mode → FramesAreRight p.code p.state events
     → before ≡ Some [] → Keeps before begun → total ≡ length (frames_of p events) → Appends begun taken (played_bytes p events) → Keeps taken (append_known after held) → 0 < length held
     → (length held ≤ total * size + 0 → frames * size + bytes + length held ≡ total * size + 0) → bytes < size
@@ -198,7 +198,7 @@ cut_at_end p events size total frames bytes before begun taken after held is rig
     let stopped = cut_out p events size x.0 held [] frames bytes is right all (omega (arith, some)) (omega (arith, sum, counted, lengths)) part in
     (stopped.0, stopped_in p stopped.0 events frames bytes before after x.0 e x.1 stopped.1)
 
--- the run was cut off
+-- playback stopped
 pub cut_before : (p new : Playing) (events : List Event) (size total more frames bytes : ℕ) (before begun taken after : Option (List ℕ)) (held : List ℕ) → size ≡ 32 * fib_count p.code.plan.mode → FramesAreRight p.code p.state events
     → ((all : List Event) → FramesAreRight p.code p.state all)
     → before ≡ Some [] → Keeps before begun → Stopped p new events begun taken total more → Keeps taken (append_known after held)
@@ -218,14 +218,14 @@ cut_before p new events size total more frames bytes before begun taken after he
     let sum = back (omega (arith, counted, done, front, lengths)) in
     let seam : take more next ++ drop more next ≡ next = take-append-drop more next in
     let halves : length next ≡ length (take more next) + length (drop more next) = ap (λ (l : List ℕ). length l) (sym seam) ∙ length-append (take more next) (drop more next) in
-    let behind : length (drop more next ++ others) ≡ length (drop more next) + length others = length-append (drop more next) others in
+    let preceded_by : length (drop more next ++ others) ≡ length (drop more next) + length others = length-append (drop more next) others in
     let all : played_bytes p events ≡ (x.0 ++ held) ++ (drop more next ++ others) =
     ap (λ (l : List Event). played_bytes p l) s.cut ∙ bytes_join p s.done (Frame ∷ s.rest)
     ∙ ap (λ (l : List ℕ). played_bytes p s.done ++ (l ++ others)) (sym seam)
     ∙ ap (λ (l : List ℕ). played_bytes p s.done ++ l) (append_assoc (take more next) (drop more next) others)
     ∙ sym (append_assoc (played_bytes p s.done) (take more next) (drop more next ++ others))
     ∙ ap (λ (l : List ℕ). l ++ (drop more next ++ others)) (sym x.2) in
-    let stopped = cut_out p events size x.0 held (drop more next ++ others) frames bytes is right all (omega (arith, s.part, halves, front, behind))
+    let stopped = cut_out p events size x.0 held (drop more next ++ others) frames bytes is right all (omega (arith, s.part, halves, front, preceded_by))
     (omega (arith, sum, counted, done, front, lengths)) (part (omega (arith, s.part, long))) in
     (stopped.0, stopped_in p stopped.0 events frames bytes before after x.0 e x.1 stopped.1)
 
@@ -233,7 +233,7 @@ empty_front : (x held : List ℕ) → x ++ held ≡ [] → x ≡ []
 empty_front [] held e = refl
 empty_front (y ∷ ys) held e = absurd (cc)
 
--- a fault that left the sink as it was leaves a new writer as it was
+-- a fault before any byte leaves a new writer unchanged
 pub nothing_written : (before begun taken after : Option (List ℕ)) (held : List ℕ) → before ≡ Some [] → Keeps before begun → Keeps begun taken → Keeps taken (append_known after held) → Keeps before after
 nothing_written before begun taken after held e k a m =
     let x = known before begun taken after held [] e k (Appends-kept _ _ _ _ (Appends-nil begun) a) m in

@@ -1,4 +1,4 @@
--- Bytes that are held back: in a block, and at the end of a run.
+-- Bytes that are held: in a block, and at the end of a playback.
 use Rattle.std.proofs.Common.{length-drop, ◌≡◌, ℕ, suc, ◌+◌, ◌-◌, ◌*◌, ◌<◌, ◌≤◌, List, length, ◌++◌, take, drop, sym, ap, subst, ◌∙◌, arith, inl, inr}
 use Rattle.std.specs.Int.{div_ceil}
 use Rattle.std.specs.List.{copy_within}
@@ -18,7 +18,7 @@ filled bytes piece rest len fits =
     ∙ take-append-add (take len bytes) (piece ++ rest) (length piece)
     ∙ ap (λ (l : List ℕ). take len bytes ++ l) (take-append_seam piece rest)
 
--- the first bytes went, and the others moved to the front
+-- the first bytes are removed, and the others moved to the front
 pub moved : (bytes after : List ℕ) (len count : ℕ) → count ≤ length (take len bytes) → len ≤ length bytes → after ≡ copy_within bytes count len 0 → take (len - count) after ≡ drop count (take len bytes)
 moved bytes after len count few fits is =
     let front : length (take len bytes) ≡ len = length-take-le len bytes fits in
@@ -32,9 +32,9 @@ moved bytes after len count few fits is =
     ∙ sym (drop-take count left bytes)
     ∙ ap (λ (n : ℕ). drop count (take n bytes)) all
 
--- ---- at the end of a run
+-- ---- at the end of a playback
 
--- no more frames go back than there are
+-- no more frames are undelivered than there are
 back_fits : (frames short size : ℕ) → 0 < size → short ≤ frames * size → div_ceil short size ≤ frames
 back_fits frames short size some few =
     let back : ℕ = div_ceil short size in
@@ -47,7 +47,7 @@ back_fits frames short size some few =
       | inr fits ↦ fits
     ]
 
--- what went on of frames and bytes of which the last are held back
+-- the frames and bytes delivered, where the last bytes are held
 pub went_on : (frames bytes held size back left : ℕ) → 0 < size → bytes < held → back ≡ div_ceil (held - bytes) size → left ≡ frames - back → held ≤ frames * size + bytes
     → left * size + (bytes + back * size - held) + held ≡ frames * size + bytes
 went_on frames bytes held size back left some short is rest few =

@@ -1,5 +1,4 @@
--- A text that is refused at a byte is refused so whatever follows, and what is kept of it has the result of the
--- whole.
+-- A text that is refused at a byte is refused whatever follows, and what is kept of a text has the result of the whole.
 use Rattle.std.proofs.Common.{◌≡◌, ◌≢◌, ℕ, Bool, true, false, cond, List, [], ◌∷◌, ◌++◌, refl, sym, ap, subst, ◌∙◌, inl, inr, append_assoc, true≢false}
 use Rattle.std.proofs.lemmas.List.{append-nil}
 use Rattle.std.specs.Prelude.{◌↔◌, Result, Err, IsUtf8}
@@ -13,7 +12,7 @@ use Rattle.script_tokens.specs.declared.token.Place.{Place}
 use Rattle.script_tokens.specs.declared.token.TheConstants.{NO_LIMITS}
 use Rattle.script_tokens.specs.declared.fault.ScriptFault.{ScriptFault}
 use Rattle.script_tokens.specs.declared.fault.ScriptFault.TheVariants.{Byte, Limit}
-use Rattle.script_tokens.specs.Bytes.{kind_of, place_after, first_place}
+use Rattle.script_tokens.specs.Bytes.{kind_of, position_after, first_position}
 use Rattle.script_tokens.specs.Lexing.{inside_after, is_bad, made, fits, added, tokens_before, lexed}
 use Rattle.plan_session.specs.declared.gathering.TextState.{TextState}
 use Rattle.plan_session.specs.declared.gathering.TextState.TheVariants.{Outside, InComment, Refused, Past}
@@ -34,14 +33,14 @@ either_fault : (b : Bool) (t : Token) (r : Cuts) (e : ScriptFault) → r ≡ Err
 either_fault true t r e h = (e, rw (h) refl)
 either_fault false t r e h = (Limit t.position, refl)
 
--- there is one fault, of the tokens or behind them
+-- an error after these tokens: the first fault is that error, or one of the tokens
 first_fault : (ts : List Token) (e : ScriptFault) → (f : ScriptFault) × (tokens_before NO_LIMITS ts (Err e) ≡ Err f)
 first_fault [] e = (e, refl)
 first_fault (t ∷ ts) e =
     let later = first_fault ts e in
     either_fault (fits NO_LIMITS t) t (tokens_before NO_LIMITS ts (Err e)) later.0 later.1
 
--- ---- where bytes lead
+-- ---- states and bytes
 
 abbrev is_bad_kind : Kind → Bool
 is_bad_kind Blank = false
@@ -127,19 +126,19 @@ stays_in_comment Comment p Brace e n = refl
 stays_in_comment Comment p Letter e n = refl
 stays_in_comment Comment p Bad e n = refl
 
--- ---- a byte more
+-- ---- one more byte
 
 pub at_front : Reaches [] false
-at_front = record { tokens = []; inside = Nothing; place = first_place; on = λ more. refl; is = refl }
+at_front = record { tokens = []; inside = Nothing; place = first_position; on = λ more. refl; is = refl }
 
 reaches_on : (seen : List ℕ) (c d : Bool) (b : ℕ) (k : Kind) (r : Reaches seen c) → kind_of b ≡ k → is_bad r.inside k ≡ false → is_comment (inside_after r.inside r.place k) ≡ d → Reaches (seen ++ b ∷ []) d
 unfolding lexed
 reaches_on seen c d b k r e fine after = record {
   tokens = r.tokens ++ made r.inside r.place k;
   inside = inside_after r.inside r.place k;
-  place = place_after r.place k;
+  place = position_after r.place k;
   on = λ more.
-      let rest : Cuts = lexed NO_LIMITS (inside_after r.inside r.place k) (place_after r.place k) more in
+      let rest : Cuts = lexed NO_LIMITS (inside_after r.inside r.place k) (position_after r.place k) more in
       let step : lexed NO_LIMITS r.inside r.place (b ∷ more) ≡ tokens_before NO_LIMITS (made r.inside r.place k) rest = rw (e, fine) refl in
       ap cut_of (append_assoc seen (b ∷ []) more) ∙ r.on (b ∷ more) ∙ ap (tokens_before NO_LIMITS r.tokens) step ∙ before_before r.tokens (made r.inside r.place k) rest;
   is = after;
@@ -160,7 +159,7 @@ refused_at seen c b k r e bad =
 still_refused : (front rest : List ℕ) → AreRefused front → AreRefused (front ++ rest)
 still_refused front rest h = record { fault = h.fault; always = λ more. ap cut_of (append_assoc front rest more) ∙ h.always (rest ++ more) }
 
--- where the end of a refused character leads
+-- the state at the end of a refused character
 refused_by : (seen after : List ℕ) (w : Bool) → after ≡ seen → AreRefused seen → (w ≡ true → IsUtf8 seen) → IsInState seen after (past_character w)
 refused_by seen after false is h text = (is, h)
 refused_by seen after true is h text = (
@@ -198,7 +197,7 @@ in_state_on seen kept after InComment b w h ne is text = comment_on seen after b
 in_state_on seen kept after Refused b w h ne is text = refused_by (seen ++ b ∷ []) after w (grown seen kept after b is h.0) (still_refused seen (b ∷ []) h.1) text
 in_state_on seen kept after Past b w h ne is text = absurd (ne refl)
 
--- a byte that is not
+-- a byte that is not kept
 in_state_past : (seen kept : List ℕ) (s : TextState) (b : ℕ) (w : Bool) → IsInState seen kept s → s ≡ Past → IsInState (seen ++ b ∷ []) kept (state_after s (kind_of b) w)
 in_state_past seen kept Outside b w h is = absurd cc
 in_state_past seen kept InComment b w h is = absurd cc
@@ -213,7 +212,7 @@ in_state_after seen kept after Refused b w h added same text = in_state_on seen 
 in_state_after seen kept after Past b w h added same text =
     subst (λ (l : List ℕ). IsInState (seen ++ b ∷ []) l (state_after Past (kind_of b) w)) (sym (same refl)) (in_state_past seen kept Past b w h refl)
 
--- bytes that are not kept
+-- more bytes that are not kept
 pub stays_past : (seen kept more : List ℕ) (s : TextState) → IsInState seen kept s → s ≡ Past → IsInState (seen ++ more) kept s
 stays_past seen kept more Outside h is = absurd cc
 stays_past seen kept more InComment h is = absurd cc
@@ -235,14 +234,14 @@ plain_reach seen [] h r = subst (λ (l : List ℕ). Reaches l false) (sym (appen
 plain_reach seen (b ∷ bs) h r =
     subst (λ (l : List ℕ). Reaches l false) (append_assoc seen (b ∷ []) bs) (plain_reach (seen ++ b ∷ []) bs h.1 (plain_on seen b (kind_of b) refl h.0.1 r))
 
--- plain bytes are kept, and lead to where they began
+-- plain bytes are kept, and do not change the state
 pub in_state_over : (seen kept after bytes : List ℕ) (s : TextState) → AllByRecursion IsPlain bytes → IsInState seen kept s → s ≡ Outside → after ≡ kept ++ bytes → IsInState (seen ++ bytes) after s
 in_state_over seen kept after bytes Outside plain h is added = (added ∙ ap (λ (l : List ℕ). l ++ bytes) h.0, plain_reach seen bytes plain h.1)
 in_state_over seen kept after bytes InComment plain h is added = absurd cc
 in_state_over seen kept after bytes Refused plain h is added = absurd cc
 in_state_over seen kept after bytes Past plain h is added = absurd cc
 
--- ---- at the end
+-- ---- at the end of the text
 
 pub kept_is_text : (seen kept : List ℕ) (s : TextState) → IsInState seen kept s → IsUtf8 seen → IsUtf8 kept
 kept_is_text seen kept Outside h u = subst IsUtf8 (sym h.0) u

@@ -1,5 +1,5 @@
 mod CharacterSteps
-mod CommandWords
+mod CommandLexemes
 mod Cutting
 mod Holding
 mod ItemTexts
@@ -8,5 +8,5 @@ mod KeptVectors
 mod Listed
 mod Readings
 pub mod Requests
-mod StepWords
+mod StepLexemes
 mod Steps

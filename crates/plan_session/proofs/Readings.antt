@@ -1,4 +1,4 @@
--- A text that is read piece by piece: the bytes so far, and those that are left.
+-- A text that is read in pieces: the bytes so far, and those that remain.
 use Rattle.std.proofs.Common.{◌≡◌, ℕ, ◌+◌, ◌<◌, List, [], ◌∷◌, ◌++◌, length, take, drop, get_or, Option, Some, None, sym, ap, subst, ◌∙◌, add-one, append_assoc, refl}
 use Rattle.std.specs.Prelude.{IfSome, IsUtf8}
 use Rattle.plan_session.specs.declared.gathering.Gathering.{Gathering}
@@ -8,7 +8,7 @@ use Rattle.std.specs.Io.KnownBytes.{Consumes, IsAtEnd}
 use Rattle.std.proofs.lemmas.List.{take-append-drop, append-nil}
 use Rattle.std.proofs.Math.Seq.{take-suc, drop-cons}
 
--- ---- a piece, byte by byte
+-- ---- the bytes of a piece
 
 pub one_more : (seen bs : List ℕ) (i : ℕ) → i < length bs → seen ++ take (i + 1) bs ≡ (seen ++ take i bs) ++ get_or bs i 0 ∷ []
 one_more seen bs i lt =
@@ -28,13 +28,13 @@ all_more : (P : ℕ → Type 0) (xs : List ℕ) (b : ℕ) → AllByRecursion P x
 all_more P [] b h p = (p, tt)
 all_more P (x ∷ xs) b h p = (h.0, all_more P xs b h.1 p)
 
--- what holds for each of the first bytes, and for the next one
+-- what holds for the first bytes and for the next one
 pub one_more_of : (P : ℕ → Type 0) (bs : List ℕ) (i : ℕ) → i < length bs → AllByRecursion P (take i bs) → P (get_or bs i 0) → AllByRecursion P (take (i + 1) bs)
 one_more_of P bs i lt h p =
     let step : take (i + 1) bs ≡ take i bs ++ get_or bs i 0 ∷ [] = ap (λ (n : ℕ). take n bs) (add-one i) ∙ take-suc bs i 0 lt in
     subst (AllByRecursion P) (sym step) (all_more P (take i bs) (get_or bs i 0) h p)
 
--- of these bytes all but the rest came, and led from one state to another
+-- all of these bytes but the rest were taken, which led from one state to another
 pub record HaveCome (all rest : List ℕ) (old new : Gathering) : Type 0 where
   pub done : List ℕ
   pub whole : all ≡ done ++ rest
@@ -55,7 +55,7 @@ each_came all rest old new h none seen g =
     let whole : all ≡ h.done = h.whole ∙ ap (λ (l : List ℕ). h.done ++ l) none ∙ append-nil h.done in
     subst (λ (l : List ℕ). IsGathered (seen ++ l) new) (sym whole) (h.gathered seen g)
 
--- no text has the rest behind what came
+-- no text continues with the rest
 pub none_goes_on : (all rest : List ℕ) (old mid : Gathering) → HaveCome all rest old mid → ((seen more : List ℕ) → IsGathered seen mid → IsUtf8 (seen ++ (rest ++ more)) → ⊥)
     → (seen more : List ℕ) → IsGathered seen old → IsUtf8 (seen ++ (all ++ more)) → ⊥
 none_goes_on all rest old mid h never seen more g u =
@@ -63,7 +63,7 @@ none_goes_on all rest old mid h never seen more g u =
     ap (λ (l : List ℕ). seen ++ (l ++ more)) h.whole ∙ ap (λ (l : List ℕ). seen ++ l) (append_assoc h.done rest more) ∙ sym (append_assoc seen h.done (rest ++ more)) in
     never (seen ++ h.done) more (h.gathered seen g) (subst IsUtf8 same u)
 
--- ---- piece by piece
+-- ---- the pieces of a text
 
 came : (before mid after : Option (List ℕ)) (seen : List ℕ) → Consumes before mid seen → Consumes mid after [] → IsAtEnd after → IfSome before (λ whole. whole ≡ seen)
 came None mid after seen p q end = tt
@@ -71,7 +71,7 @@ came (Some x) None after seen p q end = absurd p
 came (Some x) (Some y) None seen p q end = absurd q
 came (Some x) (Some y) (Some z) seen p q end = p ∙ ap (λ (l : List ℕ). seen ++ l) (q ∙ end) ∙ append-nil seen
 
--- nothing was left: all came
+-- the reader is at its end: all bytes were read
 pub all_came : (before mid after : Option (List ℕ)) (seen piece : List ℕ) (n : ℕ) → n ≡ 0 → Consumes before mid seen → Consumes mid after (take n piece) → IsAtEnd after → IfSome before (λ whole. whole ≡ seen)
 all_came before mid after seen piece n none p q end =
     came before mid after seen p (subst (λ (k : ℕ). Consumes mid after (take k piece)) none q) end
@@ -80,7 +80,7 @@ pub of_all : (before : Option (List ℕ)) (P : List ℕ → Type 0) (seen : List
 of_all None P seen e h = tt
 of_all (Some x) P seen e h = subst P (sym e) h
 
--- no text goes on with this piece
+-- no text continues with this piece
 pub no_text_so : (before mid after : Option (List ℕ)) (seen piece : List ℕ) → Consumes before mid seen → Consumes mid after piece → ((rest : List ℕ) → IsUtf8 (seen ++ (piece ++ rest)) → ⊥) → IfSome before (λ whole. IsUtf8 whole → ⊥)
 no_text_so None mid after seen piece p q none = tt
 no_text_so (Some x) None after seen piece p q none = absurd p

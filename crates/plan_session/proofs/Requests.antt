@@ -1,4 +1,4 @@
--- A request has one playback at most.
+-- A request has at most one playback.
 use Rattle.std.specs.Prelude.{slice_get}
 use Rattle.std.specs.Io.KnownBytes.{Appends}
 use Rattle.std.proofs.Common.{◌≡◌, ◌≢◌, ℕ, List, length, Option, Some, None, replicate, refl, sym, ap, subst, ◌∙◌}
@@ -20,13 +20,13 @@ use Rattle.plan_session.specs.declared.run_fault.RunFault.TheVariants.{Code, Ref
 use Rattle.plan_session.specs.Playback.{Request, start_of, IsTypedFileOf, IsPlayback, IsStarted, IsPlayFault, IsRunFault}
 use Rattle.plan_session.specs.Parts.{IsCodeFault}
 
--- ---- one start
+-- ---- at most one start
 
 abbrev opening : Configuration → Starting → State
-opening current start = record { current = current; next = current; left = None; pc = 0; hold = Waits 0; counters = replicate 8 0; contacts = start.contacts; count = start.count; day = start.day; eid = start.eid; turn = 0 }
+opening current start = record { current = current; next = current; left = None; pc = 0; hold = Waits 0; counters = replicate 8 0; contacts = start.contacts; count = start.count; day = start.day; eid = start.eid; page_index = 0 }
 
 is_opening : (code : Program) (start : Starting) (s : State) → IsStart code start s → s ≡ opening s.current start
-is_opening code start s h = rw (h.next, h.left, h.pc, h.hold, h.counters, h.contacts, h.count, h.day, h.eid, h.turn) refl
+is_opening code start s h = rw (h.next, h.left, h.pc, h.hold, h.counters, h.contacts, h.count, h.day, h.eid, h.page_index) refl
 
 same_current : (code : Program) (start : Starting) (s t : State) → IsStart code start s → IsStart code start t → s.current ≡ t.current
 same_current code start s t h k =
@@ -48,14 +48,14 @@ same_start code start p q h k =
 pub same_player : (code : Program) (start : Starting) (text : List ℕ) (p q : Playing) (steps : List Step) → IsStarted code start text p steps → IsAtStart code start q → q ≡ p
 same_player code start text p q steps h begins = same_start code start q p begins h.begins
 
--- what is asked for, of the code that its file holds
+-- the playback of a request is one of the code in its file
 pub started : (r : Request) (p : Playing) (steps : List Step) (code : Program) (start : Starting) → IsPlayback r p steps → code ≡ p.code → start ≡ start_of code r → IsStarted code start r.text p steps
 started r p steps code start h codes starts =
     let there : IsStarted p.code (start_of p.code r) r.text p steps = record { in_range = h.ready.start; begins = h.begins; holds = h.holds } in
     let here : IsStarted code (start_of code r) r.text p steps = subst (λ (c : Program). IsStarted c (start_of c r) r.text p steps) (sym codes) there in
     subst (λ (s : Starting). IsStarted code s r.text p steps) (sym starts) here
 
--- and back
+-- and the converse
 pub asked_for : (r : Request) (p : Playing) (steps : List Step) (code : Program) (start : Starting) → IsTypedFileOf code r.file → start ≡ start_of code r → IsStarted code start r.text p steps → IsPlayback r p steps
 asked_for r p steps code start file starts h =
     let here : IsStarted code (start_of code r) r.text p steps = subst (λ (s : Starting). IsStarted code s r.text p steps) starts h in
@@ -67,7 +67,7 @@ asked_for r p steps code start file starts h =
       holds = there.holds;
     }
 
--- a fault of playing is one of the request
+-- a fault of playing a code is one of the request
 pub fault_of_run : (r : Request) (code : Program) (start : Starting) (e : RunFault) → IsTypedFileOf code r.file → start ≡ start_of code r → IsPlayFault code start r.text e → IsRunFault r e
 fault_of_run r code start (Code fault) file starts h = absurd h
 fault_of_run r code start (Refused pc line cause) file starts h = absurd h
@@ -75,7 +75,7 @@ fault_of_run r code start (StartFault fault) file starts h = (code, file, ap (λ
 fault_of_run r code start (Events fault) file starts h = (code, record { file = file; start = ap (λ (s : Starting). start_fault s) (sym starts) ∙ h.0 }, h.1)
 fault_of_run r code start (Write frames bytes) file starts h = (h.0, h.1, asked_for r h.0 h.1 code start file starts h.2)
 
--- a fault of the code's file is one of the request
+-- a fault of the code file is one of the request
 pub fault_of_file : (r : Request) (e : RunFault) → IsCodeFault r.file e → IsRunFault r e
 fault_of_file r (Code fault) h = h
 fault_of_file r (Refused pc line cause) h = h
@@ -83,7 +83,7 @@ fault_of_file r (StartFault fault) h = absurd h
 fault_of_file r (Events fault) h = absurd h
 fault_of_file r (Write frames bytes) h = absurd h
 
--- ---- what is delivered of it
+-- ---- what is delivered
 
 pub whole : (p q new : Playing) (steps others : List Step) (x y : Option (List ℕ)) (n : ℕ) → q ≡ p → others ≡ steps → Delivered q new (events_of others) x y n
     → (n ≡ length (frames_of p (events_of steps))) × Appends x y (played_bytes p (events_of steps))
@@ -98,7 +98,7 @@ cut_off p q new steps others x y n k players lists s =
     let one : Stopped p new (events_of others) x y n k = subst (λ (a : Playing). Stopped a new (events_of others) x y n k) players s in
     subst (λ (l : List Step). Stopped p new (events_of l) x y n k) lists one
 
--- ---- want of memory
+-- ---- out of memory
 
 pub only_memory : (f : EventFault) → (f ≢ Memory → ⊥) → f ≡ Memory
 only_memory (Byte at) h = absurd (h (λ e. absurd cc))

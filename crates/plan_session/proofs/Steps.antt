@@ -1,4 +1,4 @@
--- The events of steps: those of the first of them, of the next, and of the rest.
+-- The events of steps: of the first ones, of the next, and of the rest.
 use Rattle.std.specs.Prelude.{get_or}
 use Rattle.std.proofs.Common.{◌≡◌, ℕ, zero, suc, ◌+◌, ◌<◌, ◌≤◌, List, [], ◌∷◌, ◌++◌, length, take, drop, refl, sym, ap, subst, ◌∙◌, arith, append_assoc, take-append-drop}
 use Rattle.std.specs.List.{AllByRecursion}
@@ -16,7 +16,7 @@ append_empty : (xs : List Event) → xs ++ [] ≡ xs
 append_empty [] = refl
 append_empty (x ∷ xs) = ap (λ (l : List Event). x ∷ l) (append_empty xs)
 
--- the events of one step more
+-- the events of one more step
 pub events_more : (steps : List Step) (i : ℕ) (step : Step) → take (i + 1) steps ≡ take i steps ++ step ∷ [] → events_of (take (i + 1) steps) ≡ events_of (take i steps) ++ events_of_step step
 events_more steps i step more =
     ap (λ (l : List Step). events_of l) more ∙ events_join (take i steps) (step ∷ [])

@@ -1,10 +1,11 @@
--- What the text of a command file holds: its tokens spell the commands one after another.
+-- The text of a command file: its tokens spell the commands, one after another.
 use Rattle.std.specs.Prelude.{ℕ, ◌<◌, ◌≤◌, List, [], ◌∷◌, codes}
 use Rattle.std.specs.Fmt.{decimal}
 use Rattle.plan_code.specs.declared.limits.TheConstants.{FRAMES_A_DAY}
+use Rattle.script_tokens.specs.Spelling.{level_text}
 use Rattle.plan_session.specs.declared.command.Command.{Command}
 use Rattle.plan_session.specs.declared.command.Command.TheVariants.{Contact, Run, Next, Break, Clear, Show}
-use Rattle.plan_session.specs.Items.{HoldsItems, HoldsOneListOf, contact_word}
+use Rattle.plan_session.specs.Items.{HoldsItems, HoldsOneListOf}
 
 -- the numbers of a command are in their ranges
 abbrev pub IsCommand : Command → Type 0
@@ -16,18 +17,18 @@ IsCommand Clear = Unit {0}
 IsCommand Show = Unit {0}
 
 -- the tokens that spell a command
-abbrev pub command_words : Command → List (List ℕ)
-command_words (Contact c closed) = codes "contact" ∷ decimal c ∷ contact_word closed ∷ []
-command_words (Run n) = codes "run" ∷ decimal n ∷ []
-command_words Next = codes "next" ∷ []
-command_words (Break line) = codes "break" ∷ decimal line ∷ []
-command_words Clear = codes "clear" ∷ []
-command_words Show = codes "show" ∷ []
+abbrev pub command_lexemes : Command → List (List ℕ)
+command_lexemes (Contact c closed) = codes "contact" ∷ decimal c ∷ level_text closed ∷ []
+command_lexemes (Run n) = codes "run" ∷ decimal n ∷ []
+command_lexemes Next = codes "next" ∷ []
+command_lexemes (Break line) = codes "break" ∷ decimal line ∷ []
+command_lexemes Clear = codes "clear" ∷ []
+command_lexemes Show = codes "show" ∷ []
 
 -- the text lists these commands
 abbrev pub HoldsCommands : List ℕ → List Command → Type 0
-HoldsCommands text commands = HoldsItems command_words IsCommand text commands
+HoldsCommands text commands = HoldsItems command_lexemes IsCommand text commands
 
 -- a text has at most one list of commands
 abbrev pub HoldsOneListOfCommands : Type 0
-HoldsOneListOfCommands = HoldsOneListOf command_words IsCommand
+HoldsOneListOfCommands = HoldsOneListOf command_lexemes IsCommand

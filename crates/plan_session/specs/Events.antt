@@ -1,12 +1,13 @@
--- What the text of an event file holds: its tokens spell the steps one after another.
+-- The text of an event file: its tokens spell the steps, one after another.
 use Rattle.std.specs.Prelude.{ℕ, ◌<◌, ◌≤◌, Bool, true, false, List, [], ◌∷◌, flat_map, replicate, codes}
 use Rattle.std.specs.Fmt.{decimal}
 use Rattle.plan_runs.specs.declared.event.Event.{Event}
 use Rattle.plan_runs.specs.declared.event.Event.TheVariants.{Contact as ContactChanges, Frame}
 use Rattle.plan_code.specs.declared.limits.TheConstants.{FRAMES_A_DAY}
+use Rattle.script_tokens.specs.Spelling.{level_text}
 use Rattle.plan_session.specs.declared.step.Step.{Step}
 use Rattle.plan_session.specs.declared.step.Step.TheVariants.{Contact, Frames}
-use Rattle.plan_session.specs.Items.{HoldsItems, HoldsOneListOf, contact_word}
+use Rattle.plan_session.specs.Items.{HoldsItems, HoldsOneListOf}
 
 -- ---- steps
 
@@ -15,23 +16,23 @@ IsStep (Contact c closed) = c < 16
 IsStep (Frames n) = (1 ≤ n) × (n ≤ FRAMES_A_DAY)
 
 -- the tokens that spell a step
-abbrev pub first_word : Bool → List ℕ
-first_word true = codes "frames"
-first_word false = codes "contact"
+abbrev pub first_lexeme : Bool → List ℕ
+first_lexeme true = codes "frames"
+first_lexeme false = codes "contact"
 
-abbrev pub step_words : Step → List (List ℕ)
-step_words (Contact c closed) = codes "contact" ∷ decimal c ∷ contact_word closed ∷ []
-step_words (Frames n) = codes "frames" ∷ decimal n ∷ []
+abbrev pub step_lexemes : Step → List (List ℕ)
+step_lexemes (Contact c closed) = codes "contact" ∷ decimal c ∷ level_text closed ∷ []
+step_lexemes (Frames n) = codes "frames" ∷ decimal n ∷ []
 
 -- ---- texts
 
 -- the text lists these steps
 abbrev pub Holds : List ℕ → List Step → Type 0
-Holds text steps = HoldsItems step_words IsStep text steps
+Holds text steps = HoldsItems step_lexemes IsStep text steps
 
 -- a text has at most one list of steps
 abbrev pub HoldsOneList : Type 0
-HoldsOneList = HoldsOneListOf step_words IsStep
+HoldsOneList = HoldsOneListOf step_lexemes IsStep
 
 -- ---- events
 

@@ -1,4 +1,4 @@
--- What is known of a text after some of its bytes. No public contract needs this to be believed.
+-- The state of reading a text after some of its bytes. No public contract depends on it.
 use Rattle.std.specs.Prelude.{◌≡◌, ℕ, ◌<◌, ◌≤◌, Bool, true, false, List, ◌++◌, length, take, if◌then◌else◌, Err, IsUtf8}
 use Rattle.script_tokens.specs.declared.token.Token.{Token}
 use Rattle.script_tokens.specs.declared.token.Kind.{Kind}
@@ -17,11 +17,11 @@ use Rattle.plan_session.specs.Kept.{cut_of}
 
 -- ---- characters
 
--- no front of these bytes is UTF-8
+-- no prefix of these bytes is UTF-8, other than the empty one
 abbrev pub HaveNoCharacter : List ℕ → Type 0
 HaveNoCharacter begun = (n : ℕ) → 0 < n → n ≤ length begun → IsUtf8 (take n begun) → ⊥
 
--- the bytes so far are whole characters, and then those of an incomplete one
+-- the bytes so far are whole characters, followed by an incomplete one
 pub record AreCharacters (seen begun : List ℕ) : Type 0 where
   pub done : List ℕ
   pub whole : seen ≡ done ++ begun
@@ -70,7 +70,7 @@ state_in_comment Brace = InComment
 state_in_comment Letter = InComment
 state_in_comment Bad = InComment
 
--- the state after a byte of this kind, where a character ends with it or does not
+-- the state after a byte of this kind, where a character ends with it or not
 abbrev pub state_after : TextState → Kind → Bool → TextState
 state_after Outside kind is_whole = state_outside kind is_whole
 state_after InComment kind is_whole = state_in_comment kind
@@ -87,7 +87,7 @@ IsInState seen kept InComment = (kept ≡ seen) × Reaches seen true
 IsInState seen kept Refused = (kept ≡ seen) × AreRefused seen
 IsInState seen kept Past = IsUtf8 kept × AreRefused kept × ((rest : List ℕ) × (seen ≡ kept ++ rest))
 
--- these are the bytes so far
+-- the state after these bytes
 pub record IsGathered (seen : List ℕ) (g : Gathering) : Type 0 where
   pub characters : AreCharacters seen g.begun.items
   pub in_state : IsInState seen g.kept.items g.state

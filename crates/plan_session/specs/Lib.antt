@@ -6,4 +6,4 @@ pub mod Items
 pub mod Kept
 pub mod Parts
 pub mod Playback
-pub mod Words
+pub mod Keywords

@@ -1,4 +1,4 @@
--- The request for a playback, when it can be played, what it then delivers, and its faults.
+-- The request for a playback, when it can be played, what is then delivered, and the faults.
 use Rattle.std.specs.Prelude.{◌≡◌, ◌≢◌, ℕ, Bool, true, false, List, length, Option, Some, None, Result, Ok, Err}
 use Rattle.std.specs.Io.KnownBytes.{Appends, Keeps}
 use Rattle.plan_code.specs.declared.fault.CodeFault.TheVariants.{Memory as NoMemoryForCode}
@@ -20,7 +20,7 @@ use Rattle.plan_session.specs.declared.run_fault.RunFault.TheVariants.{Code, Ref
 
 -- ---- the request
 
--- the bytes of a code's file, the text of an event file, and what the player starts with
+-- the bytes of a code file, the text of an event file, and what the player starts with
 pub record Request : Type 0 where
   pub file : List ℕ
   pub text : List ℕ
@@ -40,7 +40,7 @@ pub record IsFileOf (code : Program) (file : List ℕ) : Type 0 where
   pub program : IsProgram code
   pub bytes : file ≡ code_bytes code
 
--- they are the file of this code, which is typed
+-- the bytes are the file of this code, which is typed
 pub record IsTypedFileOf (code : Program) (file : List ℕ) : Type 0 where
   pub read : IsFileOf code file
   pub typed : IsTyped code
@@ -50,13 +50,13 @@ pub record CanStart (code : Program) (r : Request) : Type 0 where
   pub file : IsTypedFileOf code r.file
   pub start : start_fault (start_of code r) ≡ None
 
--- and this is the player at its start, and the text lists these steps
+-- and this is a player at its start, and the text lists these steps
 pub record IsPlayback (r : Request) (p : Playing) (steps : List Step) : Type 0 where
   pub ready : CanStart p.code r
   pub begins : IsAtStart p.code (start_of p.code r) p
   pub holds : Holds r.text steps
 
--- the start is in range, this is the player of the code there, and the text lists these steps
+-- the start is in range, this is a player of the code at it, and the text lists these steps
 pub record IsStarted (code : Program) (start : Starting) (text : List ℕ) (p : Playing) (steps : List Step) : Type 0 where
   pub in_range : start_fault start ≡ None
   pub begins : IsAtStart code start p
@@ -64,7 +64,7 @@ pub record IsStarted (code : Program) (start : Starting) (text : List ℕ) (p : 
 
 -- ---- what is delivered
 
--- the bytes of the plain run, and the number of its frames; or what the sink took of them; barring allocation failure
+-- all bytes of the playback, and the number of its frames; or the part that the sink took; barring allocation failure
 abbrev pub Delivers : Playing → List Event → Option (List ℕ) → Option (List ℕ) → Result ℕ RunFault → Type 0
 Delivers p events before after (Ok frames) = (frames ≡ length (frames_of p events)) × Appends before after (played_bytes p events)
 Delivers p events before after (Err (Code fault)) = fault ≡ NoMemoryForCode
@@ -79,7 +79,7 @@ abbrev pub or_zero : Option ℕ → ℕ
 or_zero None = 0
 or_zero (Some n) = n
 
--- what holds where a fault is returned: it is one, and none of those before it holds
+-- what holds where a fault is returned: it is a fault of the request, and none of those before it is
 abbrev pub IsRunFault : Request → RunFault → Type 0
 IsRunFault r (Code fault) = fault ≢ NoMemoryForCode → HasCodeFault r.file fault
 IsRunFault r (Refused pc line cause) = (code : Program) × IsFileOf code r.file × IsRefused code pc cause × (line ≡ or_zero (line_at code pc))
@@ -87,7 +87,7 @@ IsRunFault r (Start fault) = (code : Program) × IsTypedFileOf code r.file × (s
 IsRunFault r (Events fault) = (code : Program) × CanStart code r × (fault ≢ NoMemoryForEvents → (steps : List Step) → Holds r.text steps → ⊥)
 IsRunFault r (Write frames bytes) = (p : Playing) × (steps : List Step) × IsPlayback r p steps
 
--- the same where a typed code is given with its start
+-- the same for a typed code and its start
 abbrev pub IsPlayFault : Program → Starting → List ℕ → RunFault → Type 0
 IsPlayFault code start text (Code fault) = ⊥
 IsPlayFault code start text (Refused pc line cause) = ⊥
@@ -103,7 +103,7 @@ is_write (Err (Start fault)) = false
 is_write (Err (Events fault)) = false
 is_write (Err (Write frames bytes)) = true
 
--- at every fault but Write nothing was written
+-- with every fault but Write nothing was written
 abbrev pub IsSilent : Option (List ℕ) → Option (List ℕ) → RunFault → Type 0
 IsSilent before after (Code fault) = Keeps before after
 IsSilent before after (Refused pc line cause) = Keeps before after

@@ -1,13 +1,13 @@
-//! A block of bytes to be passed on.
+//! A block of bytes that are waiting to be passed on.
 
 ghost use Rattle.std.specs.Prelude.{◌≡◌, ◌+◌, ◌<◌, ◌≤◌, [], ◌++◌, length, take, drop, true, false};
 
 use std::marker::Model;
 
-/// The capacity of a block in bytes: the frames of some 24 seconds.
+/// The capacity of a block in bytes: about 24 seconds of frames.
 const SIZE: usize = 98_304;
 
-/// Up to 98,304 bytes, in the order in which they were put. Clearing it sets its length alone.
+/// Up to 98,304 bytes, in the order in which they were appended. Clearing it only resets the length.
 #[derive(Drop)]
 pub(crate) struct Block {
     bytes: [u8; SIZE],
@@ -24,7 +24,7 @@ impl Model for Block {
     ghost invariant = { λ b. (b.len ≤ 98304) × (length b.bytes ≡ 98304) };
 }
 
-/// Overwrites the bytes from an offset on.
+/// Overwrites the bytes at an offset.
 fn write_at(bytes: &mut [u8], offset: usize, piece: &[u8])
     requires { offset + length piece.now ≤ length bytes.old }
     ensures { bytes.new ≡ take offset bytes.old
@@ -34,7 +34,7 @@ fn write_at(bytes: &mut [u8], offset: usize, piece: &[u8])
 }
 
 impl Block {
-    /// The empty block.
+    /// An empty block.
     pub(crate) fn new() -> Block
         ensures { result ≡ [] }
     {
@@ -44,7 +44,7 @@ impl Block {
         }
     }
 
-    /// How many bytes it holds.
+    /// The number of bytes held.
     pub(crate) fn len(&self) -> usize
         ensures value { result ≡ length self.now }
         ensures bound { result ≤ 98304 }
@@ -59,14 +59,14 @@ impl Block {
         self.len == SIZE
     }
 
-    /// The bytes that it holds.
+    /// The bytes held.
     pub(crate) fn as_slice(&self) -> &[u8]
         ensures { result.now ≡ self.now }
     {
         &self.bytes[..self.len]
     }
 
-    /// Whether there is room for this many bytes more.
+    /// Whether there is room for this many more bytes.
     pub(crate) fn has_room(&self, count: usize) -> bool
         ensures { result ≡ true → length self.now + count ≤ 98304 }
     {
@@ -82,7 +82,7 @@ impl Block {
         self.len += bytes.len();
     }
 
-    /// Appends as many of these bytes as there is room for, and returns how many.
+    /// Appends as many of these bytes as there is room for, and returns their number.
     pub(crate) fn fill(&mut self, bytes: &[u8]) -> usize
         ensures taken { self.new ≡ self.old ++ take result bytes.now }
         ensures bound { result ≤ length bytes.now }
@@ -93,8 +93,8 @@ impl Block {
         count
     }
 
-    /// Removes the first bytes; the others move to the front.
-    pub(crate) fn let_go(&mut self, count: usize)
+    /// Removes the first `count` bytes and moves the others to the front.
+    pub(crate) fn release(&mut self, count: usize)
         requires { count ≤ length self.old }
         ensures { self.new ≡ drop count self.old }
     {

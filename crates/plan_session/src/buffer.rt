@@ -1,4 +1,4 @@
-//! A sink that collects the bytes of frames, and passes them to another sink in large pieces.
+//! A sink that collects bytes and passes them to another sink in large pieces.
 
 ghost use Rattle.std.specs.Prelude.{◌≡◌, ◌+◌, ◌*◌, ◌<◌, ◌≤◌, length, take, true, false, IfSome, IfNone};
 ghost use Rattle.std.specs.Io.KnownBytes.{Appends, Keeps};
@@ -6,10 +6,10 @@ ghost use Rattle.std.specs.Io.KnownBytes.{Appends, Keeps};
 use crate::block::Block;
 use plan_player::{Sink, put_all};
 
-/// A sink over a sink, to which it passes pieces of up to 98,304 bytes: the frames of some 24 seconds.
+/// A sink that passes bytes to an inner sink in pieces of up to 98,304: about 24 seconds of frames.
 ///
-/// What it has taken is what the sink below has, and then what is held. It has failed where the sink below has; nothing
-/// is put there after that.
+/// It has taken what the inner sink has taken, followed by what it holds. It has failed when the inner sink has; after
+/// that nothing is put into the inner sink.
 #[derive(Drop)]
 pub(crate) struct Buffer<K> {
     out: K,
@@ -30,7 +30,7 @@ impl<K: Sink> Buffer<K> {
         }
     }
 
-    /// How many bytes are held.
+    /// The number of bytes held.
     pub(crate) fn held(&self) -> usize
         ensures value { result ≡ length self.now.held }
         ensures bound { result ≤ 98304 }
@@ -38,15 +38,15 @@ impl<K: Sink> Buffer<K> {
         self.held.len()
     }
 
-    /// The sink below. What is held is lost.
+    /// The inner sink. What is held is lost.
     pub(crate) fn into_inner(self) -> K
         ensures { result ≡ self.out }
     {
         self.out
     }
 
-    /// Holds as many of these bytes as there is room for, at least one: a full buffer is flushed first. Returns how
-    /// many; `None` where the sink below failed at the flush.
+    /// Holds as many of these bytes as there is room for, at least one: a full buffer is flushed first. Returns their
+    /// number; `None` if the inner sink failed in the flush.
     #[inline(never)]
     fn put_part(&mut self, bytes: &[u8]) -> Option<usize>
         requires working { K.has_failed self.old.out ≡ false }
@@ -66,7 +66,7 @@ impl<K: Sink> Buffer<K> {
         Some(self.held.fill(bytes))
     }
 
-    /// Passes all that is held to the sink below, which must not have failed, and returns whether it took all.
+    /// Passes all bytes held to the inner sink, which must not have failed. Returns whether it took all of them.
     #[inline(never)]
     pub(crate) fn deliver(&mut self) -> bool
         requires working { K.has_failed self.old.out ≡ false }
@@ -82,7 +82,7 @@ impl<K: Sink> Buffer<K> {
                 true
             }
             Err(taken) => {
-                self.held.let_go(taken);
+                self.held.release(taken);
                 false
             }
         }
@@ -96,8 +96,8 @@ impl<K: Sink> Sink for Buffer<K> {
 
     ghost has_failed = { λ b. K.has_failed b.out };
 
-    /// Holds the bytes where there is room for them; else as many as there is room for, after a flush if the buffer is
-    /// full.
+    /// Holds all the bytes if there is room for them; otherwise as many as there is room for, after a flush if the
+    /// buffer is full.
     fn put(&mut self, bytes: &[u8]) -> Option<usize> {
         if self.out.failed() {
             return None;
@@ -114,8 +114,8 @@ impl<K: Sink> Sink for Buffer<K> {
     }
 }
 
-/// Of this many frames of this size, and bytes of the next one, the last `held` bytes are held back. Returns the whole
-/// frames that were passed on, and the bytes of the next one.
+/// Of this many frames of this size and this many bytes of the next frame, the last `held` bytes were not delivered.
+/// Returns the number of frames that were delivered whole, and of bytes delivered of the next one.
 pub(crate) fn delivered(frames: u128, bytes: usize, held: usize, size: usize) -> (u128, usize)
     requires some { 0 < size }
     requires few { held + size ≤ 100000 }

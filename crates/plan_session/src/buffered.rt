@@ -1,4 +1,4 @@
-//! A playback through a buffer: few large writes.
+//! Playback through a buffer, with few large writes.
 
 ghost use Rattle.std.specs.Prelude.{◌≡◌, List, [], length, Some, false, IfOk, IfErr, OnOk};
 ghost use Rattle.plan_player.specs.Playing.{Playing};
@@ -16,10 +16,10 @@ use plan_player::{Sink, Start};
 use plan_verifier::Verified;
 use std::alloc::Global;
 
-/// The bytes of a FIB.
+/// The length of a FIB in bytes.
 const FIB: usize = 32;
 
-/// [`play`] through a buffer; the sink is returned.
+/// [`play`] through a buffer. Returns the sink, too.
 fn play_into<K: Sink>(
     alloc: Global,
     code: &Verified,
@@ -69,11 +69,11 @@ fn play_into<K: Sink>(
     }
 }
 
-/// [`run`](crate::run) into a sink that hasn't failed, in pieces of up to 98,304 bytes. The sink is returned.
+/// [`run`](crate::run) in pieces of up to 98,304 bytes, into a sink that has not failed. Returns the sink, too.
 ///
 /// # Errors
 ///
-/// Those of `run`. `Write` says what the sink took in the end, wherever it failed: at the last piece, too.
+/// Those of `run`. `Write` has what the sink took in all, whichever piece it failed in.
 pub fn run_into<K: Sink>(
     alloc: Global,
     code: &[u8],
@@ -84,12 +84,12 @@ pub fn run_into<K: Sink>(
     out: K,
 ) -> (Result<u128, RunFault>, K)
     requires working { K.has_failed out ≡ false }
-    // A sink that reports its bytes and has none yet receives what `run` gives a sink.
+    // A sink that reports its bytes and has none yet receives the bytes that `run` puts into a sink.
     ensures played { (p : Playing) (steps : List Step)
         → IsPlayback (asked code.now events.now count day contacts) p steps
         → K.taken out ≡ Some []
         → Delivers p (events_of steps) (K.taken out) (K.taken result.1) result.0 }
-    // The frames of every sink are counted.
+    // The number of frames is right for every sink.
     ensures counted { IfOk result.0 (λ n. (p : Playing) (steps : List Step)
         → IsPlayback (asked code.now events.now count day contacts) p steps
         → n ≡ length (frames_of p (events_of steps))) }
@@ -97,7 +97,7 @@ pub fn run_into<K: Sink>(
         × IsPlayback (asked code.now events.now count day contacts) p steps) }
     ensures first_fault { IfErr result.0 (λ e.
         IsRunFault (asked code.now events.now count day contacts) e) }
-    // The sink has failed exactly where the fault is `Write`.
+    // The sink has failed exactly if the fault is `Write`.
     ensures failed { K.has_failed result.1 ≡ is_write result.0 }
     ensures silent { IfErr result.0 (λ e. K.taken out ≡ Some []
         → IsSilent (K.taken out) (K.taken result.1) e) }

@@ -6,8 +6,8 @@ ghost use Rattle.plan_session.specs.Gathered.{AreCharacters};
 use arrayvec::ArrayVec;
 use std::str;
 
-/// Takes the next byte of a text, where `begun` has the bytes so far of its last character, and returns whether the
-/// text may still be UTF-8. At the end of a character `begun` is cleared.
+/// Takes the next byte of a text; `begun` holds the bytes of an incomplete last character. Returns whether the text can
+/// still be UTF-8. At the end of a character `begun` is cleared.
 pub(crate) fn take_byte(begun: &mut ArrayVec<u8, 4>, byte: u8) -> bool
     ensures passed { result ≡ true → (seen : List ℕ) → AreCharacters seen begun.old.items
         → AreCharacters (seen ++ byte ∷ []) begun.new.items }

@@ -1,4 +1,4 @@
-//! Loading a code that can be played.
+//! Loading a code file that can be played.
 
 ghost use Rattle.std.specs.Prelude.{◌≡◌, IfOk, IfErr};
 ghost use Rattle.plan_code.specs.declared.fault.CodeFault.TheVariants.{Memory as NoMemoryForCode};
@@ -13,7 +13,7 @@ use plan_code::{Code, decode};
 use plan_verifier::{Verified, verify};
 use std::alloc::Global;
 
-/// The line that the instruction at a pc of the code comes from; 0 where there is none.
+/// The source line of the instruction at this pc; 0 if there is no instruction.
 fn line_of(code: &Code, pc: u16) -> u16
     ensures { result ≡ or_zero (line_at code.now pc) }
 {
@@ -23,12 +23,12 @@ fn line_of(code: &Code, pc: u16) -> u16
     }
 }
 
-/// The typed code that these bytes are the file of: it never goes wrong when it is played.
+/// The code of this file, if the bytes are a code file and the code is typed.
 ///
 /// # Errors
 ///
-/// `Code` names the first fault of bytes that are no code file, or out of memory; `Refused` names the first instruction
-/// that is refused, its line and its first cause. There is no other fault.
+/// `Code`: the first fault of bytes that are not a code file, or out of memory. `Refused`: the first pc at which the
+/// code is refused, the source line, and the first cause there. There is no other fault.
 pub fn typed_code(alloc: Global, bytes: &[u8]) -> Result<Verified, RunFault>
     ensures found { IfOk result (λ v. IsTypedFileOf v bytes.now) }
     ensures only { (code : Program) → IsTypedFileOf code bytes.now → IfOk result (λ v. v ≡ code) }

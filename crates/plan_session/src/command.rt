@@ -5,16 +5,16 @@ use plan_code::ContactId;
 /// A command to a debugger.
 #[derive(Clone, Copy, Debug, PartialEq, Eq)]
 pub enum Command {
-    /// Closes a contact, or opens it where the flag is false; no frame is played.
+    /// Closes a contact, or opens it if the flag is false. No frame is played.
     Contact(ContactId, bool),
-    /// Plays frames up to one that reaches the break line, at most this many. A frame reaches it where the next
-    /// instruction has changed in it, and is of that line after it.
+    /// Plays frames until one reaches the break line, at most this many. A frame reaches it if the next instruction has
+    /// changed in it and is then on that line.
     Run(u32),
-    /// Plays frames up to one in which the next instruction changes, at most 5,000.
+    /// Plays frames until the next instruction changes, at most 5,000.
     Next,
-    /// Sets the one break line; no frame is played.
+    /// Sets the break line; there is only one. No frame is played.
     Break(u16),
-    /// Removes the break line; no frame is played.
+    /// Removes the break line. No frame is played.
     Clear,
     /// Plays no frame.
     Show,

@@ -1,21 +1,23 @@
 //! Reading command files.
 
 ghost use Rattle.std.specs.Prelude.{◌≡◌, ◌≢◌, ℕ, List, ◌∷◌, ◌++◌, IfOk, IfErr, IfSome, IfNone};
+ghost use Rattle.script_tokens.specs.declared.fault.ScriptFault.TheVariants.{Memory as NoMemory};
 ghost use Rattle.plan_session.specs.declared.command.Command.{Command};
 ghost use Rattle.plan_session.specs.declared.commands.Keyword.{Keyword};
 ghost use Rattle.plan_session.specs.declared.event_fault.EventFault.TheVariants.{Memory};
-ghost use Rattle.plan_session.specs.Commands.{IsCommand, command_words, HoldsCommands};
+ghost use Rattle.plan_session.specs.Commands.{IsCommand, command_lexemes, HoldsCommands};
 ghost use Rattle.plan_session.specs.Kept.{ReportsFirstFault};
-ghost use Rattle.plan_session.specs.Words.{keyword_word};
+ghost use Rattle.plan_session.specs.Keywords.{keyword_text};
 
 use crate::command::Command;
 use crate::event_fault::EventFault;
-use crate::items::{Item, change, number, read_items};
-use crate::words::Words;
+use crate::items::{Item, change, read_items};
 use plan_code::limits::FRAMES_A_DAY;
+use script_tokens::values::decimal;
+use script_tokens::{Reader, ScriptFault};
 use std::alloc::Global;
 
-/// The tokens that begin a command.
+/// The keywords of commands.
 #[derive(Clone, Copy)]
 enum Keyword {
     Contact,
@@ -26,10 +28,10 @@ enum Keyword {
     Show,
 }
 
-/// The command that a token begins.
+/// The keyword that this token spells; None if it spells none.
 fn keyword_of(word: &[u8]) -> Option<Keyword>
-    ensures found { IfSome result (λ k. word.now ≡ keyword_word k) }
-    ensures none { IfNone result ((k : Keyword) → word.now ≢ keyword_word k) }
+    ensures found { IfSome result (λ k. word.now ≡ keyword_text k) }
+    ensures none { IfNone result ((k : Keyword) → word.now ≢ keyword_text k) }
 {
     match word {
         b"contact" => Some(Keyword::Contact),
@@ -42,27 +44,27 @@ fn keyword_of(word: &[u8]) -> Option<Keyword>
     }
 }
 
-/// The rest of a command, after its first token.
-fn command_after(keyword: Keyword, words: &mut Words) -> Result<Command, EventFault>
-    ensures read { IfOk result (λ s. keyword_word keyword ∷ words.old
-        ≡ command_words s ++ words.new) }
+/// The rest of a command, after its keyword.
+fn command_after(keyword: Keyword, reader: &mut Reader) -> Result<Command, ScriptFault>
+    ensures read { IfOk result (λ s. keyword_text keyword ∷ reader.old.lexemes
+        ≡ command_lexemes s ++ reader.new.lexemes) }
     ensures range { IfOk result IsCommand }
     ensures none { IfErr result (λ e. (s : Command) (rest : List (List ℕ)) → IsCommand s
-        → keyword_word keyword ∷ words.old ≢ command_words s ++ rest) }
-    ensures named { IfErr result (λ e. e ≢ Memory) }
+        → keyword_text keyword ∷ reader.old.lexemes ≢ command_lexemes s ++ rest) }
+    ensures named { IfErr result (λ e. e ≢ NoMemory) }
 {
     match keyword {
         Keyword::Contact => {
-            let (contact, closed) = change(words)?;
+            let (contact, closed) = change(reader)?;
             Ok(Command::Contact(contact, closed))
         }
         Keyword::Run => {
-            let frames = number(words, 1, FRAMES_A_DAY)?;
+            let frames = decimal(reader, 1, FRAMES_A_DAY)?;
             Ok(Command::Run(frames))
         }
         Keyword::Next => Ok(Command::Next),
         Keyword::Break => {
-            let line = number(words, 1, 65_535)?;
+            let line = decimal(reader, 1, 65_535)?;
             Ok(Command::Break(line as u16))
         }
         Keyword::Clear => Ok(Command::Clear),
@@ -71,33 +73,33 @@ fn command_after(keyword: Keyword, words: &mut Words) -> Result<Command, EventFa
 }
 
 impl Item for Command {
-    ghost spelled = { command_words };
+    ghost spelled = { command_lexemes };
 
     ghost is_item = { IsCommand };
 
     fn uniqueness() {}
 
-    fn read(words: &mut Words) -> Result<Command, EventFault> {
-        let Some(word) = words.peek() else {
-            return Err(EventFault::Expected(words.position()));
+    fn read(reader: &mut Reader) -> Result<Command, ScriptFault> {
+        let Some(word) = reader.peek() else {
+            return Err(reader.expected());
         };
         let Some(keyword) = keyword_of(word) else {
-            return Err(EventFault::Expected(words.position()));
+            return Err(reader.expected());
         };
-        words.advance();
-        command_after(keyword, words)
+        reader.advance();
+        command_after(keyword, reader)
     }
 }
 
-/// The commands of a command file: `contact C closed` and `contact C open` with C from 0 to 15, `run N` with N from 1
-/// to 3,600,000, `next`, `break LINE` with LINE from 1 to 65,535, `clear` and `show`, between blanks and comments as in
-/// scripts.
+/// Parses a command file: `contact C closed` and `contact C open` with C from 0 to 15, `run N` with N from 1 to
+/// 3,600,000, `next`, `break LINE` with LINE from 1 to 65,535, `clear` and `show`, separated by blanks and comments as
+/// in scripts.
 ///
 /// # Errors
 ///
-/// First `Byte` for a byte outside comments that is not allowed; then from the front `Number` for an atom that should
-/// be a number in its range and is not, and `Expected` for any other wrong token, or the end of the text, each with its
-/// position; `Memory` where memory is refused. There is no other fault where the text lists commands.
+/// First `Byte`, for a byte outside comments that is not allowed; then the first in text order of `Number`, for an atom
+/// that is not the required number in range, and `Expected`, for any other wrong token or the end of the text. Each has
+/// its position. `Memory` if memory runs out. A text that lists commands has no other fault.
 pub fn read_commands(alloc: Global, text: &str) -> Result<Vec<Command>, EventFault>
     ensures found { IfOk result (λ v. HoldsCommands text.now v.items) }
     ensures only { IfErr result (λ e. e ≢ Memory → (all : List Command)

@@ -1,40 +1,42 @@
 //! Reading event files.
 
 ghost use Rattle.std.specs.Prelude.{◌≡◌, ◌≢◌, Bool, List, ℕ, ◌∷◌, ◌++◌, codes, IfOk, IfErr, IfSome, IfNone};
+ghost use Rattle.script_tokens.specs.declared.fault.ScriptFault.TheVariants.{Memory as NoMemory};
 ghost use Rattle.plan_session.specs.declared.event_fault.EventFault.TheVariants.{Memory};
 ghost use Rattle.plan_session.specs.declared.step.Step.{Step};
-ghost use Rattle.plan_session.specs.Events.{IsStep, step_words, first_word, Holds};
+ghost use Rattle.plan_session.specs.Events.{IsStep, step_lexemes, first_lexeme, Holds};
 ghost use Rattle.plan_session.specs.Kept.{ReportsFirstFault};
 
 use crate::event_fault::EventFault;
-use crate::items::{Item, change, number, read_items};
+use crate::items::{Item, change, read_items};
 use crate::step::Step;
-use crate::words::Words;
 use plan_code::limits::FRAMES_A_DAY;
+use script_tokens::values::decimal;
+use script_tokens::{Reader, ScriptFault};
 use std::alloc::Global;
 
-/// The rest of a step, after the token `frames`, or else `contact`.
-fn step_after(of_frames: bool, words: &mut Words) -> Result<Step, EventFault>
-    ensures read { IfOk result (λ s. first_word of_frames ∷ words.old
-        ≡ step_words s ++ words.new) }
+/// The rest of a step, after the token `frames`, or otherwise `contact`.
+fn step_after(of_frames: bool, reader: &mut Reader) -> Result<Step, ScriptFault>
+    ensures read { IfOk result (λ s. first_lexeme of_frames ∷ reader.old.lexemes
+        ≡ step_lexemes s ++ reader.new.lexemes) }
     ensures range { IfOk result IsStep }
     ensures none { IfErr result (λ e. (s : Step) (rest : List (List ℕ)) → IsStep s
-        → first_word of_frames ∷ words.old ≢ step_words s ++ rest) }
-    ensures named { IfErr result (λ e. e ≢ Memory) }
+        → first_lexeme of_frames ∷ reader.old.lexemes ≢ step_lexemes s ++ rest) }
+    ensures named { IfErr result (λ e. e ≢ NoMemory) }
 {
     if of_frames {
-        let frames = number(words, 1, FRAMES_A_DAY)?;
+        let frames = decimal(reader, 1, FRAMES_A_DAY)?;
         Ok(Step::Frames(frames))
     } else {
-        let (contact, closed) = change(words)?;
+        let (contact, closed) = change(reader)?;
         Ok(Step::Contact(contact, closed))
     }
 }
 
-/// Whether a token begins a step of frames, or else a change of a contact.
+/// Whether this token is `frames`, or otherwise `contact`; None if it is neither.
 fn begins_frames(word: &[u8]) -> Option<bool>
-    ensures found { IfSome result (λ frames. word.now ≡ first_word frames) }
-    ensures none { IfNone result ((frames : Bool) → word.now ≢ first_word frames) }
+    ensures found { IfSome result (λ frames. word.now ≡ first_lexeme frames) }
+    ensures none { IfNone result ((frames : Bool) → word.now ≢ first_lexeme frames) }
 {
     match word {
         b"frames" => Some(true),
@@ -44,32 +46,32 @@ fn begins_frames(word: &[u8]) -> Option<bool>
 }
 
 impl Item for Step {
-    ghost spelled = { step_words };
+    ghost spelled = { step_lexemes };
 
     ghost is_item = { IsStep };
 
     fn uniqueness() {}
 
-    fn read(words: &mut Words) -> Result<Step, EventFault> {
-        let Some(word) = words.peek() else {
-            return Err(EventFault::Expected(words.position()));
+    fn read(reader: &mut Reader) -> Result<Step, ScriptFault> {
+        let Some(word) = reader.peek() else {
+            return Err(reader.expected());
         };
         let Some(of_frames) = begins_frames(word) else {
-            return Err(EventFault::Expected(words.position()));
+            return Err(reader.expected());
         };
-        words.advance();
-        step_after(of_frames, words)
+        reader.advance();
+        step_after(of_frames, reader)
     }
 }
 
-/// The steps of an event file: `frames N` with N from 1 to 3,600,000, `contact C closed` and `contact C open` with C
-/// from 0 to 15, between blanks and comments as in scripts.
+/// Parses an event file: `frames N` with N from 1 to 3,600,000, `contact C closed` and `contact C open` with C from 0
+/// to 15, separated by blanks and comments as in scripts.
 ///
 /// # Errors
 ///
-/// First `Byte` for a byte outside comments that is not allowed; then from the front `Number` for an atom that should
-/// be a number in its range and is not, and `Expected` for any other wrong token, or the end of the text, each with its
-/// position; `Memory` where memory is refused. There is no other fault where the text lists steps.
+/// First `Byte`, for a byte outside comments that is not allowed; then the first in text order of `Number`, for an atom
+/// that is not the required number in range, and `Expected`, for any other wrong token or the end of the text. Each has
+/// its position. `Memory` if memory runs out. A text that lists steps has no other fault.
 pub fn read_events(alloc: Global, text: &str) -> Result<Vec<Step>, EventFault>
     ensures found { IfOk result (λ v. Holds text.now v.items) }
     ensures only { IfErr result (λ e. e ≢ Memory → (all : List Step) → Holds text.now all → ⊥) }

@@ -1,4 +1,4 @@
-//! Collecting a text byte by byte: those bytes are kept on which the result of reading it depends.
+//! Collecting a text byte by byte, without the bytes that the result of reading it does not depend on.
 
 ghost use Rattle.std.specs.Prelude.{◌≡◌, ◌≢◌, ℕ, ◌<◌, ◌≤◌, List, [], ◌∷◌, ◌++◌, length, take, true, OnOk, IfOk, IfErr, IsUtf8, string_bytes};
 ghost use Rattle.std.specs.List.{AllByRecursion};
@@ -14,24 +14,24 @@ use script_tokens::kind_of;
 use script_tokens::token::Kind;
 use std::alloc::Global;
 
-/// The state after the bytes so far.
+/// The state between two bytes.
 #[derive(Clone, Copy, Debug, PartialEq, Eq)]
 pub(crate) enum TextState {
     /// Outside comments.
     Outside,
     /// In a comment.
     InComment,
-    /// Within a character that is not allowed.
+    /// In a character that is not allowed outside comments.
     Refused,
-    /// After such a character. What follows is not kept.
+    /// After such a character. The bytes that follow are not kept.
     Past,
 }
 
-/// What is kept of a text: its bytes up to the end of the first character outside comments that is not allowed.
+/// What is kept of a text: the bytes up to the end of the first character that is not allowed outside comments.
 #[derive(Drop)]
 pub(crate) struct Gathering {
     kept: Vec<u8>,
-    /// The bytes of the last character, where it is incomplete.
+    /// The bytes of the last character, if it is incomplete.
     begun: ArrayVec<u8, 4>,
     state: TextState,
 }
@@ -48,7 +48,7 @@ impl Gathering {
         }
     }
 
-    /// Takes the next byte: `NotUtf8` where no text continues with it, `Memory` where it can't be kept.
+    /// Takes the next byte: `NotUtf8` if no UTF-8 text continues with it, `Memory` if there is no memory to keep it.
     fn take(&mut self, byte: u8) -> Result<(), TextFault>
         ensures gathered { OnOk result ((seen : List ℕ) → IsGathered seen self.old
             → IsGathered (seen ++ byte ∷ []) self.new) }
@@ -63,7 +63,7 @@ impl Gathering {
         Ok(())
     }
 
-    /// Takes the next bytes, in the same way.
+    /// Takes the next bytes, with the same faults.
     pub(crate) fn take_all(&mut self, bytes: &[u8]) -> Result<(), TextFault>
         ensures gathered { OnOk result ((seen : List ℕ) → IsGathered seen self.old
             → IsGathered (seen ++ bytes.now) self.new) }
@@ -78,13 +78,13 @@ impl Gathering {
         let mut rest = bytes;
         while !rest.is_empty() {
             let count = self.take_some(rest)?;
-            let (_, behind) = rest.split_at(count);
-            rest = behind;
+            let (_, preceded_by) = rest.split_at(count);
+            rest = preceded_by;
         }
         Ok(())
     }
 
-    /// Takes as many of these bytes as are kept at once, at least one, and returns how many.
+    /// Takes some of these bytes, at least one: outside comments all plain bytes at the front. Returns their number.
     fn take_some(&mut self, bytes: &[u8]) -> Result<usize, TextFault>
         requires { 0 < length bytes.now }
         ensures some { IfOk result (λ n. (0 < n) × (n ≤ length bytes.now)) }
@@ -104,7 +104,7 @@ impl Gathering {
         Ok(1)
     }
 
-    /// Whether what follows is outside comments and kept, and a character begins next.
+    /// Whether the state is `Outside`, between two characters.
     fn is_outside(&self) -> bool
         ensures outside { result ≡ true → self.now.state ≡ Outside }
         ensures between { result ≡ true → self.now.begun.items ≡ [] }
@@ -115,7 +115,7 @@ impl Gathering {
         }
     }
 
-    /// Whether nothing that follows is kept, and a character begins next.
+    /// Whether the state is `Past`, between two characters.
     fn is_past(&self) -> bool
         ensures past { result ≡ true → self.now.state ≡ Past }
         ensures between { result ≡ true → self.now.begun.items ≡ [] }
@@ -126,7 +126,7 @@ impl Gathering {
         }
     }
 
-    /// What is kept, after all bytes; `NotUtf8` where they end within a character.
+    /// What is kept, after the last byte; `NotUtf8` if the text ends within a character.
     pub(crate) fn finish(self) -> Result<String, TextFault>
         ensures kept { IfOk result (λ text. (seen : List ℕ) → IsGathered seen self
             → IsUtf8 seen × IsKeptOf seen (string_bytes text)) }
@@ -143,7 +143,7 @@ impl Gathering {
     }
 }
 
-/// Whether a byte is a character that neither begins a comment nor is refused.
+/// Whether a byte is a whole character that neither begins a comment nor is refused.
 #[inline]
 fn is_plain(byte: u8) -> bool
     ensures { result ≡ true → IsPlain byte }
@@ -154,7 +154,7 @@ fn is_plain(byte: u8) -> bool
     }
 }
 
-/// How many plain bytes there are before the first other one.
+/// The number of plain bytes before the first other one.
 fn plain_len(bytes: &[u8]) -> usize
     ensures bound { result ≤ length bytes.now }
     ensures plain { AllByRecursion IsPlain (take result bytes.now) }
@@ -180,7 +180,7 @@ fn keep_all(kept: &mut Vec<u8>, bytes: &[u8]) -> Result<(), TextFault>
     }
 }
 
-/// Keeps a byte, unless the text is refused already.
+/// Keeps a byte, unless the text has been refused.
 fn keep(kept: &mut Vec<u8>, state: TextState, byte: u8) -> Result<(), TextFault>
     ensures added { OnOk result (state ≢ Past → kept.new.items ≡ kept.old.items ++ byte ∷ []) }
     ensures same { OnOk result (state ≡ Past → kept.new.items ≡ kept.old.items) }
@@ -195,7 +195,7 @@ fn keep(kept: &mut Vec<u8>, state: TextState, byte: u8) -> Result<(), TextFault>
     }
 }
 
-/// The state after a byte of this kind, with which a character ends or does not.
+/// The state after a byte of this kind; `is_whole` says whether a character ends with it.
 fn state_after(state: TextState, kind: Kind, is_whole: bool) -> TextState
     ensures { result ≡ state_after state kind is_whole }
 {

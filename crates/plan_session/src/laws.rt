@@ -1,4 +1,4 @@
-//! What holds of every event file and of every command file.
+//! Laws of event files and command files.
 
 ghost use Rattle.plan_session.specs.Commands.{HoldsOneListOfCommands};
 ghost use Rattle.plan_session.specs.Events.{HoldsOneList};
@@ -15,7 +15,7 @@ pub fn one_list_of_commands()
     ensures { HoldsOneListOfCommands }
 {}
 
-/// The law of texts that are not kept whole: what [`read_text`](crate::read_text) keeps of a text has the same tokens
+/// The law of texts that are kept in part: what [`read_text`](crate::read_text) keeps of a text has the same tokens
 /// as the whole, or the same first fault at the same position, and lists the same steps and commands. The function does
 /// nothing; its contract is the law.
 pub fn kept_texts()

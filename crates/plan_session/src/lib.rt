@@ -1,11 +1,11 @@
-//! Sessions: loading a plan, its event file or command file, and playing it.
+//! Sessions: loading a plan, loading its event file or command file, and playing it.
 //!
-//! [`typed_code`] loads a code that can be played; [`read_text`] reads the text of an event file or of a command file,
-//! and keeps no more of it than the result depends on; [`read_events`] parses the one into [`Step`]s, [`read_commands`]
-//! the other into [`Command`]s. [`play`] plays such a code over the text of an event file into a sink, [`run`] a code's
-//! file, and [`run_into`] too, in large pieces. What a text lists is defined in `specs/Events.antt` and
-//! `specs/Commands.antt`, what is kept of one in `specs/Kept.antt`; a playback, what it delivers and its faults in
-//! `specs/Playback.antt`.
+//! [`typed_code`] loads a code file; [`read_text`] reads the text of an event file or of a command file, keeping no
+//! more of it than the result depends on; [`read_events`] parses an event file into [`Step`]s, [`read_commands`] a
+//! command file into [`Command`]s. [`play`] plays a loaded code over the text of an event file into a sink; [`run`]
+//! does so from the bytes of a code file, and [`run_into`] too, in large pieces. What a text lists is defined in
+//! `specs/Events.antt` and `specs/Commands.antt`, what is kept of it in `specs/Kept.antt`; a playback, what it delivers
+//! and its faults in `specs/Playback.antt`.
 #![tactic(auto)]
 
 mod block;
@@ -26,7 +26,6 @@ pub mod run_fault;
 pub mod step;
 pub mod text_fault;
 pub mod text_file;
-mod words;
 
 pub use buffered::run_into;
 pub use code_file::typed_code;

@@ -1,4 +1,4 @@
-//! Playing a code's file over the text of an event file.
+//! Playing a code file over the text of an event file.
 
 ghost use Rattle.std.specs.Prelude.{◌≡◌, List, false, IfErr, OnOk};
 ghost use Rattle.plan_player.specs.Playing.{Playing};
@@ -17,7 +17,7 @@ use plan_player::{Player, Sink, Start};
 use plan_verifier::Verified;
 use std::alloc::Global;
 
-/// The start of a code's player: the ensemble is that of its plan.
+/// The start of a code's player. The ensemble is that of the code's plan.
 pub(crate) fn start_with(code: &Verified, count: u16, day: u32, contacts: Contacts) -> Start
     ensures { result ≡ record {
       eid = code.now.plan.eid;
@@ -34,14 +34,14 @@ pub(crate) fn start_with(code: &Verified, count: u16, day: u32, contacts: Contac
     }
 }
 
-/// Plays a typed code from this start over the events of a text; each frame is put into the sink, which must not have
-/// failed. Returns how many frames were made. A step of many frames takes no more memory than one of a single frame.
+/// Plays a typed code from this start over the events of a text. Each frame is put into the sink, which must not have
+/// failed. Returns the number of frames. A step of many frames takes no more memory than one of a single frame.
 ///
 /// # Errors
 ///
-/// The first of these: `Start` where the count is 5000 or more, or the frame of the day 3,600,000 or more; `Events`
-/// where the text is no event file, or memory for it is refused; `Write` where the sink fails, with what it took. At
-/// every other fault nothing was written.
+/// The first of these: `Start` if the count is 5000 or more, or the frame of the day 3,600,000 or more; `Events` if the
+/// text is not an event file, or memory for it runs out; `Write` if the sink fails, with what it took. With any other
+/// fault nothing was written.
 pub fn play<K: Sink>(
     alloc: Global,
     code: &Verified,
@@ -50,15 +50,15 @@ pub fn play<K: Sink>(
     out: &mut K,
 ) -> Result<u128, RunFault>
     requires working { K.has_failed out.old ≡ false }
-    // A start in range and a text of steps are played, unless memory or the sink fails.
+    // A start in range and a text of steps are played, unless memory runs out or the sink fails.
     ensures played { (p : Playing) (steps : List Step)
         → IsStarted code.now start events.now p steps
         → Delivers p (events_of steps) (K.taken out.old) (K.taken out.new) result }
-    // Nothing else is.
+    // Nothing else is played.
     ensures only { OnOk result ((p : Playing) × (steps : List Step)
         × IsStarted code.now start events.now p steps) }
     ensures first_fault { IfErr result (λ e. IsPlayFault code.now start events.now e) }
-    // The sink has failed exactly where the fault is `Write`, and has taken nothing at another fault.
+    // The sink has failed exactly if the fault is `Write`, and has taken nothing with any other fault.
     ensures failed { K.has_failed out.new ≡ is_write result }
     ensures silent { IfErr result (λ e. IsSilent (K.taken out.old) (K.taken out.new) e) }
 {
@@ -80,16 +80,15 @@ pub fn play<K: Sink>(
     }
 }
 
-/// Plays the code in a file over the events of a text: the player starts at this CIF count and frame of the day, with
-/// these contacts closed, and each frame is put into the sink, which must not have failed. Returns how many frames were
-/// made.
+/// Plays a code file over the events of a text. The player starts at this CIF count and frame of the day with these
+/// contacts closed. Each frame is put into the sink, which must not have failed. Returns the number of frames.
 ///
 /// # Errors
 ///
-/// The first of these: `Code` where the bytes are no code file, or memory for it is refused; `Refused` where the code
-/// is not typed; `Start` where the count is 5000 or more, or the frame of the day 3,600,000 or more; `Events` where the
-/// text is no event file, or memory for it is refused; `Write` where the sink fails, with what it took. At every other
-/// fault nothing was written.
+/// The first of these: `Code` if the bytes are not a code file, or memory for it runs out; `Refused` if the code is not
+/// typed; `Start` if the count is 5000 or more, or the frame of the day 3,600,000 or more; `Events` if the text is not
+/// an event file, or memory for it runs out; `Write` if the sink fails, with what it took. With any other fault nothing
+/// was written.
 pub fn run<K: Sink>(
     alloc: Global,
     code: &[u8],
@@ -100,16 +99,16 @@ pub fn run<K: Sink>(
     out: &mut K,
 ) -> Result<u128, RunFault>
     requires working { K.has_failed out.old ≡ false }
-    // A typed code, a start in range and a text of steps are played, unless memory or the sink fails.
+    // A typed code, a start in range and a text of steps are played, unless memory runs out or the sink fails.
     ensures played { (p : Playing) (steps : List Step)
         → IsPlayback (asked code.now events.now count day contacts) p steps
         → Delivers p (events_of steps) (K.taken out.old) (K.taken out.new) result }
-    // Nothing else is.
+    // Nothing else is played.
     ensures only { OnOk result ((p : Playing) × (steps : List Step)
         × IsPlayback (asked code.now events.now count day contacts) p steps) }
     ensures first_fault { IfErr result (λ e.
         IsRunFault (asked code.now events.now count day contacts) e) }
-    // The sink has failed exactly where the fault is `Write`, and has taken nothing at another fault.
+    // The sink has failed exactly if the fault is `Write`, and has taken nothing with any other fault.
     ensures failed { K.has_failed out.new ≡ is_write result }
     ensures silent { IfErr result (λ e. IsSilent (K.taken out.old) (K.taken out.new) e) }
 {

@@ -10,14 +10,14 @@ use crate::step::Step;
 use mux_config::Store;
 use plan_player::{Event, PlayFault, Player, Sink, play, play_frames};
 
-/// What a sink took before it failed: this many whole frames, and this many bytes of the one after them.
+/// What a sink took before it failed: this many whole frames, and this many bytes of the next frame.
 #[derive(Clone, Copy, Debug, PartialEq, Eq)]
 pub(crate) struct Cut {
     pub(crate) frames: u128,
     pub(crate) bytes: usize,
 }
 
-/// Plays events. Returns how many frames were made, or what the sink took before it failed.
+/// Plays events. Returns the number of frames, or what the sink took before it failed.
 fn play_events<'a, S: Store, K: Sink>(
     player: &mut Player<'a, S>,
     events: &[Event],

@@ -1,11 +1,11 @@
-//! Why a text can't be read.
+//! Why a text cannot be read.
 
-/// Why the text of an event file or of a command file can't be read.
+/// Why the text of an event file or of a command file cannot be read.
 #[derive(Clone, Copy, Debug, PartialEq, Eq)]
 pub enum TextFault {
-    /// Reading it failed.
+    /// Reading failed.
     Failed = 1,
-    /// It is not UTF-8.
+    /// The text is not UTF-8.
     NotUtf8 = 2,
     /// Out of memory.
     Memory = 3,

@@ -1,4 +1,4 @@
-//! Reading the text of an event file or of a command file, without keeping what the result does not depend on.
+//! Reading the text of an event file or of a command file, keeping no more of it than the result depends on.
 
 ghost use Rattle.std.specs.Prelude.{◌≡◌, ◌≢◌, IfOk, IfErr, IfSome, IsUtf8, string_bytes};
 ghost use Rattle.plan_session.specs.declared.text_fault.TextFault.TheVariants.{NotUtf8};
@@ -9,18 +9,18 @@ use crate::text_fault::TextFault;
 use std::alloc::Global;
 use std::io::{self, ErrorKind, Read};
 
-/// The most bytes that are read at a time.
+/// The maximum number of bytes read at once.
 const PIECE: usize = 65_536;
 
-/// The text of an event file or of a command file, from what a reader has left: all of it, or, where a character
+/// The text of an event file or of a command file, from the remaining bytes of a reader: all of it, or, if a character
 /// outside comments is not allowed, up to the end of the first such character. What is kept has the same result as the
-/// whole text ([`laws::kept_texts`](crate::laws::kept_texts)), and the rest of the text takes no memory. All of it is
-/// read, and must be UTF-8.
+/// whole text ([`laws::kept_texts`](crate::laws::kept_texts)), and the rest takes no memory. All of the text is read,
+/// and must be UTF-8.
 ///
 /// # Errors
 ///
-/// `NotUtf8` where the text is not UTF-8, as soon as four bytes were read from where no character begins, or all that
-/// there are; `Failed` where the reader fails before that; `Memory` where memory for what is kept is refused.
+/// `NotUtf8` if the text is not UTF-8: at the fourth byte of a sequence that begins with no character, or at the end of
+/// the text if it is shorter; `Failed` if the reader fails before that; `Memory` if memory for what is kept runs out.
 pub fn read_text<R: Read + Drop>(alloc: Global, source: R) -> Result<String, TextFault>
     ensures text { IfOk result (λ kept. IfSome (R.remaining source) (λ whole. IsUtf8 whole)) }
     ensures kept { IfOk result (λ kept. IfSome (R.remaining source)
@@ -45,7 +45,7 @@ pub fn read_text<R: Read + Drop>(alloc: Global, source: R) -> Result<String, Tex
     Err(TextFault::Failed)
 }
 
-/// The fault of a text whose reader returns an error.
+/// The fault for a text whose reader returns an error.
 fn fault_of(error: &io::Error) -> TextFault
     ensures { result ≢ NotUtf8 }
 {

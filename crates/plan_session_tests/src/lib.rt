@@ -1,5 +1,5 @@
-//! What neither a contract nor a command shows of playing: writers that fail and are interrupted, sinks that take a byte at a
-//! call, readers that fail, the largest code file, and that the laws of the crates below are passed on.
+//! Tests of what neither a contract nor a command shows of playback: writers that fail or are interrupted, sinks that
+//! take one byte per call, readers that fail, the largest code file, and laws that are passed on from other crates.
 #![tactic(auto)]
 
 #[cfg(test)]

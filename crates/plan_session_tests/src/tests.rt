@@ -1,4 +1,4 @@
-//! Tests of calls.
+//! Tests of library calls.
 
 mod codes;
 mod into_sink;

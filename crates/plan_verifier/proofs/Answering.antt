@@ -1,4 +1,4 @@
--- A test of the code has the result of the test of the walk, where both decide the same.
+-- The tests in the code have the results of the tests of the walk.
 
 use Rattle.std.proofs.Common.{◌≡◌, ℕ, ◌↔◌, Bool, true, false, IsTrue, refl, sym, ap, ◌∙◌, ◌&&◌, length, Option, Some, None, IfSome}
 use Rattle.plan_code.specs.declared.label.Label.{Label}
@@ -19,7 +19,7 @@ pub label_within : (code : Program) (pc : ℕ) (o : Option Label) → IsProgram 
 label_within code pc None h e = tt
 label_within code pc (Some label) h e = label_of code h label ((tabled code h).found pc label (sym e)).0
 
--- what is_fit a label has its configurations, but for the current one where the swap may have been made
+-- a state that fits a label has its configurations, except for the current one if the swap may have been made
 next_there : (p q : Swap) (t declared : Known) → FitsSwap p q t declared → t.next ≡ declared.next
 next_there Idle Idle t declared h = h.1
 next_there Idle (Within low high) t declared h = absurd h
@@ -58,7 +58,7 @@ next_fits t declared e = next_there t.pending declared.pending t declared ((deci
 pub current_fits : (t declared : Known) → is_fit t declared ≡ true → may_have_swapped t.pending declared.pending ≡ false → t.current ≡ declared.current
 current_fits t declared e no_swap = current_there t.pending declared.pending t declared ((decides_fits t declared).told e).swap no_swap
 
--- the configurations and the swap fit a label, and then the counters
+-- fitting a label: the counters, then the configurations and the swap
 pub fit_counters : (a b : Bool) (t declared : Known) → a ≡ includes t.counters declared.counters → a ≡ true → b ≡ fits_swap t.pending declared.pending t declared → b ≡ is_fit t declared
 fit_counters a b t declared e true_here f = f ∙ sym (ap (λ (x : Bool). x && fits_swap t.pending declared.pending t declared) (sym e ∙ true_here))
 

@@ -9,13 +9,13 @@ use Rattle.plan_flow.specs.declared.cause.Cause.{Cause}
 use Rattle.plan_flow.specs.declared.cause.Cause.TheVariants.{Target}
 use Rattle.plan_flow.specs.Flows.{HasItsCounter}
 use Rattle.plan_flow.proofs.Finding.{decides_is_true, decides_is_false, flow_computes, flow_fine, fine_none, none_two, two_none, none_if, if_none, not_not, refuted, none_where, needed, none_unless}
-use Rattle.plan_verifier.specs.Typing.{Known, IsFine, continues, target_of, spent, Declares, Fits, ComesTo, Reaches}
+use Rattle.plan_verifier.specs.Typing.{Known, IsFine, continues, target_of, spent, Declares, Fits, CanEnter, Reaches}
 use Rattle.plan_verifier.specs.Refusals.{FitsLabel, EntryRefused, JumpRefused, InstrRefused, KnownRefused}
 use Rattle.plan_verifier.specs.Walking.{◌first_or◌, is_fit, declared_by, entry_cause, jump_cause, flow_cause, target_cause, instr_cause, known_cause}
 use Rattle.plan_verifier.proofs.Deciding.{Decides, Computes, decides_not, decides_both, decides_lt, decides_eq, decides_fits, computes_always, computes_where, computes_orelse}
 use Rattle.plan_verifier.proofs.Tabled.{IsTabled, declared_once}
 
--- ---- the cause found is the one that holds
+-- ---- the cause found is the one that holds, if any does
 
 pub decides_label : (code : Program) (label : Label) (t : Known) → Declares code label (declared_by code label) → Decides (is_fit t (declared_by code label)) (FitsLabel code label t)
 decides_label code label t declares =
@@ -67,16 +67,16 @@ known_computes code pc i t h =
     (computes_orelse _ _ _ _ (instr_computes code i t h)
     (computes_where _ _ _ (decides_both _ _ _ _ (decides_is_true (continues i)) (decides_eq _ _))))
 
--- ---- none is found exactly where the instruction is fine
+-- ---- no cause is found exactly where the instruction is fine
 
-pub entry_comes : (code : Program) (label : Label) (t : Known) → Declares code label (declared_by code label) → entry_cause code label t ≡ None → ComesTo code label t
+pub entry_comes : (code : Program) (label : Label) (t : Known) → Declares code label (declared_by code label) → entry_cause code label t ≡ None → CanEnter code label t
 entry_comes code label t declares e =
     let parts = none_two _ _ e in
     let fit = needed _ _ _ (decides_label code label t declares) parts.0 in
     let enough : t.allowance < label.cost → ⊥ = refuted _ _ _ (decides_lt t.allowance label.cost) parts.1 in
     record { declared = fit.0; declares = fit.1; fits = fit.2; affords = omega (arith, enough) }
 
-pub comes_none : (code : Program) (label : Label) (t : Known) → Declares code label (declared_by code label) → ComesTo code label t → entry_cause code label t ≡ None
+pub comes_none : (code : Program) (label : Label) (t : Known) → Declares code label (declared_by code label) → CanEnter code label t → entry_cause code label t ≡ None
 comes_none code label t declares h =
     two_none _ _ (none_unless _ _ _ (decides_label code label t declares) (h.declared, h.declares, h.fits))
     (none_where _ _ _ (decides_lt t.allowance label.cost) (λ lt. omega (arith, h.affords, lt)))
@@ -101,12 +101,12 @@ none_reaches code target t h e goal same =
 no_target : (code : Program) (t : Known) → (goal : ℕ) → None ≡ Some goal → Reaches code goal t
 no_target code t goal e = absurd cc
 
--- the instruction is fine, and what it jumps to is reached
+-- the instruction is fine, and its jump target, if any, can be reached
 pub record IsGood (code : Program) (i : Instr) (t : Known) : Type 0 where
   pub fine : IsFine code.plan i t
   pub targets : (goal : ℕ) → target_of i ≡ Some goal → Reaches code goal (spent t)
 
--- what it jumps to, if it does, is reached
+-- a loop's counter is set, and the jump target, if any, can be reached
 pub record HasTarget (code : Program) (i : Instr) (t : Known) : Type 0 where
   pub counter : HasItsCounter i t.counters
   pub targets : (goal : ℕ) → target_of i ≡ Some goal → Reaches code goal (spent t)

@@ -1,4 +1,4 @@
--- What is known where the walk enters an instruction: what comes from the one before, or what the label declares.
+-- What is known where the walk enters an instruction: what holds after the preceding one, or what the label declares.
 use Rattle.std.proofs.Common.{◌≡◌, ℕ, zero, suc, ◌<◌, ◌≤◌, not, nat_lt, List, Option, Some, None, Ok, refl, sym, ap, subst, ◌∙◌, arith}
 use Rattle.mux_config.specs.Sound.{first_fault}
 use Rattle.mux_config.specs.Configuration.{IsConfiguration}
@@ -8,15 +8,15 @@ use Rattle.plan_code.specs.declared.instr.Instr.{Instr}
 use Rattle.plan_code.specs.Program.{Program, label_at}
 use Rattle.plan_flow.specs.declared.cause.Cause.{Cause}
 use Rattle.plan_flow.specs.declared.cause.Cause.TheVariants.{Table, Mismatch, Config as OfConfig, Round}
-use Rattle.plan_verifier.specs.Typing.{Known, IsOpening, ComesTo, Declares, pages_alone}
-use Rattle.plan_verifier.specs.Refusals.{TakenRefused, LabelRefused, PlaceRefused, OpenedRefused, OpeningRefused, InstructionRefused, left_before}
-use Rattle.plan_verifier.specs.Walking.{whole_cause, ◌first_or◌, taken, label_cause, opening_cause, opening_known, place_of, entered, declared_by, cause_if, cause_of, known_cause, entry_cause, is_initial}
+use Rattle.plan_verifier.specs.Typing.{Known, IsOpening, CanEnter, Declares, pages_alone}
+use Rattle.plan_verifier.specs.Refusals.{TakenRefused, LabelRefused, PcRefused, OpenedRefused, OpeningRefused, InstructionRefused, left_before}
+use Rattle.plan_verifier.specs.Walking.{whole_cause, ◌first_or◌, taken, label_cause, opening_cause, opening_known, known_at_pc, entered, declared_by, cause_if, cause_of, known_cause, entry_cause, is_initial}
 use Rattle.plan_verifier.proofs.Deciding.{Computes, decides_not, decides_lt, decides_initial, computes_always, computes_where, computes_some, computes_orelse}
 use Rattle.plan_flow.proofs.Finding.{none_two, two_none, refuted, none_where, needed, none_unless, none_of, of_none}
 use Rattle.plan_verifier.proofs.Causes.{known_computes, entry_computes, entry_comes, comes_none, declares_at}
 use Rattle.plan_verifier.proofs.Tabled.{IsTabled, declared_once}
 
--- ---- the cause at an instruction, its entry included
+-- ---- the cause at an instruction, including its entry
 
 whole_taken : (o : Option Cause) (t : Known) (here : Known → Option Cause) → whole_cause (taken o t) here ≡ o first_or here t
 whole_taken None t here = refl
@@ -41,7 +41,7 @@ label_computes code pc i label h declares =
 
 place_computes : (code : Program) (pc : ℕ) (i : Instr) (o : Option Label) (came : Option Known) → IsTabled code
     → ((label : Label) → o ≡ Some label → Declares code label (declared_by code label))
-    → Computes (whole_cause (place_of code o came) (known_cause code pc i)) (PlaceRefused code pc i o came)
+    → Computes (whole_cause (known_at_pc code o came) (known_cause code pc i)) (PcRefused code pc i o came)
 place_computes code pc i None None h declares = computes_always Table
 place_computes code pc i None (Some t) h declares = known_computes code pc i t h
 place_computes code pc i (Some label) None h declares =
@@ -53,7 +53,7 @@ place_computes code pc i (Some label) (Some t) h declares =
     let declared = declared_by code label in
     let cut : whole_cause (taken (entry first_or cost) declared) here ≡ entry first_or (cost first_or here declared) =
     whole_taken (entry first_or cost) declared here ∙ first_assoc entry cost (here declared) in
-    subst (λ (o : Option Cause). Computes o (PlaceRefused code pc i (Some label) (Some t))) (sym cut)
+    subst (λ (o : Option Cause). Computes o (PcRefused code pc i (Some label) (Some t))) (sym cut)
     (computes_orelse _ _ _ _ (entry_computes code label t (declares label refl)) (label_computes code pc i label h (declares label refl)))
 
 abbrev opened_cause : Program → Label → Known → Option Cause → Option Cause
@@ -95,14 +95,14 @@ whole_computes code typing zero i h = opening_computes code i (label_at code 0) 
 whole_computes code typing (suc pc) i h =
     place_computes code (suc pc) i (label_at code (suc pc)) (left_before code typing (suc pc)) h (declares_at code (suc pc) h)
 
--- ---- what is known at an instruction but the first
+-- ---- what is known at an instruction other than the first
 
--- what comes is what is known there, or it comes to the label there
+-- the incoming state is what is known there, or it can enter the label there
 abbrev pub IsHere : Program → Option Label → Known → Known → Type 0
 IsHere code None t came = came ≡ t
-IsHere code (Some label) t came = ComesTo code label came
+IsHere code (Some label) t came = CanEnter code label came
 
--- with the label that stands there, if any, and what comes from the instruction before, if anything
+-- with the label there, if any, and the incoming state, if any
 pub record IsEntered (code : Program) (o : Option Label) (came : Option Known) (t : Known) : Type 0 where
   pub placed : (label : Label) → o ≡ Some label → Declares code label t × (label.cost ≤ code.plan.budget)
   pub arrives : (u : Known) → came ≡ Some u → IsHere code o t u
@@ -115,7 +115,7 @@ taken_told (Some cause) t u e = absurd cc
 taken_none : (o : Option Cause) (t u : Known) → o ≡ None → t ≡ u → taken o t ≡ Ok u
 taken_none o t u e f = rw e (ap Ok f)
 
--- of the label that stands there
+-- for the label that is there
 one_label : (code : Program) (label : Label) (t : Known) → Declares code label t → label.cost ≤ code.plan.budget → (other : Label) → Some label ≡ Some other
     → Declares code other t × (other.cost ≤ code.plan.budget)
 one_label code label t declares within other e =
@@ -132,7 +132,7 @@ affordable_none : (code : Program) (label : Label) → label.cost ≤ code.plan.
 affordable_none code label h = none_where _ _ _ (decides_lt code.plan.budget label.cost) (λ lt. omega (arith, h, lt))
 
 place_told : (code : Program) (o : Option Label) (came : Option Known) (t : Known)
-    → ((label : Label) → o ≡ Some label → Declares code label (declared_by code label)) → place_of code o came ≡ Ok t → IsEntered code o came t
+    → ((label : Label) → o ≡ Some label → Declares code label (declared_by code label)) → known_at_pc code o came ≡ Ok t → IsEntered code o came t
 place_told code None None t declares e = absurd cc
 place_told code None (Some u) t declares e =
     let same : u ≡ t = cc in
@@ -145,15 +145,15 @@ place_told code (Some label) (Some u) t declares e =
     let parts = taken_told _ _ _ e in
     let two = none_two _ _ parts.0 in
     let d : Declares code label t = subst (λ (v : Known). Declares code label v) parts.1 (declares label refl) in
-    let comes : ComesTo code label u = entry_comes code label u (declares label refl) two.0 in
+    let comes : CanEnter code label u = entry_comes code label u (declares label refl) two.0 in
     record {
       placed = one_label code label t d (affordable code label two.1);
-      arrives = λ v f. let here : u ≡ v = cc in subst (λ (x : Known). ComesTo code label x) here comes;
+      arrives = λ v f. let here : u ≡ v = cc in subst (λ (x : Known). CanEnter code label x) here comes;
       after = λ none. absurd cc;
     }
 
 place_found : (code : Program) (o : Option Label) (came : Option Known) (t : Known)
-    → ((label : Label) → o ≡ Some label → Declares code label (declared_by code label)) → IsEntered code o came t → place_of code o came ≡ Ok t
+    → ((label : Label) → o ≡ Some label → Declares code label (declared_by code label)) → IsEntered code o came t → known_at_pc code o came ≡ Ok t
 place_found code None None t declares h = let a = h.after refl in absurd (let f : None ≡ Some a.0 = a.1 in cc)
 place_found code None (Some u) t declares h = ap Ok (h.arrives u refl)
 place_found code (Some label) None t declares h =
@@ -165,7 +165,7 @@ place_found code (Some label) (Some u) t declares h =
     (two_none _ _ (comes_none code label u (declares label refl) (h.arrives u refl)) (affordable_none code label p.1))
     (declared_once code label _ _ (declares label refl) p.0)
 
--- ---- what is known at the first
+-- ---- what is known at the first instruction
 
 pub record IsOpened (code : Program) (o : Option Label) (t : Known) : Type 0 where
   pub label : Label
@@ -212,7 +212,7 @@ opening_found code (Some label) t formed declares h =
     (none_where _ _ _ (decides_lt code.plan.period (pages_alone code.plan t.current)) (λ lt. omega (arith, h.opening.within_period, lt))))) in
     taken_none _ _ _ (subst (λ (v : Known). opening_cause code label v ≡ None) is found) (sym is)
 
--- ---- both
+-- ---- at any instruction
 
 abbrev pub IsEnteredAt : Program → List Known → ℕ → Known → Type 0
 IsEnteredAt code typing zero t = IsOpened code (label_at code 0) t

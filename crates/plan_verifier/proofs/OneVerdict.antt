@@ -17,7 +17,7 @@ use Rattle.plan_code.specs.Program.{Program, IsProgram, IsInstr, IsEdit, instr_a
 use Rattle.plan_flow.specs.declared.cause.Cause.{Cause}
 use Rattle.plan_flow.specs.declared.cause.Cause.TheVariants.{Table}
 use Rattle.plan_verifier.specs.declared.cause.Refusal.{Refusal}
-use Rattle.plan_verifier.specs.Typing.{Known, IsFine, leaves, continues, waited, perhaps_swapped, paused, settled, known_after_swap, Arrives, Declares, IsOpening, IsTyping, IsTyped}
+use Rattle.plan_verifier.specs.Typing.{Known, IsFine, leaves, continues, after_wait, perhaps_swapped, after_pause, after_settle, known_after_swap, Arrives, Declares, IsOpening, IsTyping, IsTyped}
 use Rattle.plan_verifier.specs.Refusals.{IsTypingBelow, IsFirstPast, IsRefusedAt, IsRefused, CodesHaveOneVerdict, left_before}
 use Rattle.plan_verifier.specs.Walking.{whole_cause, entered, known_cause, passed_on, refused_at, past_label, walk, refusal_of}
 use Rattle.plan_verifier.proofs.Deciding.{decides_le}
@@ -26,7 +26,7 @@ use Rattle.plan_verifier.proofs.Entries.{whole_computes, IsHere, IsEnteredAt, en
 use Rattle.plan_verifier.proofs.Tabled.{IsTabled, AreFormed, tabled, found, mapped, declared_once}
 use Rattle.plan_verifier.proofs.Verdicts.{dropped, slice_there, same_some, left_told, left_found, none_past, none_found, first_past, stops, passes, IsVerdict, found_from}
 
--- ---- configurations stay such
+-- ---- configurations stay well-formed
 
 in_range : (e : Edit) → IsEdit e → IsInRange e
 in_range (AddSub s) h = (h.named, h.from_one, h.to_four)
@@ -50,7 +50,7 @@ formed_if false t u h k = k
 formed_with : (p : Swap) (t : Known) → AreFormed t → AreFormed (record t { pending = p })
 formed_with p t h = record { current = h.current; next = h.next }
 
-formed_waited : (frames : ℕ) (p : Swap) (t : Known) → AreFormed t → AreFormed (waited frames p t)
+formed_waited : (frames : ℕ) (p : Swap) (t : Known) → AreFormed t → AreFormed (after_wait frames p t)
 formed_waited frames Idle t h = h
 formed_waited frames (Within lo hi) t h = formed_if (nat_lt frames lo) _ _ (formed_with _ t h) (formed_swapped t h)
 formed_waited frames (Perhaps hi) t h = formed_if (nat_lt frames hi) _ _ (formed_with _ t h) (formed_swapped t h)
@@ -58,17 +58,17 @@ formed_waited frames (Perhaps hi) t h = formed_if (nat_lt frames hi) _ _ (formed
 formed_perhaps : (hi : ℕ) (t : Known) → AreFormed t → AreFormed (perhaps_swapped hi t)
 formed_perhaps hi t h = formed_if (nat_lt 1 hi) _ _ (formed_with _ t h) (formed_swapped t h)
 
-formed_paused : (p : Swap) (t : Known) → AreFormed t → AreFormed (paused p t)
+formed_paused : (p : Swap) (t : Known) → AreFormed t → AreFormed (after_pause p t)
 formed_paused Idle t h = h
 formed_paused (Within lo hi) t h = formed_perhaps hi t h
 formed_paused (Perhaps hi) t h = formed_perhaps hi t h
 
-formed_settled : (p : Swap) (t : Known) → AreFormed t → AreFormed (settled p t)
+formed_settled : (p : Swap) (t : Known) → AreFormed t → AreFormed (after_settle p t)
 formed_settled Idle t h = h
 formed_settled (Within lo hi) t h = formed_swapped t h
 formed_settled (Perhaps hi) t h = formed_swapped t h
 
--- only the configurations matter
+-- only the configurations matter here
 formed_as : (t u : Known) → t.current ≡ u.current → t.next ≡ u.next → AreFormed t → AreFormed u
 formed_as t u e f h = record { current = subst IsConfiguration e h.current; next = subst IsConfiguration f h.next }
 
@@ -76,18 +76,18 @@ leaves_formed : (plan : Plan) (i : Instr) (t : Known) → IsInstr i → IsFine p
 leaves_formed plan (Edits edit) t is fine h = record { current = h.current; next = edits_keep edit t.next (in_range edit is) h.next fine.1 }
 leaves_formed plan (CommitIn delay) t is fine h = formed_as t _ refl refl h
 leaves_formed plan (CommitAt count) t is fine h = formed_as t _ refl refl h
-leaves_formed plan (Wait frames) t is fine h = formed_as (waited frames t.pending t) _ refl refl (formed_waited frames t.pending t h)
-leaves_formed plan (Until day) t is fine h = formed_as (paused t.pending t) _ refl refl (formed_paused t.pending t h)
-leaves_formed plan (WaitContact contact closed) t is fine h = formed_as (paused t.pending t) _ refl refl (formed_paused t.pending t h)
+leaves_formed plan (Wait frames) t is fine h = formed_as (after_wait frames t.pending t) _ refl refl (formed_waited frames t.pending t h)
+leaves_formed plan (Until day) t is fine h = formed_as (after_pause t.pending t) _ refl refl (formed_paused t.pending t h)
+leaves_formed plan (WaitContact contact closed) t is fine h = formed_as (after_pause t.pending t) _ refl refl (formed_paused t.pending t h)
 leaves_formed plan Join t is fine h = formed_as (known_after_swap t) _ refl refl (formed_swapped t h)
-leaves_formed plan Settle t is fine h = formed_as (settled t.pending t) _ refl refl (formed_settled t.pending t h)
+leaves_formed plan Settle t is fine h = formed_as (after_settle t.pending t) _ refl refl (formed_settled t.pending t h)
 leaves_formed plan (Test contact target) t is fine h = formed_as t _ refl refl h
 leaves_formed plan (Jump target) t is fine h = formed_as t _ refl refl h
 leaves_formed plan (Loop counter target) t is fine h = formed_as t _ refl refl h
 leaves_formed plan (Set counter times) t is fine h = formed_as t _ refl refl h
 leaves_formed plan End t is fine h = formed_as t _ refl refl h
 
--- ---- what a typing says at one of its places
+-- ---- what a typing says at one pc
 
 at_label : (code : Program) (end : ℕ) (typing : List Known) → IsTabled code → IsTypingBelow code end typing → (pc : ℕ) (label : Label) (t : Known)
     → label_at code pc ≡ Some label → pc < end → slice_get typing pc ≡ Some t → Declares code label t × (label.cost ≤ code.plan.budget)
@@ -102,7 +102,7 @@ formed_label code h pc label t e d =
     let f = h.found pc label e in
     subst AreFormed (declared_once code label _ _ (h.declares label f.0) d) (h.formed label f.0)
 
--- what comes to an instruction below from the one before
+-- the state that the preceding instruction passes to this one
 record ComesIn (code : Program) (typing : List Known) (pc : ℕ) (i : Instr) (u : Known) : Type 0 where
   there : instr_at code pc ≡ Some i
   known : slice_get typing pc ≡ Some u
@@ -121,7 +121,7 @@ comes_in code end typing below pc i u lt at known on =
       arrives = subst (λ (n : ℕ). Arrives code typing n (label_at code n) (leaves code.plan i u)) up (s.onward on (omega (arith, lt)));
     }
 
--- the one before continues to an instruction without a label
+-- the preceding instruction continues to an instruction without a label
 reached_from : (code : Program) (end : ℕ) (typing : List Known) → IsTypingBelow code end typing → (pc : ℕ) → suc pc < end → label_at code (suc pc) ≡ None
     → (i : Instr) × (u : Known) × ComesIn code typing pc i u
 reached_from code end typing below pc lt none =

@@ -7,17 +7,17 @@ use Rattle.plan_code.specs.declared.label.Swap.{Swap}
 use Rattle.plan_code.specs.declared.label.Swap.TheVariants.{Idle, Within, Perhaps}
 use Rattle.plan_code.specs.declared.instr.Instr.{Instr}
 use Rattle.plan_code.specs.declared.instr.Instr.TheVariants.{Wait, Until, WaitContact, Settle}
-use Rattle.plan_verifier.specs.Typing.{Known, known_after_swap, waited, perhaps_swapped, paused, settled, leaves}
+use Rattle.plan_verifier.specs.Typing.{Known, known_after_swap, after_wait, perhaps_swapped, after_pause, after_settle, leaves}
 use Rattle.plan_code.specs.Program.{Program}
-use Rattle.plan_verifier.specs.declared.known.Places.{Places}
-use Rattle.plan_verifier.specs.Held.{StandsAt, ArePlaced, MovesOn, places_of}
+use Rattle.plan_verifier.specs.declared.known.Indices.{Indices}
+use Rattle.plan_verifier.specs.Held.{IsAtIndex, AreIndexed, MovesOn, indices_of}
 use Rattle.plan_verifier.specs.Walking.{or_nothing, is_same, is_fit, declared_by, may_have_swapped}
 use Rattle.plan_verifier.proofs.Deciding.{decides_same}
 use Rattle.plan_verifier.proofs.Answering.{swapped_fits, next_fits, current_fits}
 
 -- ---- waits
 
-waited_moves : (frames : ℕ) (p : Swap) (t : Known) → MovesOn p (waited frames p t).pending t (waited frames p t)
+waited_moves : (frames : ℕ) (p : Swap) (t : Known) → MovesOn p (after_wait frames p t).pending t (after_wait frames p t)
 waited_moves frames Idle t = (refl, refl)
 waited_moves frames (Within lo hi) t = by (nat_lt frames lo)
   where
@@ -48,17 +48,17 @@ perhaps_moves hi t = by (nat_lt 1 hi)
     by true = (refl, refl)
     by false = (refl, refl)
 
-paused_moves : (p : Swap) (t : Known) → MovesOn p (paused p t).pending t (paused p t)
+paused_moves : (p : Swap) (t : Known) → MovesOn p (after_pause p t).pending t (after_pause p t)
 paused_moves Idle t = (refl, refl)
 paused_moves (Within lo hi) t = within_moves lo hi t
 paused_moves (Perhaps hi) t = perhaps_moves hi t
 
-settled_moves : (p : Swap) (t : Known) → MovesOn p (settled p t).pending t (settled p t)
+settled_moves : (p : Swap) (t : Known) → MovesOn p (after_settle p t).pending t (after_settle p t)
 settled_moves Idle t = (refl, refl)
 settled_moves (Within lo hi) t = (refl, refl)
 settled_moves (Perhaps hi) t = (refl, refl)
 
--- the swap before the wait and after it are these
+-- with these as the swap before the wait and after it
 moves_between : (before after p q : Swap) (t u : Known) → before ≡ p → after ≡ q → MovesOn p q t u → MovesOn before after t u
 moves_between before after p q t u e f h = subst (λ (x : Swap). MovesOn x after t u) (sym e) (subst (λ (x : Swap). MovesOn p x t u) (sym f) h)
 
@@ -79,32 +79,32 @@ pub settle_moves : (plan : Plan) (t : Known) (before after : Swap) → before �
     → MovesOn before after t (leaves plan Settle t)
 settle_moves plan t before after e f = moves_between before after t.pending _ t (leaves plan Settle t) e f (settled_moves t.pending t)
 
--- an instruction that is this one
+-- with an equal instruction
 pub moves_as : (plan : Plan) (i j : Instr) (t : Known) (before after : Swap) → i ≡ j → (after ≡ (leaves plan j t).pending → MovesOn before after t (leaves plan j t))
     → after ≡ (leaves plan i t).pending → MovesOn before after t (leaves plan i t)
 moves_as plan i j t before after same h =
     subst (λ (k : Instr). after ≡ (leaves plan k t).pending → MovesOn before after t (leaves plan k t)) (sym same) h
 
--- what stays the same stays placed
-pub placed_same : (table : List Configuration) (p q : Places) (t u : Known) → q ≡ p → u ≡ t → ArePlaced table p t → ArePlaced table q u
-placed_same table p q t u e f h = subst (λ (x : Places). ArePlaced table x u) (sym e) (subst (λ (k : Known). ArePlaced table p k) (sym f) h)
+-- indices stay valid for an equal state
+pub placed_same : (table : List Configuration) (p q : Indices) (t u : Known) → q ≡ p → u ≡ t → AreIndexed table p t → AreIndexed table q u
+placed_same table p q t u e f h = subst (λ (x : Indices). AreIndexed table x u) (sym e) (subst (λ (k : Known). AreIndexed table p k) (sym f) h)
 
 -- ---- labels
 
--- a configuration that stands at this place is the one there
-pub holds_there : (table : List Configuration) (known : Option ℕ) (place : ℕ) (c : Configuration) → StandsAt table known c → known ≡ Some place → true ≡ is_same c (or_nothing (slice_get table place))
-holds_there table known place c stands e =
-    let at : c ≡ or_nothing (slice_get table place) = subst (λ (o : Option ℕ). StandsAt table o c) e stands in
-    sym ((decides_same c (or_nothing (slice_get table place))).found at)
+-- a configuration at this index is the one in the table
+pub holds_there : (table : List Configuration) (known : Option ℕ) (index : ℕ) (c : Configuration) → IsAtIndex table known c → known ≡ Some index → true ≡ is_same c (or_nothing (slice_get table index))
+holds_there table known index c stands e =
+    let at : c ≡ or_nothing (slice_get table index) = subst (λ (o : Option ℕ). IsAtIndex table o c) e stands in
+    sym ((decides_same c (or_nothing (slice_get table index))).found at)
 
 pub fit_after : (code : Program) (label : Label) (pending : Swap) (b : Bool) → b ≡ may_have_swapped pending label.pending → b ≡ true → (t : Known) → pending ≡ t.pending
-    → is_fit t (declared_by code label) ≡ true → ArePlaced code.configurations (record { current = Some label.next; next = Some label.next }) t
+    → is_fit t (declared_by code label) ≡ true → AreIndexed code.configurations (record { current = Some label.next; next = Some label.next }) t
 fit_after code label pending b e is t f fit =
     let swap : may_have_swapped t.pending label.pending ≡ true = subst (λ (p : Swap). may_have_swapped p label.pending ≡ true) f (sym e ∙ is) in
     (swapped_fits t (declared_by code label) fit swap, next_fits t (declared_by code label) fit)
 
 pub fit_before : (code : Program) (label : Label) (pending : Swap) (b : Bool) → b ≡ may_have_swapped pending label.pending → b ≡ false → (t : Known) → pending ≡ t.pending
-    → is_fit t (declared_by code label) ≡ true → ArePlaced code.configurations (places_of label) t
+    → is_fit t (declared_by code label) ≡ true → AreIndexed code.configurations (indices_of label) t
 fit_before code label pending b e is t f fit =
     let swap : may_have_swapped t.pending label.pending ≡ false = subst (λ (p : Swap). may_have_swapped p label.pending ≡ false) f (sym e ∙ is) in
     (current_fits t (declared_by code label) fit swap, next_fits t (declared_by code label) fit)

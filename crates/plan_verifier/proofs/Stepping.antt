@@ -7,7 +7,7 @@ use Rattle.plan_code.specs.declared.instr.Instr.{Instr}
 use Rattle.plan_code.specs.Program.{Program, instr_at, label_at}
 use Rattle.plan_flow.specs.declared.cause.Cause.{Cause}
 use Rattle.plan_verifier.specs.Typing.{Known, leaves, continues}
-use Rattle.plan_verifier.specs.Walking.{whole_cause, unless, taken, opening_cause, opening_known, place_of, entered, declared_by, known_cause, passed_on, came_of, instr_or_end, refused_at, PassesInstr, past_end, walk, refusal_of}
+use Rattle.plan_verifier.specs.Walking.{whole_cause, unless, taken, opening_cause, opening_known, known_at_pc, entered, declared_by, known_cause, passed_on, known_if_reached, instr_or_end, refused_at, PassesInstr, past_end, walk, refusal_of}
 use Rattle.plan_flow.proofs.Finding.{unless_err, unless_ok}
 use Rattle.plan_verifier.proofs.Verdicts.{dropped, slice_there, stops, passes}
 
@@ -15,11 +15,11 @@ pub entered_first : (code : Program) (pc : ℕ) (came : Option Known) → pc ≡
 entered_first code zero came e = refl
 entered_first code (suc pc) came e = absurd (omega (arith, e))
 
-pub entered_later : (code : Program) (pc : ℕ) (came : Option Known) → 0 < pc → entered code pc came ≡ place_of code (label_at code pc) came
+pub entered_later : (code : Program) (pc : ℕ) (came : Option Known) → 0 < pc → entered code pc came ≡ known_at_pc code (label_at code pc) came
 entered_later code zero came lt = absurd (omega (arith, lt))
 entered_later code (suc pc) came lt = refl
 
--- ---- answers of functions
+-- ---- results of functions
 
 opens_err : (code : Program) (label : Label) (t : Known) (given : Cause) → label_at code 0 ≡ Some label → t ≡ declared_by code label → opening_cause code label t ≡ Some given
     → opening_known code (label_at code 0) ≡ Err given
@@ -64,15 +64,15 @@ walk_stop code pc came cause lt walked e =
 
 pub walk_go : (code : Program) (pc : ℕ) (came : Option Known) (left : Known) → pc < length code.lines → refusal_of code ≡ walk code (drop pc code.lines) pc came
     → PassesInstr code pc (instr_or_end (instr_at code pc)) came left
-    → refusal_of code ≡ walk code (drop (pc + 1) code.lines) (pc + 1) (came_of (continues (instr_or_end (instr_at code pc))) left)
+    → refusal_of code ≡ walk code (drop (pc + 1) code.lines) (pc + 1) (known_if_reached (continues (instr_or_end (instr_at code pc))) left)
 walk_go code pc came left lt walked p =
     let line = slice_there code.lines pc lt in
     let i : Instr = instr_or_end (instr_at code pc) in
     let is : instr_or_end (instr_at code pc) ≡ line.0.instr = instr_is code pc line.0 _ line.1 in
     let none : known_cause code pc line.0.instr p.known ≡ None = subst (λ (j : Instr). known_cause code pc j p.known ≡ None) is p.none in
     let up : suc pc ≡ pc + 1 = omega arith in
-    let came_next : passed_on code.plan line.0.instr p.known ≡ came_of (continues (instr_or_end (instr_at code pc))) left =
-    ap (λ (j : Instr). passed_on code.plan j p.known) (sym is) ∙ ap (λ (t : Known). came_of (continues (instr_or_end (instr_at code pc))) t) (sym p.leaves_it) in
+    let came_next : passed_on code.plan line.0.instr p.known ≡ known_if_reached (continues (instr_or_end (instr_at code pc))) left =
+    ap (λ (j : Instr). passed_on code.plan j p.known) (sym is) ∙ ap (λ (t : Known). known_if_reached (continues (instr_or_end (instr_at code pc))) t) (sym p.leaves_it) in
     walked ∙ ap (λ (ls : List Line). walk code ls pc came) (dropped code.lines pc line.0 line.1)
     ∙ passes pc (entered code pc came) (known_cause code pc line.0.instr) (λ t. walk code (drop (suc pc) code.lines) (pc + 1) (passed_on code.plan line.0.instr t)) p.known p.enters none
     ∙ ap (λ (n : ℕ). walk code (drop n code.lines) (pc + 1) (passed_on code.plan line.0.instr p.known)) up

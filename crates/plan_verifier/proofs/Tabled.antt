@@ -1,4 +1,4 @@
--- What is found in the tables of a code: the label at an instruction, and what it declares.
+-- Lookup in the tables of a code: the label at an instruction, and what it declares.
 use Rattle.std.proofs.Common.{◌≡◌, ℕ, ◌<◌, Bool, true, false, eqb, List, [], ◌∷◌, length, Contains, find, slice_get, Option, Some, None, option_map, refl, sym, ap, subst, ◌∙◌}
 use Rattle.std.proofs.lemmas.Bool.{eqb-true}
 use Rattle.std.proofs.lemmas.Option.{slice_get_within, get_or_from_slice_get, slice_get-get_or}
@@ -43,7 +43,7 @@ within_table xs k lt =
 
 -- ---- codes
 
--- both configurations are such
+-- both configurations are well-formed
 pub record AreFormed (t : Known) : Type 0 where
   pub current : IsConfiguration t.current
   pub next : IsConfiguration t.next
@@ -86,7 +86,7 @@ tabled code h = record {
       subst IsInstr m.2 line.formed;
 }
 
--- a label declares one state
+-- a label declares exactly one state
 some_same : {T : Type 0} (o : Option T) (x y : T) → o ≡ Some x → o ≡ Some y → x ≡ y
 some_same o x y e f = let both : Some x ≡ Some y = sym e ∙ f in cc
 

@@ -38,7 +38,7 @@ label pc counters cost = record { pc = pc; cur = 0; next = 0; pending = Idle; co
 abbrev line : Instr → Line
 line i = record { number = 1; instr = i }
 
--- a code that begins with an empty configuration
+-- a code that starts with an empty configuration
 abbrev code : List Label → List Line → Program
 code labels lines = record { plan = plan; configurations = nothing ∷ []; labels = labels; lines = lines }
 
@@ -98,13 +98,13 @@ code_is labels lines formed ascend from to each first last = record {
   lines_formed = each;
 }
 
--- one label, and instructions
+-- one label and these instructions
 first_is : (cost : ℕ) (lines : List Line) → 1 ≤ cost → cost ≤ 255 → AllByRecursion IsLine lines → 1 ≤ length lines → length lines ≤ 4096
     → IsProgram (code (label 0 no_counters cost ∷ []) lines)
 first_is cost lines from to each first last =
     code_is (label 0 no_counters cost ∷ []) lines (label_is 0 cost no_counters (omega arith) (omega arith) from to, tt) (tt, tt) (omega arith) (omega arith) each first last
 
--- one instruction, which may cost 1
+-- one instruction, with a cost of 1
 abbrev lone : Instr → Program
 lone i = code (label 0 no_counters 1 ∷ []) (line i ∷ [])
 
@@ -213,13 +213,13 @@ joined_typed =
     typed_if (code (label 0 no_counters 3 ∷ []) joined)
     (first_is 3 joined (omega arith) (omega arith) (adds 1 0 (omega arith) (omega arith), (commits, (line_is Join tt, (line_is End tt, tt)))) (omega arith) (omega arith)) refl
 
-abbrev settled : List Line
-settled = line (Edits (AddSub (sub 1 0))) ∷ line (CommitIn 24) ∷ line (WaitContact 3 true) ∷ line Settle ∷ line (Edits (DropSub 1)) ∷ line End ∷ []
+abbrev after_settle : List Line
+after_settle = line (Edits (AddSub (sub 1 0))) ∷ line (CommitIn 24) ∷ line (WaitContact 3 true) ∷ line Settle ∷ line (Edits (DropSub 1)) ∷ line End ∷ []
 
-settled_typed : IsTyped (code (label 0 no_counters 3 ∷ []) settled)
+settled_typed : IsTyped (code (label 0 no_counters 3 ∷ []) after_settle)
 settled_typed =
-    typed_if (code (label 0 no_counters 3 ∷ []) settled)
-    (first_is 3 settled (omega arith) (omega arith)
+    typed_if (code (label 0 no_counters 3 ∷ []) after_settle)
+    (first_is 3 after_settle (omega arith) (omega arith)
     (adds 1 0 (omega arith) (omega arith), (commits, (line_is (WaitContact 3 true) (omega arith), (line_is Settle tt, (line_is (Edits (DropSub 1)) (omega arith), (line_is End tt, tt))))))
     (omega arith) (omega arith)) refl
 
@@ -247,7 +247,7 @@ unsound_refused =
     refused_if (code (label 0 no_counters 2 ∷ []) unsound) 1 (OfConfig EmptyService)
     (first_is 2 unsound (omega arith) (omega arith) (line_is (Edits (AddService (Short 1))) (omega arith), (commits, tt)) (omega arith) (omega arith)) refl
 
--- ---- the bounds of a swap, and what waiting leaves of them
+-- ---- the bounds of a swap, before and after waiting
 
 abbrev idle : Known
 idle = record { current = nothing; next = nothing; pending = Idle; counters = no_counters; allowance = 5 }
@@ -267,7 +267,7 @@ wait_of_27 = refl
 contact_awaited : (leaves plan (WaitContact 3 true) committed).pending ≡ Perhaps 26
 contact_awaited = refl
 
--- settling renews no allowance, joining does
+-- settling does not renew the allowance, joining does
 settled_allowance : (leaves plan Settle committed).allowance ≡ 3
 settled_allowance = refl
 

@@ -1,4 +1,4 @@
--- Why small codes are refused: each definition of refusals where it holds, and where it fails.
+-- Why small codes are refused: for each definition of refusals, examples that hold and examples that fail.
 use Rattle.std.proofs.Common.{◌≡◌, ◌≢◌, ℕ, zero, suc, ◌<◌, ◌≤◌, List, [], ◌∷◌, length, slice_get, Contains, Some, None, inl, inr, refl, sym, ap, subst, arith}
 use Rattle.std.proofs.lemmas.Bool.{false≢true}
 use Rattle.mux_config.specs.Configuration.{Configuration, IsConfiguration, IsAscending, nothing}
@@ -13,15 +13,15 @@ use Rattle.plan_code.specs.declared.instr.Instr.TheVariants.{CommitIn, Join, End
 use Rattle.plan_code.specs.Program.{Program, IsProgram, IsPlan, IsLabel, IsLine, IsInstr, instr_at, label_at, label_key}
 use Rattle.plan_flow.specs.declared.cause.Cause.{Cause}
 use Rattle.plan_flow.specs.declared.cause.Cause.TheVariants.{Target, Table, Edit as OfEdit, Pending, Notice, JoinIdle, Mismatch, Cost, Round, FallsOff}
-use Rattle.plan_verifier.specs.Typing.{Known, Declares, HasOpening, LabelStands, IsAfter, IsSafe}
-use Rattle.plan_verifier.specs.Refusals.{Where, WhereSome, ◌orelse◌, CommitRefused, FitsLabel, EntryRefused, JumpRefused, InstrRefused, KnownRefused, TakenRefused, LabelRefused, PlaceRefused, OpenedRefused, OpeningRefused, IsSafeBelow, IsTypingBelow, InstructionRefused, IsFirstPast, IsRefusedAt, IsRefused, HasOneVerdict}
+use Rattle.plan_verifier.specs.Typing.{Known, Declares, HasOpening, IsLabelTyped, IsAfter, IsSafe}
+use Rattle.plan_verifier.specs.Refusals.{Where, WhereSome, ◌orelse◌, CommitRefused, FitsLabel, EntryRefused, JumpRefused, InstrRefused, KnownRefused, TakenRefused, LabelRefused, PcRefused, OpenedRefused, OpeningRefused, IsSafeBelow, IsTypingBelow, InstructionRefused, IsFirstPast, IsRefusedAt, IsRefused, HasOneVerdict}
 use Rattle.plan_verifier.proofs.Tabled.{IsTabled, tabled, declared_once}
 use Rattle.plan_verifier.proofs.Causes.{decides_label, entry_computes, known_computes}
 use Rattle.plan_verifier.proofs.Entries.{whole_computes}
 use Rattle.plan_verifier.proofs.OneVerdict.{refused_if, codes_have_one_verdict}
 use Rattle.plan_verifier.proofs.VectorsOfTyping.{plan, each_frame, many_subs, knows, counters, no_room_in_each_frame, sub, label, line, code, joins, opened, edited, committed, its_label_declares, opened_fits, a_first_sub_channel, opens_empty}
 
--- adds a sub-channel, and then waits for a swap that nothing has committed
+-- adds a sub-channel, and then waits for a swap although none was committed
 abbrev unjoined : Program
 unjoined = code (label 0 3 ∷ []) (line (Edits (AddSub sub)) ∷ line Join ∷ [])
 
@@ -148,7 +148,7 @@ spent_two = record opened { allowance = 2 }
 cannot_afford_the_label : EntryRefused joins (label 0 3) spent_two Cost
 cannot_afford_the_label = (entry_computes joins (label 0 3) spent_two its_label_declares).told Cost refl
 
--- what doesn't fit is not refused for its cost
+-- a state that does not fit is refused for that, not for its cost
 not_for_its_cost : EntryRefused joins (label 0 3) edited Cost → ⊥
 not_for_its_cost h = let e : Some Mismatch ≡ Some Cost = (entry_computes joins (label 0 3) edited its_label_declares).found Cost h in absurd cc
 
@@ -170,7 +170,7 @@ jumps_to_no_label = refl
 joins_a_swap : (cause : Cause) → InstrRefused joins Join committed cause → ⊥
 joins_a_swap cause h = h.0 tt
 
--- the last instruction, where it continues
+-- the last instruction, which continues
 falls_off : KnownRefused joins 3 Join committed FallsOff
 falls_off = (known_computes joins 3 Join committed joins_tabled).told FallsOff refl
 
@@ -180,7 +180,7 @@ joins_nothing_first h = let e : Some JoinIdle ≡ Some FallsOff = (known_compute
 spent_all_first : KnownRefused joins 3 Join (record opened { allowance = 0 }) Cost
 spent_all_first = (known_computes joins 3 Join (record opened { allowance = 0 }) joins_tabled).told Cost refl
 
--- ---- where the machine comes to an instruction
+-- ---- where the machine reaches an instruction
 
 takes_too_much : TakenRefused joins 0 End (label 0 21) opened Cost
 takes_too_much = inl (omega arith, refl)
@@ -203,14 +203,14 @@ label_before_an_end cause h =
     let same : h.0 ≡ opened = declared_once joins (label 0 3) _ _ h.1 its_label_declares in
     takes_what_there_is cause (subst (λ (t : Known). TakenRefused joins 0 End (label 0 3) t cause) same h.2)
 
--- no label, and nothing continues to it
-neither_label_nor_way : PlaceRefused joins 2 Join None None Table
+-- no label, and no instruction continues to it
+neither_label_nor_way : PcRefused joins 2 Join None None Table
 neither_label_nor_way = refl
 
-comes_without_a_label : PlaceRefused joins 2 Join None (Some opened) JoinIdle
+comes_without_a_label : PcRefused joins 2 Join None (Some opened) JoinIdle
 comes_without_a_label = (known_computes joins 2 Join opened joins_tabled).told JoinIdle refl
 
-comes_with_a_swap : PlaceRefused joins 2 Join None (Some committed) JoinIdle → ⊥
+comes_with_a_swap : PcRefused joins 2 Join None (Some committed) JoinIdle → ⊥
 comes_with_a_swap h = let e : None ≡ Some JoinIdle = (known_computes joins 2 Join committed joins_tabled).found JoinIdle h in absurd cc
 
 begins_without_a_label : OpeningRefused joins End None Table
@@ -231,12 +231,12 @@ opens_while_pending = inl ((λ h. let e : Within 24 27 ≡ Idle = h.idle in absu
 opens_idle : (cause : Cause) → OpenedRefused (lone End) End (label 0 3) opened cause → ⊥
 opens_idle cause h = begins_with_an_end cause (opened, lone_declares End, h)
 
--- ---- the instructions below a place
+-- ---- the instructions below a pc
 
 unjoined_declares : Declares unjoined (label 0 3) opened
 unjoined_declares = record { current = refl; next = refl; pending = refl; counters = refl; cost = refl }
 
--- what comes after the place is not asked for
+-- what follows that pc is not checked
 safe_below_one : IsSafeBelow unjoined 1 (opened ∷ []) 0 (Edits (AddSub sub)) opened
 safe_below_one = record {
   allowance = omega arith;
@@ -259,9 +259,9 @@ safe_there zero i t e f =
     subst (λ (u : Known). IsSafeBelow unjoined 1 (opened ∷ []) 0 i u) known (subst (λ (j : Instr). IsSafeBelow unjoined 1 (opened ∷ []) 0 j opened) same safe_below_one)
 safe_there (suc pc) i t e f = absurd cc
 
-placed_there : (l : Label) → Contains unjoined.labels l → LabelStands unjoined (opened ∷ []) l
+placed_there : (l : Label) → Contains unjoined.labels l → IsLabelTyped unjoined (opened ∷ []) l
 placed_there l (zero, lt, same) =
-    subst (λ (x : Label). LabelStands unjoined (opened ∷ []) x) same (record { known = opened; there = refl; declares = unjoined_declares; within = omega arith })
+    subst (λ (x : Label). IsLabelTyped unjoined (opened ∷ []) x) same (record { known = opened; there = refl; declares = unjoined_declares; within = omega arith })
 placed_there l (suc n, lt, same) = absurd (omega (arith, lt))
 
 no_more_below : (pc : ℕ) → pc < 1 → label_at unjoined pc ≡ None → IsAfter unjoined pc
@@ -329,7 +329,7 @@ labels_past_refused = refused_if labels_past 7 Table labels_past_is refl
 unjoined_has_one : HasOneVerdict unjoined
 unjoined_has_one = codes_have_one_verdict unjoined unjoined_is
 
--- a label names a configuration that the table has not: no file gives such a code
+-- a label names a configuration that is not in the table: no file gives such a code
 abbrev astray : Program
 astray = code (record (label 0 3) { cur = 1 } ∷ []) (line End ∷ [])
 

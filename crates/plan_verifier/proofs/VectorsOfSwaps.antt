@@ -1,4 +1,4 @@
--- A swap in each transmission mode, and what is allowed where it may have been made already.
+-- A swap in each transmission mode, and what is allowed where it may already have been made.
 use Rattle.std.proofs.Common.{◌≡◌, ◌<◌, ◌≤◌, true, [], ◌∷◌, inl, inr, refl, ap, arith}
 use Rattle.mux_config.specs.Configuration.{Configuration}
 use Rattle.mux_config.specs.declared.edit.Edit.TheVariants.{DropSub}
@@ -31,7 +31,7 @@ in_mode_three = refl
 in_mode_four : (leaves (in_mode IV) (CommitIn 24) edited).pending ≡ Within 24 25
 in_mode_four = refl
 
--- from the notice on, within a turn of the count
+-- from the notice on, within one cycle of the count
 at_a_count : (leaves plan (CommitAt 1000) edited).pending ≡ Within 24 5023
 at_a_count = refl
 
@@ -49,7 +49,7 @@ no_count_1001_in_mode_four h = let e : 1 ≡ 0 = h.1.0 in omega (arith, e)
 no_count_5000_in_mode_two : IsFine (in_mode II) (CommitAt 5000) edited → ⊥
 no_count_5000_in_mode_two h = let e : 5000 < 5000 = h.1.1 in omega (arith, e)
 
--- ---- where the swap comes in 26 frames at most, or has been made
+-- ---- where the swap comes after at most 26 frames, or has been made
 
 abbrev perhaps : Known
 perhaps = knows one_sub (Perhaps 26) 3
@@ -57,14 +57,14 @@ perhaps = knows one_sub (Perhaps 26) 3
 wait_of_25 : (leaves plan (Wait 25) perhaps).pending ≡ Perhaps 1
 wait_of_25 = refl
 
--- now it has been made for certain
+-- now it has certainly been made
 wait_of_26 : leaves plan (Wait 26) perhaps ≡ joined
 wait_of_26 = refl
 
 until_is_a_frame_or_more : (leaves plan (Until 42) perhaps).pending ≡ Perhaps 25
 until_is_a_frame_or_more = refl
 
--- a swap that comes in the next frame is made before anything else in it
+-- a swap in the next frame is made before anything else in it
 until_the_next_frame : leaves plan (Until 42) (knows one_sub (Within 1 1) 3) ≡ joined
 until_the_next_frame = refl
 
@@ -74,9 +74,9 @@ until_one_of_two = refl
 contact_in_the_next_frame : leaves plan (WaitContact 3 true) (knows one_sub (Perhaps 1) 3) ≡ joined
 contact_in_the_next_frame = refl
 
--- settling spends an instruction, and the swap has been made
-settled : leaves plan Settle perhaps ≡ (let t : Known = record joined { allowance = 2 } in t)
-settled = refl
+-- settling uses up an instruction, and then the swap has been made
+after_settle : leaves plan Settle perhaps ≡ (let t : Known = record joined { allowance = 2 } in t)
+after_settle = refl
 
 a_wait : IsFine plan (Wait 25) perhaps
 a_wait = tt
@@ -93,7 +93,7 @@ no_commit h = let e : Perhaps 26 ≡ Idle = h.0.idle in absurd cc
 no_join : IsFine plan Join perhaps → ⊥
 no_join h = h
 
--- an edit is refused for the swap, and not for its own fault
+-- an edit is refused because of the swap, not for its own fault
 edit_refused : InstrRefused joins (Edits (DropSub 5)) perhaps Pending
 edit_refused = inl ((λ (e : Perhaps 26 ≡ Idle). absurd cc), refl)
 
@@ -106,7 +106,7 @@ not_for_its_fault h = elim h [
 join_refused : InstrRefused joins Join perhaps JoinIdle
 join_refused = ((λ (h : ⊥). h), refl)
 
--- ---- labels at which it may have been made
+-- ---- labels at which the swap may have been made
 
 comes_sooner : FitsSwap (Perhaps 25) (Perhaps 26) perhaps perhaps
 comes_sooner = ((refl, refl), omega arith)
@@ -114,13 +114,13 @@ comes_sooner = ((refl, refl), omega arith)
 comes_later : FitsSwap (Perhaps 27) (Perhaps 26) perhaps perhaps → ⊥
 comes_later h = let e : 27 ≤ 26 = h.1 in omega (arith, e)
 
--- nothing is pending, and yet the swap has not been made
+-- no swap is pending, but the swap of the label has not been made
 not_made : FitsSwap Idle (Perhaps 26) edited perhaps → ⊥
 not_made h =
     let e : [] ≡ sub ∷ [] = ap (λ (c : Configuration). c.subs) h.0 in
     absurd cc
 
--- where it may have been made, neither is certain
+-- where the swap may have been made, neither case is certain
 not_certainly_made : FitsSwap (Perhaps 1) Idle perhaps joined → ⊥
 not_certainly_made h = h
 

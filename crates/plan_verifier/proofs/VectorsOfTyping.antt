@@ -1,4 +1,4 @@
--- What is known at the instructions of a small code: each definition of typed codes where it holds, and where it fails.
+-- Typed codes on a small code: for each definition, an example that holds and one that fails.
 use Rattle.std.proofs.Common.{◌≡◌, ◌≢◌, ℕ, zero, suc, ◌+◌, ◌*◌, ◌<◌, ◌≤◌, true, false, List, [], ◌∷◌, slice_get, Contains, Option, Some, None, inl, inr, refl, ap, subst, ◌∙◌, arith}
 use Rattle.std.proofs.lemmas.Bool.{false≢true}
 use Rattle.mux_config.specs.Configuration.{Configuration, nothing}
@@ -17,7 +17,7 @@ use Rattle.plan_code.specs.declared.instr.Instr.{Instr}
 use Rattle.plan_code.specs.declared.instr.Line.{Line}
 use Rattle.plan_code.specs.declared.instr.Instr.TheVariants.{Wait, CommitIn, CommitAt, Join, End, Edit as Edits, Loop}
 use Rattle.plan_code.specs.Program.{Program, instr_at, label_at}
-use Rattle.plan_verifier.specs.Typing.{Known, HasRoom, CanCommit, IsCertain, IsSurelyPending, IsFine, Declares, HasConfigurationsOf, FitsSwap, Fits, ComesTo, IsInitial, IsOpening, Arrives, HasOpening, LabelStands, Reaches, IsAfter, IsSafe, IsTyping, leaves, continues}
+use Rattle.plan_verifier.specs.Typing.{Known, HasRoom, CanCommit, IsCertain, IsSurelyPending, IsFine, Declares, HasConfigurationsOf, FitsSwap, Fits, CanEnter, IsInitial, IsOpening, Arrives, HasOpening, IsLabelTyped, Reaches, IsAfter, IsSafe, IsTyping, leaves, continues}
 use Rattle.plan_verifier.proofs.Deciding.{decides_room, decides_includes, decides_initial}
 
 -- ---- values shared by these vectors: one sub-channel of 128 kbit/s, added to an empty multiplex
@@ -38,11 +38,11 @@ sub = record { id = 1; start = 0; protection = record { set = A; level = 3 }; kb
 abbrev pub one_sub : Configuration
 one_sub = record { subs = sub ∷ []; services = []; packets = [] }
 
--- two that share all capacity units
+-- two sub-channels that share all capacity units
 abbrev pub overlapping : Configuration
 overlapping = record { subs = sub ∷ record sub { id = 2 } ∷ []; services = []; packets = [] }
 
--- this many sub-channels of 8 kbit/s, one after the other
+-- n sub-channels of 8 kbit/s, one after the other
 abbrev pub small_subs : ℕ → ℕ → List Sub
 small_subs zero id = []
 small_subs (suc n) id = record { id = id; start = 6 * id; protection = record { set = A; level = 3 }; kbits = 8 } ∷ small_subs n (id + 1)
@@ -50,11 +50,11 @@ small_subs (suc n) id = record { id = id; start = 6 * id; protection = record { 
 abbrev pub many_subs : Configuration
 many_subs = record { subs = small_subs 24 0; services = []; packets = [] }
 
--- with an empty configuration as current one
+-- with an empty current configuration
 abbrev pub knows : Configuration → Swap → ℕ → Known
 knows next pending allowance = record { current = nothing; next = next; pending = pending; counters = counters 0; allowance = allowance }
 
--- the label at the first instruction: nothing pending, nothing set, and instructions for so much
+-- a label as at the first instruction: no swap pending, no counter set, and this cost
 abbrev pub label : ℕ → ℕ → Label
 label pc cost = record { pc = pc; cur = 0; next = 0; pending = Idle; counters = counters 0; cost = cost }
 
@@ -101,7 +101,7 @@ pending_of (Some t) = t.pending
 room_for_one_sub : HasRoom plan edited
 room_for_one_sub = (decides_room plan edited).told refl
 
--- these take two pages, which go out in two frames
+-- these take two pages, which need two frames
 pub no_room_in_each_frame : HasRoom each_frame (knows many_subs Idle 2) → ⊥
 no_room_in_each_frame h = let e : 2 ≤ 1 = h.within_period in omega (arith, e)
 
@@ -203,7 +203,7 @@ the_same_two = (refl, refl)
 another_next_one : HasConfigurationsOf opened committed → ⊥
 another_next_one h = let e : nothing ≡ one_sub = h.1 in let subs : [] ≡ sub ∷ [] = ap (λ (c : Configuration). c.subs) e in absurd cc
 
--- bounds inside those of the label, and not outside of them
+-- bounds within those of the label, and bounds outside of them
 narrower_bounds : FitsSwap (Within 24 27) (Within 20 30) committed committed
 narrower_bounds = ((refl, refl), omega arith, omega arith)
 
@@ -223,7 +223,7 @@ swap_too_late h = let e : 27 ≤ 26 = h.1 in omega (arith, e)
 no_swap_pending : FitsSwap Idle (Within 24 27) edited committed → ⊥
 no_swap_pending h = h
 
--- a counter that is set, and that no label asks for
+-- a counter that is set although the label does not require it
 pub more_counters_fit : Fits (record opened { counters = counters 5 }) (record opened { counters = counters 4 })
 more_counters_fit = record { swap = (refl, refl); counters = (decides_includes (counters 5) (counters 4)).told refl }
 
@@ -233,10 +233,10 @@ unset_counter h = false≢true (h.counters 2 refl)
 pub opened_fits : Fits opened opened
 opened_fits = record { swap = (refl, refl); counters = λ r set. set }
 
-comes_to_its_label : ComesTo joins (label 0 3) opened
+comes_to_its_label : CanEnter joins (label 0 3) opened
 comes_to_its_label = record { declared = opened; declares = its_label_declares; fits = opened_fits; affords = omega arith }
 
-cannot_afford_it : ComesTo joins (label 0 3) (record opened { allowance = 2 }) → ⊥
+cannot_afford_it : CanEnter joins (label 0 3) (record opened { allowance = 2 }) → ⊥
 cannot_afford_it h = let e : 3 ≤ 2 = h.affords in omega (arith, e)
 
 -- ---- the opening
@@ -266,7 +266,7 @@ its_opening = record { label = label 0 3; known = opened; first = refl; declares
 no_label_at_its_beginning : HasOpening (code (label 1 3 ∷ []) (line End ∷ line End ∷ [])) → ⊥
 no_label_at_its_beginning h = let e : None ≡ Some h.label = h.first in absurd cc
 
--- ---- places of a code
+-- ---- at a pc of a code
 
 arrives_after_the_edit : Arrives joins known_there 1 None (leaves plan (Edits (AddSub sub)) opened)
 arrives_after_the_edit = refl
@@ -279,13 +279,13 @@ arrives_with_something_else h =
 arrives_at_its_label : Arrives joins known_there 0 (Some (label 0 3)) opened
 arrives_at_its_label = comes_to_its_label
 
-pub its_label_is_placed : LabelStands joins known_there (label 0 3)
+pub its_label_is_placed : IsLabelTyped joins known_there (label 0 3)
 its_label_is_placed = record { known = opened; there = refl; declares = its_label_declares; within = omega arith }
 
-no_instruction_there : LabelStands joins known_there (label 4 3) → ⊥
+no_instruction_there : IsLabelTyped joins known_there (label 4 3) → ⊥
 no_instruction_there h = let e : None ≡ Some h.known = h.there in absurd cc
 
-past_the_budget : LabelStands joins known_there (label 0 21) → ⊥
+past_the_budget : IsLabelTyped joins known_there (label 0 21) → ⊥
 past_the_budget h = let e : 21 ≤ 20 = h.within in omega (arith, e)
 
 reaches_its_label : Reaches joins 0 opened
@@ -366,8 +366,8 @@ safe_everywhere (suc (suc zero)) i t e f = safe_for 2 Join committed join_is_saf
 safe_everywhere (suc (suc (suc zero))) i t e f = safe_for 3 End joined end_is_safe i t e f
 safe_everywhere (suc (suc (suc (suc pc)))) i t e f = absurd cc
 
-placed_everywhere : (l : Label) → Contains joins.labels l → LabelStands joins known_there l
-placed_everywhere l (zero, lt, same) = subst (λ (x : Label). LabelStands joins known_there x) same its_label_is_placed
+placed_everywhere : (l : Label) → Contains joins.labels l → IsLabelTyped joins known_there l
+placed_everywhere l (zero, lt, same) = subst (λ (x : Label). IsLabelTyped joins known_there x) same its_label_is_placed
 placed_everywhere l (suc n, lt, same) = absurd (omega (arith, lt))
 
 after_another : (pc : ℕ) → pc < 4 → label_at joins pc ≡ None → IsAfter joins pc
@@ -380,7 +380,7 @@ after_another (suc (suc (suc (suc pc)))) lt e = absurd (omega (arith, lt))
 its_typing : IsTyping joins known_there
 its_typing = record { each = refl; opening = its_opening; labels = placed_everywhere; safe = safe_everywhere; reached = after_another }
 
--- a typing says something of every instruction
+-- a typing has an entry for every instruction
 ends_too_early : IsTyping joins (opened ∷ edited ∷ committed ∷ []) → ⊥
 ends_too_early h = let e : 3 ≡ 4 = h.each in omega (arith, e)
 

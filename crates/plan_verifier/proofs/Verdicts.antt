@@ -1,4 +1,4 @@
--- The walk over a whole_cause code: where it ends without a cause the code is typed, and the cause that it finds is
+-- The walk over a whole code: if it ends without a cause the code is typed, and otherwise the cause that it finds is
 -- the refusal; so each code is typed, or refused at one instruction with one cause.
 use Rattle.std.proofs.Common.{◌≡◌, ℕ, zero, suc, ◌+◌, ◌<◌, ◌≤◌, ◌⊎◌, Bool, true, false, nat_le, List, [], ◌∷◌, ◌++◌, length, drop, find, slice_get, Contains, Option, Some, None, option_map, Result, Ok, Err, refl, sym, ap, subst, ◌∙◌, inl, inr, arith}
 use Rattle.std.proofs.lemmas.Bool.{cases_lt}
@@ -13,7 +13,7 @@ use Rattle.plan_code.specs.Program.{Program, IsProgram, label_key, instr_at, lab
 use Rattle.plan_flow.specs.declared.cause.Cause.{Cause}
 use Rattle.plan_flow.specs.declared.cause.Cause.TheVariants.{Table}
 use Rattle.plan_verifier.specs.declared.cause.Refusal.{Refusal}
-use Rattle.plan_verifier.specs.Typing.{Known, leaves, continues, Arrives, Declares, HasOpening, LabelStands, IsAfter, IsTyping, IsTyped}
+use Rattle.plan_verifier.specs.Typing.{Known, leaves, continues, Arrives, Declares, HasOpening, IsLabelTyped, IsAfter, IsTyping, IsTyped}
 use Rattle.plan_verifier.specs.Refusals.{InstructionRefused, IsSafeBelow, IsTypingBelow, IsFirstPast, IsRefusedAt, IsRefused, left_by, left_before}
 use Rattle.plan_verifier.specs.Walking.{whole_cause, entered, known_cause, passed_on, refused_at, on_entry, or_after, past_label, walk}
 use Rattle.plan_verifier.proofs.Deciding.{Computes, decides_le, not_true, is_false}
@@ -63,7 +63,7 @@ length_pushed (x ∷ xs) y = ap suc (length_pushed xs y) ∙ (let e : suc (lengt
 pub same_some : {T : Type 0} (o : Option T) (x y : T) → o ≡ Some x → o ≡ Some y → x ≡ y
 same_some o x y e f = let both : Some x ≡ Some y = sym e ∙ f in cc
 
--- ---- what comes from the instruction before
+-- ---- what holds after the preceding instruction
 
 pub left_found : (plan : Plan) (o : Option Instr) (k : Option Known) (i : Instr) (t : Known) → o ≡ Some i → k ≡ Some t → continues i ≡ true → left_by plan o k ≡ Some (leaves plan i t)
 left_found plan o k i t e f on = rw (e, f, on) refl
@@ -87,9 +87,9 @@ left_told plan (Some i) (Some t) u e =
     let c = left_chosen plan i t u (continues i) refl e in
     record { instr = i; known = t; there = refl; holds = refl; onward = c.0; left = c.1 }
 
--- ---- one instruction more has a typing
+-- ---- extending a typing by one instruction
 
--- where an instruction is entered, whether it is the first or not
+-- the walk enters an instruction, the first or a later one
 record IsBegun (code : Program) (typing : List Known) (pc : ℕ) (t : Known) : Type 0 where
   placed : (label : Label) → label_at code pc ≡ Some label → Declares code label t × (label.cost ≤ code.plan.budget)
   opening : pc ≡ 0 → HasOpening code
@@ -128,10 +128,10 @@ arrives_later : (code : Program) (typing : List Known) (y : Known) (pc : ℕ) (o
 arrives_later code typing y pc None u h = slice_before typing y pc u h
 arrives_later code typing y pc (Some label) u h = h
 
-placed_later : (code : Program) (typing : List Known) (y : Known) (label : Label) → LabelStands code typing label → LabelStands code (typing ++ y ∷ []) label
+placed_later : (code : Program) (typing : List Known) (y : Known) (label : Label) → IsLabelTyped code typing label → IsLabelTyped code (typing ++ y ∷ []) label
 placed_later code typing y label p = record { known = p.known; there = slice_before typing y label.pc p.known p.there; declares = p.declares; within = p.within }
 
--- an instruction below: what it leaves arrives at the one that is new
+-- an earlier instruction: what holds after it arrives at the new one
 safe_before : (code : Program) (pc : ℕ) (typing : List Known) (t : Known) → length typing ≡ pc → IsBegun code typing pc t
     → (k : ℕ) (i : Instr) (u : Known) → instr_at code k ≡ Some i → slice_get typing k ≡ Some u → IsSafeBelow code pc typing k i u
     → IsSafeBelow code (pc + 1) (typing ++ t ∷ []) k i u
@@ -197,7 +197,7 @@ extended code pc typing i t h lt at below e p =
           ];
     }
 
--- ---- what stands past the end
+-- ---- labels past the end
 
 found_none_by : (n : ℕ) (x : Label) (xs : List Label) (b : Bool) → nat_le n x.pc ≡ b → find (λ (l : Label). nat_le n l.pc) (x ∷ xs) ≡ None
     → (x.pc < n) × (find (λ (l : Label). nat_le n l.pc) xs ≡ None)
@@ -222,7 +222,7 @@ none_found n (x ∷ xs) h =
     let is : nat_le n x.pc ≡ false = is_false _ (λ e. let above : n ≤ x.pc = (decides_le n x.pc).told e in omega (arith, above, below)) in
     rw is (none_found n xs (λ label here. h label (contains_later x xs label here)))
 
--- the first of these in ascending order
+-- the first such label in ascending order
 first_past_by : (n : ℕ) (x : Label) (xs : List Label) (label : Label) (b : Bool) → nat_le n x.pc ≡ b → find (λ (l : Label). nat_le n l.pc) (x ∷ xs) ≡ Some label
     → ((b ≡ true) × (x ≡ label)) ⊎ ((x.pc < n) × (find (λ (l : Label). nat_le n l.pc) xs ≡ Some label))
 first_past_by n x xs label true is e = inl (refl, let h : Some x ≡ Some label = sym (rw is refl) ∙ e in cc)
@@ -265,7 +265,7 @@ pub passes : (pc : ℕ) (r : Result Known Cause) (here : Known → Option Cause)
     → on_entry pc r (λ u. or_after pc (here u) (rest u)) ≡ rest t
 passes pc r here rest t e f = rw (e, f) refl
 
--- what comes of the walk is the verdict
+-- the result of the walk is the verdict
 abbrev pub IsVerdict : Program → Option Refusal → Type 0
 IsVerdict code None = IsTyped code
 IsVerdict code (Some r) = IsRefused code r.pc r.cause

@@ -10,11 +10,11 @@ use Rattle.plan_code.specs.Flags.{is_set}
 use Rattle.plan_code.specs.Program.{Program, IsProgram, instr_at, label_at}
 use Rattle.plan_flow.specs.declared.cause.Cause.{Cause}
 use Rattle.plan_flow.specs.declared.cause.Cause.TheVariants.{Target, Table, Config as OfConfig, CounterUnset, Mismatch, Cost, Round, FallsOff}
-use Rattle.plan_verifier.specs.Typing.{Known, pages_alone, leaves, target_of, continues, spent, Declares, Fits, IsInitial, HasOpening, LabelStands, IsAfter, IsFine, Reaches, Arrives, IsTyped}
+use Rattle.plan_verifier.specs.Typing.{Known, pages_alone, leaves, target_of, continues, spent, Declares, Fits, IsInitial, HasOpening, IsLabelTyped, IsAfter, IsFine, Reaches, Arrives, IsTyped}
 
--- ---- at an instruction, with what is known there
+-- ---- at an instruction, given what is known there
 
--- a state reaches a label: it doesn't fit it, or its allowance is too small
+-- entering a label: the state doesn't fit it, or its allowance is too small
 abbrev pub FitsLabel : Program → Label → Known → Type 0
 FitsLabel code label t = (declared : Known) × Declares code label declared × Fits t declared
 
@@ -23,7 +23,7 @@ EntryRefused code label t =
     Where (FitsLabel code label t → ⊥) Mismatch
     orelse Where (t.allowance < label.cost) Cost
 
--- a jump, with the label at its target, if any
+-- a jump, given the label at its target, if any
 abbrev pub JumpRefused : Program → Option Label → Known → Cause → Type 0
 JumpRefused code None t given = given ≡ Target
 JumpRefused code (Some label) t given = EntryRefused code label t given
@@ -37,7 +37,7 @@ InstrRefused code (Loop counter target) t =
     orelse JumpRefused code (label_at code target) (spent t)
 InstrRefused code i t = FlowRefused code.plan i t
 
--- from the allowance on
+-- the same, starting with the allowance
 abbrev pub KnownRefused : Program → ℕ → Instr → Known → Cause → Type 0
 KnownRefused code pc i t =
     Where (t.allowance ≡ 0) Cost
@@ -46,7 +46,7 @@ KnownRefused code pc i t =
 
 -- ---- where the machine reaches an instruction
 
--- the state that a label declares is taken
+-- given the state that the label declares
 abbrev pub TakenRefused : Program → ℕ → Instr → Label → Known → Cause → Type 0
 TakenRefused code pc i label declared = Where (code.plan.budget < label.cost) Cost orelse KnownRefused code pc i declared
 
@@ -54,15 +54,15 @@ abbrev pub LabelRefused : Program → ℕ → Instr → Label → Cause → Type
 LabelRefused code pc i label given =
     (declared : Known) × Declares code label declared × TakenRefused code pc i label declared given
 
--- at an instruction but the first, with the label there, if any, and what holds after the instruction before, if
--- it continues to this one
-abbrev pub PlaceRefused : Program → ℕ → Instr → Option Label → Option Known → Cause → Type 0
-PlaceRefused code pc i None None given = given ≡ Table
-PlaceRefused code pc i None (Some t) given = KnownRefused code pc i t given
-PlaceRefused code pc i (Some label) None given = LabelRefused code pc i label given
-PlaceRefused code pc i (Some label) (Some t) given = (EntryRefused code label t orelse LabelRefused code pc i label) given
+-- at an instruction other than the first, given its label, if any, and what holds after the preceding instruction, if
+-- that continues to this one
+abbrev pub PcRefused : Program → ℕ → Instr → Option Label → Option Known → Cause → Type 0
+PcRefused code pc i None None given = given ≡ Table
+PcRefused code pc i None (Some t) given = KnownRefused code pc i t given
+PcRefused code pc i (Some label) None given = LabelRefused code pc i label given
+PcRefused code pc i (Some label) (Some t) given = (EntryRefused code label t orelse LabelRefused code pc i label) given
 
--- the state that the first label declares
+-- given the state that the first label declares
 abbrev pub OpenedRefused : Program → Instr → Label → Known → Cause → Type 0
 OpenedRefused code i label t =
     Where (IsInitial t → ⊥) Mismatch
@@ -71,14 +71,14 @@ OpenedRefused code i label t =
     orelse Where (code.plan.period < pages_alone code.plan t.current) Round
     orelse KnownRefused code 0 i t
 
--- at the first instruction, with the label there, if any
+-- at the first instruction, given its label, if any
 abbrev pub OpeningRefused : Program → Instr → Option Label → Cause → Type 0
 OpeningRefused code i None given = given ≡ Table
 OpeningRefused code i (Some label) given = (t : Known) × Declares code label t × OpenedRefused code i label t given
 
 -- ---- the first instruction at which a cause holds
 
--- what holds at an instruction below a pc: IsSafe, but for a continuation to that pc itself
+-- what holds at an instruction below a pc: IsSafe, except for a continuation to that pc itself
 pub record IsSafeBelow (code : Program) (end : ℕ) (typing : List Known) (pc : ℕ) (i : Instr) (t : Known) : Type 0 where
   pub allowance : 1 ≤ t.allowance
   pub fine : IsFine code.plan i t
@@ -90,11 +90,11 @@ pub record IsSafeBelow (code : Program) (end : ℕ) (typing : List Known) (pc : 
 pub record IsTypingBelow (code : Program) (end : ℕ) (typing : List Known) : Type 0 where
   pub each : length typing ≡ end
   pub opening : 0 < end → HasOpening code
-  pub labels : (label : Label) → Contains code.labels label → label.pc < end → LabelStands code typing label
+  pub labels : (label : Label) → Contains code.labels label → label.pc < end → IsLabelTyped code typing label
   pub safe : (pc : ℕ) (i : Instr) (t : Known) → instr_at code pc ≡ Some i → slice_get typing pc ≡ Some t → IsSafeBelow code end typing pc i t
   pub reached : (pc : ℕ) → pc < end → label_at code pc ≡ None → IsAfter code pc
 
--- what holds after an instruction, where it continues
+-- what holds after an instruction, if it continues
 abbrev pub left_by : Plan → Option Instr → Option Known → Option Known
 left_by plan None known = None
 left_by plan (Some i) None = None
@@ -106,16 +106,16 @@ left_before code typing (suc pc) = left_by code.plan (instr_at code pc) (slice_g
 
 abbrev pub InstructionRefused : Program → List Known → ℕ → Instr → Cause → Type 0
 InstructionRefused code typing zero i = OpeningRefused code i (label_at code 0)
-InstructionRefused code typing (suc pc) i = PlaceRefused code (suc pc) i (label_at code (suc pc)) (left_before code typing (suc pc))
+InstructionRefused code typing (suc pc) i = PcRefused code (suc pc) i (label_at code (suc pc)) (left_before code typing (suc pc))
 
--- the first label at or past the end of the code is here
+-- the first label at or past the end of the code has this pc
 pub record IsFirstPast (code : Program) (pc : ℕ) : Type 0 where
   pub label : Label
   pub there : label_at code pc ≡ Some label
   pub first : (other : Label) → Contains code.labels other → length code.lines ≤ other.pc → pc ≤ other.pc
 
 -- the instructions below have a typing, and this cause is the first at this one; or all instructions have one,
--- and this is the first label past them
+-- and this is the pc of the first label past them
 abbrev pub IsRefusedAt : Program → List Known → ℕ → Option Instr → Cause → Type 0
 IsRefusedAt code typing pc (Some i) given = IsTypingBelow code pc typing × InstructionRefused code typing pc i given
 IsRefusedAt code typing pc None given =

@@ -1,4 +1,4 @@
--- The verifier's walk over a code, as functions. No public contract needs this to be believed.
+-- The verifier's walk over a code, as functions. No public contract refers to it.
 pub use Rattle.plan_flow.specs.Tests.{cause_if, cause_of, ◌first_or◌, unless, is_same, is_idle, fits_swap, flow_cause, start_cause}
 use Rattle.std.specs.Prelude.{◌≡◌, ℕ, zero, suc, ◌+◌, ◌==◌, ◌&&◌, Bool, not, if◌then◌else◌, nat_lt, nat_le, List, [], ◌∷◌, length, find, Option, Some, None, Result, Ok, Err, slice_get}
 use Rattle.std.specs.Int.RustNames.{bit_and}
@@ -23,11 +23,11 @@ includes a b = bit_and a.0 b.0 == b.0
 abbrev pub is_fit : Known → Known → Bool
 is_fit t declared = includes t.counters declared.counters && fits_swap t.pending declared.pending t declared
 
--- no swap is pending any more where a label says that one may be
+-- no swap is pending where a label declares one that may be pending
 abbrev pub may_have_swapped : Swap → Swap → Bool
 may_have_swapped pending declared = is_idle pending && not (is_idle declared)
 
--- the swap that was pending, or may have been, has been made
+-- a swap that was or may have been pending has been made
 abbrev pub has_swapped : Swap → Swap → Bool
 has_swapped before after = not (is_idle before) && is_idle after
 
@@ -51,7 +51,7 @@ declared_by code label =
       allowance = label.cost;
     }
 
--- what a label declares but for its configurations
+-- what a label declares, except for its configurations
 abbrev pub refitted : Label → Known → Known
 refitted label t = record t { pending = label.pending; counters = label.counters; allowance = label.cost }
 
@@ -64,7 +64,7 @@ abbrev pub jump_cause : Program → Option Label → Known → Option Cause
 jump_cause code None t = Some Target
 jump_cause code (Some label) t = entry_cause code label t
 
--- of a jump to a label
+-- for a jump to a label
 abbrev pub target_cause : Program → Instr → Known → Option Cause
 target_cause code (Test contact target) t = jump_cause code (label_at code target) (spent t)
 target_cause code (Jump target) t = jump_cause code (label_at code target) (spent t)
@@ -81,7 +81,7 @@ known_cause code pc i t =
     first_or instr_cause code i t
     first_or cause_if (continues i && (pc + 1 == length code.lines)) FallsOff
 
--- ---- where the walk reaches an instruction: what is known there, or the cause why it is refused
+-- ---- entering an instruction: what is known there, or the cause for refusing it
 
 abbrev pub taken : Option Cause → Known → Result Known Cause
 taken None t = Ok t
@@ -100,46 +100,46 @@ abbrev pub opening_known : Program → Option Label → Result Known Cause
 opening_known code None = Err Table
 opening_known code (Some label) = taken (opening_cause code label (declared_by code label)) (declared_by code label)
 
-abbrev pub place_of : Program → Option Label → Option Known → Result Known Cause
-place_of code None None = Err Table
-place_of code None (Some t) = Ok t
-place_of code (Some label) None = taken (label_cause code label) (declared_by code label)
-place_of code (Some label) (Some t) = taken (entry_cause code label t first_or label_cause code label) (declared_by code label)
+abbrev pub known_at_pc : Program → Option Label → Option Known → Result Known Cause
+known_at_pc code None None = Err Table
+known_at_pc code None (Some t) = Ok t
+known_at_pc code (Some label) None = taken (label_cause code label) (declared_by code label)
+known_at_pc code (Some label) (Some t) = taken (entry_cause code label t first_or label_cause code label) (declared_by code label)
 
 abbrev pub entered : Program → ℕ → Option Known → Result Known Cause
 entered code zero came = opening_known code (label_at code 0)
-entered code (suc pc) came = place_of code (label_at code (suc pc)) came
+entered code (suc pc) came = known_at_pc code (label_at code (suc pc)) came
 
 -- ---- the walk
 
 abbrev pub refused_at : ℕ → Cause → Option Refusal
 refused_at pc cause = Some (record { pc = pc; cause = cause })
 
--- what is known, where the instruction before continues to this one
-abbrev pub came_of : Bool → Known → Option Known
-came_of comes t = if comes then Some t else None
+-- what is known, if the preceding instruction continues to this one
+abbrev pub known_if_reached : Bool → Known → Option Known
+known_if_reached comes t = if comes then Some t else None
 
 abbrev pub passed_on : Plan → Instr → Known → Option Known
-passed_on plan i t = came_of (continues i) (leaves plan i t)
+passed_on plan i t = known_if_reached (continues i) (leaves plan i t)
 
--- the cause at an instruction, where it is entered or else at itself
+-- the cause at an instruction: on entry, or else of the instruction itself
 abbrev pub whole_cause : Result Known Cause → (Known → Option Cause) → Option Cause
 whole_cause (Err cause) here = Some cause
 whole_cause (Ok t) here = here t
 
--- the instruction here; `End` past the last one
+-- the instruction at a pc; `End` past the last one
 abbrev pub instr_or_end : Option Instr → Instr
 instr_or_end None = End
 instr_or_end (Some i) = i
 
--- an instruction is entered and passed, and this holds after it
+-- an instruction is entered and passed, with this state after it
 pub record PassesInstr (code : Program) (pc : ℕ) (i : Instr) (came : Option Known) (left : Known) : Type 0 where
   pub known : Known
   pub enters : entered code pc came ≡ Ok known
   pub none : known_cause code pc i known ≡ None
   pub leaves_it : left ≡ leaves code.plan i known
 
--- where no cause holds here, the result of the rest
+-- the cause here, or else the result of the rest
 abbrev pub or_after : ℕ → Option Cause → Option Refusal → Option Refusal
 or_after pc None rest = rest
 or_after pc (Some cause) rest = refused_at pc cause
@@ -156,7 +156,7 @@ past_label (Some label) = refused_at label.pc Table
 abbrev pub past_end : Program → Option Refusal
 past_end code = past_label (find (λ l. nat_le (length code.lines) l.pc) code.labels)
 
--- these are the instructions from `pc` on
+-- the refusal, if any, of the instructions from `pc` on
 abbrev pub walk : Program → List Line → ℕ → Option Known → Option Refusal
 walk code [] pc came = past_end code
 walk code (line ∷ lines) pc came =

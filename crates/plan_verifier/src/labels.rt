@@ -3,10 +3,10 @@
 ghost use Rattle.std.specs.Prelude.{◌≡◌, ℕ, ◌<◌, ◌↔◌, ◌&&◌, length, slice_get, true, Some, IsTrue, IfSome};
 ghost use Rattle.plan_code.specs.Program.{IsProgram, IsLabel, label_at};
 ghost use Rattle.plan_verifier.specs.Typing.{Known};
-ghost use Rattle.plan_verifier.specs.Held.{known_of, StandsAt, ArePlaced, KnowsPlaces, places_of};
+ghost use Rattle.plan_verifier.specs.Held.{known_of, IsAtIndex, AreIndexed, KnowsIndices, indices_of};
 ghost use Rattle.plan_verifier.specs.Walking.{unless, is_same, fits_swap, is_fit, declared_by, or_nothing, may_have_swapped, refitted, entry_cause, label_cause};
 
-use crate::known::{KnownState, Places, includes};
+use crate::known::{Indices, KnownState, includes};
 use mux_config::{Config, Store};
 use plan_code::{Code, Label, Swap};
 use plan_flow::Cause;
@@ -22,48 +22,48 @@ pub(crate) fn label_at(code: &Code, pc: u16) -> Option<Label>
 }
 
 /// A configuration of the code's table.
-fn config_at(code: &Code, place: u16) -> &Config
-    requires { place < length code.now.configurations }
-    ensures { result.now ≡ or_nothing (slice_get code.now.configurations place) }
+fn config_at(code: &Code, index: u16) -> &Config
+    requires { index < length code.now.configurations }
+    ensures { result.now ≡ or_nothing (slice_get code.now.configurations index) }
 {
-    &code.configs()[usize::from(place)]
+    &code.configs()[usize::from(index)]
 }
 
-/// Whether this is the known index.
-fn is_at(known: Option<u16>, place: u16) -> bool
-    ensures { IsTrue result ↔ (known ≡ Some place) }
+/// Whether the known index is this one.
+fn is_at(known: Option<u16>, index: u16) -> bool
+    ensures { IsTrue result ↔ (known ≡ Some index) }
 {
-    known == Some(place)
+    known == Some(index)
 }
 
-/// Whether a store holds the configuration of an index; `known` is the index of its own, if that is known.
-fn holds<S: Store>(code: &Code, store: &S, known: Option<u16>, place: u16) -> bool
-    requires within { place < length code.now.configurations }
-    requires known { StandsAt code.now.configurations known (S.content store.now) }
+/// Whether a store holds the configuration at an index; `known` is the store's own index, if known.
+fn holds<S: Store>(code: &Code, store: &S, known: Option<u16>, index: u16) -> bool
+    requires within { index < length code.now.configurations }
+    requires known { IsAtIndex code.now.configurations known (S.content store.now) }
     ensures { result ≡ is_same (S.content store.now) (or_nothing
-        (slice_get code.now.configurations place)) }
+        (slice_get code.now.configurations index)) }
 {
-    is_at(known, place) || is_same(store, config_at(code, place))
+    is_at(known, index) || is_same(store, config_at(code, index))
 }
 
-/// Whether what is known has the configurations of these indices.
+/// Whether the configurations of the state are those at these indices.
 fn has<S: Store>(code: &Code, current: u16, next: u16, state: &KnownState<S>) -> bool
     requires current_within { current < length code.now.configurations }
     requires next_within { next < length code.now.configurations }
-    requires placed { KnowsPlaces S.content code.now.configurations state.now }
+    requires placed { KnowsIndices S.content code.now.configurations state.now }
     ensures { result ≡ (is_same (S.content state.now.flow.current) (or_nothing
         (slice_get code.now.configurations current))
         && is_same (S.content state.now.flow.next) (or_nothing
         (slice_get code.now.configurations next))) }
 {
-    holds(code, &state.flow.current, state.places.current, current)
-        && holds(code, &state.flow.next, state.places.next, next)
+    holds(code, &state.flow.current, state.indices.current, current)
+        && holds(code, &state.flow.next, state.indices.next, next)
 }
 
-/// Whether the configurations and the swap that are known fit those of a label, whatever the allowance is.
+/// Whether the configurations and the swap of the state fit those of a label, whatever its allowance.
 fn fits<S: Store>(code: &Code, label: &Label, state: &KnownState<S>) -> bool
     requires within { IsLabel (length code.now.configurations) label.now }
-    requires placed { KnowsPlaces S.content code.now.configurations state.now }
+    requires placed { KnowsIndices S.content code.now.configurations state.now }
     ensures { (allowance : ℕ) → result ≡ fits_swap state.now.flow.pending label.now.pending (record
         (known_of S.content state.now) { allowance = allowance })
         (declared_by code.now label.now) }
@@ -85,10 +85,10 @@ fn fits<S: Store>(code: &Code, label: &Label, state: &KnownState<S>) -> bool
     }
 }
 
-/// Whether what is known fits what a label declares, whatever the allowance is.
+/// Whether the state fits what a label declares, whatever its allowance.
 fn is_fit<S: Store>(code: &Code, label: &Label, state: &KnownState<S>) -> bool
     requires within { IsLabel (length code.now.configurations) label.now }
-    requires placed { KnowsPlaces S.content code.now.configurations state.now }
+    requires placed { KnowsIndices S.content code.now.configurations state.now }
     ensures { (allowance : ℕ) → result ≡ is_fit (record (known_of S.content state.now) {
       allowance = allowance;
     }) (declared_by code.now label.now) }
@@ -96,34 +96,34 @@ fn is_fit<S: Store>(code: &Code, label: &Label, state: &KnownState<S>) -> bool
     includes(state.counters, label.counters) && fits(code, label, state)
 }
 
-/// Whether no swap is pending any more where a label says that one may be.
+/// Whether no swap is pending where a label declares one that may be pending.
 fn may_have_swapped(pending: Swap, declared: Swap) -> bool
     ensures { result ≡ may_have_swapped pending declared }
 {
     is_idle(pending) && !is_idle(declared)
 }
 
-/// The indices of the configurations of what fits a label: those of the label's, but for the current one where the swap
-/// may have been made.
-fn fit_places(code: &Code, label: &Label, pending: Swap) -> Places
+/// The indices of the configurations of a state that fits a label: those of the label, except for the current one if
+/// the swap may have been made.
+fn fit_indices(code: &Code, label: &Label, pending: Swap) -> Indices
     ensures { (t : Known) → pending ≡ t.pending
         → is_fit t (declared_by code.now label.now) ≡ true
-        → ArePlaced code.now.configurations result t }
+        → AreIndexed code.now.configurations result t }
 {
     if may_have_swapped(pending, label.pending) {
-        return Places {
+        return Indices {
             current: Some(label.next),
             next: Some(label.next),
         };
     }
-    Places {
+    Indices {
         current: Some(label.cur),
         next: Some(label.next),
     }
 }
 
-/// Whether what is known fits what a label declares; then the indices of its configurations are known. Refusals:
-/// `Mismatch`, where it does not, and `Cost`, where this allowance is below the label's cost.
+/// Checks that the state fits what a label declares, and updates the indices of its configurations. Refusals:
+/// `Mismatch`, where it does not fit, and `Cost`, where this allowance is below the label's cost.
 pub(crate) fn test_entry<S: Store>(
     code: &Code,
     label: &Label,
@@ -131,24 +131,24 @@ pub(crate) fn test_entry<S: Store>(
     state: &mut KnownState<S>,
 ) -> Result<(), Cause>
     requires within { IsLabel (length code.now.configurations) label.now }
-    requires placed { KnowsPlaces S.content code.now.configurations state.old }
+    requires placed { KnowsIndices S.content code.now.configurations state.old }
     ensures cause { result ≡ unless (entry_cause code.now label.now (record
         (known_of S.content state.old) { allowance = allowance })) }
     ensures kept { known_of S.content state.new ≡ known_of S.content state.old }
     ensures allowance { state.new.allowance ≡ state.old.allowance }
-    ensures placed { KnowsPlaces S.content code.now.configurations state.new }
+    ensures placed { KnowsIndices S.content code.now.configurations state.new }
 {
     if !is_fit(code, label, state) {
         return Err(Cause::Mismatch);
     }
-    state.places = fit_places(code, label, state.flow.pending);
+    state.indices = fit_indices(code, label, state.flow.pending);
     if allowance < label.cost {
         return Err(Cause::Cost);
     }
     Ok(())
 }
 
-/// Whether a label's cost is within the budget. Refusal: `Cost`.
+/// Checks that a label's cost is within the budget. Refusal: `Cost`.
 pub(crate) fn test_cost(code: &Code, label: &Label) -> Result<(), Cause>
     ensures { result ≡ unless (label_cause code.now label.now) }
 {
@@ -158,63 +158,63 @@ pub(crate) fn test_cost(code: &Code, label: &Label) -> Result<(), Cause>
     Ok(())
 }
 
-/// Takes what a label declares, but for its configurations, and notes the indices of these.
+/// Adopts what a label declares, except for its configurations, and sets their indices.
 fn take_rest<S: Store>(label: &Label, state: &mut KnownState<S>)
     ensures value { known_of S.content state.new ≡ refitted label.now
         (known_of S.content state.old) }
-    ensures places { state.new.places ≡ places_of label.now }
+    ensures indices { state.new.indices ≡ indices_of label.now }
 {
     state.flow.pending = label.pending;
     state.counters = label.counters;
     state.allowance = label.cost;
-    state.places = Places {
+    state.indices = Indices {
         current: Some(label.cur),
         next: Some(label.next),
     };
 }
 
-/// Copies the configuration of an index into a store; `known` is the index of its own, if that is known.
-fn put<S: Store>(code: &Code, place: u16, known: Option<u16>, store: &mut S)
-    requires within { place < length code.now.configurations }
-    requires known { StandsAt code.now.configurations known (S.content store.old) }
-    ensures { S.content store.new ≡ or_nothing (slice_get code.now.configurations place) }
+/// Copies the configuration at an index into a store; `known` is the store's own index, if known.
+fn put<S: Store>(code: &Code, index: u16, known: Option<u16>, store: &mut S)
+    requires within { index < length code.now.configurations }
+    requires known { IsAtIndex code.now.configurations known (S.content store.old) }
+    ensures { S.content store.new ≡ or_nothing (slice_get code.now.configurations index) }
 {
-    if !is_at(known, place) {
-        store.copy_from_config(config_at(code, place));
+    if !is_at(known, index) {
+        store.copy_from_config(config_at(code, index));
     }
 }
 
-/// Takes what a label declares.
+/// Adopts what a label declares.
 pub(crate) fn take<S: Store>(code: &Code, label: &Label, state: &mut KnownState<S>)
     requires within { IsLabel (length code.now.configurations) label.now }
-    requires placed { KnowsPlaces S.content code.now.configurations state.old }
+    requires placed { KnowsIndices S.content code.now.configurations state.old }
     ensures value { known_of S.content state.new ≡ declared_by code.now label.now }
-    ensures placed { KnowsPlaces S.content code.now.configurations state.new }
+    ensures placed { KnowsIndices S.content code.now.configurations state.new }
 {
     put(
         code,
         label.cur,
-        state.places.current,
+        state.indices.current,
         &mut state.flow.current,
     );
-    put(code, label.next, state.places.next, &mut state.flow.next);
+    put(code, label.next, state.indices.next, &mut state.flow.next);
     take_rest(label, state);
 }
 
-/// Takes what a label declares, where what is known fits it: then the configurations are the same already, but for the
-/// current one of a label at which the swap may have been made.
+/// Adopts what a label declares where the state fits it: then the configurations are already the same, except for the
+/// current one at a label where the swap may have been made.
 pub(crate) fn refit<S: Store>(code: &Code, label: &Label, state: &mut KnownState<S>)
     requires within { IsLabel (length code.now.configurations) label.now }
-    requires placed { KnowsPlaces S.content code.now.configurations state.old }
+    requires placed { KnowsIndices S.content code.now.configurations state.old }
     requires fit { is_fit (known_of S.content state.old) (declared_by code.now label.now) ≡ true }
     ensures value { known_of S.content state.new ≡ declared_by code.now label.now }
-    ensures placed { KnowsPlaces S.content code.now.configurations state.new }
+    ensures placed { KnowsIndices S.content code.now.configurations state.new }
 {
     if may_have_swapped(state.flow.pending, label.pending) {
         put(
             code,
             label.cur,
-            state.places.current,
+            state.indices.current,
             &mut state.flow.current,
         );
         take_rest(label, state);

@@ -1,4 +1,4 @@
-//! What holds of all codes.
+//! The law of all codes.
 
 ghost use Rattle.plan_verifier.specs.Refusals.{CodesHaveOneVerdict};
 

@@ -1,8 +1,8 @@
-//! The verifier: whether a plan code is typed, so that it never goes wrong when it is played.
+//! The verifier: checks that a plan code is typed, so that no playback of it traps.
 //!
-//! `verify` takes a `Code`, and returns it as `Verified`, or `Refused` at an instruction with a `Cause`. What a typed
-//! code is, is defined in `specs/Typing.antt`, what a refusal says in `specs/Refusals.antt`; the rules of a plan are
-//! those of `plan_flow`.
+//! `verify` takes a `Code`, and returns it as `Verified`, or `Refused` at an instruction with a `Cause`. Typed codes
+//! are defined in `specs/Typing.antt` and refusals in `specs/Refusals.antt`; the rules of a plan are those of
+//! `plan_flow`.
 #![tactic(auto)]
 
 pub mod cause;

@@ -2,27 +2,27 @@
 
 ghost use Rattle.std.specs.Prelude.{◌≡◌, ◌≤◌, ◌+◌, ◌==◌, ◌&&◌, OnOk, length};
 ghost use Rattle.plan_code.specs.Program.{instr_at, label_at};
-ghost use Rattle.plan_flow.specs.Flows.{flow_of, known_with, moved, set_after, left_over};
-ghost use Rattle.plan_verifier.specs.Held.{known_of, KnowsPlaces};
+ghost use Rattle.plan_flow.specs.Flows.{flow_of, known_with, after_instr, set_after, left_over};
+ghost use Rattle.plan_verifier.specs.Held.{known_of, KnowsIndices};
 ghost use Rattle.plan_verifier.specs.Typing.{leaves, spent, continues};
 ghost use Rattle.plan_verifier.specs.Walking.{unless, flow_cause, target_cause, instr_cause, known_cause, jump_cause, instr_or_end};
 
-use crate::known::{KnownState, note_places};
+use crate::known::{KnownState, note_indices};
 use crate::labels::{label_at, test_entry};
 use mux_config::Store;
 use plan_code::{Code, Instr, Plan};
 use plan_flow::Cause;
-use plan_flow::ways::continues;
+use plan_flow::successors::continues;
 
 /// Checks a jump to the label at the target. Refusals: `Target`, where there is none, `Mismatch` and `Cost`.
 fn test_jump<S: Store>(code: &Code, target: u16, state: &mut KnownState<S>) -> Result<(), Cause>
     requires allowance { 1 ≤ state.old.allowance }
-    requires placed { KnowsPlaces S.content code.now.configurations state.old }
+    requires placed { KnowsIndices S.content code.now.configurations state.old }
     ensures cause { result ≡ unless (jump_cause code.now (label_at code.now target) (spent
         (known_of S.content state.old))) }
     ensures kept { known_of S.content state.new ≡ known_of S.content state.old }
     ensures allowance { state.new.allowance ≡ state.old.allowance }
-    ensures placed { KnowsPlaces S.content code.now.configurations state.new }
+    ensures placed { KnowsIndices S.content code.now.configurations state.new }
 {
     match label_at(code, target) {
         None => Err(Cause::Target),
@@ -30,16 +30,16 @@ fn test_jump<S: Store>(code: &Code, target: u16, state: &mut KnownState<S>) -> R
     }
 }
 
-/// Whether an instruction can jump where it does, if it jumps. Refusals: `CounterUnset`, where a loop's counter may not
+/// Checks the jump of an instruction, if it has one. Refusals: `CounterUnset`, where a loop's counter may not
 /// be set, `Target`, `Mismatch` and `Cost`.
 fn test_target<S: Store>(code: &Code, instr: Instr, state: &mut KnownState<S>) -> Result<(), Cause>
     requires allowance { 1 ≤ state.old.allowance }
-    requires placed { KnowsPlaces S.content code.now.configurations state.old }
+    requires placed { KnowsIndices S.content code.now.configurations state.old }
     ensures cause { result ≡ unless (target_cause code.now instr
         (known_of S.content state.old)) }
     ensures kept { known_of S.content state.new ≡ known_of S.content state.old }
     ensures allowance { state.new.allowance ≡ state.old.allowance }
-    ensures placed { KnowsPlaces S.content code.now.configurations state.new }
+    ensures placed { KnowsIndices S.content code.now.configurations state.new }
 {
     match instr {
         Instr::Test { target, .. } => test_jump(code, target, state),
@@ -63,24 +63,24 @@ fn test_target<S: Store>(code: &Code, instr: Instr, state: &mut KnownState<S>) -
     }
 }
 
-/// Updates the configurations and the swap by an instruction, or returns the first cause why they refuse it.
+/// Updates the configurations and the swap for an instruction, or returns the first cause for refusing it.
 fn advance<S: Store>(plan: &Plan, instr: Instr, state: &mut KnownState<S>) -> Result<(), Cause>
     ensures cause { result ≡ unless (flow_cause plan.now instr (known_of S.content state.old)) }
-    ensures left { OnOk result (known_of S.content state.new ≡ known_with (moved plan.now instr
+    ensures left { OnOk result (known_of S.content state.new ≡ known_with (after_instr plan.now instr
         (flow_of (known_of S.content state.old))) state.old.counters state.old.allowance) }
     ensures allowance { state.new.allowance ≡ state.old.allowance }
-    ensures places { state.new.places ≡ state.old.places }
+    ensures indices { state.new.indices ≡ state.old.indices }
 {
     state.flow.apply(plan, instr)
 }
 
-/// Updates the counters that are set, and the allowance of the next instruction.
+/// Updates the counters that are set, and the allowance for the next instruction.
 fn account<S: Store>(plan: &Plan, instr: Instr, state: &mut KnownState<S>)
     requires { 1 ≤ state.old.allowance }
     ensures value { known_of S.content state.new ≡ known_with (flow_of
         (known_of S.content state.old)) (set_after instr state.old.counters)
         (left_over plan.now instr state.old.allowance) }
-    ensures places { state.new.places ≡ state.old.places }
+    ensures indices { state.new.indices ≡ state.old.indices }
 {
     match instr {
         Instr::Wait(_) => state.allowance = plan.budget,
@@ -105,26 +105,26 @@ fn account<S: Store>(plan: &Plan, instr: Instr, state: &mut KnownState<S>)
     }
 }
 
-/// Checks one instruction that has an allowance, and updates the known state.
+/// Checks one instruction that has an allowance, and updates the state.
 fn step<S: Store>(code: &Code, instr: &Instr, state: &mut KnownState<S>) -> Result<(), Cause>
     requires allowance { 1 ≤ state.old.allowance }
-    requires placed { KnowsPlaces S.content code.now.configurations state.old }
+    requires placed { KnowsIndices S.content code.now.configurations state.old }
     ensures cause { result ≡ unless (instr_cause code.now instr.now
         (known_of S.content state.old)) }
     ensures left { OnOk result (known_of S.content state.new ≡ leaves code.now.plan instr.now
         (known_of S.content state.old)) }
-    ensures placed { OnOk result (KnowsPlaces S.content code.now.configurations state.new) }
+    ensures placed { OnOk result (KnowsIndices S.content code.now.configurations state.new) }
 {
     let plan = code.plan();
     test_target(code, *instr, state)?;
     let before = state.flow.pending;
     advance(&plan, *instr, state)?;
-    note_places(*instr, before, state);
+    note_indices(*instr, before, state);
     account(&plan, *instr, state);
     Ok(())
 }
 
-/// The instruction here; `End` past the last one.
+/// The instruction at a pc; `End` past the last one.
 pub(crate) fn instr_at(code: &Code, pc: u16) -> Instr
     ensures { result ≡ instr_or_end (instr_at code.now pc) }
 {
@@ -134,7 +134,7 @@ pub(crate) fn instr_at(code: &Code, pc: u16) -> Instr
     }
 }
 
-/// Whether the instruction here is the last one, and continues to the one after it.
+/// Whether the instruction at a pc is the last one and continues past the end.
 fn falls_off(code: &Code, pc: u16) -> bool
     ensures { result ≡ (continues (instr_or_end (instr_at code.now pc)) &&
         (pc + 1 == length code.now.lines)) }
@@ -142,14 +142,14 @@ fn falls_off(code: &Code, pc: u16) -> bool
     continues(instr_at(code, pc)) && usize::from(pc) + 1 == code.lines().len()
 }
 
-/// Checks one instruction, allowance first, and updates the known state.
+/// Checks one instruction, starting with the allowance, and updates the state.
 pub(crate) fn judge<S: Store>(code: &Code, pc: u16, state: &mut KnownState<S>) -> Result<(), Cause>
-    requires { KnowsPlaces S.content code.now.configurations state.old }
+    requires { KnowsIndices S.content code.now.configurations state.old }
     ensures cause { result ≡ unless (known_cause code.now pc (instr_or_end (instr_at code.now pc))
         (known_of S.content state.old)) }
     ensures left { OnOk result (known_of S.content state.new ≡ leaves code.now.plan (instr_or_end
         (instr_at code.now pc)) (known_of S.content state.old)) }
-    ensures placed { OnOk result (KnowsPlaces S.content code.now.configurations state.new) }
+    ensures placed { OnOk result (KnowsIndices S.content code.now.configurations state.new) }
 {
     if state.allowance == 0 {
         return Err(Cause::Cost);

@@ -11,7 +11,7 @@ use plan_code::Code;
 use plan_flow::Cause;
 use std::marker::Model;
 
-/// A code that `verify` has accepted: it is typed. Contracts see it as the program that the code represents.
+/// A code that `verify` has accepted: it is typed. In contracts it is the program that the code represents.
 #[derive(Drop)]
 pub struct Verified {
     code: Code,
@@ -29,7 +29,7 @@ impl Model for Verified {
 }
 
 impl Verified {
-    /// The code that was handed in.
+    /// The code.
     pub fn code(&self) -> &Code
         ensures value { result.now ≡ self.now }
         ensures formed { IsProgram self.now }
@@ -39,27 +39,27 @@ impl Verified {
     }
 }
 
-/// A code that `verify` has refused, given back with the instruction and the cause.
+/// A code that `verify` has refused, returned with the instruction and the cause.
 #[derive(Drop)]
 pub struct Refused {
-    /// The code that was handed in.
+    /// The code.
     pub code: Code,
-    /// The instruction at which it is refused, counted from 0; or the pc of a label past the last one.
+    /// The index of the instruction at which it is refused, from 0; or the pc of a label past the last instruction.
     pub pc: u16,
     /// Why it is refused there.
     pub cause: Cause,
 }
 
-/// Whether a code is typed: then no run of it goes wrong, for any frames and contact changes. One pass over the code
-/// from its first instruction on, with the configurations in two stores of this type. It does not allocate.
+/// Checks that a code is typed: then no playback of it traps, for any frames and contact changes. It makes one pass
+/// over the code from its first instruction, with two configurations in stores of this type, and does not allocate.
 ///
-/// `Refused` returns the code, with the first instruction that has a cause and its first cause, in this order: where
-/// the first instruction has no label `Table`, where its label declares two different configurations, a pending swap or
-/// a counter `Mismatch`, where its cost is over the budget `Cost`, where its configuration is not sound `Config`, and
-/// where its pages take longer than the period `Round`; at another label `Mismatch` and `Cost`; without a label, after
-/// an instruction that does not continue, `Table`; `Cost` where no allowance is left; then the causes of the
-/// instruction itself; `FallsOff` where the last one continues; and `Table` at the first label past the last
-/// instruction.
+/// `Refused` returns the code, with the first instruction that has a cause and its first cause, in this order. First
+/// instruction: `Table`, where it has no label; `Mismatch`, where its label declares two different configurations, a
+/// pending swap or a counter; `Cost`, where the label's cost is over the budget; `Config`, where its configuration is
+/// not sound; `Round`, where its pages take longer than the period. Other instructions: `Mismatch` and `Cost` at a
+/// label; `Table`, without a label after an instruction that does not continue. All instructions: `Cost`, where no
+/// allowance is left; the causes of the instruction itself; `FallsOff`, where the last one continues. Last of all,
+/// `Table` at the first label past the last instruction.
 pub fn verify<S: Store>(code: Code) -> Result<Verified, Refused>
     ensures typed { IsOk result ↔ IsTyped code }
     ensures same { IfOk result (λ v. v ≡ code) }

@@ -1,22 +1,22 @@
-//! The pass over a code: what is known at each instruction, and the first that is refused.
+//! The pass over a code: what is known at each instruction, and the first one that is refused.
 
 ghost use Rattle.std.specs.Prelude.{◌≡◌, IfErr, OnOk, Ok, Err, Some, None, length};
 ghost use Rattle.plan_code.specs.Program.{IsProgram, instr_at, label_at};
-ghost use Rattle.plan_verifier.specs.Held.{known_of, KnowsPlaces};
+ghost use Rattle.plan_verifier.specs.Held.{known_of, KnowsIndices};
 ghost use Rattle.plan_verifier.specs.Typing.{leaves, continues};
-ghost use Rattle.plan_verifier.specs.Walking.{whole_cause, opening_known, place_of, entered, came_of, known_cause, past_end, walk, refusal_of, opening_cause, is_initial, unless, PassesInstr, instr_or_end};
+ghost use Rattle.plan_verifier.specs.Walking.{whole_cause, opening_known, known_at_pc, entered, known_if_reached, known_cause, past_end, walk, refusal_of, opening_cause, is_initial, unless, PassesInstr, instr_or_end};
 
 use crate::cause::Refusal;
-use crate::known::{KnownState, Places};
+use crate::known::{Indices, KnownState};
 use crate::labels::{label_at, refit, take, test_cost, test_entry};
 use crate::step::{instr_at, judge};
 use mux_config::Store;
 use plan_code::{Code, Counters, Label, Swap};
 use plan_flow::flow::{is_idle, is_same};
-use plan_flow::ways::continues;
+use plan_flow::successors::continues;
 use plan_flow::{Cause, Flow, test_opening};
 
-/// Whether a code can begin with this: one configuration, nothing pending and no counter set.
+/// Whether a code can start in this state: equal configurations, no pending swap and no counter set.
 fn is_initial<S: Store>(state: &KnownState<S>) -> bool
     ensures { result ≡ is_initial (known_of S.content state.now) }
 {
@@ -25,7 +25,7 @@ fn is_initial<S: Store>(state: &KnownState<S>) -> bool
         && is_same(&state.flow.current, &state.flow.next)
 }
 
-/// Whether a code can begin with what the first label declares. Refusals, in this order: `Mismatch`, `Cost`, `Config`
+/// Checks that a code can start in the state of its first label. Refusals, in this order: `Mismatch`, `Cost`, `Config`
 /// and `Round`.
 fn test_first<S: Store>(code: &Code, label: &Label, state: &KnownState<S>) -> Result<(), Cause>
     ensures { result ≡ unless (opening_cause code.now label.now (known_of S.content state.now)) }
@@ -37,14 +37,14 @@ fn test_first<S: Store>(code: &Code, label: &Label, state: &KnownState<S>) -> Re
     test_opening(&code.plan(), &state.flow.current)
 }
 
-/// What is known at the first instruction, or why the code is refused there.
+/// Sets up the state at the first instruction, or returns why the code is refused there.
 fn open<S: Store>(code: &Code, state: &mut KnownState<S>) -> Result<(), Cause>
-    requires { KnowsPlaces S.content code.now.configurations state.old }
+    requires { KnowsIndices S.content code.now.configurations state.old }
     ensures refused { IfErr result (λ cause. opening_known code.now (label_at code.now 0) ≡
         Err cause) }
     ensures known { OnOk result (opening_known code.now (label_at code.now 0) ≡ Ok
         (known_of S.content state.new)) }
-    ensures placed { OnOk result (KnowsPlaces S.content code.now.configurations state.new) }
+    ensures placed { OnOk result (KnowsIndices S.content code.now.configurations state.new) }
 {
     match label_at(code, 0) {
         None => Err(Cause::Table),
@@ -55,20 +55,20 @@ fn open<S: Store>(code: &Code, state: &mut KnownState<S>) -> Result<(), Cause>
     }
 }
 
-/// What is known at another instruction, where `comes` says whether the one before continues to it; or why
-/// the code is refused there.
+/// Updates the state at a later instruction, where `comes` says whether the preceding one continues to it; or returns
+/// why the code is refused there.
 fn enter<S: Store>(
     code: &Code,
     pc: u16,
     comes: bool,
     state: &mut KnownState<S>,
 ) -> Result<(), Cause>
-    requires { KnowsPlaces S.content code.now.configurations state.old }
-    ensures refused { IfErr result (λ cause. place_of code.now (label_at code.now pc)
-        (came_of comes (known_of S.content state.old)) ≡ Err cause) }
-    ensures known { OnOk result (place_of code.now (label_at code.now pc) (came_of comes
+    requires { KnowsIndices S.content code.now.configurations state.old }
+    ensures refused { IfErr result (λ cause. known_at_pc code.now (label_at code.now pc)
+        (known_if_reached comes (known_of S.content state.old)) ≡ Err cause) }
+    ensures known { OnOk result (known_at_pc code.now (label_at code.now pc) (known_if_reached comes
         (known_of S.content state.old)) ≡ Ok (known_of S.content state.new)) }
-    ensures placed { OnOk result (KnowsPlaces S.content code.now.configurations state.new) }
+    ensures placed { OnOk result (KnowsIndices S.content code.now.configurations state.new) }
 {
     match label_at(code, pc) {
         None => { if comes { Ok(()) } else { Err(Cause::Table) } }
@@ -86,7 +86,7 @@ fn enter<S: Store>(
     }
 }
 
-/// What is known at an instruction, the first or another.
+/// Updates the state at an instruction, the first or a later one.
 #[tactic(auto, using(crate::proofs::Stepping::entered_first, crate::proofs::Stepping::entered_later))]
 fn enter_at<S: Store>(
     code: &Code,
@@ -94,12 +94,12 @@ fn enter_at<S: Store>(
     comes: bool,
     state: &mut KnownState<S>,
 ) -> Result<(), Cause>
-    requires { KnowsPlaces S.content code.now.configurations state.old }
-    ensures refused { IfErr result (λ cause. entered code.now pc (came_of comes
+    requires { KnowsIndices S.content code.now.configurations state.old }
+    ensures refused { IfErr result (λ cause. entered code.now pc (known_if_reached comes
         (known_of S.content state.old)) ≡ Err cause) }
-    ensures known { OnOk result (entered code.now pc (came_of comes
+    ensures known { OnOk result (entered code.now pc (known_if_reached comes
         (known_of S.content state.old)) ≡ Ok (known_of S.content state.new)) }
-    ensures placed { OnOk result (KnowsPlaces S.content code.now.configurations state.new) }
+    ensures placed { OnOk result (KnowsIndices S.content code.now.configurations state.new) }
 {
     if pc == 0 {
         return open(code, state);
@@ -114,13 +114,13 @@ fn visit<S: Store>(
     comes: bool,
     state: &mut KnownState<S>,
 ) -> Result<(), Cause>
-    requires { KnowsPlaces S.content code.now.configurations state.old }
-    ensures refused { IfErr result (λ cause. whole_cause (entered code.now pc (came_of comes
+    requires { KnowsIndices S.content code.now.configurations state.old }
+    ensures refused { IfErr result (λ cause. whole_cause (entered code.now pc (known_if_reached comes
         (known_of S.content state.old))) (known_cause code.now pc (instr_or_end
         (instr_at code.now pc))) ≡ Some cause) }
     ensures passed { OnOk result (PassesInstr code.now pc (instr_or_end (instr_at code.now pc))
-        (came_of comes (known_of S.content state.old)) (known_of S.content state.new)) }
-    ensures placed { OnOk result (KnowsPlaces S.content code.now.configurations state.new) }
+        (known_if_reached comes (known_of S.content state.old)) (known_of S.content state.new)) }
+    ensures placed { OnOk result (KnowsIndices S.content code.now.configurations state.new) }
 {
     match enter_at(code, pc, comes, state) {
         Err(cause) => Err(cause),
@@ -128,7 +128,7 @@ fn visit<S: Store>(
     }
 }
 
-/// The first label at or past the end of the code, if there is one: it is refused.
+/// The refusal of the first label at or past the end of the code, if there is one.
 fn past_end(code: &Code) -> Option<Refusal>
     ensures { result ≡ past_end code.now }
 {
@@ -144,7 +144,7 @@ fn past_end(code: &Code) -> Option<Refusal>
     None
 }
 
-/// How many instructions there are, 1 to 4,096.
+/// The number of instructions, 1 to 4,096.
 fn count(code: &Code) -> u16
     ensures value { result ≡ length code.now.lines }
     ensures formed { IsProgram code.now }
@@ -166,7 +166,7 @@ pub(crate) fn refusal<S: Store>(code: &Code) -> Option<Refusal>
         },
         counters: Counters(0),
         allowance: 0,
-        places: Places {
+        indices: Indices {
             current: None,
             next: None,
         },

@@ -9,12 +9,12 @@ use Rattle.plan_code.specs.Program.{Program, IsProgram}
 use Rattle.plan_flow.specs.Rules.{pages_alone}
 use Rattle.script_front.specs.Tree.{Tree}
 use Rattle.script_meaning.specs.declared.flow.UnpricedLabel.{UnpricedLabel}
-use Rattle.script_meaning.specs.Scheme.{marks_of}
+use Rattle.script_meaning.specs.Scheme.{unpriced_labels}
 use Rattle.script_meaning.specs.Judged.{IsJudged}
 use Rattle.script_meaning.specs.Need.{IsWithinBudget}
-use Rattle.script_meaning.specs.Compiled.{plan_of, opening_of, beginning, body_of, places_of, lines_of_places, instrs_of, nested, AreFine, Tabled, AreLabelsOf, IsCodeOf, IsAccepted}
+use Rattle.script_meaning.specs.Compiled.{plan_of, opening_of, beginning, body_of, placed_instrs, lines_of_placed, instrs_of, nested, AreFine, Tabled, AreLabelsOf, IsCodeOf, IsAccepted}
 use Rattle.script_meaning.proofs.OneCode.{tabled_once}
-use Rattle.script_compiler.proofs.Laid.{length_lines}
+use Rattle.script_compiler.proofs.Emitted.{length_lines}
 
 pub labels_length : (table : List Configuration) (ms : List UnpricedLabel) (ls : List Label) → AreLabelsOf table ms ls → length ls ≡ length ms
 labels_length table [] ls h = ap length h
@@ -22,24 +22,24 @@ labels_length table (m ∷ ms) [] h = absurd h
 labels_length table (m ∷ ms) (l ∷ ls) h = omega (arith, labels_length table ms ls h.1)
 
 pub is_accepted : (s : Tree) (code : Program) → IsProgram code → IsCodeOf s code → AreFine s.items nothing → IsSound (opening_of s) → pages_alone (plan_of s) (opening_of s) ≤ s.header.period
-    → IsJudged (plan_of s) (body_of s) (beginning (opening_of s)) → nested (body_of s) ≤ 8 → IsWithinBudget s.header.budget (instrs_of (lines_of_places (places_of s))) → IsAccepted s
+    → IsJudged (plan_of s) (body_of s) (beginning (opening_of s)) → nested (body_of s) ≤ 8 → IsWithinBudget s.header.budget (instrs_of (lines_of_placed (placed_instrs s))) → IsAccepted s
 is_accepted s code formed is made sound period judged repeats within = record {
   made = made;
   sound = sound;
   within_period = period;
   judged = judged;
-  instructions = let n = ap length is.lines in let m = length_lines (places_of s) in omega (arith, n, m, formed.lines_to);
-  labels = let n = labels_length code.configurations (marks_of 0 (places_of s)) code.labels is.labels in omega (arith, n, formed.labels_to);
+  instructions = let n = ap length is.lines in let m = length_lines (placed_instrs s) in omega (arith, n, m, formed.lines_to);
+  labels = let n = labels_length code.configurations (unpriced_labels 0 (placed_instrs s)) code.labels is.labels in omega (arith, n, formed.labels_to);
   configurations = λ table h.
-      let e = ap length (tabled_once [] (marks_of 0 (places_of s)) code.configurations table is.table h) in omega (arith, e, formed.configurations_to);
+      let e = ap length (tabled_once [] (unpriced_labels 0 (placed_instrs s)) code.configurations table is.table h) in omega (arith, e, formed.configurations_to);
   repeats = repeats;
   within = within;
 }
 
--- parts that were made of what was laid down are the code of a script
-pub is_code_of : (s : Tree) (plan : Plan) (configs : List Configuration) (labels : List Label) (lines : List Line) (marks : List UnpricedLabel) → plan ≡ plan_of s → lines ≡ lines_of_places (places_of s) → marks ≡ marks_of 0 (places_of s) → Tabled [] marks configs
-    → AreLabelsOf configs marks labels → IsCodeOf s (record { plan = plan; configurations = configs; labels = labels; lines = lines })
-is_code_of s plan configs labels lines marks plan_is lines_are marks_are tabled labelled = record {
+-- the parts that the compiler made form the code of the script
+pub is_code_of : (s : Tree) (plan : Plan) (configs : List Configuration) (labels : List Label) (lines : List Line) (unpriced : List UnpricedLabel) → plan ≡ plan_of s → lines ≡ lines_of_placed (placed_instrs s) → unpriced ≡ unpriced_labels 0 (placed_instrs s) → Tabled [] unpriced configs
+    → AreLabelsOf configs unpriced labels → IsCodeOf s (record { plan = plan; configurations = configs; labels = labels; lines = lines })
+is_code_of s plan configs labels lines unpriced plan_is lines_are marks_are tabled labelled = record {
   plan = plan_is;
   lines = lines_are;
   table = subst (λ (ms : List UnpricedLabel). Tabled [] ms configs) marks_are tabled;

@@ -1,4 +1,4 @@
--- What a statement is as a block, where it is one of a kind.
+-- What a statement of each kind is as a block.
 use Rattle.std.proofs.Common.{◌≡◌, ℕ, ap, ◌∙◌, sym, List, Vec, Global}
 use Rattle.script_front.specs.declared.tree.Act.{Act}
 use Rattle.script_front.specs.declared.tree.Statement.{Statement}

@@ -1,9 +1,9 @@
--- What is known of defined blocks, one after another.
+-- The facts of defined blocks, one by one.
 use Rattle.std.proofs.Common.{◌≡◌, ℕ, zero, suc, ◌+◌, ◌<◌, Bool, List, [], ◌∷◌, ◌++◌, length, map, take, get_or, Vec, Global, refl, sym, ap, ◌∙◌, arith}
 use Rattle.script_front.specs.declared.tree.Statement.{Statement}
 use Rattle.script_front.specs.Block.{Block, block_of, table_of}
 use Rattle.script_meaning.specs.Scheme.{falls_out}
-use Rattle.script_compiler.specs.Laying.{tables, lays_nothing, facts_of}
+use Rattle.script_compiler.specs.Emission.{tables, has_no_instr, facts_of}
 use Rattle.script_compiler.specs.declared.context.BlockFacts.{BlockFacts}
 
 table_more : (table : List Block) (bs : List (List Statement)) (b : List Statement) → table_of table (bs ++ b ∷ []) ≡ table_of table bs ++ block_of (table_of table bs) b ∷ []
@@ -22,12 +22,12 @@ map_more (x ∷ xs) b = ap (λ ys. facts_of x ∷ ys) (map_more xs b)
 abbrev pub told : Bool → Bool → BlockFacts
 told f g = record { reaches_end = f; emits_nothing = g }
 
-both_facts : (b : Block) (f g : Bool) → f ≡ falls_out b → g ≡ lays_nothing b → told f g ≡ facts_of b
+both_facts : (b : Block) (f g : Bool) → f ≡ falls_out b → g ≡ has_no_instr b → told f g ≡ facts_of b
 both_facts b f g e h = ap (λ x. told x g) e ∙ ap (λ x. told (falls_out b) x) h
 
 pub facts_more :
     (bs : List (Vec Statement Global)) (k : ℕ) (b : Vec Statement Global) (facts : List BlockFacts) (f g : Bool) → b ≡ get_or bs k b → k < length bs → facts ≡ map facts_of (tables (take k bs)) →
-    f ≡ falls_out (block_of (tables (take k bs)) b.items) → g ≡ lays_nothing (block_of (tables (take k bs)) b.items) →
+    f ≡ falls_out (block_of (tables (take k bs)) b.items) → g ≡ has_no_instr (block_of (tables (take k bs)) b.items) →
     facts ++ told f g ∷ [] ≡ map facts_of (tables (take (k + 1) bs))
 facts_more bs k b facts f g is lt e h h2 =
     let one : suc k ≡ k + 1 = omega arith in

@@ -4,9 +4,9 @@ use Rattle.std.specs.Prelude.{slice_get, slice_set}
 use Rattle.std.proofs.lemmas.Option.{slice_get_within}
 use Rattle.plan_code.specs.declared.instr.Instr.{Instr}
 use Rattle.plan_code.specs.declared.instr.Line.{Line}
-use Rattle.script_meaning.specs.Need.{GoesTo}
+use Rattle.script_meaning.specs.Need.{StepsTo}
 use Rattle.script_meaning.specs.Compiled.{instrs_of}
-use Rattle.script_compiler.specs.Costs.{Leads, ComesBack}
+use Rattle.script_compiler.specs.Costs.{CanReach, CanRevisit}
 use Rattle.script_compiler.specs.Reaching.{IsAt, IsIn, trues, GrowsBy, IsExpanded, Searched}
 
 -- ---- lists
@@ -75,7 +75,7 @@ none_at (true ∷ ps) k h e = absurd (omega (arith, h))
 none_at (false ∷ ps) zero h e = cc
 none_at (false ∷ ps) (suc k) h e = none_at ps k (omega (arith, h)) e
 
--- ---- one pc more, or none
+-- ---- adding one pc, or none
 
 pub grows_none : (ps : List Bool) (ws : List ℕ) (wanted : ℕ → Type 0) → ((k : ℕ) → wanted k → k < length ps → IsAt ps k) → GrowsBy ps ps ws ws wanted
 grows_none ps ws wanted all = record {
@@ -147,12 +147,12 @@ grows_both ps qs rs ws vs us A B C a b either g h = record {
 
 -- ---- paths
 
-leads_more : (code : List Instr) (n a b c : ℕ) (i : Instr) → Leads code n a b → slice_get code b ≡ Some i → GoesTo i b c → Leads code (suc n) a c
-leads_more code zero a b c i h e g = (i, c, subst (λ k. slice_get code k ≡ Some i) (sym h) e, subst (λ k. GoesTo i k c) (sym h) g, refl)
+leads_more : (code : List Instr) (n a b c : ℕ) (i : Instr) → CanReach code n a b → slice_get code b ≡ Some i → StepsTo i b c → CanReach code (suc n) a c
+leads_more code zero a b c i h e g = (i, c, subst (λ k. slice_get code k ≡ Some i) (sym h) e, subst (λ k. StepsTo i k c) (sym h) g, refl)
 leads_more code (suc n) a b c i h e g = (h.0, h.1, h.2, h.3, leads_more code n h.1 b c i h.4 e g)
 
--- what is reached is closed, so every path stays in it
-stays_reached : (code : List Instr) (places : List Bool) (pc : ℕ) → pc < length code → ((k : ℕ) → IsAt places k → IsExpanded code places k) → (m k : ℕ) → IsExpanded code places k → Leads code (suc m) k pc → IsAt places pc
+-- the reached pcs are closed under steps, so every path stays in them
+stays_reached : (code : List Instr) (places : List Bool) (pc : ℕ) → pc < length code → ((k : ℕ) → IsAt places k → IsExpanded code places k) → (m k : ℕ) → IsExpanded code places k → CanReach code (suc m) k pc → IsAt places pc
 stays_reached code places pc lt closed zero k leads h =
     let within : h.1 < length code = subst (λ n. n < length code) (sym h.4) lt in
     subst (λ n. IsAt places n) h.4 (leads h.0 h.1 h.2 h.3 within)
@@ -165,29 +165,29 @@ stays_reached code places pc lt closed (suc m) k leads h =
 
 module _ (code : List Instr) (pc : ℕ) where
   -- the pcs that follow the first one
-  pub search_begins : (ps qs : List Bool) (vs : List ℕ) (i : Instr) → length ps ≡ length code → trues ps ≡ 0 → slice_get code pc ≡ Some i → GrowsBy ps qs [] vs (GoesTo i pc) → Searched code pc 0 qs vs
+  pub search_begins : (ps qs : List Bool) (vs : List ℕ) (i : Instr) → length ps ≡ length code → trues ps ≡ 0 → slice_get code pc ≡ Some i → GrowsBy ps qs [] vs (StepsTo i pc) → Searched code pc 0 qs vs
   search_begins ps qs vs i long none e g = record {
     long = g.grows.long ∙ long;
     sound = λ k h. elim (g.grows.only k h) [ inl a ↦ absurd (none_at ps k none a) | inr goes ↦ (0, (i, k, e, goes, refl)) ];
     start = λ j to f goes lt. (
         let same : i ≡ j = (let x : Some i ≡ Some j = sym e ∙ f in cc) in
-        g.all to (subst (λ (y : Instr). GoesTo y pc to) (sym same) goes) (omega (arith, lt, long)));
+        g.all to (subst (λ (y : Instr). StepsTo y pc to) (sym same) goes) (omega (arith, lt, long)));
     closed = λ k h. elim (g.grows.fresh k h) [ inl a ↦ absurd (none_at ps k none a) | inr waits ↦ inl waits ];
     waits = λ k h. elim (g.grows.waits k h) [ inl a ↦ absurd a | inr at ↦ at ];
     count = (let x = g.grows.count in omega (arith, x, none));
   }
 
-  step_sound : (n : ℕ) (ps qs : List Bool) (old ws vs : List ℕ) (place : ℕ) (o : Option Instr) → slice_get code place ≡ o → (wanted : ℕ → Type 0) → ((k : ℕ) → wanted k → (i : Instr) × (slice_get code place ≡ Some i) × GoesTo i place k) → ((i : Instr) (k : ℕ) → slice_get code place ≡ Some i → GoesTo i place k → wanted k)
+  step_sound : (n : ℕ) (ps qs : List Bool) (old ws vs : List ℕ) (place : ℕ) (o : Option Instr) → slice_get code place ≡ o → (wanted : ℕ → Type 0) → ((k : ℕ) → wanted k → (i : Instr) × (slice_get code place ≡ Some i) × StepsTo i place k) → ((i : Instr) (k : ℕ) → slice_get code place ≡ Some i → StepsTo i place k → wanted k)
       → old ≡ ws ++ place ∷ [] → Searched code pc n ps old → GrowsBy ps qs ws vs wanted → Searched code pc (n + 1) qs vs
   step_sound n ps qs old ws vs place o at wanted goes all e s g =
-      let here : IsAt ps place = s.waits place (subst (λ (l : List ℕ). IsIn place l) (sym e) (in_last place ws)) in
+      let point_here : IsAt ps place = s.waits place (subst (λ (l : List ℕ). IsIn place l) (sym e) (in_last place ws)) in
       let leads : IsExpanded code qs place = λ i to f x lt. g.all to (all i to f x) (let l = s.long in omega (arith, lt, l)) in
       record {
         long = g.grows.long ∙ s.long;
         sound = λ k h. elim (g.grows.only k h) [
           | inl a ↦ s.sound k a
           | inr w ↦
-              let before = s.sound place here in
+              let before = s.sound place point_here in
               let last = goes k w in
               (suc before.0, leads_more code (suc before.0) pc place k last.0 before.1 last.1 last.2)
         ];
@@ -209,23 +209,23 @@ module _ (code : List Instr) (pc : ℕ) where
         count = (let x = g.grows.count in let y = s.count in let z = ap length e ∙ length-append ws (place ∷ []) in omega (arith, x, y, z));
       }
 
-  -- at the end it has found whether the machine comes back
-  pub search_sound : (n : ℕ) (places : List Bool) (waiting : List ℕ) → Searched code pc n places waiting → IsAt places pc → ComesBack code pc
+  -- if the first pc is found, the machine can come back to it; and once none waits, conversely
+  pub search_sound : (n : ℕ) (places : List Bool) (waiting : List ℕ) → Searched code pc n places waiting → IsAt places pc → CanRevisit code pc
   search_sound n places waiting s h = s.sound pc h
 
-  pub search_complete : (n : ℕ) (places : List Bool) (waiting : List ℕ) → pc < length code → waiting ≡ [] → Searched code pc n places waiting → ComesBack code pc → IsAt places pc
+  pub search_complete : (n : ℕ) (places : List Bool) (waiting : List ℕ) → pc < length code → waiting ≡ [] → Searched code pc n places waiting → CanRevisit code pc → IsAt places pc
   search_complete n places waiting lt none s back =
       stays_reached code places pc lt (λ k h. elim (s.closed k h) [ inl waits ↦ absurd (subst (λ (l : List ℕ). IsIn k l) none waits) | inr leads ↦ leads ]) back.0 pc s.start back.1
 
-  -- no more pcs can be looked at than there are
+  -- at most as many pcs are expanded as there are
   pub none_waits : (n : ℕ) (places : List Bool) (waiting : List ℕ) → length code ≤ n → Searched code pc n places waiting → waiting ≡ []
   none_waits n places [] le s = refl
   none_waits n places (w ∷ ws) le s = (let c = s.count in let m = trues_most places in let l = s.long in absurd (omega (arith, c, m, l, le)))
 
--- a pc that is looked at
-pub step_by : (code : List Instr) (pc n : ℕ) (ps qs : List Bool) (old ws vs : List ℕ) (place : ℕ) (i : Instr) → slice_get code place ≡ Some i → old ≡ ws ++ place ∷ [] → Searched code pc n ps old → GrowsBy ps qs ws vs (GoesTo i place) → Searched code pc (n + 1) qs vs
+-- one pc is expanded
+pub step_by : (code : List Instr) (pc n : ℕ) (ps qs : List Bool) (old ws vs : List ℕ) (place : ℕ) (i : Instr) → slice_get code place ≡ Some i → old ≡ ws ++ place ∷ [] → Searched code pc n ps old → GrowsBy ps qs ws vs (StepsTo i place) → Searched code pc (n + 1) qs vs
 step_by code pc n ps qs old ws vs place i at e s g =
-    step_sound code pc n ps qs old ws vs place (Some i) at (GoesTo i place) (λ k x. (i, at, x)) (λ j k f x. let same : i ≡ j = (let y : Some i ≡ Some j = sym at ∙ f in cc) in subst (λ (z : Instr). GoesTo z place k) (sym same) x) e s g
+    step_sound code pc n ps qs old ws vs place (Some i) at (StepsTo i place) (λ k x. (i, at, x)) (λ j k f x. let same : i ≡ j = (let y : Some i ≡ Some j = sym at ∙ f in cc) in subst (λ (z : Instr). StepsTo z place k) (sym same) x) e s g
 
 pub step_past : (code : List Instr) (pc n : ℕ) (ps : List Bool) (old ws : List ℕ) (place : ℕ) → slice_get code place ≡ None → old ≡ ws ++ place ∷ [] → Searched code pc n ps old → Searched code pc (n + 1) ps ws
 step_past code pc n ps old ws place at e s =

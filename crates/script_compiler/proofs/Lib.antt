@@ -2,14 +2,14 @@ mod Paths
 mod Trees
 mod Weight
 mod Arms
-mod Leading
-mod Laid
+mod Continuing
+mod Emitted
 mod Putting
 mod Blocks
 mod Steps
 mod Tabling
 mod Printing
-mod Marking
+mod Labelling
 mod Whole
 mod Accepting
 mod Refusing

@@ -1,4 +1,4 @@
--- What the parts of a code are made of.
+-- The parts from which the compiler makes a code.
 use Rattle.std.proofs.Common.{◌≡◌, ℕ, ◌+◌, ◌≤◌, List, [], refl, sym, ap, ◌∙◌, subst, arith}
 use Rattle.std.specs.Prelude.{slice_index}
 use Rattle.mux_config.specs.Configuration.{Configuration, nothing}
@@ -10,10 +10,10 @@ use Rattle.plan_code.specs.declared.plan.Plan.{Plan}
 use Rattle.plan_flow.specs.Rules.{pages_alone}
 use Rattle.script_front.specs.Tree.{Tree}
 use Rattle.script_meaning.specs.declared.flow.UnpricedLabel.{UnpricedLabel}
-use Rattle.script_meaning.specs.Scheme.{all_places, marks_of}
+use Rattle.script_meaning.specs.Scheme.{all_places, unpriced_labels}
 use Rattle.script_meaning.specs.Judged.{IsJudged}
 use Rattle.script_meaning.specs.Need.{IsWithinBudget}
-use Rattle.script_meaning.specs.Compiled.{plan_of, body_of, beginning, opening_of, places_of, lines_of_places, instrs_of, nested, AreFine, Tabled, AreLabelsOf, IsCodeOf, CostsItsNeeds, IsAccepted}
+use Rattle.script_meaning.specs.Compiled.{plan_of, body_of, beginning, opening_of, placed_instrs, lines_of_placed, instrs_of, nested, AreFine, Tabled, AreLabelsOf, IsCodeOf, CostsItsNeeds, IsAccepted}
 use Rattle.script_compiler.specs.Space.{Keeps}
 use Rattle.script_compiler.specs.Limits.{IsWithin}
 use Rattle.script_compiler.specs.declared.fault.CodeLimit.{CodeLimit}
@@ -23,40 +23,40 @@ use Rattle.script_compiler.proofs.Accepting.{is_accepted, is_code_of}
 use Rattle.script_compiler.proofs.Paths.{within_from}
 use Rattle.script_compiler.proofs.Tabling.{costs_needs}
 
--- what is laid down of a script, the needs of its places within the budget, and the labels with their table
-pub record Parts (s : Tree) (plan : Plan) (config : Configuration) (lines : List Line) (marks : List UnpricedLabel) (needs : List ℕ) (configs : List Configuration) (labels : List Label) : Type 0 where
+-- the lines of a script, their needs within the budget, and the labels with their table
+pub record Parts (s : Tree) (plan : Plan) (config : Configuration) (lines : List Line) (unpriced : List UnpricedLabel) (needs : List ℕ) (configs : List Configuration) (labels : List Label) : Type 0 where
   pub plan_is : plan ≡ plan_of s
   pub config_is : config ≡ opening_of s
-  pub laid : lines ≡ lines_of_places (all_places plan s.last_line (body_of s) (beginning config))
-  pub marked : marks ≡ marks_of 0 (all_places plan s.last_line (body_of s) (beginning config))
+  pub emitted : lines ≡ lines_of_placed (all_places plan s.last_line (body_of s) (beginning config))
+  pub marked : unpriced ≡ unpriced_labels 0 (all_places plan s.last_line (body_of s) (beginning config))
   pub each : (pc : ℕ) → slice_index needs pc ≡ longest (instrs_of lines) (plan.budget + 1) pc
   pub within : (pc : ℕ) → slice_index needs pc ≤ plan.budget
-  pub tabled : Tabled [] marks configs
-  pub labelled : AreLabelsOf configs marks labels
+  pub tabled : Tabled [] unpriced configs
+  pub labelled : AreLabelsOf configs unpriced labels
   pub priced : Priced needs labels
 
 abbrev pub code_from : Plan → List Configuration → List Label → List Line → Program
 code_from plan configs labels lines = record { plan = plan; configurations = configs; labels = labels; lines = lines }
 
-module _ (s : Tree) (plan : Plan) (config : Configuration) (lines : List Line) (marks : List UnpricedLabel) (needs : List ℕ) (configs : List Configuration) (labels : List Label) (p : Parts s plan config lines marks needs configs labels) where
-  pub places_are : all_places plan s.last_line (body_of s) (beginning config) ≡ places_of s
+module _ (s : Tree) (plan : Plan) (config : Configuration) (lines : List Line) (unpriced : List UnpricedLabel) (needs : List ℕ) (configs : List Configuration) (labels : List Label) (p : Parts s plan config lines unpriced needs configs labels) where
+  pub places_are : all_places plan s.last_line (body_of s) (beginning config) ≡ placed_instrs s
   places_are = ap (λ (q : Plan). all_places q s.last_line (body_of s) (beginning config)) p.plan_is ∙ ap (λ x. all_places (plan_of s) s.last_line (body_of s) (beginning x)) p.config_is
 
-  pub lines_are : lines ≡ lines_of_places (places_of s)
-  lines_are = p.laid ∙ ap lines_of_places places_are
+  pub lines_are : lines ≡ lines_of_placed (placed_instrs s)
+  lines_are = p.emitted ∙ ap lines_of_placed places_are
 
   pub parts_code : IsCodeOf s (code_from plan configs labels lines)
-  parts_code = is_code_of s plan configs labels lines marks p.plan_is lines_are (p.marked ∙ ap (λ ps. marks_of 0 ps) places_are) p.tabled p.labelled
+  parts_code = is_code_of s plan configs labels lines unpriced p.plan_is lines_are (p.marked ∙ ap (λ ps. unpriced_labels 0 ps) places_are) p.tabled p.labelled
 
   pub parts_cost : CostsItsNeeds (code_from plan configs labels lines)
   parts_cost = costs_needs (code_from plan configs labels lines) lines labels needs plan.budget refl refl p.each p.within p.priced
 
-  pub parts_within : IsWithinBudget s.header.budget (instrs_of (lines_of_places (places_of s)))
+  pub parts_within : IsWithinBudget s.header.budget (instrs_of (lines_of_placed (placed_instrs s)))
   parts_within =
       let all : IsWithinBudget plan.budget (instrs_of lines) = within_from (instrs_of lines) plan.budget (λ pc. let h = p.within pc in let e = p.each pc in omega (arith, h, e)) in
-      subst (λ b. IsWithinBudget b (instrs_of (lines_of_places (places_of s)))) (ap (λ (q : Plan). q.budget) p.plan_is) (subst (λ (ls : List Line). IsWithinBudget plan.budget (instrs_of ls)) lines_are all)
+      subst (λ b. IsWithinBudget b (instrs_of (lines_of_placed (placed_instrs s)))) (ap (λ (q : Plan). q.budget) p.plan_is) (subst (λ (ls : List Line). IsWithinBudget plan.budget (instrs_of ls)) lines_are all)
 
-  -- where they are a code, the script is accepted
+  -- if they form a code, the script is accepted
   pub parts_accepted :
       IsProgram (code_from plan configs labels lines) → AreFine s.items nothing → IsSound config → pages_alone plan config ≤ plan.period → IsJudged plan (body_of s) (beginning config) → nested (body_of s) ≤ 8 → IsAccepted s
   parts_accepted formed fine sound period judged deep =
@@ -65,7 +65,7 @@ module _ (s : Tree) (plan : Plan) (config : Configuration) (lines : List Line) (
       (subst (λ (x : Configuration). IsJudged (plan_of s) (body_of s) (beginning x)) p.config_is (subst (λ (q : Plan). IsJudged q (body_of s) (beginning config)) p.plan_is judged)) deep parts_within
 
 module _ (s : Tree) (plan : Plan) (config : Configuration) (plan_is : plan ≡ plan_of s) (config_is : config ≡ opening_of s) where
-  same_places : places_of s ≡ all_places plan s.last_line (body_of s) (beginning config)
+  same_places : placed_instrs s ≡ all_places plan s.last_line (body_of s) (beginning config)
   same_places = ap (λ (q : Plan). all_places q s.last_line (body_of s) (beginning (opening_of s))) (sym plan_is) ∙ ap (λ x. all_places plan s.last_line (body_of s) (beginning x)) (sym config_is)
 
   pub laid_few : (k : CodeLimit) → IsWithin k s → Keeps k (nested (body_of s)) (all_places plan s.last_line (body_of s) (beginning config))

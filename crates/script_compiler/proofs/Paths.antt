@@ -1,4 +1,4 @@
--- The longest path of at most this many instructions is a path, and no path within that number is longer.
+-- `longest` is the length of a path of at most `n` instructions, and no such path is longer.
 use Rattle.std.proofs.Common.{◌≡◌, ℕ, zero, suc, ◌+◌, ◌-◌, ◌<◌, ◌≤◌, Bool, true, false, if◌then◌else◌, max, List, [], ◌∷◌, ◌++◌, get_or, length, Option, Some, None, IsSome, refl, sym, ap, ◌∙◌, subst, arith, rules, inl, inr}
 use Rattle.std.specs.Prelude.{slice_get}
 use Rattle.std.proofs.lemmas.Bool.{cases_lt}
@@ -6,14 +6,14 @@ use Rattle.std.proofs.lemmas.Option.{slice_get_past}
 use Rattle.std.proofs.lemmas.List.{get_or_past, get_or_push, get_or_append_left}
 use Rattle.plan_code.specs.declared.instr.Instr.{Instr}
 use Rattle.plan_flow.specs.Rules.{continues, target_of, suspends}
-use Rattle.script_meaning.specs.Need.{GoesTo, HasPath, IsWithinBudget, IsNeed}
+use Rattle.script_meaning.specs.Need.{StepsTo, HasPath, IsWithinBudget, IsNeed}
 use Rattle.plan_code.specs.declared.instr.Line.{Line}
 use Rattle.script_meaning.specs.Compiled.{instrs_of}
 use Rattle.script_compiler.specs.Longest.{need_to, need_at, longest}
 
 module _ (code : List Instr) where
   -- one instruction before a path
-  extend : (i : Instr) (to m pc : ℕ) → slice_get code pc ≡ Some i → GoesTo i pc to → HasPath code to m → HasPath code pc (m + 1)
+  extend : (i : Instr) (to m pc : ℕ) → slice_get code pc ≡ Some i → StepsTo i pc to → HasPath code to m → HasPath code pc (m + 1)
   extend i to zero pc e g h = subst (λ (o : Option Instr). IsSome o) (sym e) (search rules)
   extend i to (suc m) pc e g h = let f : suc m + 1 ≡ suc (suc m) = omega arith in subst (λ n. HasPath code pc n) (sym f) (i, to, e, g, h)
 
@@ -56,7 +56,7 @@ module _ (code : List Instr) where
   some_at_least None pc further h = absurd (search (rules, h))
   some_at_least (Some i) pc further h = at_least_one i pc further (suspends i) refl
 
-  goes_least : (i : Instr) (pc to : ℕ) (further : ℕ → ℕ) → GoesTo i pc to → further to + 1 ≤ need_at (Some i) pc further
+  goes_least : (i : Instr) (pc to : ℕ) (further : ℕ → ℕ) → StepsTo i pc to → further to + 1 ≤ need_at (Some i) pc further
   goes_least i pc to further g =
       let whole : need_at (Some i) pc further ≡ 1 + max (if continues i then further (pc + 1) else 0) (need_to further (target_of i)) =
       ap (λ b. if b then 1 else 1 + max (if continues i then further (pc + 1) else 0) (need_to further (target_of i))) g.0 in
@@ -78,7 +78,7 @@ module _ (code : List Instr) where
       let whole : suc (suc m) ≤ need_at (slice_get code pc) pc (λ to. longest code n to) = omega (arith, ih, least, at) in
       whole
 
-  -- ---- where every path is within the budget
+  -- ---- if every path is within the budget
 
   pub one_least : (budget pc : ℕ) (i : Instr) → slice_get code pc ≡ Some i → 1 ≤ longest code (budget + 1) pc
   one_least budget pc i e = longest_most (budget + 1) 1 pc (one i pc e) (omega arith)
@@ -86,7 +86,7 @@ module _ (code : List Instr) where
   pub need_most : (budget pc : ℕ) → IsWithinBudget budget code → longest code (budget + 1) pc ≤ budget
   need_most budget pc w = w pc _ (has_longest (budget + 1) pc)
 
-  pub need_onward : (budget pc to : ℕ) (i : Instr) → IsWithinBudget budget code → slice_get code pc ≡ Some i → GoesTo i pc to → longest code (budget + 1) to + 1 ≤ longest code (budget + 1) pc
+  pub need_onward : (budget pc to : ℕ) (i : Instr) → IsWithinBudget budget code → slice_get code pc ≡ Some i → StepsTo i pc to → longest code (budget + 1) to + 1 ≤ longest code (budget + 1) pc
   need_onward budget pc to i w e g =
       let path = extend i to (longest code (budget + 1) to) pc e g (has_longest (budget + 1) to) in
       let most = w pc _ path in
@@ -107,14 +107,14 @@ module _ (code : List Instr) where
   shorter (suc zero) (suc (suc n)) pc le h = one h.0 pc h.2
   shorter (suc (suc m)) (suc (suc n)) pc le h = (h.0, h.1, h.2, h.3, shorter (suc m) (suc n) h.1 (omega arith) h.4)
 
-  -- and where what is computed is within the budget, so is every path
+  -- and if what is computed is within the budget, so is every path
   pub within_from : (budget : ℕ) → ((pc : ℕ) → longest code (budget + 1) pc ≤ budget) → IsWithinBudget budget code
   within_from budget h pc n p = elim (cases_lt budget n) [
     | inl lt ↦ let most = longest_most (budget + 1) (budget + 1) pc (shorter (budget + 1) n pc (omega arith) p) (omega arith) in absurd (omega (arith, most, h pc))
     | inr le ↦ le
   ]
 
--- ---- round by round
+-- ---- iteration by iteration
 
 need_least_from : (i : Instr) (pc n : ℕ) (further : ℕ → ℕ) → ((to : ℕ) → further to ≤ n) → (b : Bool) → suspends i ≡ b → (if b then 1 else 1 + max (if continues i then further (pc + 1) else 0) (need_to further (target_of i))) ≤ n + 1
 need_least_from i pc n further h true e = omega arith
@@ -153,7 +153,7 @@ next_round code further next n h k pc =
     let e : suc n ≡ n + 1 = omega arith in
     k pc ∙ need_same (slice_get code pc) pc (λ to. get_or further to 0) (λ to. longest code n to) h ∙ ap (λ m. longest code m pc) e
 
--- once a round changes nothing, no round does
+-- once an iteration changes nothing, later ones do not either
 pub longest_stays : (code : List Instr) (n k : ℕ) → ((pc : ℕ) → longest code (n + 1) pc ≡ longest code n pc) → (pc : ℕ) → longest code (k + n) pc ≡ longest code n pc
 longest_stays code n zero same pc = let e : 0 + n ≡ n = omega arith in ap (λ m. longest code m pc) e
 longest_stays code n (suc k) same pc =
@@ -178,12 +178,12 @@ instr_at [] k d is lt = absurd (omega (arith, lt))
 instr_at (l ∷ lines) zero d is lt = ap (λ (x : Line). Some x.instr) (sym is)
 instr_at (l ∷ lines) (suc k) d is lt = instr_at lines k d is (omega (arith, lt))
 
--- one place more of a round
+-- one more pc of an iteration
 pub round_each : (lines : List Line) (further : ℕ → ℕ) (next more : List ℕ) (pc need : ℕ) (line : Line) → line ≡ get_or lines pc line → pc < length lines → more ≡ next ++ need ∷ [] → length next ≡ pc → need ≡ need_at (Some line.instr) pc further
     → ((k : ℕ) → k < pc → get_or next k 0 ≡ need_at (slice_get (instrs_of lines) k) k further) → (k : ℕ) → k < pc + 1 → get_or more k 0 ≡ need_at (slice_get (instrs_of lines) k) k further
 round_each lines further next more pc need line is lt e long needs each k below = elim (cases_lt k pc) [
   | inl less ↦ ap (λ xs. get_or xs k 0) e ∙ get_or_append_left next (need ∷ []) 0 k (omega (arith, less, long)) ∙ each k less
   | inr ge ↦
-      let here : pc ≡ k = omega (arith, ge, below) in
-      ap (λ xs. get_or xs k 0) e ∙ get_or_push next need 0 k (long ∙ here) ∙ needs ∙ ap (λ o. need_at o pc further) (sym (instr_at lines pc line is lt)) ∙ ap (λ n. need_at (slice_get (instrs_of lines) n) n further) here
+      let point_here : pc ≡ k = omega (arith, ge, below) in
+      ap (λ xs. get_or xs k 0) e ∙ get_or_push next need 0 k (long ∙ point_here) ∙ needs ∙ ap (λ o. need_at o pc further) (sym (instr_at lines pc line is lt)) ∙ ap (λ n. need_at (slice_get (instrs_of lines) n) n further) point_here
 ]

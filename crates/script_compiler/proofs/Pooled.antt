@@ -7,10 +7,10 @@ use Rattle.script_compiler.specs.Fingerprint.{print_of}
 use Rattle.plan_flow.specs.Flows.{Flow}
 use Rattle.script_meaning.specs.declared.flow.ProgramPoint.{ProgramPoint}
 use Rattle.script_compiler.specs.declared.numbers.Numbers.{Numbers}
-use Rattle.script_compiler.specs.declared.short.ShortSpot.{ShortSpot}
-use Rattle.script_compiler.specs.Marked.{configuration_at}
-use Rattle.script_compiler.specs.Pool.{IsDistinct, Extends, IsNumbered, AreNumbered, AreBelow, IsInPool, AreInPool, spot_in}
-use Rattle.script_compiler.proofs.Marking.{at_within, at_some, at_more}
+use Rattle.script_compiler.specs.declared.short.IndexedPoint.{IndexedPoint}
+use Rattle.script_compiler.specs.Unpriced.{configuration_at}
+use Rattle.script_compiler.specs.Pool.{IsDistinct, Extends, IsNumbered, AreNumbered, AreBelow, IsInPool, AreInPool, point_in}
+use Rattle.script_compiler.proofs.Labelling.{at_within, at_some, at_more}
 
 -- ---- each configuration once
 
@@ -58,7 +58,7 @@ numbered_in xs ys (Some k) c a h = stays_in xs ys k c a h
 pub both_numbered_in : (xs ys : List Configuration) (n : Numbers) (t : Flow) → Extends xs ys → AreNumbered xs n t → AreNumbered ys n t
 both_numbered_in xs ys n t a h = (numbered_in xs ys n.current t.current a h.0, numbered_in xs ys n.next t.next a h.1)
 
--- ---- a table whose configurations are in it
+-- ---- a table of configurations in the pool
 
 pub table_in : (xs ys : List Configuration) (ks : List ℕ) → Extends xs ys → AreBelow (length xs) ks → map (configuration_at ys) ks ≡ map (configuration_at xs) ks
 table_in xs ys [] a h = refl
@@ -83,7 +83,7 @@ table_at xs [] i k e = cc
 table_at xs (j ∷ ks) zero k e = (let same : j ≡ k = cc in ap (λ m. Some (configuration_at xs m)) same)
 table_at xs (j ∷ ks) (suc i) k e = table_at xs ks i k e
 
--- one that the table has, has its number there
+-- a configuration in the table has its number there
 from_table : (xs : List Configuration) (ks : List ℕ) (i : ℕ) (c : Configuration) → slice_get (map (configuration_at xs) ks) i ≡ Some c → (k : ℕ) × (slice_get ks i ≡ Some k) × (configuration_at xs k ≡ c)
 from_table xs [] i c e = cc
 from_table xs (j ∷ ks) zero c e = (j, refl, (let h : configuration_at xs j ≡ c = cc in h))
@@ -96,44 +96,44 @@ none_in_table xs ks k once below lt none i e =
     let same : f.0 ≡ k = once f.0 k (configuration_at xs k) there (at_within xs k lt) in
     none i (f.1 ∙ ap Some same)
 
--- ---- spots
+-- ---- program points
 
-pub spot_same : (xs ys : List Configuration) (s : ShortSpot) → Extends xs ys → IsInPool (length xs) s → spot_in ys s ≡ spot_in xs s
+pub spot_same : (xs ys : List Configuration) (s : IndexedPoint) → Extends xs ys → IsInPool (length xs) s → point_in ys s ≡ point_in xs s
 spot_same xs ys s a h =
     ap (λ (x : Configuration). let u : ProgramPoint = record { flow = record { current = x; next = configuration_at ys s.next; pending = s.pending }; labelled = s.labelled } in u) (at_in xs ys s.current a h.0)
     ∙ ap (λ (x : Configuration). let u : ProgramPoint = record { flow = record { current = configuration_at xs s.current; next = x; pending = s.pending }; labelled = s.labelled } in u) (at_in xs ys s.next a h.1)
 
-pub in_pool : (xs ys : List Configuration) (s : ShortSpot) → Extends xs ys → IsInPool (length xs) s → IsInPool (length ys) s
+pub in_pool : (xs ys : List Configuration) (s : IndexedPoint) → Extends xs ys → IsInPool (length xs) s → IsInPool (length ys) s
 in_pool xs ys s a h = let n = extends_length xs ys a in ((let k = h.0 in omega (arith, k, n)), (let k = h.1 in omega (arith, k, n)))
 
-pub all_in_pool : (xs ys : List Configuration) (ss : List ShortSpot) → Extends xs ys → AreInPool (length xs) ss → AreInPool (length ys) ss
+pub all_in_pool : (xs ys : List Configuration) (ss : List IndexedPoint) → Extends xs ys → AreInPool (length xs) ss → AreInPool (length ys) ss
 all_in_pool xs ys [] a h = tt
 all_in_pool xs ys (s ∷ ss) a h = (in_pool xs ys s a h.0, all_in_pool xs ys ss a h.1)
 
-pub all_same : (xs ys : List Configuration) (ss : List ShortSpot) → Extends xs ys → AreInPool (length xs) ss → map (spot_in ys) ss ≡ map (spot_in xs) ss
+pub all_same : (xs ys : List Configuration) (ss : List IndexedPoint) → Extends xs ys → AreInPool (length xs) ss → map (point_in ys) ss ≡ map (point_in xs) ss
 all_same xs ys [] a h = refl
 all_same xs ys (s ∷ ss) a h =
-    ap (λ (x : ProgramPoint). x ∷ map (spot_in ys) ss) (spot_same xs ys s a h.0) ∙ ap (λ (l : List ProgramPoint). spot_in xs s ∷ l) (all_same xs ys ss a h.1)
+    ap (λ (x : ProgramPoint). x ∷ map (point_in ys) ss) (spot_same xs ys s a h.0) ∙ ap (λ (l : List ProgramPoint). point_in xs s ∷ l) (all_same xs ys ss a h.1)
 
-pub pushed_in_pool : (n : ℕ) (ss : List ShortSpot) (s : ShortSpot) → IsInPool n s → AreInPool n ss → AreInPool n (ss ++ s ∷ [])
+pub pushed_in_pool : (n : ℕ) (ss : List IndexedPoint) (s : IndexedPoint) → IsInPool n s → AreInPool n ss → AreInPool n (ss ++ s ∷ [])
 pushed_in_pool n [] s one h = (one, tt)
 pushed_in_pool n (x ∷ ss) s one h = (h.0, pushed_in_pool n ss s one h.1)
 
-pub popped_in_pool : (n : ℕ) (ss : List ShortSpot) (s : ShortSpot) → AreInPool n (ss ++ s ∷ []) → IsInPool n s × AreInPool n ss
+pub popped_in_pool : (n : ℕ) (ss : List IndexedPoint) (s : IndexedPoint) → AreInPool n (ss ++ s ∷ []) → IsInPool n s × AreInPool n ss
 popped_in_pool n [] s h = (h.0, tt)
 popped_in_pool n (x ∷ ss) s h = (let r = popped_in_pool n ss s h.1 in (r.0, (h.0, r.1)))
 
-pub spots_push : (xs : List Configuration) (ss : List ShortSpot) (s : ShortSpot) → map (spot_in xs) (ss ++ s ∷ []) ≡ map (spot_in xs) ss ++ spot_in xs s ∷ []
+pub spots_push : (xs : List Configuration) (ss : List IndexedPoint) (s : IndexedPoint) → map (point_in xs) (ss ++ s ∷ []) ≡ map (point_in xs) ss ++ point_in xs s ∷ []
 spots_push xs [] s = refl
-spots_push xs (x ∷ ss) s = ap (λ (l : List ProgramPoint). spot_in xs x ∷ l) (spots_push xs ss s)
+spots_push xs (x ∷ ss) s = ap (λ (l : List ProgramPoint). point_in xs x ∷ l) (spots_push xs ss s)
 
-pub spot_is : (pool : List Configuration) (s : ShortSpot) (a b : Configuration) → slice_get pool s.current ≡ Some a → slice_get pool s.next ≡ Some b
-    → spot_in pool s ≡ record { flow = record { current = a; next = b; pending = s.pending }; labelled = s.labelled }
+pub spot_is : (pool : List Configuration) (s : IndexedPoint) (a b : Configuration) → slice_get pool s.current ≡ Some a → slice_get pool s.next ≡ Some b
+    → point_in pool s ≡ record { flow = record { current = a; next = b; pending = s.pending }; labelled = s.labelled }
 spot_is pool s a b e f =
     ap (λ (x : Configuration). let u : ProgramPoint = record { flow = record { current = x; next = configuration_at pool s.next; pending = s.pending }; labelled = s.labelled } in u) (at_some pool s.current a e)
     ∙ ap (λ (x : Configuration). let u : ProgramPoint = record { flow = record { current = a; next = x; pending = s.pending }; labelled = s.labelled } in u) (at_some pool s.next b f)
 
--- ---- prints
+-- ---- fingerprints
 
 prints_more : (xs : List Configuration) (c : Configuration) → map print_of (xs ++ c ∷ []) ≡ map print_of xs ++ print_of c ∷ []
 prints_more [] c = refl
@@ -143,18 +143,18 @@ pub prints_push : (ps : List ℕ) (xs : List Configuration) (p : ℕ) (c : Confi
 prints_push ps xs p c e f ys g =
     ap (λ (l : List ℕ). l ++ p ∷ []) e ∙ ap (λ n. map print_of xs ++ n ∷ []) f ∙ sym (prints_more xs c) ∙ sym (ap (λ (l : List Configuration). map print_of l) g)
 
--- ---- a table that is the beginning of its pool
+-- ---- a table that is a prefix of its pool
 
 in_order_from : (xs : List Configuration) (ks : List ℕ) (j : ℕ) → AreBelow (length xs) ks → ((i k : ℕ) → slice_get ks i ≡ Some k → k ≡ j + i) → take (length ks) (drop j xs) ≡ map (configuration_at xs) ks
 in_order_from xs [] j h each = refl
 in_order_from xs (k ∷ ks) j h each =
-    let here : k ≡ j = (let e = each 0 k refl in omega (arith, e)) in
-    let lt : j < length xs = subst (λ n. n < length xs) here h.0 in
+    let point_here : k ≡ j = (let e = each 0 k refl in omega (arith, e)) in
+    let lt : j < length xs = subst (λ n. n < length xs) point_here h.0 in
     let cutting = cut xs j (configuration_at xs j) (at_within xs j lt) in
     let rest = in_order_from xs ks (j + 1) h.1 (λ i m e. let f = each (suc i) m e in omega (arith, f)) in
     ap (λ (l : List Configuration). take (suc (length ks)) l) cutting
     ∙ ap (λ (l : List Configuration). configuration_at xs j ∷ l) rest
-    ∙ ap (λ n. configuration_at xs n ∷ map (configuration_at xs) ks) (sym here)
+    ∙ ap (λ n. configuration_at xs n ∷ map (configuration_at xs) ks) (sym point_here)
 
 pub in_order : (xs : List Configuration) (ks : List ℕ) → AreBelow (length xs) ks → ((i k : ℕ) → slice_get ks i ≡ Some k → k ≡ i) → take (length ks) xs ≡ map (configuration_at xs) ks
 in_order xs ks h each = in_order_from xs ks 0 h (λ i k e. let f = each i k e in omega (arith, f))

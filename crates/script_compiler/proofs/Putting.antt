@@ -1,25 +1,25 @@
--- One step of what is laid down.
+-- One step of emission.
 use Rattle.std.proofs.Common.{◌≡◌, ℕ, List, [], ◌∷◌, ◌++◌, length, Result, Ok, Err, refl, sym, ap, ◌∙◌, arith, length-append}
 use Rattle.std.specs.Prelude.{OnOk}
 use Rattle.std.proofs.lemmas.List.{append_cancel_left}
 use Rattle.plan_code.specs.declared.instr.Instr.{Instr}
 use Rattle.script_meaning.specs.declared.flow.ProgramPoint.{ProgramPoint}
-use Rattle.script_meaning.specs.Scheme.{alone, marks_of}
+use Rattle.script_meaning.specs.Scheme.{alone, unpriced_labels}
 use Rattle.script_compiler.specs.Working.{Work}
-use Rattle.script_compiler.specs.Laying.{Lays, line_of_instr}
+use Rattle.script_compiler.specs.Emission.{Emits, line_of_instr}
 
 pub on_ok_map : {A E : Type 0} (x : Result A E) {P Q : Type 0} → (P → Q) → OnOk x P → OnOk x Q
 on_ok_map (Ok a) m h = m h
 on_ok_map (Err e) m h = h
 
-pub put_lays : (line r : ℕ) (i : Instr) (w v u : Work) → v.lines ≡ w.lines → v.saved ≡ w.saved → v.marks.items ≡ w.marks.items ++ marks_of (length w.lines.items) (alone line i r w.now) → u.saved ≡ v.saved → u.marks ≡ v.marks → u.lines.items ≡ v.lines.items ++ line_of_instr line i ∷ [] → Lays w u (alone line i r w.now)
-put_lays line r i w v u lines saved marks saved' marks' lines' = record {
+pub put_lays : (line r : ℕ) (i : Instr) (w v u : Work) → v.lines ≡ w.lines → v.saved ≡ w.saved → v.unpriced.items ≡ w.unpriced.items ++ unpriced_labels (length w.lines.items) (alone line i r w.now) → u.saved ≡ v.saved → u.unpriced ≡ v.unpriced → u.lines.items ≡ v.lines.items ++ line_of_instr line i ∷ [] → Emits w u (alone line i r w.now)
+put_lays line r i w v u lines saved unpriced saved' marks' lines' = record {
   lines = lines' ∙ ap (λ x. x.items ++ line_of_instr line i ∷ []) lines;
-  marks = ap (λ x. x.items) marks' ∙ marks;
+  unpriced = ap (λ x. x.items) marks' ∙ unpriced;
   saved = ap (λ x. x.items) (saved' ∙ saved);
 }
 
--- ---- what is saved last
+-- ---- the point saved last
 
 pub snoc_front : (xs ys : List ProgramPoint) (x y : ProgramPoint) → xs ++ x ∷ [] ≡ ys ++ y ∷ [] → xs ≡ ys
 snoc_front [] [] x y e = refl

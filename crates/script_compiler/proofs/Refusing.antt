@@ -1,4 +1,4 @@
--- Why a script is refused.
+-- A script that is refused is not accepted.
 use Rattle.std.proofs.Common.{◌≡◌, ℕ, ◌+◌, ◌<◌, arith, Result, Ok, Err, Bool, true, false, if◌then◌else◌, List, [], ◌∷◌, ◌++◌, length, Some, is_some, refl, sym, ap, ◌∙◌, subst, get_or, drop}
 use Rattle.std.specs.Prelude.{IfErr}
 use Rattle.plan_code.specs.declared.instr.Instr.TheVariants.{Test}
@@ -10,8 +10,8 @@ use Rattle.script_front.specs.declared.tree.Statement.{Statement}
 use Rattle.script_front.specs.declared.tree.Statement.TheOpen.{Statement-F}
 use Rattle.script_front.specs.Block.{Block, nothing, basic, when, either, repeat, forever, apply, Before, statement_step, before, block_of}
 use Rattle.script_meaning.specs.declared.flow.ProgramPoint.{ProgramPoint}
-use Rattle.script_meaning.specs.Scheme.{past, at_label, head, instr_of_act, spot_after, falls_out}
-use Rattle.script_meaning.specs.Judged.{IsJudged, IsDone, Reached, WaysAgree, BranchesAgree, ComesRound}
+use Rattle.script_meaning.specs.Scheme.{without_label, at_label, head, instr_of_act, point_after, falls_out}
+use Rattle.script_meaning.specs.Judged.{IsJudged, IsDone, Reached, WaysAgree, BranchesAgree, FitsEntry}
 use Rattle.script_compiler.specs.Working.{Work}
 use Rattle.plan_code.specs.declared.instr.Line.{Line}
 use Rattle.script_meaning.specs.Compiled.{instrs_of}
@@ -19,16 +19,16 @@ use Rattle.script_meaning.specs.Need.{IsWithinBudget}
 use Rattle.script_compiler.specs.Longest.{longest}
 use Rattle.script_compiler.specs.declared.fault.CompileFault.{CompileFault}
 use Rattle.script_compiler.proofs.Paths.{need_most}
-use Rattle.script_compiler.specs.Laying.{Left, Forks, Turns, spots_of, way}
+use Rattle.script_compiler.specs.Emission.{Left, Forks, StartsElse, points_of, way}
 use Rattle.script_compiler.specs.Refusals.{IsRefusal}
 use Rattle.script_compiler.proofs.Trees.{by_step, statements_cut}
-use Rattle.script_compiler.proofs.Laid.{whole_of}
+use Rattle.script_compiler.proofs.Emitted.{whole_of}
 
 pub err_map : (x : Result Bool CompileFault) (P Q : CompileFault → Type 0) → ((y : CompileFault) → P y → Q y) → IfErr x P → IfErr x Q
 err_map (Ok f) P Q m h = h
 err_map (Err y) P Q m h = m y h
 
--- a statement, where it is that of an arm
+-- the same for a statement, given its shape in a match arm
 pub refused_as : (plan : Plan) (s : ProgramPoint) (x : Result Bool CompileFault) (shape shape' : Block → Block) → ((rest : Block) → shape rest ≡ shape' rest) → IfErr x (λ e. IsRefusal e → (rest : Block) → IsJudged plan (shape' rest) s → ⊥) → IfErr x (λ e. IsRefusal e → (rest : Block) → IsJudged plan (shape rest) s → ⊥)
 refused_as plan s (Ok f) shape shape' e h = h
 refused_as plan s (Err y) shape shape' e h = λ is rest j. h is rest (subst (λ b. IsJudged plan b s) (e rest) j)
@@ -41,7 +41,7 @@ pub apply_refused : (plan : Plan) (s : ProgramPoint) (x : Result Bool CompileFau
 apply_refused plan s (Ok f) line number name h = h
 apply_refused plan s (Err y) line number name h = λ is rest j. h is j.0
 
--- ---- what a judged statement with blocks has
+-- ---- what the judgement of a statement with blocks implies
 
 module _ (plan : Plan) (r line c : ℕ) (first rest : Block) (w0 w2 w3 : Work) (f : Bool) where
   pub when_first : Forks line (Test c 0) r w0 w2 → IsJudged plan (when line c first rest) w0.now → IsJudged plan first w2.now
@@ -49,27 +49,27 @@ module _ (plan : Plan) (r line c : ℕ) (first rest : Block) (w0 w2 w3 : Work) (
 
   pub when_agrees : Forks line (Test c 0) r w0 w2 → Left plan r first w2 w3 f nothing → IsJudged plan (when line c first rest) w0.now → WaysAgree (way f w3) (Some w0.now)
   when_agrees fork left j =
-      let h = whole_of plan r (length w2.lines.items) first (past w0.now.flow) w2 w3 f refl fork.now left in
+      let h = whole_of plan r (length w2.lines.items) first (without_label w0.now.flow) w2 w3 f refl fork.now left in
       subst (λ w. WaysAgree w (Some w0.now)) h.leads j.1
 
 module _ (plan : Plan) (r line c at : ℕ) (first second rest : Block) (w0 w2 w3 w6 w7 : Work) (f1 f2 : Bool) where
   pub either_first : Forks line (Test c 0) r w0 w2 → IsJudged plan (either line c first second rest) w0.now → IsJudged plan first w2.now
   either_first fork j = subst (λ s. IsJudged plan first s) (sym fork.now) j.0
 
-  turned : Forks line (Test c 0) r w0 w2 → Left plan r first w2 w3 f1 nothing → ((front : List ProgramPoint) (entry : ProgramPoint) → w3.saved.items ≡ front ++ entry ∷ [] → Turns f1 line r c at front entry w3 w6) → Turns f1 line r c at w0.saved.items w0.now w3 w6
-  turned fork left turning = turning w0.saved.items w0.now (left.lays.saved ∙ fork.saved)
+  turned : Forks line (Test c 0) r w0 w2 → Left plan r first w2 w3 f1 nothing → ((front : List ProgramPoint) (entry : ProgramPoint) → w3.saved.items ≡ front ++ entry ∷ [] → StartsElse f1 line r c at front entry w3 w6) → StartsElse f1 line r c at w0.saved.items w0.now w3 w6
+  turned fork left turning = turning w0.saved.items w0.now (left.emits.saved ∙ fork.saved)
 
-  pub either_second : Forks line (Test c 0) r w0 w2 → Left plan r first w2 w3 f1 nothing → ((front : List ProgramPoint) (entry : ProgramPoint) → w3.saved.items ≡ front ++ entry ∷ [] → Turns f1 line r c at front entry w3 w6) → IsJudged plan (either line c first second rest) w0.now → IsJudged plan second w6.now
+  pub either_second : Forks line (Test c 0) r w0 w2 → Left plan r first w2 w3 f1 nothing → ((front : List ProgramPoint) (entry : ProgramPoint) → w3.saved.items ≡ front ++ entry ∷ [] → StartsElse f1 line r c at front entry w3 w6) → IsJudged plan (either line c first second rest) w0.now → IsJudged plan second w6.now
   either_second fork left turning j = subst (λ s. IsJudged plan second s) (sym (turned fork left turning).now) j.1
 
-  pub either_saved : Forks line (Test c 0) r w0 w2 → Left plan r first w2 w3 f1 nothing → ((front : List ProgramPoint) (entry : ProgramPoint) → w3.saved.items ≡ front ++ entry ∷ [] → Turns f1 line r c at front entry w3 w6) → Left plan r second w6 w7 f2 nothing → w7.saved.items ≡ w0.saved.items ++ spots_of (way f1 w3)
-  either_saved fork left turning left2 = left2.lays.saved ∙ (turned fork left turning).saved
+  pub either_saved : Forks line (Test c 0) r w0 w2 → Left plan r first w2 w3 f1 nothing → ((front : List ProgramPoint) (entry : ProgramPoint) → w3.saved.items ≡ front ++ entry ∷ [] → StartsElse f1 line r c at front entry w3 w6) → Left plan r second w6 w7 f2 nothing → w7.saved.items ≡ w0.saved.items ++ points_of (way f1 w3)
+  either_saved fork left turning left2 = left2.emits.saved ∙ (turned fork left turning).saved
 
-  pub either_agrees : Forks line (Test c 0) r w0 w2 → Left plan r first w2 w3 f1 nothing → ((front : List ProgramPoint) (entry : ProgramPoint) → w3.saved.items ≡ front ++ entry ∷ [] → Turns f1 line r c at front entry w3 w6) → Left plan r second w6 w7 f2 nothing → IsJudged plan (either line c first second rest) w0.now → BranchesAgree (way f1 w3) (way f2 w7)
+  pub either_agrees : Forks line (Test c 0) r w0 w2 → Left plan r first w2 w3 f1 nothing → ((front : List ProgramPoint) (entry : ProgramPoint) → w3.saved.items ≡ front ++ entry ∷ [] → StartsElse f1 line r c at front entry w3 w6) → Left plan r second w6 w7 f2 nothing → IsJudged plan (either line c first second rest) w0.now → BranchesAgree (way f1 w3) (way f2 w7)
   either_agrees fork left turning left2 j =
-      let h = whole_of plan r (length w2.lines.items) first (past w0.now.flow) w2 w3 f1 refl fork.now left in
+      let h = whole_of plan r (length w2.lines.items) first (without_label w0.now.flow) w2 w3 f1 refl fork.now left in
       let h2 = whole_of plan r (length w6.lines.items) second (at_label w0.now.flow) w6 w7 f2 refl (turned fork left turning).now left2 in
-      subst (λ w. BranchesAgree w (way f2 w7)) h.leads (subst (λ w. BranchesAgree (spot_after plan first (past w0.now.flow)) w) h2.leads j.2)
+      subst (λ w. BranchesAgree w (way f2 w7)) h.leads (subst (λ w. BranchesAgree (point_after plan first (without_label w0.now.flow)) w) h2.leads j.2)
 
 pub some_is : (g : Bool) (w : Work) → g ≡ is_some (way g w)
 some_is true w = refl
@@ -79,26 +79,26 @@ pub head_is : (body : Block) (falls : Bool) (v w : Work) → falls ≡ falls_out
 head_is body falls v w ef n = n ∙ ap (λ b. let t : ProgramPoint = record { flow = v.now.flow; labelled = if b then true else v.now.labelled } in t) ef
 
 module _ (plan : Plan) (r line n : ℕ) (body rest : Block) (w0 w1 w2 w3 : Work) (f falls : Bool) where
-  pub repeat_body : w1.now ≡ past w0.now.flow → falls ≡ falls_out body → w2.now ≡ record { flow = w1.now.flow; labelled = if falls then true else w1.now.labelled } → IsJudged plan (repeat line n body rest) w0.now → IsJudged plan body w2.now
+  pub repeat_body : w1.now ≡ without_label w0.now.flow → falls ≡ falls_out body → w2.now ≡ record { flow = w1.now.flow; labelled = if falls then true else w1.now.labelled } → IsJudged plan (repeat line n body rest) w0.now → IsJudged plan body w2.now
   repeat_body n1 ef n2 j = subst (λ s. IsJudged plan body s) (sym (head_is body falls w1 w2 ef n2 ∙ ap (λ s. head body s) n1)) j.0
 
-  pub repeat_round : w1.now ≡ past w0.now.flow → falls ≡ falls_out body → w2.now ≡ record { flow = w1.now.flow; labelled = if falls then true else w1.now.labelled } → Left plan (r + 1) body w2 w3 f nothing → IsJudged plan (repeat line n body rest) w0.now → ComesRound (way f w3) w2.now
+  pub repeat_round : w1.now ≡ without_label w0.now.flow → falls ≡ falls_out body → w2.now ≡ record { flow = w1.now.flow; labelled = if falls then true else w1.now.labelled } → Left plan (r + 1) body w2 w3 f nothing → IsJudged plan (repeat line n body rest) w0.now → FitsEntry (way f w3) w2.now
   repeat_round n1 ef n2 left j =
-      let start = head body (past w0.now.flow) in
+      let start = head body (without_label w0.now.flow) in
       let e : w2.now ≡ start = head_is body falls w1 w2 ef n2 ∙ ap (λ s. head body s) n1 in
       let h = whole_of plan (r + 1) (length w2.lines.items) body start w2 w3 f refl e left in
-      subst (λ s. ComesRound (way f w3) s) (sym e) (subst (λ w. ComesRound w start) h.leads j.1)
+      subst (λ s. FitsEntry (way f w3) s) (sym e) (subst (λ w. FitsEntry w start) h.leads j.1)
 
 module _ (plan : Plan) (r line : ℕ) (body rest : Block) (w0 w2 w3 : Work) (f falls : Bool) where
   pub forever_body : falls ≡ falls_out body → w2.now ≡ record { flow = w0.now.flow; labelled = if falls then true else w0.now.labelled } → IsJudged plan (forever line body rest) w0.now → IsJudged plan body w2.now
   forever_body ef n2 j = subst (λ s. IsJudged plan body s) (sym (head_is body falls w0 w2 ef n2)) j.0
 
-  pub forever_round : falls ≡ falls_out body → w2.now ≡ record { flow = w0.now.flow; labelled = if falls then true else w0.now.labelled } → Left plan r body w2 w3 f nothing → IsJudged plan (forever line body rest) w0.now → ComesRound (way f w3) w2.now
+  pub forever_round : falls ≡ falls_out body → w2.now ≡ record { flow = w0.now.flow; labelled = if falls then true else w0.now.labelled } → Left plan r body w2 w3 f nothing → IsJudged plan (forever line body rest) w0.now → FitsEntry (way f w3) w2.now
   forever_round ef n2 left j =
       let start = head body w0.now in
       let e : w2.now ≡ start = head_is body falls w0 w2 ef n2 in
       let h = whole_of plan r (length w2.lines.items) body start w2 w3 f refl e left in
-      subst (λ s. ComesRound (way f w3) s) (sym e) (subst (λ w. ComesRound w start) h.leads j.1)
+      subst (λ s. FitsEntry (way f w3) s) (sym e) (subst (λ w. FitsEntry w start) h.leads j.1)
 
 -- ---- a block's statements
 
@@ -131,6 +131,6 @@ module _ (plan : Plan) (r : ℕ) (table : List Block) (ss : List Statement) (k :
 
 -- ---- a script as a whole
 
--- needs that are those of a code that is accepted are within the budget
+-- the needs of an accepted code are within the budget
 pub over_budget : (lines : List Line) (needs : List ℕ) (budget : ℕ) → IsWithinBudget budget (instrs_of lines) → ((pc : ℕ) → get_or needs pc 0 ≡ longest (instrs_of lines) (budget + 1) pc) → (pc : ℕ) → budget < get_or needs pc 0 → ⊥
 over_budget lines needs budget within each pc over = let e = each pc in let most = need_most (instrs_of lines) budget pc within in absurd (omega (arith, e, most, over))

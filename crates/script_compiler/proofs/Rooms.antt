@@ -4,13 +4,13 @@ use Rattle.std.specs.Prelude.{slice_get}
 use Rattle.std.proofs.lemmas.Bool.{cases_lt}
 use Rattle.mux_config.specs.Configuration.{Configuration}
 use Rattle.script_meaning.specs.declared.flow.UnpricedLabel.{UnpricedLabel}
-use Rattle.script_meaning.specs.Compiled.{StandsIn, Added, Tabled}
+use Rattle.script_meaning.specs.Compiled.{IsInTable, Added, Tabled}
 use Rattle.script_compiler.specs.Room.{AreNew, HasRoomFor, named_by, Leaves}
 
 some_same : (x y : Configuration) → Some x ≡ Some y → x ≡ y
 some_same x y e = cc
 
-none_in_nothing : (c : Configuration) → StandsIn c [] → ⊥
+none_in_nothing : (c : Configuration) → IsInTable c [] → ⊥
 none_in_nothing c h = let e = h.1 in cc
 
 pub stays : (xs ys : List Configuration) (i : ℕ) (c : Configuration) → slice_get xs i ≡ Some c → slice_get (xs ++ ys) i ≡ Some c
@@ -22,36 +22,36 @@ pub stands_last : (xs : List Configuration) (c : Configuration) → slice_get (x
 stands_last [] c = refl
 stands_last (x ∷ xs) c = stands_last xs c
 
-stands_front : (xs ys : List Configuration) (c : Configuration) → StandsIn c xs → StandsIn c (xs ++ ys)
+stands_front : (xs ys : List Configuration) (c : Configuration) → IsInTable c xs → IsInTable c (xs ++ ys)
 stands_front xs ys c h = (h.0, stays xs ys h.0 c h.1)
 
 -- ---- fewer configurations, and a table that has grown
 
-new_fewer : (table cs ds xs : List Configuration) → ((x : Configuration) → StandsIn x cs → StandsIn x ds) → AreNew table cs xs → AreNew table ds xs
+new_fewer : (table cs ds xs : List Configuration) → ((x : Configuration) → IsInTable x cs → IsInTable x ds) → AreNew table cs xs → AreNew table ds xs
 new_fewer table cs ds [] h n = tt
 new_fewer table cs ds (x ∷ xs) h n = (h x n.0, n.1, n.2, new_fewer table cs ds xs h n.3)
 
-pub room_fewer : (table cs ds : List Configuration) → ((x : Configuration) → StandsIn x cs → StandsIn x ds) → HasRoomFor table ds → HasRoomFor table cs
+pub room_fewer : (table cs ds : List Configuration) → ((x : Configuration) → IsInTable x cs → IsInTable x ds) → HasRoomFor table ds → HasRoomFor table cs
 room_fewer table cs ds h room = λ new n. room new (new_fewer table cs ds new h n)
 
-out_of : (table cs xs : List Configuration) (x : Configuration) → AreNew table cs xs → StandsIn x xs → StandsIn x table → ⊥
+out_of : (table cs xs : List Configuration) (x : Configuration) → AreNew table cs xs → IsInTable x xs → IsInTable x table → ⊥
 out_of table cs [] x n h t = none_in_nothing x h
 out_of table cs (y ∷ ys) x n h t = by (λ k. out_of table cs ys x n.3 k t) h.0 h.1
   where
-    by : (StandsIn x ys → ⊥) → (i : ℕ) → slice_get (y ∷ ys) i ≡ Some x → ⊥
-    by ih zero e = n.1 (subst (λ z. StandsIn z table) (sym (some_same y x e)) t)
+    by : (IsInTable x ys → ⊥) → (i : ℕ) → slice_get (y ∷ ys) i ≡ Some x → ⊥
+    by ih zero e = n.1 (subst (λ z. IsInTable z table) (sym (some_same y x e)) t)
     by ih (suc i) e = ih (i, e)
 
-new_wider : (table one cs xs : List Configuration) → ((x : Configuration) → StandsIn x table → StandsIn x one) → AreNew one cs xs → AreNew table cs xs
+new_wider : (table one cs xs : List Configuration) → ((x : Configuration) → IsInTable x table → IsInTable x one) → AreNew one cs xs → AreNew table cs xs
 new_wider table one cs [] h n = tt
 new_wider table one cs (x ∷ xs) h n = (n.0, (λ t. n.1 (h x t)), n.2, new_wider table one cs xs h n.3)
 
-pub room_added : (c : Configuration) (table one cs : List Configuration) → Added c table one → StandsIn c cs → HasRoomFor table cs → HasRoomFor one cs
+pub room_added : (c : Configuration) (table one cs : List Configuration) → Added c table one → IsInTable c cs → HasRoomFor table cs → HasRoomFor one cs
 room_added c table one cs (inl old) there room = subst (λ t. HasRoomFor t cs) (sym old.1) room
 room_added c table one cs (inr new) there room = λ xs n.
     let n' : AreNew (table ++ c ∷ []) cs xs = subst (λ t. AreNew t cs xs) new.1 n in
     let wider = new_wider table (table ++ c ∷ []) cs xs (λ x t. stands_front table (c ∷ []) x t) n' in
-    let fresh : StandsIn c xs → ⊥ = λ h. out_of (table ++ c ∷ []) cs xs c n' h (length table, stands_last table c) in
+    let fresh : IsInTable c xs → ⊥ = λ h. out_of (table ++ c ∷ []) cs xs c n' h (length table, stands_last table c) in
     let k = room (c ∷ xs) (there, new.0, fresh, wider) in
     let m = ap length new.1 in
     let q = length-append table (c ∷ []) in
@@ -81,16 +81,16 @@ leaves_both t0 t1 t2 ms ns h k = λ more room.
 pub room_front : (table : List Configuration) (m : UnpricedLabel) (ms : List UnpricedLabel) → HasRoomFor table (named_by (m ∷ ms)) → HasRoomFor table (named_by (m ∷ []))
 room_front table m ms room = room_fewer table (named_by (m ∷ [])) (named_by (m ∷ ms)) (λ c h. by c h.0 h.1) room
   where
-    by : (c : Configuration) (i : ℕ) → slice_get (named_by (m ∷ [])) i ≡ Some c → StandsIn c (named_by (m ∷ ms))
+    by : (c : Configuration) (i : ℕ) → slice_get (named_by (m ∷ [])) i ≡ Some c → IsInTable c (named_by (m ∷ ms))
     by c zero e = (0, e)
     by c (suc zero) e = (1, e)
     by c (suc (suc i)) e = absurd (none_in_nothing c (i, e))
 
--- no room for the first of two, or for the second
+-- no room for the first of two configurations, or for the second
 pub room_current : (table : List Configuration) (m : UnpricedLabel) → (HasRoomFor table (m.flow.current ∷ []) → ⊥) → HasRoomFor table (named_by (m ∷ [])) → ⊥
 room_current table m full room = full (room_fewer table (m.flow.current ∷ []) (named_by (m ∷ [])) (λ c h. by c h.0 h.1) room)
   where
-    by : (c : Configuration) (i : ℕ) → slice_get (m.flow.current ∷ []) i ≡ Some c → StandsIn c (named_by (m ∷ []))
+    by : (c : Configuration) (i : ℕ) → slice_get (m.flow.current ∷ []) i ≡ Some c → IsInTable c (named_by (m ∷ []))
     by c zero e = (0, e)
     by c (suc i) e = absurd (none_in_nothing c (i, e))
 
@@ -99,7 +99,7 @@ room_next table one m a full room =
     let more = room_added m.flow.current table one (named_by (m ∷ [])) a (0, refl) room in
     full (room_fewer one (m.flow.next ∷ []) (named_by (m ∷ [])) (λ c h. by c h.0 h.1) more)
   where
-    by : (c : Configuration) (i : ℕ) → slice_get (m.flow.next ∷ []) i ≡ Some c → StandsIn c (named_by (m ∷ []))
+    by : (c : Configuration) (i : ℕ) → slice_get (m.flow.next ∷ []) i ≡ Some c → IsInTable c (named_by (m ∷ []))
     by c zero e = (1, e)
     by c (suc i) e = absurd (none_in_nothing c (i, e))
 
@@ -112,10 +112,10 @@ full_table table c none full room =
 pub room_none : (table cs : List Configuration) → HasRoomFor table cs → length table ≤ 256
 room_none table cs room = let k = room [] tt in omega (arith, k)
 
-pub room_one : (table cs : List Configuration) (c : Configuration) → StandsIn c cs → (StandsIn c table → ⊥) → HasRoomFor table cs → length table + 1 ≤ 256
+pub room_one : (table cs : List Configuration) (c : Configuration) → IsInTable c cs → (IsInTable c table → ⊥) → HasRoomFor table cs → length table + 1 ≤ 256
 room_one table cs c there none room = let k = room (c ∷ []) (there, none, (λ h. none_in_nothing c h), tt) in omega (arith, k)
 
-pub room_two : (table : List Configuration) (a b : Configuration) → (StandsIn a table → ⊥) → (StandsIn b table → ⊥) → (b ≡ a → ⊥) → HasRoomFor table (a ∷ b ∷ []) → length table + 2 ≤ 256
+pub room_two : (table : List Configuration) (a b : Configuration) → (IsInTable a table → ⊥) → (IsInTable b table → ⊥) → (b ≡ a → ⊥) → HasRoomFor table (a ∷ b ∷ []) → length table + 2 ≤ 256
 room_two table a b na nb differs room =
     let k = room (a ∷ b ∷ []) ((0, refl), na, (λ h. apart h.0 h.1), ((1, refl), nb, (λ h. none_in_nothing b h), tt)) in omega (arith, k)
   where
@@ -144,23 +144,23 @@ without_length i [] c e = absurd (none_in_nothing c (i, e))
 without_length zero (x ∷ xs) c e = omega arith
 without_length (suc i) (x ∷ xs) c e = omega (arith, without_length i xs c e)
 
-without_keeps : (i : ℕ) (xs : List Configuration) (c d : Configuration) → slice_get xs i ≡ Some c → (d ≡ c → ⊥) → StandsIn d xs → StandsIn d (without i xs)
+without_keeps : (i : ℕ) (xs : List Configuration) (c d : Configuration) → slice_get xs i ≡ Some c → (d ≡ c → ⊥) → IsInTable d xs → IsInTable d (without i xs)
 without_keeps i [] c d e differs h = absurd (none_in_nothing d h)
 without_keeps zero (x ∷ xs) c d e differs h = by h.0 h.1
   where
-    by : (j : ℕ) → slice_get (x ∷ xs) j ≡ Some d → StandsIn d xs
+    by : (j : ℕ) → slice_get (x ∷ xs) j ≡ Some d → IsInTable d xs
     by zero f = absurd (differs (sym (some_same x d f) ∙ some_same x c e))
     by (suc j) f = (j, f)
 without_keeps (suc i) (x ∷ xs) c d e differs h = by (λ k. without_keeps i xs c d e differs k) h.0 h.1
   where
-    by : (StandsIn d xs → StandsIn d (without i xs)) → (j : ℕ) → slice_get (x ∷ xs) j ≡ Some d → StandsIn d (x ∷ without i xs)
+    by : (IsInTable d xs → IsInTable d (without i xs)) → (j : ℕ) → slice_get (x ∷ xs) j ≡ Some d → IsInTable d (x ∷ without i xs)
     by ih zero f = (0, f)
     by ih (suc j) f = let r = ih (j, f) in (suc r.0, r.1)
 
--- different ones that all stand in a table are no more than it has
+-- a table has at least as many entries as there are different configurations in it
 abbrev AllDiffer : List Configuration → List Configuration → Type 0
 AllDiffer table [] = Unit {0}
-AllDiffer table (x ∷ xs) = StandsIn x table × (StandsIn x xs → ⊥) × AllDiffer table xs
+AllDiffer table (x ∷ xs) = IsInTable x table × (IsInTable x xs → ⊥) × AllDiffer table xs
 
 differ_most : (xs table : List Configuration) → AllDiffer table xs → length xs ≤ length table
 differ_most [] table h = omega arith
@@ -170,38 +170,38 @@ differ_most (x ∷ xs) table h =
     let ih = differ_most xs (without i table) (kept xs (λ y k. k) h.2) in
     omega (arith, n, ih)
   where
-    kept : (ys : List Configuration) → ((y : Configuration) → StandsIn y ys → StandsIn y xs) → AllDiffer table ys → AllDiffer (without h.0.0 table) ys
+    kept : (ys : List Configuration) → ((y : Configuration) → IsInTable y ys → IsInTable y xs) → AllDiffer table ys → AllDiffer (without h.0.0 table) ys
     kept [] inside k = tt
     kept (y ∷ ys) inside k =
-        let apart : y ≡ x → ⊥ = λ e. h.1 (subst (λ z. StandsIn z xs) e (inside y (0, refl))) in
+        let apart : y ≡ x → ⊥ = λ e. h.1 (subst (λ z. IsInTable z xs) e (inside y (0, refl))) in
         (without_keeps h.0.0 table x y h.0.1 apart k.0, k.1, kept ys (λ z s. inside z (suc s.0, s.1)) k.2)
 
-grows_stands : (c : Configuration) (table new : List Configuration) → Added c table new → (d : Configuration) → StandsIn d table → StandsIn d new
-grows_stands c table new (inl old) d h = subst (λ t. StandsIn d t) (sym old.1) h
-grows_stands c table new (inr fresh) d h = subst (λ t. StandsIn d t) (sym fresh.1) (stands_front table (c ∷ []) d h)
+grows_stands : (c : Configuration) (table new : List Configuration) → Added c table new → (d : Configuration) → IsInTable d table → IsInTable d new
+grows_stands c table new (inl old) d h = subst (λ t. IsInTable d t) (sym old.1) h
+grows_stands c table new (inr fresh) d h = subst (λ t. IsInTable d t) (sym fresh.1) (stands_front table (c ∷ []) d h)
 
-added_stands : (c : Configuration) (table new : List Configuration) → Added c table new → StandsIn c new
-added_stands c table new (inl old) = subst (λ t. StandsIn c t) (sym old.1) old.0
-added_stands c table new (inr fresh) = subst (λ t. StandsIn c t) (sym fresh.1) (length table, stands_last table c)
+added_stands : (c : Configuration) (table new : List Configuration) → Added c table new → IsInTable c new
+added_stands c table new (inl old) = subst (λ t. IsInTable c t) (sym old.1) old.0
+added_stands c table new (inr fresh) = subst (λ t. IsInTable c t) (sym fresh.1) (length table, stands_last table c)
 
-tabled_keeps : (ms : List UnpricedLabel) (table new : List Configuration) → Tabled table ms new → (d : Configuration) → StandsIn d table → StandsIn d new
-tabled_keeps [] table new t d h = subst (λ x. StandsIn d x) (sym t) h
+tabled_keeps : (ms : List UnpricedLabel) (table new : List Configuration) → Tabled table ms new → (d : Configuration) → IsInTable d table → IsInTable d new
+tabled_keeps [] table new t d h = subst (λ x. IsInTable d x) (sym t) h
 tabled_keeps (m ∷ ms) table new t d h = tabled_keeps ms t.1 new t.4 d (grows_stands m.flow.next t.0 t.1 t.3 d (grows_stands m.flow.current table t.0 t.2 d h))
 
-tabled_names : (ms : List UnpricedLabel) (table new : List Configuration) → Tabled table ms new → (d : Configuration) (i : ℕ) → slice_get (named_by ms) i ≡ Some d → StandsIn d new
+tabled_names : (ms : List UnpricedLabel) (table new : List Configuration) → Tabled table ms new → (d : Configuration) (i : ℕ) → slice_get (named_by ms) i ≡ Some d → IsInTable d new
 tabled_names [] table new t d i e = absurd (none_in_nothing d (i, e))
 tabled_names (m ∷ ms) table new t d zero e =
-    let here = grows_stands m.flow.next t.0 t.1 t.3 m.flow.current (added_stands m.flow.current table t.0 t.2) in
-    subst (λ x. StandsIn x new) (some_same m.flow.current d e) (tabled_keeps ms t.1 new t.4 m.flow.current here)
+    let point_here = grows_stands m.flow.next t.0 t.1 t.3 m.flow.current (added_stands m.flow.current table t.0 t.2) in
+    subst (λ x. IsInTable x new) (some_same m.flow.current d e) (tabled_keeps ms t.1 new t.4 m.flow.current point_here)
 tabled_names (m ∷ ms) table new t d (suc zero) e =
-    subst (λ x. StandsIn x new) (some_same m.flow.next d e) (tabled_keeps ms t.1 new t.4 m.flow.next (added_stands m.flow.next t.0 t.1 t.3))
+    subst (λ x. IsInTable x new) (some_same m.flow.next d e) (tabled_keeps ms t.1 new t.4 m.flow.next (added_stands m.flow.next t.0 t.1 t.3))
 tabled_names (m ∷ ms) table new t d (suc (suc i)) e = tabled_names ms t.1 new t.4 d i e
 
-new_differ : (table cs new xs : List Configuration) → ((d : Configuration) → StandsIn d cs → StandsIn d new) → AreNew table cs xs → AllDiffer new xs
+new_differ : (table cs new xs : List Configuration) → ((d : Configuration) → IsInTable d cs → IsInTable d new) → AreNew table cs xs → AllDiffer new xs
 new_differ table cs new [] h n = tt
 new_differ table cs new (x ∷ xs) h n = (h x n.0, n.2, new_differ table cs new xs h n.3)
 
--- where every table for some labels is small enough, there is room for them from the beginning
+-- if every table for these labels is small enough, the empty table has room for them
 pub room_from : (ms : List UnpricedLabel) → ((table : List Configuration) → Tabled [] ms table → length table ≤ 256) → HasRoomFor [] (named_by ms)
 room_from ms most = λ xs n.
     let few : (length xs ≤ 256 → ⊥) → ⊥ = λ many. tabled_some ms [] (λ new t.

@@ -24,7 +24,7 @@ added_old c table i e = inl ((i, e), refl)
 pub last_new : (c : Configuration) (table new : List Configuration) (i : ℕ) → i ≡ length table → new ≡ table ++ c ∷ [] → slice_get new i ≡ Some c
 last_new c table new i e f = ap (λ xs. slice_get xs i) f ∙ ap (λ n. slice_get (table ++ c ∷ []) n) e ∙ stands_last table c
 
--- not among this many
+-- not among the first `k + 1`
 none_at : (xs : List Configuration) (k : ℕ) (c : Configuration) → slice_get xs k ≢ Some c → ((i : ℕ) → i < k → slice_get xs i ≢ Some c) → (i : ℕ) → i < k + 1 → slice_get xs i ≢ Some c
 none_at xs k c differs before i le e = elim (below i k (omega (arith, le))) [
   | inl less ↦ before i less e
@@ -39,16 +39,16 @@ none_at xs k c differs before i le e = elim (below i k (omega (arith, le))) [
 
 pub none_more : (xs : List Configuration) (k : ℕ) (x c : Configuration) → x ≡ get_or xs k x → k < length xs → (x ≡ c → ⊥) → ((i : ℕ) → i < k → slice_get xs i ≢ Some c) → (i : ℕ) → i < k + 1 → slice_get xs i ≢ Some c
 none_more xs k x c is lt differs = none_at xs k c (λ e.
-    let here : Some (get_or xs k x) ≡ Some c = sym (slice_get-get_or xs k x lt) ∙ e in
+    let point_here : Some (get_or xs k x) ≡ Some c = sym (slice_get-get_or xs k x lt) ∙ e in
     let h : get_or xs k x ≡ c = cc in
     differs (is ∙ h))
 
--- a configuration does not stand where another print does
+-- a configuration is not at an index with another fingerprint
 pub none_by_print : (xs : List Configuration) (prints : List ℕ) (k print : ℕ) (c : Configuration) → prints ≡ map print_of xs → print ≡ print_of c → k < length prints → (get_or prints k 0 ≡ print → ⊥)
     → ((i : ℕ) → i < k → slice_get xs i ≢ Some c) → (i : ℕ) → i < k + 1 → slice_get xs i ≢ Some c
 none_by_print xs prints k print c all one lt differs = none_at xs k c (λ e.
-    let here : slice_get prints k ≡ option_map print_of (slice_get xs k) = ap (λ ps. slice_get ps k) all ∙ slice_get-map print_of xs k in
-    let there : Some (get_or prints k 0) ≡ Some (print_of c) = sym (slice_get-get_or prints k 0 lt) ∙ here ∙ ap (option_map print_of) e in
+    let point_here : slice_get prints k ≡ option_map print_of (slice_get xs k) = ap (λ ps. slice_get ps k) all ∙ slice_get-map print_of xs k in
+    let there : Some (get_or prints k 0) ≡ Some (print_of c) = sym (slice_get-get_or prints k 0 lt) ∙ point_here ∙ ap (option_map print_of) e in
     let h : get_or prints k 0 ≡ print_of c = cc in
     differs (h ∙ sym one))
 
@@ -58,7 +58,7 @@ as_many xs prints all = ap length all ∙ length-map xs print_of
 pub none_of_all : (xs : List Configuration) (k : ℕ) (c : Configuration) → length xs ≤ k → ((i : ℕ) → i < k → slice_get xs i ≢ Some c) → (i : ℕ) → slice_get xs i ≢ Some c
 none_of_all xs k c le before i e = let lt = slice_get_within xs i c e in before i (omega (arith, le, lt)) e
 
--- labels that cost the numbers of the longest paths cost what the code needs, where these are within the budget
+-- labels priced by the longest paths cost what the code needs, if these are within the budget
 pub costs_needs : (code : Program) (lines : List Line) (labels : List Label) (needs : List ℕ) (budget : ℕ) → code.lines ≡ lines → code.labels ≡ labels
     → ((pc : ℕ) → slice_index needs pc ≡ longest (instrs_of lines) (budget + 1) pc) → ((pc : ℕ) → slice_index needs pc ≤ budget) → Priced needs labels → CostsItsNeeds code
 costs_needs code lines labels needs budget same_lines same_labels each within priced l has =

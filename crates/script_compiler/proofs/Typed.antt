@@ -1,4 +1,4 @@
--- The code of a script that is judged, and whose needs are within the budget, is typed.
+-- The code of a judged script whose needs are within the budget is typed.
 use Rattle.std.proofs.Common.{◌≡◌, ℕ, zero, suc, ◌+◌, ◌-◌, ◌<◌, ◌≤◌, Bool, true, false, if◌then◌else◌, List, [], ◌∷◌, length, Option, Some, None, refl, sym, ap, ◌∙◌, subst, arith, inl, inr}
 use Rattle.std.specs.Prelude.{slice_get, Contains}
 use Rattle.std.specs.Option.{option_map}
@@ -16,19 +16,19 @@ use Rattle.plan_code.specs.declared.plan.Plan.{Plan}
 use Rattle.plan_code.specs.Flags.{is_set}
 use Rattle.plan_code.specs.Program.{Program, instr_at, label_at}
 use Rattle.plan_flow.specs.Rules.{Known, FitsSwap, IsFine, spent, leaves, target_of, continues, pages_alone, suspends}
-use Rattle.plan_flow.specs.Flows.{Flow, known_at, moved, FitsFlow, known_with, rests, left_over}
+use Rattle.plan_flow.specs.Flows.{Flow, known_at, after_instr, FitsFlow, known_with, rests, left_over}
 use Rattle.plan_flow.proofs.Leaving.{leaves_known}
-use Rattle.plan_verifier.specs.Typing.{Declares, ComesTo, Arrives, HasOpening, LabelStands, Reaches, IsAfter, IsSafe, IsTyped}
+use Rattle.plan_verifier.specs.Typing.{Declares, CanEnter, Arrives, HasOpening, IsLabelTyped, Reaches, IsAfter, IsSafe, IsTyped}
 use Rattle.script_front.specs.Block.{Block}
 use Rattle.script_front.specs.Tree.{Tree}
 use Rattle.script_meaning.specs.declared.flow.ProgramPoint.{ProgramPoint}
-use Rattle.script_meaning.specs.Scheme.{Place, past, all_places, mark_of, marks_of}
+use Rattle.script_meaning.specs.Scheme.{PlacedInstr, without_label, all_places, unpriced_label, unpriced_labels}
 use Rattle.script_meaning.specs.Judged.{IsJudged}
-use Rattle.script_meaning.specs.Need.{GoesTo, IsNeed, IsWithinBudget}
-use Rattle.script_meaning.specs.Compiled.{beginning, plan_of, opening_of, body_of, places_of, lines_of_places, instrs_of, first_counters, nested, IsLabelOf, AreLabelsOf, IsCodeOf, CostsItsNeeds, IsAccepted}
+use Rattle.script_meaning.specs.Need.{StepsTo, IsNeed, IsWithinBudget}
+use Rattle.script_meaning.specs.Compiled.{beginning, plan_of, opening_of, body_of, placed_instrs, lines_of_placed, instrs_of, first_counters, nested, IsLabelOf, AreLabelsOf, IsCodeOf, CostsItsNeeds, IsAccepted}
 use Rattle.script_compiler.specs.Longest.{longest}
 use Rattle.script_compiler.proofs.Paths.{one_least, need_most, need_onward, is_need}
-use Rattle.script_compiler.proofs.Laid.{length_lines}
+use Rattle.script_compiler.proofs.Emitted.{length_lines}
 use Rattle.script_compiler.proofs.Sound.{Stand, stand_all, counted, Lands, Meets, Holds, AllHold, all_hold, opens, fits_same}
 use Rattle.script_compiler.proofs.Connected.{Connected, all_connected}
 use Rattle.script_compiler.proofs.Labelled.{Found, label_found, label_contained, found_contained, label_place}
@@ -37,22 +37,22 @@ use Rattle.script_compiler.proofs.First.{first_of_all}
 some_same : {A : Type 0} (x y : A) → Some x ≡ Some y → x ≡ y
 some_same x y e = cc
 
--- ---- where an instruction goes
+-- ---- successors of an instruction
 
-goes_on : (i : Instr) → continues i ≡ true → rests i ≡ false → suspends i ≡ false
-goes_on (Wait frames) h k = k
-goes_on (Until day) h k = k
-goes_on (WaitContact contact closed) h k = k
-goes_on (CommitIn delay) h k = refl
-goes_on (CommitAt count) h k = refl
-goes_on Join h k = k
-goes_on Settle h k = refl
-goes_on End h k = cc
-goes_on (Edit edit) h k = refl
-goes_on (Test contact target) h k = refl
-goes_on (Jump target) h k = refl
-goes_on (Set counter times) h k = refl
-goes_on (Loop counter target) h k = refl
+is_reached : (i : Instr) → continues i ≡ true → rests i ≡ false → suspends i ≡ false
+is_reached (Wait frames) h k = k
+is_reached (Until day) h k = k
+is_reached (WaitContact contact closed) h k = k
+is_reached (CommitIn delay) h k = refl
+is_reached (CommitAt count) h k = refl
+is_reached Join h k = k
+is_reached Settle h k = refl
+is_reached End h k = cc
+is_reached (Edit edit) h k = refl
+is_reached (Test contact target) h k = refl
+is_reached (Jump target) h k = refl
+is_reached (Set counter times) h k = refl
+is_reached (Loop counter target) h k = refl
 
 targets_run : (i : Instr) (to : ℕ) → target_of i ≡ Some to → suspends i ≡ false
 targets_run (Wait frames) to h = cc
@@ -85,21 +85,21 @@ swap_known (Perhaps hi) (Perhaps h2) s t c d a b h = h
 one_need : (instrs : List Instr) (pc a b : ℕ) → IsNeed instrs pc a → IsNeed instrs pc b → a ≡ b
 one_need instrs pc a b h k = let x = k.longest a h.path in let y = h.longest b k.path in omega (arith, x, y)
 
--- ---- places of a code
+-- ---- instructions of a code
 
-instr_of_place : (ps : List Place) (pc : ℕ) (p : Place) → slice_get ps pc ≡ Some p → slice_get (instrs_of (lines_of_places ps)) pc ≡ Some p.instr
+instr_of_place : (ps : List PlacedInstr) (pc : ℕ) (p : PlacedInstr) → slice_get ps pc ≡ Some p → slice_get (instrs_of (lines_of_placed ps)) pc ≡ Some p.instr
 instr_of_place [] pc p e = cc
-instr_of_place (q ∷ ps) zero p e = ap (λ (x : Place). Some x.instr) (some_same q p e)
+instr_of_place (q ∷ ps) zero p e = ap (λ (x : PlacedInstr). Some x.instr) (some_same q p e)
 instr_of_place (q ∷ ps) (suc pc) p e = instr_of_place ps pc p e
 
-place_of : (ps : List Place) (pc : ℕ) (i : Instr) → option_map (λ l. l.instr) (slice_get (lines_of_places ps) pc) ≡ Some i → (p : Place) × (slice_get ps pc ≡ Some p) × (p.instr ≡ i)
+place_of : (ps : List PlacedInstr) (pc : ℕ) (i : Instr) → option_map (λ l. l.instr) (slice_get (lines_of_placed ps) pc) ≡ Some i → (p : PlacedInstr) × (slice_get ps pc ≡ Some p) × (p.instr ≡ i)
 place_of [] pc i e = cc
 place_of (p ∷ ps) zero i e = (p, refl, some_same p.instr i e)
 place_of (p ∷ ps) (suc pc) i e = place_of ps pc i e
 
-instr_line : (ps : List Place) (pc : ℕ) (p : Place) → slice_get ps pc ≡ Some p → option_map (λ l. l.instr) (slice_get (lines_of_places ps) pc) ≡ Some p.instr
+instr_line : (ps : List PlacedInstr) (pc : ℕ) (p : PlacedInstr) → slice_get ps pc ≡ Some p → option_map (λ l. l.instr) (slice_get (lines_of_placed ps) pc) ≡ Some p.instr
 instr_line [] pc p e = cc
-instr_line (q ∷ ps) zero p e = ap (λ (x : Place). Some x.instr) (some_same q p e)
+instr_line (q ∷ ps) zero p e = ap (λ (x : PlacedInstr). Some x.instr) (some_same q p e)
 instr_line (q ∷ ps) (suc pc) p e = instr_line ps pc p e
 
 got : {A : Type 0} (xs : List A) (i : ℕ) → i < length xs → (x : A) × (slice_get xs i ≡ Some x)
@@ -107,39 +107,39 @@ got [] i lt = absurd (omega (arith, lt))
 got (x ∷ xs) zero lt = (x, refl)
 got (x ∷ xs) (suc i) lt = got xs i (omega (arith, lt))
 
-module _ (code : Program) (whole : List Place) where
+module _ (code : Program) (whole : List PlacedInstr) where
   abbrev plan : Plan
   plan = code.plan
 
   abbrev instrs : List Instr
-  instrs = instrs_of (lines_of_places whole)
+  instrs = instrs_of (lines_of_placed whole)
 
   abbrev need : ℕ → ℕ
   need pc = longest instrs (plan.budget + 1) pc
 
-  -- what is known at a place, where this many instructions may still run
-  abbrev known_there : ℕ → Place → ℕ → Known
-  known_there pc p came = known_with p.spot.flow (first_counters p.repeats) (if p.spot.labelled then need pc else came)
+  -- what is known at an instruction, given the allowance with which it is reached
+  abbrev known_there : ℕ → PlacedInstr → ℕ → Known
+  known_there pc p came = known_with p.point.flow (first_counters p.repeats) (if p.point.labelled then need pc else came)
 
-  abbrev knowns : ℕ → ℕ → List Place → List Known
+  abbrev knowns : ℕ → ℕ → List PlacedInstr → List Known
   knowns came pc [] = []
   knowns came pc (p ∷ ps) = known_there pc p came ∷ knowns (left_over plan p.instr (known_there pc p came).allowance) (pc + 1) ps
 
-  length_knowns : (came pc : ℕ) (ps : List Place) → length (knowns came pc ps) ≡ length ps
+  length_knowns : (came pc : ℕ) (ps : List PlacedInstr) → length (knowns came pc ps) ≡ length ps
   length_knowns came pc [] = refl
   length_knowns came pc (p ∷ ps) = let ih = length_knowns (left_over plan p.instr (known_there pc p came).allowance) (pc + 1) ps in omega (arith, ih)
 
-  -- what is known at one place of the code, and at the next
-  record At (pc : ℕ) (p : Place) (t : Known) (following : Option Place) (next : Option Known) : Type 0 where
-    known : t ≡ known_with p.spot.flow (first_counters p.repeats) t.allowance
+  -- what is known at one instruction, and at the next
+  record At (pc : ℕ) (p : PlacedInstr) (t : Known) (following : Option PlacedInstr) (next : Option Known) : Type 0 where
+    known : t ≡ known_with p.point.flow (first_counters p.repeats) t.allowance
     affords : need pc ≤ t.allowance
-    marked : p.spot.labelled ≡ true → t.allowance ≡ need pc
-    onward : (q : Place) → following ≡ Some q → next ≡ Some (known_there (pc + 1) q (left_over plan p.instr t.allowance))
-    connected : (q : Place) → following ≡ Some q → q.spot.labelled ≡ false → continues p.instr ≡ true
+    marked : p.point.labelled ≡ true → t.allowance ≡ need pc
+    onward : (q : PlacedInstr) → following ≡ Some q → next ≡ Some (known_there (pc + 1) q (left_over plan p.instr t.allowance))
+    connected : (q : PlacedInstr) → following ≡ Some q → q.point.labelled ≡ false → continues p.instr ≡ true
 
   module _ (within : IsWithinBudget plan.budget instrs) where
-    -- an instruction leaves what may run at any place that it continues to
-    enough : (pc to : ℕ) (p : Place) (a : ℕ) → slice_get whole pc ≡ Some p → need pc ≤ a → (rests p.instr ≡ false → GoesTo p.instr pc to) → need to ≤ left_over plan p.instr a
+    -- an instruction leaves a sufficient allowance for each of its successors
+    enough : (pc to : ℕ) (p : PlacedInstr) (a : ℕ) → slice_get whole pc ≡ Some p → need pc ≤ a → (rests p.instr ≡ false → StepsTo p.instr pc to) → need to ≤ left_over plan p.instr a
     enough pc to p a e h g = by (rests p.instr) refl
       where
         by : (b : Bool) → rests p.instr ≡ b → need to ≤ (if b then plan.budget else a - 1)
@@ -150,42 +150,42 @@ module _ (code : Program) (whole : List Place) where
     head_affords pc came true h = omega arith
     head_affords pc came false h = h refl
 
-    next_head : (came pc : ℕ) (ps : List Place) (q : Place) → slice_get ps 0 ≡ Some q → slice_get (knowns came pc ps) 0 ≡ Some (known_there pc q came)
+    next_head : (came pc : ℕ) (ps : List PlacedInstr) (q : PlacedInstr) → slice_get ps 0 ≡ Some q → slice_get (knowns came pc ps) 0 ≡ Some (known_there pc q came)
     next_head came pc [] q h = cc
     next_head came pc (p ∷ ps) q h = ap (λ x. Some (known_there pc x came)) (some_same p q h)
 
-    follows_head : (came : Bool) (ps : List Place) (q : Place) → Connected came ps → slice_get ps 0 ≡ Some q → q.spot.labelled ≡ false → came ≡ true
+    follows_head : (came : Bool) (ps : List PlacedInstr) (q : PlacedInstr) → Connected came ps → slice_get ps 0 ≡ Some q → q.point.labelled ≡ false → came ≡ true
     follows_head came [] q c h = cc
-    follows_head came (p ∷ ps) q c h = let same : p ≡ q = some_same p q h in subst (λ (x : Place). x.spot.labelled ≡ false → came ≡ true) same c.0
+    follows_head came (p ∷ ps) q c h = let same : p ≡ q = some_same p q h in subst (λ (x : PlacedInstr). x.point.labelled ≡ false → came ≡ true) same c.0
 
-    at_head : (q : Place) (ps : List Place) (k came : ℕ) (c : Bool) → Connected c (q ∷ ps) → (c ≡ true → need k ≤ came) →
+    at_head : (q : PlacedInstr) (ps : List PlacedInstr) (k came : ℕ) (c : Bool) → Connected c (q ∷ ps) → (c ≡ true → need k ≤ came) →
         At k q (known_there k q came) (slice_get ps 0) (slice_get (knowns (left_over plan q.instr (known_there k q came).allowance) (k + 1) ps) 0)
     at_head q ps k came c co h = record {
       known = refl;
-      affords = head_affords k came q.spot.labelled (λ e. h (co.0 e));
+      affords = head_affords k came q.point.labelled (λ e. h (co.0 e));
       marked = λ e. ap (λ b. if b then need k else came) e;
       onward = λ x e. next_head (left_over plan q.instr (known_there k q came).allowance) (k + 1) ps x e;
       connected = λ x e. follows_head (continues q.instr) ps x co.1 e;
     }
 
-    at_each : (ps : List Place) (k came : ℕ) (c : Bool) → Stand whole k ps → Connected c ps → (c ≡ true → need k ≤ came) → (j : ℕ) (p : Place) (t : Known) →
+    at_each : (ps : List PlacedInstr) (k came : ℕ) (c : Bool) → Stand whole k ps → Connected c ps → (c ≡ true → need k ≤ came) → (j : ℕ) (p : PlacedInstr) (t : Known) →
         slice_get ps j ≡ Some p → slice_get (knowns came k ps) j ≡ Some t → At (k + j) p t (slice_get ps (j + 1)) (slice_get (knowns came k ps) (j + 1))
     at_each [] k came c st co h j p t e f = cc
     at_each (q ∷ ps) k came c st co h zero p t e f =
         let after_it = slice_get (knowns (left_over plan q.instr (known_there k q came).allowance) (k + 1) ps) 0 in
-        let here : k ≡ k + 0 = omega arith in
+        let point_here : k ≡ k + 0 = omega arith in
         let first = at_head q ps k came c co h in
         let as_p = subst (λ x. At k x (known_there k q came) (slice_get ps 0) after_it) (some_same q p e) first in
         let as_t = subst (λ x. At k p x (slice_get ps 0) after_it) (some_same (known_there k q came) t f) as_p in
-        subst (λ n. At n p t (slice_get ps 0) after_it) here as_t
+        subst (λ n. At n p t (slice_get ps 0) after_it) point_here as_t
     at_each (q ∷ ps) k came c st co h (suc j) p t e f =
         let a = (known_there k q came).allowance in
         let came' = left_over plan q.instr a in
-        let here : k + 1 + j ≡ k + suc j = omega arith in
+        let point_here : k + 1 + j ≡ k + suc j = omega arith in
         let further : suc (j + 1) ≡ suc j + 1 = omega arith in
-        let afford = head_affords k came q.spot.labelled (λ e. h (co.0 e)) in
-        let ih = at_each ps (k + 1) came' (continues q.instr) st.1 co.1 (λ g. enough k (k + 1) q a st.0 afford (λ s. (goes_on q.instr g s, inl (g, refl)))) j p t e f in
-        let at_here = subst (λ n. At n p t (slice_get ps (j + 1)) (slice_get (knowns came' (k + 1) ps) (j + 1))) here ih in
+        let afford = head_affords k came q.point.labelled (λ e. h (co.0 e)) in
+        let ih = at_each ps (k + 1) came' (continues q.instr) st.1 co.1 (λ g. enough k (k + 1) q a st.0 afford (λ s. (is_reached q.instr g s, inl (g, refl)))) j p t e f in
+        let at_here = subst (λ n. At n p t (slice_get ps (j + 1)) (slice_get (knowns came' (k + 1) ps) (j + 1))) point_here ih in
         subst (λ n. At (k + suc j) p t (slice_get (q ∷ ps) n) (slice_get (knowns came k (q ∷ ps)) n)) further at_here
 
     -- ---- the typing of the whole code
@@ -194,43 +194,43 @@ module _ (code : Program) (whole : List Place) where
     typing = knowns 0 0 whole
 
     module _ (st : Stand whole 0 whole) (co : Connected false whole) (holds : AllHold plan whole 0 whole) where
-      at_pc : (pc : ℕ) (p : Place) (t : Known) → slice_get whole pc ≡ Some p → slice_get typing pc ≡ Some t → At pc p t (slice_get whole (pc + 1)) (slice_get typing (pc + 1))
-      at_pc pc p t e f = let here : 0 + pc ≡ pc = omega arith in
-          subst (λ n. At n p t (slice_get whole (pc + 1)) (slice_get typing (pc + 1))) here (at_each whole 0 0 false st co (λ g. cc) pc p t e f)
+      at_pc : (pc : ℕ) (p : PlacedInstr) (t : Known) → slice_get whole pc ≡ Some p → slice_get typing pc ≡ Some t → At pc p t (slice_get whole (pc + 1)) (slice_get typing (pc + 1))
+      at_pc pc p t e f = let point_here : 0 + pc ≡ pc = omega arith in
+          subst (λ n. At n p t (slice_get whole (pc + 1)) (slice_get typing (pc + 1))) point_here (at_each whole 0 0 false st co (λ g. cc) pc p t e f)
 
-      hold_at : (ps : List Place) (k j : ℕ) (p : Place) → AllHold plan whole k ps → slice_get ps j ≡ Some p → Holds plan whole (k + j) p
+      hold_at : (ps : List PlacedInstr) (k j : ℕ) (p : PlacedInstr) → AllHold plan whole k ps → slice_get ps j ≡ Some p → Holds plan whole (k + j) p
       hold_at [] k j p h e = cc
-      hold_at (q ∷ ps) k zero p h e = let here : k ≡ k + 0 = omega arith in
-          subst (λ n. Holds plan whole n p) here (subst (λ x. Holds plan whole k x) (some_same q p e) h.0)
-      hold_at (q ∷ ps) k (suc j) p h e = let here : k + 1 + j ≡ k + suc j = omega arith in
-          subst (λ n. Holds plan whole n p) here (hold_at ps (k + 1) j p h.1 e)
+      hold_at (q ∷ ps) k zero p h e = let point_here : k ≡ k + 0 = omega arith in
+          subst (λ n. Holds plan whole n p) point_here (subst (λ x. Holds plan whole k x) (some_same q p e) h.0)
+      hold_at (q ∷ ps) k (suc j) p h e = let point_here : k + 1 + j ≡ k + suc j = omega arith in
+          subst (λ n. Holds plan whole n p) point_here (hold_at ps (k + 1) j p h.1 e)
 
-      hold_pc : (pc : ℕ) (p : Place) → slice_get whole pc ≡ Some p → Holds plan whole pc p
-      hold_pc pc p e = let here : 0 + pc ≡ pc = omega arith in subst (λ n. Holds plan whole n p) here (hold_at whole 0 pc p holds e)
+      hold_pc : (pc : ℕ) (p : PlacedInstr) → slice_get whole pc ≡ Some p → Holds plan whole pc p
+      hold_pc pc p e = let point_here : 0 + pc ≡ pc = omega arith in subst (λ n. Holds plan whole n p) point_here (hold_at whole 0 pc p holds e)
 
-      -- what is known of a place
-      known_of : (pc : ℕ) (p : Place) → slice_get whole pc ≡ Some p → (t : Known) × (slice_get typing pc ≡ Some t)
+      -- what is known at a pc
+      known_of : (pc : ℕ) (p : PlacedInstr) → slice_get whole pc ≡ Some p → (t : Known) × (slice_get typing pc ≡ Some t)
       known_of pc p e = got typing pc (omega (arith, slice_get_within whole pc p e, length_knowns 0 0 whole))
 
       -- ---- labels
 
-      module _ (lines_are : code.lines ≡ lines_of_places whole) (labels_are : AreLabelsOf code.configurations (marks_of 0 whole) code.labels) (costs : CostsItsNeeds code) where
-        label_there : (pc : ℕ) (p : Place) → slice_get whole pc ≡ Some p → p.spot.labelled ≡ true → Found code.configurations pc p code.labels
-        label_there pc p e l = let here : 0 + pc ≡ pc = omega arith in
-            subst (λ n. Found code.configurations n p code.labels) here (label_found code.configurations whole code.labels 0 pc p labels_are e l)
+      module _ (lines_are : code.lines ≡ lines_of_placed whole) (labels_are : AreLabelsOf code.configurations (unpriced_labels 0 whole) code.labels) (costs : CostsItsNeeds code) where
+        label_there : (pc : ℕ) (p : PlacedInstr) → slice_get whole pc ≡ Some p → p.point.labelled ≡ true → Found code.configurations pc p code.labels
+        label_there pc p e l = let point_here : 0 + pc ≡ pc = omega arith in
+            subst (λ n. Found code.configurations n p code.labels) point_here (label_found code.configurations whole code.labels 0 pc p labels_are e l)
 
-        no_label : (pc : ℕ) (p : Place) → slice_get whole pc ≡ Some p → p.spot.labelled ≡ false → (o : Option Label) → label_at code pc ≡ o → o ≡ None
+        no_label : (pc : ℕ) (p : PlacedInstr) → slice_get whole pc ≡ Some p → p.point.labelled ≡ false → (o : Option Label) → label_at code pc ≡ o → o ≡ None
         no_label pc p e l None h = refl
         no_label pc p e l (Some x) h = let m = label_place code.configurations whole code.labels pc x p labels_are h e in let f : true ≡ false = sym m ∙ l in cc
 
-        -- what it costs is what is needed there
+        -- its cost is the need of its pc
         cost_is : (l : Label) (pc : ℕ) → Contains code.labels l → l.pc ≡ pc → l.cost ≡ need pc
         cost_is l pc has at =
             let is : IsNeed instrs l.pc l.cost = subst (λ ls. IsNeed (instrs_of ls) l.pc l.cost) lines_are (costs l has) in
-            let here : IsNeed instrs pc l.cost = subst (λ n. IsNeed instrs n l.cost) at is in
-            one_need instrs pc l.cost (need pc) here (is_need instrs plan.budget pc within)
+            let point_here : IsNeed instrs pc l.cost = subst (λ n. IsNeed instrs n l.cost) at is in
+            one_need instrs pc l.cost (need pc) point_here (is_need instrs plan.budget pc within)
 
-        declares_place : (pc : ℕ) (p : Place) (l : Label) → Contains code.labels l → IsLabelOf code.configurations (mark_of pc p) l → Declares code l (known_with p.spot.flow (first_counters p.repeats) (need pc))
+        declares_place : (pc : ℕ) (p : PlacedInstr) (l : Label) → Contains code.labels l → IsLabelOf code.configurations (unpriced_label pc p) l → Declares code l (known_with p.point.flow (first_counters p.repeats) (need pc))
         declares_place pc p l has is = record {
           current = is.current;
           next = is.following;
@@ -239,62 +239,62 @@ module _ (code : Program) (whole : List Place) where
           cost = cost_is l pc has is.place;
         }
 
-        comes_to : (pc : ℕ) (p : Place) (f : Flow) (c : Counters) (a : ℕ) (m : Found code.configurations pc p code.labels) → FitsFlow f p.spot.flow → c ≡ first_counters p.repeats → need pc ≤ a → ComesTo code m.label (known_with f c a)
+        comes_to : (pc : ℕ) (p : PlacedInstr) (f : Flow) (c : Counters) (a : ℕ) (m : Found code.configurations pc p code.labels) → FitsFlow f p.point.flow → c ≡ first_counters p.repeats → need pc ≤ a → CanEnter code m.label (known_with f c a)
         comes_to pc p f c a m fits ec n =
             let has = found_contained code.configurations code.labels pc m.label m.there in
             let cost = cost_is m.label pc has m.is.place in
             record {
-              declared = known_with p.spot.flow (first_counters p.repeats) (need pc);
+              declared = known_with p.point.flow (first_counters p.repeats) (need pc);
               declares = declares_place pc p m.label has m.is;
               fits = record {
-                swap = swap_known f.pending p.spot.flow.pending f p.spot.flow c (first_counters p.repeats) a (need pc) fits;
+                swap = swap_known f.pending p.point.flow.pending f p.point.flow c (first_counters p.repeats) a (need pc) fits;
                 counters = λ r on. subst (λ x. is_set x r ≡ true) (sym ec) on;
               };
               affords = omega (arith, cost, n);
             }
 
-        meets_reaches : (to : ℕ) (p : Place) (a : ℕ) → need to ≤ a → Meets whole to p.repeats p.spot.flow → Reaches code to (known_with p.spot.flow (first_counters p.repeats) a)
+        meets_reaches : (to : ℕ) (p : PlacedInstr) (a : ℕ) → need to ≤ a → Meets whole to p.repeats p.point.flow → Reaches code to (known_with p.point.flow (first_counters p.repeats) a)
         meets_reaches to p a n m =
             let found = label_there to m.place m.there m.labelled in
-            record { label = found.label; there = found.there; comes = comes_to to m.place p.spot.flow (first_counters p.repeats) a found m.fits (ap first_counters (sym m.repeats)) n }
+            record { label = found.label; there = found.there; comes = comes_to to m.place p.point.flow (first_counters p.repeats) a found m.fits (ap first_counters (sym m.repeats)) n }
 
-        arrives_at : (pc r a : ℕ) (f : Flow) → need pc ≤ a → (l : Lands whole pc r (past f)) → slice_get typing pc ≡ Some (known_there pc l.place a) → (b : Bool) → l.place.spot.labelled ≡ b →
+        arrives_at : (pc r a : ℕ) (f : Flow) → need pc ≤ a → (l : Lands whole pc r (without_label f)) → slice_get typing pc ≡ Some (known_there pc l.place a) → (b : Bool) → l.place.point.labelled ≡ b →
             Arrives code typing pc (label_at code pc) (known_with f (first_counters r) a)
         arrives_at pc r a f n l known true b =
-            let fits : FitsFlow f l.place.spot.flow = elim l.fits [
+            let fits : FitsFlow f l.place.point.flow = elim l.fits [
               | inl same ↦ subst (λ (x : ProgramPoint). FitsFlow f x.flow) (sym same) (fits_same f)
               | inr h ↦ h.1
             ] in
             let found = label_there pc l.place l.there b in
             subst (λ o. Arrives code typing pc o (known_with f (first_counters r) a)) (sym found.there) (comes_to pc l.place f (first_counters r) a found fits (ap first_counters (sym l.repeats)) n)
         arrives_at pc r a f n l known false b =
-            let spot : l.place.spot ≡ past f = elim l.fits [
+            let point : l.place.point ≡ without_label f = elim l.fits [
               | inl same ↦ same
               | inr h ↦ let e : true ≡ false = sym h.0 ∙ b in cc
             ] in
             let same : known_there pc l.place a ≡ known_with f (first_counters r) a =
-            ap (λ x. known_with l.place.spot.flow (first_counters l.place.repeats) (if x then need pc else a)) b
-            ∙ ap (λ (x : ProgramPoint). known_with x.flow (first_counters l.place.repeats) a) spot ∙ ap (λ n. known_with f (first_counters n) a) l.repeats in
+            ap (λ x. known_with l.place.point.flow (first_counters l.place.repeats) (if x then need pc else a)) b
+            ∙ ap (λ (x : ProgramPoint). known_with x.flow (first_counters l.place.repeats) a) point ∙ ap (λ n. known_with f (first_counters n) a) l.repeats in
             let there : slice_get typing pc ≡ Some (known_with f (first_counters r) a) = known ∙ ap (λ x. Some x) same in
             subst (λ o. Arrives code typing pc o (known_with f (first_counters r) a)) (sym (no_label pc l.place l.there b (label_at code pc) refl)) there
 
-        safe_place : (pc : ℕ) (p : Place) (t : Known) → slice_get whole pc ≡ Some p → slice_get typing pc ≡ Some t → IsSafe code typing pc p.instr t
+        safe_place : (pc : ℕ) (p : PlacedInstr) (t : Known) → slice_get whole pc ≡ Some p → slice_get typing pc ≡ Some t → IsSafe code typing pc p.instr t
         safe_place pc p t e f =
             let a = at_pc pc p t e f in
             let h = hold_pc pc p e in
             let c = first_counters p.repeats in
             let least = one_least instrs plan.budget pc p.instr (instr_of_place whole pc p e) in
-            let left : leaves plan p.instr t ≡ known_with (moved plan p.instr p.spot.flow) (first_counters (counted p.instr p.repeats)) (left_over plan p.instr t.allowance) =
-            ap (λ x. leaves plan p.instr x) a.known ∙ leaves_known plan p.instr p.spot.flow c t.allowance ∙ ap (λ x. known_with (moved plan p.instr p.spot.flow) x (left_over plan p.instr t.allowance)) h.counters in
+            let left : leaves plan p.instr t ≡ known_with (after_instr plan p.instr p.point.flow) (first_counters (counted p.instr p.repeats)) (left_over plan p.instr t.allowance) =
+            ap (λ x. leaves plan p.instr x) a.known ∙ leaves_known plan p.instr p.point.flow c t.allowance ∙ ap (λ x. known_with (after_instr plan p.instr p.point.flow) x (left_over plan p.instr t.allowance)) h.counters in
             record {
               allowance = omega (arith, least, a.affords);
               fine = subst (λ x. IsFine plan p.instr x) (sym a.known) (h.fine t.allowance);
               inside = λ g. let l = h.onward g in let n = ap length lines_are in let m = length_lines whole in omega (arith, slice_get_within whole (pc + 1) l.place l.there, n, m);
               onward = λ g.
                   let l = h.onward g in
-                  let n = enough pc (pc + 1) p t.allowance e a.affords (λ s. (goes_on p.instr g s, inl (g, refl))) in
+                  let n = enough pc (pc + 1) p t.allowance e a.affords (λ s. (is_reached p.instr g s, inl (g, refl))) in
                   subst (λ x. Arrives code typing (pc + 1) (label_at code (pc + 1)) x) (sym left)
-                  (arrives_at (pc + 1) (counted p.instr p.repeats) (left_over plan p.instr t.allowance) (moved plan p.instr p.spot.flow) n l (a.onward l.place l.there) l.place.spot.labelled refl);
+                  (arrives_at (pc + 1) (counted p.instr p.repeats) (left_over plan p.instr t.allowance) (after_instr plan p.instr p.point.flow) n l (a.onward l.place l.there) l.place.point.labelled refl);
               targets = λ to g.
                   let more = need_onward instrs plan.budget pc to p.instr within (instr_of_place whole pc p e) (targets_run p.instr to g, inr g) in
                   let n : need to ≤ t.allowance - 1 = omega (arith, more, a.affords) in
@@ -303,21 +303,21 @@ module _ (code : Program) (whole : List Place) where
 
         safe : (pc : ℕ) (i : Instr) (t : Known) → instr_at code pc ≡ Some i → slice_get typing pc ≡ Some t → IsSafe code typing pc i t
         safe pc i t e f =
-            let there : option_map (λ l. l.instr) (slice_get (lines_of_places whole) pc) ≡ Some i = subst (λ ls. option_map (λ l. l.instr) (slice_get ls pc) ≡ Some i) lines_are e in
+            let there : option_map (λ l. l.instr) (slice_get (lines_of_placed whole) pc) ≡ Some i = subst (λ ls. option_map (λ l. l.instr) (slice_get ls pc) ≡ Some i) lines_are e in
             let p = place_of whole pc i there in subst (λ x. IsSafe code typing pc x t) p.2 (safe_place pc p.0 t p.1 f)
 
-        placed_label : (l : Label) → Contains code.labels l → LabelStands code typing l
+        placed_label : (l : Label) → Contains code.labels l → IsLabelTyped code typing l
         placed_label l has =
             let m = label_contained code.configurations whole code.labels 0 l labels_are has in
-            let here : 0 + m.index ≡ m.index = omega arith in
-            let is : IsLabelOf code.configurations (mark_of m.index m.place) l = subst (λ n. IsLabelOf code.configurations (mark_of n m.place) l) here m.is in
+            let point_here : 0 + m.index ≡ m.index = omega arith in
+            let is : IsLabelOf code.configurations (unpriced_label m.index m.place) l = subst (λ n. IsLabelOf code.configurations (unpriced_label n m.place) l) point_here m.is in
             let t = known_of m.index m.place m.there in
             let a = at_pc m.index m.place t.0 m.there t.1 in
-            let same : t.0 ≡ known_with m.place.spot.flow (first_counters m.place.repeats) (need m.index) = a.known ∙ ap (λ n. known_with m.place.spot.flow (first_counters m.place.repeats) n) (a.marked m.labelled) in
+            let same : t.0 ≡ known_with m.place.point.flow (first_counters m.place.repeats) (need m.index) = a.known ∙ ap (λ n. known_with m.place.point.flow (first_counters m.place.repeats) n) (a.marked m.labelled) in
             let cost = cost_is l m.index has is.place in
             let most = need_most instrs plan.budget m.index within in
             record {
-              known = known_with m.place.spot.flow (first_counters m.place.repeats) (need m.index);
+              known = known_with m.place.point.flow (first_counters m.place.repeats) (need m.index);
               there = ap (λ n. slice_get typing n) is.place ∙ t.1 ∙ ap (λ x. Some x) same;
               declares = declares_place m.index m.place l has is;
               within = omega (arith, cost, most);
@@ -329,15 +329,15 @@ module _ (code : Program) (whole : List Place) where
             let n = length_lines whole in
             let m = ap length lines_are in
             let before = got whole pc (omega (arith, lt, n, m)) in
-            let here = got whole (suc pc) (omega (arith, lt, n, m)) in
+            let point_here = got whole (suc pc) (omega (arith, lt, n, m)) in
             let t = known_of pc before.0 before.1 in
             let a = at_pc pc before.0 t.0 before.1 t.1 in
             let next : suc pc ≡ pc + 1 = omega arith in
-            let at_next : slice_get whole (pc + 1) ≡ Some here.0 = subst (λ n. slice_get whole n ≡ Some here.0) next here.1 in
+            let at_next : slice_get whole (pc + 1) ≡ Some point_here.0 = subst (λ n. slice_get whole n ≡ Some point_here.0) next point_here.1 in
             let there : instr_at code pc ≡ Some before.0.instr = subst (λ ls. option_map (λ l. l.instr) (slice_get ls pc) ≡ Some before.0.instr) (sym lines_are) (instr_line whole pc before.0 before.1) in
-            record { before = pc; instr = before.0.instr; next = next; there = there; onward = a.connected here.0 at_next (unlabelled (suc pc) here.0 here.1 h here.0.spot.labelled refl) }
+            record { before = pc; instr = before.0.instr; next = next; there = there; onward = a.connected point_here.0 at_next (unlabelled (suc pc) point_here.0 point_here.1 h point_here.0.point.labelled refl) }
           where
-            unlabelled : (pc : ℕ) (p : Place) → slice_get whole pc ≡ Some p → label_at code pc ≡ None → (b : Bool) → p.spot.labelled ≡ b → p.spot.labelled ≡ false
+            unlabelled : (pc : ℕ) (p : PlacedInstr) → slice_get whole pc ≡ Some p → label_at code pc ≡ None → (b : Bool) → p.point.labelled ≡ b → p.point.labelled ≡ false
             unlabelled pc p e h true l = let found = label_there pc p e l in let f : None ≡ Some found.label = sym h ∙ found.there in cc
             unlabelled pc p e h false l = l
 
@@ -356,12 +356,12 @@ module _ (code : Program) (whole : List Place) where
           },
         )
 
-        opening_by : (p : Place) (c : Configuration) → slice_get whole 0 ≡ Some p → p.spot.labelled ≡ true → p.spot.flow ≡ (beginning c).flow → p.repeats ≡ 0 → IsSound c → pages_alone plan c ≤ plan.period → HasOpening code
+        opening_by : (p : PlacedInstr) (c : Configuration) → slice_get whole 0 ≡ Some p → p.point.labelled ≡ true → p.point.flow ≡ (beginning c).flow → p.repeats ≡ 0 → IsSound c → pages_alone plan c ≤ plan.period → HasOpening code
         opening_by p c e l flow repeats sound period =
             let found = label_there 0 p e l in
             let has = found_contained code.configurations code.labels 0 found.label found.there in
-            let known = known_with p.spot.flow (first_counters p.repeats) (need 0) in
-            let current : p.spot.flow.current ≡ c = ap (λ (x : Flow). x.current) flow in
+            let known = known_with p.point.flow (first_counters p.repeats) (need 0) in
+            let current : p.point.flow.current ≡ c = ap (λ (x : Flow). x.current) flow in
             record {
               label = found.label;
               known = known;
@@ -376,8 +376,8 @@ module _ (code : Program) (whole : List Place) where
 
 -- ---- the theorem
 
-pub typed_from : (code : Program) (last : ℕ) (b : Block) (c : Configuration) → code.lines ≡ lines_of_places (all_places code.plan last b (beginning c)) → AreLabelsOf code.configurations (marks_of 0 (all_places code.plan last b (beginning c))) code.labels → CostsItsNeeds code
-    → IsSound c → pages_alone code.plan c ≤ code.plan.period → nested b ≤ 8 → IsJudged code.plan b (beginning c) → IsWithinBudget code.plan.budget (instrs_of (lines_of_places (all_places code.plan last b (beginning c)))) → IsTyped code
+pub typed_from : (code : Program) (last : ℕ) (b : Block) (c : Configuration) → code.lines ≡ lines_of_placed (all_places code.plan last b (beginning c)) → AreLabelsOf code.configurations (unpriced_labels 0 (all_places code.plan last b (beginning c))) code.labels → CostsItsNeeds code
+    → IsSound c → pages_alone code.plan c ≤ code.plan.period → nested b ≤ 8 → IsJudged code.plan b (beginning c) → IsWithinBudget code.plan.budget (instrs_of (lines_of_placed (all_places code.plan last b (beginning c)))) → IsTyped code
 typed_from code last b c lines_are labels_are costs sound period deep judged within =
     let s = beginning c in
     let whole = all_places code.plan last b s in
@@ -388,7 +388,7 @@ typed_from code last b c lines_are labels_are costs sound period deep judged wit
     let there : slice_get whole 0 ≡ Some first.place = ap (λ xs. slice_get xs 0) first.is in
     let m = opens code.plan last b s deep judged refl in
     let same : m.place ≡ first.place = some_same m.place first.place (sym m.there ∙ there) in
-    let repeats : first.place.repeats ≡ 0 = sym (ap (λ (x : Place). x.repeats) same) ∙ m.repeats in
+    let repeats : first.place.repeats ≡ 0 = sym (ap (λ (x : PlacedInstr). x.repeats) same) ∙ m.repeats in
     typed_by code whole within st co holds lines_are labels_are costs
     (opening_by code whole within st co holds lines_are labels_are costs first.place c there (first.labelled refl) first.flow repeats sound period)
 
@@ -397,8 +397,8 @@ accepted_typed s code a is costs =
     let b = body_of s in
     let c = opening_of s in
     let e : plan_of s ≡ code.plan = sym is.plan in
-    let places_are : places_of s ≡ all_places code.plan s.last_line b (beginning c) = ap (λ (p : Plan). all_places p s.last_line b (beginning c)) e in
+    let places_are : placed_instrs s ≡ all_places code.plan s.last_line b (beginning c) = ap (λ (p : Plan). all_places p s.last_line b (beginning c)) e in
     let deep : nested b ≤ 8 = a.repeats in
-    typed_from code s.last_line b c (is.lines ∙ ap lines_of_places places_are) (subst (λ ps. AreLabelsOf code.configurations (marks_of 0 ps) code.labels) places_are is.labels) costs a.sound
+    typed_from code s.last_line b c (is.lines ∙ ap lines_of_placed places_are) (subst (λ ps. AreLabelsOf code.configurations (unpriced_labels 0 ps) code.labels) places_are is.labels) costs a.sound
     (subst (λ (p : Plan). pages_alone p c ≤ p.period) e a.within_period) deep (subst (λ (p : Plan). IsJudged p b (beginning c)) e a.judged)
-    (subst (λ ps. IsWithinBudget code.plan.budget (instrs_of (lines_of_places ps))) places_are (subst (λ (p : Plan). IsWithinBudget p.budget (instrs_of (lines_of_places (places_of s)))) e a.within))
+    (subst (λ ps. IsWithinBudget code.plan.budget (instrs_of (lines_of_placed ps))) places_are (subst (λ (p : Plan). IsWithinBudget p.budget (instrs_of (lines_of_placed (placed_instrs s)))) e a.within))

@@ -1,4 +1,4 @@
--- Only costs are refused with `Cost`, and at which line.
+-- Only excessive costs are refused with `Cost`, and at which line.
 use Rattle.std.proofs.Common.{◌≡◌, ℕ, ◌+◌, ◌<◌, ◌≤◌, inl, inr, List, [], ◌∷◌, Option, Some, None, IsSome, refl, sym, ◌∙◌, arith, rules, zero, suc}
 use Rattle.std.specs.Prelude.{slice_get}
 use Rattle.mux_config.specs.Configuration.{Configuration}
@@ -152,7 +152,7 @@ pub first_costly : (code : List Instr) (budget pc : ℕ) → ((k : ℕ) → Clos
 first_costly code budget pc none over before = inr (
   none,
   record {
-    here = (longest code (budget + 1) pc, over, has_longest code (budget + 1) pc);
+    point_here = (longest code (budget + 1) pc, over, has_longest code (budget + 1) pc);
     earlier = λ k lt h.
         let n = h.0 in
         let more = h.1 in
@@ -172,8 +172,8 @@ over_there code (suc zero) pc budget lt h = is_there (slice_get code pc) h
 over_there code (suc (suc n)) pc budget lt h = (h.0, h.2)
 
 costly_there : (code : List Instr) (budget pc : ℕ) → IsCostlyAt budget code pc → (i : Instr) × (slice_get code pc ≡ Some i)
-costly_there code budget pc (inl f) = (f.here.instr, f.here.there)
-costly_there code budget pc (inr f) = over_there code f.1.here.0 pc budget f.1.here.1 f.1.here.2
+costly_there code budget pc (inl f) = (f.point_here.instr, f.point_here.there)
+costly_there code budget pc (inr f) = over_there code f.1.point_here.0 pc budget f.1.point_here.1 f.1.point_here.2
 
 line_there : (lines : List Line) (pc : ℕ) (i : Instr) → slice_get (instrs_of lines) pc ≡ Some i → (l : Line) × (slice_get lines pc ≡ Some l)
 line_there [] pc i e = cc

@@ -1,10 +1,10 @@
--- How much of a block there is to lay down, and the blocks that a script names.
+-- The size of a block that is still to be compiled, and the blocks that a script names.
 use Rattle.std.proofs.Common.{◌≡◌, ℕ, zero, suc, ◌+◌, ◌<◌, ◌≤◌, List, [], ◌∷◌, ◌++◌, refl, sym, ap, ◌∙◌, arith, map, take, length, get_or, append_assoc, append-nil}
 use Rattle.std.proofs.Common.{Vec, Global}
 use Rattle.script_front.specs.declared.tree.Statement.{Statement}
 use Rattle.script_front.specs.declared.tree.Statement.TheOpen.{Statement-F}
 use Rattle.script_front.specs.Block.{Block, nothing, basic, stop, when, either, repeat, forever, apply, Before, named_at, statement_step, before, block_of, table_of}
-use Rattle.script_compiler.specs.Laying.{tables}
+use Rattle.script_compiler.specs.Emission.{tables}
 use Rattle.script_compiler.proofs.Trees.{by_step}
 
 abbrev pub weight : Block → ℕ
@@ -34,7 +34,7 @@ weight_each table [] k s is lt = absurd (omega (arith, lt))
 weight_each table (x ∷ ss) zero s is lt = let more = weight_before table x (block_of table ss) in let e : weight (before table s nothing) ≡ weight (before table x nothing) = ap (λ y. weight (before table y nothing)) is in omega (arith, more, e)
 weight_each table (x ∷ ss) (suc k) s is lt = let more = weight_before table x (block_of table ss) in let ih = weight_each table ss k s is (omega (arith, lt)) in omega (arith, more, ih)
 
--- ---- the blocks before one
+-- ---- the blocks defined before one
 
 -- the blocks that are added
 abbrev added : List Block → List (List Statement) → List Block
@@ -72,7 +72,7 @@ map_length (b ∷ bs) = omega (arith, map_length bs)
 tables_added : (bs : List (Vec Statement Global)) → tables bs ≡ added [] (map (λ b. b.items) bs)
 tables_added bs = table_added [] (map (λ b. b.items) bs)
 
--- the blocks before one are the first ones
+-- the blocks defined before one are the first ones
 pub tables_take : (bs : List (Vec Statement Global)) (k : ℕ) → tables (take k bs) ≡ take k (tables bs)
 tables_take bs k = tables_added (take k bs) ∙ ap (λ xs. added [] xs) (map_take k bs) ∙ added_take [] (map (λ b. b.items) bs) k ∙ ap (λ xs. take k xs) (sym (tables_added bs))
 

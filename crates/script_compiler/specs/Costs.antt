@@ -1,45 +1,45 @@
--- At which line a script is refused of whose code more instructions can run in one frame than the budget.
+-- The line at which a script is refused whose code can run more instructions in one frame than the budget.
 use Rattle.std.specs.Prelude.{◌≡◌, ℕ, zero, suc, ◌<◌, ◌≤◌, ◌⊎◌, List, slice_get, Some}
 use Rattle.plan_code.specs.declared.instr.Instr.{Instr}
 use Rattle.plan_code.specs.declared.instr.Line.{Line}
 use Rattle.plan_flow.specs.Rules.{target_of}
 use Rattle.script_front.specs.Tree.{Tree}
-use Rattle.script_meaning.specs.Need.{GoesTo, HasPath}
-use Rattle.script_meaning.specs.Compiled.{places_of, lines_of_places, instrs_of}
+use Rattle.script_meaning.specs.Need.{StepsTo, HasPath}
+use Rattle.script_meaning.specs.Compiled.{placed_instrs, lines_of_placed, instrs_of}
 
 -- the machine can go from one pc to another in this many steps of one frame
-abbrev pub Leads : List Instr → ℕ → ℕ → ℕ → Type 0
-Leads code zero pc to = pc ≡ to
-Leads code (suc n) pc to = (i : Instr) × (next : ℕ) × (slice_get code pc ≡ Some i) × GoesTo i pc next × Leads code n next to
+abbrev pub CanReach : List Instr → ℕ → ℕ → ℕ → Type 0
+CanReach code zero pc to = pc ≡ to
+CanReach code (suc n) pc to = (i : Instr) × (next : ℕ) × (slice_get code pc ≡ Some i) × StepsTo i pc next × CanReach code n next to
 
 -- the machine can come back here in the same frame
-abbrev pub ComesBack : List Instr → ℕ → Type 0
-ComesBack code pc = (n : ℕ) × Leads code (suc n) pc pc
+abbrev pub CanRevisit : List Instr → ℕ → Type 0
+CanRevisit code pc = (n : ℕ) × CanReach code (suc n) pc pc
 
--- here a loop ends that can be gone round without a suspension: the instruction can jump to its own pc or to an earlier one
+-- closes a loop that can iterate without a suspension: the instruction can jump to its own pc or an earlier one
 pub record ClosesCycle (code : List Instr) (pc : ℕ) : Type 0 where
   pub instr : Instr
   pub target : ℕ
   pub there : slice_get code pc ≡ Some instr
   pub jumps : target_of instr ≡ Some target
   pub back : target ≤ pc
-  pub comes : ComesBack code pc
+  pub comes : CanRevisit code pc
 
 -- more instructions than the budget can run from here in one frame
 abbrev pub IsOver : ℕ → List Instr → ℕ → Type 0
 IsOver budget code pc = (n : ℕ) × (budget < n) × HasPath code pc n
 
--- it holds here, and at no earlier pc
+-- this pc is the first at which it holds
 pub record IsFirst (holds : ℕ → Type 0) (pc : ℕ) : Type 0 where
-  pub here : holds pc
+  pub point_here : holds pc
   pub earlier : (k : ℕ) → k < pc → holds k → ⊥
 
--- the first end of a loop without a suspension; where there is none, the first pc over the budget
+-- the first pc that closes such a loop; if there is none, the first pc over the budget
 abbrev pub IsCostlyAt : ℕ → List Instr → ℕ → Type 0
 IsCostlyAt budget code pc =
     IsFirst (ClosesCycle code) pc ⊎ (((k : ℕ) → ClosesCycle code k → ⊥) × IsFirst (IsOver budget code) pc)
 
--- this is the line of that instruction
+-- the line of that instruction
 pub record HasCostAt (budget : ℕ) (lines : List Line) (at : ℕ) : Type 0 where
   pub pc : ℕ
   pub line : Line
@@ -47,6 +47,6 @@ pub record HasCostAt (budget : ℕ) (lines : List Line) (at : ℕ) : Type 0 wher
   pub number : at ≡ line.number
   pub costly : IsCostlyAt budget (instrs_of lines) pc
 
--- of a script: the line is that of its code
+-- the line of that instruction in a script's code
 abbrev pub IsCostRefused : Tree → ℕ → Type 0
-IsCostRefused s at = HasCostAt s.header.budget (lines_of_places (places_of s)) at
+IsCostRefused s at = HasCostAt s.header.budget (lines_of_placed (placed_instrs s)) at

@@ -1,11 +1,11 @@
 pub mod Refusals
-pub mod Laying
+pub mod Emission
 pub mod Longest
 pub mod Room
 pub mod Fingerprint
 pub mod Space
 pub mod Limits
-pub mod Marked
+pub mod Unpriced
 pub mod Costs
 pub mod Reaching
 pub mod Pool

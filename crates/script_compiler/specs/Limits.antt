@@ -1,22 +1,22 @@
--- What it means that the code of a script keeps within a limit of codes.
+-- When the code of a script is within a limit on codes.
 use Rattle.std.specs.Prelude.{◌≤◌, List, [], length}
 use Rattle.mux_config.specs.Configuration.{Configuration}
 use Rattle.plan_code.specs.declared.limits.TheConstants.{MOST_CONFIGURATIONS, MOST_LABELS, MOST_INSTRUCTIONS, COUNTERS}
 use Rattle.script_front.specs.Tree.{Tree}
-use Rattle.script_meaning.specs.Scheme.{marks_of}
+use Rattle.script_meaning.specs.Scheme.{unpriced_labels}
 use Rattle.script_meaning.specs.Judged.{IsJudged}
-use Rattle.script_meaning.specs.Compiled.{plan_of, body_of, beginning, opening_of, places_of, nested, Tabled}
+use Rattle.script_meaning.specs.Compiled.{plan_of, body_of, beginning, opening_of, placed_instrs, nested, Tabled}
 use Rattle.script_compiler.specs.declared.fault.CodeLimit.{CodeLimit}
 use Rattle.script_compiler.specs.declared.fault.CodeLimit.TheVariants.{Instructions, Labels, Configurations, Counters}
 
 -- the code of the script is within this limit
 abbrev pub IsWithin : CodeLimit → Tree → Type 0
-IsWithin Instructions s = length (places_of s) ≤ MOST_INSTRUCTIONS
-IsWithin Labels s = length (marks_of 0 (places_of s)) ≤ MOST_LABELS
+IsWithin Instructions s = length (placed_instrs s) ≤ MOST_INSTRUCTIONS
+IsWithin Labels s = length (unpriced_labels 0 (placed_instrs s)) ≤ MOST_LABELS
 IsWithin Configurations s =
-    (table : List Configuration) → Tabled [] (marks_of 0 (places_of s)) table → length table ≤ MOST_CONFIGURATIONS
+    (table : List Configuration) → Tabled [] (unpriced_labels 0 (placed_instrs s)) table → length table ≤ MOST_CONFIGURATIONS
 IsWithin Counters s = nested (body_of s) ≤ COUNTERS
 
--- where each statement of the script may stand where it does, its code passes this limit
+-- if each statement of the script is valid where it is, its code exceeds this limit
 abbrev pub Passes : CodeLimit → Tree → Type 0
 Passes limit s = IsJudged (plan_of s) (body_of s) (beginning (opening_of s)) → IsWithin limit s → ⊥

@@ -1,4 +1,4 @@
--- The longest paths of at most this many instructions, round by round. No public contract needs this to be believed.
+-- The lengths of the longest paths of at most `n` instructions, by recursion on `n`. Not used in public contracts.
 use Rattle.std.specs.Prelude.{◌≡◌, ℕ, zero, suc, ◌+◌, max, if◌then◌else◌, List, slice_get, slice_index, Contains, Option, Some, None}
 use Rattle.plan_code.specs.declared.instr.Instr.{Instr}
 use Rattle.plan_code.specs.declared.label.Label.{Label}
@@ -8,7 +8,7 @@ abbrev pub need_to : (ℕ → ℕ) → Option ℕ → ℕ
 need_to further None = 0
 need_to further (Some to) = further to
 
--- from one place, where those of one instruction less are known
+-- from one pc, given those that are one instruction shorter
 abbrev pub need_at : Option Instr → ℕ → (ℕ → ℕ) → ℕ
 need_at None pc further = 0
 need_at (Some i) pc further =
@@ -18,6 +18,6 @@ abbrev pub longest : List Instr → ℕ → ℕ → ℕ
 longest code zero pc = 0
 longest code (suc n) pc = need_at (slice_get code pc) pc (λ to. longest code n to)
 
--- each label has the number of its place as its cost
+-- the cost of each label is the need of its pc
 abbrev pub Priced : List ℕ → List Label → Type 0
 Priced needs labels = (l : Label) → Contains labels l → l.cost ≡ slice_index needs l.pc

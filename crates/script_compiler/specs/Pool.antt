@@ -1,55 +1,55 @@
--- Configurations by their numbers in a pool. No public contract needs this.
+-- Configurations by their numbers in a pool. Not used in public contracts.
 use Rattle.std.specs.Prelude.{◌≡◌, ℕ, ◌<◌, List, [], ◌∷◌, ◌++◌, Option, Some, IfSome, slice_get}
 use Rattle.mux_config.specs.Configuration.{Configuration}
 use Rattle.plan_flow.specs.Flows.{Flow}
 use Rattle.script_meaning.specs.declared.flow.UnpricedLabel.{UnpricedLabel}
 use Rattle.script_meaning.specs.declared.flow.ProgramPoint.{ProgramPoint}
 use Rattle.script_compiler.specs.declared.numbers.Numbers.{Numbers}
-use Rattle.script_compiler.specs.declared.short.ShortSpot.{ShortSpot}
-use Rattle.script_compiler.specs.Marked.{configuration_at}
+use Rattle.script_compiler.specs.declared.short.IndexedPoint.{IndexedPoint}
+use Rattle.script_compiler.specs.Unpriced.{configuration_at}
 
 -- no configuration has two numbers
 abbrev pub IsDistinct : List Configuration → Type 0
 IsDistinct pool = (i j : ℕ) (c : Configuration) → slice_get pool i ≡ Some c → slice_get pool j ≡ Some c → i ≡ j
 
--- the new pool has what the old one has, under the same numbers
+-- the new pool has the old one's configurations, with the same numbers
 abbrev pub Extends : List Configuration → List Configuration → Type 0
 Extends old new = (more : List Configuration) × (new ≡ old ++ more)
 
--- a configuration has this number, where one is given
+-- a configuration has this number, if one is known
 abbrev pub IsNumbered : List Configuration → Option ℕ → Configuration → Type 0
 IsNumbered pool known c = IfSome known (λ k. slice_get pool k ≡ Some c)
 
 abbrev pub AreNumbered : List Configuration → Numbers → Flow → Type 0
 AreNumbered pool numbers t = IsNumbered pool numbers.current t.current × IsNumbered pool numbers.next t.next
 
--- a pool, and the table of those that labels name
+-- a pool, and the table of the configurations that labels name
 pub record PooledTable : Type 0 where
   pub pool : List Configuration
   pub table : List Configuration
 
--- and marks whose configurations are in that table
-pub record MarkedPool : Type 0 where
+-- with unpriced labels whose configurations are in that table
+pub record UnpricedPool : Type 0 where
   pub items : List UnpricedLabel
   pub table : List Configuration
   pub pool : List Configuration
 
--- all of these are numbers of a pool of this length
+-- all of these are numbers in a pool of this length
 abbrev pub AreBelow : ℕ → List ℕ → Type 0
 AreBelow n [] = Unit {0}
 AreBelow n (k ∷ ks) = (k < n) × AreBelow n ks
 
--- the spot, with its configurations
-abbrev pub spot_in : List Configuration → ShortSpot → ProgramPoint
-spot_in pool s =
+-- the program point, with its configurations
+abbrev pub point_in : List Configuration → IndexedPoint → ProgramPoint
+point_in pool s =
     record {
       flow = record { current = configuration_at pool s.current; next = configuration_at pool s.next; pending = s.pending };
       labelled = s.labelled;
     }
 
-abbrev pub IsInPool : ℕ → ShortSpot → Type 0
+abbrev pub IsInPool : ℕ → IndexedPoint → Type 0
 IsInPool n s = (s.current < n) × (s.next < n)
 
-abbrev pub AreInPool : ℕ → List ShortSpot → Type 0
+abbrev pub AreInPool : ℕ → List IndexedPoint → Type 0
 AreInPool n [] = Unit {0}
 AreInPool n (s ∷ ss) = IsInPool n s × AreInPool n ss

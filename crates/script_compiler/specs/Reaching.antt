@@ -1,8 +1,8 @@
--- The search for the pcs that can be reached in a frame. No public contract needs this.
+-- The search for the pcs that can be reached in a frame. Not used in public contracts.
 use Rattle.std.specs.Prelude.{◌≡◌, ℕ, suc, ◌+◌, ◌<◌, ◌⊎◌, Bool, true, if◌then◌else◌, List, [], ◌∷◌, length, slice_get, Some}
 use Rattle.plan_code.specs.declared.instr.Instr.{Instr}
-use Rattle.script_meaning.specs.Need.{GoesTo}
-use Rattle.script_compiler.specs.Costs.{Leads}
+use Rattle.script_meaning.specs.Need.{StepsTo}
+use Rattle.script_compiler.specs.Costs.{CanReach}
 
 abbrev pub IsAt : List Bool → ℕ → Type 0
 IsAt places k = slice_get places k ≡ Some true
@@ -15,7 +15,7 @@ abbrev pub trues : List Bool → ℕ
 trues [] = 0
 trues (b ∷ bs) = (if b then 1 else 0) + trues bs
 
--- of some pcs those that are in the code are reached, each of which waits if it was not reached before
+-- only allowed pcs have been added to those reached; each new one also waits to be expanded
 pub record Grows (ps qs : List Bool) (ws vs : List ℕ) (allowed : ℕ → Type 0) : Type 0 where
   pub long : length qs ≡ length ps
   pub kept : (k : ℕ) → IsAt ps k → IsAt qs k
@@ -25,19 +25,19 @@ pub record Grows (ps qs : List Bool) (ws vs : List ℕ) (allowed : ℕ → Type 
   pub waits : (k : ℕ) → IsIn k vs → IsIn k ws ⊎ IsAt qs k
   pub count : trues qs + length ws ≡ trues ps + length vs
 
--- and all of them are
+-- and all of them that are in the code have been added
 pub record GrowsBy (ps qs : List Bool) (ws vs : List ℕ) (wanted : ℕ → Type 0) : Type 0 where
   pub grows : Grows ps qs ws vs wanted
   pub all : (k : ℕ) → wanted k → k < length ps → IsAt qs k
 
--- where the machine can go from here, it is reached
+-- the pcs to which the machine can go from here are reached
 abbrev pub IsExpanded : List Instr → List Bool → ℕ → Type 0
-IsExpanded code places k = (i : Instr) (to : ℕ) → slice_get code k ≡ Some i → GoesTo i k to → to < length code → IsAt places to
+IsExpanded code places k = (i : Instr) (to : ℕ) → slice_get code k ≡ Some i → StepsTo i k to → to < length code → IsAt places to
 
--- after this many pcs have been looked at
+-- the state of the search after `n` pcs have been expanded
 pub record Searched (code : List Instr) (pc n : ℕ) (places : List Bool) (waiting : List ℕ) : Type 0 where
   pub long : length places ≡ length code
-  pub sound : (k : ℕ) → IsAt places k → (m : ℕ) × Leads code (suc m) pc k
+  pub sound : (k : ℕ) → IsAt places k → (m : ℕ) × CanReach code (suc m) pc k
   pub start : IsExpanded code places pc
   pub closed : (k : ℕ) → IsAt places k → IsIn k waiting ⊎ IsExpanded code places k
   pub waits : (k : ℕ) → IsIn k waiting → IsAt places k

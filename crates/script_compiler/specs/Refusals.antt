@@ -1,4 +1,4 @@
--- Which faults refuse a script, and why. Of this public contracts cite `IfRefused` and `IfLimit`.
+-- Which faults refuse a script, and why. Public contracts use only `IfRefused` and `IfLimit`.
 use Rattle.std.specs.Prelude.{◌≡◌, ℕ}
 use Rattle.plan_code.specs.declared.plan.Plan.{Plan}
 use Rattle.plan_code.specs.declared.instr.Instr.{Instr}
@@ -9,23 +9,23 @@ use Rattle.script_compiler.specs.declared.fault.CodeLimit.{CodeLimit}
 use Rattle.script_compiler.specs.declared.fault.CompileFault.{CompileFault}
 use Rattle.script_compiler.specs.declared.fault.CompileFault.TheVariants.{Refused, Limit, Memory}
 
--- neither a limit nor want of memory
+-- neither a limit nor out of memory
 abbrev pub IsRefusal : CompileFault → Type 0
 IsRefusal (Refused line cause) = Unit {0}
 IsRefusal (Limit line limit) = ⊥
 IsRefusal Memory = ⊥
 
--- at this line, with the first cause why the instruction is refused
+-- a refusal at this line, with the first cause for which the instruction is refused
 abbrev pub IsRefusedAs : Plan → ℕ → Instr → Flow → CompileFault → Type 0
 IsRefusedAs plan line i t e = (cause : Cause) × (e ≡ Refused line cause) × FlowRefused plan i (known_at t) cause
 
--- what holds of its line and its cause, where it refuses the script
+-- this holds of its line and cause, if it is a refusal
 abbrev pub IfRefused : CompileFault → (ℕ → Cause → Type 0) → Type 0
 IfRefused (Refused line cause) holds = holds line cause
 IfRefused (Limit line limit) holds = Unit {0}
 IfRefused Memory holds = Unit {0}
 
--- what holds of its line and the limit, where it says that the code would pass one
+-- this holds of its line and limit, if it is an exceeded limit
 abbrev pub IfLimit : CompileFault → (ℕ → CodeLimit → Type 0) → Type 0
 IfLimit (Refused line cause) holds = Unit {0}
 IfLimit (Limit line limit) holds = holds line limit

@@ -1,21 +1,21 @@
--- What the compiler has laid down and what is known there, as contracts see it. No public contract needs this.
+-- The compiler's state as contracts see it. Not used in public contracts.
 use Rattle.std.specs.Prelude.{List}
 use Rattle.mux_config.specs.Configuration.{Configuration}
 use Rattle.plan_code.specs.declared.instr.Line.{Line}
 use Rattle.script_meaning.specs.declared.flow.ProgramPoint.{ProgramPoint}
-use Rattle.script_compiler.specs.Marked.{MarkedTable}
+use Rattle.script_compiler.specs.Unpriced.{UnpricedTable}
 
 pub record Lines : Type 0 where
   pub items : List Line
 
-pub record Spots : Type 0 where
+pub record Points : Type 0 where
   pub items : List ProgramPoint
 
--- the lines, the labels without what they cost and their table, what is known here, what is saved, and every configuration
--- that has a number
+-- the emitted lines, the unpriced labels and their table, the current program point, the saved ones, and all numbered
+-- configurations
 pub record Work : Type 0 where
   pub lines : Lines
-  pub marks : MarkedTable
+  pub unpriced : UnpricedTable
   pub now : ProgramPoint
-  pub saved : Spots
+  pub saved : Points
   pub pool : List Configuration

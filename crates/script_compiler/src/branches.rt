@@ -1,26 +1,26 @@
-//! Where branches and loops begin and end.
+//! The beginnings and ends of branches and loops: what is saved, and what must agree where paths merge.
 
 ghost use Rattle.std.specs.Prelude.{◌≡◌, ℕ, ◌+◌, ◌<◌, ◌≤◌, true, if◌then◌else◌, [], ◌∷◌, ◌++◌, length, List, Option, Some, is_some, OnOk, IfOk, IfErr};
 ghost use Rattle.plan_code.specs.declared.instr.Instr.{Instr};
 ghost use Rattle.script_meaning.specs.declared.flow.ProgramPoint.{ProgramPoint};
-ghost use Rattle.script_meaning.specs.Scheme.{Place, past, alone, onward, meet, join, marks_of};
-ghost use Rattle.script_meaning.specs.Judged.{WaysAgree, BranchesAgree, ComesRound};
-ghost use Rattle.script_meaning.specs.Compiled.{lines_of_places};
+ghost use Rattle.script_meaning.specs.Scheme.{PlacedInstr, without_label, alone, onward, meet, join, unpriced_labels};
+ghost use Rattle.script_meaning.specs.Judged.{WaysAgree, BranchesAgree, FitsEntry};
+ghost use Rattle.script_meaning.specs.Compiled.{lines_of_placed};
 ghost use Rattle.plan_flow.specs.declared.cause.Cause.TheVariants.{Mismatch};
-ghost use Rattle.script_compiler.specs.Pool.{Extends, IsInPool, spot_in};
+ghost use Rattle.script_compiler.specs.Pool.{Extends, IsInPool, point_in};
 ghost use Rattle.script_compiler.specs.Refusals.{IsRefusal, IfRefused, IfLimit};
 ghost use Rattle.script_compiler.specs.Space.{HasSpace, HasTable, IsCovered, Covers};
-ghost use Rattle.script_compiler.specs.Laying.{Forks, ClosesIf, Turns, GoesRound, IsAfterBranches, jumping, way, spots_of};
+ghost use Rattle.script_compiler.specs.Emission.{Forks, ClosesIf, StartsElse, ClosesLoop, IsAfterBranches, jumping, way, points_of};
 
 use crate::fault::CompileFault;
 use crate::refusal::refused;
-use crate::short::ShortSpot;
+use crate::short::IndexedPoint;
 use crate::work::Work;
 use plan_code::{ContactId, Instr};
 use plan_flow::Cause;
 
 impl Work {
-    /// An instruction that jumps forward, to a place that is not known yet, and what is known before it is kept.
+    /// Emits a forward jump whose target is patched later, and saves what is known before it.
     #[inline(never)]
     pub(crate) fn fork(&mut self, line: u16, counters: u8, instr: Instr) -> Result<(), CompileFault>
         requires room { length self.old.lines.items ≤ 4096 }
@@ -31,8 +31,8 @@ impl Work {
         ensures refused { IfErr result (λ e. IsRefusal e → ⊥) }
         ensures table { OnOk result (HasTable self.new) }
         ensures at { IfErr result (λ e. IfLimit e (λ at _. at ≡ line)) }
-        ensures limited { IfErr result (λ e. IfLimit e (λ _ limit. (p : Place) (ps : List Place)
-            → p.spot ≡ self.old.now → HasSpace limit self.old (p ∷ ps) → ⊥)) }
+        ensures limited { IfErr result (λ e. IfLimit e (λ _ limit. (p : PlacedInstr) (ps : List PlacedInstr)
+            → p.point ≡ self.old.now → HasSpace limit self.old (p ∷ ps) → ⊥)) }
     {
         if let Err(fault) = self.save() {
             return Err(fault);
@@ -40,12 +40,12 @@ impl Work {
         self.put(line, counters, instr)
     }
 
-    /// The head of a loop: what is known here is kept, and a label stands here if it can be gone round.
+    /// Starts a loop: saves what is known at its head, which gets a label if control reaches the end of the body.
     #[inline(never)]
     pub(crate) fn enter(&mut self, falls: bool, line: u16) -> Result<(), CompileFault>
         requires table { HasTable self.old }
         ensures lines { self.new.lines ≡ self.old.lines }
-        ensures marks { self.new.marks ≡ self.old.marks }
+        ensures unpriced { self.new.unpriced ≡ self.old.unpriced }
         ensures now { OnOk result (self.new.now ≡ record {
           flow = self.old.now.flow;
           labelled = if
@@ -56,20 +56,21 @@ impl Work {
         ensures refused { IfErr result (λ e. IsRefusal e → ⊥) }
         ensures table { OnOk result (HasTable self.new) }
         ensures at { IfErr result (λ e. IfLimit e (λ at _. at ≡ line)) }
-        ensures limited { IfErr result (λ e. IfLimit e (λ _ limit. (ps : List Place) → (falls ≡ true
+        ensures limited { IfErr result (λ e. IfLimit e (λ _ limit. (ps : List PlacedInstr) → (falls ≡ true
             → IsCovered self.old.now.flow ps) → HasSpace limit self.old ps → ⊥)) }
     {
         if falls {
-            if let Err(fault) = self.mark(line) {
+            if let Err(fault) = self.unpriced_label(line) {
                 return Err(fault);
             }
         }
         self.save()
     }
 
-    /// The end of a loop: where its body falls out, what is known must fit what was kept, and it goes back.
+    /// Ends a loop: if control reaches the end of the body, what is known must fit what was saved, and the jump back is
+    /// emitted.
     #[inline(never)]
-    pub(crate) fn go_round(
+    pub(crate) fn close_loop(
         &mut self,
         falls: bool,
         line: u16,
@@ -80,18 +81,18 @@ impl Work {
         requires few { length self.old.lines.items ≤ 4096 }
         requires table { HasTable self.old }
         ensures round { OnOk result ((front : List ProgramPoint) (entry : ProgramPoint) →
-            self.old.saved.items ≡ front ++ entry ∷ [] → GoesRound falls line counters back front
+            self.old.saved.items ≡ front ++ entry ∷ [] → ClosesLoop falls line counters back front
             entry self.old self.new) }
         ensures room { OnOk result (length self.new.lines.items ≤ 4096) }
         ensures refused { IfErr result (λ e. IsRefusal e → (front : List ProgramPoint) (entry :
-            ProgramPoint) → self.old.saved.items ≡ front ++ entry ∷ [] → ComesRound (way falls
+            ProgramPoint) → self.old.saved.items ≡ front ++ entry ∷ [] → FitsEntry (way falls
             self.old) entry → ⊥) }
         ensures why { IfErr result (λ e. IfRefused e (λ at given. (at ≡ line)
             × (given ≡ Mismatch))) }
         ensures table { OnOk result (HasTable self.new) }
         ensures at { IfErr result (λ e. IfLimit e (λ at _. at ≡ line)) }
         ensures limited { IfErr result (λ e. IfLimit e (λ _ limit. (m n : ℕ) (i : Instr)
-            (ps : List Place) → HasSpace limit self.old (onward (way falls self.old) [] (alone m i
+            (ps : List PlacedInstr) → HasSpace limit self.old (onward (way falls self.old) [] (alone m i
             n) ++ ps) → ⊥)) }
     {
         let entry = self.restore();
@@ -104,38 +105,38 @@ impl Work {
         self.put(line, counters, back)
     }
 
-    /// This way and that of a spot meet, where this one comes here at all.
-    fn join(&mut self, falls: bool, line: u16, other: &ShortSpot) -> Result<(), CompileFault>
+    /// Merges the current path, which may be unreachable, with that of a saved program point.
+    fn join(&mut self, falls: bool, line: u16, other: &IndexedPoint) -> Result<(), CompileFault>
         requires table { HasTable self.old }
         requires within { IsInPool (length self.old.pool) other.now }
         ensures lines { self.new.lines ≡ self.old.lines }
-        ensures marks { self.new.marks ≡ self.old.marks }
+        ensures unpriced { self.new.unpriced ≡ self.old.unpriced }
         ensures saved { self.new.saved ≡ self.old.saved }
         ensures met { OnOk result (meet (way falls self.old)
-            (Some (spot_in self.old.pool other.now)) ≡ Some self.new.now) }
+            (Some (point_in self.old.pool other.now)) ≡ Some self.new.now) }
         ensures agree { OnOk result (WaysAgree (way falls self.old)
-            (Some (spot_in self.old.pool other.now))) }
+            (Some (point_in self.old.pool other.now))) }
         ensures refused { IfErr result (λ e. IsRefusal e → WaysAgree (way falls self.old)
-            (Some (spot_in self.old.pool other.now)) → ⊥) }
+            (Some (point_in self.old.pool other.now)) → ⊥) }
         ensures why { IfErr result (λ e. IfRefused e (λ at given. (at ≡ line)
             × (given ≡ Mismatch))) }
         ensures table { OnOk result (HasTable self.new) }
         ensures at { IfErr result (λ e. IfLimit e (λ at _. at ≡ line)) }
-        ensures limited { IfErr result (λ e. IfLimit e (λ _ limit. (ps : List Place) → ((u :
-            ProgramPoint) → meet (way falls self.old) (Some (spot_in self.old.pool other.now)) ≡
+        ensures limited { IfErr result (λ e. IfLimit e (λ _ limit. (ps : List PlacedInstr) → ((u :
+            ProgramPoint) → meet (way falls self.old) (Some (point_in self.old.pool other.now)) ≡
             Some u → IsCovered u.flow ps) → HasSpace limit self.old ps → ⊥)) }
     {
         if !falls {
             self.take(other);
-            return self.mark(line);
+            return self.unpriced_label(line);
         }
         if !self.meet(other) {
             return Err(refused(line, Cause::Mismatch));
         }
-        self.mark(line)
+        self.unpriced_label(line)
     }
 
-    /// The end of an `if` without `else`: its block's way, if it falls out, and the one past it meet.
+    /// Ends an `if` without `else`: the path through its block, if it continues, merges with the one past it.
     #[inline(never)]
     pub(crate) fn close_if(
         &mut self,
@@ -148,7 +149,7 @@ impl Work {
         requires there { at < length self.old.lines.items }
         requires few { length self.old.lines.items ≤ 4096 }
         requires table { HasTable self.old }
-        ensures goes_on { IfOk result (λ f. f ≡ true) }
+        ensures is_reached { IfOk result (λ f. f ≡ true) }
         ensures closes { OnOk result ((front : List ProgramPoint) (entry : ProgramPoint)
             → self.old.saved.items ≡ front
             ++ entry ∷ [] → ClosesIf falls line contact at front entry self.old self.new) }
@@ -161,36 +162,36 @@ impl Work {
         ensures table { OnOk result (HasTable self.new) }
         ensures at { IfErr result (λ e. IfLimit e (λ at _. at ≡ line)) }
         ensures limited { IfErr result (λ e. IfLimit e (λ _ limit. (front : List ProgramPoint)
-            (entry : ProgramPoint) → self.old.saved.items ≡ front ++ entry ∷ [] → (ps : List Place)
+            (entry : ProgramPoint) → self.old.saved.items ≡ front ++ entry ∷ [] → (ps : List PlacedInstr)
             → ((u : ProgramPoint) → meet (way falls self.old) (Some entry) ≡ Some u → IsCovered
             u.flow ps) → HasSpace limit self.old ps → ⊥)) }
     {
         let entry = self.restore();
         let target = self.len() as u16;
-        self.aim(at, line, Instr::Test { contact, target });
+        self.patch(at, line, Instr::Test { contact, target });
         if let Err(fault) = self.join(falls, line, &entry) {
             return Err(fault);
         }
         Ok(true)
     }
 
-    /// The way out of a first branch, where it falls out: what is known is kept, and it jumps over the second.
-    fn leave(&mut self, falls: bool, line: u16, counters: u8) -> Result<(), CompileFault>
+    /// Leaves a first branch, if control reaches its end: saves what is known and emits a jump over the second.
+    fn jump_past(&mut self, falls: bool, line: u16, counters: u8) -> Result<(), CompileFault>
         requires room { length self.old.lines.items ≤ 4096 }
         requires table { HasTable self.old }
         ensures lines { OnOk result (self.new.lines.items ≡ self.old.lines.items
-            ++ lines_of_places (jumping falls line counters self.old)) }
-        ensures marks { OnOk result (self.new.marks.items ≡ self.old.marks.items
-            ++ marks_of (length self.old.lines.items) (jumping falls line counters self.old)) }
+            ++ lines_of_placed (jumping falls line counters self.old)) }
+        ensures unpriced { OnOk result (self.new.unpriced.items ≡ self.old.unpriced.items
+            ++ unpriced_labels (length self.old.lines.items) (jumping falls line counters self.old)) }
         ensures pool { Extends self.old.pool self.new.pool }
         ensures saved { OnOk result (self.new.saved.items ≡ self.old.saved.items
-            ++ spots_of (way falls self.old)) }
+            ++ points_of (way falls self.old)) }
         ensures room { OnOk result (length self.new.lines.items ≤ 4096) }
         ensures table { OnOk result (HasTable self.new) }
         ensures refused { IfErr result (λ e. IsRefusal e → ⊥) }
         ensures at { IfErr result (λ e. IfLimit e (λ at _. at ≡ line)) }
         ensures limited { IfErr result (λ e. IfLimit e (λ _ limit. (m n : ℕ) (i : Instr)
-            (ps : List Place) → HasSpace limit self.old (onward (way falls self.old) [] (alone m i
+            (ps : List PlacedInstr) → HasSpace limit self.old (onward (way falls self.old) [] (alone m i
             n) ++ ps) → ⊥)) }
     {
         if !falls {
@@ -199,10 +200,10 @@ impl Work {
         self.fork(line, counters, Instr::Jump(0))
     }
 
-    /// The end of a first branch: where it falls out, what is known is kept, and it jumps over the second. The
-    /// second one begins with what is known before both.
+    /// Ends a first branch: if control reaches its end, saves what is known and emits a jump over the second branch.
+    /// The second begins with what is known before both.
     #[inline(never)]
-    pub(crate) fn turn(
+    pub(crate) fn start_else(
         &mut self,
         falls: bool,
         line: u16,
@@ -214,8 +215,8 @@ impl Work {
         requires there { at < length self.old.lines.items }
         requires few { length self.old.lines.items ≤ 4096 }
         requires table { HasTable self.old }
-        ensures turns { OnOk result ((front : List ProgramPoint) (entry : ProgramPoint) →
-            self.old.saved.items ≡ front ++ entry ∷ [] → Turns falls line counters contact at front
+        ensures starts_else { OnOk result ((front : List ProgramPoint) (entry : ProgramPoint) →
+            self.old.saved.items ≡ front ++ entry ∷ [] → StartsElse falls line counters contact at front
             entry self.old self.new) }
         ensures room { OnOk result (length self.new.lines.items ≤ 4096) }
         ensures refused { IfErr result (λ e. IsRefusal e → ⊥) }
@@ -223,20 +224,20 @@ impl Work {
         ensures at { IfErr result (λ e. IfLimit e (λ at _. at ≡ line)) }
         ensures limited { IfErr result (λ e. IfLimit e (λ _ limit. (front : List ProgramPoint)
             (entry : ProgramPoint) → self.old.saved.items ≡ front ++ entry ∷ [] → (m n : ℕ) (i :
-            Instr) (ps : List Place) → HasSpace limit self.old (onward (way falls self.old) []
+            Instr) (ps : List PlacedInstr) → HasSpace limit self.old (onward (way falls self.old) []
             (alone m i n) ++ ps) → IsCovered entry.flow ps → ⊥)) }
     {
         let entry = self.restore();
-        if let Err(fault) = self.leave(falls, line, counters) {
+        if let Err(fault) = self.jump_past(falls, line, counters) {
             return Err(fault);
         }
         let target = self.len() as u16;
-        self.aim(at, line, Instr::Test { contact, target });
+        self.patch(at, line, Instr::Test { contact, target });
         self.take(&entry);
-        self.mark(line)
+        self.unpriced_label(line)
     }
 
-    /// The end of a second branch, where it meets the first if that fell out.
+    /// Ends a second branch and merges it with the first, if that one continues; returns whether either does.
     #[inline(never)]
     pub(crate) fn close_else(
         &mut self,
@@ -250,19 +251,19 @@ impl Work {
         requires few { length self.old.lines.items ≤ 4096 }
         requires table { HasTable self.old }
         ensures arrives { IfOk result (λ f. (front : List ProgramPoint) (a : Option ProgramPoint) →
-            first ≡ is_some a → self.old.saved.items ≡ front ++ spots_of a → IsAfterBranches a (way
+            first ≡ is_some a → self.old.saved.items ≡ front ++ points_of a → IsAfterBranches a (way
             second self.old) front line jump self.old self.new f) }
         ensures room { OnOk result (length self.new.lines.items ≤ 4096) }
         ensures refused { IfErr result (λ e. IsRefusal e → (front : List ProgramPoint) (a : Option
-            ProgramPoint) → first ≡ is_some a → self.old.saved.items ≡ front ++ spots_of a →
+            ProgramPoint) → first ≡ is_some a → self.old.saved.items ≡ front ++ points_of a →
             BranchesAgree a (way second self.old) → ⊥) }
         ensures why { IfErr result (λ e. IfRefused e (λ at given. (at ≡ line)
             × (given ≡ Mismatch))) }
         ensures table { OnOk result (HasTable self.new) }
         ensures at { IfErr result (λ e. IfLimit e (λ at _. at ≡ line)) }
         ensures limited { IfErr result (λ e. IfLimit e (λ _ limit. (front : List ProgramPoint) (a :
-            Option ProgramPoint) → first ≡ is_some a → self.old.saved.items ≡ front ++ spots_of a →
-            (ps : List Place) → ((u : ProgramPoint) → join a (way second self.old) ≡ Some u → Covers
+            Option ProgramPoint) → first ≡ is_some a → self.old.saved.items ≡ front ++ points_of a →
+            (ps : List PlacedInstr) → ((u : ProgramPoint) → join a (way second self.old) ≡ Some u → Covers
             u ps) → HasSpace limit self.old ps → ⊥)) }
     {
         if !first {
@@ -270,7 +271,7 @@ impl Work {
         }
         let exit = self.restore();
         let end = self.len() as u16;
-        self.aim(jump, line, Instr::Jump(end));
+        self.patch(jump, line, Instr::Jump(end));
         if let Err(fault) = self.join(second, line, &exit) {
             return Err(fault);
         }

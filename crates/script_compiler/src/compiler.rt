@@ -1,16 +1,16 @@
-//! From scripts to codes.
+//! Compiles a script: opening, statements, costs, then labels and the table of configurations.
 
 ghost use Rattle.std.specs.Prelude.{◌≡◌, ◌≢◌, ℕ, ◌+◌, ◌<◌, ◌≤◌, [], length, map, slice_get, slice_index, Some, IsOk, IfOk, IfErr};
 ghost use Rattle.script_compiler.specs.Costs.{HasCostAt, IsCostRefused};
 ghost use Rattle.script_compiler.specs.Longest.{longest};
 ghost use Rattle.plan_flow.specs.Rules.{pages_alone};
-ghost use Rattle.script_meaning.specs.Scheme.{all_places, marks_of};
-ghost use Rattle.script_meaning.specs.Compiled.{plan_of, lines_of_places, body_of, beginning, opening_of, places_of, instrs_of, nested, AreFine, Tabled, IsCodeOf, CostsItsNeeds, IsAccepted};
+ghost use Rattle.script_meaning.specs.Scheme.{all_places, unpriced_labels};
+ghost use Rattle.script_meaning.specs.Compiled.{plan_of, lines_of_placed, body_of, beginning, opening_of, placed_instrs, instrs_of, nested, AreFine, Tabled, IsCodeOf, CostsItsNeeds, IsAccepted};
 ghost use Rattle.script_meaning.specs.Judged.{IsJudged};
 ghost use Rattle.script_meaning.specs.Need.{IsWithinBudget};
 ghost use Rattle.mux_config.specs.Configuration.{nothing};
 ghost use Rattle.mux_config.specs.Sound.{IsSound};
-ghost use Rattle.script_compiler.specs.Laying.{tables, facts_of};
+ghost use Rattle.script_compiler.specs.Emission.{tables, facts_of};
 ghost use Rattle.script_meaning.specs.Refused.{IsRefusedIn, IsRefused};
 ghost use Rattle.plan_flow.specs.declared.cause.Cause.TheVariants.{Cost};
 ghost use Rattle.script_compiler.specs.Refusals.{IsRefusal, IfRefused, IfLimit};
@@ -28,7 +28,7 @@ use crate::fault::CompileFault;
 use crate::needs::{first_over, needs};
 use crate::opening::{built, test};
 use crate::refusal::refused;
-use crate::work::{Laid, Work};
+use crate::work::{Emitted, Work};
 use mux_config::Config;
 use plan_code::{Code, Line, Plan};
 use plan_flow::Cause;
@@ -36,7 +36,7 @@ use script_front::{Script, Statement};
 use script_meaning::laws;
 use std::alloc::{AllocError, Global};
 
-/// What is known of each of these blocks.
+/// The facts of each block, in order.
 fn facts_of(alloc: Global, blocks: &[Vec<Statement>]) -> Result<Vec<BlockFacts>, AllocError>
     ensures { IfOk result (λ v. v.items ≡ map facts_of (tables blocks.now)) }
 {
@@ -52,7 +52,7 @@ fn facts_of(alloc: Global, blocks: &[Vec<Statement>]) -> Result<Vec<BlockFacts>,
     Ok(facts)
 }
 
-/// What a script declares.
+/// The plan of a script, from its header.
 fn plan_of(script: &Script) -> Plan
     ensures { result ≡ plan_of script.now }
 {
@@ -66,16 +66,21 @@ fn plan_of(script: &Script) -> Plan
     }
 }
 
-/// All that is laid down of a script that begins with this configuration.
-fn lay(alloc: Global, plan: &Plan, script: &Script, config: &Config) -> Result<Laid, CompileFault>
-    ensures lines { IfOk result (λ w. w.lines.items ≡ lines_of_places (all_places plan.now
+/// Compiles the statements of a script that begins with this configuration; the labels are still unpriced.
+fn emit(
+    alloc: Global,
+    plan: &Plan,
+    script: &Script,
+    config: &Config,
+) -> Result<Emitted, CompileFault>
+    ensures lines { IfOk result (λ w. w.lines.items ≡ lines_of_placed (all_places plan.now
         script.now.last_line (body_of script.now) (beginning config.now))) }
-    ensures marks { IfOk result (λ w. w.marks.items ≡ marks_of 0 (all_places plan.now
+    ensures unpriced { IfOk result (λ w. w.unpriced.items ≡ unpriced_labels 0 (all_places plan.now
         script.now.last_line (body_of script.now) (beginning config.now))) }
-    ensures table { IfOk result (λ w. Tabled [] w.marks.items w.marks.table) }
+    ensures table { IfOk result (λ w. Tabled [] w.unpriced.items w.unpriced.table) }
     ensures room { IfOk result (λ w. length w.lines.items ≤ 4096) }
-    ensures labels { IfOk result (λ w. length w.marks.items ≤ 1024) }
-    ensures configurations { IfOk result (λ w. length w.marks.table ≤ 256) }
+    ensures labels { IfOk result (λ w. length w.unpriced.items ≤ 1024) }
+    ensures configurations { IfOk result (λ w. length w.unpriced.table ≤ 256) }
     ensures judged { IsOk result → IsJudged plan.now (body_of script.now)
         (beginning config.now) }
     ensures repeats { IsOk result → nested (body_of script.now) ≤ 8 }
@@ -101,12 +106,12 @@ fn lay(alloc: Global, plan: &Plan, script: &Script, config: &Config) -> Result<L
         Err(fault) => return Err(fault),
     };
     match work.close(falls, script.last_line()) {
-        Ok(()) => Ok(work.into_laid()),
+        Ok(()) => Ok(work.into_emitted()),
         Err(fault) => Err(fault),
     }
 }
 
-/// The number of the line that an instruction comes from.
+/// The line number of an instruction.
 fn line_at(lines: &[Line], pc: usize) -> u16
     ensures { (line : Line) → slice_get lines.now pc ≡ Some line → result ≡ line.number }
 {
@@ -116,8 +121,8 @@ fn line_at(lines: &[Line], pc: usize) -> u16
     }
 }
 
-/// Whether every need is within the budget: refused is `Cost`, at the first instruction that ends a loop which can be
-/// gone round without a suspension, and where there is none at the first whose need is over the budget.
+/// Checks that every need is within the budget. Otherwise refuses with `Cost` at the first instruction that closes a
+/// loop that can iterate without a suspension, or, if there is none, at the first whose need exceeds the budget.
 fn test_costs(alloc: Global, lines: &[Line], needs: &[u16], budget: u8) -> Result<(), CompileFault>
     requires few { length lines.now ≤ 4096 }
     requires needs { (pc : ℕ) → slice_index needs.now pc ≡ longest (instrs_of lines.now)
@@ -136,7 +141,7 @@ fn test_costs(alloc: Global, lines: &[Line], needs: &[u16], budget: u8) -> Resul
     Err(refused(line_at(lines, pc), Cause::Cost))
 }
 
-/// The laws of scripts, of the code of one that is accepted: it is typed, and plays as the script reads.
+/// The law of scripts, applied to the code of an accepted script: it is typed and plays as the script reads.
 fn promise(script: &Script, code: &Code)
     requires formed { IsProgram code.now }
     requires code { IsCodeOf script.now code.now }
@@ -151,24 +156,23 @@ fn promise(script: &Script, code: &Code)
     laws::scripts();
 }
 
-/// The code of a script: what its statements lay down, one after another, after the opening that its items make. Its
-/// instructions, its lines, its labels and its table of configurations are those of `IsCodeOf`; each label costs what the
-/// code needs from there, the most instructions that can run in one frame; and it is typed, so that the verifier accepts
-/// it. It plays as the script reads: from every start in range, over every list of contact changes and frames, the
-/// current and the next configuration, the frames until the swap and the CIF count are those to which the statements of
-/// the script lead. There is a code only where the script is accepted: the items have no fault, the opening that they
-/// make is sound and goes out within the period, each statement may stand where it stands, repeats stand at most eight
-/// deep, the code keeps the limits on instructions, labels and configurations, and no path of it is longer than the
-/// budget.
+/// Compiles a script. The instructions, lines, labels and table of configurations of the code are those of `IsCodeOf`;
+/// each label costs what the code needs from there, the most instructions that can run in one frame; and the code is
+/// typed, so the verifier accepts it. It plays as the script reads: from every start in range, over every list of
+/// contact changes and frames, the current and the next configuration, the frames until the swap and the CIF count are
+/// those that the script's statements result in. Only accepted scripts compile: the items have no fault, the opening
+/// that they make is sound and goes out within the period, each statement is valid for what is known before it, repeats
+/// are nested at most eight deep, the code is within the limits on instructions, labels and configurations, and no path
+/// in it has more instructions than the budget.
 ///
 /// # Errors
 ///
-/// `Refused` with the first fault that is found as the code is laid down, in text order: of an item, of the opening
-/// at the line of `begin`, and of a statement, where `Table` says that it cannot be reached. `Limit` names the first limit
-/// of codes that is passed: where each statement may stand where it stands, the whole code is not within that limit.
-/// `Memory` where memory was refused. Costs come last: `Cost` is at the line of the first instruction
-/// that ends a loop which can be gone round without a suspension, or else of the first instruction from which more
-/// instructions than the budget can run in one frame. A script that is accepted is refused only for want of memory.
+/// `Refused` with the first fault found in text order: of an item, of the opening (at the line of `begin`), or of a
+/// statement; `Table` means that a statement is unreachable. `Limit` names the first limit exceeded while compiling: if
+/// every statement is valid, the whole code exceeds that limit. `Memory` if out of memory. Costs are checked last:
+/// `Cost` is at the line of the first instruction that closes a loop that can iterate without a suspension, or else of
+/// the first instruction from which more instructions than the budget can run in one frame. An accepted script fails
+/// only if out of memory.
 pub fn compile(alloc: Global, script: &Script) -> Result<Code, CompileFault>
     ensures code { IfOk result (λ c. IsCodeOf script.now c) }
     ensures costs { IfOk result (λ c. CostsItsNeeds c) }
@@ -178,7 +182,7 @@ pub fn compile(alloc: Global, script: &Script) -> Result<Code, CompileFault>
     ensures within_period { IsOk result → pages_alone (plan_of script.now)
         (opening_of script.now) ≤ script.now.header.period }
     ensures within_budget { IsOk result → IsWithinBudget script.now.header.budget
-        (instrs_of (lines_of_places (places_of script.now))) }
+        (instrs_of (lines_of_placed (placed_instrs script.now))) }
     ensures typed { IfOk result (λ c. IsTyped c) }
     ensures plays { IfOk result (λ c. PlaysAsItReads script.now c) }
     ensures refused { IfErr result (λ e. e ≢ Memory → IsAccepted script.now → ⊥) }
@@ -191,11 +195,11 @@ pub fn compile(alloc: Global, script: &Script) -> Result<Code, CompileFault>
     let plan = plan_of(script);
     let config = built(script.items())?;
     test(&plan, &config, script.begin_line())?;
-    let work = lay(alloc, &plan, script, &config)?;
+    let work = emit(alloc, &plan, script, &config)?;
     let costs = needs(alloc, &work.lines, plan.budget)?;
     test_costs(alloc, &work.lines, &costs, plan.budget)?;
-    let labels = work.marks.labels(alloc, &costs)?;
-    let configs = work.marks.into_configs(alloc)?;
+    let labels = work.unpriced.labels(alloc, &costs)?;
+    let configs = work.unpriced.into_configs(alloc)?;
     match Code::new(plan, configs, labels, work.lines) {
         Some(code) => {
             promise(script, &code);

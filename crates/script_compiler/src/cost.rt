@@ -1,26 +1,26 @@
-//! Where a code is refused in which more instructions can run in one frame than the budget.
+//! Finds the instruction at which a code is refused for its cost.
 
 ghost use Rattle.std.specs.Prelude.{◌≡◌, ◌↔◌, ◌+◌, ◌<◌, ◌≤◌, ℕ, [], true, false, length, slice_get, Some, None, IsTrue, IfOk, IfSome, OnOk};
 ghost use Rattle.plan_flow.specs.Rules.{continues, target_of};
 ghost use Rattle.script_meaning.specs.Compiled.{instrs_of};
-ghost use Rattle.script_meaning.specs.Need.{GoesTo};
-ghost use Rattle.script_compiler.specs.Costs.{ClosesCycle, ComesBack, IsCostlyAt, IsFirst};
+ghost use Rattle.script_meaning.specs.Need.{StepsTo};
+ghost use Rattle.script_compiler.specs.Costs.{ClosesCycle, CanRevisit, IsCostlyAt, IsFirst};
 ghost use Rattle.script_compiler.specs.Longest.{longest};
 ghost use Rattle.script_compiler.specs.Reaching.{GrowsBy, IsAt, Searched, trues};
 
 use plan_code::{Instr, Line};
-use plan_flow::ways::{continues, suspends, target_of};
+use plan_flow::successors::{continues, suspends, target_of};
 use std::alloc::{AllocError, Global};
 
-/// Places that can be reached, and those of them from which it has still to be looked on.
+/// A search for reachable pcs: those reached, and those still to be expanded.
 #[derive(Drop)]
 struct Reached {
     places: Vec<bool>,
     waiting: Vec<usize>,
 }
 
-/// No place of a code of this length.
-fn no_places(alloc: Global, count: usize) -> Result<Vec<bool>, AllocError>
+/// No pc reached, in a code of this length.
+fn no_flags(alloc: Global, count: usize) -> Result<Vec<bool>, AllocError>
     ensures long { IfOk result (λ v. length v.items ≡ count) }
     ensures none { IfOk result (λ v. (k : ℕ) → IsAt v.items k → ⊥) }
     ensures count { IfOk result (λ v. trues v.items ≡ 0) }
@@ -33,7 +33,7 @@ fn no_places(alloc: Global, count: usize) -> Result<Vec<bool>, AllocError>
 }
 
 impl Reached {
-    /// A place is reached.
+    /// Adds a pc, unless it is past the end or already reached.
     fn add(&mut self, place: usize) -> Result<(), AllocError>
         ensures { OnOk result (GrowsBy self.old.places.items self.new.places.items
             self.old.waiting.items self.new.waiting.items (λ k. k ≡ place)) }
@@ -49,7 +49,7 @@ impl Reached {
         Ok(())
     }
 
-    /// The place to which an instruction can jump.
+    /// Adds the pc to which an instruction can jump.
     fn add_target(&mut self, instr: &Instr) -> Result<(), AllocError>
         ensures { OnOk result (GrowsBy self.old.places.items self.new.places.items
             self.old.waiting.items self.new.waiting.items (λ k. target_of instr.now ≡ Some k)) }
@@ -60,7 +60,7 @@ impl Reached {
         }
     }
 
-    /// The place after an instruction, where it continues to it.
+    /// Adds the pc after an instruction, if it continues there.
     fn add_next(&mut self, instr: &Instr, pc: usize) -> Result<(), AllocError>
         requires { pc < 4096 }
         ensures { OnOk result (GrowsBy self.old.places.items self.new.places.items
@@ -73,11 +73,11 @@ impl Reached {
         self.add(pc + 1)
     }
 
-    /// The places to which the machine can go from an instruction in the same frame.
+    /// Adds the pcs to which the machine can go from an instruction in the same frame.
     fn add_following(&mut self, instr: &Instr, pc: usize) -> Result<(), AllocError>
         requires { pc < 4096 }
         ensures { OnOk result (GrowsBy self.old.places.items self.new.places.items
-            self.old.waiting.items self.new.waiting.items (GoesTo instr.now pc)) }
+            self.old.waiting.items self.new.waiting.items (StepsTo instr.now pc)) }
     {
         if suspends(*instr) {
             return Ok(());
@@ -86,7 +86,7 @@ impl Reached {
         self.add_next(instr, pc)
     }
 
-    /// Looks on from a place that waits. False where none does.
+    /// Expands one waiting pc. False if none is waiting.
     fn step(&mut self, lines: &[Line]) -> Result<bool, AllocError>
         requires { length lines.now ≤ 4096 }
         ensures onward { IfOk result (λ b. b ≡ true → (pc n : ℕ) → Searched (instrs_of lines.now)
@@ -104,7 +104,7 @@ impl Reached {
         Ok(true)
     }
 
-    /// Whether a place is reached.
+    /// Whether a pc is reached.
     fn has(&self, place: usize) -> bool
         ensures { IsTrue result ↔ IsAt self.now.places.items place }
     {
@@ -115,15 +115,15 @@ impl Reached {
     }
 }
 
-/// Where the machine can go from an instruction.
-fn begun(alloc: Global, lines: &[Line], pc: usize) -> Result<Reached, AllocError>
+/// Starts the search: the pcs to which the machine can go from an instruction in the same frame.
+fn reached_from(alloc: Global, lines: &[Line], pc: usize) -> Result<Reached, AllocError>
     requires few { length lines.now ≤ 4096 }
     requires within { pc < length lines.now }
     ensures { IfOk result (λ r. Searched (instrs_of lines.now) pc 0 r.places.items
         r.waiting.items) }
 {
     let mut reached = Reached {
-        places: no_places(alloc, lines.len())?,
+        places: no_flags(alloc, lines.len())?,
         waiting: Vec::new(alloc),
     };
     reached.add_following(&lines[pc].instr, pc)?;
@@ -131,13 +131,13 @@ fn begun(alloc: Global, lines: &[Line], pc: usize) -> Result<Reached, AllocError
 }
 
 /// Whether the machine can come back to an instruction in the same frame.
-fn comes_back(alloc: Global, lines: &[Line], pc: usize) -> Result<bool, AllocError>
+fn can_revisit(alloc: Global, lines: &[Line], pc: usize) -> Result<bool, AllocError>
     requires few { length lines.now ≤ 4096 }
     requires within { pc < length lines.now }
-    ensures back { IfOk result (λ b. IsTrue b → ComesBack (instrs_of lines.now) pc) }
-    ensures found { IfOk result (λ b. ComesBack (instrs_of lines.now) pc → IsTrue b) }
+    ensures back { IfOk result (λ b. IsTrue b → CanRevisit (instrs_of lines.now) pc) }
+    ensures found { IfOk result (λ b. CanRevisit (instrs_of lines.now) pc → IsTrue b) }
 {
-    let mut reached = begun(alloc, lines, pc)?;
+    let mut reached = reached_from(alloc, lines, pc)?;
     for _step in 0..lines.len() {
         let more = reached.step(lines)?;
         if !more {
@@ -147,8 +147,8 @@ fn comes_back(alloc: Global, lines: &[Line], pc: usize) -> Result<bool, AllocErr
     Ok(reached.has(pc))
 }
 
-/// Whether an instruction goes back: it can jump to its own or an earlier place.
-fn goes_back(instr: Instr, pc: usize) -> bool
+/// Whether an instruction can jump to its own pc or an earlier one.
+fn jumps_back(instr: Instr, pc: usize) -> bool
     ensures yes { IsTrue result → (target : ℕ) × (target_of instr ≡ Some target)
         × (target ≤ pc) }
     ensures no { (target : ℕ) → target_of instr ≡ Some target → target ≤ pc → IsTrue result }
@@ -159,20 +159,20 @@ fn goes_back(instr: Instr, pc: usize) -> bool
     }
 }
 
-/// Whether an instruction is the end of a loop that can be gone round without a suspension.
+/// Whether an instruction closes a loop that can iterate without a suspension.
 fn closes_cycle(alloc: Global, lines: &[Line], pc: usize) -> Result<bool, AllocError>
     requires few { length lines.now ≤ 4096 }
     requires within { pc < length lines.now }
     ensures yes { IfOk result (λ b. IsTrue b → ClosesCycle (instrs_of lines.now) pc) }
     ensures no { IfOk result (λ b. ClosesCycle (instrs_of lines.now) pc → IsTrue b) }
 {
-    if !goes_back(lines[pc].instr, pc) {
+    if !jumps_back(lines[pc].instr, pc) {
         return Ok(false);
     }
-    comes_back(alloc, lines, pc)
+    can_revisit(alloc, lines, pc)
 }
 
-/// The first instruction that ends a loop that can be gone round without a suspension, if there is one.
+/// The first instruction that closes a loop that can iterate without a suspension, if there is one.
 fn first_round(alloc: Global, lines: &[Line]) -> Result<Option<usize>, AllocError>
     requires few { length lines.now ≤ 4096 }
     ensures some { IfOk result (λ o. IfSome o (λ pc. IsFirst (ClosesCycle
@@ -189,8 +189,8 @@ fn first_round(alloc: Global, lines: &[Line]) -> Result<Option<usize>, AllocErro
     Ok(None)
 }
 
-/// The instruction at which a code is refused of which this is the first with a need over a budget: the end of a loop that
-/// can be gone round without a suspension, or else this one.
+/// The instruction at which a code is refused, given the first whose need is over the budget: the first that closes a
+/// loop that can iterate without a suspension, or else the one given.
 pub(crate) fn costly(alloc: Global, lines: &[Line], over: usize) -> Result<usize, AllocError>
     requires few { length lines.now ≤ 4096 }
     ensures { IfOk result (λ pc. (budget : ℕ) → budget

@@ -1,14 +1,14 @@
-//! Which statements can be followed by others, and which have no instruction.
+//! Facts of statements before they are compiled: whether control reaches their end, and whether they emit nothing.
 
 ghost use Rattle.std.specs.Prelude.{◌≡◌, map, List};
 ghost use Rattle.script_front.specs.Block.{Block, nothing, block_of, before};
 ghost use Rattle.script_meaning.specs.Scheme.{falls_out};
-ghost use Rattle.script_compiler.specs.Laying.{lays_nothing, facts_of};
+ghost use Rattle.script_compiler.specs.Emission.{has_no_instr, facts_of};
 
 use crate::context::BlockFacts;
 use script_front::Statement;
 
-/// Whether what follows these statements can be reached, where it is known of the blocks that they apply.
+/// Whether control reaches the end of these statements, given the facts of the blocks that they apply.
 #[cycle(falls)]
 pub(crate) fn all_fall(facts: &[BlockFacts], statements: &[Statement]) -> bool
     ensures { (table : List Block) → facts.now ≡ map facts_of table → result
@@ -22,7 +22,7 @@ pub(crate) fn all_fall(facts: &[BlockFacts], statements: &[Statement]) -> bool
     true
 }
 
-/// Whether what follows this statement can be reached.
+/// Whether control reaches the end of this statement.
 #[cycle(falls)]
 fn falls(facts: &[BlockFacts], statement: &Statement) -> bool
     ensures { (table : List Block) → facts.now ≡ map facts_of table → result
@@ -43,10 +43,10 @@ fn falls(facts: &[BlockFacts], statement: &Statement) -> bool
     }
 }
 
-/// Whether these statements have no instruction, where it is known of the blocks that they apply.
+/// Whether these statements emit no instructions, given the facts of the blocks that they apply.
 pub(crate) fn all_silent(facts: &[BlockFacts], statements: &[Statement]) -> bool
     ensures { (table : List Block) → facts.now ≡ map facts_of table → result
-        ≡ lays_nothing (block_of table statements.now) }
+        ≡ has_no_instr (block_of table statements.now) }
 {
     for statement in statements {
         if !is_silent(facts, statement) {
@@ -56,10 +56,10 @@ pub(crate) fn all_silent(facts: &[BlockFacts], statements: &[Statement]) -> bool
     true
 }
 
-/// Whether this statement has no instruction.
+/// Whether this statement emits no instructions.
 fn is_silent(facts: &[BlockFacts], statement: &Statement) -> bool
     ensures { (table : List Block) → facts.now ≡ map facts_of table → result
-        ≡ lays_nothing (before table statement.now nothing) }
+        ≡ has_no_instr (before table statement.now nothing) }
 {
     match statement {
         Statement::Apply { block, .. } => {

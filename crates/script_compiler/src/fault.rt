@@ -1,35 +1,35 @@
-//! Why a script is not compiled.
+//! The compiler's errors: refusals, exceeded limits, out of memory.
 
 use plan_flow::Cause;
 use std::alloc::AllocError;
 use thiserror::Error;
 
-/// A limit of codes.
+/// A limit on codes.
 #[derive(Clone, Copy, Debug, PartialEq, Eq)]
 pub enum CodeLimit {
-    /// A code has 4,096 instructions at most.
+    /// A code has at most 4,096 instructions.
     Instructions,
-    /// A code has 1,024 labels at most.
+    /// A code has at most 1,024 labels.
     Labels,
-    /// The table of a code has 256 configurations at most.
+    /// The table of a code has at most 256 configurations.
     Configurations,
-    /// A code has eight counters, so that repeats stand eight deep at most.
+    /// A code has eight counters, so repeats are nested at most eight deep.
     Counters,
 }
 
-/// Why a script is not compiled. Printed it is the line that `dabplan compile` prints: `refused line L: CAUSE`,
+/// Why a script does not compile. `Display` writes the line that `dabplan compile` prints: `refused line L: CAUSE`,
 /// `refused: Limit` or `no memory`.
 #[derive(Clone, Copy, Debug, PartialEq, Eq, Error)]
 pub enum CompileFault {
-    /// A statement, an item or the opening is refused. The line is that of the item's or the statement's first
-    /// token, also inside a defined block, or that of `begin` for the opening as a whole.
+    /// A statement, an item or the opening is refused. The line is that of the first token of the item or the
+    /// statement, also inside a defined block, or that of `begin` for the opening as a whole.
     #[error("refused line {line}: {cause}")]
     Refused { line: u16, cause: Cause },
-    /// The code would pass this limit. The line is that of the first token of the statement whose code passes it, or
-    /// that of the text's last token for the `End` that follows the statements.
+    /// The code would exceed this limit. The line is that of the first token of the statement whose code exceeds it, or
+    /// that of the last token of the text for the `End` after the statements.
     #[error("refused: Limit")]
     Limit { line: u16, limit: CodeLimit },
-    /// Memory was refused.
+    /// Out of memory.
     #[error("no memory")]
     Memory,
 }
@@ -40,7 +40,7 @@ impl From<AllocError> for CompileFault {
 
     ghost from_gives = { λ _ e. e ≡ Memory };
 
-    /// Want of memory.
+    /// An allocation failure is `Memory`.
     fn from(_error: AllocError) -> Self {
         CompileFault::Memory
     }

@@ -1,8 +1,8 @@
-//! Statements that are one instruction: what is known after one, or why it is refused.
+//! Checks statements that are one instruction: what is known after one, or why it is refused.
 
 ghost use Rattle.std.specs.Prelude.{◌≡◌, ◌↔◌, IsOk, IfErr, OnOk};
 ghost use Rattle.plan_flow.specs.Rules.{IsFine};
-ghost use Rattle.plan_flow.specs.Flows.{known_at, moved};
+ghost use Rattle.plan_flow.specs.Flows.{known_at, after_instr};
 ghost use Rattle.script_meaning.specs.Scheme.{instr_of_act};
 ghost use Rattle.script_compiler.specs.Refusals.{IsRefusedAs};
 
@@ -13,7 +13,7 @@ use plan_code::{Instr, Plan};
 use plan_flow::Flow;
 use script_front::Act;
 
-/// The instruction of a statement that is one, such as an edit or a wait.
+/// The instruction of a statement that compiles to one, such as an edit or a wait.
 pub fn instr_of(act: Act) -> Instr
     ensures { result ≡ instr_of_act act }
 {
@@ -29,8 +29,8 @@ pub fn instr_of(act: Act) -> Instr
     }
 }
 
-/// The flow becomes what the statement leaves. It may be where it is exactly where its instruction needs no more than what
-/// is known.
+/// Checks a statement and updates the flow. The statement is valid exactly if what is known satisfies what its
+/// instruction needs.
 ///
 /// # Errors
 ///
@@ -41,7 +41,7 @@ pub(crate) fn judge(
     act: Act,
     flow: &mut Flow<Tables>,
 ) -> Result<(), CompileFault>
-    ensures left { OnOk result (flow.new ≡ moved plan.now (instr_of_act act) flow.old) }
+    ensures left { OnOk result (flow.new ≡ after_instr plan.now (instr_of_act act) flow.old) }
     ensures fine { IsOk result ↔ IsFine plan.now (instr_of_act act) (known_at flow.old) }
     ensures refused { IfErr result (λ e. IsRefusedAs plan.now line (instr_of_act act) flow.old
         e) }

@@ -1,17 +1,17 @@
-//! The labels of a code.
+//! Prices labels: the labels of a code, with their counters and costs.
 
 ghost use Rattle.std.specs.Prelude.{◌≡◌, ℕ, ◌<◌, ◌≤◌, None, [], ◌∷◌, ◌++◌, map, slice_index, OnOk, IfOk, IfErr, IfSome};
 ghost use Rattle.script_meaning.specs.Compiled.{first_counters};
-ghost use Rattle.script_compiler.specs.Marked.{label_of_mark, AreShallow};
+ghost use Rattle.script_compiler.specs.Unpriced.{priced_label, AreShallow};
 ghost use Rattle.script_compiler.specs.declared.fault.CompileFault.TheVariants.{Memory};
 
 use crate::fault::CompileFault;
 use crate::needs::at;
-use crate::short::ShortMark;
+use crate::short::IndexedLabel;
 use plan_code::{CounterId, Counters, Label};
 use std::alloc::Global;
 
-/// As many of the first counters as are asked for; None where there are not that many.
+/// The set of the first `count` counters; None if there are fewer.
 fn first_counters(count: u8) -> Option<Counters>
     ensures value { IfSome result (λ c. c ≡ first_counters count) }
     ensures none { result ≡ None → 8 < count }
@@ -26,27 +26,27 @@ fn first_counters(count: u8) -> Option<Counters>
     Some(set)
 }
 
-/// The label that stands at a mark, around which no more repeats stand than there are counters.
-fn label_of(mark: &ShortMark, needs: &[u16]) -> Label
+/// The label of an unpriced label, which is in at most as many repeats as there are counters.
+fn label_of(unpriced_label: &IndexedLabel, needs: &[u16]) -> Label
     requires bytes { (pc : ℕ) → slice_index needs.now pc ≤ 255 }
-    requires deep { mark.now.repeats ≤ 8 }
-    ensures { result ≡ label_of_mark needs.now mark.now }
+    requires deep { unpriced_label.now.repeats ≤ 8 }
+    ensures { result ≡ priced_label needs.now unpriced_label.now }
 {
-    let counters = match first_counters(mark.repeats) {
+    let counters = match first_counters(unpriced_label.repeats) {
         Some(counters) => counters,
         None => unreachable!(),
     };
     Label {
-        pc: mark.pc,
-        cur: mark.cur,
-        next: mark.next,
-        pending: mark.pending,
+        pc: unpriced_label.pc,
+        cur: unpriced_label.cur,
+        next: unpriced_label.next,
+        pending: unpriced_label.pending,
         counters,
-        cost: at(needs, usize::from(mark.pc)) as u8,
+        cost: at(needs, usize::from(unpriced_label.pc)) as u8,
     }
 }
 
-/// One label more.
+/// Appends a label.
 fn add(labels: &mut Vec<Label>, label: Label) -> Result<(), CompileFault>
     ensures added { OnOk result (labels.new.items ≡ labels.old.items ++ label ∷ []) }
     ensures memory { IfErr result (λ e. e ≡ Memory) }
@@ -57,24 +57,24 @@ fn add(labels: &mut Vec<Label>, label: Label) -> Result<(), CompileFault>
     Ok(())
 }
 
-/// The labels that stand at marks, with the needs of their places as costs.
+/// The labels of unpriced labels, each with the need of its pc as its cost.
 ///
 /// # Errors
 ///
 /// `Memory`.
 pub(crate) fn labels_of(
     alloc: Global,
-    marks: &[ShortMark],
+    unpriced: &[IndexedLabel],
     needs: &[u16],
 ) -> Result<Vec<Label>, CompileFault>
     requires needs { (pc : ℕ) → slice_index needs.now pc ≤ 255 }
-    requires deep { AreShallow 8 marks.now }
-    ensures labels { IfOk result (λ l. l.items ≡ map (label_of_mark needs.now) marks.now) }
+    requires deep { AreShallow 8 unpriced.now }
+    ensures labels { IfOk result (λ l. l.items ≡ map (priced_label needs.now) unpriced.now) }
     ensures memory { IfErr result (λ e. e ≡ Memory) }
 {
     let mut labels = Vec::new(alloc);
-    for mark in marks {
-        if let Err(fault) = add(&mut labels, label_of(mark, needs)) {
+    for unpriced_label in unpriced {
+        if let Err(fault) = add(&mut labels, label_of(unpriced_label, needs)) {
             return Err(fault);
         }
     }

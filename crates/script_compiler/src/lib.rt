@@ -1,22 +1,21 @@
-//! The compiler: from a script to the plan code that does what it says.
+//! The compiler: translates a script to plan code that plays as the script reads.
 //!
-//! [`compile`] takes a `Script` and answers a `Code`, or a [`CompileFault`] with a line. The code of each statement is
-//! laid down in text order, with what is known at each place. Each configuration that a label names or that is known where
-//! a branch or a loop comes back to has a number: what is saved there are two numbers and the swap, and a configuration is
-//! looked up only where an edit has changed it since. The costs of labels come last.
+//! [`compile`] takes a `Script` and returns a `Code`, or a [`CompileFault`] with a line. Statements are compiled in
+//! text order, tracking what is known at the current instruction. Each configuration that a label names or that is
+//! saved for a branch or a loop has a number: a saved program point is two numbers and the swap, and a configuration
+//! is looked up only if an edit has changed it since. The costs of labels are computed last.
 #![tactic(auto)]
 
 mod branches;
 pub mod compiler;
 mod context;
 mod cost;
+mod emission;
 mod falls;
 pub mod fault;
 mod fingerprint;
 mod judge;
 mod labels;
-mod laying;
-mod marks;
 mod meeting;
 mod needs;
 mod numbers;
@@ -26,6 +25,7 @@ mod refusal;
 mod short;
 mod statements;
 mod table;
+mod unpriced;
 mod work;
 
 pub use compiler::compile;

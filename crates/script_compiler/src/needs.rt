@@ -1,4 +1,4 @@
-//! How many instructions can run from each place of a code in one frame.
+//! The needs of a code: the most instructions that can run from each pc in one frame.
 
 ghost use Rattle.std.specs.Prelude.{◌≡◌, ◌+◌, ◌≤◌, ◌<◌, ℕ, length, slice_get, slice_index, if◌then◌else◌, true, Some, None, IfOk, IfSome, max};
 ghost use Rattle.script_meaning.specs.Compiled.{instrs_of};
@@ -6,10 +6,10 @@ ghost use Rattle.script_compiler.specs.Longest.{need_at, need_to, longest};
 ghost use Rattle.plan_flow.specs.Rules.{continues, target_of};
 
 use plan_code::{Instr, Line};
-use plan_flow::ways::{continues, suspends, target_of};
+use plan_flow::successors::{continues, suspends, target_of};
 use std::alloc::{AllocError, Global};
 
-/// The number at a place; 0 past the end.
+/// The number at an index; 0 past the end.
 pub(crate) fn at(numbers: &[u16], place: usize) -> u16
     ensures { result ≡ slice_index numbers.now place }
 {
@@ -19,14 +19,14 @@ pub(crate) fn at(numbers: &[u16], place: usize) -> u16
     }
 }
 
-/// The greater of two.
+/// The greater of two numbers.
 fn greater(a: u16, b: u16) -> u16
     ensures { result ≡ max a b }
 {
     if a < b { b } else { a }
 }
 
-/// The number at the place after an instruction; 0 where it does not continue there.
+/// The number at the pc after an instruction; 0 if it does not continue there.
 fn at_next(numbers: &[u16], instr: &Instr, pc: usize) -> u16
     requires bound { (to : ℕ) → slice_index numbers.now to ≤ 256 }
     requires place { pc < 4096 }
@@ -39,7 +39,7 @@ fn at_next(numbers: &[u16], instr: &Instr, pc: usize) -> u16
     at(numbers, pc + 1)
 }
 
-/// The number at the place to which an instruction can jump; 0 where it does not jump.
+/// The number at the pc to which an instruction can jump; 0 if it does not jump.
 fn at_target(numbers: &[u16], instr: &Instr) -> u16
     requires bound { (to : ℕ) → slice_index numbers.now to ≤ 256 }
     ensures value { result ≡ need_to (λ to. slice_index numbers.now to) (target_of instr.now) }
@@ -51,7 +51,7 @@ fn at_target(numbers: &[u16], instr: &Instr) -> u16
     }
 }
 
-/// The longest path from one place, where those of one instruction less are known.
+/// The length of the longest path from one pc, given those that are one instruction shorter.
 fn need_of(instr: &Instr, pc: usize, further: &[u16]) -> u16
     requires bound { (to : ℕ) → slice_index further.now to ≤ 256 }
     requires place { pc < 4096 }
@@ -63,7 +63,7 @@ fn need_of(instr: &Instr, pc: usize, further: &[u16]) -> u16
     1 + greater(at_next(further, instr, pc), at_target(further, instr))
 }
 
-/// The longest paths by one instruction more.
+/// The lengths of the longest paths, with one instruction more than those given.
 fn round(alloc: Global, lines: &[Line], further: &[u16]) -> Result<Vec<u16>, AllocError>
     requires bound { (to : ℕ) → slice_index further.now to ≤ 256 }
     requires room { length lines.now ≤ 4096 }
@@ -77,22 +77,22 @@ fn round(alloc: Global, lines: &[Line], further: &[u16]) -> Result<Vec<u16>, All
     Ok(next)
 }
 
-/// Whether these are the same numbers.
+/// Whether two lists have the same numbers.
 fn are_same(numbers: &[u16], others: &[u16]) -> bool
     ensures { result ≡ true → numbers.now ≡ others.now }
 {
     numbers == others
 }
 
-/// The longest paths of at most this many instructions and one. Where none is over the budget, they are the needs. Once
-/// a round changes none of them, no round does.
+/// The lengths of the longest paths of at most `budget + 1` instructions. If none is over the budget, they are the
+/// needs. Once an iteration changes nothing, later ones do not either.
 pub(crate) fn needs(alloc: Global, lines: &[Line], budget: u8) -> Result<Vec<u16>, AllocError>
     requires room { length lines.now ≤ 4096 }
     ensures { IfOk result (λ v. (pc : ℕ) → slice_index v.items pc
         ≡ longest (instrs_of lines.now) (budget + 1) pc) }
 {
     let mut further = Vec::new(alloc);
-    for _turn in 0..u16::from(budget) + 1 {
+    for _iteration in 0..u16::from(budget) + 1 {
         let next = round(alloc, lines, &further)?;
         if are_same(&next, &further) {
             return Ok(next);
@@ -102,7 +102,7 @@ pub(crate) fn needs(alloc: Global, lines: &[Line], budget: u8) -> Result<Vec<u16
     Ok(further)
 }
 
-/// The first place whose need is over the budget, if there is one.
+/// The first pc whose need is over the budget, if there is one.
 pub(crate) fn first_over(needs: &[u16], budget: u8) -> Option<usize>
     ensures none { result ≡ None → (pc : ℕ) → slice_index needs.now pc ≤ budget }
     ensures some { IfSome result (λ pc. budget < slice_index needs.now pc) }

@@ -1,4 +1,4 @@
-//! The configuration that a script begins with.
+//! Builds and tests the configuration that a script begins with.
 
 ghost use Rattle.std.specs.Prelude.{◌≡◌, ◌≤◌, ◌↔◌, None, OnOk, IsOk, IfOk, IfErr};
 ghost use Rattle.mux_config.specs.Configuration.{nothing};
@@ -18,7 +18,7 @@ use plan_code::Plan;
 use plan_flow::{Cause, test_opening};
 use script_front::Item;
 
-/// One item: refused is `Edit` at its line.
+/// Applies one item; refuses with `Edit` at its line.
 fn add(item: &Item, config: &mut Config) -> Result<(), CompileFault>
     ensures made { OnOk result (config.new ≡ changed item.now.edit config.old) }
     ensures fine { IsOk result ↔ (edit_fault item.now.edit config.old ≡ None) }
@@ -32,7 +32,7 @@ fn add(item: &Item, config: &mut Config) -> Result<(), CompileFault>
     Ok(())
 }
 
-/// The items, one after another, on the empty configuration: refused is `Edit` at the item's line.
+/// Applies the items in order to the empty configuration; refuses with `Edit` at the item's line.
 pub(crate) fn built(items: &[Item]) -> Result<Config, CompileFault>
     ensures made { IfOk result (λ c. c ≡ with_items items.now nothing) }
     ensures fine { IsOk result ↔ AreFine items.now nothing }
@@ -49,7 +49,7 @@ pub(crate) fn built(items: &[Item]) -> Result<Config, CompileFault>
     Ok(config)
 }
 
-/// Whether a script can begin so: refused are `Config` and `Round`, at this line.
+/// Tests the opening of a script; refuses with `Config` or `Round` at this line.
 pub(crate) fn test(plan: &Plan, config: &Config, line: u16) -> Result<(), CompileFault>
     ensures fine { IsOk result ↔ (IsSound config.now × (pages_alone plan.now config.now
         ≤ plan.now.period)) }

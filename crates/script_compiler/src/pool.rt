@@ -1,4 +1,4 @@
-//! Configurations by numbers, each content once.
+//! A pool of numbered configurations, each configuration once.
 
 ghost use Rattle.std.specs.Prelude.{◌≡◌, ◌≢◌, ◌<◌, ℕ, [], ◌∷◌, ◌++◌, length, map, slice_get, Some, None, OnOk, IfOk, IfErr, IfSome};
 ghost use Rattle.script_compiler.specs.Fingerprint.{print_of};
@@ -13,12 +13,12 @@ use plan_flow::flow::is_same;
 use std::alloc::Global;
 use std::marker::Model;
 
-/// Configurations, each content once, numbered from 0 as they come in. A number stands for the same configuration from
-/// then on. Contracts see the list of them.
+/// Configurations, each once, numbered from 0 in the order in which they are added. A number keeps its configuration.
+/// Contracts see the list of them.
 #[derive(Drop)]
 pub(crate) struct Pool {
     configs: Vec<Config>,
-    /// The fingerprint of each, so that a search looks at the parts of few.
+    /// The fingerprint of each, so that a search compares the parts of few.
     prints: Vec<u64>,
 }
 
@@ -36,7 +36,7 @@ impl Model for Pool {
 }
 
 impl Pool {
-    /// No configuration.
+    /// An empty pool.
     pub(crate) fn new(alloc: Global) -> Pool
         ensures { result.items ≡ [] }
     {
@@ -46,7 +46,7 @@ impl Pool {
         }
     }
 
-    /// The configuration of a number.
+    /// The configuration with a number.
     pub(crate) fn config(&self, number: usize) -> &Config
         requires { number < length self.now.items }
         ensures { slice_get self.now.items number ≡ Some result.now }
@@ -61,7 +61,7 @@ impl Pool {
         let _ = &self.configs;
     }
 
-    /// One configuration more, which is not there yet.
+    /// Adds a configuration that the pool does not have.
     fn add(&mut self, print: u64, config: &Tables) -> Result<(), CompileFault>
         requires print { print ≡ print_of config.now }
         requires new { (i : ℕ) → slice_get self.old.items i ≢ Some config.now }
@@ -79,7 +79,7 @@ impl Pool {
         Ok(())
     }
 
-    /// The number of a configuration, which is taken in where it is not there yet.
+    /// The number of a configuration, which is added if absent.
     ///
     /// # Errors
     ///
@@ -100,7 +100,7 @@ impl Pool {
         Ok(number)
     }
 
-    /// The configurations.
+    /// The configurations, by number.
     pub(crate) fn into_configs(self) -> Vec<Config>
         ensures { result.items ≡ self.items }
     {
@@ -108,7 +108,7 @@ impl Pool {
     }
 }
 
-/// The index of a configuration among others, by their fingerprints; None where it is not there.
+/// The index of a configuration among others, found by fingerprint; None if absent.
 fn find(prints: &[u64], configs: &[Config], print: u64, config: &Tables) -> Option<usize>
     requires prints { prints.now ≡ map print_of configs.now }
     requires print { print ≡ print_of config.now }

@@ -1,4 +1,4 @@
-//! Refusals at a line.
+//! Builds refusals.
 
 ghost use Rattle.std.specs.Prelude.{◌≡◌};
 ghost use Rattle.script_compiler.specs.declared.fault.CompileFault.TheVariants.{Refused};
@@ -6,7 +6,7 @@ ghost use Rattle.script_compiler.specs.declared.fault.CompileFault.TheVariants.{
 use crate::fault::CompileFault;
 use plan_flow::Cause;
 
-/// A refusal at this line.
+/// A refusal with a line and a cause.
 pub(crate) fn refused(line: u16, cause: Cause) -> CompileFault
     ensures { result ≡ Refused line cause }
 {

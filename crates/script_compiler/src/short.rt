@@ -1,31 +1,31 @@
-//! What the compiler keeps of a mark, and of a spot that is saved.
+//! Unpriced labels and program points in the form in which the compiler stores them: with indices of configurations.
 
 use plan_code::Swap;
 
-/// Where a label stands, and what is known there, with the configurations by their places in a table.
+/// An unpriced label and what is known there, with the configurations by their indices in a table.
 #[derive(Clone, Copy)]
-pub(crate) struct ShortMark {
-    /// The place of the instruction in the code, from 0.
+pub(crate) struct IndexedLabel {
+    /// The pc of the instruction, from 0.
     pub(crate) pc: u16,
-    /// The current configuration, by its place in the table.
+    /// The index of the current configuration in the table.
     pub(crate) cur: u16,
-    /// The next configuration, by its place in the table.
+    /// The index of the next configuration in the table.
     pub(crate) next: u16,
-    /// Whether a swap is pending, and when it comes.
+    /// Whether a swap is pending, and when it falls.
     pub(crate) pending: Swap,
-    /// How many repeats stand around it.
+    /// The number of enclosing repeats.
     pub(crate) repeats: u8,
 }
 
-/// A spot, with the configurations by their numbers in a pool.
+/// A program point, with the configurations by their numbers in a pool.
 #[derive(Clone, Copy)]
-pub(crate) struct ShortSpot {
+pub(crate) struct IndexedPoint {
     /// The number of the current configuration.
     pub(crate) current: usize,
     /// The number of the next configuration.
     pub(crate) next: usize,
-    /// Whether a swap is pending, and when it comes.
+    /// Whether a swap is pending, and when it falls.
     pub(crate) pending: Swap,
-    /// Whether a label stands there.
+    /// Whether the instruction has a label.
     pub(crate) labelled: bool,
 }

@@ -1,13 +1,13 @@
-//! The statements of a script, laid down one after another.
+//! Compiles statements one after another, each kind in its own function.
 
 ghost use Rattle.std.specs.Prelude.{◌≡◌, ◌≤◌, ◌<◌, List, length, map, OnOk, IfOk, IfErr};
 ghost use Rattle.script_front.specs.Block.{Block, nothing, when, either, repeat, forever, block_of, before};
 ghost use Rattle.plan_flow.specs.declared.cause.Cause.TheVariants.{Table};
 ghost use Rattle.script_meaning.specs.Judged.{IsJudged};
 ghost use Rattle.script_meaning.specs.Refused.{IsRefusedIn, IsUnreached};
-ghost use Rattle.script_compiler.specs.Laying.{Left, tables, facts_of};
+ghost use Rattle.script_compiler.specs.Emission.{Left, tables, facts_of};
 ghost use Rattle.script_compiler.specs.Refusals.{IsRefusal, IfRefused, IfLimit};
-ghost use Rattle.script_compiler.specs.Space.{HasTable, CanLay};
+ghost use Rattle.script_compiler.specs.Space.{HasTable, CanEmit};
 
 use crate::context::Context;
 use crate::falls::all_fall;
@@ -35,7 +35,7 @@ fn line_of(statement: &Statement) -> u16
 }
 
 impl Work {
-    /// The statements of a block, of which it answers whether what follows can be reached.
+    /// Compiles the statements of a block; returns whether control reaches its end.
     #[cycle(work)]
     pub(crate) fn block(
         &mut self,
@@ -55,24 +55,24 @@ impl Work {
         ensures why { IfErr result (λ e. IfRefused e (λ at given. IsRefusedIn context.entry.plan.now
             (block_of (tables context.entry.blocks.now) statements.now) self.old.now at given)) }
         ensures table { OnOk result (HasTable self.new) }
-        ensures limited { IfErr result (λ e. IfLimit e (λ _ limit. CanLay limit
+        ensures limited { IfErr result (λ e. IfLimit e (λ _ limit. CanEmit limit
             context.entry.plan.now context.entry.counters (block_of (tables
             context.entry.blocks.now) statements.now) self.old → ⊥)) }
     {
-        let mut goes_on = true;
+        let mut is_reached = true;
         for statement in statements {
-            if !goes_on {
+            if !is_reached {
                 return Err(refused(line_of(statement), Cause::Table));
             }
-            goes_on = match self.statement(context, statement) {
+            is_reached = match self.statement(context, statement) {
                 Ok(falls) => falls,
                 Err(fault) => return Err(fault),
             };
         }
-        Ok(goes_on)
+        Ok(is_reached)
     }
 
-    /// One statement, of which it answers whether what follows can be reached.
+    /// Compiles one statement; returns whether control reaches its end.
     #[cycle(work)]
     fn statement(&mut self, context: Context, statement: &Statement) -> Result<bool, CompileFault>
         requires room { length self.old.lines.items ≤ 4096 }
@@ -90,7 +90,7 @@ impl Work {
             context.entry.plan.now (before (tables context.entry.blocks.now) statement.now rest)
             self.old.now at given)) }
         ensures table { OnOk result (HasTable self.new) }
-        ensures limited { IfErr result (λ e. IfLimit e (λ _ limit. (rest : Block) → CanLay limit
+        ensures limited { IfErr result (λ e. IfLimit e (λ _ limit. (rest : Block) → CanEmit limit
             context.entry.plan.now context.entry.counters (before (tables context.entry.blocks.now)
             statement.now rest) self.old → ⊥)) }
     {
@@ -133,7 +133,7 @@ impl Work {
         }
     }
 
-    /// An `if` without `else`.
+    /// Compiles an `if` without `else`.
     #[cycle(work)]
     fn when(
         &mut self,
@@ -157,7 +157,7 @@ impl Work {
             context.entry.plan.now (when line contact (block_of (tables context.entry.blocks.now)
             first.now) rest) self.old.now at given)) }
         ensures table { OnOk result (HasTable self.new) }
-        ensures limited { IfErr result (λ e. IfLimit e (λ _ limit. (rest : Block) → CanLay limit
+        ensures limited { IfErr result (λ e. IfLimit e (λ _ limit. (rest : Block) → CanEmit limit
             context.entry.plan.now context.entry.counters (when line contact (block_of (tables
             context.entry.blocks.now) first.now) rest) self.old → ⊥)) }
     {
@@ -172,7 +172,7 @@ impl Work {
         self.close_if(falls, line, contact, at)
     }
 
-    /// An `if` with `else`.
+    /// Compiles an `if` with `else`.
     #[cycle(work)]
     fn either(
         &mut self,
@@ -200,7 +200,7 @@ impl Work {
             first.now) (block_of (tables context.entry.blocks.now) second.now) rest) self.old.now at
             given)) }
         ensures table { OnOk result (HasTable self.new) }
-        ensures limited { IfErr result (λ e. IfLimit e (λ _ limit. (rest : Block) → CanLay limit
+        ensures limited { IfErr result (λ e. IfLimit e (λ _ limit. (rest : Block) → CanEmit limit
             context.entry.plan.now context.entry.counters (either line contact (block_of (tables
             context.entry.blocks.now) first.now) (block_of (tables context.entry.blocks.now)
             second.now) rest) self.old → ⊥)) }
@@ -214,7 +214,7 @@ impl Work {
             Err(fault) => return Err(fault),
         };
         let jump = self.len();
-        if let Err(fault) = self.turn(first_falls, line, context.counters, contact, at) {
+        if let Err(fault) = self.start_else(first_falls, line, context.counters, contact, at) {
             return Err(fault);
         }
         let second_falls = match self.block(context, second) {
@@ -224,7 +224,7 @@ impl Work {
         self.close_else(first_falls, second_falls, line, jump)
     }
 
-    /// A loop that is gone round this many times.
+    /// Compiles a `repeat`, a loop of this many iterations.
     #[cycle(work)]
     fn repeat(
         &mut self,
@@ -248,7 +248,7 @@ impl Work {
             context.entry.plan.now (repeat line times (block_of (tables context.entry.blocks.now)
             body.now) rest) self.old.now at given)) }
         ensures table { OnOk result (HasTable self.new) }
-        ensures limited { IfErr result (λ e. IfLimit e (λ _ limit. (rest : Block) → CanLay limit
+        ensures limited { IfErr result (λ e. IfLimit e (λ _ limit. (rest : Block) → CanEmit limit
             context.entry.plan.now context.entry.counters (repeat line times (block_of (tables
             context.entry.blocks.now) body.now) rest) self.old → ⊥)) }
     {
@@ -273,7 +273,7 @@ impl Work {
             Ok(falls) => falls,
             Err(fault) => return Err(fault),
         };
-        if let Err(fault) = self.go_round(
+        if let Err(fault) = self.close_loop(
             falls,
             line,
             inner.counters,
@@ -284,7 +284,7 @@ impl Work {
         Ok(falls)
     }
 
-    /// A loop that is gone round for good.
+    /// Compiles a `forever`, an endless loop.
     #[cycle(work)]
     fn forever(
         &mut self,
@@ -307,7 +307,7 @@ impl Work {
             context.entry.plan.now (forever line (block_of (tables context.entry.blocks.now)
             body.now) rest) self.old.now at given)) }
         ensures table { OnOk result (HasTable self.new) }
-        ensures limited { IfErr result (λ e. IfLimit e (λ _ limit. (rest : Block) → CanLay limit
+        ensures limited { IfErr result (λ e. IfLimit e (λ _ limit. (rest : Block) → CanEmit limit
             context.entry.plan.now context.entry.counters (forever line (block_of (tables
             context.entry.blocks.now) body.now) rest) self.old → ⊥)) }
     {
@@ -319,7 +319,7 @@ impl Work {
             Ok(falls) => falls,
             Err(fault) => return Err(fault),
         };
-        if let Err(fault) = self.go_round(falls, line, context.counters, Instr::Jump(target)) {
+        if let Err(fault) = self.close_loop(falls, line, context.counters, Instr::Jump(target)) {
             return Err(fault);
         }
         Ok(false)

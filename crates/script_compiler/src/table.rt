@@ -1,8 +1,8 @@
-//! The table of configurations that labels name, each content once.
+//! The table of configurations that labels name, each configuration once.
 
 ghost use Rattle.std.specs.Prelude.{◌≡◌, ◌≢◌, ◌≤◌, ◌<◌, ℕ, [], ◌∷◌, ◌++◌, length, map, slice_get, false, true, Some, None, OnOk, IfOk, IfErr, IfSome};
 ghost use Rattle.script_meaning.specs.Compiled.{Added};
-ghost use Rattle.script_compiler.specs.Marked.{configuration_at};
+ghost use Rattle.script_compiler.specs.Unpriced.{configuration_at};
 ghost use Rattle.script_compiler.specs.Pool.{AreBelow, Extends, IsDistinct};
 ghost use Rattle.script_compiler.specs.Refusals.{IsRefusal, IfLimit};
 ghost use Rattle.script_compiler.specs.Room.{HasRoomFor};
@@ -27,7 +27,7 @@ pub(crate) struct ConfigTable {
 
 impl Model for ConfigTable {
     ghost use Rattle.std.specs.Prelude.{length, map};
-    ghost use Rattle.script_compiler.specs.Marked.{configuration_at};
+    ghost use Rattle.script_compiler.specs.Unpriced.{configuration_at};
     ghost use Rattle.script_compiler.specs.Pool.{AreBelow, PooledTable};
 
     ghost Value = { PooledTable };
@@ -41,7 +41,7 @@ impl Model for ConfigTable {
 }
 
 impl ConfigTable {
-    /// No configuration.
+    /// An empty pool and table.
     pub(crate) fn new(alloc: Global) -> ConfigTable
         ensures pool { result.pool ≡ [] }
         ensures table { result.table ≡ [] }
@@ -52,7 +52,7 @@ impl ConfigTable {
         }
     }
 
-    /// The number of a configuration, which is taken in where it is not there yet.
+    /// The number of a configuration, which is added to the pool if absent.
     ///
     /// # Errors
     ///
@@ -66,7 +66,7 @@ impl ConfigTable {
         self.pool.number_of(config)
     }
 
-    /// The configuration of a number.
+    /// The configuration with a number.
     pub(crate) fn config(&self, number: usize) -> &Config
         requires { number < length self.now.pool }
         ensures { slice_get self.now.pool number ≡ Some result.now }
@@ -81,7 +81,7 @@ impl ConfigTable {
         self.pool.is_distinct();
     }
 
-    /// The index in the table of the configuration of a number; None where it is not there.
+    /// The index in the table of the configuration with a number; None if absent.
     fn find(&self, number: usize) -> Option<usize>
         requires { number < length self.now.pool }
         ensures some { IfSome result (λ i. slice_get self.now.table i
@@ -93,14 +93,14 @@ impl ConfigTable {
         position(&self.order, number)
     }
 
-    /// How many configurations the table has.
+    /// The number of configurations in the table.
     fn len(&self) -> usize
         ensures { result ≡ length self.now.table }
     {
         self.order.len()
     }
 
-    /// The table takes in the configuration of a number.
+    /// Appends the configuration with a number to the table.
     fn add(&mut self, number: usize) -> Result<(), CompileFault>
         requires { number < length self.old.pool }
         ensures pool { self.new.pool ≡ self.old.pool }
@@ -115,12 +115,12 @@ impl ConfigTable {
         Ok(())
     }
 
-    /// The index in the table of the configuration of a number, which is added where it is not there yet, for a label of
-    /// the statement in this line.
+    /// The index in the table of the configuration with a number, which is added if absent. A `Limit` is reported at
+    /// this line.
     ///
     /// # Errors
     ///
-    /// `Limit` where the table is full, `Memory`.
+    /// `Limit` if the table is full, `Memory`.
     pub(crate) fn index_of(&mut self, line: u16, number: usize) -> Result<u16, CompileFault>
         requires number { number < length self.old.pool }
         requires room { length self.old.table ≤ 256 }
@@ -152,7 +152,7 @@ impl ConfigTable {
         Ok(index as u16)
     }
 
-    /// Whether the table has room for the configuration of a number, or has it.
+    /// Whether the table has the configuration with a number, or room for it.
     fn has_room_for(&self, number: usize) -> bool
         requires { number < length self.now.pool }
         ensures limited { result ≡ false → HasRoomFor self.now.table
@@ -164,7 +164,7 @@ impl ConfigTable {
         self.find(number).is_some()
     }
 
-    /// Whether the table has room for those of the configurations of two numbers that it does not have.
+    /// Whether the table has the configurations with two numbers, or room for those that it lacks.
     pub(crate) fn has_room_for_both(&self, first: usize, second: usize) -> bool
         requires first { first < length self.now.pool }
         requires second { second < length self.now.pool }
@@ -202,11 +202,11 @@ impl ConfigTable {
             configs.truncate(self.order.len());
             return Ok(configs);
         }
-        picked(alloc, &configs, &self.order)
+        select(alloc, &configs, &self.order)
     }
 }
 
-/// Where a number is among others, looked for from the end; None where it is not there.
+/// The index of a number among others, searched from the end; None if absent.
 fn position(numbers: &[usize], number: usize) -> Option<usize>
     ensures some { IfSome result (λ i. slice_get numbers.now i ≡ Some number) }
     ensures none { result ≡ None → (i : ℕ) → slice_get numbers.now i ≢ Some number }
@@ -220,7 +220,7 @@ fn position(numbers: &[usize], number: usize) -> Option<usize>
     None
 }
 
-/// Whether these are the first numbers, in their order.
+/// Whether these are the numbers 0, 1, 2 and so on.
 fn is_in_order(numbers: &[usize]) -> bool
     ensures { result ≡ true → (i k : ℕ) → slice_get numbers.now i ≡ Some k → k ≡ i }
 {
@@ -232,24 +232,24 @@ fn is_in_order(numbers: &[usize]) -> bool
     true
 }
 
-/// The same configuration.
+/// A copy of a configuration.
 fn copied(config: &Config) -> Config
     ensures { result ≡ config.now }
 {
     config.to_config()
 }
 
-/// The configurations of these numbers.
-fn picked(alloc: Global, configs: &[Config], numbers: &[usize]) -> Result<Vec<Config>, CompileFault>
+/// The configurations with these numbers.
+fn select(alloc: Global, configs: &[Config], numbers: &[usize]) -> Result<Vec<Config>, CompileFault>
     requires { AreBelow (length configs.now) numbers.now }
     ensures value { IfOk result (λ v. v.items ≡ map (configuration_at configs.now) numbers.now) }
     ensures memory { IfErr result (λ e. e ≡ Memory) }
 {
-    let mut picked = Vec::new(alloc);
+    let mut select = Vec::new(alloc);
     for number in numbers {
-        if picked.push(copied(&configs[*number])).is_err() {
+        if select.push(copied(&configs[*number])).is_err() {
             return Err(CompileFault::Memory);
         }
     }
-    Ok(picked)
+    Ok(select)
 }

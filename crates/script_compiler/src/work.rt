@@ -1,26 +1,26 @@
-//! Code that is laid down, instruction by instruction, with what is known where it has come to.
+//! The compiler's state: the code emitted so far, and what is known at its end.
 
 ghost use Rattle.std.specs.Prelude.{◌≡◌, ◌↔◌, ◌+◌, ◌<◌, true, false, [], ◌∷◌, ◌++◌, length, Some, IsOk, IsTrue, OnOk, IfOk, IfErr};
 ghost use Rattle.plan_code.specs.declared.instr.Instr.{Instr};
-ghost use Rattle.plan_flow.specs.Flows.{known_at, merged, moved, FitsFlow};
+ghost use Rattle.plan_flow.specs.Flows.{known_at, merged, after_instr, FitsFlow};
 ghost use Rattle.plan_flow.specs.Rules.{IsFine};
 ghost use Rattle.script_meaning.specs.declared.flow.ProgramPoint.{ProgramPoint};
-ghost use Rattle.script_meaning.specs.Scheme.{past, meet, instr_of_act};
+ghost use Rattle.script_meaning.specs.Scheme.{without_label, meet, instr_of_act};
 ghost use Rattle.script_meaning.specs.Judged.{WaysAgree};
 ghost use Rattle.script_meaning.specs.Compiled.{beginning};
-ghost use Rattle.script_compiler.specs.Pool.{Extends, IsInPool, spot_in};
+ghost use Rattle.script_compiler.specs.Pool.{Extends, IsInPool, point_in};
 ghost use Rattle.script_compiler.specs.Refusals.{IsRefusal, IfLimit, IsRefusedAs};
 ghost use Rattle.script_compiler.specs.Space.{HasTable};
 ghost use Rattle.script_compiler.specs.declared.fault.CompileFault.TheVariants.{Memory};
-ghost use Rattle.script_compiler.specs.Laying.{way};
+ghost use Rattle.script_compiler.specs.Emission.{way};
 
 use crate::fault::CompileFault;
 use crate::judge::{instr_of, judge};
-use crate::marks::Marks;
-use crate::meeting::{fits, meet, met_numbers, take};
+use crate::meeting::{fits, meet, merged_numbers, take};
 use crate::numbers::{Numbers, numbered, numbers_after, numbers_of};
 use crate::refusal::refused;
-use crate::short::{ShortMark, ShortSpot};
+use crate::short::{IndexedLabel, IndexedPoint};
+use crate::unpriced::UnpricedLabels;
 use mux_config::Config;
 use plan_code::limits::{MOST_INSTRUCTIONS, MOST_LABELS};
 use plan_code::{ContactId, Instr, Line, Plan};
@@ -30,58 +30,58 @@ use script_meaning::ProgramPoint;
 use std::alloc::Global;
 use std::marker::Model;
 
-/// What has been laid down, and what is known there. Contracts see the spots with their configurations, wherever these
-/// are held.
+/// The code emitted so far, and what is known at its end. Contracts see program points with their configurations
+/// rather than numbers.
 #[derive(Drop)]
 pub(crate) struct Work {
     pub(crate) lines: Vec<Line>,
-    /// The labels, without what they cost, and the configurations that they name.
-    pub(crate) marks: Marks,
+    /// The unpriced labels, and the configurations that they name.
+    pub(crate) unpriced: UnpricedLabels,
     pub(crate) now: ProgramPoint,
-    /// The numbers of the configurations that are known here.
+    /// The numbers of the current and the next configuration of `now`.
     numbers: Numbers,
-    /// What is known where branches and loops come back to.
-    saved: Vec<ShortSpot>,
+    /// The program points saved for open branches and loops.
+    saved: Vec<IndexedPoint>,
 }
 
 impl Model for Work {
     ghost use Rattle.std.specs.Prelude.{length, map};
-    ghost use Rattle.script_compiler.specs.Pool.{AreInPool, AreNumbered, spot_in};
+    ghost use Rattle.script_compiler.specs.Pool.{AreInPool, AreNumbered, point_in};
     ghost use Rattle.script_compiler.specs.Working.{Work};
 
     ghost Value = { Work };
 
     ghost view = { λ w. record {
       lines = record { items = w.lines.items };
-      marks = record { items = w.marks.items; table = w.marks.table };
+      unpriced = record { items = w.unpriced.items; table = w.unpriced.table };
       now = w.now;
-      saved = record { items = map (spot_in w.marks.pool) w.saved.items };
-      pool = w.marks.pool;
+      saved = record { items = map (point_in w.unpriced.pool) w.saved.items };
+      pool = w.unpriced.pool;
     } };
 
-    ghost invariant = { λ w. AreNumbered w.marks.pool w.numbers w.now.flow
-        × AreInPool (length w.marks.pool) w.saved.items };
+    ghost invariant = { λ w. AreNumbered w.unpriced.pool w.numbers w.now.flow
+        × AreInPool (length w.unpriced.pool) w.saved.items };
 }
 
-/// All that has been laid down of a script.
+/// The code of a whole script, with unpriced labels.
 #[derive(Drop)]
-pub(crate) struct Laid {
+pub(crate) struct Emitted {
     pub(crate) lines: Vec<Line>,
-    /// The labels, without what they cost, and the configurations that they name.
-    pub(crate) marks: Marks,
+    /// The unpriced labels, and the configurations that they name.
+    pub(crate) unpriced: UnpricedLabels,
 }
 
 impl Work {
-    /// Nothing has been laid down, and this configuration is known.
+    /// No code yet; this configuration is current and next.
     pub(crate) fn new(alloc: Global, config: &Config) -> Work
         ensures lines { result.lines.items ≡ [] }
-        ensures marks { result.marks.items ≡ [] }
-        ensures table { result.marks.table ≡ [] }
+        ensures unpriced { result.unpriced.items ≡ [] }
+        ensures table { result.unpriced.table ≡ [] }
         ensures now { result.now ≡ beginning config.now }
     {
         Work {
             lines: Vec::new(alloc),
-            marks: Marks::new(alloc),
+            unpriced: UnpricedLabels::new(alloc),
             now: ProgramPoint::opening(config),
             numbers: Numbers {
                 current: None,
@@ -91,54 +91,54 @@ impl Work {
         }
     }
 
-    /// What has been laid down.
-    pub(crate) fn into_laid(self) -> Laid
+    /// The code emitted.
+    pub(crate) fn into_emitted(self) -> Emitted
         ensures lines { result.lines.items ≡ self.lines.items }
-        ensures items { result.marks.items ≡ self.marks.items }
-        ensures table { result.marks.table ≡ self.marks.table }
+        ensures items { result.unpriced.items ≡ self.unpriced.items }
+        ensures table { result.unpriced.table ≡ self.unpriced.table }
     {
-        Laid {
+        Emitted {
             lines: self.lines,
-            marks: self.marks,
+            unpriced: self.unpriced,
         }
     }
 
-    /// How many instructions there are: where the next one comes.
+    /// The number of instructions: the pc of the next one.
     pub(crate) fn len(&self) -> usize
         ensures { result ≡ length self.entry.now.lines.items }
     {
         self.lines.len()
     }
 
-    /// The spot here, with its configurations by their numbers. Those that have none yet get one.
+    /// The current program point with its configurations by number. Configurations without a number get one.
     ///
     /// # Errors
     ///
     /// `Memory`.
-    pub(crate) fn here(&mut self) -> Result<ShortSpot, CompileFault>
+    pub(crate) fn point_here(&mut self) -> Result<IndexedPoint, CompileFault>
         ensures lines { self.new.lines ≡ self.old.lines }
-        ensures marks { self.new.marks ≡ self.old.marks }
+        ensures unpriced { self.new.unpriced ≡ self.old.unpriced }
         ensures now { self.new.now ≡ self.old.now }
         ensures saved { self.new.saved ≡ self.old.saved }
         ensures pool { Extends self.old.pool self.new.pool }
-        ensures same { IfOk result (λ s. spot_in self.new.pool s ≡ self.new.now) }
+        ensures same { IfOk result (λ s. point_in self.new.pool s ≡ self.new.now) }
         ensures within { IfOk result (λ s. IsInPool (length self.new.pool) s) }
         ensures memory { IfErr result (λ e. e ≡ Memory) }
     {
-        let here = match numbered(&mut self.marks, &self.now, self.numbers) {
-            Ok(here) => here,
+        let point_here = match numbered(&mut self.unpriced, &self.now, self.numbers) {
+            Ok(point_here) => point_here,
             Err(fault) => return Err(fault),
         };
-        self.numbers = numbers_of(&here);
-        Ok(here)
+        self.numbers = numbers_of(&point_here);
+        Ok(point_here)
     }
 
-    /// What is known becomes what a statement leaves that is one instruction.
+    /// Checks a statement that is one instruction, and updates what is known.
     pub(crate) fn pass(&mut self, plan: &Plan, line: u16, act: &Act) -> Result<(), CompileFault>
         ensures lines { self.new.lines ≡ self.old.lines }
-        ensures marks { self.new.marks ≡ self.old.marks }
+        ensures unpriced { self.new.unpriced ≡ self.old.unpriced }
         ensures saved { self.new.saved ≡ self.old.saved }
-        ensures left { OnOk result (self.new.now.flow ≡ moved plan.now (instr_of_act act.now)
+        ensures left { OnOk result (self.new.now.flow ≡ after_instr plan.now (instr_of_act act.now)
             self.old.now.flow) }
         ensures labelled { self.new.now.labelled ≡ self.old.now.labelled }
         ensures fine { IsOk result ↔ IsFine plan.now (instr_of_act act.now)
@@ -155,11 +155,11 @@ impl Work {
         Ok(())
     }
 
-    /// Keeps what is known here.
+    /// Saves the current program point.
     pub(crate) fn save(&mut self) -> Result<(), CompileFault>
         requires table { HasTable self.old }
         ensures lines { self.new.lines ≡ self.old.lines }
-        ensures marks { self.new.marks ≡ self.old.marks }
+        ensures unpriced { self.new.unpriced ≡ self.old.unpriced }
         ensures now { self.new.now ≡ self.old.now }
         ensures pool { Extends self.old.pool self.new.pool }
         ensures saved { OnOk result (self.new.saved.items ≡ self.old.saved.items
@@ -168,77 +168,77 @@ impl Work {
         ensures table { HasTable self.new }
         ensures limited { IfErr result (λ e. IfLimit e (λ _ _. ⊥)) }
     {
-        let here = match self.here() {
-            Ok(here) => here,
+        let point_here = match self.point_here() {
+            Ok(point_here) => point_here,
             Err(fault) => return Err(fault),
         };
-        if self.saved.push(here).is_err() {
+        if self.saved.push(point_here).is_err() {
             return Err(CompileFault::Memory);
         }
         Ok(())
     }
 
-    /// What was kept last, which is kept no more.
-    pub(crate) fn restore(&mut self) -> ShortSpot
+    /// Removes and returns the program point saved last.
+    pub(crate) fn restore(&mut self) -> IndexedPoint
         requires kept { 0 < length self.old.saved.items }
         requires table { HasTable self.old }
         ensures lines { self.new.lines ≡ self.old.lines }
-        ensures marks { self.new.marks ≡ self.old.marks }
+        ensures unpriced { self.new.unpriced ≡ self.old.unpriced }
         ensures now { self.new.now ≡ self.old.now }
         ensures pool { self.new.pool ≡ self.old.pool }
-        ensures saved { self.new.saved.items ++ spot_in self.new.pool result ∷ []
+        ensures saved { self.new.saved.items ++ point_in self.new.pool result ∷ []
             ≡ self.old.saved.items }
         ensures within { IsInPool (length self.new.pool) result }
         ensures table { HasTable self.new }
     {
         match self.saved.pop() {
-            Some(spot) => spot,
+            Some(point) => point,
             None => unreachable!(),
         }
     }
 
-    /// Whether what is known here fits a spot.
-    pub(crate) fn fits(&self, spot: &ShortSpot) -> bool
-        requires { IsInPool (length self.now.pool) spot.now }
+    /// Whether what is known here fits a saved program point.
+    pub(crate) fn fits(&self, point: &IndexedPoint) -> bool
+        requires { IsInPool (length self.now.pool) point.now }
         ensures { IsTrue result ↔ FitsFlow self.entry.now.now.flow
-            (spot_in self.entry.now.pool spot.now).flow }
+            (point_in self.entry.now.pool point.now).flow }
     {
-        fits(&self.marks, &self.now.flow, self.numbers, spot)
+        fits(&self.unpriced, &self.now.flow, self.numbers, point)
     }
 
-    /// What is known becomes what is known at a spot. No label stands here.
-    pub(crate) fn take(&mut self, spot: &ShortSpot)
-        requires within { IsInPool (length self.old.pool) spot.now }
+    /// Continues with what is known at a saved program point, without a label.
+    pub(crate) fn take(&mut self, point: &IndexedPoint)
+        requires within { IsInPool (length self.old.pool) point.now }
         ensures lines { self.new.lines ≡ self.old.lines }
-        ensures marks { self.new.marks ≡ self.old.marks }
+        ensures unpriced { self.new.unpriced ≡ self.old.unpriced }
         ensures saved { self.new.saved ≡ self.old.saved }
         ensures pool { self.new.pool ≡ self.old.pool }
-        ensures now { self.new.now ≡ past (spot_in self.old.pool spot.now).flow }
+        ensures now { self.new.now ≡ without_label (point_in self.old.pool point.now).flow }
     {
-        take(&self.marks, spot, self.numbers, &mut self.now.flow);
-        self.numbers = numbers_of(spot);
+        take(&self.unpriced, point, self.numbers, &mut self.now.flow);
+        self.numbers = numbers_of(point);
         self.now.labelled = false;
     }
 
-    /// What is known becomes what is known where this way and that of a spot meet. False where one of them does not fit
-    /// it, and then it is as before.
-    pub(crate) fn meet(&mut self, spot: &ShortSpot) -> bool
-        requires within { IsInPool (length self.old.pool) spot.now }
+    /// Merges the current path with that of a saved program point. False if either does not fit the result, and then
+    /// nothing changes.
+    pub(crate) fn meet(&mut self, point: &IndexedPoint) -> bool
+        requires within { IsInPool (length self.old.pool) point.now }
         ensures lines { self.new.lines ≡ self.old.lines }
-        ensures marks { self.new.marks ≡ self.old.marks }
+        ensures unpriced { self.new.unpriced ≡ self.old.unpriced }
         ensures saved { self.new.saved ≡ self.old.saved }
         ensures pool { self.new.pool ≡ self.old.pool }
         ensures labelled { self.new.now.labelled ≡ self.old.now.labelled }
         ensures met { result ≡ true → self.new.now.flow ≡ merged self.old.now.flow
-            (spot_in self.old.pool spot.now).flow }
+            (point_in self.old.pool point.now).flow }
         ensures agree { IsTrue result ↔ WaysAgree (Some self.old.now)
-            (Some (spot_in self.old.pool spot.now)) }
+            (Some (point_in self.old.pool point.now)) }
     {
         let before = self.now.flow.pending;
-        if !meet(&self.marks, spot, self.numbers, &mut self.now.flow) {
+        if !meet(&self.unpriced, point, self.numbers, &mut self.now.flow) {
             return false;
         }
-        self.numbers = met_numbers(before, self.numbers, spot);
+        self.numbers = merged_numbers(before, self.numbers, point);
         true
     }
 }

@@ -1,4 +1,4 @@
--- The edits of a plan, a number of them to a frame.
+-- The paced edits of a plan.
 use Rattle.std.proofs.Common.{◌≡◌, ℕ, zero, suc, ◌+◌, ◌-◌, ◌*◌, ◌%◌, ◌<◌, ◌≤◌, ◌==◌, Bool, true, false, if◌then◌else◌, List, [], ◌∷◌, ◌++◌, length, get_or, take, inl, inr, refl, sym, ap, ◌∙◌, subst, arith, append_assoc, length-take-le}
 use Rattle.std.specs.List.{All, AllByRecursion}
 use Rattle.std.proofs.lemmas.List.{take_more, take_all, length-append, append-nil}
@@ -13,13 +13,13 @@ use Rattle.script_front.specs.declared.tree.Header.{Header}
 use Rattle.script_front.specs.Tree.{IsAct, IsHeader}
 use Rattle.mux_types.specs.Configuration.{Configuration, IsConfiguration}
 use Rattle.mux_edits.specs.Differences.{edits_between}
-use Rattle.mux_edits.specs.Sequences.{Lead}
+use Rattle.mux_edits.specs.Sequences.{Transform}
 use Rattle.mux_edits.proofs.Counting.{between_few}
 use Rattle.script_diff.proofs.Ranged.{between_formed}
 use Rattle.script_diff.specs.Plan.{pause_after, paced, committed, plan_acts}
 use Rattle.script_diff.specs.Frames.{edits_in, FitFrames}
 
--- ---- one more at the end
+-- ---- appending one
 
 pub paced_more : (full n : ℕ) (es : List Edit) (e : Edit) → paced full n (es ++ e ∷ []) ≡ paced full n es ++ (Edits e ∷ pause_after full (n + length es))
 paced_more full n [] e =
@@ -54,7 +54,7 @@ one_paced full es i now e out lt same h =
 pub all_paced : (full : ℕ) (es : List Edit) (i now : ℕ) (out : List Act) → length es ≤ i → PacedSoFar full es i now out → out ≡ paced full 1 es
 all_paced full es i now out past h = h.so_far ∙ ap (paced full 1) (take_all i es past)
 
--- ---- what they come to
+-- ---- their edits
 
 in_both : (acts others : List Act) (b : Bool) → edits_in ((if b then Wait 1 ∷ [] else []) ++ acts) ≡ edits_in acts
 in_both acts others true = refl
@@ -114,7 +114,7 @@ after_pause false most left acts one paused on = on refl
 is_zero : (n : ℕ) → (n == 0) ≡ true → n ≡ 0
 is_zero n e = eqb-true n 0 e
 
--- so many edits of a frame that is not full are done before edit m + 1
+-- an edit that does not fill the frame adds one to the edits in it
 used_next : (full m : ℕ) → 0 < full → ((m + 1) % full == 0) ≡ false → (m + 1) % full ≡ m % full + 1
 used_next full m some e =
     let below : m % full < full = mod-lt m some in
@@ -162,11 +162,11 @@ plan_few header from to is_from is_to =
     let size = length-append (paced (header.budget - 1) 1 (edits_between from to)) (committed header) in
     omega (arith, edits, few, size)
 
-pub plan_leads : (header : Header) (from to : Configuration) → Lead (edits_between from to) from to → Lead (edits_in (plan_acts header from to)) from to
+pub plan_leads : (header : Header) (from to : Configuration) → Transform (edits_between from to) from to → Transform (edits_in (plan_acts header from to)) from to
 plan_leads header from to h =
     let same : edits_in (plan_acts header from to) ≡ edits_between from to =
     edits_paced (header.budget - 1) 1 (edits_between from to) (committed header) ∙ append-nil (edits_between from to) in
-    subst (λ (es : List Edit). Lead es from to) (sym same) h
+    subst (λ (es : List Edit). Transform es from to) (sym same) h
 
 pub plan_fits : (header : Header) (from to : Configuration) → 2 ≤ header.budget → FitFrames header.budget header.budget (plan_acts header from to)
 plan_fits header from to two =

@@ -1,4 +1,4 @@
--- The numbers of the edits between two configurations are in their ranges.
+-- The edits between two configurations are in range.
 use Rattle.std.proofs.Common.{◌≡◌, ℕ, ◌==◌, Bool, true, false, if◌then◌else◌, nat_lt, List, [], ◌∷◌, ◌++◌, Option, Some, None, inl, inr, refl, sym, ◌∙◌, subst, arith}
 use Rattle.std.specs.List.{AllByRecursion, flat_map}
 use Rattle.std.proofs.lemmas.Bool.{cases_eq}
@@ -15,7 +15,7 @@ use Rattle.mux_types.specs.Sameness.{is_same_component, is_same_packet}
 use Rattle.mux_types.specs.Tables.{entry_at}
 use Rattle.mux_config.specs.Edits.{sub_at, service_at, packet_at}
 use Rattle.mux_edits.specs.Making.{sub_added, components_added, packet_added}
-use Rattle.mux_edits.specs.Differences.{behind, components_dropped, service_gone, service_cut, packet_gone, sub_gone, is_same_profile, start_altered, rate_altered, alterations, sub_altered, sub_new, packet_new, service_grown, edits_between}
+use Rattle.mux_edits.specs.Differences.{after_common, components_dropped, service_gone, service_cut, packet_gone, sub_gone, is_same_profile, start_altered, rate_altered, alterations, sub_altered, sub_new, packet_new, service_grown, edits_between}
 use Rattle.mux_edits.proofs.Lookups.{found_first, found_cases}
 use Rattle.plan_code.specs.Program.{IsEdit, IsCarrier}
 use Rattle.script_opening.proofs.PlainScripts.{rate_short}
@@ -41,7 +41,7 @@ some_is x y e = cc
 none_is : {T : Type 0} {P : Type 0} (y : T) → None ≡ Some y → P
 none_is y e = absurd (cc)
 
--- what is found is a member
+-- an entry found is a member
 found : {T : Type 0} (key : T → ℕ) (k : ℕ) (P : T → Type 0) (xs : List T) (y : T) → AllByRecursion P xs → entry_at key k xs ≡ Some y → P y
 found key k P [] y h e = none_is y e
 found key k P (x ∷ xs) y h e =
@@ -50,7 +50,7 @@ found key k P (x ∷ xs) y h e =
       | inr other ↦ found key k P xs y h.1 (found_cases key k x xs y e other)
     ]
 
--- ---- what goes
+-- ---- drops
 
 carrier_formed : (m : Component) → IsComponent m → IsCarrier (carrier_of m)
 carrier_formed (Sound ty sub) h = h.1
@@ -66,10 +66,10 @@ kept_if : (P : Component → Type 0) (b : Bool) (ms ns : List Component) → All
 kept_if P true ms ns h k = h
 kept_if P false ms ns h k = k
 
-behind_formed : (ms ns : List Component) → AllByRecursion IsComponent ms → AllByRecursion IsComponent (behind ms ns)
+behind_formed : (ms ns : List Component) → AllByRecursion IsComponent ms → AllByRecursion IsComponent (after_common ms ns)
 behind_formed [] ns h = tt
 behind_formed (m ∷ ms) [] h = h
-behind_formed (m ∷ ms) (n ∷ ns) h = kept_if IsComponent (is_same_component m n) (behind ms ns) (m ∷ ms) (behind_formed ms ns h.1) h
+behind_formed (m ∷ ms) (n ∷ ns) h = kept_if IsComponent (is_same_component m n) (after_common ms ns) (m ∷ ms) (behind_formed ms ns h.1) h
 
 service_gone_formed : (o : Option Service) (s : Service) → IsService s → AreEdits (service_gone o s)
 service_gone_formed None s h = (h.named, tt)
@@ -77,7 +77,7 @@ service_gone_formed (Some t) s h = tt
 
 service_cut_formed : (o : Option Service) (s : Service) → IsService s → AreEdits (service_cut o s)
 service_cut_formed None s h = tt
-service_cut_formed (Some t) s h = dropped_formed s.sid (behind s.components t.components) h.named (behind_formed s.components t.components h.within)
+service_cut_formed (Some t) s h = dropped_formed s.sid (after_common s.components t.components) h.named (behind_formed s.components t.components h.within)
 
 packet_gone_formed : (o : Option Packet) (p : Packet) → IsAddressed p → AreEdits (packet_gone o p)
 packet_gone_formed None p h = (h.named, tt)
@@ -87,7 +87,7 @@ sub_gone_formed : (o : Option Sub) (s : Sub) → IsPlaced s → AreEdits (sub_go
 sub_gone_formed None s h = (h.named, tt)
 sub_gone_formed (Some t) s h = chosen (is_same_profile s.protection t.protection) [] (DropSub s.id ∷ []) tt (h.named, tt)
 
--- ---- what stays
+-- ---- alterations
 
 start_formed : (s t : Sub) → IsPlaced t → AreEdits (start_altered s t)
 start_formed s t h = chosen (s.start == t.start) [] (MoveSub t.id t.start ∷ []) tt ((h.named, let ends = h.ends in omega (arith, ends)), tt)
@@ -105,7 +105,7 @@ sub_altered_formed : (o : Option Sub) (s : Sub) → ((t : Sub) → o ≡ Some t 
 sub_altered_formed None s h = tt
 sub_altered_formed (Some t) s h = chosen (is_same_profile s.protection t.protection) (alterations s t) [] (alterations_formed s t (h t refl)) tt
 
--- ---- what comes
+-- ---- additions
 
 sub_added_formed : (s : Sub) → IsPlaced s → AreEdits (sub_added s)
 sub_added_formed s h = (
@@ -136,7 +136,7 @@ packet_new_formed (Some p) q h = chosen (is_same_packet p q) [] (packet_added q)
 
 service_grown_formed : (o : Option Service) (t : Service) → IsService t → AreEdits (service_grown o t)
 service_grown_formed None t h = (h.named, added_formed t.sid t.components h.named h.within)
-service_grown_formed (Some s) t h = added_formed t.sid (behind t.components s.components) h.named (behind_formed t.components s.components h.within)
+service_grown_formed (Some s) t h = added_formed t.sid (after_common t.components s.components) h.named (behind_formed t.components s.components h.within)
 
 pub between_formed : (from to : Configuration) → IsConfiguration from → IsConfiguration to → AllByRecursion IsEdit (edits_between from to)
 between_formed from to h k =

@@ -1,4 +1,4 @@
--- Small plans: each definition where it holds, and where it fails.
+-- Test vectors: small plans for which each definition holds, and for which it fails.
 use Rattle.std.proofs.Common.{◌≡◌, ◌≢◌, ℕ, List, [], ◌∷◌, refl, arith}
 use Rattle.mux_config.specs.declared.edit.Edit.{Edit}
 use Rattle.mux_config.specs.declared.edit.Edit.TheVariants.{DropSub}
@@ -12,7 +12,7 @@ use Rattle.script_diff.specs.declared.refusal.DiffFault.TheVariants.{AnotherEnse
 use Rattle.script_diff.specs.Frames.{edits_in, FitFrames}
 use Rattle.script_diff.specs.Openings.{IsOpening}
 use Rattle.script_diff.specs.Plan.{pause_after, paced, committed}
-use Rattle.script_diff.specs.Refusals.{IsOneEnsemble, CanLead, IsInTheWay}
+use Rattle.script_diff.specs.Refusals.{IsOneEnsemble, CanBePlanned, IsInTheWay}
 
 abbrev one : Edit
 one = DropSub 1
@@ -20,7 +20,7 @@ one = DropSub 1
 abbrev other : Edit
 other = DropSub 2
 
--- two to a frame, counted from 1
+-- two edits a frame, counted from 1
 two_to_a_frame : paced 2 1 (one ∷ other ∷ one ∷ []) ≡ Edits one ∷ Edits other ∷ Wait 1 ∷ Edits one ∷ []
 two_to_a_frame = refl
 
@@ -62,5 +62,5 @@ the_same = (record { eid = refl; mode = refl }, refl)
 not_another : IsInTheWay (empty 1 20) (empty 1 20) AnotherEnsemble → ⊥
 not_another h = h (record { eid = refl; mode = refl })
 
-leads_nowhere : CanLead (empty 1 20) (empty 1 20) → ⊥
+leads_nowhere : CanBePlanned (empty 1 20) (empty 1 20) → ⊥
 leads_nowhere h = h.changes refl

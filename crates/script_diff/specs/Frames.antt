@@ -10,7 +10,7 @@ edits_in [] = []
 edits_in (Edits e ∷ acts) = e ∷ edits_in acts
 edits_in (_ ∷ acts) = edits_in acts
 
--- in any case, the next act is in a later frame
+-- the next act is always in a later frame
 abbrev pub ends_frame : Act → Bool
 ends_frame (Wait frames) = true
 ends_frame (WaitContact contact closed) = true
@@ -18,7 +18,7 @@ ends_frame (Until second) = true
 ends_frame Join = true
 ends_frame _ = false
 
--- this frame still has room for this many acts, and each later one for the most
+-- the acts fit: this frame has room for `left` more, and each later one for `most`
 abbrev pub FitFrames : (most left : ℕ) → List Act → Type 0
 FitFrames most left [] = Unit {0}
 FitFrames most left (act ∷ acts) = (1 ≤ left) × FitFrames most (if ends_frame act then most else left - 1) acts

@@ -1,4 +1,4 @@
--- What the script of a text begins with, or why it has no opening.
+-- The opening of the script in a text, or why it has none.
 use Rattle.std.specs.Prelude.{◌≡◌, ℕ, List, Ok, Err}
 use Rattle.mux_types.specs.Configuration.{Configuration, nothing}
 use Rattle.mux_config.specs.Sound.{IsSound, sound_or_fault}
@@ -9,12 +9,12 @@ use Rattle.script_diff.specs.declared.opening.Opening.{Opening}
 use Rattle.script_diff.specs.declared.opening.OpeningFault.{OpeningFault}
 use Rattle.script_diff.specs.declared.opening.OpeningFault.TheVariants.{Script as NoScript, Item, Unsound, Memory}
 
--- its header is in range, and its configuration sound
+-- its header is in range, and its configuration is sound
 pub record IsOpening (o : Opening) : Type 0 where
   pub headed : IsHeader o.header
   pub sound : IsSound o.config
 
--- it is what the script of this text begins with
+-- it is the opening of the script in this text
 pub record Opens (text : List ℕ) (o : Opening) : Type 0 where
   pub tree : Tree
   pub script : IsScript tree
@@ -24,7 +24,7 @@ pub record Opens (text : List ℕ) (o : Opening) : Type 0 where
   pub made : made_by tree.items nothing ≡ Ok o.config
   pub sound : IsSound o.config
 
--- the text has this fault, and none of those before it: it is no script, an item has the fault, the configuration is not
+-- the text has this fault, and none tested before it: it is not a script, an item has a fault, the configuration is not
 -- sound
 abbrev pub HasNoOpening : List ℕ → OpeningFault → Type 0
 HasNoOpening text (NoScript fault) = IsNoScript text

@@ -1,11 +1,11 @@
--- Why no plan turns one opening into another.
+-- Why there is no plan from one opening to another.
 use Rattle.std.specs.Prelude.{◌≡◌, ◌≢◌, ◌*◌, ◌≤◌, Some, None}
 use Rattle.fib_carousel.specs.Pages.{page_set, rounds}
 use Rattle.script_diff.specs.declared.opening.Opening.{Opening}
 use Rattle.script_diff.specs.declared.refusal.DiffFault.{DiffFault}
 use Rattle.script_diff.specs.declared.refusal.DiffFault.TheVariants.{AnotherEnsemble, NoChange, Round, Cost}
 
--- the pages of its configuration go out within its own period
+-- the pages of the configuration go out within the opening's own period
 abbrev pub FitsPeriod : Opening → Type 0
 FitsPeriod o = rounds o.header.mode (page_set o.config None) ≤ o.header.period
 
@@ -13,19 +13,19 @@ pub record IsOneEnsemble (from to : Opening) : Type 0 where
   pub eid : from.header.eid ≡ to.header.eid
   pub mode : from.header.mode ≡ to.header.mode
 
--- the pages of both go out within the period of the second, and three times within its notice
+-- the pages of both go out once within the period of the second opening, and three times within its notice
 pub record HaveRoom (from to : Opening) : Type 0 where
   pub within_period : rounds to.header.mode (page_set from.config (Some to.config)) ≤ to.header.period
   pub three_times : 3 * rounds to.header.mode (page_set from.config (Some to.config)) ≤ to.header.notice
 
--- no refusal holds
-pub record CanLead (from to : Opening) : Type 0 where
+-- nothing prevents a plan
+pub record CanBePlanned (from to : Opening) : Type 0 where
   pub one_ensemble : IsOneEnsemble from to
   pub changes : from.config ≢ to.config
   pub room : HaveRoom from to
   pub budget : 2 ≤ to.header.budget
 
--- this refusal holds, and none that is tested before it
+-- this refusal applies, and none tested before it
 abbrev pub IsInTheWay : Opening → Opening → DiffFault → Type 0
 IsInTheWay from to AnotherEnsemble = IsOneEnsemble from to → ⊥
 IsInTheWay from to NoChange = IsOneEnsemble from to × (from.config ≡ to.config)

@@ -1,8 +1,9 @@
-//! Plans that turn one configuration into another by one reconfiguration (EN 300 401 clauses 6.4 and 6.5): what two
-//! scripts begin with ([`Opening`]), why no plan turns one into the other ([`fault_between`]), and the plan
-//! ([`plan_between`]).
+//! Plans that turn one configuration into another by one reconfiguration (EN 300 401 clauses 6.4 and 6.5).
 //!
-//! The plan is defined in `specs/Plan.antt`, over the edits between two configurations of `mux_edits`, and the refusals
+//! An [`Opening`] is what a script begins with, [`fault_between`] says why there is no plan from one opening to
+//! another, and [`plan_between`] makes the plan.
+//!
+//! The plan is defined in `specs/Plan.antt`, over the edits of `mux_edits` between two configurations, and the refusals
 //! in `specs/Refusals.antt`.
 #![tactic(auto)]
 
@@ -10,6 +11,6 @@ pub mod opening;
 pub mod plan;
 pub mod refusal;
 
-pub use opening::{Opening, OpeningFault, opened};
+pub use opening::{Opening, OpeningFault, read_opening};
 pub use plan::plan_between;
 pub use refusal::{DiffFault, fault_between, fits_period};

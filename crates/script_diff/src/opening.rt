@@ -1,4 +1,4 @@
-//! What a script begins with.
+//! Reads the opening of a script: its header and the configuration that its items make.
 
 ghost use Rattle.std.specs.Prelude.{IfOk, IfErr};
 ghost use Rattle.script_diff.specs.Openings.{IsOpening, Opens, HasNoOpening};
@@ -9,10 +9,10 @@ use script_opening::{ItemFault, opening_of};
 use std::alloc::Global;
 use thiserror::Error;
 
-/// What a script begins with; its blocks and statements are parsed and not compiled.
+/// The opening of a script; its blocks and statements are parsed but not compiled.
 #[derive(Drop)]
 pub struct Opening {
-    /// Its header.
+    /// The header of the script.
     pub header: Header,
     /// The line of `begin`, 1 to 65,535.
     pub begin_line: u16,
@@ -20,10 +20,10 @@ pub struct Opening {
     pub config: Config,
 }
 
-/// Why a text has no opening, in the order of the tests. It is printed as `compile` prints it.
+/// Why a text has no opening, in the order tested. `Display` writes the line that `compile` prints.
 #[derive(Clone, Copy, Debug, PartialEq, Eq, Error)]
 pub enum OpeningFault {
-    /// The text is no script.
+    /// The text is not a script.
     #[error("{0}")]
     Script(ScriptFault),
     /// An item has a fault.
@@ -37,10 +37,12 @@ pub enum OpeningFault {
     Memory,
 }
 
-/// What the script of a text begins with, where that is sound.
+/// Reads the opening of the script in a text. Its configuration is sound.
 ///
-/// The first fault is returned, in the order of [`OpeningFault`].
-pub fn opened(alloc: Global, text: &str) -> Result<Opening, OpeningFault>
+/// # Errors
+///
+/// The first fault, in the order of [`OpeningFault`].
+pub fn read_opening(alloc: Global, text: &str) -> Result<Opening, OpeningFault>
     ensures opens { IfOk result (Opens text.now) }
     ensures formed { IfOk result IsOpening }
     ensures fault { IfErr result (HasNoOpening text.now) }

@@ -1,9 +1,9 @@
-//! The plan between two configurations.
+//! Makes the plan that turns one configuration into another.
 
 ghost use Rattle.std.specs.Prelude.{◌≡◌, ◌≤◌, ◌++◌, ◌∷◌, [], length, OnOk, IfOk};
 ghost use Rattle.mux_config.specs.Configuration.{nothing};
 ghost use Rattle.mux_edits.specs.Making.{edits_that_make};
-ghost use Rattle.mux_edits.specs.Sequences.{Lead};
+ghost use Rattle.mux_edits.specs.Sequences.{Transform};
 ghost use Rattle.script_front.specs.declared.tree.Act.TheVariants as act;
 ghost use Rattle.script_front.specs.Alike.{added_by};
 ghost use Rattle.script_front.specs.Tree.{IsHeader};
@@ -28,7 +28,7 @@ fn put<T: Drop>(list: &mut Vec<T>, item: T) -> Result<(), AllocError>
     }
 }
 
-/// An edit and, where it fills a frame, the wait for the next one.
+/// Appends an edit and, if it fills its frame, a wait for the next frame.
 fn put_edit(acts: &mut Vec<Act>, full: u16, number: u16, edit: Edit) -> Result<(), AllocError>
     requires { 1 ≤ full }
     ensures { OnOk result (acts.new.items ≡ acts.old.items
@@ -41,7 +41,7 @@ fn put_edit(acts: &mut Vec<Act>, full: u16, number: u16, edit: Edit) -> Result<(
     Ok(())
 }
 
-/// Edits, of which this many fill a frame.
+/// The edits as acts, paced so that each frame has at most `full` of them.
 fn paced(alloc: Global, full: u16, edits: &[Edit]) -> Result<Vec<Act>, AllocError>
     requires full { 1 ≤ full }
     requires few { length edits.now ≤ 2048 }
@@ -76,9 +76,9 @@ fn acts_between(
     Ok(acts)
 }
 
-/// The plan of this header that turns one configuration into the other by one reconfiguration: the edits between them
-/// in order, a commit with the header's notice, and `join`. Each edit whose number, from 1, is a multiple of one less
-/// than the budget is followed by `wait 1`, so that no frame has more instructions than the budget.
+/// The plan with this header that turns one configuration into the other by one reconfiguration: the edits between them
+/// in order, a commit with the header's notice, and `join`. A `wait 1` follows each edit whose number, counted from 1,
+/// is a multiple of the budget less one, so that no frame has more instructions than the budget.
 pub fn plan_between(
     alloc: Global,
     header: Header,
@@ -89,11 +89,11 @@ pub fn plan_between(
     requires room { 2 ≤ header.budget }
     ensures plain { IfOk result (λ s. IsPlain header (edits_that_make from.now)
         (plan_acts header from.now to.now) s) }
-    ensures begins { IfOk result (λ s. Lead (added_by s.items) nothing from.now) }
-    ensures leads { Lead (edits_in (plan_acts header from.now to.now)) from.now to.now }
+    ensures begins { IfOk result (λ s. Transform (added_by s.items) nothing from.now) }
+    ensures leads { Transform (edits_in (plan_acts header from.now to.now)) from.now to.now }
     ensures frames { FitFrames header.budget header.budget (plan_acts header from.now to.now) }
 {
-    mux_edits::laws::leading();
+    mux_edits::laws::transforming();
     from.subs();
     to.subs();
     let acts = acts_between(alloc, header, from, to)?;

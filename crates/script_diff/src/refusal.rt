@@ -1,14 +1,14 @@
-//! Why no plan turns one script's opening into another's.
+//! Why there is no plan from one opening to another.
 
 ghost use Rattle.std.specs.Prelude.{◌↔◌, ◌≤◌, IsTrue, IfSome, IfNone};
-ghost use Rattle.script_diff.specs.Refusals.{FitsPeriod, IsOneEnsemble, HaveRoom, CanLead, IsInTheWay};
+ghost use Rattle.script_diff.specs.Refusals.{FitsPeriod, IsOneEnsemble, HaveRoom, CanBePlanned, IsInTheWay};
 
 use crate::opening::Opening;
 use fib_carousel::pages;
 use mux_config::{Config, Store};
 use thiserror::Error;
 
-/// Why no plan turns one opening into another, in the order of the tests.
+/// Why there is no plan from one opening to another, in the order tested.
 #[derive(Clone, Copy, Debug, PartialEq, Eq, Error)]
 pub enum DiffFault {
     /// Their ensembles or transmission modes differ.
@@ -21,7 +21,7 @@ pub enum DiffFault {
     /// notice.
     #[error("refused: Round")]
     Round,
-    /// The budget is 1, so that no frame has room for an edit.
+    /// The budget is 1, so no frame has room for an edit and a wait.
     #[error("refused: Cost")]
     Cost,
 }
@@ -41,7 +41,7 @@ fn is_one_ensemble(from: &Opening, to: &Opening) -> bool
     from.header.eid == to.header.eid && from.header.mode == to.header.mode
 }
 
-/// Whether the pages of both go out within the period of the second, and three times within its notice.
+/// Whether the pages of both go out once within the period of the second opening, and three times within its notice.
 fn have_room(from: &Opening, to: &Opening) -> bool
     ensures { IsTrue result ↔ HaveRoom from.now to.now }
 {
@@ -49,11 +49,11 @@ fn have_room(from: &Opening, to: &Opening) -> bool
     both <= usize::from(to.header.period) && both <= usize::from(to.header.notice) / 3
 }
 
-/// Why no plan of the second opening's header turns the first into it; None where one does.
+/// Why there is no plan with the second opening's header from the first to the second; None if there is one.
 pub fn fault_between(from: &Opening, to: &Opening) -> Option<DiffFault>
     requires { 1 ≤ to.now.header.budget }
     ensures fault { IfSome result (IsInTheWay from.now to.now) }
-    ensures none { IfNone result (CanLead from.now to.now) }
+    ensures none { IfNone result (CanBePlanned from.now to.now) }
 {
     if !is_one_ensemble(from, to) {
         return Some(DiffFault::AnotherEnsemble);

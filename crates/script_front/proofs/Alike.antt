@@ -10,11 +10,11 @@ use Rattle.script_front.specs.declared.tree.Header.{Header}
 use Rattle.script_front.specs.declared.tree.Item.{Item}
 use Rattle.script_front.specs.declared.tree.Statement.{Statement}
 use Rattle.script_tokens.specs.declared.keyword.Keyword.TheVariants as the
-use Rattle.script_tokens.specs.Words.{Word, the as grammar, letters}
-use Rattle.script_tokens.specs.Spelling.{hex_word}
+use Rattle.script_tokens.specs.Keywords.{Lexeme, the as grammar, letters}
+use Rattle.script_tokens.specs.Spelling.{hex_text}
 use Rattle.script_front.specs.Block.{Block, nothing, basic, stop, when, either, repeat, forever, apply, block_of}
 use Rattle.script_front.specs.Tree.{IsHeader, IsItem, AreNamedApart, IsInBounds}
-use Rattle.script_front.specs.Spelled.{name_at, act_words, braced, block_words, mode_words, header_words, items_words, defined_words, begin_words}
+use Rattle.script_front.specs.Spelled.{name_at, act_lexemes, braced, block_lexemes, mode_lexemes, header_lexemes, items_lexemes, defined_lexemes, begin_lexemes}
 use Rattle.script_front.specs.Parsing.{Stops, BeginsNoItem, CanDefine}
 use Rattle.script_front.specs.Alike.{unlined, said_by, added_by, ScriptsHaveTheirOwnTokens}
 use Rattle.script_tokens.proofs.Keys.{word_the, first_is, rest_is}
@@ -32,30 +32,30 @@ use Rattle.script_tokens.specs.Reading.{Spelled}
 same_decimal : (m n : ℕ) → m < 65536 → n < 65536 → decimal m ≡ decimal n → m ≡ n
 same_decimal m n h k e = sym (number_decimal m (omega (arith, h))) ∙ ap number e ∙ number_decimal n (omega (arith, k))
 
-same_eid : (m n : ℕ) → m < 65536 → n < 65536 → hex_word m ≡ hex_word n → m ≡ n
+same_eid : (m n : ℕ) → m < 65536 → n < 65536 → hex_text m ≡ hex_text n → m ≡ n
 same_eid m n h k e = sym (four_again m h) ∙ ap four_of e ∙ four_again n k
 
 abbrev mode_of : ℕ → Mode
 mode_of n = if n == 2 then II else if n == 3 then III else IV
 
-abbrev mode_by : Word → Spelled → Mode × Spelled
+abbrev mode_by : Lexeme → Spelled → Mode × Spelled
 mode_by (grammar the.Mode) ws = (mode_of (number_at ws 1), drop 2 ws)
 mode_by _ ws = (I, ws)
 
-mode_again : (m : Mode) (rest : Spelled) → mode_by (key_at (mode_words m ++ letters the.Period ∷ rest) 0) (mode_words m ++ letters the.Period ∷ rest) ≡ (m, letters the.Period ∷ rest)
+mode_again : (m : Mode) (rest : Spelled) → mode_by (key_at (mode_lexemes m ++ letters the.Period ∷ rest) 0) (mode_lexemes m ++ letters the.Period ∷ rest) ≡ (m, letters the.Period ∷ rest)
 mode_again I rest = rw (word_the the.Period) refl
 mode_again II rest = let a = number_decimal 2 (omega arith) in rw (word_the the.Mode, a) refl
 mode_again III rest = let a = number_decimal 3 (omega arith) in rw (word_the the.Mode, a) refl
 mode_again IV rest = let a = number_decimal 4 (omega arith) in rw (word_the the.Mode, a) refl
 
-same_mode : (m n : Mode) (xs ys : Spelled) → mode_words m ++ letters the.Period ∷ xs ≡ mode_words n ++ letters the.Period ∷ ys
+same_mode : (m n : Mode) (xs ys : Spelled) → mode_lexemes m ++ letters the.Period ∷ xs ≡ mode_lexemes n ++ letters the.Period ∷ ys
     → Same Mode m n (letters the.Period ∷ xs) (letters the.Period ∷ ys)
 same_mode m n xs ys e = both_same m n _ _ _ (mode_again m xs) (ap (λ (ws : Spelled). mode_by (key_at ws 0) ws) e ∙ mode_again n ys)
 
 abbrev header_of : ℕ → Mode → (period notice budget : ℕ) → Header
 header_of eid mode period notice budget = record { eid = eid; mode = mode; period = period; notice = notice; budget = budget }
 
-same_header : (h k : Header) (xs ys : Spelled) → IsHeader h → IsHeader k → header_words h ++ xs ≡ header_words k ++ ys → Same Header h k xs ys
+same_header : (h k : Header) (xs ys : Spelled) → IsHeader h → IsHeader k → header_lexemes h ++ xs ≡ header_lexemes k ++ ys → Same Header h k xs ys
 same_header h k xs ys x y e =
     let a = rest_is _ _ _ _ e in
     let eid = same_eid h.eid k.eid x.named y.named (first_is _ _ _ _ a) in
@@ -72,10 +72,10 @@ same_header h k xs ys x y e =
 
 -- ---- items
 
-same_items : (is js : List Item) (xs ys : Spelled) → All IsItem is → All IsItem js → BeginsNoItem xs → BeginsNoItem ys → items_words is ++ xs ≡ items_words js ++ ys
+same_items : (is js : List Item) (xs ys : Spelled) → All IsItem is → All IsItem js → BeginsNoItem xs → BeginsNoItem ys → items_lexemes is ++ xs ≡ items_lexemes js ++ ys
     → Same (List Edit) (added_by is) (added_by js) xs ys
 same_items [] js xs ys h k m n e =
-    let none = none_here xs js ys k m e in record { one = ap added_by (sym none); rest = e ∙ ap (λ (js : List Item). items_words js ++ ys) none }
+    let none = none_here xs js ys k m e in record { one = ap added_by (sym none); rest = e ∙ ap (λ (js : List Item). items_lexemes js ++ ys) none }
 same_items (i ∷ is) [] xs ys h k m n e =
     let l = ap length (none_here ys (i ∷ is) xs h n (sym e)) in absurd (omega (arith, l))
 same_items (i ∷ is) (j ∷ js) xs ys h k m n e =
@@ -85,7 +85,7 @@ same_items (i ∷ is) (j ∷ js) xs ys h k m n e =
 
 -- ---- blocks
 
--- the names are different
+-- the names are different: equal names have equal numbers
 abbrev Told : List (List ℕ) → Type 0
 Told names = (m n : ℕ) → m < length names → n < length names → name_at names m ≡ name_at names n → m ≡ n
 
@@ -101,41 +101,41 @@ told_apart names ns h m n a b e =
       ]
     ]
 
--- what is in braces, and behind them
-opened : (names : List (List ℕ)) (body other : Block) (tail xs more : Spelled) → braced (block_words names body) tail ++ xs ≡ in_braces names other more
-    → block_words names body ++ letters the.CloseBrace ∷ (tail ++ xs) ≡ block_words names other ++ letters the.CloseBrace ∷ more
+-- the tokens in braces, and those after them
+opened : (names : List (List ℕ)) (body other : Block) (tail xs more : Spelled) → braced (block_lexemes names body) tail ++ xs ≡ in_braces names other more
+    → block_lexemes names body ++ letters the.CloseBrace ∷ (tail ++ xs) ≡ block_lexemes names other ++ letters the.CloseBrace ∷ more
 opened names body other tail xs more e = rest_is _ _ _ _ (sym (braced_then names body tail xs) ∙ e)
 
 same_block : (names : List (List ℕ)) → Told names → (depth : ℕ) (b c : Block) (xs ys : Spelled) → IsInBounds (length names) depth b → IsInBounds (length names) depth c → Stops xs → Stops ys
-    → block_words names b ++ xs ≡ block_words names c ++ ys → Same Block (unlined b) (unlined c) xs ys
+    → block_lexemes names b ++ xs ≡ block_lexemes names c ++ ys → Same Block (unlined b) (unlined c) xs ys
 same_block names told depth nothing c xs ys f g h k e =
-    let none = all_read names c ys xs k h e in record { one = ap unlined (sym none); rest = e ∙ ap (λ (b : Block). block_words names b ++ ys) none }
+    let none = all_read names c ys xs k h e in record { one = ap unlined (sym none); rest = e ∙ ap (λ (b : Block). block_lexemes names b ++ ys) none }
 same_block names told depth (basic line act r) c xs ys f g h k e =
-    let later : Spelled = block_words names r ++ xs in
-    let here = sym (act_begins act later) ∙ sym (append_assoc (act_words act) (block_words names r) xs) ∙ e in
+    let later : Spelled = block_lexemes names r ++ xs in
+    let here = sym (act_begins act later) ∙ sym (append_assoc (act_lexemes act) (block_lexemes names r) xs) ∙ e in
     let key = key_is names c ys (act_key act) _ k (sym here) in
     let a = after_act names (length names) depth (act_key act) _ c ys (act_key_begins act) key g here in
-    let s = same_act act a.act later (block_words names a.next ++ ys) f.0 a.formed (act_begins act later ∙ a.words) in
+    let s = same_act act a.act later (block_lexemes names a.next ++ ys) f.0 a.formed (act_begins act later ∙ a.lexemes) in
     let t = same_block names told depth r a.next xs ys f.1 a.fits h k s.rest in
     record { one = ap (λ x. basic 0 x (unlined r)) s.one ∙ ap (λ (x : Block). basic 0 a.act x) t.one ∙ sym a.is; rest = t.rest }
 same_block names told depth (stop line r) c xs ys f g h k e =
     let a = after_stop names (length names) depth _ c ys (key_is names c ys the.End _ k (sym e)) g e in
-    let t = same_block names told depth r a.next xs ys f a.fits h k a.words in
+    let t = same_block names told depth r a.next xs ys f a.fits h k a.lexemes in
     record { one = ap (λ (x : Block). stop 0 x) t.one ∙ sym a.is; rest = t.rest }
 same_block names told depth (apply line number named r) c xs ys f g h k e =
     let a = after_apply names (length names) depth _ c ys (key_is names c ys the.Apply _ k (sym e)) g e in
-    let n = told number a.number f.0 a.in_range (first_is _ _ _ _ a.words) in
-    let t = same_block names told depth r a.next xs ys f.1 a.fits h k (rest_is _ _ _ _ a.words) in
+    let n = told number a.number f.0 a.in_range (first_is _ _ _ _ a.lexemes) in
+    let t = same_block names told depth r a.next xs ys f.1 a.fits h k (rest_is _ _ _ _ a.lexemes) in
     record { one = ap (λ m. apply 0 m nothing (unlined r)) n ∙ ap (λ (x : Block). apply 0 a.number nothing x) t.one ∙ sym a.is; rest = t.rest }
 same_block names told depth (forever line body r) c xs ys f g h k e =
     let a = after_forever names (length names) depth _ c ys (key_is names c ys the.Forever _ k (sym e)) g e in
-    let u = same_block names told (depth - 1) body a.body _ _ f.1 a.within refl refl (opened names body a.body (block_words names r) xs _ a.words) in
+    let u = same_block names told (depth - 1) body a.body _ _ f.1 a.within refl refl (opened names body a.body (block_lexemes names r) xs _ a.lexemes) in
     let t = same_block names told depth r a.next xs ys f.2 a.fits h k (rest_is _ _ _ _ u.rest) in
     record { one = ap (λ (x : Block). forever 0 x (unlined r)) u.one ∙ ap (λ (x : Block). forever 0 (unlined a.body) x) t.one ∙ sym a.is; rest = t.rest }
 same_block names told depth (repeat line times body r) c xs ys f g h k e =
     let a = after_repeat names (length names) depth _ c ys (key_is names c ys the.Repeat _ k (sym e)) g e in
-    let n = same_decimal times a.times f.2 a.small (first_is _ _ _ _ a.words) in
-    let u = same_block names told (depth - 1) body a.body _ _ f.3 a.within refl refl (opened names body a.body (block_words names r) xs _ (rest_is _ _ _ _ a.words)) in
+    let n = same_decimal times a.times f.2 a.small (first_is _ _ _ _ a.lexemes) in
+    let u = same_block names told (depth - 1) body a.body _ _ f.3 a.within refl refl (opened names body a.body (block_lexemes names r) xs _ (rest_is _ _ _ _ a.lexemes)) in
     let t = same_block names told depth r a.next xs ys f.4 a.fits h k (rest_is _ _ _ _ u.rest) in
     record {
       one = ap (λ m. repeat 0 m (unlined body) (unlined r)) n ∙ ap (λ (x : Block). repeat 0 a.times x (unlined r)) u.one ∙ ap (λ (x : Block). repeat 0 a.times (unlined a.body) x) t.one ∙ sym a.is;
@@ -143,31 +143,31 @@ same_block names told depth (repeat line times body r) c xs ys f g h k e =
     }
 same_block names told depth (when line contact first r) c xs ys f g h k e =
     let a = after_if names (length names) depth _ c ys (key_is names c ys the.If _ k (sym e)) g e in
-    let w = rest_is _ _ _ _ a.words in
+    let w = rest_is _ _ _ _ a.lexemes in
     let n = same_decimal contact a.contact (let z = f.1 in omega (arith, z)) (let z = a.small in omega (arith, z)) (first_is _ _ _ _ w) in
-    let u = same_block names told (depth - 1) first a.first _ _ f.2 a.within refl refl (opened names first a.first (block_words names r) xs _ (rest_is _ _ _ _ w)) in
+    let u = same_block names told (depth - 1) first a.first _ _ f.2 a.within refl refl (opened names first a.first (block_lexemes names r) xs _ (rest_is _ _ _ _ w)) in
     let v = rest_is _ _ _ _ u.rest in
-    elim a.goes_on [
+    elim a.not_stopped [
       | inl o ↦ (
-          let t = same_block names told depth r o.next xs ys f.3 o.fits h k (v ∙ o.words) in
+          let t = same_block names told depth r o.next xs ys f.3 o.fits h k (v ∙ o.lexemes) in
           record {
             one = ap (λ m. when 0 m (unlined first) (unlined r)) n ∙ ap (λ (x : Block). when 0 a.contact x (unlined r)) u.one ∙ ap (λ (x : Block). when 0 a.contact (unlined a.first) x) t.one ∙ sym o.is;
             rest = t.rest;
           }
           )
-      | inr o ↦ absurd (no_else names r xs _ h (sym o.words ∙ sym v))
+      | inr o ↦ absurd (no_else names r xs _ h (sym o.lexemes ∙ sym v))
     ]
 same_block names told depth (either line contact first second r) c xs ys f g h k e =
     let a = after_if names (length names) depth _ c ys (key_is names c ys the.If _ k (sym e)) g e in
-    let w = rest_is _ _ _ _ a.words in
+    let w = rest_is _ _ _ _ a.lexemes in
     let n = same_decimal contact a.contact (let z = f.1 in omega (arith, z)) (let z = a.small in omega (arith, z)) (first_is _ _ _ _ w) in
-    let tail : Spelled = letters the.Else ∷ braced (block_words names second) (block_words names r) in
+    let tail : Spelled = letters the.Else ∷ braced (block_lexemes names second) (block_lexemes names r) in
     let u = same_block names told (depth - 1) first a.first _ _ f.2 a.within refl refl (opened names first a.first tail xs _ (rest_is _ _ _ _ w)) in
     let v = rest_is _ _ _ _ u.rest in
-    elim a.goes_on [
-      | inl o ↦ absurd (no_else names o.next ys _ k (v ∙ o.words))
+    elim a.not_stopped [
+      | inl o ↦ absurd (no_else names o.next ys _ k (v ∙ o.lexemes))
       | inr o ↦ (
-          let s = same_block names told (depth - 1) second o.second _ _ f.3 o.within refl refl (opened names second o.second (block_words names r) xs _ (rest_is _ _ _ _ (v ∙ o.words))) in
+          let s = same_block names told (depth - 1) second o.second _ _ f.3 o.within refl refl (opened names second o.second (block_lexemes names r) xs _ (rest_is _ _ _ _ (v ∙ o.lexemes))) in
           let t = same_block names told depth r o.next xs ys f.4 o.fits h k (rest_is _ _ _ _ s.rest) in
           record {
             one = ap (λ m. either 0 m (unlined first) (unlined second) (unlined r)) n ∙ ap (λ (x : Block). either 0 a.contact x (unlined second) (unlined r)) u.one
@@ -184,27 +184,27 @@ record SameDefined (ns ms : List (List ℕ)) (bs cs : List (List Statement)) (xs
   pub blocks : map said_by bs ≡ map said_by cs
   pub rest : xs ≡ ys
 
-same_defined : (names : List (List ℕ)) (words : Spelled) (ns ms : List (List ℕ)) (bs cs : List (List Statement)) (xs ys : Spelled) → CanDefine names words ns bs xs → CanDefine names words ms cs ys
+same_defined : (names : List (List ℕ)) (lexemes : Spelled) (ns ms : List (List ℕ)) (bs cs : List (List Statement)) (xs ys : Spelled) → CanDefine names lexemes ns bs xs → CanDefine names lexemes ms cs ys
     → SameDefined ns ms bs cs xs ys
-same_defined names words [] [] [] [] xs ys p q = record { names = refl; blocks = refl; rest = sym p.spelled ∙ q.spelled }
-same_defined names words [] (m ∷ ms) [] (c ∷ cs) xs ys p q = absurd (p.ends _ (sym p.spelled ∙ first_words names words m ms c cs ys q))
-same_defined names words (n ∷ ns) [] (b ∷ bs) [] xs ys p q = absurd (q.ends _ (sym q.spelled ∙ first_words names words n ns b bs xs p))
-same_defined names words (n ∷ ns) (m ∷ ms) (b ∷ bs) (c ∷ cs) xs ys p q =
-    let e = rest_is _ _ _ _ (sym (first_words names words n ns b bs xs p) ∙ first_words names words m ms c cs ys q) in
+same_defined names lexemes [] [] [] [] xs ys p q = record { names = refl; blocks = refl; rest = sym p.spelled ∙ q.spelled }
+same_defined names lexemes [] (m ∷ ms) [] (c ∷ cs) xs ys p q = absurd (p.ends _ (sym p.spelled ∙ first_words names lexemes m ms c cs ys q))
+same_defined names lexemes (n ∷ ns) [] (b ∷ bs) [] xs ys p q = absurd (q.ends _ (sym q.spelled ∙ first_words names lexemes n ns b bs xs p))
+same_defined names lexemes (n ∷ ns) (m ∷ ms) (b ∷ bs) (c ∷ cs) xs ys p q =
+    let e = rest_is _ _ _ _ (sym (first_words names lexemes n ns b bs xs p) ∙ first_words names lexemes m ms c cs ys q) in
     let is : n ≡ m = first_is _ _ _ _ e in
     let u = same_block names (told_apart names (n ∷ ns) p.different) 15 (block_of [] b) (block_of [] c) _ _ p.fit.0 q.fit.0 refl refl (rest_is _ _ _ _ (rest_is _ _ _ _ e)) in
-    let after : Spelled = defined_words (names ++ n ∷ ns) (length names + 1) bs ++ xs in
-    let later = behind_first names m words after ms c cs ys q (rest_is _ _ _ _ u.rest) in
-    let t = same_defined (names ++ n ∷ []) after ns ms bs cs xs ys (behind_first names n words after ns b bs xs p refl) (subst (λ (w : List ℕ). CanDefine (names ++ w ∷ []) after ms cs ys) (sym is) later) in
+    let after : Spelled = defined_lexemes (names ++ n ∷ ns) (length names + 1) bs ++ xs in
+    let later = behind_first names m lexemes after ms c cs ys q (rest_is _ _ _ _ u.rest) in
+    let t = same_defined (names ++ n ∷ []) after ns ms bs cs xs ys (behind_first names n lexemes after ns b bs xs p refl) (subst (λ (w : List ℕ). CanDefine (names ++ w ∷ []) after ms cs ys) (sym is) later) in
     record {
       names = ap (λ (w : List ℕ). w ∷ ns) is ∙ ap (λ (ws : List (List ℕ)). m ∷ ws) t.names;
       blocks = ap (λ (x : Block). x ∷ map said_by bs) u.one ∙ ap (λ (xs : List Block). said_by c ∷ xs) t.blocks;
       rest = t.rest;
     }
-same_defined names words [] ms (b ∷ bs) cs xs ys p q = let e = p.each in absurd (omega (arith, e))
-same_defined names words (n ∷ ns) ms [] cs xs ys p q = let e = p.each in absurd (omega (arith, e))
-same_defined names words ns [] bs (c ∷ cs) xs ys p q = let e = q.each in absurd (omega (arith, e))
-same_defined names words ns (m ∷ ms) bs [] xs ys p q = let e = q.each in absurd (omega (arith, e))
+same_defined names lexemes [] ms (b ∷ bs) cs xs ys p q = let e = p.each in absurd (omega (arith, e))
+same_defined names lexemes (n ∷ ns) ms [] cs xs ys p q = let e = p.each in absurd (omega (arith, e))
+same_defined names lexemes ns [] bs (c ∷ cs) xs ys p q = let e = q.each in absurd (omega (arith, e))
+same_defined names lexemes ns (m ∷ ms) bs [] xs ys p q = let e = q.each in absurd (omega (arith, e))
 
 -- ---- scripts
 
@@ -212,10 +212,10 @@ pub scripts_alike : ScriptsHaveTheirOwnTokens
 scripts_alike s t x y e =
     let a = same_header s.header t.header _ _ x.headed y.headed e in
     let i = same_items s.items t.items (after_items s) (after_items t) x.adding y.adding (items_end s) (items_end t) a.rest in
-    let d = same_defined [] (after_items s) s.names t.names s.blocks t.blocks (begin_words s) (begin_words t) (can_define s (after_items s) x refl) (can_define t (after_items s) y i.rest) in
+    let d = same_defined [] (after_items s) s.names t.names s.blocks t.blocks (begin_lexemes s) (begin_lexemes t) (can_define s (after_items s) x refl) (can_define t (after_items s) y i.rest) in
     let b : Block = block_of [] s.statements in
     let c : Block = block_of [] t.statements in
-    let w : block_words s.names b ≡ block_words s.names c = rest_is _ _ _ _ d.rest ∙ ap (λ (ns : List (List ℕ)). block_words ns c) (sym d.names) in
+    let w : block_lexemes s.names b ≡ block_lexemes s.names c = rest_is _ _ _ _ d.rest ∙ ap (λ (ns : List (List ℕ)). block_lexemes ns c) (sym d.names) in
     let told = told_apart s.names [] (subst AreNamedApart (sym (append_none s.names)) x.different) in
     let one = subst (λ (n : ℕ). IsInBounds n 16 b) (sym x.defined) x.fits in
     let other = subst (λ (n : ℕ). IsInBounds n 16 c) (sym y.defined ∙ ap length (sym d.names)) y.fits in

@@ -1,4 +1,4 @@
--- Items and defined blocks, one more at a time.
+-- Reading items and definitions, one by one.
 use Rattle.std.proofs.Common.{◌≡◌, ◌≢◌, ℕ, zero, suc, ◌+◌, ◌<◌, List, [], ◌∷◌, ◌++◌, length, length-append, append_assoc, Some, slice_get, refl, sym, ap, ◌∙◌, subst, arith}
 use Rattle.std.specs.Prelude.{Vec}
 use Rattle.std.specs.Global.{Global}
@@ -11,9 +11,9 @@ use Rattle.script_front.specs.declared.tree.Statement.{Statement}
 use Rattle.script_front.specs.Block.{nothing, block_of, and_then}
 use Rattle.script_front.specs.Tree.{Tree, IsScript, IsHeader, IsItem, IsInBounds, AllFit, counted, counted_in}
 use Rattle.script_tokens.specs.declared.keyword.Keyword.TheVariants as the
-use Rattle.script_tokens.specs.Words.{letters, IsName}
+use Rattle.script_tokens.specs.Keywords.{letters, IsName}
 use Rattle.script_tokens.specs.Reading.{Spelled, Input, Passes, line_of_left, line_of}
-use Rattle.script_front.specs.Spelled.{name_at, block_words, header_words, items_words, defined_words, begin_words, ItemsOn, BlockOn, DefinedOn}
+use Rattle.script_front.specs.Spelled.{name_at, block_lexemes, header_lexemes, items_lexemes, defined_lexemes, begin_lexemes, ItemsOn, BlockOn, DefinedOn}
 use Rattle.script_front.specs.Parsing.{IsRead, IsDefined, AreDefined, AreItems, SpellsTree, bodies}
 use Rattle.script_front.proofs.Undefined.{one_defined}
 use Rattle.script_front.proofs.Definitions.{name_front, name_last, words_agree, on_agree, defined_agree, defined_on_agree, definition_words, one_definition, defined_more, defined_on_more}
@@ -54,35 +54,35 @@ bodies_length : (bs : List (Vec Statement Global)) → length (bodies bs) ≡ le
 bodies_length [] = refl
 bodies_length (x ∷ bs) = ap suc (bodies_length bs)
 
--- the words of definitions, and of one more
+-- the tokens of definitions, and of one more
 more_spelled : (names : List (List ℕ)) (name : List ℕ) (i j k m : Input) (bs : List (List Statement)) (b : List Statement) → length names ≡ length bs
-    → AllFit 0 bs → IsInBounds (length names) 15 (block_of [] b) → i.words ≡ defined_words names 0 bs ++ j.words
-    → j.words ≡ letters the.Define ∷ name ∷ m.words → m.words ≡ letters the.OpenBrace ∷ (block_words names (block_of [] b) ++ letters the.CloseBrace ∷ k.words)
-    → (j.words ≡ definition_words (names ++ name ∷ []) (0 + length bs) b ++ k.words) × (i.words ≡ defined_words (names ++ name ∷ []) 0 (bs ++ b ∷ []) ++ k.words)
+    → AllFit 0 bs → IsInBounds (length names) 15 (block_of [] b) → i.lexemes ≡ defined_lexemes names 0 bs ++ j.lexemes
+    → j.lexemes ≡ letters the.Define ∷ name ∷ m.lexemes → m.lexemes ≡ letters the.OpenBrace ∷ (block_lexemes names (block_of [] b) ++ letters the.CloseBrace ∷ k.lexemes)
+    → (j.lexemes ≡ definition_words (names ++ name ∷ []) (0 + length bs) b ++ k.lexemes) × (i.lexemes ≡ defined_lexemes (names ++ name ∷ []) 0 (bs ++ b ∷ []) ++ k.lexemes)
 more_spelled names name i j k m bs b len fit fits e f g =
     let more : List (List ℕ) = names ++ name ∷ [] in
     let agree = name_front names (name ∷ []) in
     let number : 0 + length bs ≡ length names = omega (arith, len) in
     let last : name_at more (0 + length bs) ≡ name = ap (name_at more) number ∙ name_last names name in
     let body = words_agree (length names) 15 names more agree (block_of [] b) fits in
-    let here : j.words ≡ definition_words more (0 + length bs) b ++ k.words =
-    f ∙ ap (λ (ws : Spelled). letters the.Define ∷ name ∷ ws) (g ∙ ap (λ (ws : Spelled). letters the.OpenBrace ∷ (ws ++ letters the.CloseBrace ∷ k.words)) body)
-    ∙ ap (λ (n : List ℕ). letters the.Define ∷ n ∷ letters the.OpenBrace ∷ (block_words more (block_of [] b) ++ letters the.CloseBrace ∷ k.words)) (sym last)
-    ∙ sym (one_definition more (0 + length bs) b k.words) in (
+    let here : j.lexemes ≡ definition_words more (0 + length bs) b ++ k.lexemes =
+    f ∙ ap (λ (ws : Spelled). letters the.Define ∷ name ∷ ws) (g ∙ ap (λ (ws : Spelled). letters the.OpenBrace ∷ (ws ++ letters the.CloseBrace ∷ k.lexemes)) body)
+    ∙ ap (λ (n : List ℕ). letters the.Define ∷ n ∷ letters the.OpenBrace ∷ (block_lexemes more (block_of [] b) ++ letters the.CloseBrace ∷ k.lexemes)) (sym last)
+    ∙ sym (one_definition more (0 + length bs) b k.lexemes) in (
       here,
-      e ∙ ap (λ (ws : Spelled). ws ++ j.words) (defined_agree (length names) 0 names more agree bs (omega (arith, len)) fit)
-          ∙ ap (λ (ws : Spelled). defined_words more 0 bs ++ ws) here ∙ sym (defined_more more 0 bs b k.words),
+      e ∙ ap (λ (ws : Spelled). ws ++ j.lexemes) (defined_agree (length names) 0 names more agree bs (omega (arith, len)) fit)
+          ∙ ap (λ (ws : Spelled). defined_lexemes more 0 bs ++ ws) here ∙ sym (defined_more more 0 bs b k.lexemes),
     )
 
 more_lined : (names : List (List ℕ)) (name : List ℕ) (lines : List ℕ) (j k : Input) (bs : List (List Statement)) (b : List Statement) → length names ≡ length bs
-    → AllFit 0 bs → IsInBounds (length names) 15 (block_of [] b) → j.words ≡ definition_words (names ++ name ∷ []) (0 + length bs) b ++ k.words
-    → DefinedOn names lines 0 bs j.words → BlockOn names lines (block_of [] b) (letters the.CloseBrace ∷ k.words)
-    → DefinedOn (names ++ name ∷ []) lines 0 (bs ++ b ∷ []) k.words
+    → AllFit 0 bs → IsInBounds (length names) 15 (block_of [] b) → j.lexemes ≡ definition_words (names ++ name ∷ []) (0 + length bs) b ++ k.lexemes
+    → DefinedOn names lines 0 bs j.lexemes → BlockOn names lines (block_of [] b) (letters the.CloseBrace ∷ k.lexemes)
+    → DefinedOn (names ++ name ∷ []) lines 0 (bs ++ b ∷ []) k.lexemes
 more_lined names name lines j k bs b len fit fits e h o =
     let more : List (List ℕ) = names ++ name ∷ [] in
     let agree = name_front names (name ∷ []) in
-    defined_on_more more lines 0 bs b k.words
-    (defined_on_agree (length names) 0 names more lines agree bs (definition_words more (0 + length bs) b ++ k.words) (omega (arith, len)) fit (subst (λ (ws : Spelled). DefinedOn names lines 0 bs ws) e h))
+    defined_on_more more lines 0 bs b k.lexemes
+    (defined_on_agree (length names) 0 names more lines agree bs (definition_words more (0 + length bs) b ++ k.lexemes) (omega (arith, len)) fit (subst (λ (ws : Spelled). DefinedOn names lines 0 bs ws) e h))
     (on_agree (length names) 15 names more lines agree (block_of [] b) _ _ refl fits o)
 
 pub define_more : (names more : List (List ℕ)) (old mid new : ℕ) (i j k : Input) (bs cs : List (Vec Statement Global)) (b : Vec Statement Global) → cs ≡ bs ++ b ∷ []
@@ -94,8 +94,8 @@ define_more names more old mid new i j k bs cs b is room d h =
     let len : length names ≡ length (bodies bs) = (let l = bodies_length bs in let e = h.defined in omega (arith, l, e)) in
     let fits : IsInBounds (0 + length (bodies bs)) 15 (block_of [] b.items) = (let e : length names ≡ 0 + length (bodies bs) = omega (arith, len) in subst (λ (n : ℕ). IsInBounds n 15 (block_of [] b.items)) e body.fits) in
     let spelled = more_spelled names d.name i j k d.middle (bodies bs) b.items len h.fit body.fits h.spells d.begins.0 body.spells in
-    let on : BlockOn names i.lines (block_of [] b.items) (letters the.CloseBrace ∷ k.words) =
-    subst (λ (ls : List ℕ). BlockOn names ls (block_of [] b.items) (letters the.CloseBrace ∷ k.words)) (d.begins.1 ∙ h.same) body.lined in
+    let on : BlockOn names i.lines (block_of [] b.items) (letters the.CloseBrace ∷ k.lexemes) =
+    subst (λ (ls : List ℕ). BlockOn names ls (block_of [] b.items) (letters the.CloseBrace ∷ k.lexemes)) (d.begins.1 ∙ h.same) body.lined in
     rw (is, named.more) (record {
       defined = (let l = length-append names (d.name ∷ []) in let m = length-append bs (b ∷ []) in let e = h.defined in omega (arith, l, m, e));
       named = All-push IsName names d.name h.named named.formed;
@@ -119,13 +119,13 @@ define_more names more old mid new i j k bs cs b is room d h =
           );
     })
 
--- a name that is nowhere among them is none of them
+-- a name that is not at any index is different from all
 pub all_others : (names : List (List ℕ)) (name : List ℕ) → ((i : ℕ) → slice_get names i ≢ Some name) → All (λ other. other ≢ name) names
 all_others [] name new k d lt e = absurd (omega arith)
 all_others (n ∷ names) name new zero d lt e = new 0 (ap Some e)
 all_others (n ∷ names) name new (suc k) d lt e = all_others names name (λ i. new (suc i)) k d (omega arith) e
 
--- the parts of a script, each within its limits
+-- the parts of a script are within their limits
 pub script_formed : (h : Header) (items : List Item) (names : List (List ℕ)) (blocks : List (Vec Statement Global)) (begin last : ℕ) (ss : List Statement) (a b c : ℕ) (i j k l : Input)
     → IsHeader h → All IsItem items → length items + a ≡ 8192 → AreDefined names a b i j blocks → IsRead names 16 b c k l (and_then [] ss)
     → IsScript (record { header = h; items = items; names = names; blocks = bodies blocks; begin_line = begin; statements = ss; last_line = last })
@@ -143,27 +143,27 @@ script_formed h items names blocks begin last ss a b c i j k l head all counts d
       few = (let x = d.counts in let y = r.counts nothing in omega (arith, x, y, counts));
     }
 
--- the parts of a script, in their order
+-- the parts of a script have its tokens, in order
 pub script_spelled : (h : Header) (items : List Item) (names : List (List ℕ)) (blocks : List (Vec Statement Global)) (begin last : ℕ) (ss : List Statement) (a b c : ℕ) (o i j k l m : Input)
-    → Passes (header_words h) o i → AreItems items i j → AreDefined names a b j k blocks → begin ≡ line_of k.lines k.words → Passes (letters the.Begin ∷ []) k l
-    → IsRead names 16 b c l m (and_then [] ss) → m.words ≡ [] → last ≡ line_of_left o.lines 1
+    → Passes (header_lexemes h) o i → AreItems items i j → AreDefined names a b j k blocks → begin ≡ line_of k.lines k.lexemes → Passes (letters the.Begin ∷ []) k l
+    → IsRead names 16 b c l m (and_then [] ss) → m.lexemes ≡ [] → last ≡ line_of_left o.lines 1
     → SpellsTree (record { header = h; items = items; names = names; blocks = bodies blocks; begin_line = begin; statements = ss; last_line = last }) o
 script_spelled h items names blocks begin last ss a b c o i j k l m head all d at p r end final =
     let t : Tree = record { header = h; items = items; names = names; blocks = bodies blocks; begin_line = begin; statements = ss; last_line = last } in
-    let whole : l.words ≡ block_words names (block_of [] ss) = r.spells nothing [] end ∙ append_nil (block_words names (block_of [] ss)) in
-    let from : k.words ≡ begin_words t = p.0 ∙ ap (λ (ws : Spelled). letters the.Begin ∷ ws) whole in
-    let blocks_from : j.words ≡ defined_words names 0 (bodies blocks) ++ begin_words t = d.spells ∙ ap (λ (ws : Spelled). defined_words names 0 (bodies blocks) ++ ws) from in
+    let whole : l.lexemes ≡ block_lexemes names (block_of [] ss) = r.spells nothing [] end ∙ append_nil (block_lexemes names (block_of [] ss)) in
+    let from : k.lexemes ≡ begin_lexemes t = p.0 ∙ ap (λ (ws : Spelled). letters the.Begin ∷ ws) whole in
+    let blocks_from : j.lexemes ≡ defined_lexemes names 0 (bodies blocks) ++ begin_lexemes t = d.spells ∙ ap (λ (ws : Spelled). defined_lexemes names 0 (bodies blocks) ++ ws) from in
     let items_lines : i.lines ≡ o.lines = head.1 in
     let blocks_lines : j.lines ≡ o.lines = all.spells.1 ∙ head.1 in
     let begin_lines : k.lines ≡ o.lines = d.same ∙ blocks_lines in
     let last_lines : l.lines ≡ o.lines = p.1 ∙ begin_lines in
     let on : BlockOn names l.lines (block_of [] ss) [] = r.lined nothing [] end tt in
     record {
-      spells = head.0 ∙ ap (λ (ws : Spelled). header_words h ++ ws) (all.spells.0 ∙ ap (λ (ws : Spelled). items_words items ++ ws) blocks_from);
+      spells = head.0 ∙ ap (λ (ws : Spelled). header_lexemes h ++ ws) (all.spells.0 ∙ ap (λ (ws : Spelled). items_lexemes items ++ ws) blocks_from);
       lined = record {
-        items = subst (λ (ls : List ℕ). ItemsOn ls items (defined_words names 0 (bodies blocks) ++ begin_words t)) items_lines (subst (λ (ws : Spelled). ItemsOn i.lines items ws) blocks_from all.lined);
-        blocks = subst (λ (ls : List ℕ). DefinedOn names ls 0 (bodies blocks) (begin_words t)) blocks_lines (subst (λ (ws : Spelled). DefinedOn names j.lines 0 (bodies blocks) ws) from d.lined);
-        begin = at ∙ ap (λ (ls : List ℕ). line_of ls k.words) begin_lines ∙ ap (line_of o.lines) from;
+        items = subst (λ (ls : List ℕ). ItemsOn ls items (defined_lexemes names 0 (bodies blocks) ++ begin_lexemes t)) items_lines (subst (λ (ws : Spelled). ItemsOn i.lines items ws) blocks_from all.lined);
+        blocks = subst (λ (ls : List ℕ). DefinedOn names ls 0 (bodies blocks) (begin_lexemes t)) blocks_lines (subst (λ (ws : Spelled). DefinedOn names j.lines 0 (bodies blocks) ws) from d.lined);
+        begin = at ∙ ap (λ (ls : List ℕ). line_of ls k.lexemes) begin_lines ∙ ap (line_of o.lines) from;
         statements = subst (λ (ls : List ℕ). BlockOn names ls (block_of [] ss) []) last_lines on;
         last = final;
       };

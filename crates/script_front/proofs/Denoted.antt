@@ -1,4 +1,4 @@
--- The printed lines of a script hold its words.
+-- The printed lines of a script have its tokens.
 use Rattle.std.proofs.Common.{◌≡◌, ℕ, suc, ◌+◌, ◌-◌, ◌<◌, ◌≤◌, Bool, true, false, List, [], ◌∷◌, ◌++◌, length, refl, sym, ap, ◌∙◌, append_assoc, subst, arith}
 use Rattle.std.specs.Fmt.{decimal}
 use Rattle.std.specs.List.{All}
@@ -19,14 +19,15 @@ use Rattle.script_front.specs.declared.tree.Header.{Header}
 use Rattle.script_front.specs.declared.tree.Item.{Item}
 use Rattle.script_front.specs.declared.tree.Statement.{Statement}
 use Rattle.script_tokens.specs.declared.keyword.Keyword.TheVariants as the
-use Rattle.script_tokens.specs.Words.{letters, IsName}
+use Rattle.script_tokens.specs.Keywords.{letters, IsName}
 use Rattle.script_front.specs.Block.{Block, nothing, basic, stop, when, either, repeat, forever, apply, block_of}
 use Rattle.script_front.specs.Tree.{Tree, IsHeader, IsAct, IsItem, IsScript, IsInBounds, AllFit}
-use Rattle.script_front.specs.Spelled.{carrier_words, in_words, groups_word, edit_words, level_word, act_words, name_at, block_words, mode_words, header_words, items_words, defined_words, tree_words}
+use Rattle.script_tokens.specs.Spelling.{level_text}
+use Rattle.script_front.specs.Spelled.{carrier_lexemes, within_lexemes, groups_text, edit_lexemes, act_lexemes, name_at, block_lexemes, mode_lexemes, header_lexemes, items_lexemes, defined_lexemes, tree_lexemes}
 use Rattle.script_front.specs.Printing.{Line, line, text_of_lines, closing, block_lines, header_lines, items_lines, defined_lines, tree_lines}
-use Rattle.script_front.specs.Denoting.{HasWords, Denotes}
+use Rattle.script_front.specs.Denoting.{HasLexemes, Denotes}
 use Rattle.script_front.proofs.Lined.{IsLine, AreLines, all_words, lines_have}
-use Rattle.script_tokens.proofs.Wording.{IsWord, AreWords, decimal_word, hex_word_word, sid_word_word, profile_word_word, time_word_word, keyword_word, name_word}
+use Rattle.script_tokens.proofs.Wording.{IsWord, AreWords, decimal_word, hex_word_word, sid_word_word, profile_word_word, time_word_word, keyword_text, name_word}
 use Rattle.script_tokens.specs.Reading.{Spelled}
 
 -- ---- edits and acts
@@ -35,47 +36,47 @@ both_words : (xs ys : Spelled) → AreWords xs → AreWords ys → AreWords (xs 
 both_words [] ys h k = k
 both_words (x ∷ xs) ys h k = (h.0, both_words xs ys h.1 k)
 
-in_are : (sid : Sid) → IsSid sid → AreWords (in_words sid)
-in_are sid h = (keyword_word the.In, (sid_word_word sid h, tt))
+in_are : (sid : Sid) → IsSid sid → AreWords (within_lexemes sid)
+in_are sid h = (keyword_text the.In, (sid_word_word sid h, tt))
 
-groups_are : (dg : Bool) → IsWord (groups_word dg)
-groups_are false = keyword_word the.Groups
-groups_are true = keyword_word the.Raw
+groups_are : (dg : Bool) → IsWord (groups_text dg)
+groups_are false = keyword_text the.Groups
+groups_are true = keyword_text the.Raw
 
-carrier_are : (c : Carrier) → IsCarrier c → AreWords (carrier_words c)
-carrier_are (BySub id) h = (keyword_word the.Sub, (decimal_word id (omega (arith, h)), tt))
-carrier_are (ByPacket scid) h = (keyword_word the.Packet, (decimal_word scid (omega (arith, h)), tt))
+carrier_are : (c : Carrier) → IsCarrier c → AreWords (carrier_lexemes c)
+carrier_are (BySub id) h = (keyword_text the.Sub, (decimal_word id (omega (arith, h)), tt))
+carrier_are (ByPacket scid) h = (keyword_text the.Packet, (decimal_word scid (omega (arith, h)), tt))
 
-component_are : (sid : Sid) (m : Component) → IsSid sid → IsComponent m → IsLine (edit_words (AddComponent sid m))
-component_are sid (Sound ty sub) s h = (keyword_word the.Audio, (decimal_word ty (omega (arith, h.0)), (keyword_word the.Sub, (decimal_word sub (omega (arith, h.1)), in_are sid s))))
-component_are sid (Stream ty sub) s h = (keyword_word the.Data, (decimal_word ty (omega (arith, h.0)), (keyword_word the.Sub, (decimal_word sub (omega (arith, h.1)), in_are sid s))))
-component_are sid (InPackets scid) s h = (keyword_word the.Carry, (decimal_word scid (omega (arith, h)), in_are sid s))
+component_are : (sid : Sid) (m : Component) → IsSid sid → IsComponent m → IsLine (edit_lexemes (AddComponent sid m))
+component_are sid (Sound ty sub) s h = (keyword_text the.Audio, (decimal_word ty (omega (arith, h.0)), (keyword_text the.Sub, (decimal_word sub (omega (arith, h.1)), in_are sid s))))
+component_are sid (Stream ty sub) s h = (keyword_text the.Data, (decimal_word ty (omega (arith, h.0)), (keyword_text the.Sub, (decimal_word sub (omega (arith, h.1)), in_are sid s))))
+component_are sid (InPackets scid) s h = (keyword_text the.Carry, (decimal_word scid (omega (arith, h)), in_are sid s))
 
-edit_are : (e : Edit) → IsEdit e → IsLine (edit_words e)
-edit_are (AddSub s) h = (keyword_word the.Sub, (decimal_word s.id (let x = h.named in omega (arith, x)), (keyword_word the.At, (decimal_word s.start (let x = h.start in omega (arith, x)), (keyword_word the.Eep, (profile_word_word s.protection h.to_four, (decimal_word s.kbits (let x = h.rate in omega (arith, x)), tt)))))))
-edit_are (DropSub id) h = (keyword_word the.Drop, (keyword_word the.Sub, (decimal_word id (omega (arith, h)), tt)))
-edit_are (MoveSub id start) h = (keyword_word the.Move, (keyword_word the.Sub, (decimal_word id (omega (arith, h.0)), (keyword_word the.At, (decimal_word start (omega (arith, h.1)), tt)))))
-edit_are (RateSub id kbits) h = (keyword_word the.Rate, (keyword_word the.Sub, (decimal_word id (omega (arith, h.0)), (decimal_word kbits (omega (arith, h.1)), tt))))
-edit_are (AddService sid) h = (keyword_word the.Service, (sid_word_word sid h, tt))
-edit_are (DropService sid) h = (keyword_word the.Drop, (keyword_word the.Service, (sid_word_word sid h, tt)))
+edit_are : (e : Edit) → IsEdit e → IsLine (edit_lexemes e)
+edit_are (AddSub s) h = (keyword_text the.Sub, (decimal_word s.id (let x = h.named in omega (arith, x)), (keyword_text the.At, (decimal_word s.start (let x = h.start in omega (arith, x)), (keyword_text the.Eep, (profile_word_word s.protection h.to_four, (decimal_word s.kbits (let x = h.rate in omega (arith, x)), tt)))))))
+edit_are (DropSub id) h = (keyword_text the.Drop, (keyword_text the.Sub, (decimal_word id (omega (arith, h)), tt)))
+edit_are (MoveSub id start) h = (keyword_text the.Move, (keyword_text the.Sub, (decimal_word id (omega (arith, h.0)), (keyword_text the.At, (decimal_word start (omega (arith, h.1)), tt)))))
+edit_are (RateSub id kbits) h = (keyword_text the.Rate, (keyword_text the.Sub, (decimal_word id (omega (arith, h.0)), (decimal_word kbits (omega (arith, h.1)), tt))))
+edit_are (AddService sid) h = (keyword_text the.Service, (sid_word_word sid h, tt))
+edit_are (DropService sid) h = (keyword_text the.Drop, (keyword_text the.Service, (sid_word_word sid h, tt)))
 edit_are (AddComponent sid m) h = component_are sid m h.0 h.1
-edit_are (DropComponent sid c) h = (keyword_word the.Drop, (keyword_word the.Component, both_words (carrier_words c) (in_words sid) (carrier_are c h.1) (in_are sid h.0)))
-edit_are (AddPacket p) h = (keyword_word the.Packet, (decimal_word p.scid (let x = h.named in omega (arith, x)), (groups_are p.dg, (keyword_word the.TypeWord, (decimal_word p.ty (let x = h.typed in omega (arith, x)), (keyword_word the.Sub, (decimal_word p.sub (let x = h.carried in omega (arith, x)), (keyword_word the.Address, (decimal_word p.address (let x = h.to_last in omega (arith, x)), tt)))))))))
-edit_are (DropPacket scid) h = (keyword_word the.Drop, (keyword_word the.Packet, (decimal_word scid (omega (arith, h)), tt)))
+edit_are (DropComponent sid c) h = (keyword_text the.Drop, (keyword_text the.Component, both_words (carrier_lexemes c) (within_lexemes sid) (carrier_are c h.1) (in_are sid h.0)))
+edit_are (AddPacket p) h = (keyword_text the.Packet, (decimal_word p.scid (let x = h.named in omega (arith, x)), (groups_are p.dg, (keyword_text the.TypeWord, (decimal_word p.ty (let x = h.typed in omega (arith, x)), (keyword_text the.Sub, (decimal_word p.sub (let x = h.carried in omega (arith, x)), (keyword_text the.Address, (decimal_word p.address (let x = h.to_last in omega (arith, x)), tt)))))))))
+edit_are (DropPacket scid) h = (keyword_text the.Drop, (keyword_text the.Packet, (decimal_word scid (omega (arith, h)), tt)))
 
-level_are : (closed : Bool) → IsWord (level_word closed)
-level_are true = keyword_word the.Closed
-level_are false = keyword_word the.Open
+level_are : (closed : Bool) → IsWord (level_text closed)
+level_are true = keyword_text the.Closed
+level_are false = keyword_text the.Open
 
-act_are : (a : Act) → IsAct a → IsLine (act_words a)
+act_are : (a : Act) → IsAct a → IsLine (act_lexemes a)
 act_are (Edits e) h = edit_are e h
-act_are (Wait frames) h = (keyword_word the.Wait, (decimal_word frames (omega (arith, h.1)), tt))
-act_are (WaitContact contact closed) h = (keyword_word the.Wait, (keyword_word the.Contact, (decimal_word contact (omega (arith, h)), (level_are closed, tt))))
-act_are (Until second) h = (keyword_word the.Until, (time_word_word second h, tt))
-act_are (CommitIn delay) h = (keyword_word the.Commit, (keyword_word the.In, (decimal_word delay (omega (arith, h.1)), tt)))
-act_are (CommitAt count) h = (keyword_word the.Commit, (keyword_word the.At, (decimal_word count (omega (arith, h)), tt)))
-act_are Join h = (keyword_word the.Join, tt)
-act_are Settle h = (keyword_word the.Settle, tt)
+act_are (Wait frames) h = (keyword_text the.Wait, (decimal_word frames (omega (arith, h.1)), tt))
+act_are (WaitContact contact closed) h = (keyword_text the.Wait, (keyword_text the.Contact, (decimal_word contact (omega (arith, h)), (level_are closed, tt))))
+act_are (Until second) h = (keyword_text the.Until, (time_word_word second h, tt))
+act_are (CommitIn delay) h = (keyword_text the.Commit, (keyword_text the.In, (decimal_word delay (omega (arith, h.1)), tt)))
+act_are (CommitAt count) h = (keyword_text the.Commit, (keyword_text the.At, (decimal_word count (omega (arith, h)), tt)))
+act_are Join h = (keyword_text the.Join, tt)
+act_are Settle h = (keyword_text the.Settle, tt)
 
 -- ---- blocks
 
@@ -86,45 +87,45 @@ lines_both (x ∷ xs) ys h k = (h.0, lines_both xs ys h.1 k)
 abbrev AreNamed : List (List ℕ) → Type 0
 AreNamed names = (n : ℕ) → n < length names → IsWord (name_at names n)
 
-closing_are : (d : ℕ) → IsLine (closing d).words
-closing_are d = (keyword_word the.CloseBrace, tt)
+closing_are : (d : ℕ) → IsLine (closing d).lexemes
+closing_are d = (keyword_text the.CloseBrace, tt)
 
 block_are : (names : List (List ℕ)) (known depth d : ℕ) → known ≤ length names → AreNamed names → (b : Block) → IsInBounds known depth b → AreLines (block_lines names d b)
 block_are names known depth d le are nothing h = tt
 block_are names known depth d le are (basic n act rest) h = (act_are act h.0, block_are names known depth d le are rest h.1)
-block_are names known depth d le are (stop n rest) h = ((keyword_word the.End, tt), block_are names known depth d le are rest h)
+block_are names known depth d le are (stop n rest) h = ((keyword_text the.End, tt), block_are names known depth d le are rest h)
 block_are names known depth d le are (when n contact first rest) h = (
-  (keyword_word the.If, (keyword_word the.Contact, (decimal_word contact (omega (arith, h.1)), (keyword_word the.OpenBrace, tt)))),
+  (keyword_text the.If, (keyword_text the.Contact, (decimal_word contact (omega (arith, h.1)), (keyword_text the.OpenBrace, tt)))),
   lines_both (block_lines names (d + 1) first) _ (block_are names known (depth - 1) (d + 1) le are first h.2) (closing_are d, block_are names known depth d le are rest h.3),
 )
 block_are names known depth d le are (either n contact first second rest) h = (
-  (keyword_word the.If, (keyword_word the.Contact, (decimal_word contact (omega (arith, h.1)), (keyword_word the.OpenBrace, tt)))),
+  (keyword_text the.If, (keyword_text the.Contact, (decimal_word contact (omega (arith, h.1)), (keyword_text the.OpenBrace, tt)))),
   lines_both (block_lines names (d + 1) first) _ (block_are names known (depth - 1) (d + 1) le are first h.2) (
-    (keyword_word the.CloseBrace, (keyword_word the.Else, (keyword_word the.OpenBrace, tt))),
+    (keyword_text the.CloseBrace, (keyword_text the.Else, (keyword_text the.OpenBrace, tt))),
     lines_both (block_lines names (d + 1) second) _ (block_are names known (depth - 1) (d + 1) le are second h.3) (closing_are d, block_are names known depth d le are rest h.4),
   ),
 )
 block_are names known depth d le are (repeat n times body rest) h = (
-  (keyword_word the.Repeat, (decimal_word times (omega (arith, h.2)), (keyword_word the.OpenBrace, tt))),
+  (keyword_text the.Repeat, (decimal_word times (omega (arith, h.2)), (keyword_text the.OpenBrace, tt))),
   lines_both (block_lines names (d + 1) body) _ (block_are names known (depth - 1) (d + 1) le are body h.3) (closing_are d, block_are names known depth d le are rest h.4),
 )
 block_are names known depth d le are (forever n body rest) h = (
-  (keyword_word the.Forever, (keyword_word the.OpenBrace, tt)),
+  (keyword_text the.Forever, (keyword_text the.OpenBrace, tt)),
   lines_both (block_lines names (d + 1) body) _ (block_are names known (depth - 1) (d + 1) le are body h.1) (closing_are d, block_are names known depth d le are rest h.2),
 )
-block_are names known depth d le are (apply n number named rest) h = ((keyword_word the.Apply, (are number (omega (arith, h.0, le)), tt)), block_are names known depth d le are rest h.1)
+block_are names known depth d le are (apply n number named rest) h = ((keyword_text the.Apply, (are number (omega (arith, h.0, le)), tt)), block_are names known depth d le are rest h.1)
 
--- lines before others, and their words
+-- the tokens of two lists of lines
 all_both : (xs ys : List Line) → all_words (xs ++ ys) ≡ all_words xs ++ all_words ys
 all_both [] ys = refl
-all_both (x ∷ xs) ys = ap (λ (ws : Spelled). x.words ++ ws) (all_both xs ys) ∙ sym (append_assoc x.words (all_words xs) (all_words ys))
+all_both (x ∷ xs) ys = ap (λ (ws : Spelled). x.lexemes ++ ws) (all_both xs ys) ∙ sym (append_assoc x.lexemes (all_words xs) (all_words ys))
 
 body_all : (body rest : List Line) (b r : Spelled) (d : ℕ) → all_words body ≡ b → all_words rest ≡ r → all_words (body ++ closing d ∷ rest) ≡ b ++ letters the.CloseBrace ∷ r
 body_all body rest b r d e f = all_both body (closing d ∷ rest) ∙ ap (λ (ws : Spelled). ws ++ letters the.CloseBrace ∷ all_words rest) e ∙ ap (λ (ws : Spelled). b ++ letters the.CloseBrace ∷ ws) f
 
-block_all : (names : List (List ℕ)) (d : ℕ) (b : Block) → all_words (block_lines names d b) ≡ block_words names b
+block_all : (names : List (List ℕ)) (d : ℕ) (b : Block) → all_words (block_lines names d b) ≡ block_lexemes names b
 block_all names d nothing = refl
-block_all names d (basic n act rest) = ap (λ (ws : Spelled). act_words act ++ ws) (block_all names d rest)
+block_all names d (basic n act rest) = ap (λ (ws : Spelled). act_lexemes act ++ ws) (block_all names d rest)
 block_all names d (stop n rest) = ap (λ (ws : Spelled). letters the.End ∷ ws) (block_all names d rest)
 block_all names d (when n contact first rest) =
     ap (λ (ws : Spelled). letters the.If ∷ letters the.Contact ∷ decimal contact ∷ letters the.OpenBrace ∷ ws)
@@ -132,7 +133,7 @@ block_all names d (when n contact first rest) =
 block_all names d (either n contact first second rest) =
     ap (λ (ws : Spelled). letters the.If ∷ letters the.Contact ∷ decimal contact ∷ letters the.OpenBrace ∷ ws)
     (all_both (block_lines names (d + 1) first) _ ∙ ap (λ (ws : Spelled). ws ++ letters the.CloseBrace ∷ letters the.Else ∷ letters the.OpenBrace ∷ all_words (block_lines names (d + 1) second ++ closing d ∷ block_lines names d rest)) (block_all names (d + 1) first)
-    ∙ ap (λ (ws : Spelled). block_words names first ++ letters the.CloseBrace ∷ letters the.Else ∷ letters the.OpenBrace ∷ ws)
+    ∙ ap (λ (ws : Spelled). block_lexemes names first ++ letters the.CloseBrace ∷ letters the.Else ∷ letters the.OpenBrace ∷ ws)
     (body_all (block_lines names (d + 1) second) (block_lines names d rest) _ _ d (block_all names (d + 1) second) (block_all names d rest)))
 block_all names d (repeat n times body rest) =
     ap (λ (ws : Spelled). letters the.Repeat ∷ decimal times ∷ letters the.OpenBrace ∷ ws)
@@ -147,14 +148,14 @@ block_all names d (apply n number named rest) = ap (λ (ws : Spelled). letters t
 name_among : (names : List (List ℕ)) → All IsName names → AreNamed names
 name_among names h n lt = name_word (name_at names n) (h n [] lt)
 
-mode_are : (m : Mode) → AreWords (mode_words m)
+mode_are : (m : Mode) → AreWords (mode_lexemes m)
 mode_are I = tt
-mode_are II = (keyword_word the.Mode, (decimal_word 2 (omega arith), tt))
-mode_are III = (keyword_word the.Mode, (decimal_word 3 (omega arith), tt))
-mode_are IV = (keyword_word the.Mode, (decimal_word 4 (omega arith), tt))
+mode_are II = (keyword_text the.Mode, (decimal_word 2 (omega arith), tt))
+mode_are III = (keyword_text the.Mode, (decimal_word 3 (omega arith), tt))
+mode_are IV = (keyword_text the.Mode, (decimal_word 4 (omega arith), tt))
 
 header_are : (h : Header) → IsHeader h → AreLines (header_lines h)
-header_are h is = ((keyword_word the.Ensemble, (hex_word_word h.eid is.named, mode_are h.mode)), ((keyword_word the.Period, (decimal_word h.period (let x = is.period_to in omega (arith, x)), (keyword_word the.Notice, (decimal_word h.notice (let x = is.notice_to in omega (arith, x)), (keyword_word the.Budget, (decimal_word h.budget (let x = is.budget_to in omega (arith, x)), tt)))))), tt))
+header_are h is = ((keyword_text the.Ensemble, (hex_word_word h.eid is.named, mode_are h.mode)), ((keyword_text the.Period, (decimal_word h.period (let x = is.period_to in omega (arith, x)), (keyword_text the.Notice, (decimal_word h.notice (let x = is.notice_to in omega (arith, x)), (keyword_text the.Budget, (decimal_word h.budget (let x = is.budget_to in omega (arith, x)), tt)))))), tt))
 
 all_rest : (x : Item) (xs : List Item) → All IsItem (x ∷ xs) → All IsItem xs
 all_rest x xs h k d lt = h (suc k) d (omega arith)
@@ -163,35 +164,35 @@ items_are : (is : List Item) → All IsItem is → AreLines (items_lines is)
 items_are [] h = tt
 items_are (i ∷ is) h = (edit_are i.edit (h 0 i (omega arith)).0, items_are is (all_rest i is h))
 
-items_all : (is : List Item) → all_words (items_lines is) ≡ items_words is
+items_all : (is : List Item) → all_words (items_lines is) ≡ items_lexemes is
 items_all [] = refl
-items_all (i ∷ is) = ap (λ (ws : Spelled). edit_words i.edit ++ ws) (items_all is)
+items_all (i ∷ is) = ap (λ (ws : Spelled). edit_lexemes i.edit ++ ws) (items_all is)
 
 defined_are : (names : List (List ℕ)) (n : ℕ) (bs : List (List Statement)) → n + length bs ≤ length names → AreNamed names → AllFit n bs → AreLines (defined_lines names n bs)
 defined_are names n [] le are h = tt
 defined_are names n (b ∷ bs) le are h = (
-  (keyword_word the.Define, (are n (omega (arith, le)), (keyword_word the.OpenBrace, tt))),
+  (keyword_text the.Define, (are n (omega (arith, le)), (keyword_text the.OpenBrace, tt))),
   lines_both (block_lines names 1 (block_of [] b)) _ (block_are names n 15 1 (omega (arith, le)) are (block_of [] b) h.0) (closing_are 0, defined_are names (n + 1) bs (omega (arith, le)) are h.1),
 )
 
-defined_all : (names : List (List ℕ)) (n : ℕ) (bs : List (List Statement)) → all_words (defined_lines names n bs) ≡ defined_words names n bs
+defined_all : (names : List (List ℕ)) (n : ℕ) (bs : List (List Statement)) → all_words (defined_lines names n bs) ≡ defined_lexemes names n bs
 defined_all names n [] = refl
 defined_all names n (b ∷ bs) =
     ap (λ (ws : Spelled). letters the.Define ∷ name_at names n ∷ letters the.OpenBrace ∷ ws)
     (body_all (block_lines names 1 (block_of [] b)) (defined_lines names (n + 1) bs) _ _ 0 (block_all names 1 (block_of [] b)) (defined_all names (n + 1) bs))
 
-header_all : (h : Header) → all_words (header_lines h) ≡ header_words h
+header_all : (h : Header) → all_words (header_lines h) ≡ header_lexemes h
 header_all h = refl
 
-tree_all : (t : Tree) → all_words (tree_lines t) ≡ tree_words t
+tree_all : (t : Tree) → all_words (tree_lines t) ≡ tree_lexemes t
 tree_all t =
     let body : List Line = line 0 (letters the.Begin ∷ []) ∷ block_lines t.names 0 (block_of [] t.statements) in
     let later : List Line = defined_lines t.names 0 t.blocks ++ body in
-    all_both (header_lines t.header) (items_lines t.items ++ later) ∙ ap (λ (ws : Spelled). header_words t.header ++ ws) (
+    all_both (header_lines t.header) (items_lines t.items ++ later) ∙ ap (λ (ws : Spelled). header_lexemes t.header ++ ws) (
     all_both (items_lines t.items) later ∙ ap (λ (ws : Spelled). ws ++ all_words later) (items_all t.items)
-    ∙ ap (λ (ws : Spelled). items_words t.items ++ ws) (
+    ∙ ap (λ (ws : Spelled). items_lexemes t.items ++ ws) (
     all_both (defined_lines t.names 0 t.blocks) body ∙ ap (λ (ws : Spelled). ws ++ all_words body) (defined_all t.names 0 t.blocks)
-    ∙ ap (λ (ws : Spelled). defined_words t.names 0 t.blocks ++ letters the.Begin ∷ ws) (block_all t.names 0 (block_of [] t.statements))))
+    ∙ ap (λ (ws : Spelled). defined_lexemes t.names 0 t.blocks ++ letters the.Begin ∷ ws) (block_all t.names 0 (block_of [] t.statements))))
 
 tree_are : (t : Tree) → IsScript t → AreLines (tree_lines t)
 tree_are t s =
@@ -200,11 +201,11 @@ tree_are t s =
     let known : length t.blocks ≤ length t.names = omega (arith, le) in
     lines_both (header_lines t.header) _ (header_are t.header s.headed) (lines_both (items_lines t.items) _ (items_are t.items s.adding) (
     lines_both (defined_lines t.names 0 t.blocks) _ (defined_are t.names 0 t.blocks le are s.blocks_fit) (
-      (keyword_word the.Begin, tt),
+      (keyword_text the.Begin, tt),
       block_are t.names (length t.blocks) 16 0 known are (block_of [] t.statements) s.fits,
     )))
 
 pub printed_denotes : (text : List ℕ) (t : Tree) → IsScript t → text ≡ text_of_lines (tree_lines t) → Denotes text t
 printed_denotes text t s e =
     let h = lines_have (tree_lines t) (tree_are t s) in
-    subst (λ (b : List ℕ). Denotes b t) (sym e) (subst (λ (ws : Spelled). HasWords (text_of_lines (tree_lines t)) ws) (tree_all t) h)
+    subst (λ (b : List ℕ). Denotes b t) (sym e) (subst (λ (ws : Spelled). HasLexemes (text_of_lines (tree_lines t)) ws) (tree_all t) h)

@@ -1,4 +1,4 @@
--- Edits and statements without a block are found again in the words that spell them, whatever follows.
+-- Edits and statements without a block, computed from the tokens that spell them, whatever follows.
 use Rattle.std.proofs.Common.{◌≡◌, ℕ, Bool, true, false, List, [], ◌++◌, get_or, drop, refl, sym, ap, ◌∙◌, append_assoc, arith}
 use Rattle.std.specs.Fmt.{decimal}
 use Rattle.mux_config.specs.declared.edit.Edit.{Edit}
@@ -13,18 +13,19 @@ use Rattle.plan_code.specs.Program.{IsEdit, IsCarrier}
 use Rattle.script_front.specs.declared.tree.Act.{Act}
 use Rattle.script_front.specs.declared.tree.Act.TheVariants.{Edit as Edits, Wait, WaitContact, Until, CommitIn, CommitAt, Join, Settle}
 use Rattle.script_tokens.specs.declared.keyword.Keyword.TheVariants as the
-use Rattle.script_tokens.specs.Words.{Word, the as is, word_of}
+use Rattle.script_tokens.specs.Keywords.{Lexeme, the as is, word_of}
 use Rattle.script_front.specs.Tree.{IsAct}
-use Rattle.script_front.specs.Spelled.{in_words, groups_word, carried_words, carrier_words, edit_words, level_word, act_words}
+use Rattle.script_tokens.specs.Spelling.{level_text}
+use Rattle.script_front.specs.Spelled.{within_lexemes, groups_text, carried_lexemes, carrier_lexemes, edit_lexemes, act_lexemes}
 use Rattle.script_tokens.proofs.Keys.{word_the, word_text, decimal_own}
 use Rattle.script_front.proofs.Finding.{number, number_decimal, sid_of, sid_again, profile_of, profile_again, time_of, time_again}
 use Rattle.script_tokens.specs.Reading.{Spelled}
 
--- the word of this index, and the keyword there
+-- the token at this index, and its keyword
 abbrev pub at : Spelled → ℕ → List ℕ
 at ws i = get_or ws i []
 
-abbrev pub key_at : Spelled → ℕ → Word
+abbrev pub key_at : Spelled → ℕ → Lexeme
 key_at ws i = word_of (at ws i)
 
 -- ---- parts
@@ -35,20 +36,20 @@ sid_at ws i = sid_of (at ws i)
 abbrev pub number_at : Spelled → ℕ → ℕ
 number_at ws i = number (at ws i)
 
-abbrev pub carried_by : Word → Spelled → Component × Spelled
+abbrev pub carried_by : Lexeme → Spelled → Component × Spelled
 carried_by (is the.Audio) ws = (Sound (number_at ws 1) (number_at ws 3), drop 4 ws)
 carried_by (is the.Data) ws = (Stream (number_at ws 1) (number_at ws 3), drop 4 ws)
 carried_by _ ws = (InPackets (number_at ws 1), drop 2 ws)
 
-abbrev pub carrier_by : Word → Spelled → Carrier × Spelled
+abbrev pub carrier_by : Lexeme → Spelled → Carrier × Spelled
 carrier_by (is the.Sub) ws = (BySub (number_at ws 1), drop 2 ws)
 carrier_by _ ws = (ByPacket (number_at ws 1), drop 2 ws)
 
-abbrev pub groups_by : Word → Bool
+abbrev pub groups_by : Lexeme → Bool
 groups_by (is the.Raw) = true
 groups_by _ = false
 
-abbrev pub level_by : Word → Bool
+abbrev pub level_by : Lexeme → Bool
 level_by (is the.Closed) = true
 level_by _ = false
 
@@ -58,7 +59,7 @@ component_by p = (AddComponent (sid_at p.1 1) p.0, drop 2 p.1)
 abbrev pub dropped_component_by : Carrier × Spelled → Edit × Spelled
 dropped_component_by p = (DropComponent (sid_at p.1 1) p.0, drop 2 p.1)
 
-abbrev pub dropped_by : Word → Spelled → Edit × Spelled
+abbrev pub dropped_by : Lexeme → Spelled → Edit × Spelled
 dropped_by (is the.Sub) ws = (DropSub (number_at ws 2), drop 3 ws)
 dropped_by (is the.Service) ws = (DropService (sid_at ws 2), drop 3 ws)
 dropped_by (is the.Component) ws = dropped_component_by (carrier_by (key_at ws 2) (drop 2 ws))
@@ -70,7 +71,7 @@ sub_by ws = (AddSub (record { id = number_at ws 1; start = number_at ws 3; prote
 abbrev pub packet_by : Spelled → Edit × Spelled
 packet_by ws = (AddPacket (record { scid = number_at ws 1; dg = groups_by (key_at ws 2); ty = number_at ws 4; sub = number_at ws 6; address = number_at ws 8 }), drop 9 ws)
 
-abbrev pub edit_by : Word → Spelled → Edit × Spelled
+abbrev pub edit_by : Lexeme → Spelled → Edit × Spelled
 edit_by (is the.Sub) ws = sub_by ws
 edit_by (is the.Drop) ws = dropped_by (key_at ws 1) ws
 edit_by (is the.Move) ws = (MoveSub (number_at ws 2) (number_at ws 4), drop 5 ws)
@@ -82,37 +83,37 @@ edit_by k ws = component_by (carried_by k ws)
 abbrev pub edit_in : Spelled → Edit × Spelled
 edit_in ws = edit_by (key_at ws 0) ws
 
--- ---- they are found again
+-- ---- the tokens of a value give the value
 
-pub carried_again : (m : Component) (rest : Spelled) → IsComponent m → carried_by (key_at (carried_words m ++ rest) 0) (carried_words m ++ rest) ≡ (m, rest)
+pub carried_again : (m : Component) (rest : Spelled) → IsComponent m → carried_by (key_at (carried_lexemes m ++ rest) 0) (carried_lexemes m ++ rest) ≡ (m, rest)
 carried_again (Sound ty sub) rest h = let a = number_decimal ty (omega (arith, h.0)) in let b = number_decimal sub (omega (arith, h.1)) in rw (word_the the.Audio, a, b) refl
 carried_again (Stream ty sub) rest h = let a = number_decimal ty (omega (arith, h.0)) in let b = number_decimal sub (omega (arith, h.1)) in rw (word_the the.Data, a, b) refl
 carried_again (InPackets scid) rest h = let a = number_decimal scid (omega (arith, h)) in rw (word_the the.Carry, a) refl
 
-pub carrier_again : (m : Carrier) (rest : Spelled) → IsCarrier m → carrier_by (key_at (carrier_words m ++ rest) 0) (carrier_words m ++ rest) ≡ (m, rest)
+pub carrier_again : (m : Carrier) (rest : Spelled) → IsCarrier m → carrier_by (key_at (carrier_lexemes m ++ rest) 0) (carrier_lexemes m ++ rest) ≡ (m, rest)
 carrier_again (BySub id) rest h = let a = number_decimal id (omega (arith, h)) in rw (word_the the.Sub, a) refl
 carrier_again (ByPacket scid) rest h = let a = number_decimal scid (omega (arith, h)) in rw (word_the the.Packet, a) refl
 
-pub groups_again : (b : Bool) → groups_by (word_of (groups_word b)) ≡ b
+pub groups_again : (b : Bool) → groups_by (word_of (groups_text b)) ≡ b
 groups_again false = rw (word_the the.Groups) refl
 groups_again true = rw (word_the the.Raw) refl
 
-pub level_again : (b : Bool) → level_by (word_of (level_word b)) ≡ b
+pub level_again : (b : Bool) → level_by (word_of (level_text b)) ≡ b
 level_again false = rw (word_the the.Open) refl
 level_again true = rw (word_the the.Closed) refl
 
 component_again : (sid : Sid) (m : Component) (rest : Spelled) → IsSid sid → IsComponent m
-    → component_by (carried_by (key_at (carried_words m ++ (in_words sid ++ rest)) 0) (carried_words m ++ (in_words sid ++ rest))) ≡ (AddComponent sid m, rest)
+    → component_by (carried_by (key_at (carried_lexemes m ++ (within_lexemes sid ++ rest)) 0) (carried_lexemes m ++ (within_lexemes sid ++ rest))) ≡ (AddComponent sid m, rest)
 component_again sid m rest h k =
-    ap component_by (carried_again m (in_words sid ++ rest) k) ∙ ap (λ (s : Sid). (AddComponent s m, rest)) (sid_again sid h)
+    ap component_by (carried_again m (within_lexemes sid ++ rest) k) ∙ ap (λ (s : Sid). (AddComponent s m, rest)) (sid_again sid h)
 
-component_found : (sid : Sid) (m : Component) (rest : Spelled) → edit_in (edit_words (AddComponent sid m) ++ rest)
-    ≡ component_by (carried_by (key_at (edit_words (AddComponent sid m) ++ rest) 0) (edit_words (AddComponent sid m) ++ rest))
+component_found : (sid : Sid) (m : Component) (rest : Spelled) → edit_in (edit_lexemes (AddComponent sid m) ++ rest)
+    ≡ component_by (carried_by (key_at (edit_lexemes (AddComponent sid m) ++ rest) 0) (edit_lexemes (AddComponent sid m) ++ rest))
 component_found sid (Sound ty sub) rest = rw (word_the the.Audio) refl
 component_found sid (Stream ty sub) rest = rw (word_the the.Data) refl
 component_found sid (InPackets scid) rest = rw (word_the the.Carry) refl
 
-pub edit_again : (e : Edit) (rest : Spelled) → IsEdit e → edit_in (edit_words e ++ rest) ≡ (e, rest)
+pub edit_again : (e : Edit) (rest : Spelled) → IsEdit e → edit_in (edit_lexemes e ++ rest) ≡ (e, rest)
 edit_again (AddSub s) rest h =
     let a = number_decimal s.id (let x = h.named in omega (arith, x)) in
     let b = number_decimal s.start (let x = h.start in omega (arith, x)) in
@@ -125,14 +126,14 @@ edit_again (RateSub id kbits) rest h = let a = number_decimal id (omega (arith, 
 edit_again (AddService sid) rest h = let a = sid_again sid h in rw (word_the the.Service, a) refl
 edit_again (DropService sid) rest h = let a = sid_again sid h in rw (word_the the.Drop, word_the the.Service, a) refl
 edit_again (AddComponent sid m) rest h =
-    let e : edit_words (AddComponent sid m) ++ rest ≡ carried_words m ++ (in_words sid ++ rest) = append_assoc (carried_words m) (in_words sid) rest in
+    let e : edit_lexemes (AddComponent sid m) ++ rest ≡ carried_lexemes m ++ (within_lexemes sid ++ rest) = append_assoc (carried_lexemes m) (within_lexemes sid) rest in
     component_found sid m rest ∙ ap (λ (ws : Spelled). component_by (carried_by (key_at ws 0) ws)) e ∙ component_again sid m rest h.0 h.1
 edit_again (DropComponent sid m) rest h =
     let a = sid_again sid h.0 in
-    let e : (carrier_words m ++ in_words sid) ++ rest ≡ carrier_words m ++ (in_words sid ++ rest) = append_assoc (carrier_words m) (in_words sid) rest in
-    let f : edit_in (edit_words (DropComponent sid m) ++ rest) ≡ dropped_component_by (carrier_by (key_at ((carrier_words m ++ in_words sid) ++ rest) 0) ((carrier_words m ++ in_words sid) ++ rest)) =
+    let e : (carrier_lexemes m ++ within_lexemes sid) ++ rest ≡ carrier_lexemes m ++ (within_lexemes sid ++ rest) = append_assoc (carrier_lexemes m) (within_lexemes sid) rest in
+    let f : edit_in (edit_lexemes (DropComponent sid m) ++ rest) ≡ dropped_component_by (carrier_by (key_at ((carrier_lexemes m ++ within_lexemes sid) ++ rest) 0) ((carrier_lexemes m ++ within_lexemes sid) ++ rest)) =
     rw (word_the the.Drop, word_the the.Component) refl in
-    f ∙ ap (λ (ws : Spelled). dropped_component_by (carrier_by (key_at ws 0) ws)) e ∙ ap dropped_component_by (carrier_again m (in_words sid ++ rest) h.1)
+    f ∙ ap (λ (ws : Spelled). dropped_component_by (carrier_by (key_at ws 0) ws)) e ∙ ap dropped_component_by (carrier_again m (within_lexemes sid ++ rest) h.1)
     ∙ ap (λ (s : Sid). (DropComponent s m, rest)) a
 edit_again (AddPacket p) rest h =
     let a = number_decimal p.scid (let x = h.named in omega (arith, x)) in
@@ -145,18 +146,18 @@ edit_again (DropPacket scid) rest h = let a = number_decimal scid (omega (arith,
 
 -- ---- statements without a block
 
-abbrev pub wait_by : Word → Spelled → Act × Spelled
+abbrev pub wait_by : Lexeme → Spelled → Act × Spelled
 wait_by (is the.Contact) ws = (WaitContact (number_at ws 2) (level_by (key_at ws 3)), drop 4 ws)
 wait_by _ ws = (Wait (number_at ws 1), drop 2 ws)
 
-abbrev pub commit_by : Word → Spelled → Act × Spelled
+abbrev pub commit_by : Lexeme → Spelled → Act × Spelled
 commit_by (is the.In) ws = (CommitIn (number_at ws 2), drop 3 ws)
 commit_by _ ws = (CommitAt (number_at ws 2), drop 3 ws)
 
 abbrev pub edits_by : Edit × Spelled → Act × Spelled
 edits_by p = (Edits p.0, p.1)
 
-abbrev pub act_by : Word → Spelled → Act × Spelled
+abbrev pub act_by : Lexeme → Spelled → Act × Spelled
 act_by (is the.Wait) ws = wait_by (key_at ws 1) ws
 act_by (is the.Until) ws = (Until (time_of (at ws 1)), drop 2 ws)
 act_by (is the.Commit) ws = commit_by (key_at ws 1) ws
@@ -167,7 +168,7 @@ act_by k ws = edits_by (edit_by k ws)
 abbrev pub act_in : Spelled → Act × Spelled
 act_in ws = act_by (key_at ws 0) ws
 
-edit_found : (e : Edit) (rest : Spelled) → act_in (edit_words e ++ rest) ≡ edits_by (edit_in (edit_words e ++ rest))
+edit_found : (e : Edit) (rest : Spelled) → act_in (edit_lexemes e ++ rest) ≡ edits_by (edit_in (edit_lexemes e ++ rest))
 edit_found (AddSub s) rest = rw (word_the the.Sub) refl
 edit_found (DropSub id) rest = rw (word_the the.Drop) refl
 edit_found (MoveSub id start) rest = rw (word_the the.Move) refl
@@ -181,7 +182,7 @@ edit_found (DropComponent sid m) rest = rw (word_the the.Drop) refl
 edit_found (AddPacket p) rest = rw (word_the the.Packet) refl
 edit_found (DropPacket scid) rest = rw (word_the the.Drop) refl
 
-pub act_again : (a : Act) (rest : Spelled) → IsAct a → act_in (act_words a ++ rest) ≡ (a, rest)
+pub act_again : (a : Act) (rest : Spelled) → IsAct a → act_in (act_lexemes a ++ rest) ≡ (a, rest)
 act_again (Edits e) rest h = edit_found e rest ∙ ap edits_by (edit_again e rest h)
 act_again (Wait frames) rest h =
     let a = number_decimal frames (omega (arith, h.1)) in
@@ -194,7 +195,7 @@ act_again (CommitAt count) rest h = let a = number_decimal count (omega (arith, 
 act_again Join rest h = rw (word_the the.Join) refl
 act_again Settle rest h = rw (word_the the.Settle) refl
 
--- ---- so what follows is the same
+-- ---- what follows is the same, too
 
 pub record Same (A : Type 0) (x y : A) (xs ys : Spelled) : Type 0 where
   pub one : x ≡ y
@@ -203,14 +204,14 @@ pub record Same (A : Type 0) (x y : A) (xs ys : Spelled) : Type 0 where
 pub both_same : {A : Type 0} (x y : A) (xs ys : Spelled) (p : A × Spelled) → p ≡ (x, xs) → p ≡ (y, ys) → Same A x y xs ys
 both_same x y xs ys p e f = record { one = ap (λ q. q.0) (sym e ∙ f); rest = ap (λ q. q.1) (sym e ∙ f) }
 
-pub same_carried : (m n : Component) (xs ys : Spelled) → IsComponent m → IsComponent n → carried_words m ++ xs ≡ carried_words n ++ ys → Same Component m n xs ys
+pub same_carried : (m n : Component) (xs ys : Spelled) → IsComponent m → IsComponent n → carried_lexemes m ++ xs ≡ carried_lexemes n ++ ys → Same Component m n xs ys
 same_carried m n xs ys h k e = both_same m n xs ys _ (carried_again m xs h) (ap (λ (ws : Spelled). carried_by (key_at ws 0) ws) e ∙ carried_again n ys k)
 
-pub same_carrier : (m n : Carrier) (xs ys : Spelled) → IsCarrier m → IsCarrier n → carrier_words m ++ xs ≡ carrier_words n ++ ys → Same Carrier m n xs ys
+pub same_carrier : (m n : Carrier) (xs ys : Spelled) → IsCarrier m → IsCarrier n → carrier_lexemes m ++ xs ≡ carrier_lexemes n ++ ys → Same Carrier m n xs ys
 same_carrier m n xs ys h k e = both_same m n xs ys _ (carrier_again m xs h) (ap (λ (ws : Spelled). carrier_by (key_at ws 0) ws) e ∙ carrier_again n ys k)
 
-pub same_edit : (m n : Edit) (xs ys : Spelled) → IsEdit m → IsEdit n → edit_words m ++ xs ≡ edit_words n ++ ys → Same Edit m n xs ys
+pub same_edit : (m n : Edit) (xs ys : Spelled) → IsEdit m → IsEdit n → edit_lexemes m ++ xs ≡ edit_lexemes n ++ ys → Same Edit m n xs ys
 same_edit m n xs ys h k e = both_same m n xs ys _ (edit_again m xs h) (ap edit_in e ∙ edit_again n ys k)
 
-pub same_act : (m n : Act) (xs ys : Spelled) → IsAct m → IsAct n → act_words m ++ xs ≡ act_words n ++ ys → Same Act m n xs ys
+pub same_act : (m n : Act) (xs ys : Spelled) → IsAct m → IsAct n → act_lexemes m ++ xs ≡ act_lexemes n ++ ys → Same Act m n xs ys
 same_act m n xs ys h k e = both_same m n xs ys _ (act_again m xs h) (ap act_in e ∙ act_again n ys k)

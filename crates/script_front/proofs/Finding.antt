@@ -1,4 +1,4 @@
--- The values that words spell, found again.
+-- The values that tokens spell, computed from the tokens.
 use Rattle.std.proofs.Common.{◌≡◌, inl, inr, ℕ, ◌+◌, ◌-◌, ◌*◌, ◌/◌, ◌%◌, ◌<◌, ◌≤◌, ◌==◌, if◌then◌else◌, nat_lt, List, length, get_or, take, drop, refl, ap, lt-ltb, le-ltb, arith}
 use Rattle.std.proofs.lemmas.Bool.{cases_lt}
 use Rattle.std.proofs.lemmas.Fmt.{digits_value-decimal}
@@ -9,7 +9,7 @@ use Rattle.mux_eep.specs.Sizes.{Profile}
 use Rattle.mux_types.specs.declared.numbers.Sid.{Sid}
 use Rattle.mux_types.specs.declared.numbers.Sid.TheVariants.{Short, Long}
 use Rattle.mux_config.specs.Configuration.{IsSid}
-use Rattle.script_tokens.specs.Spelling.{hex_digit, hex_word, sid_word, set_letter, profile_word, two_digits, time_word}
+use Rattle.script_tokens.specs.Spelling.{hex_digit, hex_text, sid_text, set_letter, profile_text, two_digits, time_text}
 use Rattle.script_tokens.proofs.Digits.{own, read_on}
 
 abbrev pub number : List ℕ → ℕ
@@ -32,7 +32,7 @@ digit_again d small = elim (cases_lt d 10) [
 abbrev pub four_of : List ℕ → ℕ
 four_of w = (digit_of (get_or w 0 0) * 16 + digit_of (get_or w 1 0)) * 256 + (digit_of (get_or w 2 0) * 16 + digit_of (get_or w 3 0))
 
-pub four_again : (n : ℕ) → n < 65536 → four_of (hex_word n) ≡ n
+pub four_again : (n : ℕ) → n < 65536 → four_of (hex_text n) ≡ n
 four_again n small =
     let a = digit_again (n / 256 / 16) (omega arith) in
     let b = digit_again (n / 256 % 16) (omega arith) in
@@ -43,7 +43,7 @@ four_again n small =
 abbrev pub sid_of : List ℕ → Sid
 sid_of w = if length w == 4 then Short (four_of w) else Long (four_of (take 4 w) * 65536 + four_of (drop 4 w))
 
-pub sid_again : (s : Sid) → IsSid s → sid_of (sid_word s) ≡ s
+pub sid_again : (s : Sid) → IsSid s → sid_of (sid_text s) ≡ s
 sid_again (Short n) h = ap Short (four_again n h)
 sid_again (Long n) h =
     let a = four_again (n / 65536) (omega (arith, h)) in
@@ -63,7 +63,7 @@ set_again B = refl
 abbrev pub profile_of : List ℕ → Profile
 profile_of w = record { set = set_of (get_or w 2 0); level = get_or w 0 0 - 48 }
 
-pub profile_again : (p : Profile) → profile_of (profile_word p) ≡ p
+pub profile_again : (p : Profile) → profile_of (profile_text p) ≡ p
 profile_again p = let a = set_again p.set in let b : 48 + p.level - 48 ≡ p.level = omega arith in rw (a, b) refl
 
 abbrev pub two_of : List ℕ → ℕ
@@ -75,7 +75,7 @@ two_again n small = omega arith
 abbrev pub time_of : List ℕ → ℕ
 time_of w = two_of w * 3600 + (two_of (drop 3 w) * 60 + two_of (drop 6 w))
 
-pub time_again : (t : ℕ) → t < 86400 → time_of (time_word t) ≡ t
+pub time_again : (t : ℕ) → t < 86400 → time_of (time_text t) ≡ t
 time_again t small =
     let a = two_again (t / 3600) (omega arith) in
     let b = two_again (t / 60 % 60) (omega arith) in

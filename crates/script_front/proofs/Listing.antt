@@ -1,4 +1,4 @@
--- What is printed is within the limits of a script.
+-- The parts of a script are within its limits when printed.
 use Rattle.std.proofs.Common.{◌≡◌, ℕ, ◌+◌, ◌-◌, ◌<◌, ◌≤◌, List, [], ◌∷◌, length, get_or, drop, refl, sym, ap, ◌∙◌, subst, add-one, arith}
 use Rattle.std.proofs.Math.Seq.{drop-cons}
 use Rattle.std.specs.Prelude.{Vec}
@@ -8,7 +8,7 @@ use Rattle.script_front.specs.Block.{Block, nothing, basic, stop, when, either, 
 use Rattle.script_front.specs.Tree.{IsInBounds, AllFit}
 use Rattle.script_front.specs.Parsing.{bodies}
 
--- what fits where this many blocks are known fits where more are
+-- a block in range where this many blocks are known is in range where more are known
 pub more_known : (known more depth : ℕ) (b : Block) → known ≤ more → IsInBounds known depth b → IsInBounds more depth b
 more_known known more depth nothing le h = tt
 more_known known more depth (basic line act rest) le h = (h.0, more_known known more depth rest le h.1)

@@ -1,4 +1,4 @@
--- Names are found exactly where they are.
+-- A name is found exactly if it is among the names.
 use Rattle.std.proofs.Common.{◌≡◌, ◌≢◌, ℕ, zero, suc, ◌<◌, Bool, true, false, ◌||◌, List, [], ◌∷◌, ◌++◌, map, length, get_or, Option, Some, None, slice_get, refl, sym, ap, ◌∙◌, arith}
 use Rattle.std.specs.Prelude.{position, string_bytes, IfSome}
 use Rattle.std.specs.List.{list_any}

@@ -1,4 +1,4 @@
--- A text is that of one script at most.
+-- A text is that of at most one script.
 use Rattle.std.proofs.Common.{◌≡◌, ℕ, ◌+◌, List, [], ◌∷◌, ◌++◌, map, refl, sym, ap, ◌∙◌, subst}
 use Rattle.std.specs.Fmt.{decimal}
 use Rattle.mux_config.specs.declared.edit.Edit.{Edit}
@@ -8,18 +8,18 @@ use Rattle.script_front.specs.declared.tree.Statement.{Statement}
 use Rattle.script_front.specs.declared.tree.Statement.TheOpen.{Statement-F}
 use Rattle.script_front.specs.declared.tree.Statement.TheFolds.{fold-roll-Statement, map-Statement, ind-Statement}
 use Rattle.script_tokens.specs.declared.keyword.Keyword.TheVariants as the
-use Rattle.script_tokens.specs.Words.{letters}
-use Rattle.script_tokens.specs.Bytes.{first_place}
+use Rattle.script_tokens.specs.Keywords.{letters}
+use Rattle.script_tokens.specs.Bytes.{first_position}
 use Rattle.script_tokens.specs.Texts.{tokens_of}
 use Rattle.script_tokens.specs.Reading.{Spelled, lines_of, line_of}
 use Rattle.script_front.specs.Block.{Block, Before, nothing, basic, stop, when, either, repeat, forever, apply, whole, statement_step, before, block_of}
 use Rattle.script_front.specs.Tree.{Tree}
-use Rattle.script_front.specs.Spelled.{edit_words, name_at, act_words, braced, block_words, items_words, defined_words, begin_words, tree_words, ItemsOn, BlockOn, DefinedOn, HasLines}
+use Rattle.script_front.specs.Spelled.{edit_lexemes, name_at, act_lexemes, braced, block_lexemes, items_lexemes, defined_lexemes, begin_lexemes, tree_lexemes, ItemsOn, BlockOn, DefinedOn, HasLines}
 use Rattle.script_front.specs.Alike.{unlined, said_by, added_by, AreAlike, AreTheSame, TextsAreOfOneScript}
 use Rattle.script_front.proofs.Alike.{scripts_alike}
 use Rattle.script_front.proofs.Denoting.{are_tokens, denoted_words, are_its_tokens}
 
--- ---- a block that is applied is its number alone, where statements are read
+-- ---- in statements that are read, an applied block has a number only
 
 abbrev IsPlain : Block → Type 0
 IsPlain nothing = Unit {0}
@@ -31,7 +31,7 @@ IsPlain (repeat line times body rest) = IsPlain body × IsPlain rest
 IsPlain (forever line body rest) = IsPlain body × IsPlain rest
 IsPlain (apply line number named rest) = (named ≡ nothing) × IsPlain rest
 
--- one statement more leaves it so
+-- one more statement changes nothing in this
 abbrev StaysPlain : Before → Type 0
 StaysPlain s = (rest : Block) → IsPlain rest → IsPlain (s rest)
 
@@ -61,47 +61,47 @@ plain : (ss : List Statement) → IsPlain (block_of [] ss)
 plain [] = tt
 plain (s ∷ ss) = statement_plain s _ (plain ss)
 
--- ---- words give the lines
+-- ---- tokens determine the lines
 
-words_unlined : (names : List (List ℕ)) (b : Block) → block_words names b ≡ block_words names (unlined b)
+words_unlined : (names : List (List ℕ)) (b : Block) → block_lexemes names b ≡ block_lexemes names (unlined b)
 words_unlined names nothing = refl
-words_unlined names (basic line act rest) = ap (λ (ws : Spelled). act_words act ++ ws) (words_unlined names rest)
+words_unlined names (basic line act rest) = ap (λ (ws : Spelled). act_lexemes act ++ ws) (words_unlined names rest)
 words_unlined names (stop line rest) = ap (λ (ws : Spelled). letters the.End ∷ ws) (words_unlined names rest)
 words_unlined names (when line contact first rest) =
-    ap (λ (ws : Spelled). letters the.If ∷ letters the.Contact ∷ decimal contact ∷ braced ws (block_words names rest)) (words_unlined names first)
-    ∙ ap (λ (ws : Spelled). letters the.If ∷ letters the.Contact ∷ decimal contact ∷ braced (block_words names (unlined first)) ws) (words_unlined names rest)
+    ap (λ (ws : Spelled). letters the.If ∷ letters the.Contact ∷ decimal contact ∷ braced ws (block_lexemes names rest)) (words_unlined names first)
+    ∙ ap (λ (ws : Spelled). letters the.If ∷ letters the.Contact ∷ decimal contact ∷ braced (block_lexemes names (unlined first)) ws) (words_unlined names rest)
 words_unlined names (either line contact first second rest) =
-    ap (λ (ws : Spelled). letters the.If ∷ letters the.Contact ∷ decimal contact ∷ braced ws (letters the.Else ∷ braced (block_words names second) (block_words names rest))) (words_unlined names first)
-    ∙ ap (λ (ws : Spelled). letters the.If ∷ letters the.Contact ∷ decimal contact ∷ braced (block_words names (unlined first)) (letters the.Else ∷ braced ws (block_words names rest))) (words_unlined names second)
-    ∙ ap (λ (ws : Spelled). letters the.If ∷ letters the.Contact ∷ decimal contact ∷ braced (block_words names (unlined first)) (letters the.Else ∷ braced (block_words names (unlined second)) ws)) (words_unlined names rest)
+    ap (λ (ws : Spelled). letters the.If ∷ letters the.Contact ∷ decimal contact ∷ braced ws (letters the.Else ∷ braced (block_lexemes names second) (block_lexemes names rest))) (words_unlined names first)
+    ∙ ap (λ (ws : Spelled). letters the.If ∷ letters the.Contact ∷ decimal contact ∷ braced (block_lexemes names (unlined first)) (letters the.Else ∷ braced ws (block_lexemes names rest))) (words_unlined names second)
+    ∙ ap (λ (ws : Spelled). letters the.If ∷ letters the.Contact ∷ decimal contact ∷ braced (block_lexemes names (unlined first)) (letters the.Else ∷ braced (block_lexemes names (unlined second)) ws)) (words_unlined names rest)
 words_unlined names (repeat line times body rest) =
-    ap (λ (ws : Spelled). letters the.Repeat ∷ decimal times ∷ braced ws (block_words names rest)) (words_unlined names body)
-    ∙ ap (λ (ws : Spelled). letters the.Repeat ∷ decimal times ∷ braced (block_words names (unlined body)) ws) (words_unlined names rest)
+    ap (λ (ws : Spelled). letters the.Repeat ∷ decimal times ∷ braced ws (block_lexemes names rest)) (words_unlined names body)
+    ∙ ap (λ (ws : Spelled). letters the.Repeat ∷ decimal times ∷ braced (block_lexemes names (unlined body)) ws) (words_unlined names rest)
 words_unlined names (forever line body rest) =
-    ap (λ (ws : Spelled). letters the.Forever ∷ braced ws (block_words names rest)) (words_unlined names body)
-    ∙ ap (λ (ws : Spelled). letters the.Forever ∷ braced (block_words names (unlined body)) ws) (words_unlined names rest)
+    ap (λ (ws : Spelled). letters the.Forever ∷ braced ws (block_lexemes names rest)) (words_unlined names body)
+    ∙ ap (λ (ws : Spelled). letters the.Forever ∷ braced (block_lexemes names (unlined body)) ws) (words_unlined names rest)
 words_unlined names (apply line number named rest) = ap (λ (ws : Spelled). letters the.Apply ∷ name_at names number ∷ ws) (words_unlined names rest)
 
--- the block on the lines of its words, where these follow it
+-- the block on the lines of its tokens, where `after` follows it
 abbrev lined : List (List ℕ) → List ℕ → Block → Spelled → Block
 lined names lines nothing after = nothing
-lined names lines (basic line act rest) after = basic (line_of lines (block_words names (basic line act rest) ++ after)) act (lined names lines rest after)
-lined names lines (stop line rest) after = stop (line_of lines (block_words names (stop line rest) ++ after)) (lined names lines rest after)
+lined names lines (basic line act rest) after = basic (line_of lines (block_lexemes names (basic line act rest) ++ after)) act (lined names lines rest after)
+lined names lines (stop line rest) after = stop (line_of lines (block_lexemes names (stop line rest) ++ after)) (lined names lines rest after)
 lined names lines (when line contact first rest) after =
-    when (line_of lines (block_words names (when line contact first rest) ++ after)) contact
-    (lined names lines first (letters the.CloseBrace ∷ (block_words names rest ++ after))) (lined names lines rest after)
+    when (line_of lines (block_lexemes names (when line contact first rest) ++ after)) contact
+    (lined names lines first (letters the.CloseBrace ∷ (block_lexemes names rest ++ after))) (lined names lines rest after)
 lined names lines (either line contact first second rest) after =
-    either (line_of lines (block_words names (either line contact first second rest) ++ after)) contact
-    (lined names lines first (letters the.CloseBrace ∷ letters the.Else ∷ (braced (block_words names second) (block_words names rest) ++ after)))
-    (lined names lines second (letters the.CloseBrace ∷ (block_words names rest ++ after))) (lined names lines rest after)
+    either (line_of lines (block_lexemes names (either line contact first second rest) ++ after)) contact
+    (lined names lines first (letters the.CloseBrace ∷ letters the.Else ∷ (braced (block_lexemes names second) (block_lexemes names rest) ++ after)))
+    (lined names lines second (letters the.CloseBrace ∷ (block_lexemes names rest ++ after))) (lined names lines rest after)
 lined names lines (repeat line times body rest) after =
-    repeat (line_of lines (block_words names (repeat line times body rest) ++ after)) times
-    (lined names lines body (letters the.CloseBrace ∷ (block_words names rest ++ after))) (lined names lines rest after)
+    repeat (line_of lines (block_lexemes names (repeat line times body rest) ++ after)) times
+    (lined names lines body (letters the.CloseBrace ∷ (block_lexemes names rest ++ after))) (lined names lines rest after)
 lined names lines (forever line body rest) after =
-    forever (line_of lines (block_words names (forever line body rest) ++ after))
-    (lined names lines body (letters the.CloseBrace ∷ (block_words names rest ++ after))) (lined names lines rest after)
+    forever (line_of lines (block_lexemes names (forever line body rest) ++ after))
+    (lined names lines body (letters the.CloseBrace ∷ (block_lexemes names rest ++ after))) (lined names lines rest after)
 lined names lines (apply line number named rest) after =
-    apply (line_of lines (block_words names (apply line number named rest) ++ after)) number nothing (lined names lines rest after)
+    apply (line_of lines (block_lexemes names (apply line number named rest) ++ after)) number nothing (lined names lines rest after)
 
 lined_is : (names : List (List ℕ)) (lines : List ℕ) (b : Block) (after : Spelled) → IsPlain b → BlockOn names lines b after → lined names lines b after ≡ b
 lined_is names lines nothing after p o = refl
@@ -118,8 +118,8 @@ lined_is names lines (forever line body rest) after p o =
 lined_is names lines (apply line number named rest) after p o =
     let r = lined_is names lines rest after p.1 o.1 in let n = p.0 in let l = o.0 in cc
 
--- what follows a block in braces
-behind_braces : (names : List (List ℕ)) (rest : Block) (after : Spelled) → letters the.CloseBrace ∷ (block_words names rest ++ after) ≡ letters the.CloseBrace ∷ (block_words names (unlined rest) ++ after)
+-- the tokens after a block in braces
+behind_braces : (names : List (List ℕ)) (rest : Block) (after : Spelled) → letters the.CloseBrace ∷ (block_lexemes names rest ++ after) ≡ letters the.CloseBrace ∷ (block_lexemes names (unlined rest) ++ after)
 behind_braces names rest after = ap (λ (ws : Spelled). letters the.CloseBrace ∷ (ws ++ after)) (words_unlined names rest)
 
 lined_unlined : (names : List (List ℕ)) (lines : List ℕ) (b : Block) (after : Spelled) → lined names lines b after ≡ lined names lines (unlined b) after
@@ -134,8 +134,8 @@ lined_unlined names lines (when line contact first rest) after =
     let r = lined_unlined names lines rest after in cc
 lined_unlined names lines (either line contact first second rest) after =
     let w = ap (λ (ws : Spelled). line_of lines (ws ++ after)) (words_unlined names (either line contact first second rest)) in
-    let x = ap (λ (ws : Spelled). letters the.CloseBrace ∷ letters the.Else ∷ (braced ws (block_words names rest) ++ after)) (words_unlined names second) in
-    let y = ap (λ (ws : Spelled). letters the.CloseBrace ∷ letters the.Else ∷ (braced (block_words names (unlined second)) ws ++ after)) (words_unlined names rest) in
+    let x = ap (λ (ws : Spelled). letters the.CloseBrace ∷ letters the.Else ∷ (braced ws (block_lexemes names rest) ++ after)) (words_unlined names second) in
+    let y = ap (λ (ws : Spelled). letters the.CloseBrace ∷ letters the.Else ∷ (braced (block_lexemes names (unlined second)) ws ++ after)) (words_unlined names rest) in
     let a = lined_unlined names lines first _ ∙ ap (lined names lines (unlined first)) (x ∙ y) in
     let b = lined_unlined names lines second _ ∙ ap (lined names lines (unlined second)) (behind_braces names rest after) in
     let r = lined_unlined names lines rest after in cc
@@ -158,13 +158,13 @@ same_statements names lines ss ts after e o p =
 
 -- ---- items and definitions
 
-items_alike : (xs ys : List Item) → added_by xs ≡ added_by ys → items_words xs ≡ items_words ys
+items_alike : (xs ys : List Item) → added_by xs ≡ added_by ys → items_lexemes xs ≡ items_lexemes ys
 items_alike [] [] e = refl
 items_alike [] (y ∷ ys) e = absurd cc
 items_alike (x ∷ xs) [] e = absurd cc
 items_alike (x ∷ xs) (y ∷ ys) e =
     let one : x.edit ≡ y.edit = cc in let others : added_by xs ≡ added_by ys = cc in
-    ap (λ (e : Edit). edit_words e ++ items_words xs) one ∙ ap (λ (ws : Spelled). edit_words y.edit ++ ws) (items_alike xs ys others)
+    ap (λ (e : Edit). edit_lexemes e ++ items_lexemes xs) one ∙ ap (λ (ws : Spelled). edit_lexemes y.edit ++ ws) (items_alike xs ys others)
 
 same_items : (lines : List ℕ) (xs ys : List Item) (after : Spelled) → added_by xs ≡ added_by ys → ItemsOn lines xs after → ItemsOn lines ys after → xs ≡ ys
 same_items lines [] [] after e o p = refl
@@ -177,15 +177,15 @@ same_items lines (x ∷ xs) (y ∷ ys) after e o p =
     let item : x ≡ y = ap (λ l. (let i : Item = record { line = l; edit = x.edit } in i)) at ∙ ap (λ a. (let i : Item = record { line = y.line; edit = a } in i)) one in
     ap (λ (i : Item). i ∷ xs) item ∙ ap (λ (is : List Item). y ∷ is) (same_items lines xs ys after others o.1 p.1)
 
-defined_alike : (names : List (List ℕ)) (n : ℕ) (bs cs : List (List Statement)) → map said_by bs ≡ map said_by cs → defined_words names n bs ≡ defined_words names n cs
+defined_alike : (names : List (List ℕ)) (n : ℕ) (bs cs : List (List Statement)) → map said_by bs ≡ map said_by cs → defined_lexemes names n bs ≡ defined_lexemes names n cs
 defined_alike names n [] [] e = refl
 defined_alike names n [] (c ∷ cs) e = absurd cc
 defined_alike names n (b ∷ bs) [] e = absurd cc
 defined_alike names n (b ∷ bs) (c ∷ cs) e =
     let one : said_by b ≡ said_by c = cc in let others : map said_by bs ≡ map said_by cs = cc in
-    let body = words_unlined names (block_of [] b) ∙ ap (block_words names) one ∙ sym (words_unlined names (block_of [] c)) in
-    ap (λ (ws : Spelled). letters the.Define ∷ name_at names n ∷ braced ws (defined_words names (n + 1) bs)) body
-    ∙ ap (λ (ws : Spelled). letters the.Define ∷ name_at names n ∷ braced (block_words names (block_of [] c)) ws) (defined_alike names (n + 1) bs cs others)
+    let body = words_unlined names (block_of [] b) ∙ ap (block_lexemes names) one ∙ sym (words_unlined names (block_of [] c)) in
+    ap (λ (ws : Spelled). letters the.Define ∷ name_at names n ∷ braced ws (defined_lexemes names (n + 1) bs)) body
+    ∙ ap (λ (ws : Spelled). letters the.Define ∷ name_at names n ∷ braced (block_lexemes names (block_of [] c)) ws) (defined_alike names (n + 1) bs cs others)
 
 same_blocks : (names : List (List ℕ)) (lines : List ℕ) (n : ℕ) (bs cs : List (List Statement)) (after : Spelled) → map said_by bs ≡ map said_by cs
     → DefinedOn names lines n bs after → DefinedOn names lines n cs after → map (block_of []) bs ≡ map (block_of []) cs
@@ -194,28 +194,28 @@ same_blocks names lines n [] (c ∷ cs) after e o p = absurd cc
 same_blocks names lines n (b ∷ bs) [] after e o p = absurd cc
 same_blocks names lines n (b ∷ bs) (c ∷ cs) after e o p =
     let one : said_by b ≡ said_by c = cc in let others : map said_by bs ≡ map said_by cs = cc in
-    let behind = ap (λ (ws : Spelled). letters the.CloseBrace ∷ (ws ++ after)) (defined_alike names (n + 1) bs cs others) in
-    let first = same_statements names lines b c _ one (subst (λ (ws : Spelled). BlockOn names lines (block_of [] b) ws) behind o.0) p.0 in
+    let preceded_by = ap (λ (ws : Spelled). letters the.CloseBrace ∷ (ws ++ after)) (defined_alike names (n + 1) bs cs others) in
+    let first = same_statements names lines b c _ one (subst (λ (ws : Spelled). BlockOn names lines (block_of [] b) ws) preceded_by o.0) p.0 in
     ap (λ (x : Block). x ∷ map (block_of []) bs) first ∙ ap (λ (xs : List Block). block_of [] c ∷ xs) (same_blocks names lines (n + 1) bs cs after others o.1 p.1)
 
 -- ---- scripts
 
 same_script : (lines : List ℕ) (s t : Tree) → AreAlike s t → HasLines lines s → HasLines lines t → AreTheSame s t
 same_script lines s t a o p =
-    let run : begin_words s ≡ begin_words t =
-    ap (λ (ws : Spelled). letters the.Begin ∷ ws) (ap (λ (ns : List (List ℕ)). block_words ns (block_of [] s.statements)) a.names
-    ∙ words_unlined t.names (block_of [] s.statements) ∙ ap (block_words t.names) a.statements ∙ sym (words_unlined t.names (block_of [] t.statements))) in
-    let blocks : DefinedOn t.names lines 0 s.blocks (begin_words t) =
-    subst (λ (ns : List (List ℕ)). DefinedOn ns lines 0 s.blocks (begin_words t)) a.names (subst (λ (ws : Spelled). DefinedOn s.names lines 0 s.blocks ws) run o.blocks) in
+    let run : begin_lexemes s ≡ begin_lexemes t =
+    ap (λ (ws : Spelled). letters the.Begin ∷ ws) (ap (λ (ns : List (List ℕ)). block_lexemes ns (block_of [] s.statements)) a.names
+    ∙ words_unlined t.names (block_of [] s.statements) ∙ ap (block_lexemes t.names) a.statements ∙ sym (words_unlined t.names (block_of [] t.statements))) in
+    let blocks : DefinedOn t.names lines 0 s.blocks (begin_lexemes t) =
+    subst (λ (ns : List (List ℕ)). DefinedOn ns lines 0 s.blocks (begin_lexemes t)) a.names (subst (λ (ws : Spelled). DefinedOn s.names lines 0 s.blocks ws) run o.blocks) in
     let statements : BlockOn t.names lines (block_of [] s.statements) [] = subst (λ (ns : List (List ℕ)). BlockOn ns lines (block_of [] s.statements) []) a.names o.statements in
-    let later : defined_words s.names 0 s.blocks ++ begin_words s ≡ defined_words t.names 0 t.blocks ++ begin_words t =
-    ap (λ (ns : List (List ℕ)). defined_words ns 0 s.blocks ++ begin_words s) a.names ∙ ap (λ (ws : Spelled). ws ++ begin_words s) (defined_alike t.names 0 s.blocks t.blocks a.blocks)
-    ∙ ap (λ (ws : Spelled). defined_words t.names 0 t.blocks ++ ws) run in
+    let later : defined_lexemes s.names 0 s.blocks ++ begin_lexemes s ≡ defined_lexemes t.names 0 t.blocks ++ begin_lexemes t =
+    ap (λ (ns : List (List ℕ)). defined_lexemes ns 0 s.blocks ++ begin_lexemes s) a.names ∙ ap (λ (ws : Spelled). ws ++ begin_lexemes s) (defined_alike t.names 0 s.blocks t.blocks a.blocks)
+    ∙ ap (λ (ws : Spelled). defined_lexemes t.names 0 t.blocks ++ ws) run in
     record {
       header = a.header;
       items = same_items lines s.items t.items _ a.items (subst (λ (ws : Spelled). ItemsOn lines s.items ws) later o.items) p.items;
       names = a.names;
-      blocks = same_blocks t.names lines 0 s.blocks t.blocks (begin_words t) a.blocks blocks p.blocks;
+      blocks = same_blocks t.names lines 0 s.blocks t.blocks (begin_lexemes t) a.blocks blocks p.blocks;
       begin_line = o.begin ∙ ap (line_of lines) run ∙ sym p.begin;
       statements = same_statements t.names lines s.statements t.statements [] a.statements statements p.statements;
       last_line = o.last ∙ sym p.last;
@@ -224,7 +224,7 @@ same_script lines s t a o p =
 pub one_script : TextsAreOfOneScript
 one_script text s t x y d e =
     let here = are_tokens text s d in
-    let words : tree_words s ≡ tree_words t = sym (denoted_words text _ s here d) ∙ denoted_words text _ t here e in
-    let same = are_its_tokens text (tokens_of first_place d.pieces) t here e in
-    same_script (lines_of (tokens_of first_place d.pieces)) s t (scripts_alike s t x y words) d.lined
+    let lexemes : tree_lexemes s ≡ tree_lexemes t = sym (denoted_words text _ s here d) ∙ denoted_words text _ t here e in
+    let same = are_its_tokens text (tokens_of first_position d.pieces) t here e in
+    same_script (lines_of (tokens_of first_position d.pieces)) s t (scripts_alike s t x y lexemes) d.lined
     (subst (λ (ts : List Token). HasLines (lines_of ts) t) (sym same) e.lined)

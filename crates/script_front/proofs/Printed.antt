@@ -1,4 +1,4 @@
--- What is printed, line by line.
+-- The text of a script, line by line.
 use Rattle.std.proofs.Common.{◌≡◌, ◌≢◌, ℕ, zero, suc, ◌+◌, ◌^◌, ◌-◌, ◌<◌, ◌≤◌, true, false, List, [], ◌∷◌, ◌++◌, length, get_or, drop, Some, None, slice_get, refl, sym, ap, ◌∙◌, append_assoc, add-one, arith}
 use Rattle.std.proofs.Math.Seq.{drop-cons}
 use Rattle.std.proofs.lemmas.List.{drop_all, append-nil}
@@ -17,16 +17,16 @@ use Rattle.script_front.specs.declared.tree.Header.{Header}
 use Rattle.script_front.specs.declared.tree.Item.{Item}
 use Rattle.script_front.specs.declared.tree.Statement.{Statement}
 use Rattle.script_tokens.specs.declared.keyword.Keyword.TheVariants as the
-use Rattle.script_tokens.specs.Words.{letters}
-use Rattle.script_tokens.specs.Spelling.{hex_byte, hex_word, time_word}
+use Rattle.script_tokens.specs.Keywords.{letters}
+use Rattle.script_tokens.specs.Spelling.{hex_byte, hex_text, time_text}
 use Rattle.script_front.specs.Block.{Block, Before, nothing, basic, stop, when, either, repeat, forever, apply, before, block_of}
-use Rattle.script_front.specs.Spelled.{carried_words, carrier_words, in_words, edit_words, act_words, name_at, mode_words}
+use Rattle.script_front.specs.Spelled.{carried_lexemes, carrier_lexemes, within_lexemes, edit_lexemes, act_lexemes, name_at, mode_lexemes}
 use Rattle.script_front.specs.Tree.{Tree}
 use Rattle.script_front.specs.Parsing.{bodies}
-use Rattle.script_front.specs.Printing.{Line, line, indent, each_behind, spaced, line_text, text_of_lines, closing, block_lines, limits_line, header_lines, items_lines, definition_lines, defined_lines, tree_lines, IsPut}
+use Rattle.script_front.specs.Printing.{Line, line, indent, each_after, spaced, line_text, text_of_lines, closing, block_lines, limits_line, header_lines, items_lines, definition_lines, defined_lines, tree_lines, IsPut}
 use Rattle.script_tokens.specs.Reading.{Spelled}
 
--- ---- words
+-- ---- tokens
 
 pub printed_byte : (n : ℕ) → n < 256 → padded_integral (format_spec 32 0 4 2 (2 ^ 64 - 1)) false [] (digits 16 true n) ≡ hex_byte n
 printed_byte n small = shown_byte true n small
@@ -34,31 +34,31 @@ printed_byte n small = shown_byte true n small
 pub digit : (n : ℕ) → n < 10 → decimal n ≡ (48 + n) ∷ []
 digit n small = decimal_digit n small
 
-behind_both : (xs ys : Spelled) → each_behind (xs ++ ys) ≡ each_behind xs ++ each_behind ys
+behind_both : (xs ys : Spelled) → each_after (xs ++ ys) ≡ each_after xs ++ each_after ys
 behind_both [] ys = refl
-behind_both (w ∷ xs) ys = ap (λ (t : List ℕ). 32 ∷ (w ++ t)) (behind_both xs ys) ∙ ap (λ (t : List ℕ). 32 ∷ t) (sym (append_assoc w (each_behind xs) (each_behind ys)))
+behind_both (w ∷ xs) ys = ap (λ (t : List ℕ). 32 ∷ (w ++ t)) (behind_both xs ys) ∙ ap (λ (t : List ℕ). 32 ∷ t) (sym (append_assoc w (each_after xs) (each_after ys)))
 
-spaced_both : (w : List ℕ) (xs ys : Spelled) → spaced ((w ∷ xs) ++ ys) ≡ spaced (w ∷ xs) ++ each_behind ys
-spaced_both w xs ys = ap (λ (t : List ℕ). w ++ t) (behind_both xs ys) ∙ sym (append_assoc w (each_behind xs) (each_behind ys))
+spaced_both : (w : List ℕ) (xs ys : Spelled) → spaced ((w ∷ xs) ++ ys) ≡ spaced (w ∷ xs) ++ each_after ys
+spaced_both w xs ys = ap (λ (t : List ℕ). w ++ t) (behind_both xs ys) ∙ sym (append_assoc w (each_after xs) (each_after ys))
 
-carried_in : (m : Component) (ys : Spelled) → spaced (carried_words m ++ ys) ≡ spaced (carried_words m) ++ each_behind ys
+carried_in : (m : Component) (ys : Spelled) → spaced (carried_lexemes m ++ ys) ≡ spaced (carried_lexemes m) ++ each_after ys
 carried_in (Sound ty sub) ys = spaced_both (letters the.Audio) (decimal ty ∷ letters the.Sub ∷ decimal sub ∷ []) ys
 carried_in (Stream ty sub) ys = spaced_both (letters the.Data) (decimal ty ∷ letters the.Sub ∷ decimal sub ∷ []) ys
 carried_in (InPackets scid) ys = spaced_both (letters the.Carry) (decimal scid ∷ []) ys
 
-pub component_put : (old out new : List ℕ) (sid : Sid) (m : Component) → out ≡ old ++ spaced (carried_words m) → new ≡ out ++ each_behind (in_words sid)
-    → new ≡ old ++ spaced (edit_words (AddComponent sid m))
+pub component_put : (old out new : List ℕ) (sid : Sid) (m : Component) → out ≡ old ++ spaced (carried_lexemes m) → new ≡ out ++ each_after (within_lexemes sid)
+    → new ≡ old ++ spaced (edit_lexemes (AddComponent sid m))
 component_put old out new sid m e f =
-    f ∙ ap (λ (t : List ℕ). t ++ each_behind (in_words sid)) e ∙ append_assoc old (spaced (carried_words m)) (each_behind (in_words sid)) ∙ ap (λ (t : List ℕ). old ++ t) (sym (carried_in m (in_words sid)))
+    f ∙ ap (λ (t : List ℕ). t ++ each_after (within_lexemes sid)) e ∙ append_assoc old (spaced (carried_lexemes m)) (each_after (within_lexemes sid)) ∙ ap (λ (t : List ℕ). old ++ t) (sym (carried_in m (within_lexemes sid)))
 
-pub drop_put : (old one two new : List ℕ) (sid : Sid) (m : Carrier) → one ≡ old ++ codes "drop component" → two ≡ one ++ each_behind (carrier_words m) → new ≡ two ++ each_behind (in_words sid)
-    → new ≡ old ++ spaced (edit_words (DropComponent sid m))
+pub drop_put : (old one two new : List ℕ) (sid : Sid) (m : Carrier) → one ≡ old ++ codes "drop component" → two ≡ one ++ each_after (carrier_lexemes m) → new ≡ two ++ each_after (within_lexemes sid)
+    → new ≡ old ++ spaced (edit_lexemes (DropComponent sid m))
 unfolding letters
 drop_put old one two new sid m e f g =
-    g ∙ ap (λ (t : List ℕ). t ++ each_behind (in_words sid)) (f ∙ ap (λ (t : List ℕ). t ++ each_behind (carrier_words m)) e)
-    ∙ append_assoc (old ++ codes "drop component") (each_behind (carrier_words m)) (each_behind (in_words sid))
-    ∙ append_assoc old (codes "drop component") (each_behind (carrier_words m) ++ each_behind (in_words sid))
-    ∙ ap (λ (t : List ℕ). old ++ (codes "drop component" ++ t)) (sym (behind_both (carrier_words m) (in_words sid)))
+    g ∙ ap (λ (t : List ℕ). t ++ each_after (within_lexemes sid)) (f ∙ ap (λ (t : List ℕ). t ++ each_after (carrier_lexemes m)) e)
+    ∙ append_assoc (old ++ codes "drop component") (each_after (carrier_lexemes m)) (each_after (within_lexemes sid))
+    ∙ append_assoc old (codes "drop component") (each_after (carrier_lexemes m) ++ each_after (within_lexemes sid))
+    ∙ ap (λ (t : List ℕ). old ++ (codes "drop component" ++ t)) (sym (behind_both (carrier_lexemes m) (within_lexemes sid)))
 
 -- ---- lines
 
@@ -74,24 +74,24 @@ unfolding text_of_lines
 text_both [] ys = refl
 text_both (x ∷ xs) ys = ap (λ (t : List ℕ). line_text x ++ t) (text_both xs ys) ∙ sym (append_assoc (line_text x) (text_of_lines xs) (text_of_lines ys))
 
--- a line, and lines behind it
+-- a line, and the lines after it
 line_then : (old new : List ℕ) (l : Line) (ls : List Line) → new ≡ old ++ line_text l → new ++ text_of_lines ls ≡ old ++ text_of_lines (l ∷ ls)
 unfolding text_of_lines
 line_then old new l ls e = ap (λ (t : List ℕ). t ++ text_of_lines ls) e ∙ append_assoc old (line_text l) (text_of_lines ls)
 
--- lines, and more behind them
+-- lines, and more after them
 lines_then : (old new : List ℕ) (xs ys : List Line) → new ≡ old ++ text_of_lines xs → new ++ text_of_lines ys ≡ old ++ text_of_lines (xs ++ ys)
 lines_then old new xs ys e = ap (λ (t : List ℕ). t ++ text_of_lines ys) e ∙ append_assoc old (text_of_lines xs) (text_of_lines ys) ∙ ap (λ (t : List ℕ). old ++ t) (sym (text_both xs ys))
 
-pub act_put : (names : List (List ℕ)) (old new : List ℕ) (d n : ℕ) (act : Act) (added : Before) → new ≡ old ++ line_text (line d (act_words act)) → ((b : Block) → added b ≡ basic n act b)
+pub act_put : (names : List (List ℕ)) (old new : List ℕ) (d n : ℕ) (act : Act) (added : Before) → new ≡ old ++ line_text (line d (act_lexemes act)) → ((b : Block) → added b ≡ basic n act b)
     → IsPut names d added old new
-act_put names old new d n act added e is = record { before = λ b. rw (is b) (line_then old new (line d (act_words act)) (block_lines names d b) e) }
+act_put names old new d n act added e is = record { before = λ b. rw (is b) (line_then old new (line d (act_lexemes act)) (block_lines names d b) e) }
 
 pub stop_put : (names : List (List ℕ)) (old new : List ℕ) (d n : ℕ) (added : Before) → new ≡ old ++ (indent d ++ codes "end\n") → ((b : Block) → added b ≡ stop n b) → IsPut names d added old new
 unfolding letters
 stop_put names old new d n added e is = record { before = λ b. rw (is b) (line_then old new (line d (letters the.End ∷ [])) (block_lines names d b) e) }
 
--- a block behind a line, and the line that closes it
+-- a line, a block after it, and the line that closes it
 body_put : (names : List (List ℕ)) (old one two new : List ℕ) (d : ℕ) (l : Line) (body : Block) (rest : List Line) → one ≡ old ++ line_text l
     → two ≡ one ++ text_of_lines (block_lines names (d + 1) body) → new ≡ two ++ (indent d ++ codes "}\n")
     → new ++ text_of_lines rest ≡ old ++ text_of_lines (l ∷ (block_lines names (d + 1) body ++ closing d ∷ rest))
@@ -148,13 +148,13 @@ name_there [] i lt e = absurd (omega arith)
 name_there (n ∷ names) zero lt e = absurd cc
 name_there (n ∷ names) (suc i) lt e = name_there names i (omega arith) e
 
--- ---- one after another
+-- ---- one statement after another
 
 cut : (ss : List Statement) (i : ℕ) (s : Statement) → i < length ss → s ≡ get_or ss i s → block_of [] (drop i ss) ≡ before [] s (block_of [] (drop (i + 1) ss))
 cut ss i s lt is = let e : drop i ss ≡ get_or ss i s ∷ drop (i + 1) ss = rw (add-one, drop-cons ss i s lt) refl in
     ap (block_of []) e ∙ ap (λ (x : Statement). before [] x (block_of [] (drop (i + 1) ss))) (sym is)
 
--- so far printed, and what is left
+-- the statements printed so far, and those that remain
 pub record Printed (names : List (List ℕ)) (old out : List ℕ) (d : ℕ) (ss : List Statement) (i : ℕ) : Type 0 where
   pub whole : out ++ text_of_lines (block_lines names d (block_of [] (drop i ss))) ≡ old ++ text_of_lines (block_lines names d (block_of [] ss))
 
@@ -173,14 +173,14 @@ all_put names old out d ss i long h =
 pub record ItemsPrinted (old out : List ℕ) (is : List Item) (i : ℕ) : Type 0 where
   pub whole : out ++ text_of_lines (items_lines (drop i is)) ≡ old ++ text_of_lines (items_lines is)
 
-pub item_more : (old out new : List ℕ) (is : List Item) (i : ℕ) (x : Item) → i < length is → x ≡ get_or is i x → new ≡ out ++ line_text (line 0 (edit_words x.edit))
+pub item_more : (old out new : List ℕ) (is : List Item) (i : ℕ) (x : Item) → i < length is → x ≡ get_or is i x → new ≡ out ++ line_text (line 0 (edit_lexemes x.edit))
     → ItemsPrinted old out is i → ItemsPrinted old new is (i + 1)
 item_more old out new is i x lt same put h = record {
   whole = (
       let e : drop i is ≡ get_or is i x ∷ drop (i + 1) is = rw (add-one, drop-cons is i x lt) refl in
-      let f : items_lines (drop i is) ≡ line 0 (edit_words x.edit) ∷ items_lines (drop (i + 1) is) =
-      ap items_lines e ∙ ap (λ (y : Item). line 0 (edit_words y.edit) ∷ items_lines (drop (i + 1) is)) (sym same) in
-      line_then out new (line 0 (edit_words x.edit)) (items_lines (drop (i + 1) is)) put ∙ sym (ap (λ (ls : List Line). out ++ text_of_lines ls) f) ∙ h.whole
+      let f : items_lines (drop i is) ≡ line 0 (edit_lexemes x.edit) ∷ items_lines (drop (i + 1) is) =
+      ap items_lines e ∙ ap (λ (y : Item). line 0 (edit_lexemes y.edit) ∷ items_lines (drop (i + 1) is)) (sym same) in
+      line_then out new (line 0 (edit_lexemes x.edit)) (items_lines (drop (i + 1) is)) put ∙ sym (ap (λ (ls : List Line). out ++ text_of_lines ls) f) ∙ h.whole
       );
 }
 
@@ -226,24 +226,24 @@ unfolding text_of_lines
 definitions_all names old out bs i long h =
     let e : out ++ [] ≡ old ++ text_of_lines (defined_lines names 0 (bodies bs)) = rw (drop_all i bs long) at h.whole in sym (append-nil out) ∙ e
 
--- ---- in several steps
+-- ---- texts put in several steps
 
-pub until_put : (old one new : List ℕ) (t : ℕ) → one ≡ old ++ codes "until " → new ≡ one ++ time_word t → new ≡ old ++ spaced (act_words (Until t))
+pub until_put : (old one new : List ℕ) (t : ℕ) → one ≡ old ++ codes "until " → new ≡ one ++ time_text t → new ≡ old ++ spaced (act_lexemes (Until t))
 unfolding letters
-until_put old one new t e f = f ∙ ap (λ (x : List ℕ). x ++ time_word t) e ∙ append_assoc old (codes "until ") (time_word t)
+until_put old one new t e f = f ∙ ap (λ (x : List ℕ). x ++ time_text t) e ∙ append_assoc old (codes "until ") (time_text t)
 
-pub header_put : (old one two three four new : List ℕ) (h : Header) → one ≡ old ++ codes "ensemble " → two ≡ one ++ hex_word h.eid → three ≡ two ++ each_behind (mode_words h.mode)
+pub header_put : (old one two three four new : List ℕ) (h : Header) → one ≡ old ++ codes "ensemble " → two ≡ one ++ hex_text h.eid → three ≡ two ++ each_after (mode_lexemes h.mode)
     → four ≡ three ++ 10 ∷ [] → new ≡ four ++ line_text (limits_line h) → new ≡ old ++ text_of_lines (header_lines h)
 unfolding letters text_of_lines
 header_put old one two three four new h e f g i j =
-    let mode : List ℕ = each_behind (mode_words h.mode) in
-    let first : Line = line 0 (letters the.Ensemble ∷ hex_word h.eid ∷ mode_words h.mode) in
+    let mode : List ℕ = each_after (mode_lexemes h.mode) in
+    let first : Line = line 0 (letters the.Ensemble ∷ hex_text h.eid ∷ mode_lexemes h.mode) in
     let head : four ≡ old ++ line_text first =
-    i ∙ ap (λ (x : List ℕ). x ++ 10 ∷ []) (g ∙ ap (λ (x : List ℕ). x ++ mode) (f ∙ ap (λ (x : List ℕ). x ++ hex_word h.eid) e ∙ append_assoc old (codes "ensemble ") (hex_word h.eid))
-    ∙ append_assoc old (codes "ensemble " ++ hex_word h.eid) mode) ∙ append_assoc old ((codes "ensemble " ++ hex_word h.eid) ++ mode) (10 ∷ []) in
+    i ∙ ap (λ (x : List ℕ). x ++ 10 ∷ []) (g ∙ ap (λ (x : List ℕ). x ++ mode) (f ∙ ap (λ (x : List ℕ). x ++ hex_text h.eid) e ∙ append_assoc old (codes "ensemble ") (hex_text h.eid))
+    ∙ append_assoc old (codes "ensemble " ++ hex_text h.eid) mode) ∙ append_assoc old ((codes "ensemble " ++ hex_text h.eid) ++ mode) (10 ∷ []) in
     sym (append-nil new) ∙ line_then four new (limits_line h) [] j ∙ line_then old four first (limits_line h ∷ []) head
 
--- the statements of a vector as a slice
+-- the statements of a vector, as a slice
 pub sliced : (names : List (List ℕ)) (old new : List ℕ) (d : ℕ) (slice items : List Statement) → slice ≡ items → new ≡ old ++ text_of_lines (block_lines names (d + 1) (block_of [] slice))
     → new ≡ old ++ text_of_lines (block_lines names (d + 1) (block_of [] items))
 sliced names old new d slice items is e = e ∙ ap (λ (ss : List Statement). old ++ text_of_lines (block_lines names (d + 1) (block_of [] ss))) is

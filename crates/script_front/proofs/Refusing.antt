@@ -1,4 +1,4 @@
--- Where a part of a script is refused, its words are those of no such part.
+-- Where a part of a script is refused, its tokens are not those of any such part.
 use Rattle.std.proofs.Common.{◌≡◌, ◌≢◌, ℕ, ◌<◌, ◌≤◌, Bool, true, false, List, [], ◌∷◌, ◌++◌, length, drop, refl, sym, ap, ◌∙◌, subst, append_assoc, arith}
 use Rattle.std.specs.Fmt.{decimal}
 use Rattle.mux_config.specs.declared.edit.Edit.{Edit}
@@ -14,7 +14,7 @@ use Rattle.mux_config.specs.Configuration.{IsSid, IsComponent}
 use Rattle.plan_code.specs.Program.{IsEdit, IsNewSub, IsNewPacket, IsCarrier}
 use Rattle.script_tokens.specs.declared.keyword.Keyword.{Keyword}
 use Rattle.script_tokens.specs.declared.keyword.Keyword.TheVariants as the
-use Rattle.script_tokens.specs.Words.{the as is, letters, begins_item}
+use Rattle.script_tokens.specs.Keywords.{the as is, letters, begins_item}
 use Rattle.script_tokens.specs.First.{component_keyword, item_keyword, edit_keyword, act_keyword}
 use Rattle.script_tokens.specs.declared.first_keyword.ComponentKeyword.{ComponentKeyword}
 use Rattle.script_tokens.specs.declared.first_keyword.ComponentKeyword.TheVariants as component
@@ -24,23 +24,23 @@ use Rattle.script_tokens.specs.declared.first_keyword.EditKeyword.{EditKeyword}
 use Rattle.script_tokens.specs.declared.first_keyword.EditKeyword.TheVariants as edit
 use Rattle.script_tokens.specs.declared.first_keyword.ActKeyword.{ActKeyword}
 use Rattle.script_tokens.specs.declared.first_keyword.ActKeyword.TheVariants as act
-use Rattle.script_tokens.specs.Spelling.{sid_word, time_word}
+use Rattle.script_tokens.specs.Spelling.{sid_text, level_text, time_text}
 use Rattle.std.proofs.lemmas.Bool.{false≢true}
 use Rattle.script_front.specs.declared.tree.Act.{Act}
 use Rattle.script_front.specs.declared.tree.Act.TheVariants.{Edit as Edits, Wait, WaitContact, Until, CommitIn, CommitAt, Join, Settle}
 use Rattle.script_front.specs.Tree.{IsAct, Adds}
-use Rattle.script_tokens.specs.Reading.{Spelled, Input, Passes, behind}
+use Rattle.script_tokens.specs.Reading.{Spelled, Input, Passes, preceded_by}
 use Rattle.script_front.specs.declared.tree.Header.{Header}
 use Rattle.fib_codec.specs.declared.modes.Mode.{Mode}
 use Rattle.fib_codec.specs.declared.modes.Mode.TheVariants.{I, II, III, IV}
-use Rattle.script_front.specs.Spelled.{mode_words, in_words, groups_word, carried_words, carrier_words, edit_words, level_word, act_words}
+use Rattle.script_front.specs.Spelled.{mode_lexemes, within_lexemes, groups_text, carried_lexemes, carrier_lexemes, edit_lexemes, act_lexemes}
 use Rattle.script_front.specs.Parsing.{NoneOf}
 use Rattle.script_tokens.proofs.Keys.{word_the, rest_is, same_key}
 use Rattle.script_front.proofs.Edits.{same_carried, same_carrier, edit_in, edit_by, edit_again, act_in, act_by, act_again, wait_by, commit_by}
 
--- what is left behind words that were passed
-pub left_over : (ws vs : Spelled) (i j : Input) (rest : Spelled) → length ws ≡ length vs → Passes ws i j → i.words ≡ vs ++ rest → j.words ≡ rest
-left_over ws vs i j rest len p e = dropped ws vs j.words rest len (sym p.0 ∙ e)
+-- the tokens that remain after some were passed
+pub left_over : (ws vs : Spelled) (i j : Input) (rest : Spelled) → length ws ≡ length vs → Passes ws i j → i.lexemes ≡ vs ++ rest → j.lexemes ≡ rest
+left_over ws vs i j rest len p e = dropped ws vs j.lexemes rest len (sym p.0 ∙ e)
   where
     dropped : (xs ys vs us : Spelled) → length xs ≡ length ys → xs ++ vs ≡ ys ++ us → vs ≡ us
     dropped [] [] vs us l f = f
@@ -50,92 +50,88 @@ left_over ws vs i j rest len p e = dropped ws vs j.words rest len (sym p.0 ∙ e
 
 -- this keyword is not next
 abbrev pub NoneNext : Spelled → Keyword → Type 0
-NoneNext words k = (rest : Spelled) → words ≢ letters k ∷ rest
+NoneNext lexemes k = (rest : Spelled) → lexemes ≢ letters k ∷ rest
 
-pub no_groups : (words : Spelled) → NoneNext words the.Groups → NoneNext words the.Raw → (a : Bool) (rest : Spelled) → words ≡ groups_word a ∷ rest → ⊥
-no_groups words g r false rest e = g rest e
-no_groups words g r true rest e = r rest e
+pub no_groups : (lexemes : Spelled) → NoneNext lexemes the.Groups → NoneNext lexemes the.Raw → (a : Bool) (rest : Spelled) → lexemes ≡ groups_text a ∷ rest → ⊥
+no_groups lexemes g r false rest e = g rest e
+no_groups lexemes g r true rest e = r rest e
 
-pub no_level : (words : Spelled) → NoneNext words the.Closed → NoneNext words the.Open → (a : Bool) (rest : Spelled) → words ≡ level_word a ∷ rest → ⊥
-no_level words g r true rest e = g rest e
-no_level words g r false rest e = r rest e
+-- ---- components and their carriers
 
--- ---- what is carried, and what carries
+pub no_carrier : (lexemes : Spelled) → NoneNext lexemes the.Sub → NoneNext lexemes the.Packet → (m : Carrier) (rest : Spelled) → lexemes ≡ carrier_lexemes m ++ rest → ⊥
+no_carrier lexemes g r (BySub id) rest e = g (decimal id ∷ rest) e
+no_carrier lexemes g r (ByPacket scid) rest e = r (decimal scid ∷ rest) e
 
-pub no_carrier : (words : Spelled) → NoneNext words the.Sub → NoneNext words the.Packet → (m : Carrier) (rest : Spelled) → words ≡ carrier_words m ++ rest → ⊥
-no_carrier words g r (BySub id) rest e = g (decimal id ∷ rest) e
-no_carrier words g r (ByPacket scid) rest e = r (decimal scid ∷ rest) e
-
-pub no_by_sub : (ws : Spelled) → ((n : ℕ) (rest : Spelled) → n < 64 → ws ≢ decimal n ∷ rest) → (m : Carrier) (rest : Spelled) → IsCarrier m → letters the.Sub ∷ ws ≡ carrier_words m ++ rest → ⊥
+pub no_by_sub : (ws : Spelled) → ((n : ℕ) (rest : Spelled) → n < 64 → ws ≢ decimal n ∷ rest) → (m : Carrier) (rest : Spelled) → IsCarrier m → letters the.Sub ∷ ws ≡ carrier_lexemes m ++ rest → ⊥
 no_by_sub ws none (BySub id) rest h e = none id rest h (rest_is _ _ _ _ e)
 no_by_sub ws none (ByPacket scid) rest h e = let f = same_key the.Sub the.Packet _ _ e in absurd cc
 
-pub no_by_packet : (ws : Spelled) → ((n : ℕ) (rest : Spelled) → n < 4096 → ws ≢ decimal n ∷ rest) → (m : Carrier) (rest : Spelled) → IsCarrier m → letters the.Packet ∷ ws ≡ carrier_words m ++ rest → ⊥
+pub no_by_packet : (ws : Spelled) → ((n : ℕ) (rest : Spelled) → n < 4096 → ws ≢ decimal n ∷ rest) → (m : Carrier) (rest : Spelled) → IsCarrier m → letters the.Packet ∷ ws ≡ carrier_lexemes m ++ rest → ⊥
 no_by_packet ws none (ByPacket scid) rest h e = none scid rest h (rest_is _ _ _ _ e)
 no_by_packet ws none (BySub id) rest h e = let f = same_key the.Packet the.Sub _ _ e in absurd cc
 
 abbrev pub NoTypedSub : Spelled → Type 0
 NoTypedSub ws = (p : ℕ × ℕ) (rest : Spelled) → (p.0 < 64) × (p.1 < 64) → ws ≢ decimal p.0 ∷ letters the.Sub ∷ decimal p.1 ∷ rest
 
-pub no_sound : (ws : Spelled) → NoTypedSub ws → (m : Component) (rest : Spelled) → IsComponent m → letters the.Audio ∷ ws ≡ carried_words m ++ rest → ⊥
+pub no_sound : (ws : Spelled) → NoTypedSub ws → (m : Component) (rest : Spelled) → IsComponent m → letters the.Audio ∷ ws ≡ carried_lexemes m ++ rest → ⊥
 no_sound ws none (Sound ty sub) rest h e = none (ty, sub) rest h (rest_is _ _ _ _ e)
 no_sound ws none (Stream ty sub) rest h e = let f = same_key the.Audio the.Data _ _ e in absurd cc
 no_sound ws none (InPackets scid) rest h e = let f = same_key the.Audio the.Carry _ _ e in absurd cc
 
-pub no_stream : (ws : Spelled) → NoTypedSub ws → (m : Component) (rest : Spelled) → IsComponent m → letters the.Data ∷ ws ≡ carried_words m ++ rest → ⊥
+pub no_stream : (ws : Spelled) → NoTypedSub ws → (m : Component) (rest : Spelled) → IsComponent m → letters the.Data ∷ ws ≡ carried_lexemes m ++ rest → ⊥
 no_stream ws none (Stream ty sub) rest h e = none (ty, sub) rest h (rest_is _ _ _ _ e)
 no_stream ws none (Sound ty sub) rest h e = let f = same_key the.Data the.Audio _ _ e in absurd cc
 no_stream ws none (InPackets scid) rest h e = let f = same_key the.Data the.Carry _ _ e in absurd cc
 
-pub no_packets : (ws : Spelled) → ((n : ℕ) (rest : Spelled) → n < 4096 → ws ≢ decimal n ∷ rest) → (m : Component) (rest : Spelled) → IsComponent m → letters the.Carry ∷ ws ≡ carried_words m ++ rest → ⊥
+pub no_packets : (ws : Spelled) → ((n : ℕ) (rest : Spelled) → n < 4096 → ws ≢ decimal n ∷ rest) → (m : Component) (rest : Spelled) → IsComponent m → letters the.Carry ∷ ws ≡ carried_lexemes m ++ rest → ⊥
 no_packets ws none (InPackets scid) rest h e = none scid rest h (rest_is _ _ _ _ e)
 no_packets ws none (Sound ty sub) rest h e = let f = same_key the.Carry the.Audio _ _ e in absurd cc
 no_packets ws none (Stream ty sub) rest h e = let f = same_key the.Carry the.Data _ _ e in absurd cc
 
--- a component, from what is carried and where
-pub no_place : (i j : Input) (m : Component) → IsComponent m → Passes (carried_words m) i j → NoneOf Sid IsSid in_words j
-    → NoneOf (Sid × Component) (λ p. IsSid p.0 × IsComponent p.1) (λ p. edit_words (AddComponent p.0 p.1)) i
+-- a component whose service is refused
+pub no_place : (i j : Input) (m : Component) → IsComponent m → Passes (carried_lexemes m) i j → NoneOf Sid IsSid within_lexemes j
+    → NoneOf (Sid × Component) (λ p. IsSid p.0 × IsComponent p.1) (λ p. edit_lexemes (AddComponent p.0 p.1)) i
 no_place i j m h p none q rest k e =
-    let f : carried_words m ++ j.words ≡ carried_words q.1 ++ (in_words q.0 ++ rest) = sym p.0 ∙ e ∙ append_assoc (carried_words q.1) (in_words q.0) rest in
-    none q.0 rest k.0 ((same_carried m q.1 j.words (in_words q.0 ++ rest) h k.1 f).rest)
+    let f : carried_lexemes m ++ j.lexemes ≡ carried_lexemes q.1 ++ (within_lexemes q.0 ++ rest) = sym p.0 ∙ e ∙ append_assoc (carried_lexemes q.1) (within_lexemes q.0) rest in
+    none q.0 rest k.0 ((same_carried m q.1 j.lexemes (within_lexemes q.0 ++ rest) h k.1 f).rest)
 
-pub no_component : (i : Input) → NoneOf Component IsComponent carried_words i → NoneOf (Sid × Component) (λ p. IsSid p.0 × IsComponent p.1) (λ p. edit_words (AddComponent p.0 p.1)) i
-no_component i none q rest k e = none q.1 (in_words q.0 ++ rest) k.1 (e ∙ append_assoc (carried_words q.1) (in_words q.0) rest)
+pub no_component : (i : Input) → NoneOf Component IsComponent carried_lexemes i → NoneOf (Sid × Component) (λ p. IsSid p.0 × IsComponent p.1) (λ p. edit_lexemes (AddComponent p.0 p.1)) i
+no_component i none q rest k e = none q.1 (within_lexemes q.0 ++ rest) k.1 (e ∙ append_assoc (carried_lexemes q.1) (within_lexemes q.0) rest)
 
 -- ---- edits
 
--- what words that begin so are as an edit
-edit_is : (k : Keyword) (ws : Spelled) (e : Edit) (rest : Spelled) → IsEdit e → letters k ∷ ws ≡ edit_words e ++ rest → edit_by (is k) (letters k ∷ ws) ≡ (e, rest)
+-- tokens that spell an edit give that edit
+edit_is : (k : Keyword) (ws : Spelled) (e : Edit) (rest : Spelled) → IsEdit e → letters k ∷ ws ≡ edit_lexemes e ++ rest → edit_by (is k) (letters k ∷ ws) ≡ (e, rest)
 edit_is k ws e rest h eq = ap (λ w. edit_by w (letters k ∷ ws)) (sym (word_the k)) ∙ ap edit_in eq ∙ edit_again e rest h
 
 record IsSeen (ws : Spelled) (e : Edit) (rest : Spelled) : Type 0 where
   pub formed : IsEdit e
-  pub spelled : ws ≡ edit_words e ++ rest
+  pub spelled : ws ≡ edit_lexemes e ++ rest
 
-seen : (ws : Spelled) (x e : Edit) (rest : Spelled) → x ≡ e → IsEdit e → ws ≡ edit_words e ++ rest → IsSeen ws x rest
-seen ws x e rest same h eq = record { formed = subst IsEdit (sym same) h; spelled = subst (λ (y : Edit). ws ≡ edit_words y ++ rest) (sym same) eq }
+seen : (ws : Spelled) (x e : Edit) (rest : Spelled) → x ≡ e → IsEdit e → ws ≡ edit_lexemes e ++ rest → IsSeen ws x rest
+seen ws x e rest same h eq = record { formed = subst IsEdit (sym same) h; spelled = subst (λ (y : Edit). ws ≡ edit_lexemes y ++ rest) (sym same) eq }
 
-pub no_new_sub : (i : Input) → NoneOf Sub IsNewSub (λ s. edit_words (AddSub s)) (behind the.Sub i) → NoneOf Edit IsEdit edit_words (behind the.Sub i)
+pub no_new_sub : (i : Input) → NoneOf Sub IsNewSub (λ s. edit_lexemes (AddSub s)) (preceded_by the.Sub i) → NoneOf Edit IsEdit edit_lexemes (preceded_by the.Sub i)
 no_new_sub i none e rest h eq =
-    let s = seen (letters the.Sub ∷ i.words) _ e rest (ap (λ p. p.0) (edit_is the.Sub i.words e rest h eq)) h eq in none _ rest s.formed s.spelled
+    let s = seen (letters the.Sub ∷ i.lexemes) _ e rest (ap (λ p. p.0) (edit_is the.Sub i.lexemes e rest h eq)) h eq in none _ rest s.formed s.spelled
 
-pub no_new_packet : (i : Input) → NoneOf Packet IsNewPacket (λ s. edit_words (AddPacket s)) (behind the.Packet i) → NoneOf Edit IsEdit edit_words (behind the.Packet i)
+pub no_new_packet : (i : Input) → NoneOf Packet IsNewPacket (λ s. edit_lexemes (AddPacket s)) (preceded_by the.Packet i) → NoneOf Edit IsEdit edit_lexemes (preceded_by the.Packet i)
 no_new_packet i none e rest h eq =
-    let s = seen (letters the.Packet ∷ i.words) _ e rest (ap (λ p. p.0) (edit_is the.Packet i.words e rest h eq)) h eq in none _ rest s.formed s.spelled
+    let s = seen (letters the.Packet ∷ i.lexemes) _ e rest (ap (λ p. p.0) (edit_is the.Packet i.lexemes e rest h eq)) h eq in none _ rest s.formed s.spelled
 
-pub no_new_service : (i : Input) → ((s : Sid) (rest : Spelled) → IsSid s → i.words ≢ sid_word s ∷ rest) → NoneOf Edit IsEdit edit_words (behind the.Service i)
+pub no_new_service : (i : Input) → ((s : Sid) (rest : Spelled) → IsSid s → i.lexemes ≢ sid_text s ∷ rest) → NoneOf Edit IsEdit edit_lexemes (preceded_by the.Service i)
 no_new_service i none e rest h eq =
-    let s = seen (letters the.Service ∷ i.words) _ e rest (ap (λ p. p.0) (edit_is the.Service i.words e rest h eq)) h eq in none _ rest s.formed (rest_is _ _ _ _ s.spelled)
+    let s = seen (letters the.Service ∷ i.lexemes) _ e rest (ap (λ p. p.0) (edit_is the.Service i.lexemes e rest h eq)) h eq in none _ rest s.formed (rest_is _ _ _ _ s.spelled)
 
-pub no_move : (i : Input) → NoneOf (ℕ × ℕ) (λ p. (p.0 < 64) × (p.1 < 1024)) (λ p. edit_words (MoveSub p.0 p.1)) (behind the.Move i) → NoneOf Edit IsEdit edit_words (behind the.Move i)
+pub no_move : (i : Input) → NoneOf (ℕ × ℕ) (λ p. (p.0 < 64) × (p.1 < 1024)) (λ p. edit_lexemes (MoveSub p.0 p.1)) (preceded_by the.Move i) → NoneOf Edit IsEdit edit_lexemes (preceded_by the.Move i)
 no_move i none e rest h eq =
-    let s = seen (letters the.Move ∷ i.words) _ e rest (ap (λ p. p.0) (edit_is the.Move i.words e rest h eq)) h eq in none (_, _) rest s.formed s.spelled
+    let s = seen (letters the.Move ∷ i.lexemes) _ e rest (ap (λ p. p.0) (edit_is the.Move i.lexemes e rest h eq)) h eq in none (_, _) rest s.formed s.spelled
 
-pub no_rate : (i : Input) → NoneOf (ℕ × ℕ) (λ p. (p.0 < 64) × (p.1 < 65536)) (λ p. edit_words (RateSub p.0 p.1)) (behind the.Rate i) → NoneOf Edit IsEdit edit_words (behind the.Rate i)
+pub no_rate : (i : Input) → NoneOf (ℕ × ℕ) (λ p. (p.0 < 64) × (p.1 < 65536)) (λ p. edit_lexemes (RateSub p.0 p.1)) (preceded_by the.Rate i) → NoneOf Edit IsEdit edit_lexemes (preceded_by the.Rate i)
 no_rate i none e rest h eq =
-    let s = seen (letters the.Rate ∷ i.words) _ e rest (ap (λ p. p.0) (edit_is the.Rate i.words e rest h eq)) h eq in none (_, _) rest s.formed s.spelled
+    let s = seen (letters the.Rate ∷ i.lexemes) _ e rest (ap (λ p. p.0) (edit_is the.Rate i.lexemes e rest h eq)) h eq in none (_, _) rest s.formed s.spelled
 
--- the keyword with which an edit begins
+-- the keyword that begins an edit
 abbrev pub edit_key : Edit → Keyword
 edit_key (AddSub s) = the.Sub
 edit_key (DropSub id) = the.Drop
@@ -150,7 +146,7 @@ edit_key (DropComponent sid m) = the.Drop
 edit_key (AddPacket p) = the.Packet
 edit_key (DropPacket scid) = the.Drop
 
-pub edit_begins : (e : Edit) (rest : Spelled) → edit_words e ++ rest ≡ letters (edit_key e) ∷ drop 1 (edit_words e ++ rest)
+pub edit_begins : (e : Edit) (rest : Spelled) → edit_lexemes e ++ rest ≡ letters (edit_key e) ∷ drop 1 (edit_lexemes e ++ rest)
 edit_begins (AddSub s) rest = refl
 edit_begins (DropSub id) rest = refl
 edit_begins (MoveSub id start) rest = refl
@@ -164,8 +160,8 @@ edit_begins (DropComponent sid m) rest = refl
 edit_begins (AddPacket p) rest = refl
 edit_begins (DropPacket scid) rest = refl
 
-pub key_of_edit : (first : Keyword) (ws : Spelled) (e : Edit) (rest : Spelled) → letters first ∷ ws ≡ edit_words e ++ rest → first ≡ edit_key e
-key_of_edit first ws e rest eq = same_key first (edit_key e) ws (drop 1 (edit_words e ++ rest)) (eq ∙ edit_begins e rest)
+pub key_of_edit : (first : Keyword) (ws : Spelled) (e : Edit) (rest : Spelled) → letters first ∷ ws ≡ edit_lexemes e ++ rest → first ≡ edit_key e
+key_of_edit first ws e rest eq = same_key first (edit_key e) ws (drop 1 (edit_lexemes e ++ rest)) (eq ∙ edit_begins e rest)
 
 -- no other edit begins with the keyword of a component, or of an item
 abbrev begins_component : Keyword → Bool
@@ -194,11 +190,11 @@ no_item_key : (k : ItemKeyword) (other : Keyword) → begins_item other ≡ fals
 no_item_key k other none same = false≢true (sym none ∙ ap begins_item (sym same) ∙ item_begins k)
 
 pub no_other_item : (k : ComponentKeyword) (i : Input)
-    → NoneOf (Sid × Component) (λ p. IsSid p.0 × IsComponent p.1) (λ p. edit_words (AddComponent p.0 p.1)) (behind (component_keyword k) i)
-    → NoneOf Edit (λ e. IsEdit e × Adds e) edit_words (behind (component_keyword k) i)
-no_other_item k i none (AddSub s) rest h eq = no_component_key k the.Sub refl (key_of_edit (component_keyword k) i.words (AddSub s) rest eq)
-no_other_item k i none (AddService sid) rest h eq = no_component_key k the.Service refl (key_of_edit (component_keyword k) i.words (AddService sid) rest eq)
-no_other_item k i none (AddPacket p) rest h eq = no_component_key k the.Packet refl (key_of_edit (component_keyword k) i.words (AddPacket p) rest eq)
+    → NoneOf (Sid × Component) (λ p. IsSid p.0 × IsComponent p.1) (λ p. edit_lexemes (AddComponent p.0 p.1)) (preceded_by (component_keyword k) i)
+    → NoneOf Edit (λ e. IsEdit e × Adds e) edit_lexemes (preceded_by (component_keyword k) i)
+no_other_item k i none (AddSub s) rest h eq = no_component_key k the.Sub refl (key_of_edit (component_keyword k) i.lexemes (AddSub s) rest eq)
+no_other_item k i none (AddService sid) rest h eq = no_component_key k the.Service refl (key_of_edit (component_keyword k) i.lexemes (AddService sid) rest eq)
+no_other_item k i none (AddPacket p) rest h eq = no_component_key k the.Packet refl (key_of_edit (component_keyword k) i.lexemes (AddPacket p) rest eq)
 no_other_item k i none (AddComponent sid m) rest h eq = none (sid, m) rest h.0 eq
 no_other_item k i none (DropSub id) rest h eq = absurd h.1
 no_other_item k i none (MoveSub id start) rest h eq = absurd h.1
@@ -207,20 +203,20 @@ no_other_item k i none (DropService sid) rest h eq = absurd h.1
 no_other_item k i none (DropComponent sid m) rest h eq = absurd h.1
 no_other_item k i none (DropPacket scid) rest h eq = absurd h.1
 
-pub no_item : (i : Input) → NoneOf Edit IsEdit edit_words i → NoneOf Edit (λ e. IsEdit e × Adds e) edit_words i
+pub no_item : (i : Input) → NoneOf Edit IsEdit edit_lexemes i → NoneOf Edit (λ e. IsEdit e × Adds e) edit_lexemes i
 no_item i none e rest h eq = none e rest h.0 eq
 
-pub no_other_edit : (k : ItemKeyword) (i : Input) → NoneOf Edit (λ e. IsEdit e × Adds e) edit_words (behind (item_keyword k) i) → NoneOf Edit IsEdit edit_words (behind (item_keyword k) i)
+pub no_other_edit : (k : ItemKeyword) (i : Input) → NoneOf Edit (λ e. IsEdit e × Adds e) edit_lexemes (preceded_by (item_keyword k) i) → NoneOf Edit IsEdit edit_lexemes (preceded_by (item_keyword k) i)
 no_other_edit k i none (AddSub s) rest h eq = none (AddSub s) rest (h, tt) eq
 no_other_edit k i none (AddService sid) rest h eq = none (AddService sid) rest (h, tt) eq
 no_other_edit k i none (AddPacket p) rest h eq = none (AddPacket p) rest (h, tt) eq
 no_other_edit k i none (AddComponent sid m) rest h eq = none (AddComponent sid m) rest (h, tt) eq
-no_other_edit k i none (DropSub id) rest h eq = no_item_key k the.Drop refl (key_of_edit (item_keyword k) i.words (DropSub id) rest eq)
-no_other_edit k i none (MoveSub id start) rest h eq = no_item_key k the.Move refl (key_of_edit (item_keyword k) i.words (MoveSub id start) rest eq)
-no_other_edit k i none (RateSub id kbits) rest h eq = no_item_key k the.Rate refl (key_of_edit (item_keyword k) i.words (RateSub id kbits) rest eq)
-no_other_edit k i none (DropService sid) rest h eq = no_item_key k the.Drop refl (key_of_edit (item_keyword k) i.words (DropService sid) rest eq)
-no_other_edit k i none (DropComponent sid m) rest h eq = no_item_key k the.Drop refl (key_of_edit (item_keyword k) i.words (DropComponent sid m) rest eq)
-no_other_edit k i none (DropPacket scid) rest h eq = no_item_key k the.Drop refl (key_of_edit (item_keyword k) i.words (DropPacket scid) rest eq)
+no_other_edit k i none (DropSub id) rest h eq = no_item_key k the.Drop refl (key_of_edit (item_keyword k) i.lexemes (DropSub id) rest eq)
+no_other_edit k i none (MoveSub id start) rest h eq = no_item_key k the.Move refl (key_of_edit (item_keyword k) i.lexemes (MoveSub id start) rest eq)
+no_other_edit k i none (RateSub id kbits) rest h eq = no_item_key k the.Rate refl (key_of_edit (item_keyword k) i.lexemes (RateSub id kbits) rest eq)
+no_other_edit k i none (DropService sid) rest h eq = no_item_key k the.Drop refl (key_of_edit (item_keyword k) i.lexemes (DropService sid) rest eq)
+no_other_edit k i none (DropComponent sid m) rest h eq = no_item_key k the.Drop refl (key_of_edit (item_keyword k) i.lexemes (DropComponent sid m) rest eq)
+no_other_edit k i none (DropPacket scid) rest h eq = no_item_key k the.Drop refl (key_of_edit (item_keyword k) i.lexemes (DropPacket scid) rest eq)
 
 -- ---- what follows `drop`
 
@@ -228,9 +224,9 @@ second : (a b : List ℕ) (x y : List ℕ) (vs ws : Spelled) → a ∷ x ∷ vs 
 second a b x y vs ws e = cc
 
 abbrev NoDropped : Spelled → Type 0
-NoDropped ws = (e : Edit) (rest : Spelled) → IsEdit e → letters the.Drop ∷ ws ≢ edit_words e ++ rest
+NoDropped ws = (e : Edit) (rest : Spelled) → IsEdit e → letters the.Drop ∷ ws ≢ edit_lexemes e ++ rest
 
-pub no_drop_service : (ws : Spelled) → ((s : Sid) (rest : Spelled) → IsSid s → ws ≢ sid_word s ∷ rest) → NoDropped (letters the.Service ∷ ws)
+pub no_drop_service : (ws : Spelled) → ((s : Sid) (rest : Spelled) → IsSid s → ws ≢ sid_text s ∷ rest) → NoDropped (letters the.Service ∷ ws)
 no_drop_service ws none (DropService sid) rest h eq = none sid rest h (rest_is _ _ _ _ (rest_is _ _ _ _ eq))
 no_drop_service ws none (DropSub id) rest h eq = let f = same_key the.Service the.Sub _ _ (rest_is _ _ _ _ eq) in absurd cc
 no_drop_service ws none (DropComponent sid m) rest h eq = let f = same_key the.Service the.Component _ _ (rest_is _ _ _ _ eq) in absurd cc
@@ -245,7 +241,7 @@ no_drop_service ws none (AddComponent sid (Stream ty sub)) rest h eq = let f = k
 no_drop_service ws none (AddComponent sid (InPackets scid)) rest h eq = let f = key_of_edit the.Drop _ (AddComponent sid (InPackets scid)) rest eq in absurd cc
 
 abbrev NoPlaced : Spelled → Type 0
-NoPlaced ws = (m : Carrier) (sid : Sid) (rest : Spelled) → IsCarrier m → IsSid sid → ws ≢ (carrier_words m ++ in_words sid) ++ rest
+NoPlaced ws = (m : Carrier) (sid : Sid) (rest : Spelled) → IsCarrier m → IsSid sid → ws ≢ (carrier_lexemes m ++ within_lexemes sid) ++ rest
 
 pub no_drop_component : (ws : Spelled) → NoPlaced ws → NoDropped (letters the.Component ∷ ws)
 no_drop_component ws none (DropComponent sid m) rest h eq = none m sid rest h.1 h.0 (rest_is _ _ _ _ (rest_is _ _ _ _ eq))
@@ -261,40 +257,40 @@ no_drop_component ws none (AddComponent sid (Sound ty sub)) rest h eq = let f = 
 no_drop_component ws none (AddComponent sid (Stream ty sub)) rest h eq = let f = key_of_edit the.Drop _ (AddComponent sid (Stream ty sub)) rest eq in absurd cc
 no_drop_component ws none (AddComponent sid (InPackets scid)) rest h eq = let f = key_of_edit the.Drop _ (AddComponent sid (InPackets scid)) rest eq in absurd cc
 
-pub no_drop_other : (words : Spelled) → NoneNext words the.Service → NoneNext words the.Component
-    → ((m : Carrier) (rest : Spelled) → IsCarrier m → words ≢ carrier_words m ++ rest) → NoDropped words
-no_drop_other words a b none (DropService sid) rest h eq = a (sid_word sid ∷ rest) (rest_is _ _ _ _ eq)
-no_drop_other words a b none (DropComponent sid m) rest h eq = b _ (rest_is _ _ _ _ eq)
-no_drop_other words a b none (DropSub id) rest h eq = none (BySub id) rest h (rest_is _ _ _ _ eq)
-no_drop_other words a b none (DropPacket scid) rest h eq = none (ByPacket scid) rest h (rest_is _ _ _ _ eq)
-no_drop_other words a b none (AddSub s) rest h eq = let f = key_of_edit the.Drop _ (AddSub s) rest eq in absurd cc
-no_drop_other words a b none (AddService sid) rest h eq = let f = key_of_edit the.Drop _ (AddService sid) rest eq in absurd cc
-no_drop_other words a b none (AddPacket p) rest h eq = let f = key_of_edit the.Drop _ (AddPacket p) rest eq in absurd cc
-no_drop_other words a b none (MoveSub id start) rest h eq = let f = key_of_edit the.Drop _ (MoveSub id start) rest eq in absurd cc
-no_drop_other words a b none (RateSub id kbits) rest h eq = let f = key_of_edit the.Drop _ (RateSub id kbits) rest eq in absurd cc
-no_drop_other words a b none (AddComponent sid (Sound ty sub)) rest h eq = let f = key_of_edit the.Drop _ (AddComponent sid (Sound ty sub)) rest eq in absurd cc
-no_drop_other words a b none (AddComponent sid (Stream ty sub)) rest h eq = let f = key_of_edit the.Drop _ (AddComponent sid (Stream ty sub)) rest eq in absurd cc
-no_drop_other words a b none (AddComponent sid (InPackets scid)) rest h eq = let f = key_of_edit the.Drop _ (AddComponent sid (InPackets scid)) rest eq in absurd cc
+pub no_drop_other : (lexemes : Spelled) → NoneNext lexemes the.Service → NoneNext lexemes the.Component
+    → ((m : Carrier) (rest : Spelled) → IsCarrier m → lexemes ≢ carrier_lexemes m ++ rest) → NoDropped lexemes
+no_drop_other lexemes a b none (DropService sid) rest h eq = a (sid_text sid ∷ rest) (rest_is _ _ _ _ eq)
+no_drop_other lexemes a b none (DropComponent sid m) rest h eq = b _ (rest_is _ _ _ _ eq)
+no_drop_other lexemes a b none (DropSub id) rest h eq = none (BySub id) rest h (rest_is _ _ _ _ eq)
+no_drop_other lexemes a b none (DropPacket scid) rest h eq = none (ByPacket scid) rest h (rest_is _ _ _ _ eq)
+no_drop_other lexemes a b none (AddSub s) rest h eq = let f = key_of_edit the.Drop _ (AddSub s) rest eq in absurd cc
+no_drop_other lexemes a b none (AddService sid) rest h eq = let f = key_of_edit the.Drop _ (AddService sid) rest eq in absurd cc
+no_drop_other lexemes a b none (AddPacket p) rest h eq = let f = key_of_edit the.Drop _ (AddPacket p) rest eq in absurd cc
+no_drop_other lexemes a b none (MoveSub id start) rest h eq = let f = key_of_edit the.Drop _ (MoveSub id start) rest eq in absurd cc
+no_drop_other lexemes a b none (RateSub id kbits) rest h eq = let f = key_of_edit the.Drop _ (RateSub id kbits) rest eq in absurd cc
+no_drop_other lexemes a b none (AddComponent sid (Sound ty sub)) rest h eq = let f = key_of_edit the.Drop _ (AddComponent sid (Sound ty sub)) rest eq in absurd cc
+no_drop_other lexemes a b none (AddComponent sid (Stream ty sub)) rest h eq = let f = key_of_edit the.Drop _ (AddComponent sid (Stream ty sub)) rest eq in absurd cc
+no_drop_other lexemes a b none (AddComponent sid (InPackets scid)) rest h eq = let f = key_of_edit the.Drop _ (AddComponent sid (InPackets scid)) rest eq in absurd cc
 
--- the carrier is none, or where it is carried
-pub no_carried_by : (ws : Spelled) → ((m : Carrier) (rest : Spelled) → IsCarrier m → ws ≢ carrier_words m ++ rest) → NoPlaced ws
-no_carried_by ws none m sid rest h k eq = none m (in_words sid ++ rest) h (eq ∙ append_assoc (carrier_words m) (in_words sid) rest)
+-- where the carrier or the service is refused, no component is dropped
+pub no_carried_by : (ws : Spelled) → ((m : Carrier) (rest : Spelled) → IsCarrier m → ws ≢ carrier_lexemes m ++ rest) → NoPlaced ws
+no_carried_by ws none m sid rest h k eq = none m (within_lexemes sid ++ rest) h (eq ∙ append_assoc (carrier_lexemes m) (within_lexemes sid) rest)
 
-pub no_dropped_place : (i j : Input) (n : Carrier) → IsCarrier n → Passes (carrier_words n) i j → NoneOf Sid IsSid in_words j → NoPlaced i.words
+pub no_dropped_place : (i j : Input) (n : Carrier) → IsCarrier n → Passes (carrier_lexemes n) i j → NoneOf Sid IsSid within_lexemes j → NoPlaced i.lexemes
 no_dropped_place i j n good p none m sid rest h k eq =
-    none sid rest k ((same_carrier n m j.words (in_words sid ++ rest) good h (sym p.0 ∙ eq ∙ append_assoc (carrier_words m) (in_words sid) rest)).rest)
+    none sid rest k ((same_carrier n m j.lexemes (within_lexemes sid ++ rest) good h (sym p.0 ∙ eq ∙ append_assoc (carrier_lexemes m) (within_lexemes sid) rest)).rest)
 
 -- ---- statements without a block
 
-act_is : (k : Keyword) (ws : Spelled) (a : Act) (rest : Spelled) → IsAct a → letters k ∷ ws ≡ act_words a ++ rest → act_by (is k) (letters k ∷ ws) ≡ (a, rest)
+act_is : (k : Keyword) (ws : Spelled) (a : Act) (rest : Spelled) → IsAct a → letters k ∷ ws ≡ act_lexemes a ++ rest → act_by (is k) (letters k ∷ ws) ≡ (a, rest)
 act_is k ws a rest h eq = ap (λ w. act_by w (letters k ∷ ws)) (sym (word_the k)) ∙ ap act_in eq ∙ act_again a rest h
 
 record IsRan (ws : Spelled) (a : Act) (rest : Spelled) : Type 0 where
   pub formed : IsAct a
-  pub spelled : ws ≡ act_words a ++ rest
+  pub spelled : ws ≡ act_lexemes a ++ rest
 
-ran : (ws : Spelled) (x a : Act) (rest : Spelled) → x ≡ a → IsAct a → ws ≡ act_words a ++ rest → IsRan ws x rest
-ran ws x a rest same h eq = record { formed = subst IsAct (sym same) h; spelled = subst (λ (y : Act). ws ≡ act_words y ++ rest) (sym same) eq }
+ran : (ws : Spelled) (x a : Act) (rest : Spelled) → x ≡ a → IsAct a → ws ≡ act_lexemes a ++ rest → IsRan ws x rest
+ran ws x a rest same h eq = record { formed = subst IsAct (sym same) h; spelled = subst (λ (y : Act). ws ≡ act_lexemes y ++ rest) (sym same) eq }
 
 abbrev pub act_key : Act → Keyword
 act_key (Edits e) = edit_key e
@@ -306,7 +302,7 @@ act_key (CommitAt count) = the.Commit
 act_key Join = the.Join
 act_key Settle = the.Settle
 
-pub act_begins : (a : Act) (rest : Spelled) → act_words a ++ rest ≡ letters (act_key a) ∷ drop 1 (act_words a ++ rest)
+pub act_begins : (a : Act) (rest : Spelled) → act_lexemes a ++ rest ≡ letters (act_key a) ∷ drop 1 (act_lexemes a ++ rest)
 act_begins (Edits e) rest = edit_begins e rest
 act_begins (Wait frames) rest = refl
 act_begins (WaitContact contact closed) rest = refl
@@ -316,10 +312,10 @@ act_begins (CommitAt count) rest = refl
 act_begins Join rest = refl
 act_begins Settle rest = refl
 
-pub key_of_act : (first : Keyword) (ws : Spelled) (a : Act) (rest : Spelled) → letters first ∷ ws ≡ act_words a ++ rest → first ≡ act_key a
-key_of_act first ws a rest eq = same_key first (act_key a) ws (drop 1 (act_words a ++ rest)) (eq ∙ act_begins a rest)
+pub key_of_act : (first : Keyword) (ws : Spelled) (a : Act) (rest : Spelled) → letters first ∷ ws ≡ act_lexemes a ++ rest → first ≡ act_key a
+key_of_act first ws a rest eq = same_key first (act_key a) ws (drop 1 (act_lexemes a ++ rest)) (eq ∙ act_begins a rest)
 
--- the keywords with which an edit begins
+-- the keywords that begin an edit
 abbrev pub begins_edit : Keyword → Bool
 begins_edit the.Sub = true
 begins_edit the.Drop = true
@@ -350,16 +346,16 @@ pub no_edit : (k : Keyword) (e : Edit) → begins_edit k ≡ false → k ≡ edi
 no_edit k e other same = false≢true (sym other ∙ ap begins_edit same ∙ edit_key_begins e)
 
 abbrev pub NoAct : Keyword → Spelled → Type 0
-NoAct k ws = (a : Act) (rest : Spelled) → IsAct a → letters k ∷ ws ≢ act_words a ++ rest
+NoAct k ws = (a : Act) (rest : Spelled) → IsAct a → letters k ∷ ws ≢ act_lexemes a ++ rest
 
-pub no_until : (ws : Spelled) → ((t : ℕ) (rest : Spelled) → t < 86400 → ws ≢ time_word t ∷ rest) → NoAct the.Until ws
+pub no_until : (ws : Spelled) → ((t : ℕ) (rest : Spelled) → t < 86400 → ws ≢ time_text t ∷ rest) → NoAct the.Until ws
 no_until ws none a rest h eq = let s = ran (letters the.Until ∷ ws) _ a rest (ap (λ p. p.0) (act_is the.Until ws a rest h eq)) h eq in none _ rest s.formed (rest_is _ _ _ _ s.spelled)
 
-waits_is : (k : Keyword) (ws : Spelled) (a : Act) (rest : Spelled) → IsAct a → letters the.Wait ∷ letters k ∷ ws ≡ act_words a ++ rest → wait_by (is k) (letters the.Wait ∷ letters k ∷ ws) ≡ (a, rest)
+waits_is : (k : Keyword) (ws : Spelled) (a : Act) (rest : Spelled) → IsAct a → letters the.Wait ∷ letters k ∷ ws ≡ act_lexemes a ++ rest → wait_by (is k) (letters the.Wait ∷ letters k ∷ ws) ≡ (a, rest)
 waits_is k ws a rest h eq = ap (λ w. wait_by w (letters the.Wait ∷ letters k ∷ ws)) (sym (word_the k)) ∙ act_is the.Wait (letters k ∷ ws) a rest h eq
 
 abbrev pub NoLevel : Spelled → Type 0
-NoLevel ws = (contact : ℕ) (closed : Bool) (rest : Spelled) → contact < 16 → ws ≢ decimal contact ∷ level_word closed ∷ rest
+NoLevel ws = (contact : ℕ) (closed : Bool) (rest : Spelled) → contact < 16 → ws ≢ decimal contact ∷ level_text closed ∷ rest
 
 pub no_wait_contact : (ws : Spelled) → NoLevel ws → NoAct the.Wait (letters the.Contact ∷ ws)
 no_wait_contact ws none a rest h eq =
@@ -376,7 +372,7 @@ no_wait ws other none (CommitAt count) rest h eq = let f = key_of_act the.Wait w
 no_wait ws other none Join rest h eq = let f = key_of_act the.Wait ws Join rest eq in absurd cc
 no_wait ws other none Settle rest h eq = let f = key_of_act the.Wait ws Settle rest eq in absurd cc
 
-commits_is : (k : Keyword) (ws : Spelled) (a : Act) (rest : Spelled) → IsAct a → letters the.Commit ∷ letters k ∷ ws ≡ act_words a ++ rest → commit_by (is k) (letters the.Commit ∷ letters k ∷ ws) ≡ (a, rest)
+commits_is : (k : Keyword) (ws : Spelled) (a : Act) (rest : Spelled) → IsAct a → letters the.Commit ∷ letters k ∷ ws ≡ act_lexemes a ++ rest → commit_by (is k) (letters the.Commit ∷ letters k ∷ ws) ≡ (a, rest)
 commits_is k ws a rest h eq = ap (λ w. commit_by w (letters the.Commit ∷ letters k ∷ ws)) (sym (word_the k)) ∙ act_is the.Commit (letters k ∷ ws) a rest h eq
 
 pub no_commit_in : (ws : Spelled) → ((n : ℕ) (rest : Spelled) → 1 ≤ n → n ≤ 60000 → ws ≢ decimal n ∷ rest) → NoAct the.Commit (letters the.In ∷ ws)
@@ -389,16 +385,16 @@ no_commit_at ws none a rest h eq =
     let s = ran (letters the.Commit ∷ letters the.At ∷ ws) _ a rest (ap (λ p. p.0) (commits_is the.At ws a rest h eq)) h eq in
     none _ rest s.formed (rest_is _ _ _ _ (rest_is _ _ _ _ s.spelled))
 
--- words behind `commit` that begin neither way
-pub no_commit : (words : Spelled) → ((rest : Spelled) → words ≢ letters the.In ∷ rest) → ((rest : Spelled) → words ≢ letters the.At ∷ rest) → NoAct the.Commit words
-no_commit words x y (CommitIn delay) rest h eq = x _ (rest_is _ _ _ _ eq)
-no_commit words x y (CommitAt count) rest h eq = y _ (rest_is _ _ _ _ eq)
-no_commit words x y (Edits e) rest h eq = no_edit the.Commit e refl (key_of_act the.Commit words (Edits e) rest eq)
-no_commit words x y (Wait frames) rest h eq = let g = key_of_act the.Commit words (Wait frames) rest eq in absurd cc
-no_commit words x y (WaitContact contact closed) rest h eq = let g = key_of_act the.Commit words (WaitContact contact closed) rest eq in absurd cc
-no_commit words x y (Until second) rest h eq = let g = key_of_act the.Commit words (Until second) rest eq in absurd cc
-no_commit words x y Join rest h eq = let g = key_of_act the.Commit words Join rest eq in absurd cc
-no_commit words x y Settle rest h eq = let g = key_of_act the.Commit words Settle rest eq in absurd cc
+-- the tokens after `commit` begin with neither `in` nor `at`
+pub no_commit : (lexemes : Spelled) → ((rest : Spelled) → lexemes ≢ letters the.In ∷ rest) → ((rest : Spelled) → lexemes ≢ letters the.At ∷ rest) → NoAct the.Commit lexemes
+no_commit lexemes x y (CommitIn delay) rest h eq = x _ (rest_is _ _ _ _ eq)
+no_commit lexemes x y (CommitAt count) rest h eq = y _ (rest_is _ _ _ _ eq)
+no_commit lexemes x y (Edits e) rest h eq = no_edit the.Commit e refl (key_of_act the.Commit lexemes (Edits e) rest eq)
+no_commit lexemes x y (Wait frames) rest h eq = let g = key_of_act the.Commit lexemes (Wait frames) rest eq in absurd cc
+no_commit lexemes x y (WaitContact contact closed) rest h eq = let g = key_of_act the.Commit lexemes (WaitContact contact closed) rest eq in absurd cc
+no_commit lexemes x y (Until second) rest h eq = let g = key_of_act the.Commit lexemes (Until second) rest eq in absurd cc
+no_commit lexemes x y Join rest h eq = let g = key_of_act the.Commit lexemes Join rest eq in absurd cc
+no_commit lexemes x y Settle rest h eq = let g = key_of_act the.Commit lexemes Settle rest eq in absurd cc
 
 begins_as_edit : (k : EditKeyword) → begins_edit (edit_keyword k) ≡ true
 begins_as_edit edit.Drop = refl
@@ -414,7 +410,7 @@ begins_as_edit (edit.Item (item.Component component.Carry)) = refl
 no_edit_key : (k : EditKeyword) (other : Keyword) → begins_edit other ≡ false → edit_keyword k ≡ other → ⊥
 no_edit_key k other none same = false≢true (sym none ∙ ap begins_edit (sym same) ∙ begins_as_edit k)
 
-pub no_other_act : (k : EditKeyword) (ws : Spelled) → ((e : Edit) (rest : Spelled) → IsEdit e → letters (edit_keyword k) ∷ ws ≢ edit_words e ++ rest) → NoAct (edit_keyword k) ws
+pub no_other_act : (k : EditKeyword) (ws : Spelled) → ((e : Edit) (rest : Spelled) → IsEdit e → letters (edit_keyword k) ∷ ws ≢ edit_lexemes e ++ rest) → NoAct (edit_keyword k) ws
 no_other_act k ws none (Edits e) rest h eq = none e rest h eq
 no_other_act k ws none (Wait frames) rest h eq = no_edit_key k the.Wait refl (key_of_act (edit_keyword k) ws (Wait frames) rest eq)
 no_other_act k ws none (WaitContact contact closed) rest h eq = no_edit_key k the.Wait refl (key_of_act (edit_keyword k) ws (WaitContact contact closed) rest eq)
@@ -426,63 +422,63 @@ no_other_act k ws none Settle rest h eq = no_edit_key k the.Settle refl (key_of_
 
 -- ---- modes
 
-two_words : (m : Mode) → m ≢ I → length (mode_words m) ≡ 2
+two_words : (m : Mode) → m ≢ I → length (mode_lexemes m) ≡ 2
 two_words I some = absurd (some refl)
 two_words II some = refl
 two_words III some = refl
 two_words IV some = refl
 
-pub no_mode : (i : Input) (words : Spelled) → NoneOf Mode (λ m. m ≢ I) mode_words (behind the.Mode i) → words ≡ letters the.Mode ∷ i.words
-    → (m : Mode) (rest : Spelled) → words ≡ (mode_words m ++ letters the.Period ∷ []) ++ rest → ⊥
-no_mode i words none p I rest e = let f = same_key the.Mode the.Period _ _ (sym p ∙ e) in absurd cc
-no_mode i words none p II rest e = none II (letters the.Period ∷ rest) (λ f. cc) (sym p ∙ e)
-no_mode i words none p III rest e = none III (letters the.Period ∷ rest) (λ f. cc) (sym p ∙ e)
-no_mode i words none p IV rest e = none IV (letters the.Period ∷ rest) (λ f. cc) (sym p ∙ e)
+pub no_mode : (i : Input) (lexemes : Spelled) → NoneOf Mode (λ m. m ≢ I) mode_lexemes (preceded_by the.Mode i) → lexemes ≡ letters the.Mode ∷ i.lexemes
+    → (m : Mode) (rest : Spelled) → lexemes ≡ (mode_lexemes m ++ letters the.Period ∷ []) ++ rest → ⊥
+no_mode i lexemes none p I rest e = let f = same_key the.Mode the.Period _ _ (sym p ∙ e) in absurd cc
+no_mode i lexemes none p II rest e = none II (letters the.Period ∷ rest) (λ f. cc) (sym p ∙ e)
+no_mode i lexemes none p III rest e = none III (letters the.Period ∷ rest) (λ f. cc) (sym p ∙ e)
+no_mode i lexemes none p IV rest e = none IV (letters the.Period ∷ rest) (λ f. cc) (sym p ∙ e)
 
-pub later_only : (i j : Input) (words : Spelled) (n : Mode) → n ≢ I → Passes (mode_words n) (behind the.Mode i) j → words ≡ letters the.Mode ∷ i.words
-    → (m : Mode) (rest : Spelled) → words ≡ mode_words m ++ letters the.Period ∷ rest → j.words ≡ letters the.Period ∷ rest
-later_only i j words n some p begins I rest e = let f = same_key the.Mode the.Period _ _ (sym begins ∙ e) in absurd cc
-later_only i j words n some p begins II rest e = left_over (mode_words n) (mode_words II) (behind the.Mode i) j (letters the.Period ∷ rest) (two_words n some) p (sym begins ∙ e)
-later_only i j words n some p begins III rest e = left_over (mode_words n) (mode_words III) (behind the.Mode i) j (letters the.Period ∷ rest) (two_words n some) p (sym begins ∙ e)
-later_only i j words n some p begins IV rest e = left_over (mode_words n) (mode_words IV) (behind the.Mode i) j (letters the.Period ∷ rest) (two_words n some) p (sym begins ∙ e)
+pub later_only : (i j : Input) (lexemes : Spelled) (n : Mode) → n ≢ I → Passes (mode_lexemes n) (preceded_by the.Mode i) j → lexemes ≡ letters the.Mode ∷ i.lexemes
+    → (m : Mode) (rest : Spelled) → lexemes ≡ mode_lexemes m ++ letters the.Period ∷ rest → j.lexemes ≡ letters the.Period ∷ rest
+later_only i j lexemes n some p begins I rest e = let f = same_key the.Mode the.Period _ _ (sym begins ∙ e) in absurd cc
+later_only i j lexemes n some p begins II rest e = left_over (mode_lexemes n) (mode_lexemes II) (preceded_by the.Mode i) j (letters the.Period ∷ rest) (two_words n some) p (sym begins ∙ e)
+later_only i j lexemes n some p begins III rest e = left_over (mode_lexemes n) (mode_lexemes III) (preceded_by the.Mode i) j (letters the.Period ∷ rest) (two_words n some) p (sym begins ∙ e)
+later_only i j lexemes n some p begins IV rest e = left_over (mode_lexemes n) (mode_lexemes IV) (preceded_by the.Mode i) j (letters the.Period ∷ rest) (two_words n some) p (sym begins ∙ e)
 
-pub first_only : (words : Spelled) → ((rest : Spelled) → words ≢ letters the.Mode ∷ rest) → (m : Mode) (rest : Spelled) → words ≡ mode_words m ++ letters the.Period ∷ rest → words ≡ letters the.Period ∷ rest
-first_only words other I rest e = e
-first_only words other II rest e = absurd (other _ e)
-first_only words other III rest e = absurd (other _ e)
-first_only words other IV rest e = absurd (other _ e)
+pub first_only : (lexemes : Spelled) → ((rest : Spelled) → lexemes ≢ letters the.Mode ∷ rest) → (m : Mode) (rest : Spelled) → lexemes ≡ mode_lexemes m ++ letters the.Period ∷ rest → lexemes ≡ letters the.Period ∷ rest
+first_only lexemes other I rest e = e
+first_only lexemes other II rest e = absurd (other _ e)
+first_only lexemes other III rest e = absurd (other _ e)
+first_only lexemes other IV rest e = absurd (other _ e)
 
--- behind the EId of a header
+-- the tokens of a header after its EId and mode
 abbrev pub limits_words : Header → Spelled → Spelled
 limits_words h rest = letters the.Period ∷ decimal h.period ∷ letters the.Notice ∷ decimal h.notice ∷ letters the.Budget ∷ decimal h.budget ∷ rest
 
-pub mode_front : (words : Spelled) (h : Header) (rest : Spelled) → words ≡ (mode_words h.mode ++ limits_words h []) ++ rest → words ≡ mode_words h.mode ++ limits_words h rest
-mode_front words h rest e = e ∙ append_assoc (mode_words h.mode) (limits_words h []) rest
+pub mode_front : (lexemes : Spelled) (h : Header) (rest : Spelled) → lexemes ≡ (mode_lexemes h.mode ++ limits_words h []) ++ rest → lexemes ≡ mode_lexemes h.mode ++ limits_words h rest
+mode_front lexemes h rest e = e ∙ append_assoc (mode_lexemes h.mode) (limits_words h []) rest
 
-pub mode_alone : (words : Spelled) (h : Header) (rest : Spelled) → words ≡ (mode_words h.mode ++ limits_words h []) ++ rest → words ≡ (mode_words h.mode ++ letters the.Period ∷ []) ++ drop 1 (limits_words h rest)
-mode_alone words h rest e = mode_front words h rest e ∙ sym (append_assoc (mode_words h.mode) (letters the.Period ∷ []) (drop 1 (limits_words h rest)))
+pub mode_alone : (lexemes : Spelled) (h : Header) (rest : Spelled) → lexemes ≡ (mode_lexemes h.mode ++ limits_words h []) ++ rest → lexemes ≡ (mode_lexemes h.mode ++ letters the.Period ∷ []) ++ drop 1 (limits_words h rest)
+mode_alone lexemes h rest e = mode_front lexemes h rest e ∙ sym (append_assoc (mode_lexemes h.mode) (letters the.Period ∷ []) (drop 1 (limits_words h rest)))
 
--- ---- where a call's answer is handed on
+-- ---- where the result of a call is returned
 
 -- the same first keyword
-pub behind_same : (A : Type 0) (In : A → Type 0) (words : A → Spelled) (i : Input) (j k : Keyword) → j ≡ k → NoneOf A In words (behind k i) → NoneOf A In words (behind j i)
-behind_same A In words i j k same none a rest h eq = none a rest h (ap (λ x. letters x ∷ i.words) (sym same) ∙ eq)
+pub behind_same : (A : Type 0) (In : A → Type 0) (lexemes : A → Spelled) (i : Input) (j k : Keyword) → j ≡ k → NoneOf A In lexemes (preceded_by k i) → NoneOf A In lexemes (preceded_by j i)
+behind_same A In lexemes i j k same none a rest h eq = none a rest h (ap (λ x. letters x ∷ i.lexemes) (sym same) ∙ eq)
 
-pub no_move_at : (first : EditKeyword) (i : Input) → first ≡ edit.Move → NoneOf (ℕ × ℕ) (λ p. (p.0 < 64) × (p.1 < 1024)) (λ p. edit_words (MoveSub p.0 p.1)) (behind the.Move i) → NoneOf Edit IsEdit edit_words (behind (edit_keyword first) i)
-no_move_at first i same none = behind_same Edit IsEdit edit_words i (edit_keyword first) the.Move (ap edit_keyword same) (no_move i none)
+pub no_move_at : (first : EditKeyword) (i : Input) → first ≡ edit.Move → NoneOf (ℕ × ℕ) (λ p. (p.0 < 64) × (p.1 < 1024)) (λ p. edit_lexemes (MoveSub p.0 p.1)) (preceded_by the.Move i) → NoneOf Edit IsEdit edit_lexemes (preceded_by (edit_keyword first) i)
+no_move_at first i same none = behind_same Edit IsEdit edit_lexemes i (edit_keyword first) the.Move (ap edit_keyword same) (no_move i none)
 
-pub no_rate_at : (first : EditKeyword) (i : Input) → first ≡ edit.Rate → NoneOf (ℕ × ℕ) (λ p. (p.0 < 64) × (p.1 < 65536)) (λ p. edit_words (RateSub p.0 p.1)) (behind the.Rate i) → NoneOf Edit IsEdit edit_words (behind (edit_keyword first) i)
-no_rate_at first i same none = behind_same Edit IsEdit edit_words i (edit_keyword first) the.Rate (ap edit_keyword same) (no_rate i none)
+pub no_rate_at : (first : EditKeyword) (i : Input) → first ≡ edit.Rate → NoneOf (ℕ × ℕ) (λ p. (p.0 < 64) × (p.1 < 65536)) (λ p. edit_lexemes (RateSub p.0 p.1)) (preceded_by the.Rate i) → NoneOf Edit IsEdit edit_lexemes (preceded_by (edit_keyword first) i)
+no_rate_at first i same none = behind_same Edit IsEdit edit_lexemes i (edit_keyword first) the.Rate (ap edit_keyword same) (no_rate i none)
 
 pub no_other_item_at : (first : ItemKeyword) (k : ComponentKeyword) (i : Input) → first ≡ item.Component k
-    → NoneOf (Sid × Component) (λ p. IsSid p.0 × IsComponent p.1) (λ p. edit_words (AddComponent p.0 p.1)) (behind (component_keyword k) i)
-    → NoneOf Edit (λ e. IsEdit e × Adds e) edit_words (behind (item_keyword first) i)
-no_other_item_at first k i same none = behind_same Edit (λ e. IsEdit e × Adds e) edit_words i (item_keyword first) (component_keyword k) (ap item_keyword same) (no_other_item k i none)
+    → NoneOf (Sid × Component) (λ p. IsSid p.0 × IsComponent p.1) (λ p. edit_lexemes (AddComponent p.0 p.1)) (preceded_by (component_keyword k) i)
+    → NoneOf Edit (λ e. IsEdit e × Adds e) edit_lexemes (preceded_by (item_keyword first) i)
+no_other_item_at first k i same none = behind_same Edit (λ e. IsEdit e × Adds e) edit_lexemes i (item_keyword first) (component_keyword k) (ap item_keyword same) (no_other_item k i none)
 
-pub no_other_edit_at : (first : EditKeyword) (k : ItemKeyword) (i : Input) → first ≡ edit.Item k → NoneOf Edit (λ e. IsEdit e × Adds e) edit_words (behind (item_keyword k) i)
-    → NoneOf Edit IsEdit edit_words (behind (edit_keyword first) i)
-no_other_edit_at first k i same none = behind_same Edit IsEdit edit_words i (edit_keyword first) (item_keyword k) (ap edit_keyword same) (no_other_edit k i none)
+pub no_other_edit_at : (first : EditKeyword) (k : ItemKeyword) (i : Input) → first ≡ edit.Item k → NoneOf Edit (λ e. IsEdit e × Adds e) edit_lexemes (preceded_by (item_keyword k) i)
+    → NoneOf Edit IsEdit edit_lexemes (preceded_by (edit_keyword first) i)
+no_other_edit_at first k i same none = behind_same Edit IsEdit edit_lexemes i (edit_keyword first) (item_keyword k) (ap edit_keyword same) (no_other_edit k i none)
 
-pub no_other_act_at : (first : ActKeyword) (k : EditKeyword) (i : Input) → first ≡ act.Edit k → NoneOf Edit IsEdit edit_words (behind (edit_keyword k) i)
-    → NoneOf Act IsAct act_words (behind (act_keyword first) i)
-no_other_act_at first k i same none = behind_same Act IsAct act_words i (act_keyword first) (edit_keyword k) (ap act_keyword same) (no_other_act k i.words none)
+pub no_other_act_at : (first : ActKeyword) (k : EditKeyword) (i : Input) → first ≡ act.Edit k → NoneOf Edit IsEdit edit_lexemes (preceded_by (edit_keyword k) i)
+    → NoneOf Act IsAct act_lexemes (preceded_by (act_keyword first) i)
+no_other_act_at first k i same none = behind_same Act IsAct act_lexemes i (act_keyword first) (edit_keyword k) (ap act_keyword same) (no_other_act k i.lexemes none)

@@ -1,17 +1,17 @@
--- Short scripts: which have the same tokens, and which have not.
+-- Short scripts that have the same tokens, and some that have not.
 use Rattle.std.proofs.Common.{◌≡◌, ◌≢◌, ℕ, ◌≤◌, List, [], refl, sym, ap, ◌∙◌, arith}
 use Rattle.fib_codec.specs.declared.modes.Mode.TheVariants.{I}
 use Rattle.script_front.specs.declared.tree.Act.TheVariants.{Wait}
 use Rattle.script_front.specs.declared.tree.Header.{Header}
 use Rattle.script_front.specs.Block.{nothing, basic, block_of}
 use Rattle.script_front.specs.Tree.{Tree, IsHeader, IsScript}
-use Rattle.script_front.specs.Spelled.{tree_words}
+use Rattle.script_front.specs.Spelled.{tree_lexemes}
 use Rattle.script_front.specs.Alike.{unlined}
 use Rattle.script_front.specs.Denoting.{IsScriptOf}
 use Rattle.script_front.proofs.Alike.{scripts_alike}
 use Rattle.script_front.proofs.OneScript.{one_script}
 
--- `ensemble E1C5 period 4 notice 24 budget 20 begin`, where the period and the line of `begin` are these
+-- `ensemble E1C5 period 4 notice 24 budget 20 begin`, with this period and `begin` on this line
 abbrev brief : (period line : ℕ) → Tree
 brief period line = record {
   header = record { eid = 57797; mode = I; period = period; notice = 24; budget = 20 };
@@ -47,24 +47,24 @@ brief_is period line low high = record {
   few = omega arith;
 }
 
--- lines are no part of the tokens
-on_other_lines : tree_words (brief 4 2) ≡ tree_words (brief 4 3)
+-- lines do not change the tokens
+on_other_lines : tree_lexemes (brief 4 2) ≡ tree_lexemes (brief 4 3)
 on_other_lines = refl
 
--- another period is
-of_other_periods : tree_words (brief 4 2) ≢ tree_words (brief 5 2)
+-- another period does
+of_other_periods : tree_lexemes (brief 4 2) ≢ tree_lexemes (brief 5 2)
 of_other_periods e =
     let a = scripts_alike (brief 4 2) (brief 5 2) (brief_is 4 2 (omega arith) (omega arith)) (brief_is 5 2 (omega arith) (omega arith)) e in
     let p : 4 ≡ 5 = ap (λ (h : Header). h.period) a.header in omega (arith, p)
 
--- so is another wait
-of_other_waits : (s t : Tree) → IsScript s → IsScript t → block_of [] s.statements ≡ basic 3 (Wait 1) nothing → block_of [] t.statements ≡ basic 3 (Wait 2) nothing → tree_words s ≢ tree_words t
+-- and so does another wait
+of_other_waits : (s t : Tree) → IsScript s → IsScript t → block_of [] s.statements ≡ basic 3 (Wait 1) nothing → block_of [] t.statements ≡ basic 3 (Wait 2) nothing → tree_lexemes s ≢ tree_lexemes t
 of_other_waits s t x y one two e =
     let a = scripts_alike s t x y e in
     let same : basic 0 (Wait 1) nothing ≡ basic 0 (Wait 2) nothing = ap unlined (sym one) ∙ a.statements ∙ ap unlined two in
     absurd cc
 
--- no text is that of the same script on other lines
+-- no text is that of the same script on two different lines
 on_one_line : (text : List ℕ) → IsScriptOf text (brief 4 2) → IsScriptOf text (brief 4 3) → ⊥
 on_one_line text d e =
     let a = one_script text (brief 4 2) (brief 4 3) (brief_is 4 2 (omega arith) (omega arith)) (brief_is 4 3 (omega arith) (omega arith)) d e in

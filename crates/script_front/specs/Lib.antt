@@ -12,4 +12,4 @@ pub use Rattle.script_tokens.specs.Reading
 pub use Rattle.script_tokens.specs.Spelling
 pub use Rattle.script_tokens.specs.Texts
 pub use Rattle.script_tokens.specs.Times
-pub use Rattle.script_tokens.specs.Words
+pub use Rattle.script_tokens.specs.Keywords

@@ -1,41 +1,41 @@
--- How a script is printed: in lines of words, each behind its indentation, with one blank between two words.
+-- The layout of a printed script: lines of tokens, indented, with one space between two tokens.
 use Rattle.std.specs.Prelude.{◌≡◌, ℕ, zero, suc, ◌+◌, List, [], ◌∷◌, ◌++◌}
 use Rattle.std.specs.Fmt.{decimal}
 use Rattle.script_front.specs.declared.tree.Header.{Header}
 use Rattle.script_front.specs.declared.tree.Item.{Item}
 use Rattle.script_front.specs.declared.tree.Statement.{Statement}
 use Rattle.script_tokens.specs.declared.keyword.Keyword.TheVariants as the
-use Rattle.script_tokens.specs.Words.{letters}
-use Rattle.script_tokens.specs.Spelling.{hex_word}
+use Rattle.script_tokens.specs.Keywords.{letters}
+use Rattle.script_tokens.specs.Spelling.{hex_text}
 use Rattle.script_front.specs.Block.{Block, Before, nothing, basic, stop, when, either, repeat, forever, apply, block_of}
 use Rattle.script_front.specs.Tree.{Tree}
-use Rattle.script_front.specs.Spelled.{edit_words, act_words, name_at, mode_words}
+use Rattle.script_front.specs.Spelled.{edit_lexemes, act_lexemes, name_at, mode_lexemes}
 use Rattle.script_tokens.specs.Reading.{Spelled}
 
--- the words of a line, and how many braces it is in
+-- the tokens of a line, and the number of braces around it
 pub record Line : Type 0 where
   pub depth : ℕ
-  pub words : Spelled
+  pub lexemes : Spelled
 
 abbrev pub line : ℕ → Spelled → Line
-line depth words = record { depth = depth; words = words }
+line depth lexemes = record { depth = depth; lexemes = lexemes }
 
--- two blanks for each depth
+-- two spaces for each level
 abbrev pub indent : ℕ → List ℕ
 indent zero = []
 indent (suc d) = 32 ∷ 32 ∷ indent d
 
-abbrev pub each_behind : Spelled → List ℕ
-each_behind [] = []
-each_behind (w ∷ ws) = 32 ∷ (w ++ each_behind ws)
+abbrev pub each_after : Spelled → List ℕ
+each_after [] = []
+each_after (w ∷ ws) = 32 ∷ (w ++ each_after ws)
 
--- words with a blank between each two
+-- tokens with a space between each two
 abbrev pub spaced : Spelled → List ℕ
 spaced [] = []
-spaced (w ∷ ws) = w ++ each_behind ws
+spaced (w ∷ ws) = w ++ each_after ws
 
 abbrev pub line_text : Line → List ℕ
-line_text l = indent l.depth ++ (spaced l.words ++ 10 ∷ [])
+line_text l = indent l.depth ++ (spaced l.lexemes ++ 10 ∷ [])
 
 unfoldable pub text_of_lines : List Line → List ℕ
 text_of_lines [] = []
@@ -46,7 +46,7 @@ closing d = line d (letters the.CloseBrace ∷ [])
 
 abbrev pub block_lines : List (List ℕ) → ℕ → Block → List Line
 block_lines names d nothing = []
-block_lines names d (basic n act rest) = line d (act_words act) ∷ block_lines names d rest
+block_lines names d (basic n act rest) = line d (act_lexemes act) ∷ block_lines names d rest
 block_lines names d (stop n rest) = line d (letters the.End ∷ []) ∷ block_lines names d rest
 block_lines names d (when n contact first rest) =
     line d (letters the.If ∷ letters the.Contact ∷ decimal contact ∷ letters the.OpenBrace ∷ [])
@@ -65,13 +65,13 @@ abbrev pub limits_line : Header → Line
 limits_line h = line 0 (letters the.Period ∷ decimal h.period ∷ letters the.Notice ∷ decimal h.notice ∷ letters the.Budget ∷ decimal h.budget ∷ [])
 
 abbrev pub header_lines : Header → List Line
-header_lines h = line 0 (letters the.Ensemble ∷ hex_word h.eid ∷ mode_words h.mode) ∷ limits_line h ∷ []
+header_lines h = line 0 (letters the.Ensemble ∷ hex_text h.eid ∷ mode_lexemes h.mode) ∷ limits_line h ∷ []
 
 abbrev pub items_lines : List Item → List Line
 items_lines [] = []
-items_lines (i ∷ is) = line 0 (edit_words i.edit) ∷ items_lines is
+items_lines (i ∷ is) = line 0 (edit_lexemes i.edit) ∷ items_lines is
 
--- the definitions of these blocks, the first of which has this number
+-- the definitions of these blocks, numbered from `number`
 abbrev pub defined_lines : List (List ℕ) → ℕ → List (List Statement) → List Line
 defined_lines names number [] = []
 defined_lines names number (b ∷ bs) =
@@ -88,6 +88,6 @@ tree_lines t =
     header_lines t.header ++ (items_lines t.items ++ (defined_lines t.names 0 t.blocks
     ++ line 0 (letters the.Begin ∷ []) ∷ block_lines t.names 0 (block_of [] t.statements)))
 
--- what was added is the text of statements that are put before a block
+-- the text added is that of statements in front of a block
 pub record IsPut (names : List (List ℕ)) (d : ℕ) (added : Before) (old new : List ℕ) : Type 0 where
   pub before : (b : Block) → new ++ text_of_lines (block_lines names d b) ≡ old ++ text_of_lines (block_lines names d (added b))

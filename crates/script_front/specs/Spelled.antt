@@ -1,4 +1,4 @@
--- The words that spell a script's tree, each as its bytes, in their order.
+-- The tokens that spell a script's tree, as bytes, in order.
 use Rattle.std.specs.Prelude.{◌≡◌, ℕ, ◌+◌, Bool, true, false, List, [], ◌∷◌, ◌++◌, slice_index_or}
 use Rattle.std.specs.Fmt.{decimal}
 use Rattle.mux_config.specs.declared.edit.Edit.{Edit}
@@ -16,157 +16,153 @@ use Rattle.script_front.specs.declared.tree.Header.{Header}
 use Rattle.script_front.specs.declared.tree.Item.{Item}
 use Rattle.script_front.specs.declared.tree.Statement.{Statement}
 use Rattle.script_tokens.specs.declared.keyword.Keyword.TheVariants as the
-use Rattle.script_tokens.specs.Words.{letters}
-use Rattle.script_tokens.specs.Spelling.{hex_word, sid_word, profile_word, time_word}
+use Rattle.script_tokens.specs.Keywords.{letters}
+use Rattle.script_tokens.specs.Spelling.{hex_text, sid_text, profile_text, level_text, time_text}
 use Rattle.script_front.specs.Block.{Block, nothing, basic, stop, when, either, repeat, forever, apply, block_of}
 use Rattle.script_tokens.specs.Reading.{Spelled, line_of_left, line_of}
 use Rattle.script_front.specs.Tree.{Tree}
 
 -- ---- edits
 
--- `groups` is sent as 0, and `raw` as 1
-abbrev pub groups_word : Bool → List ℕ
-groups_word false = letters the.Groups
-groups_word true = letters the.Raw
+-- `groups` is DG flag 0, and `raw` is 1
+abbrev pub groups_text : Bool → List ℕ
+groups_text false = letters the.Groups
+groups_text true = letters the.Raw
 
--- what is carried, up to before `in`
-abbrev pub carried_words : Component → Spelled
-carried_words (Sound ty sub) = letters the.Audio ∷ decimal ty ∷ letters the.Sub ∷ decimal sub ∷ []
-carried_words (Stream ty sub) = letters the.Data ∷ decimal ty ∷ letters the.Sub ∷ decimal sub ∷ []
-carried_words (InPackets scid) = letters the.Carry ∷ decimal scid ∷ []
+-- what is carried, up to `in`
+abbrev pub carried_lexemes : Component → Spelled
+carried_lexemes (Sound ty sub) = letters the.Audio ∷ decimal ty ∷ letters the.Sub ∷ decimal sub ∷ []
+carried_lexemes (Stream ty sub) = letters the.Data ∷ decimal ty ∷ letters the.Sub ∷ decimal sub ∷ []
+carried_lexemes (InPackets scid) = letters the.Carry ∷ decimal scid ∷ []
 
-abbrev pub carrier_words : Carrier → Spelled
-carrier_words (BySub id) = letters the.Sub ∷ decimal id ∷ []
-carrier_words (ByPacket scid) = letters the.Packet ∷ decimal scid ∷ []
+abbrev pub carrier_lexemes : Carrier → Spelled
+carrier_lexemes (BySub id) = letters the.Sub ∷ decimal id ∷ []
+carrier_lexemes (ByPacket scid) = letters the.Packet ∷ decimal scid ∷ []
 
-abbrev pub in_words : Sid → Spelled
-in_words sid = letters the.In ∷ sid_word sid ∷ []
+abbrev pub within_lexemes : Sid → Spelled
+within_lexemes sid = letters the.In ∷ sid_text sid ∷ []
 
-abbrev pub edit_words : Edit → Spelled
-edit_words (AddSub s) =
-    letters the.Sub ∷ decimal s.id ∷ letters the.At ∷ decimal s.start ∷ letters the.Eep ∷ profile_word s.protection ∷ decimal s.kbits ∷ []
-edit_words (DropSub id) = letters the.Drop ∷ letters the.Sub ∷ decimal id ∷ []
-edit_words (MoveSub id start) = letters the.Move ∷ letters the.Sub ∷ decimal id ∷ letters the.At ∷ decimal start ∷ []
-edit_words (RateSub id kbits) = letters the.Rate ∷ letters the.Sub ∷ decimal id ∷ decimal kbits ∷ []
-edit_words (AddService sid) = letters the.Service ∷ sid_word sid ∷ []
-edit_words (DropService sid) = letters the.Drop ∷ letters the.Service ∷ sid_word sid ∷ []
-edit_words (AddComponent sid component) = carried_words component ++ in_words sid
-edit_words (DropComponent sid carrier) = letters the.Drop ∷ letters the.Component ∷ (carrier_words carrier ++ in_words sid)
-edit_words (AddPacket p) =
-    letters the.Packet ∷ decimal p.scid ∷ groups_word p.dg ∷ letters the.TypeWord ∷ decimal p.ty ∷ letters the.Sub ∷ decimal p.sub ∷ letters the.Address ∷ decimal p.address ∷ []
-edit_words (DropPacket scid) = letters the.Drop ∷ letters the.Packet ∷ decimal scid ∷ []
+abbrev pub edit_lexemes : Edit → Spelled
+edit_lexemes (AddSub s) =
+    letters the.Sub ∷ decimal s.id ∷ letters the.At ∷ decimal s.start ∷ letters the.Eep ∷ profile_text s.protection ∷ decimal s.kbits ∷ []
+edit_lexemes (DropSub id) = letters the.Drop ∷ letters the.Sub ∷ decimal id ∷ []
+edit_lexemes (MoveSub id start) = letters the.Move ∷ letters the.Sub ∷ decimal id ∷ letters the.At ∷ decimal start ∷ []
+edit_lexemes (RateSub id kbits) = letters the.Rate ∷ letters the.Sub ∷ decimal id ∷ decimal kbits ∷ []
+edit_lexemes (AddService sid) = letters the.Service ∷ sid_text sid ∷ []
+edit_lexemes (DropService sid) = letters the.Drop ∷ letters the.Service ∷ sid_text sid ∷ []
+edit_lexemes (AddComponent sid component) = carried_lexemes component ++ within_lexemes sid
+edit_lexemes (DropComponent sid carrier) = letters the.Drop ∷ letters the.Component ∷ (carrier_lexemes carrier ++ within_lexemes sid)
+edit_lexemes (AddPacket p) =
+    letters the.Packet ∷ decimal p.scid ∷ groups_text p.dg ∷ letters the.TypeWord ∷ decimal p.ty ∷ letters the.Sub ∷ decimal p.sub ∷ letters the.Address ∷ decimal p.address ∷ []
+edit_lexemes (DropPacket scid) = letters the.Drop ∷ letters the.Packet ∷ decimal scid ∷ []
 
 -- ---- statements
 
-abbrev pub level_word : Bool → List ℕ
-level_word true = letters the.Closed
-level_word false = letters the.Open
+abbrev pub act_lexemes : Act → Spelled
+act_lexemes (Edits edit) = edit_lexemes edit
+act_lexemes (Wait frames) = letters the.Wait ∷ decimal frames ∷ []
+act_lexemes (WaitContact contact closed) = letters the.Wait ∷ letters the.Contact ∷ decimal contact ∷ level_text closed ∷ []
+act_lexemes (Until second) = letters the.Until ∷ time_text second ∷ []
+act_lexemes (CommitIn delay) = letters the.Commit ∷ letters the.In ∷ decimal delay ∷ []
+act_lexemes (CommitAt count) = letters the.Commit ∷ letters the.At ∷ decimal count ∷ []
+act_lexemes Join = letters the.Join ∷ []
+act_lexemes Settle = letters the.Settle ∷ []
 
-abbrev pub act_words : Act → Spelled
-act_words (Edits edit) = edit_words edit
-act_words (Wait frames) = letters the.Wait ∷ decimal frames ∷ []
-act_words (WaitContact contact closed) = letters the.Wait ∷ letters the.Contact ∷ decimal contact ∷ level_word closed ∷ []
-act_words (Until second) = letters the.Until ∷ time_word second ∷ []
-act_words (CommitIn delay) = letters the.Commit ∷ letters the.In ∷ decimal delay ∷ []
-act_words (CommitAt count) = letters the.Commit ∷ letters the.At ∷ decimal count ∷ []
-act_words Join = letters the.Join ∷ []
-act_words Settle = letters the.Settle ∷ []
-
--- the name of the block of this number
+-- the name of the block with this number
 abbrev pub name_at : List (List ℕ) → ℕ → List ℕ
 name_at names number = slice_index_or names number []
 
--- words in braces, before others
+-- tokens in braces, followed by others
 abbrev pub braced : Spelled → Spelled → Spelled
 braced body rest = letters the.OpenBrace ∷ (body ++ letters the.CloseBrace ∷ rest)
 
 -- the statements of a block, where the defined blocks have these names
-abbrev pub block_words : List (List ℕ) → Block → Spelled
-block_words names nothing = []
-block_words names (basic line act rest) = act_words act ++ block_words names rest
-block_words names (stop line rest) = letters the.End ∷ block_words names rest
-block_words names (when line contact first rest) =
-    letters the.If ∷ letters the.Contact ∷ decimal contact ∷ braced (block_words names first) (block_words names rest)
-block_words names (either line contact first second rest) =
-    letters the.If ∷ letters the.Contact ∷ decimal contact ∷ braced (block_words names first) (
-    letters the.Else ∷ braced (block_words names second) (block_words names rest))
-block_words names (repeat line times body rest) =
-    letters the.Repeat ∷ decimal times ∷ braced (block_words names body) (block_words names rest)
-block_words names (forever line body rest) = letters the.Forever ∷ braced (block_words names body) (block_words names rest)
-block_words names (apply line number named rest) = letters the.Apply ∷ name_at names number ∷ block_words names rest
+abbrev pub block_lexemes : List (List ℕ) → Block → Spelled
+block_lexemes names nothing = []
+block_lexemes names (basic line act rest) = act_lexemes act ++ block_lexemes names rest
+block_lexemes names (stop line rest) = letters the.End ∷ block_lexemes names rest
+block_lexemes names (when line contact first rest) =
+    letters the.If ∷ letters the.Contact ∷ decimal contact ∷ braced (block_lexemes names first) (block_lexemes names rest)
+block_lexemes names (either line contact first second rest) =
+    letters the.If ∷ letters the.Contact ∷ decimal contact ∷ braced (block_lexemes names first) (
+    letters the.Else ∷ braced (block_lexemes names second) (block_lexemes names rest))
+block_lexemes names (repeat line times body rest) =
+    letters the.Repeat ∷ decimal times ∷ braced (block_lexemes names body) (block_lexemes names rest)
+block_lexemes names (forever line body rest) = letters the.Forever ∷ braced (block_lexemes names body) (block_lexemes names rest)
+block_lexemes names (apply line number named rest) = letters the.Apply ∷ name_at names number ∷ block_lexemes names rest
 
 -- ---- a script
 
 -- mode I is not written
-abbrev pub mode_words : Mode → Spelled
-mode_words I = []
-mode_words II = letters the.Mode ∷ decimal 2 ∷ []
-mode_words III = letters the.Mode ∷ decimal 3 ∷ []
-mode_words IV = letters the.Mode ∷ decimal 4 ∷ []
+abbrev pub mode_lexemes : Mode → Spelled
+mode_lexemes I = []
+mode_lexemes II = letters the.Mode ∷ decimal 2 ∷ []
+mode_lexemes III = letters the.Mode ∷ decimal 3 ∷ []
+mode_lexemes IV = letters the.Mode ∷ decimal 4 ∷ []
 
-abbrev pub header_words : Header → Spelled
-header_words h =
-    letters the.Ensemble ∷ hex_word h.eid ∷ (mode_words h.mode
+abbrev pub header_lexemes : Header → Spelled
+header_lexemes h =
+    letters the.Ensemble ∷ hex_text h.eid ∷ (mode_lexemes h.mode
     ++ letters the.Period ∷ decimal h.period ∷ letters the.Notice ∷ decimal h.notice ∷ letters the.Budget ∷ decimal h.budget ∷ [])
 
-abbrev pub items_words : List Item → Spelled
-items_words [] = []
-items_words (i ∷ is) = edit_words i.edit ++ items_words is
+abbrev pub items_lexemes : List Item → Spelled
+items_lexemes [] = []
+items_lexemes (i ∷ is) = edit_lexemes i.edit ++ items_lexemes is
 
--- the definitions of these blocks, the first of which has this number
-abbrev pub defined_words : List (List ℕ) → ℕ → List (List Statement) → Spelled
-defined_words names number [] = []
-defined_words names number (b ∷ bs) =
-    letters the.Define ∷ name_at names number ∷ braced (block_words names (block_of [] b)) (defined_words names (number + 1) bs)
+-- the definitions of these blocks, numbered from `number`
+abbrev pub defined_lexemes : List (List ℕ) → ℕ → List (List Statement) → Spelled
+defined_lexemes names number [] = []
+defined_lexemes names number (b ∷ bs) =
+    letters the.Define ∷ name_at names number ∷ braced (block_lexemes names (block_of [] b)) (defined_lexemes names (number + 1) bs)
 
 -- from `begin` on
-abbrev pub begin_words : Tree → Spelled
-begin_words t = letters the.Begin ∷ block_words t.names (block_of [] t.statements)
+abbrev pub begin_lexemes : Tree → Spelled
+begin_lexemes t = letters the.Begin ∷ block_lexemes t.names (block_of [] t.statements)
 
--- the words of a script, each brace and each atom one
-abbrev pub tree_words : Tree → Spelled
-tree_words t =
-    header_words t.header ++ (items_words t.items ++ (defined_words t.names 0 t.blocks ++ begin_words t))
+-- the tokens of a script
+abbrev pub tree_lexemes : Tree → Spelled
+tree_lexemes t =
+    header_lexemes t.header ++ (items_lexemes t.items ++ (defined_lexemes t.names 0 t.blocks ++ begin_lexemes t))
 
--- ---- the lines of a script, where the lines of all of its tokens are these
+-- ---- the lines of a script, given the lines of all of its tokens
 
--- each item is on the line of its first word, where these words follow the items
+-- each item is on the line of its first token, where `after` follows the items
 abbrev pub ItemsOn : List ℕ → List Item → Spelled → Type 0
 ItemsOn lines [] after = Unit {0}
-ItemsOn lines (i ∷ is) after = (i.line ≡ line_of lines (items_words (i ∷ is) ++ after)) × ItemsOn lines is after
+ItemsOn lines (i ∷ is) after = (i.line ≡ line_of lines (items_lexemes (i ∷ is) ++ after)) × ItemsOn lines is after
 
--- each statement is on the line of its first word, where these words follow the block
+-- each statement is on the line of its first token, where `after` follows the block
 abbrev pub BlockOn : List (List ℕ) → List ℕ → Block → Spelled → Type 0
 BlockOn names lines nothing after = Unit {0}
 BlockOn names lines (basic line act rest) after =
-    (line ≡ line_of lines (block_words names (basic line act rest) ++ after)) × BlockOn names lines rest after
-BlockOn names lines (stop line rest) after = (line ≡ line_of lines (block_words names (stop line rest) ++ after)) × BlockOn names lines rest after
+    (line ≡ line_of lines (block_lexemes names (basic line act rest) ++ after)) × BlockOn names lines rest after
+BlockOn names lines (stop line rest) after = (line ≡ line_of lines (block_lexemes names (stop line rest) ++ after)) × BlockOn names lines rest after
 BlockOn names lines (when line contact first rest) after =
-    (line ≡ line_of lines (block_words names (when line contact first rest) ++ after))
-    × BlockOn names lines first (letters the.CloseBrace ∷ (block_words names rest ++ after)) × BlockOn names lines rest after
+    (line ≡ line_of lines (block_lexemes names (when line contact first rest) ++ after))
+    × BlockOn names lines first (letters the.CloseBrace ∷ (block_lexemes names rest ++ after)) × BlockOn names lines rest after
 BlockOn names lines (either line contact first second rest) after =
-    (line ≡ line_of lines (block_words names (either line contact first second rest) ++ after))
-    × BlockOn names lines first (letters the.CloseBrace ∷ letters the.Else ∷ (braced (block_words names second) (block_words names rest) ++ after))
-    × BlockOn names lines second (letters the.CloseBrace ∷ (block_words names rest ++ after)) × BlockOn names lines rest after
+    (line ≡ line_of lines (block_lexemes names (either line contact first second rest) ++ after))
+    × BlockOn names lines first (letters the.CloseBrace ∷ letters the.Else ∷ (braced (block_lexemes names second) (block_lexemes names rest) ++ after))
+    × BlockOn names lines second (letters the.CloseBrace ∷ (block_lexemes names rest ++ after)) × BlockOn names lines rest after
 BlockOn names lines (repeat line times body rest) after =
-    (line ≡ line_of lines (block_words names (repeat line times body rest) ++ after))
-    × BlockOn names lines body (letters the.CloseBrace ∷ (block_words names rest ++ after)) × BlockOn names lines rest after
+    (line ≡ line_of lines (block_lexemes names (repeat line times body rest) ++ after))
+    × BlockOn names lines body (letters the.CloseBrace ∷ (block_lexemes names rest ++ after)) × BlockOn names lines rest after
 BlockOn names lines (forever line body rest) after =
-    (line ≡ line_of lines (block_words names (forever line body rest) ++ after))
-    × BlockOn names lines body (letters the.CloseBrace ∷ (block_words names rest ++ after)) × BlockOn names lines rest after
+    (line ≡ line_of lines (block_lexemes names (forever line body rest) ++ after))
+    × BlockOn names lines body (letters the.CloseBrace ∷ (block_lexemes names rest ++ after)) × BlockOn names lines rest after
 BlockOn names lines (apply line number named rest) after =
-    (line ≡ line_of lines (block_words names (apply line number named rest) ++ after)) × BlockOn names lines rest after
+    (line ≡ line_of lines (block_lexemes names (apply line number named rest) ++ after)) × BlockOn names lines rest after
 
--- the same of the definitions of these blocks, the first of which has this number
+-- the same for the definitions of these blocks, numbered from `number`
 abbrev pub DefinedOn : List (List ℕ) → List ℕ → ℕ → List (List Statement) → Spelled → Type 0
 DefinedOn names lines number [] after = Unit {0}
 DefinedOn names lines number (b ∷ bs) after =
-    BlockOn names lines (block_of [] b) (letters the.CloseBrace ∷ (defined_words names (number + 1) bs ++ after))
+    BlockOn names lines (block_of [] b) (letters the.CloseBrace ∷ (defined_lexemes names (number + 1) bs ++ after))
     × DefinedOn names lines (number + 1) bs after
 
 pub record HasLines (lines : List ℕ) (t : Tree) : Type 0 where
-  pub items : ItemsOn lines t.items (defined_words t.names 0 t.blocks ++ begin_words t)
-  pub blocks : DefinedOn t.names lines 0 t.blocks (begin_words t)
-  pub begin : t.begin_line ≡ line_of lines (begin_words t)
+  pub items : ItemsOn lines t.items (defined_lexemes t.names 0 t.blocks ++ begin_lexemes t)
+  pub blocks : DefinedOn t.names lines 0 t.blocks (begin_lexemes t)
+  pub begin : t.begin_line ≡ line_of lines (begin_lexemes t)
   pub statements : BlockOn t.names lines (block_of [] t.statements) []
   pub last : t.last_line ≡ line_of_left lines 1

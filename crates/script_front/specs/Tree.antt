@@ -1,4 +1,4 @@
--- The tree of a script, its limits and its ranges.
+-- The tree of a script, its ranges and its limits.
 use Rattle.std.specs.Prelude.{◌≡◌, ◌≢◌, ℕ, ◌+◌, ◌-◌, ◌<◌, ◌≤◌, List, [], ◌∷◌, length}
 use Rattle.std.specs.List.{All, AllPairs}
 use Rattle.mux_config.specs.declared.edit.Edit.{Edit}
@@ -10,7 +10,7 @@ use Rattle.script_front.specs.declared.tree.Header.{Header}
 use Rattle.script_front.specs.declared.tree.Item.{Item}
 use Rattle.script_front.specs.declared.tree.Statement.{Statement}
 use Rattle.script_front.specs.Block.{Block, nothing, basic, stop, when, either, repeat, forever, apply, block_of}
-use Rattle.script_tokens.specs.Words.{IsName}
+use Rattle.script_tokens.specs.Keywords.{IsName}
 
 pub record Tree : Type 0 where
   pub header : Header
@@ -63,7 +63,7 @@ AreNamedApart names = AllPairs (λ one other. one ≢ other) names
 
 -- ---- blocks
 
--- every number is in range, this many blocks are known, and braces are at most this deep
+-- every number is in range, `apply` names one of the first `known` blocks, and braces are at most this deep
 abbrev pub IsInBounds : (known depth : ℕ) → Block → Type 0
 IsInBounds known depth nothing = Unit {0}
 IsInBounds known depth (basic line act rest) = IsAct act × IsInBounds known depth rest
@@ -77,12 +77,12 @@ IsInBounds known depth (repeat line times body rest) =
 IsInBounds known depth (forever line body rest) = (1 ≤ depth) × IsInBounds known (depth - 1) body × IsInBounds known depth rest
 IsInBounds known depth (apply line number named rest) = (number < known) × IsInBounds known depth rest
 
--- each defined block applies those before it only; its own braces are the first
+-- each defined block applies only those before it; its own braces are the first level
 abbrev pub AllFit : ℕ → List (List Statement) → Type 0
 AllFit known [] = Unit {0}
 AllFit known (b ∷ bs) = IsInBounds known 15 (block_of [] b) × AllFit (known + 1) bs
 
--- the statements of a block, those inside others too
+-- the number of statements of a block, nested ones included
 abbrev pub counted : Block → ℕ
 counted nothing = 0
 counted (basic line act rest) = 1 + counted rest
@@ -97,7 +97,7 @@ abbrev pub counted_in : List (List Statement) → ℕ
 counted_in [] = 0
 counted_in (b ∷ bs) = counted (block_of [] b) + counted_in bs
 
--- a script: every number in range, names well formed and different, and no limit passed
+-- a script: every number in range, names well formed and different, and within all limits
 pub record IsScript (t : Tree) : Type 0 where
   pub headed : IsHeader t.header
   pub adding : All IsItem t.items

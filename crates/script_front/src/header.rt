@@ -1,11 +1,11 @@
-//! Reading the header of a script.
+//! Parsing the header of a script.
 
 ghost use Rattle.std.specs.Prelude.{◌≡◌, ◌<◌, ◌≤◌, ◌∷◌, [], length, IfOk, OnOk};
 ghost use Rattle.std.specs.Fmt.{decimal};
 ghost use Rattle.script_tokens.specs.declared.keyword.Keyword.TheVariants as the;
-ghost use Rattle.script_tokens.specs.Words.{letters};
-ghost use Rattle.script_tokens.specs.Reading.{Passes, behind};
-ghost use Rattle.script_front.specs.Spelled.{mode_words, header_words};
+ghost use Rattle.script_tokens.specs.Keywords.{letters};
+ghost use Rattle.script_tokens.specs.Reading.{Passes, preceded_by};
+ghost use Rattle.script_front.specs.Spelled.{mode_lexemes, header_lexemes};
 ghost use Rattle.script_front.specs.Tree.{IsHeader};
 ghost use Rattle.script_front.specs.Parsing.{NoneOf};
 ghost use Rattle.std.specs.Prelude.{◌≢◌, ◌++◌, ℕ, List, OnErr};
@@ -20,29 +20,29 @@ use script_tokens::keyword::Keyword;
 use script_tokens::reader::Reader;
 use script_tokens::values::{decimal, eid};
 
-/// A number from `low` to `high` behind this keyword.
+/// This keyword, then a number from `low` to `high`.
 fn declared(reader: &mut Reader, keyword: Keyword, low: u8, high: u8) -> Result<u8, ScriptFault>
     ensures spells { IfOk result (λ n. Passes (letters keyword ∷ decimal n ∷ []) reader.old
         reader.new) }
     ensures range { IfOk result (λ n. (low ≤ n) × (n ≤ high)) }
     ensures none { OnErr result (NoneOf ℕ (λ n. (low ≤ n) × (n ≤ high)) (λ n. letters keyword ∷
         decimal n ∷ []) reader.old) }
-    ensures shorter { OnOk result (length reader.new.words < length reader.old.words) }
+    ensures shorter { OnOk result (length reader.new.lexemes < length reader.old.lexemes) }
 {
     reader.expect(keyword)?;
     let value = decimal(reader, u32::from(low), u32::from(high))?;
     Ok(value as u8)
 }
 
-/// `mode MODE`, or mode I where there is no `mode`
+/// `mode MODE`, or mode I if there is no `mode`.
 fn mode(reader: &mut Reader) -> Result<Mode, ScriptFault>
-    ensures spells { IfOk result (λ m. Passes (mode_words m) reader.old reader.new) }
-    ensures none { OnErr result (NoneOf Mode (λ m. Unit {0}) (λ m. mode_words m ++ letters
+    ensures spells { IfOk result (λ m. Passes (mode_lexemes m) reader.old reader.new) }
+    ensures none { OnErr result (NoneOf Mode (λ m. Unit {0}) (λ m. mode_lexemes m ++ letters
         the.Period ∷ []) reader.old) }
     ensures only { OnOk result ((m : Mode) (rest : List (List ℕ))
-        → reader.old.words ≡ mode_words m ++ letters the.Period ∷ rest → reader.new.words ≡
+        → reader.old.lexemes ≡ mode_lexemes m ++ letters the.Period ∷ rest → reader.new.lexemes ≡
         letters the.Period ∷ rest) }
-    ensures shorter { OnOk result (length reader.new.words ≤ length reader.old.words) }
+    ensures shorter { OnOk result (length reader.new.lexemes ≤ length reader.old.lexemes) }
 {
     if !reader.is_next(Keyword::Mode) {
         return Ok(Mode::I);
@@ -52,13 +52,13 @@ fn mode(reader: &mut Reader) -> Result<Mode, ScriptFault>
     Ok(mode)
 }
 
-/// A mode from II to IV, as 2, 3 or 4
+/// A mode from II to IV, written 2, 3 or 4.
 fn later_mode(reader: &mut Reader) -> Result<Mode, ScriptFault>
     ensures later { IfOk result (λ m. m ≢ I) }
-    ensures spells { IfOk result (λ m. Passes (mode_words m) (behind the.Mode reader.old)
+    ensures spells { IfOk result (λ m. Passes (mode_lexemes m) (preceded_by the.Mode reader.old)
         reader.new) }
-    ensures none { OnErr result (NoneOf Mode (λ m. m ≢ I) mode_words (behind the.Mode reader.old)) }
-    ensures shorter { OnOk result (length reader.new.words < length reader.old.words) }
+    ensures none { OnErr result (NoneOf Mode (λ m. m ≢ I) mode_lexemes (preceded_by the.Mode reader.old)) }
+    ensures shorter { OnOk result (length reader.new.lexemes < length reader.old.lexemes) }
 {
     let number = decimal(reader, 2, 4)?;
     match number {
@@ -70,12 +70,12 @@ fn later_mode(reader: &mut Reader) -> Result<Mode, ScriptFault>
 
 /// `ensemble EID [mode MODE] period P notice W budget B`
 pub fn header(reader: &mut Reader) -> Result<Header, ScriptFault>
-    ensures spells { IfOk result (λ h. Passes (header_words h) reader.old reader.new) }
+    ensures spells { IfOk result (λ h. Passes (header_lexemes h) reader.old reader.new) }
     ensures range { IfOk result IsHeader }
-    ensures none { OnErr result (NoneOf Header IsHeader header_words reader.old) }
+    ensures none { OnErr result (NoneOf Header IsHeader header_lexemes reader.old) }
     ensures only { OnOk result ((h : Header) (rest : List (List ℕ))
-        → reader.old.words ≡ header_words h ++ rest → reader.new.words ≡ rest) }
-    ensures shorter { OnOk result (length reader.new.words < length reader.old.words) }
+        → reader.old.lexemes ≡ header_lexemes h ++ rest → reader.new.lexemes ≡ rest) }
+    ensures shorter { OnOk result (length reader.new.lexemes < length reader.old.lexemes) }
 {
     reader.expect(Keyword::Ensemble)?;
     let eid = eid(reader)?;

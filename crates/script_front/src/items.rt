@@ -1,4 +1,4 @@
-//! Reading items and the statements without a block.
+//! Parsing items and the statements without a block.
 
 ghost use Rattle.std.specs.Prelude.{◌≡◌, ℕ, ◌+◌, ◌∷◌, [], ◌<◌, ◌≤◌, length, IfOk, OnOk};
 ghost use Rattle.std.specs.List.{All};
@@ -7,12 +7,11 @@ ghost use Rattle.plan_code.specs.Program.{IsEdit, IsNewSub, IsNewPacket, IsCarri
 ghost use Rattle.std.specs.Fmt.{decimal};
 ghost use Rattle.mux_config.specs.declared.edit.Edit.TheVariants.{AddSub, AddPacket, AddComponent, MoveSub, RateSub};
 ghost use Rattle.script_tokens.specs.declared.keyword.Keyword.TheVariants as the;
-ghost use Rattle.script_tokens.specs.Words.{letters};
-ghost use Rattle.script_tokens.specs.First.{component_keyword, item_keyword, edit_keyword, act_keyword};
-ghost use Rattle.script_tokens.specs.Reading.{Passes, behind};
-ghost use Rattle.script_front.specs.Spelled.{in_words, groups_word, carried_words, carrier_words, edit_words, level_word, act_words};
+ghost use Rattle.script_tokens.specs.Keywords.{letters};
+ghost use Rattle.script_tokens.specs.Reading.{Passes, preceded_by};
+ghost use Rattle.script_front.specs.Spelled.{within_lexemes, groups_text, carried_lexemes, carrier_lexemes, edit_lexemes, act_lexemes};
 ghost use Rattle.script_front.specs.Tree.{IsAct, IsItem, Adds};
-ghost use Rattle.script_front.specs.Parsing.{IsOneMore, AreItems, NoneOf, BeginsItem, BeginsNoItem, NoItems};
+ghost use Rattle.script_front.specs.Parsing.{from_component, from_item, from_edit, from_act, IsOneMore, AreItems, NoneOf, BeginsItem, BeginsNoItem, NoItems};
 ghost use Rattle.std.specs.Prelude.{true, false, ◌≢◌, OnErr, IfErr, Bool};
 ghost use Rattle.script_tokens.specs.declared.fault.ScriptFault.TheVariants.{Memory};
 ghost use Rattle.script_front.specs.declared.tree.Act.{Act};
@@ -30,7 +29,7 @@ use script_tokens::first_keyword::{ActKeyword, ComponentKeyword, EditKeyword, It
 use script_tokens::keyword::Keyword;
 use script_tokens::reader::Reader;
 use script_tokens::values::{
-    contact, delay, frames, profile, sc_id, sc_ty, sid, start, sub_id, time, word,
+    any_u16, contact, delay, frames, level, profile, sc_id, sc_ty, sid, start, sub_id, time,
 };
 use std::alloc::Global;
 
@@ -41,7 +40,7 @@ fn sub(reader: &mut Reader) -> Result<SubId, ScriptFault>
     ensures range { IfOk result (λ s. s < 64) }
     ensures none { OnErr result (NoneOf ℕ (λ s. s < 64) (λ s. letters the.Sub ∷ decimal s ∷ [])
         reader.old) }
-    ensures shorter { OnOk result (length reader.new.words < length reader.old.words) }
+    ensures shorter { OnOk result (length reader.new.lexemes < length reader.old.lexemes) }
 {
     reader.expect(Keyword::Sub)?;
     sub_id(reader)
@@ -49,10 +48,10 @@ fn sub(reader: &mut Reader) -> Result<SubId, ScriptFault>
 
 /// `in SID`
 fn in_service(reader: &mut Reader) -> Result<Sid, ScriptFault>
-    ensures spells { IfOk result (λ s. Passes (in_words s) reader.old reader.new) }
+    ensures spells { IfOk result (λ s. Passes (within_lexemes s) reader.old reader.new) }
     ensures range { IfOk result IsSid }
-    ensures none { OnErr result (NoneOf Sid IsSid in_words reader.old) }
-    ensures shorter { OnOk result (length reader.new.words < length reader.old.words) }
+    ensures none { OnErr result (NoneOf Sid IsSid within_lexemes reader.old) }
+    ensures shorter { OnOk result (length reader.new.lexemes < length reader.old.lexemes) }
 {
     reader.expect(Keyword::In)?;
     sid(reader)
@@ -60,30 +59,30 @@ fn in_service(reader: &mut Reader) -> Result<Sid, ScriptFault>
 
 /// `ID at START eep PROFILE RATE`
 fn new_sub(reader: &mut Reader) -> Result<NewSub, ScriptFault>
-    ensures spells { IfOk result (λ s. Passes (edit_words (AddSub s)) (behind the.Sub reader.old)
+    ensures spells { IfOk result (λ s. Passes (edit_lexemes (AddSub s)) (preceded_by the.Sub reader.old)
         reader.new) }
     ensures range { IfOk result IsNewSub }
-    ensures none { OnErr result (NoneOf Sub IsNewSub (λ s. edit_words (AddSub s)) (behind
+    ensures none { OnErr result (NoneOf Sub IsNewSub (λ s. edit_lexemes (AddSub s)) (preceded_by
         the.Sub reader.old)) }
-    ensures shorter { OnOk result (length reader.new.words < length reader.old.words) }
+    ensures shorter { OnOk result (length reader.new.lexemes < length reader.old.lexemes) }
 {
     let id = sub_id(reader)?;
     reader.expect(Keyword::At)?;
     let start = start(reader)?;
     reader.expect(Keyword::Eep)?;
     let protection = profile(reader)?;
-    let kbits = word(reader)?;
+    let kbits = any_u16(reader)?;
     Ok(NewSub::from_parts(id, start, protection, kbits))
 }
 
-/// `SCID groups type TYPE sub ID address ADDR`, or with `raw` for `groups`
+/// `SCID groups type TYPE sub ID address ADDR`, or with `raw` in place of `groups`
 fn new_packet(reader: &mut Reader) -> Result<Packet, ScriptFault>
-    ensures spells { IfOk result (λ p. Passes (edit_words (AddPacket p)) (behind the.Packet
+    ensures spells { IfOk result (λ p. Passes (edit_lexemes (AddPacket p)) (preceded_by the.Packet
         reader.old) reader.new) }
     ensures range { IfOk result IsNewPacket }
-    ensures none { OnErr result (NoneOf Packet IsNewPacket (λ p. edit_words (AddPacket p))
-        (behind the.Packet reader.old)) }
-    ensures shorter { OnOk result (length reader.new.words < length reader.old.words) }
+    ensures none { OnErr result (NoneOf Packet IsNewPacket (λ p. edit_lexemes (AddPacket p))
+        (preceded_by the.Packet reader.old)) }
+    ensures shorter { OnOk result (length reader.new.lexemes < length reader.old.lexemes) }
 {
     let scid = sc_id(reader)?;
     let dg = data_groups(reader)?;
@@ -91,7 +90,7 @@ fn new_packet(reader: &mut Reader) -> Result<Packet, ScriptFault>
     let ty = sc_ty(reader)?;
     let sub = sub(reader)?;
     reader.expect(Keyword::Address)?;
-    let address = word(reader)?;
+    let address = any_u16(reader)?;
     Ok(Packet {
         scid,
         dg,
@@ -101,11 +100,11 @@ fn new_packet(reader: &mut Reader) -> Result<Packet, ScriptFault>
     })
 }
 
-/// `groups`, which is sent as 0, or `raw`, which is sent as 1
+/// `groups` for DG flag 0, or `raw` for 1
 fn data_groups(reader: &mut Reader) -> Result<bool, ScriptFault>
-    ensures spells { IfOk result (λ b. Passes (groups_word b ∷ []) reader.old reader.new) }
-    ensures none { OnErr result (NoneOf Bool (λ b. Unit {0}) (λ b. groups_word b ∷ []) reader.old) }
-    ensures shorter { OnOk result (length reader.new.words < length reader.old.words) }
+    ensures spells { IfOk result (λ b. Passes (groups_text b ∷ []) reader.old reader.new) }
+    ensures none { OnErr result (NoneOf Bool (λ b. Unit {0}) (λ b. groups_text b ∷ []) reader.old) }
+    ensures shorter { OnOk result (length reader.new.lexemes < length reader.old.lexemes) }
 {
     if reader.is_next(Keyword::Groups) {
         reader.advance();
@@ -122,35 +121,36 @@ fn typed_sub(reader: &mut Reader) -> Result<(ScTy, SubId), ScriptFault>
     ensures range { IfOk result (λ p. (p.0 < 64) × (p.1 < 64)) }
     ensures none { OnErr result (NoneOf (ℕ × ℕ) (λ p. (p.0 < 64) × (p.1 < 64)) (λ p. decimal p.0
         ∷ letters the.Sub ∷ decimal p.1 ∷ []) reader.old) }
-    ensures shorter { OnOk result (length reader.new.words < length reader.old.words) }
+    ensures shorter { OnOk result (length reader.new.lexemes < length reader.old.lexemes) }
 {
     let ty = sc_ty(reader)?;
     let sub = sub(reader)?;
     Ok((ty, sub))
 }
 
-/// `audio`, `data` or `carry` with what follows
+/// `audio`, `data` or `carry`, then the rest of the component
 fn component(reader: &mut Reader, first: ComponentKeyword) -> Result<Edit, ScriptFault>
-    ensures spells { IfOk result (λ e. Passes (edit_words e) (behind (component_keyword first) reader.old) reader.new) }
+    ensures spells { IfOk result (λ e. Passes (edit_lexemes e) (from_component first reader.old)
+        reader.new) }
     ensures range { IfOk result IsEdit }
     ensures adds { IfOk result Adds }
     ensures none { OnErr result (NoneOf (Sid × Component) (λ p. IsSid p.0 × IsComponent p.1) (λ
-        p. edit_words (AddComponent p.0 p.1)) (behind (component_keyword first) reader.old)) }
-    ensures shorter { OnOk result (length reader.new.words < length reader.old.words) }
+        p. edit_lexemes (AddComponent p.0 p.1)) (from_component first reader.old)) }
+    ensures shorter { OnOk result (length reader.new.lexemes < length reader.old.lexemes) }
 {
     let component = carried(reader, first)?;
     let sid = in_service(reader)?;
     Ok(Edit::AddComponent { sid, component })
 }
 
-/// What is carried, up to before `in`
+/// What is carried: `audio`, `data` or `carry` with its arguments, up to `in`
 fn carried(reader: &mut Reader, first: ComponentKeyword) -> Result<Component, ScriptFault>
-    ensures spells { IfOk result (λ m. Passes (carried_words m) (behind (component_keyword first) reader.old)
+    ensures spells { IfOk result (λ m. Passes (carried_lexemes m) (from_component first reader.old)
         reader.new) }
     ensures range { IfOk result IsComponent }
-    ensures none { OnErr result (NoneOf Component IsComponent carried_words (behind (component_keyword first)
-        reader.old)) }
-    ensures shorter { OnOk result (length reader.new.words < length reader.old.words) }
+    ensures none { OnErr result (NoneOf Component IsComponent carried_lexemes
+        (from_component first reader.old)) }
+    ensures shorter { OnOk result (length reader.new.lexemes < length reader.old.lexemes) }
 {
     match first {
         ComponentKeyword::Audio => {
@@ -168,14 +168,15 @@ fn carried(reader: &mut Reader, first: ComponentKeyword) -> Result<Component, Sc
     }
 }
 
-/// An item after its first keyword.
+/// An item, after its first keyword.
 fn item(reader: &mut Reader, first: ItemKeyword) -> Result<Edit, ScriptFault>
-    ensures spells { IfOk result (λ e. Passes (edit_words e) (behind (item_keyword first) reader.old) reader.new) }
+    ensures spells { IfOk result (λ e. Passes (edit_lexemes e) (from_item first reader.old)
+        reader.new) }
     ensures range { IfOk result IsEdit }
     ensures adds { IfOk result Adds }
-    ensures none { OnErr result (NoneOf Edit (λ e. IsEdit e × Adds e) edit_words (behind (item_keyword first)
-        reader.old)) }
-    ensures shorter { OnOk result (length reader.new.words < length reader.old.words) }
+    ensures none { OnErr result (NoneOf Edit (λ e. IsEdit e × Adds e) edit_lexemes
+        (from_item first reader.old)) }
+    ensures shorter { OnOk result (length reader.new.lexemes < length reader.old.lexemes) }
 {
     match first {
         ItemKeyword::Sub => {
@@ -196,10 +197,10 @@ fn item(reader: &mut Reader, first: ItemKeyword) -> Result<Edit, ScriptFault>
 
 /// `sub ID` or `packet SCID`
 fn carrier(reader: &mut Reader) -> Result<Carrier, ScriptFault>
-    ensures spells { IfOk result (λ m. Passes (carrier_words m) reader.old reader.new) }
+    ensures spells { IfOk result (λ m. Passes (carrier_lexemes m) reader.old reader.new) }
     ensures range { IfOk result IsCarrier }
-    ensures none { OnErr result (NoneOf Carrier IsCarrier carrier_words reader.old) }
-    ensures shorter { OnOk result (length reader.new.words < length reader.old.words) }
+    ensures none { OnErr result (NoneOf Carrier IsCarrier carrier_lexemes reader.old) }
+    ensures shorter { OnOk result (length reader.new.lexemes < length reader.old.lexemes) }
 {
     if reader.is_next(Keyword::Sub) {
         reader.advance();
@@ -211,13 +212,13 @@ fn carrier(reader: &mut Reader) -> Result<Carrier, ScriptFault>
     Ok(Carrier::Packet(scid))
 }
 
-/// What follows `drop`
+/// The rest of an edit after `drop`
 fn dropped(reader: &mut Reader) -> Result<Edit, ScriptFault>
-    ensures spells { IfOk result (λ e. Passes (edit_words e) (behind the.Drop reader.old)
+    ensures spells { IfOk result (λ e. Passes (edit_lexemes e) (preceded_by the.Drop reader.old)
         reader.new) }
     ensures range { IfOk result IsEdit }
-    ensures none { OnErr result (NoneOf Edit IsEdit edit_words (behind the.Drop reader.old)) }
-    ensures shorter { OnOk result (length reader.new.words < length reader.old.words) }
+    ensures none { OnErr result (NoneOf Edit IsEdit edit_lexemes (preceded_by the.Drop reader.old)) }
+    ensures shorter { OnOk result (length reader.new.lexemes < length reader.old.lexemes) }
 {
     if reader.is_next(Keyword::Service) {
         reader.advance();
@@ -235,11 +236,11 @@ fn dropped(reader: &mut Reader) -> Result<Edit, ScriptFault>
 
 /// `sub ID` or `packet SCID` after `drop`
 fn dropped_carrier(reader: &mut Reader) -> Result<Edit, ScriptFault>
-    ensures spells { IfOk result (λ e. Passes (edit_words e) (behind the.Drop reader.old)
+    ensures spells { IfOk result (λ e. Passes (edit_lexemes e) (preceded_by the.Drop reader.old)
         reader.new) }
     ensures range { IfOk result IsEdit }
-    ensures none { OnErr result (NoneOf Carrier IsCarrier carrier_words reader.old) }
-    ensures shorter { OnOk result (length reader.new.words < length reader.old.words) }
+    ensures none { OnErr result (NoneOf Carrier IsCarrier carrier_lexemes reader.old) }
+    ensures shorter { OnOk result (length reader.new.lexemes < length reader.old.lexemes) }
 {
     match carrier(reader)? {
         Carrier::Sub(id) => Ok(Edit::DropSub(id)),
@@ -249,12 +250,12 @@ fn dropped_carrier(reader: &mut Reader) -> Result<Edit, ScriptFault>
 
 /// `sub ID at START` after `move`
 fn moved(reader: &mut Reader) -> Result<Edit, ScriptFault>
-    ensures spells { IfOk result (λ e. Passes (edit_words e) (behind the.Move reader.old)
+    ensures spells { IfOk result (λ e. Passes (edit_lexemes e) (preceded_by the.Move reader.old)
         reader.new) }
     ensures range { IfOk result IsEdit }
     ensures none { OnErr result (NoneOf (ℕ × ℕ) (λ p. (p.0 < 64) × (p.1 < 1024)) (λ p.
-        edit_words (MoveSub p.0 p.1)) (behind the.Move reader.old)) }
-    ensures shorter { OnOk result (length reader.new.words < length reader.old.words) }
+        edit_lexemes (MoveSub p.0 p.1)) (preceded_by the.Move reader.old)) }
+    ensures shorter { OnOk result (length reader.new.lexemes < length reader.old.lexemes) }
 {
     let id = sub(reader)?;
     reader.expect(Keyword::At)?;
@@ -264,24 +265,25 @@ fn moved(reader: &mut Reader) -> Result<Edit, ScriptFault>
 
 /// `sub ID RATE` after `rate`
 fn rated(reader: &mut Reader) -> Result<Edit, ScriptFault>
-    ensures spells { IfOk result (λ e. Passes (edit_words e) (behind the.Rate reader.old)
+    ensures spells { IfOk result (λ e. Passes (edit_lexemes e) (preceded_by the.Rate reader.old)
         reader.new) }
     ensures range { IfOk result IsEdit }
     ensures none { OnErr result (NoneOf (ℕ × ℕ) (λ p. (p.0 < 64) × (p.1 < 65536)) (λ p.
-        edit_words (RateSub p.0 p.1)) (behind the.Rate reader.old)) }
-    ensures shorter { OnOk result (length reader.new.words < length reader.old.words) }
+        edit_lexemes (RateSub p.0 p.1)) (preceded_by the.Rate reader.old)) }
+    ensures shorter { OnOk result (length reader.new.lexemes < length reader.old.lexemes) }
 {
     let id = sub(reader)?;
-    let kbits = word(reader)?;
+    let kbits = any_u16(reader)?;
     Ok(Edit::RateSub { id, kbits })
 }
 
-/// An edit after its first keyword.
+/// An edit, after its first keyword.
 fn edit(reader: &mut Reader, first: EditKeyword) -> Result<Edit, ScriptFault>
-    ensures spells { IfOk result (λ e. Passes (edit_words e) (behind (edit_keyword first) reader.old) reader.new) }
+    ensures spells { IfOk result (λ e. Passes (edit_lexemes e) (from_edit first reader.old)
+        reader.new) }
     ensures range { IfOk result IsEdit }
-    ensures none { OnErr result (NoneOf Edit IsEdit edit_words (behind (edit_keyword first) reader.old)) }
-    ensures shorter { OnOk result (length reader.new.words < length reader.old.words) }
+    ensures none { OnErr result (NoneOf Edit IsEdit edit_lexemes (from_edit first reader.old)) }
+    ensures shorter { OnOk result (length reader.new.lexemes < length reader.old.lexemes) }
 {
     match first {
         EditKeyword::Drop => dropped(reader),
@@ -291,13 +293,13 @@ fn edit(reader: &mut Reader, first: EditKeyword) -> Result<Edit, ScriptFault>
     }
 }
 
-/// What follows `wait`
+/// The rest of a statement after `wait`
 fn waiting(reader: &mut Reader) -> Result<Act, ScriptFault>
-    ensures spells { IfOk result (λ a. Passes (act_words a) (behind the.Wait reader.old)
+    ensures spells { IfOk result (λ a. Passes (act_lexemes a) (preceded_by the.Wait reader.old)
         reader.new) }
     ensures range { IfOk result IsAct }
-    ensures none { OnErr result (NoneOf Act IsAct act_words (behind the.Wait reader.old)) }
-    ensures shorter { OnOk result (length reader.new.words < length reader.old.words) }
+    ensures none { OnErr result (NoneOf Act IsAct act_lexemes (preceded_by the.Wait reader.old)) }
+    ensures shorter { OnOk result (length reader.new.lexemes < length reader.old.lexemes) }
 {
     if reader.is_next(Keyword::Contact) {
         reader.advance();
@@ -309,27 +311,13 @@ fn waiting(reader: &mut Reader) -> Result<Act, ScriptFault>
     Ok(Act::Wait(frames))
 }
 
-/// `closed` or `open`
-fn level(reader: &mut Reader) -> Result<bool, ScriptFault>
-    ensures spells { IfOk result (λ b. Passes (level_word b ∷ []) reader.old reader.new) }
-    ensures none { OnErr result (NoneOf Bool (λ b. Unit {0}) (λ b. level_word b ∷ []) reader.old) }
-    ensures shorter { OnOk result (length reader.new.words < length reader.old.words) }
-{
-    if reader.is_next(Keyword::Closed) {
-        reader.advance();
-        return Ok(true);
-    }
-    reader.expect(Keyword::Open)?;
-    Ok(false)
-}
-
-/// `in K` or `at COUNT` after `commit`
+/// `in K` or `at COUNT`, after `commit`
 fn committing(reader: &mut Reader) -> Result<Act, ScriptFault>
-    ensures spells { IfOk result (λ a. Passes (act_words a) (behind the.Commit reader.old)
+    ensures spells { IfOk result (λ a. Passes (act_lexemes a) (preceded_by the.Commit reader.old)
         reader.new) }
     ensures range { IfOk result IsAct }
-    ensures none { OnErr result (NoneOf Act IsAct act_words (behind the.Commit reader.old)) }
-    ensures shorter { OnOk result (length reader.new.words < length reader.old.words) }
+    ensures none { OnErr result (NoneOf Act IsAct act_lexemes (preceded_by the.Commit reader.old)) }
+    ensures shorter { OnOk result (length reader.new.lexemes < length reader.old.lexemes) }
 {
     if reader.is_next(Keyword::In) {
         reader.advance();
@@ -337,16 +325,17 @@ fn committing(reader: &mut Reader) -> Result<Act, ScriptFault>
         return Ok(Act::CommitIn(delay));
     }
     reader.expect(Keyword::At)?;
-    let count = word(reader)?;
+    let count = any_u16(reader)?;
     Ok(Act::CommitAt(count))
 }
 
 /// A statement without a block, after its first keyword.
 pub fn act(reader: &mut Reader, first: ActKeyword) -> Result<Act, ScriptFault>
-    ensures spells { IfOk result (λ a. Passes (act_words a) (behind (act_keyword first) reader.old) reader.new) }
+    ensures spells { IfOk result (λ a. Passes (act_lexemes a) (from_act first reader.old)
+        reader.new) }
     ensures range { IfOk result IsAct }
-    ensures none { OnErr result (NoneOf Act IsAct act_words (behind (act_keyword first) reader.old)) }
-    ensures shorter { OnOk result (length reader.new.words ≤ length reader.old.words) }
+    ensures none { OnErr result (NoneOf Act IsAct act_lexemes (from_act first reader.old)) }
+    ensures shorter { OnOk result (length reader.new.lexemes ≤ length reader.old.lexemes) }
 {
     match first {
         ActKeyword::Wait => waiting(reader),
@@ -364,21 +353,21 @@ pub fn act(reader: &mut Reader, first: ActKeyword) -> Result<Act, ScriptFault>
     }
 }
 
-/// Whether an item is next.
+/// Whether the next token begins an item.
 pub fn begins_item(reader: &Reader) -> bool
-    ensures begins { result ≡ true → BeginsItem reader.now.words }
-    ensures none { result ≡ false → BeginsNoItem reader.now.words }
+    ensures begins { result ≡ true → BeginsItem reader.now.lexemes }
+    ensures none { result ≡ false → BeginsNoItem reader.now.lexemes }
 {
     reader.item_keyword().is_some()
 }
 
-/// Items, up to what is none; `left` is how many more items and statements a script may have.
+/// Items, as long as one begins; `left` is how many more items and statements the script may have.
 pub fn items(alloc: Global, reader: &mut Reader, left: &mut u16) -> Result<Vec<Item>, ScriptFault>
     ensures formed { IfOk result (λ v. All IsItem v.items) }
     ensures counts { IfOk result (λ v. length v.items + left.new ≡ left.old) }
     ensures spells { IfOk result (λ v. AreItems v.items reader.old reader.new) }
-    ensures stops { OnOk result (BeginsNoItem reader.new.words) }
-    ensures none { IfErr result (λ e. e ≢ Memory → NoItems left.old reader.old.words) }
+    ensures stops { OnOk result (BeginsNoItem reader.new.lexemes) }
+    ensures none { IfErr result (λ e. e ≢ Memory → NoItems left.old reader.old.lexemes) }
 {
     let mut list = Vec::new(alloc);
     while begins_item(reader) {
@@ -391,12 +380,12 @@ pub fn items(alloc: Global, reader: &mut Reader, left: &mut u16) -> Result<Vec<I
     Ok(list)
 }
 
-/// An item, at the end of a list.
+/// Reads an item and appends it to a list.
 fn one_more(reader: &mut Reader, list: &mut Vec<Item>) -> Result<(), ScriptFault>
     ensures formed { OnOk result (IsOneMore list.old.items list.new.items reader.old reader.new) }
-    ensures none { IfErr result (λ e. e ≢ Memory → NoneOf Edit (λ e. IsEdit e × Adds e) edit_words
+    ensures none { IfErr result (λ e. e ≢ Memory → NoneOf Edit (λ e. IsEdit e × Adds e) edit_lexemes
         reader.old) }
-    ensures shorter { OnOk result (length reader.new.words < length reader.old.words) }
+    ensures shorter { OnOk result (length reader.new.lexemes < length reader.old.lexemes) }
 {
     let Some(first) = reader.item_keyword() else {
         return Err(reader.expected());

@@ -1,16 +1,16 @@
-//! Laws of texts and scripts.
+//! Laws of scripts and their texts.
 
 ghost use Rattle.script_front.specs.Alike.{ScriptsHaveTheirOwnTokens, TextsAreOfOneScript};
 
 pub use script_tokens::laws::texts;
 
-/// Two scripts have the same tokens only where they are alike: their headers, what their items add, the names of
-/// their blocks, and the statements of each block and after `begin` are the same, lines aside.
+/// Two scripts have the same tokens only where they are alike: apart from lines, they have the same header, the same
+/// edits in their items, the same block names, and the same statements in each block and after `begin`.
 pub fn scripts()
     ensures { ScriptsHaveTheirOwnTokens }
 {}
 
-/// A text is that of one script at most: two that it is the text of are the same, with their lines.
+/// A text is that of at most one script: two scripts with this text are the same, with their lines.
 pub fn texts_of_scripts()
     ensures { TextsAreOfOneScript }
 {}

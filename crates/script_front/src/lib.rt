@@ -1,13 +1,14 @@
-//! The script language of reconfiguration plans: its tree, reading and printing.
+//! The script language of reconfiguration plans: its tree, parser and printer.
 //!
-//! `parse` reads a text into a `Script`, `print` writes one, and `lex`, of `script_tokens`, gives a text's
-//! tokens. Begin with `Script` and `Statement`. What a text denotes, which `parse` answers, is defined in
-//! `specs/Denoting.antt`: `IsScriptOf`; what a tree means to a compiler, in `specs/Block.antt`.
+//! `parse` reads a text into a `Script`, `print` prints one, and `lex`, of `script_tokens`, returns a text's tokens.
+//! Begin with `Script` and `Statement`. The script of a text, which `parse` returns, is defined in
+//! `specs/Denoting.antt` (`IsScriptOf`); what a compiler takes a tree to mean, in `specs/Block.antt`.
 #![tactic(auto)]
 
 pub mod header;
 pub mod items;
 pub mod laws;
+pub mod lexemes;
 pub mod make;
 pub mod names;
 pub mod parser;
@@ -15,7 +16,6 @@ pub mod printer;
 pub mod script;
 pub mod statements;
 pub mod tree;
-pub mod words;
 
 pub use fib_codec::Mode;
 pub use names::Names;

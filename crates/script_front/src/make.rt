@@ -1,4 +1,4 @@
-//! Making statements.
+//! Constructors of statements.
 
 ghost use Rattle.std.specs.Prelude.{◌≡◌, []};
 ghost use Rattle.script_front.specs.Block.{Block, basic, stop, when, either, repeat, forever, apply, before, block_of};

@@ -30,14 +30,14 @@ impl Names {
         }
     }
 
-    /// How many names there are.
+    /// The number of names.
     pub fn len(&self) -> usize
         ensures { result ≡ length self.now }
     {
         self.set.len()
     }
 
-    /// The number of this name, from 0; None where it is not among the names.
+    /// The index of this name; None if it is not among the names.
     pub fn find(&self, name: &str) -> Option<usize>
         ensures within { IfSome result (λ i. i < length self.now) }
         ensures found { IfSome result (λ i. slice_get self.now i ≡ Some name.now) }
@@ -46,7 +46,7 @@ impl Names {
         self.set.get_index_of(name)
     }
 
-    /// The name of this number; None where there are not that many.
+    /// The name at this index; None past the last one.
     pub fn get(&self, index: usize) -> Option<&str>
         ensures { option_map (λ s. s.now) result ≡ slice_get self.now index }
     {
@@ -56,11 +56,11 @@ impl Names {
         }
     }
 
-    /// Adds a name; it must not be among the names.
+    /// Appends a name, which must not be among the names.
     ///
     /// # Errors
     ///
-    /// For want of memory.
+    /// If memory runs out.
     pub fn add(&mut self, alloc: Global, name: &str) -> Result<(), AllocError>
         requires { (i : ℕ) → slice_get self.old i ≢ Some name.now }
         ensures { OnOk result (self.new ≡ self.old ++ name.now ∷ []) }

@@ -1,9 +1,9 @@
-//! Reading a whole script.
+//! Parsing a script.
 
 ghost use Rattle.std.specs.Prelude.{◌≡◌, ◌≢◌, ℕ, ◌∷◌, [], ◌<◌, length, slice_get, Some, IfOk, OnOk};
 ghost use Rattle.script_front.specs.Block.{block_of};
 ghost use Rattle.script_tokens.specs.declared.keyword.Keyword.TheVariants as the;
-ghost use Rattle.script_tokens.specs.Words.{letters, IsName};
+ghost use Rattle.script_tokens.specs.Keywords.{letters, IsName};
 ghost use Rattle.script_tokens.specs.Reading.{BeginsWith};
 ghost use Rattle.script_front.specs.Parsing.{AreDefined, IsDefined, SpellsTree, NoDefinitions, NoNewName, SpellsNone};
 ghost use Rattle.script_front.specs.Denoting.{IsScriptOf, IsNoScript};
@@ -23,16 +23,16 @@ use script_tokens::reader::Reader;
 use script_tokens::values::name;
 use std::alloc::Global;
 
-/// The most items and statements of a script.
+/// The maximum number of items and statements of a script.
 const MOST_STATEMENTS: u16 = 8192;
 
-/// The most defined blocks of a script.
+/// The maximum number of defined blocks of a script.
 const MOST_BLOCKS: usize = 64;
 
-/// The deepest that braces may be nested.
+/// The maximum depth of nested braces.
 const DEEPEST: u8 = 16;
 
-/// Definitions, up to what is none. A name is defined once its block has ended.
+/// Definitions, as long as one begins. A name is defined at the end of its block.
 fn definitions(
     alloc: Global,
     reader: &mut Reader,
@@ -42,9 +42,9 @@ fn definitions(
     requires { names.old ≡ [] }
     ensures defined { IfOk result (λ v. AreDefined names.new left.old left.new reader.old reader.new
         v.items) }
-    ensures ends { OnOk result ((rest : List (List ℕ)) → reader.new.words ≢ letters the.Define ∷
+    ensures ends { OnOk result ((rest : List (List ℕ)) → reader.new.lexemes ≢ letters the.Define ∷
         rest) }
-    ensures none { IfErr result (λ e. e ≢ Memory → NoDefinitions [] left.old reader.old.words) }
+    ensures none { IfErr result (λ e. e ≢ Memory → NoDefinitions [] left.old reader.old.lexemes) }
 {
     let mut blocks = Vec::new(alloc);
     while reader.is_next(Keyword::Define) {
@@ -59,7 +59,7 @@ fn definitions(
     Ok(blocks)
 }
 
-/// `define NAME` and a block
+/// `define NAME`, then a block
 fn definition(
     alloc: Global,
     reader: &mut Reader,
@@ -67,12 +67,12 @@ fn definition(
     left: &mut u16,
 ) -> Result<Vec<Statement>, ScriptFault>
     requires few { length names.old < 64 }
-    requires begins { BeginsWith reader.old.words (letters the.Define) }
+    requires begins { BeginsWith reader.old.lexemes (letters the.Define) }
     ensures defined { IfOk result (λ v. IsDefined names.old names.new left.old left.new reader.old
         reader.new (block_of [] v.items)) }
     ensures none { IfErr result (λ e. e ≢ Memory → NoDefinitions names.old left.old
-        reader.old.words) }
-    ensures shorter { OnOk result (length reader.new.words < length reader.old.words) }
+        reader.old.lexemes) }
+    ensures shorter { OnOk result (length reader.new.lexemes < length reader.old.lexemes) }
 {
     reader.advance();
     let name = new_name(reader, names)?;
@@ -82,12 +82,12 @@ fn definition(
     Ok(body)
 }
 
-/// A name that is not defined yet, and is not passed over
+/// A name that is not defined yet; the reader does not advance
 fn new_name<'a>(reader: &Reader<'a>, names: &Names) -> Result<&'a str, ScriptFault>
     ensures formed { IfOk result (λ s. IsName s.now) }
-    ensures begins { IfOk result (λ s. BeginsWith reader.now.words s.now) }
+    ensures begins { IfOk result (λ s. BeginsWith reader.now.lexemes s.now) }
     ensures new { IfOk result (λ s. (i : ℕ) → slice_get names.now i ≢ Some s.now) }
-    ensures none { OnErr result (NoNewName names.now reader.now.words) }
+    ensures none { OnErr result (NoNewName names.now reader.now.lexemes) }
 {
     let name = name(reader)?;
     match names.find(name) {
@@ -96,10 +96,10 @@ fn new_name<'a>(reader: &Reader<'a>, names: &Names) -> Result<&'a str, ScriptFau
     }
 }
 
-/// The end of the text.
+/// Checks that no token is left.
 fn end(reader: &Reader) -> Result<(), ScriptFault>
-    ensures all { OnOk result (reader.now.words ≡ []) }
-    ensures none { OnErr result (reader.now.words ≢ []) }
+    ensures all { OnOk result (reader.now.lexemes ≡ []) }
+    ensures none { OnErr result (reader.now.lexemes ≢ []) }
 {
     match reader.peek() {
         None => Ok(()),
@@ -107,10 +107,10 @@ fn end(reader: &Reader) -> Result<(), ScriptFault>
     }
 }
 
-/// The tokens of a whole script.
+/// Parses the tokens of a whole script.
 fn script(alloc: Global, reader: &mut Reader) -> Result<Script, ScriptFault>
     ensures spelled { IfOk result (λ s. SpellsTree s reader.old) }
-    ensures none { IfErr result (λ e. e ≢ Memory → SpellsNone reader.old.words) }
+    ensures none { IfErr result (λ e. e ≢ Memory → SpellsNone reader.old.lexemes) }
 {
     let last_line = reader.last_line();
     let header = header(reader)?;
@@ -127,18 +127,18 @@ fn script(alloc: Global, reader: &mut Reader) -> Result<Script, ScriptFault>
     ))
 }
 
-/// The script of a text, with the lines of its items, its statements, `begin` and its last token.
+/// Parses the script of a text, with the lines of its items, its statements, `begin` and its last token.
 ///
 /// # Errors
 ///
-/// The faults of `lex`; then the first from the front of: `Number` for an atom that is no value in range where a
-/// value is required, `Expected` for another wrong token or the end of the text, `Depth` for a brace more than 16
-/// deep, `NameUsed` for a second definition of a name, `NameUnknown` where a name is applied that was not defined
-/// before, `Limit` for a 65th definition, and for an item or statement past 8,192 in all; `Memory` where memory is
-/// refused. Each but `Memory` has the position of the token at fault, or just past the text.
+/// The faults of `lex`; then the first in text order of: `Number` for an atom where a value is required that is not
+/// such a value in range, `Expected` for any other wrong token or the end of the text, `Depth` for a brace more than 16
+/// deep, `NameUsed` for a second definition of a name, `NameUnknown` for applying a name that was not defined before,
+/// `Limit` for a 65th definition, and for an item or statement past 8,192 in all. `Memory` if memory runs out. Each but
+/// `Memory` has the position of the token at fault, or just past the text.
 ///
-/// Memory aside, a text is refused only where it is no script: where no tree with every number in range, names well
-/// formed and different, and no limit passed has its tokens on its lines.
+/// Barring allocation failure, a text is refused only if it is not a script: if no tree with every number in range,
+/// with names well formed and different, and within all limits has these tokens on these lines.
 pub fn parse(alloc: Global, text: &str) -> Result<Script, ScriptFault>
     ensures script { IfOk result (λ s. IsScriptOf text.now s) }
     ensures none { IfErr result (λ e. e ≢ Memory → IsNoScript text.now) }

@@ -3,23 +3,23 @@
 ghost use Rattle.std.specs.Prelude.{◌≡◌, ◌+◌, ◌-◌, ◌<◌, ◌≤◌, ◌++◌, ◌∷◌, [], length, OnOk, IfOk, string_bytes};
 ghost use Rattle.std.specs.Fmt.{decimal};
 ghost use Rattle.script_tokens.specs.declared.keyword.Keyword.TheVariants as the;
-ghost use Rattle.script_tokens.specs.Words.{letters};
+ghost use Rattle.script_tokens.specs.Keywords.{letters};
 ghost use Rattle.script_front.specs.Block.{before, nothing, block_of};
 ghost use Rattle.script_front.specs.Tree.{IsInBounds, AllFit};
 ghost use Rattle.script_front.specs.Parsing.{bodies};
-ghost use Rattle.script_front.specs.Spelled.{act_words, edit_words, name_at};
+ghost use Rattle.script_front.specs.Spelled.{act_lexemes, edit_lexemes, name_at};
 ghost use Rattle.script_front.specs.Printing.{IsPut, line, indent, line_text, text_of_lines, block_lines, items_lines, definition_lines, defined_lines, tree_lines};
 ghost use Rattle.script_front.specs.Denoting.{Denotes};
 
+use crate::lexemes::{put_act, put_edit, put_header};
 use crate::names::Names;
 use crate::script::Script;
 use crate::tree::{Act, BlockId, Item, Statement};
-use crate::words::{put_act, put_edit, put_header};
 use plan_code::{ContactId, Times};
 use std::alloc::{AllocError, Global};
 use std::fmt::Write;
 
-/// Two blanks for each level.
+/// Two spaces for each level.
 #[tactic(auto, using(crate::proofs::Printed::indented))]
 fn put_indent(out: &mut String, depth: u8) -> Result<(), AllocError>
     ensures { OnOk result (string_bytes out.new ≡ string_bytes out.old ++ indent depth) }
@@ -30,17 +30,17 @@ fn put_indent(out: &mut String, depth: u8) -> Result<(), AllocError>
     Ok(())
 }
 
-/// A line of one item.
+/// The line of an item.
 fn put_item(out: &mut String, item: &Item) -> Result<(), AllocError>
     ensures { OnOk result (string_bytes out.new ≡ string_bytes out.old ++ line_text (line 0
-        (edit_words item.now.edit))) }
+        (edit_lexemes item.now.edit))) }
 {
     put_edit(out, item.edit)?;
     out.push_str("\n")?;
     Ok(())
 }
 
-/// The items, each on a line.
+/// The items, one per line.
 #[tactic(auto, using(crate::proofs::Printed::item_more, crate::proofs::Printed::items_all))]
 fn put_items(out: &mut String, items: &[Item]) -> Result<(), AllocError>
     ensures { OnOk result (string_bytes out.new ≡ string_bytes out.old ++ text_of_lines
@@ -52,7 +52,7 @@ fn put_items(out: &mut String, items: &[Item]) -> Result<(), AllocError>
     Ok(())
 }
 
-/// A line of a text.
+/// An indented line; `text` includes the line end.
 fn put_line(out: &mut String, depth: u8, text: &str) -> Result<(), AllocError>
     ensures { OnOk result (string_bytes out.new ≡ string_bytes out.old ++ (indent depth ++
         text.now)) }
@@ -65,7 +65,7 @@ fn put_line(out: &mut String, depth: u8, text: &str) -> Result<(), AllocError>
 /// The line of a statement without a block.
 fn put_basic(out: &mut String, act: Act, depth: u8) -> Result<(), AllocError>
     ensures { OnOk result (string_bytes out.new ≡ string_bytes out.old ++ line_text (line depth
-        (act_words act))) }
+        (act_lexemes act))) }
 {
     put_indent(out, depth)?;
     put_act(out, act)?;
@@ -74,7 +74,7 @@ fn put_basic(out: &mut String, act: Act, depth: u8) -> Result<(), AllocError>
 }
 
 /// The line of `apply`.
-#[tactic(auto, unfolding(script_tokens::specs::Words::letters))]
+#[tactic(auto, unfolding(script_tokens::specs::Keywords::letters))]
 fn put_apply(out: &mut String, names: &Names, block: BlockId, depth: u8) -> Result<(), AllocError>
     requires { block < length names.now }
     ensures { OnOk result (string_bytes out.new ≡ string_bytes out.old ++ line_text (line depth
@@ -99,7 +99,7 @@ fn put_name(out: &mut String, names: &Names, index: usize) -> Result<(), AllocEr
 }
 
 /// The first line of `if`.
-#[tactic(auto, unfolding(script_tokens::specs::Words::letters))]
+#[tactic(auto, unfolding(script_tokens::specs::Keywords::letters))]
 fn put_if(out: &mut String, contact: ContactId, depth: u8) -> Result<(), AllocError>
     ensures { OnOk result (string_bytes out.new ≡ string_bytes out.old
         ++ line_text (line depth (letters the.If ∷ letters the.Contact ∷ decimal contact ∷ letters
@@ -111,7 +111,7 @@ fn put_if(out: &mut String, contact: ContactId, depth: u8) -> Result<(), AllocEr
 }
 
 /// The first line of `repeat`.
-#[tactic(auto, unfolding(script_tokens::specs::Words::letters))]
+#[tactic(auto, unfolding(script_tokens::specs::Keywords::letters))]
 fn put_repeat(out: &mut String, times: Times, depth: u8) -> Result<(), AllocError>
     ensures { OnOk result (string_bytes out.new ≡ string_bytes out.old
         ++ line_text (line depth (letters the.Repeat ∷ decimal times ∷ letters the.OpenBrace ∷
@@ -122,7 +122,7 @@ fn put_repeat(out: &mut String, times: Times, depth: u8) -> Result<(), AllocErro
     write!(out, "repeat {times} {{\n")
 }
 
-/// A statement, at most this many braces deep.
+/// The lines of a statement at this depth, with at most `left` more braces nested in it.
 #[cycle(put_statements)]
 #[tactic(auto, using(crate::proofs::Printed::act_put, crate::proofs::Printed::stop_put, crate::proofs::Printed::when_put, crate::proofs::Printed::either_put, crate::proofs::Printed::repeat_put, crate::proofs::Printed::forever_put, crate::proofs::Printed::apply_put))]
 fn put_statement(
@@ -184,7 +184,7 @@ fn put_statement(
     }
 }
 
-/// Statements, at most this many braces deep.
+/// The lines of statements at this depth, with at most `left` more braces nested in them.
 #[cycle(put_statements)]
 #[tactic(auto, using(crate::proofs::Printed::put_more, crate::proofs::Printed::all_put))]
 fn put_statements(
@@ -206,7 +206,7 @@ fn put_statements(
 }
 
 /// A definition.
-#[tactic(auto, using(crate::proofs::Printed::definition_put), unfolding(script_tokens::specs::Words::letters))]
+#[tactic(auto, using(crate::proofs::Printed::definition_put), unfolding(script_tokens::specs::Keywords::letters))]
 fn put_definition(
     out: &mut String,
     names: &Names,
@@ -226,7 +226,7 @@ fn put_definition(
     Ok(())
 }
 
-/// The definitions, in their order.
+/// The definitions, in order.
 fn put_definitions(
     out: &mut String,
     names: &Names,
@@ -243,12 +243,12 @@ fn put_definitions(
     Ok(())
 }
 
-/// The text of a script: `ensemble` on one line, `period`, `notice` and `budget` on the next, each item,
-/// `define`, `begin` and statement on a line of its own, two blanks more for each depth of braces.
+/// The text of a script: `ensemble` on one line, `period`, `notice` and `budget` on the next; then each item, `define`,
+/// `begin` and statement on its own line, indented by two spaces for each depth of braces.
 ///
 /// # Errors
 ///
-/// For want of memory.
+/// If memory runs out.
 pub fn print(alloc: Global, script: &Script) -> Result<String, AllocError>
     ensures layout { IfOk result (λ s. string_bytes s ≡ text_of_lines (tree_lines script.now)) }
     ensures denotes { IfOk result (λ s. Denotes (string_bytes s) script.now) }

@@ -1,4 +1,4 @@
-//! A script: its tree, within every range and limit.
+//! A script: its tree, with every number in range and all limits kept.
 
 ghost use Rattle.std.specs.Prelude.{◌≡◌, map};
 
@@ -6,9 +6,8 @@ use crate::names::Names;
 use crate::tree::{Header, Item, Statement};
 use std::marker::Model;
 
-/// A script. Every number is in its range and every name is well formed and defined once; at most 64 blocks are
-/// defined, each applies those before it only, braces are at most 16 deep, and there are at most 8,192 items
-/// and statements.
+/// A script. Every number is in range, every name is well formed and defined once, at most 64 blocks are defined, each
+/// applies only those before it, braces are at most 16 deep, and there are at most 8,192 items and statements.
 #[derive(Drop)]
 pub struct Script {
     header: Header,
@@ -94,7 +93,7 @@ impl Script {
         }
     }
 
-    /// What it declares.
+    /// Its header.
     pub fn header(&self) -> Header
         ensures value { result ≡ self.now.header }
         ensures formed { IsScript self.now }
@@ -118,7 +117,7 @@ impl Script {
         &self.names
     }
 
-    /// Its defined blocks, in the order of their definitions, which is that of their names and numbers.
+    /// Its defined blocks in the order of their definitions, which is that of their names and numbers.
     pub fn blocks(&self) -> &[Vec<Statement>]
         ensures value { map (λ b. b.items) result.now ≡ self.now.blocks }
         ensures formed { IsScript self.now }

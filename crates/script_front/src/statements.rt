@@ -1,10 +1,10 @@
-//! Reading statements.
+//! Parsing statements.
 
 ghost use Rattle.std.specs.Prelude.{◌≡◌, ℕ, ◌+◌, ◌<◌, ◌≤◌, ◌∷◌, [], length, IfOk, OnOk};
 ghost use Rattle.script_front.specs.Block.{and_then, before, block_of};
 ghost use Rattle.script_tokens.specs.declared.keyword.Keyword.TheVariants as the;
-ghost use Rattle.script_tokens.specs.Words.{letters};
-ghost use Rattle.script_tokens.specs.Reading.{Passes, behind, line_of};
+ghost use Rattle.script_tokens.specs.Keywords.{letters};
+ghost use Rattle.script_tokens.specs.Reading.{Passes, preceded_by, line_of};
 ghost use Rattle.script_front.specs.Parsing.{IsRead, IsBraced, IsApplied, Stops, NoBlock, NoBody, NoApplied};
 ghost use Rattle.std.specs.Prelude.{◌≢◌, List, true, false, IfErr, OnErr};
 ghost use Rattle.script_tokens.specs.declared.fault.ScriptFault.TheVariants.{Memory};
@@ -20,8 +20,8 @@ use script_tokens::reader::Reader;
 use script_tokens::values::{contact, name, times};
 use std::alloc::Global;
 
-/// A statement; `left` is how many more items and statements a script may have, and `depth` how many more
-/// braces may be nested.
+/// A statement; `left` is how many more items and statements the script may have, and `depth` how many more braces may
+/// be nested.
 #[cycle(statements)]
 fn statement(
     alloc: Global,
@@ -31,12 +31,12 @@ fn statement(
     depth: u8,
 ) -> Result<Statement, ScriptFault>
     requires known { length names.now ≤ 64 }
-    requires goes_on { Stops reader.old.words → ⊥ }
+    requires not_stopped { Stops reader.old.lexemes → ⊥ }
     ensures read { IfOk result (λ s. IsRead names.now depth left.old left.new reader.old reader.new
         (before [] s)) }
     ensures none { IfErr result (λ e. e ≢ Memory → NoBlock names.now depth left.old
-        reader.old.words) }
-    ensures shorter { OnOk result (length reader.new.words < length reader.old.words) }
+        reader.old.lexemes) }
+    ensures shorter { OnOk result (length reader.new.lexemes < length reader.old.lexemes) }
 {
     let Some(first) = reader.statement_keyword() else {
         return Err(reader.expected());
@@ -72,7 +72,7 @@ fn statement(
     }
 }
 
-/// Statements, up to the end or to a brace that closes.
+/// Statements, up to a closing brace or the end of the text.
 #[cycle(statements)]
 pub fn statements(
     alloc: Global,
@@ -84,10 +84,10 @@ pub fn statements(
     requires { length names.now ≤ 64 }
     ensures read { IfOk result (λ v. IsRead names.now depth left.old left.new reader.old reader.new
         (and_then [] v.items)) }
-    ensures stops { OnOk result (Stops reader.new.words) }
+    ensures stops { OnOk result (Stops reader.new.lexemes) }
     ensures none { IfErr result (λ e. e ≢ Memory → NoBlock names.now depth left.old
-        reader.old.words) }
-    ensures shorter { OnOk result (length reader.new.words ≤ length reader.old.words) }
+        reader.old.lexemes) }
+    ensures shorter { OnOk result (length reader.new.lexemes ≤ length reader.old.lexemes) }
 {
     let mut list = Vec::new(alloc);
     'statements: while !ends(reader) {
@@ -99,11 +99,11 @@ pub fn statements(
     Ok(list)
 }
 
-/// Whether statements end here.
-#[tactic(auto, unfolding(script_tokens::specs::Words::letters))]
+/// Whether no token is left, or a closing brace is next.
+#[tactic(auto, unfolding(script_tokens::specs::Keywords::letters))]
 fn ends(reader: &Reader) -> bool
-    ensures stops { result ≡ true → Stops reader.now.words }
-    ensures goes_on { result ≡ false → Stops reader.now.words → ⊥ }
+    ensures stops { result ≡ true → Stops reader.now.lexemes }
+    ensures not_stopped { result ≡ false → Stops reader.now.lexemes → ⊥ }
 {
     match reader.peek() {
         None => true,
@@ -127,8 +127,8 @@ pub fn block(
     ensures read { IfOk result (λ v. IsBraced names.now depth left.old left.new reader.old
         reader.new (block_of [] v.items)) }
     ensures none { IfErr result (λ e. e ≢ Memory → NoBody names.now depth left.old
-        reader.old.words) }
-    ensures shorter { OnOk result (length reader.new.words < length reader.old.words) }
+        reader.old.lexemes) }
+    ensures shorter { OnOk result (length reader.new.lexemes < length reader.old.lexemes) }
 {
     open(reader, depth)?;
     let body = statements(alloc, reader, names, left, depth - 1)?;
@@ -136,13 +136,13 @@ pub fn block(
     Ok(body)
 }
 
-/// A brace that opens, where this many more may be nested.
+/// An opening brace, if `depth` allows one more.
 fn open(reader: &mut Reader, depth: u8) -> Result<(), ScriptFault>
     ensures room { OnOk result (1 ≤ depth) }
     ensures spells { OnOk result (Passes (letters the.OpenBrace ∷ []) reader.old reader.new) }
     ensures none { OnErr result (1 ≤ depth → (rest : List (List ℕ))
-        → reader.old.words ≢ letters the.OpenBrace ∷ rest) }
-    ensures shorter { OnOk result (length reader.new.words < length reader.old.words) }
+        → reader.old.lexemes ≢ letters the.OpenBrace ∷ rest) }
+    ensures shorter { OnOk result (length reader.new.lexemes < length reader.old.lexemes) }
 {
     if !reader.is_next(Keyword::OpenBrace) {
         return Err(reader.expected());
@@ -154,7 +154,7 @@ fn open(reader: &mut Reader, depth: u8) -> Result<(), ScriptFault>
     Ok(())
 }
 
-/// What follows `if`.
+/// The rest of a statement after `if`.
 #[cycle(statements)]
 fn choice(
     alloc: Global,
@@ -165,12 +165,12 @@ fn choice(
     line: u16,
 ) -> Result<Statement, ScriptFault>
     requires known { length names.now ≤ 64 }
-    requires line { line ≡ line_of reader.old.lines (letters the.If ∷ reader.old.words) }
-    ensures read { IfOk result (λ s. IsRead names.now depth (left.old + 1) left.new (behind the.If
+    requires line { line ≡ line_of reader.old.lines (letters the.If ∷ reader.old.lexemes) }
+    ensures read { IfOk result (λ s. IsRead names.now depth (left.old + 1) left.new (preceded_by the.If
         reader.old) reader.new (before [] s)) }
     ensures none { IfErr result (λ e. e ≢ Memory → NoBlock names.now depth (left.old + 1)
-        (letters the.If ∷ reader.old.words)) }
-    ensures shorter { OnOk result (length reader.new.words ≤ length reader.old.words) }
+        (letters the.If ∷ reader.old.lexemes)) }
+    ensures shorter { OnOk result (length reader.new.lexemes ≤ length reader.old.lexemes) }
 {
     reader.expect(Keyword::Contact)?;
     let contact = contact(reader)?;
@@ -183,7 +183,7 @@ fn choice(
     Ok(choosing(line, contact, first, second))
 }
 
-/// What follows `repeat`.
+/// The rest of a statement after `repeat`.
 #[cycle(statements)]
 fn repetition(
     alloc: Global,
@@ -194,19 +194,19 @@ fn repetition(
     line: u16,
 ) -> Result<Statement, ScriptFault>
     requires known { length names.now ≤ 64 }
-    requires line { line ≡ line_of reader.old.lines (letters the.Repeat ∷ reader.old.words) }
-    ensures read { IfOk result (λ s. IsRead names.now depth (left.old + 1) left.new (behind
+    requires line { line ≡ line_of reader.old.lines (letters the.Repeat ∷ reader.old.lexemes) }
+    ensures read { IfOk result (λ s. IsRead names.now depth (left.old + 1) left.new (preceded_by
         the.Repeat reader.old) reader.new (before [] s)) }
     ensures none { IfErr result (λ e. e ≢ Memory → NoBlock names.now depth (left.old + 1)
-        (letters the.Repeat ∷ reader.old.words)) }
-    ensures shorter { OnOk result (length reader.new.words ≤ length reader.old.words) }
+        (letters the.Repeat ∷ reader.old.lexemes)) }
+    ensures shorter { OnOk result (length reader.new.lexemes ≤ length reader.old.lexemes) }
 {
     let times = times(reader)?;
     let body = block(alloc, reader, names, left, depth)?;
     Ok(repeating(line, times, body))
 }
 
-/// What follows `forever`.
+/// The rest of a statement after `forever`.
 #[cycle(statements)]
 fn endless(
     alloc: Global,
@@ -217,23 +217,23 @@ fn endless(
     line: u16,
 ) -> Result<Statement, ScriptFault>
     requires known { length names.now ≤ 64 }
-    requires line { line ≡ line_of reader.old.lines (letters the.Forever ∷ reader.old.words) }
-    ensures read { IfOk result (λ s. IsRead names.now depth (left.old + 1) left.new (behind
+    requires line { line ≡ line_of reader.old.lines (letters the.Forever ∷ reader.old.lexemes) }
+    ensures read { IfOk result (λ s. IsRead names.now depth (left.old + 1) left.new (preceded_by
         the.Forever reader.old) reader.new (before [] s)) }
     ensures none { IfErr result (λ e. e ≢ Memory → NoBlock names.now depth (left.old + 1)
-        (letters the.Forever ∷ reader.old.words)) }
-    ensures shorter { OnOk result (length reader.new.words ≤ length reader.old.words) }
+        (letters the.Forever ∷ reader.old.lexemes)) }
+    ensures shorter { OnOk result (length reader.new.lexemes ≤ length reader.old.lexemes) }
 {
     let body = block(alloc, reader, names, left, depth)?;
     Ok(looping(line, body))
 }
 
-/// What follows `apply`.
+/// The name after `apply`.
 fn application(reader: &mut Reader, names: &Names, line: u16) -> Result<Statement, ScriptFault>
     requires { length names.now ≤ 64 }
     ensures read { IfOk result (λ s. IsApplied names.now line reader.old reader.new (before [] s)) }
-    ensures none { OnErr result (NoApplied names.now reader.old.words) }
-    ensures shorter { OnOk result (length reader.new.words ≤ length reader.old.words) }
+    ensures none { OnErr result (NoApplied names.now reader.old.lexemes) }
+    ensures shorter { OnOk result (length reader.new.lexemes ≤ length reader.old.lexemes) }
 {
     let name = name(reader)?;
     let Some(index) = names.find(name) else {

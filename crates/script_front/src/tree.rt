@@ -8,12 +8,12 @@ use plan_code::{ContactId, Delay, Frames, Times};
 use script_tokens::time::TimeOfDay;
 use std::marker::Model;
 
-/// What a script declares for the whole of its run.
+/// What a script declares for its whole run.
 #[derive(Clone, Copy, Debug, PartialEq, Eq)]
 pub struct Header {
     /// The identifier of the ensemble, EId (EN 300 401 clause 6.4).
     pub eid: u16,
-    /// The transmission mode; mode I is not written in a text.
+    /// The transmission mode; mode I is not written in a script.
     pub mode: Mode,
     /// The period, in frames, 1 to 60 in a script.
     pub period: u8,
@@ -23,13 +23,13 @@ pub struct Header {
     pub budget: u8,
 }
 
-/// An item: an edit of the opening configuration, which in a script adds a sub-channel, a service, a
-/// component or a packet component.
+/// An item: an edit of the opening configuration that, in a script, adds a sub-channel, a service, a component or a
+/// packet component.
 #[derive(Clone, Copy, Debug, PartialEq, Eq)]
 pub struct Item {
     /// The line of its first token, 1 to 65,535.
     pub line: u16,
-    /// What it adds.
+    /// The edit.
     pub edit: Edit,
 }
 
@@ -52,7 +52,7 @@ impl Model for BlockId {
 }
 
 impl BlockId {
-    /// The block of this number; None where it is above 63.
+    /// The block with this number; None above 63.
     pub fn new(id: u8) -> Option<BlockId>
         ensures in_range { IsSome result ↔ (id < 64) }
         ensures value { IfSome result (λ b. b ≡ id) }
@@ -69,27 +69,27 @@ impl BlockId {
     }
 }
 
-/// A statement that is carried out at once or suspends, and after which the next one follows: each is one
-/// instruction of a plan code.
+/// A statement without a block after which the next one follows, at once or after suspending; each is one instruction
+/// of a plan code.
 #[derive(Clone, Copy, Debug, PartialEq, Eq)]
 pub enum Act {
-    /// One of the ten edits, of the next configuration.
+    /// One of the ten edits: edits the next configuration.
     Edit(Edit),
     /// `wait N`: suspends for this many frames.
     Wait(Frames),
     /// `wait contact C closed` or `open`: suspends until the contact has this level in a later frame.
     WaitContact { contact: ContactId, closed: bool },
-    /// `until TIME`: suspends until a later frame is the first of this time of the day.
+    /// `until TIME`: suspends until a later frame is the first one at this time of day.
     Until(TimeOfDay),
-    /// `commit in K`: commits the next configuration; the swap comes this many frames later, or at the first
-    /// count after them at which one can fall.
+    /// `commit in K`: commits the next configuration; the swap falls after this many frames, or in the first frame
+    /// after that whose CIF count is a multiple of the mode's step.
     CommitIn(Delay),
-    /// `commit at COUNT`: commits the next configuration; the swap comes at this CIF count, 0 to 65,535 in a
-    /// text, after a whole notice.
+    /// `commit at COUNT`: commits the next configuration; the swap falls in the first frame with this CIF count, 0 to
+    /// 65,535 in a script, that leaves a whole notice before it.
     CommitAt(u16),
     /// `join`: suspends until the pending swap has been made.
     Join,
-    /// `settle`: suspends until the pending swap has been made, where one is pending.
+    /// `settle`: if a swap is pending, suspends until it has been made.
     Settle,
 }
 
@@ -101,35 +101,35 @@ pub enum Statement {
         line: u16,
         act: Act,
     },
-    /// `end`: nothing more is carried out.
+    /// `end`: nothing more is executed.
     End {
         line: u16,
     },
-    /// `if contact C { .. }`: the block where the contact is closed.
+    /// `if contact C { .. }`: the block, if the contact is closed.
     If {
         line: u16,
         contact: ContactId,
         first: Vec<Statement>,
     },
-    /// `if contact C { .. } else { .. }`: the second block where the contact is open.
+    /// `if contact C { .. } else { .. }`: the first block if the contact is closed, the second if it is open.
     IfElse {
         line: u16,
         contact: ContactId,
         first: Vec<Statement>,
         second: Vec<Statement>,
     },
-    /// `repeat N { .. }`: the block this many times.
+    /// `repeat N { .. }`: the block, N times.
     Repeat {
         line: u16,
         times: Times,
         body: Vec<Statement>,
     },
-    /// `forever { .. }`: the block again and again.
+    /// `forever { .. }`: the block, repeated without end.
     Forever {
         line: u16,
         body: Vec<Statement>,
     },
-    /// `apply NAME`: the block that was defined by this name.
+    /// `apply NAME`: the block defined with this name.
     Apply {
         line: u16,
         block: BlockId,

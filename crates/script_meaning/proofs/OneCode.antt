@@ -1,5 +1,5 @@
--- A script has one code whose labels cost their needs: the table of configurations is that of its labels, each once, and
--- so each label gives one index in it.
+-- A script has at most one code whose labels cost their needs: the table has the configurations of its labels, each
+-- once, so each label determines the indices.
 use Rattle.std.proofs.Common.{◌≡◌, ℕ, zero, suc, ◌+◌, ◌≤◌, ◌<◌, ◌⊎◌, List, [], ◌∷◌, ◌++◌, length, Option, Some, refl, sym, ap, ◌∙◌, subst, arith, inl, inr}
 use Rattle.std.specs.Prelude.{slice_get, Contains}
 use Rattle.mux_config.specs.Configuration.{Configuration}
@@ -12,9 +12,9 @@ use Rattle.plan_code.specs.declared.plan.Plan.{Plan}
 use Rattle.plan_code.specs.Program.{Program}
 use Rattle.script_front.specs.Tree.{Tree}
 use Rattle.script_meaning.specs.declared.flow.UnpricedLabel.{UnpricedLabel}
-use Rattle.script_meaning.specs.Scheme.{marks_of}
+use Rattle.script_meaning.specs.Scheme.{unpriced_labels}
 use Rattle.script_meaning.specs.Need.{IsNeed}
-use Rattle.script_meaning.specs.Compiled.{Added, Tabled, IsLabelOf, AreLabelsOf, IsCodeOf, CostsItsNeeds, ScriptsHaveOneCode, instrs_of, places_of}
+use Rattle.script_meaning.specs.Compiled.{Added, Tabled, IsLabelOf, AreLabelsOf, IsCodeOf, CostsItsNeeds, ScriptsHaveOneCode, instrs_of, placed_instrs}
 
 some_same : {A : Type 0} (x y : A) → Some x ≡ Some y → x ≡ y
 some_same x y e = cc
@@ -69,7 +69,7 @@ distinct_tabled table (m ∷ ms) new h d = distinct_tabled h.1 ms new h.4 (disti
 
 -- ---- the labels
 
--- each costs what the code needs from there
+-- each label costs the need of its pc
 abbrev AreNeeds : List Instr → List Label → Type 0
 AreNeeds code ls = (l : Label) → Contains ls l → IsNeed code l.pc l.cost
 
@@ -118,7 +118,7 @@ program_once a b plan configurations labels lines =
 
 pub scripts_have_one_code : ScriptsHaveOneCode
 scripts_have_one_code s a b h k m n =
-    let ms = marks_of 0 (places_of s) in
+    let ms = unpriced_labels 0 (placed_instrs s) in
     let table : a.configurations ≡ b.configurations = tabled_once [] ms a.configurations b.configurations h.table k.table in
     let lines : a.lines ≡ b.lines = h.lines ∙ sym k.lines in
     let labels : AreLabelsOf b.configurations ms a.labels = subst (λ (t : List Configuration). AreLabelsOf t ms a.labels) table h.labels in

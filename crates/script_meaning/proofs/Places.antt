@@ -1,31 +1,31 @@
--- Stretches of a code, and where a block leads.
+-- Ranges of a code, and the point after a block.
 use Rattle.std.proofs.Common.{◌≡◌, ℕ, ◌+◌, ◌<◌, Bool, ◌&&◌, ◌||◌, if◌then◌else◌, List, [], ◌∷◌, ◌++◌, length, Option, Some, None, is_some, refl, ap, ◌∙◌, subst, arith, append_assoc, length-append}
 use Rattle.std.specs.Prelude.{slice_get}
 use Rattle.std.proofs.Math.Seq.{get_or-append_seam}
 use Rattle.std.proofs.lemmas.Option.{slice_get-get_or}
 use Rattle.plan_code.specs.declared.plan.Plan.{Plan}
 use Rattle.plan_code.specs.declared.instr.Instr.{Instr}
-use Rattle.plan_flow.specs.Flows.{moved}
+use Rattle.plan_flow.specs.Flows.{after_instr}
 use Rattle.script_front.specs.Block.{Block, nothing, basic, stop, when, either, repeat, forever, apply}
 use Rattle.script_meaning.specs.declared.flow.ProgramPoint.{ProgramPoint}
-use Rattle.script_meaning.specs.Scheme.{Place, past, at_label, meet, join, onward, head, instr_of_act, falls_out, spot_after, alone}
+use Rattle.script_meaning.specs.Scheme.{PlacedInstr, without_label, at_label, meet, join, onward, head, instr_of_act, falls_out, point_after, alone}
 
--- these are in the code from this pc on
-abbrev pub Stand : List Place → ℕ → List Place → Type 0
+-- these instructions are in the code from this pc on
+abbrev pub Stand : List PlacedInstr → ℕ → List PlacedInstr → Type 0
 Stand code pc [] = Unit {0}
 Stand code pc (p ∷ ps) = (slice_get code pc ≡ Some p) × Stand code (pc + 1) ps
 
-pub stand_front : (code : List Place) (pc : ℕ) (a b : List Place) → Stand code pc (a ++ b) → Stand code pc a
+pub stand_front : (code : List PlacedInstr) (pc : ℕ) (a b : List PlacedInstr) → Stand code pc (a ++ b) → Stand code pc a
 stand_front code pc [] b h = tt
 stand_front code pc (i ∷ a) b h = (h.0, stand_front code (pc + 1) a b h.1)
 
-pub stand_back : (code : List Place) (pc : ℕ) (a b : List Place) → Stand code pc (a ++ b) → Stand code (pc + length a) b
+pub stand_back : (code : List PlacedInstr) (pc : ℕ) (a b : List PlacedInstr) → Stand code pc (a ++ b) → Stand code (pc + length a) b
 stand_back code pc [] b h = let e : pc ≡ pc + 0 = omega arith in subst (λ n. Stand code n b) e h
 stand_back code pc (i ∷ a) b h =
     let e : pc + 1 + length a ≡ pc + length (i ∷ a) = omega arith in
     subst (λ n. Stand code n b) e (stand_back code (pc + 1) a b h.1)
 
-pub stand_all : (ps before : List Place) → Stand (before ++ ps) (length before) ps
+pub stand_all : (ps before : List PlacedInstr) → Stand (before ++ ps) (length before) ps
 stand_all [] before = tt
 stand_all (p ∷ ps) before =
     let within : length before < length (before ++ p ∷ ps) = omega (arith, length-append before (p ∷ ps)) in
@@ -50,24 +50,24 @@ join_falls None w = refl
 join_falls (Some u) None = refl
 join_falls (Some u) (Some v) = refl
 
--- what is known after a block exists where it falls out
-pub after_falls : (plan : Plan) (b : Block) (s : ProgramPoint) → is_some (spot_after plan b s) ≡ falls_out b
+-- there is a point after a block exactly if it falls out
+pub after_falls : (plan : Plan) (b : Block) (s : ProgramPoint) → is_some (point_after plan b s) ≡ falls_out b
 after_falls plan nothing s = refl
-after_falls plan (basic line act rest) s = after_falls plan rest (past (moved plan (instr_of_act act) s.flow))
+after_falls plan (basic line act rest) s = after_falls plan rest (without_label (after_instr plan (instr_of_act act) s.flow))
 after_falls plan (stop line rest) s = refl
-after_falls plan (when line c first rest) s = meet_falls (spot_after plan first (past s.flow)) s _ (falls_out rest) (λ u. after_falls plan rest u)
+after_falls plan (when line c first rest) s = meet_falls (point_after plan first (without_label s.flow)) s _ (falls_out rest) (λ u. after_falls plan rest u)
 after_falls plan (either line c first second rest) s =
-    let a = spot_after plan first (past s.flow) in
-    let b = spot_after plan second (at_label s.flow) in
+    let a = point_after plan first (without_label s.flow) in
+    let b = point_after plan second (at_label s.flow) in
     let e : is_some (join a b) ≡ (falls_out first || falls_out second) =
-    join_falls a b ∙ ap (λ f. f || is_some b) (after_falls plan first (past s.flow)) ∙ ap (λ f. falls_out first || f) (after_falls plan second (at_label s.flow)) in
+    join_falls a b ∙ ap (λ f. f || is_some b) (after_falls plan first (without_label s.flow)) ∙ ap (λ f. falls_out first || f) (after_falls plan second (at_label s.flow)) in
     onward_falls (join a b) _ _ (falls_out rest) e (λ u. after_falls plan rest u)
 after_falls plan (repeat line n body rest) s =
-    onward_falls (spot_after plan body (head body (past s.flow))) _ _ (falls_out rest) (after_falls plan body (head body (past s.flow))) (λ u. after_falls plan rest (past u.flow))
+    onward_falls (point_after plan body (head body (without_label s.flow))) _ _ (falls_out rest) (after_falls plan body (head body (without_label s.flow))) (λ u. after_falls plan rest (without_label u.flow))
 after_falls plan (forever line body rest) s = refl
-after_falls plan (apply line k named rest) s = onward_falls (spot_after plan named s) _ _ (falls_out rest) (after_falls plan named s) (λ u. after_falls plan rest u)
+after_falls plan (apply line k named rest) s = onward_falls (point_after plan named s) _ _ (falls_out rest) (after_falls plan named s) (λ u. after_falls plan rest u)
 
--- a jump is at the end of a branch that falls out
+-- a branch ends with a jump exactly if it falls out
 pub jump_length : (line : ℕ) (i : Instr) (r : ℕ) (w : Option ProgramPoint) (f : Bool) → is_some w ≡ f → length (onward w [] (alone line i r)) ≡ (if f then 1 else 0)
 jump_length line i r None f e = ap (λ b. if b then 1 else 0) e
 jump_length line i r (Some u) f e = ap (λ b. if b then 1 else 0) e

@@ -1,4 +1,4 @@
--- The code of a script does what the script says, over every list of events.
+-- The code of a script plays as the script reads, over every list of events.
 use Rattle.std.proofs.Common.{◌≡◌, ℕ, zero, suc, ◌+◌, List, [], ◌∷◌, length, Some, None, refl, sym, ap, ◌∙◌, subst, arith}
 use Rattle.std.specs.Prelude.{slice_get, option_map}
 use Rattle.std.proofs.lemmas.Option.{slice_get-map}
@@ -20,15 +20,15 @@ use Rattle.plan_runs.proofs.TypedRuns.{typed_code_runs}
 use Rattle.script_front.specs.Block.{Block, nothing, basic, stop, when, either, repeat, forever, apply}
 use Rattle.script_front.specs.Tree.{Tree}
 use Rattle.script_meaning.specs.declared.flow.ProgramPoint.{ProgramPoint}
-use Rattle.script_meaning.specs.Scheme.{Place, place_of_instr, alone, onward, spot_after, places, all_places}
-use Rattle.script_meaning.specs.Compiled.{IsCodeOf, plan_of, body_of, opening_of, lines_of_places, beginning}
+use Rattle.script_meaning.specs.Scheme.{PlacedInstr, placed_instr, alone, onward, point_after, places, all_places}
+use Rattle.script_meaning.specs.Compiled.{IsCodeOf, plan_of, body_of, opening_of, lines_of_placed, beginning}
 use Rattle.script_meaning.specs.Meaning.{Scene, Reading, reading, scene_of, followed, first_done, Performs, opens, closes, PerformsFrame, PerformsEvent, PerformsAll, begins, ScriptsPlayAsTheyRead}
 use Rattle.script_meaning.proofs.Scenes.{ready_scene, ready_place, shown_scene}
 use Rattle.script_meaning.proofs.Places.{Stand, stand_front, stand_back, stand_all}
 use Rattle.script_meaning.proofs.Following.{Follows, Goes, there_after, ends_follow, block_plays}
 use Rattle.script_meaning.proofs.Openings.{opening_first}
 
--- ---- one reading
+-- ---- exactly one reading
 
 pub performs_one : (plan : Plan) (n m : ℕ) (x y z : Reading) → Performs plan x n y → Performs plan x m z → z ≡ y
 performs_one plan zero zero x y z h g = sym g.1 ∙ h.1
@@ -49,7 +49,7 @@ all_one plan (e ∷ es) x y z h g =
 -- ---- bursts, frames and events
 
 module _ (p : Program) where
-  -- a burst of the code is done by the script, and more of the code follows what is then left
+  -- the script executes what a burst of the code does, and the code still follows what is left
   burst_plays : (n more : ℕ) (s t : State) (b : Block) → Follows p (n + more) s.pc s.counters b → Executes p s n t →
       (c : Block) × (m : ℕ) × Performs p.plan (reading b (scene_of s)) m (reading c (scene_of t)) × Follows p more t.pc t.counters c
   burst_plays zero more s t b f h =
@@ -64,7 +64,7 @@ module _ (p : Program) where
       let all = one.1 rest.1 (reading rest.0 (scene_of t)) rest.2 in
       (rest.0, all.0, all.1, rest.3)
 
-  -- how many instructions a run carries out
+  -- the number of instructions that a run executes
   abbrev counted : (events : List Event) (s : State) → RunIsAllowed p s events → ℕ
   counted [] s h = 0
   counted (Contact c closed ∷ es) s h = counted es (happens p s (Contact c closed)) h.1
@@ -100,12 +100,12 @@ module _ (p : Program) where
 
 -- ---- scripts
 
-instr_there : (p : Program) (ps : List Place) → p.lines ≡ lines_of_places ps → (pc : ℕ) (q : Place) → slice_get ps pc ≡ Some q → instr_at p pc ≡ Some q.instr
+instr_there : (p : Program) (ps : List PlacedInstr) → p.lines ≡ lines_of_placed ps → (pc : ℕ) (q : PlacedInstr) → slice_get ps pc ≡ Some q → instr_at p pc ≡ Some q.instr
 instr_there p ps h pc q e =
     ap (λ (ls : List Line). option_map (λ (l : Line). l.instr) (slice_get ls pc)) h
-    ∙ ap (λ o. option_map (λ (l : Line). l.instr) o) (slice_get-map (λ (x : Place). let l : Line = record { number = x.line; instr = x.instr } in l) ps pc ∙ ap (λ o. option_map (λ (x : Place). let l : Line = record { number = x.line; instr = x.instr } in l) o) e)
+    ∙ ap (λ o. option_map (λ (l : Line). l.instr) o) (slice_get-map (λ (x : PlacedInstr). let l : Line = record { number = x.line; instr = x.instr } in l) ps pc ∙ ap (λ o. option_map (λ (x : PlacedInstr). let l : Line = record { number = x.line; instr = x.instr } in l) o) e)
 
--- nothing after a block
+-- a block followed by nothing is the block
 then_nothing : (b : Block) → followed b nothing ≡ b
 then_nothing nothing = refl
 then_nothing (basic line act rest) = ap (λ x. basic line act x) (then_nothing rest)
@@ -116,22 +116,22 @@ then_nothing (repeat line n body rest) = ap (λ x. repeat line n body x) (then_n
 then_nothing (forever line body rest) = ap (λ x. forever line body x) (then_nothing rest)
 then_nothing (apply line k named rest) = ap (λ x. apply line k named x) (then_nothing rest)
 
--- the code of all of a block follows it from its beginning on
-code_follows : (p : Program) (last : ℕ) (b : Block) (start : ProgramPoint) → IsProgram p → p.lines ≡ lines_of_places (all_places p.plan last b start) →
+-- the code of a whole block follows it from the start
+code_follows : (p : Program) (last : ℕ) (b : Block) (start : ProgramPoint) → IsProgram p → p.lines ≡ lines_of_placed (all_places p.plan last b start) →
     (n : ℕ) (cs : List ℕ) → length cs ≡ 8 → Follows p n 0 cs b
 code_follows p last b start formed lines n cs eight =
     let whole = all_places p.plan last b start in
     let body = places p.plan 0 0 b start in
-    let ending = onward (spot_after p.plan b start) [] (alone last End 0) in
+    let ending = onward (point_after p.plan b start) [] (alone last End 0) in
     let there = instr_there p whole lines in
-    let fine : (pc : ℕ) (q : Place) → slice_get whole pc ≡ Some q → IsInstr q.instr = λ pc q e. line_formed p.lines pc q.instr formed.lines_formed (there pc q e) in
+    let fine : (pc : ℕ) (q : PlacedInstr) → slice_get whole pc ≡ Some q → IsInstr q.instr = λ pc q e. line_formed p.lines pc q.instr formed.lines_formed (there pc q e) in
     let st : Stand whole 0 whole = stand_all whole [] in
-    let goes : Goes p whole there fine n (0 + length body) 0 (spot_after p.plan b start) cs nothing = λ m le u ds e same.
-    let j = there_after p whole there fine last End 0 (0 + length body) (λ x. []) (spot_after p.plan b start) u e (stand_back whole 0 body ending st) in
-    ends_follow p m (0 + length body) ds (there (0 + length body) (place_of_instr last End 0 u) j.0) in
+    let goes : Goes p whole there fine n (0 + length body) 0 (point_after p.plan b start) cs nothing = λ m le u ds e same.
+    let j = there_after p whole there fine last End 0 (0 + length body) (λ x. []) (point_after p.plan b start) u e (stand_back whole 0 body ending st) in
+    ends_follow p m (0 + length body) ds (there (0 + length body) (placed_instr last End 0 u) j.0) in
     subst (λ x. Follows p n 0 cs x) (then_nothing b) (block_plays p whole there fine n b 0 0 start nothing cs (stand_front whole 0 body ending st) eight goes)
 
--- a start of the code is the script's beginning
+-- a start of the code is a start of the script
 starts_alike : (s : Tree) (p : Program) (start : Start) (first : State) → IsCodeOf s p → IsStart p start first → scene_of first ≡ (begins s start).scene
 starts_alike s p start first code h =
     let opens' : Some first.current ≡ Some (opening_of s) = sym h.current ∙ opening_first s p h.label code h.first in
@@ -149,8 +149,8 @@ pub scripts_play : ScriptsPlayAsTheyRead
 scripts_play s p formed typed code start first events in_range started within =
     let played : IsPlayed p first = record { program = formed; typed = typed; reached = starts_are_reached p start first in_range started } in
     let allowed : RunIsAllowed p first events = (typed_code_runs p first events played).allowed in
-    let lines : p.lines ≡ lines_of_places (all_places p.plan s.last_line (body_of s) (beginning (opening_of s))) =
-    subst (λ plan. p.lines ≡ lines_of_places (all_places plan s.last_line (body_of s) (beginning (opening_of s)))) (sym code.plan) code.lines in
+    let lines : p.lines ≡ lines_of_placed (all_places p.plan s.last_line (body_of s) (beginning (opening_of s))) =
+    subst (λ plan. p.lines ≡ lines_of_placed (all_places plan s.last_line (body_of s) (beginning (opening_of s)))) (sym code.plan) code.lines in
     let eight : length first.counters ≡ 8 = ap length started.counters in
     let n = counted p events first allowed in
     let follows : Follows p n first.pc first.counters (body_of s) =

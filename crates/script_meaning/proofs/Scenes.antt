@@ -1,4 +1,4 @@
--- What instructions and frames make of a scene depends on the scene alone.
+-- The scene after an instruction or a frame depends on the scene before alone.
 use Rattle.std.proofs.Common.{◌≡◌, ℕ, ◌+◌, Bool, true, false, if◌then◌else◌, Option, Some, None, refl, sym, ap, ◌∙◌}
 use Rattle.plan_code.specs.declared.hold.Hold.{Hold}
 use Rattle.plan_code.specs.declared.hold.Hold.TheVariants.{Waits, WaitsDay, WaitsContact, WaitsSwap, Ended}
@@ -11,11 +11,11 @@ use Rattle.script_front.specs.declared.tree.Act.TheVariants.{Edit, Wait, WaitCon
 use Rattle.script_meaning.specs.Scheme.{instr_of_act}
 use Rattle.script_meaning.specs.Meaning.{acts_as, scene_of, state_of_scene, acts, opens, ScenesSuffice}
 
--- a state with the same scene, and nothing else of this one
+-- a state with the same scene, the rest of which is fixed
 abbrev plain : State → State
 plain s = state_of_scene (scene_of s)
 
--- it is at the same pc, with the same counters
+-- two states with the same pc and the same counters
 abbrev pub SamePlace : State → State → Type 0
 SamePlace s t = (t.pc ≡ s.pc) × (t.counters ≡ s.counters)
 
@@ -61,7 +61,7 @@ ready_place s =
     let second : SamePlace t (with_hold_ended t) = hold_place (is_here t t.hold) t in
     (second.0 ∙ first.0, second.1 ∙ first.1)
 
-turned : (b : Bool) (s : State) → (scene_of (if b then record s { turn = 0 } else s) ≡ scene_of s) × SamePlace s (if b then record s { turn = 0 } else s)
+turned : (b : Bool) (s : State) → (scene_of (if b then record s { page_index = 0 } else s) ≡ scene_of s) × SamePlace s (if b then record s { page_index = 0 } else s)
 turned true s = (refl, (refl, refl))
 turned false s = (refl, (refl, refl))
 
@@ -70,7 +70,7 @@ shown_scene p s = turned (is_first_noticed p.plan.notice (after_burst p s).left)
 
 -- ---- a statement that is one instruction
 
--- the scheme has that instruction for it
+-- it compiles to that instruction
 pub acts_as_compiled : (a : Act) → instr_of_act a ≡ acts_as a
 acts_as_compiled (Edit edit) = refl
 acts_as_compiled (Wait frames) = refl

@@ -1,4 +1,4 @@
--- Small scripts: what their statements, frames and events come to, and what they do not.
+-- Test vectors: small scripts, and what their statements, frames and events result in, and what not.
 use Rattle.std.proofs.Common.{◌≡◌, ℕ, zero, suc, true, false, List, [], ◌∷◌, Some, None, inl, inr, refl, sym, ap, ◌∙◌, replicate, arith}
 use Rattle.std.proofs.lemmas.Bool.{false≢true}
 use Rattle.mux_config.specs.declared.edit.Edit.TheVariants.{DropSub}
@@ -38,7 +38,7 @@ all_open = record { 0 = 0 }
 abbrev third_closed : Contacts
 third_closed = record { 0 = 8 }
 
--- a scene without a sub-channel and without a swap, some frames after the first
+-- a scene with no sub-channel and no swap, some frames after the first
 abbrev after : ℕ → Contacts → Hold → Scene
 after frames contacts hold =
     record {
@@ -69,7 +69,7 @@ not_one n h = let e = held_same _ _ (performs_one plan 1 n _ _ _ waits_two h) in
     two_is_one : Waits 1 ≡ Waits 2 → ⊥
     two_is_one e = absurd cc
 
--- nothing is left to do
+-- no statement is left
 ends : Performs plan (reading nothing (after 0 all_open (Waits 0))) 1 (reading nothing (after 0 all_open Ended))
 ends = (refl, tt, (refl, refl))
 
@@ -81,7 +81,7 @@ does_not_end (suc zero) h = let e = held_same _ _ h.2.1 in absurd (different e)
     different e = absurd cc
 does_not_end (suc (suc n)) h = let e : false ≡ true = h.2.0 in absurd (false≢true e)
 
--- of two branches the first is for a closed contact
+-- the first branch is for a closed contact
 abbrev branches : Block
 branches = either 1 3 (wait 4 nothing) (wait 5 nothing) nothing
 
@@ -97,11 +97,11 @@ branches_exchanged n h = let e = held_same _ _ (performs_one plan 2 n _ _ _ open
     different : Waits 4 ≡ Waits 5 → ⊥
     different e = absurd cc
 
--- without `else`, what follows
+-- without `else`, an open contact skips the branch
 no_branch : Performs plan (reading (when 1 3 (wait 4 nothing) (wait 5 nothing)) (after 0 all_open (Waits 0))) 2 (reading nothing (after 0 all_open (Waits 5)))
 no_branch = (refl, tt, (refl, tt, (refl, refl)))
 
--- settling does nothing without a swap, and joining is a trap there
+-- without a swap, `settle` does nothing and `join` traps
 settles : Performs plan (reading (basic 1 Settle (wait 5 nothing)) (after 0 all_open (Waits 0))) 2 (reading nothing (after 0 all_open (Waits 5)))
 settles = (refl, tt, (refl, tt, (refl, refl)))
 
@@ -143,14 +143,14 @@ two_rounds = (
   ),
 )
 
--- one iteration more
+-- not one iteration more
 not_three : (todo : Block) → PerformsAll plan (between 0 (rounds 2)) (Frame ∷ Frame ∷ Frame ∷ []) (between 3 todo) → ⊥
 not_three todo h = let e = held_same _ _ (all_one plan (Frame ∷ Frame ∷ Frame ∷ []) _ _ _ two_rounds h) in absurd (different e)
   where
     different : Waits 0 ≡ Ended → ⊥
     different e = absurd cc
 
--- for ever
+-- an endless loop
 abbrev again : Block
 again = forever 1 (wait 1 nothing) nothing
 
@@ -171,7 +171,7 @@ never_ends todo h = let e = held_same _ _ (all_one plan (Frame ∷ Frame ∷ [])
     different : Ended ≡ Waits 0 → ⊥
     different e = absurd cc
 
--- a contact closes before a frame; a block that is applied comes before what follows it
+-- a contact closes before a frame; an applied block runs before what follows it
 abbrev applies : Block
 applies = apply 1 0 branches (wait 6 nothing)
 
@@ -192,7 +192,7 @@ rest_comes_first todo h = let e = held_same (reading todo (after 1 third_closed 
     different : Waits 5 ≡ Waits 3 → ⊥
     different e = absurd cc
 
--- ---- codes of a script without a statement
+-- ---- codes of a script without statements
 
 abbrev silent : Tree
 silent =
@@ -231,7 +231,7 @@ first =
       count = 0;
       day = 0;
       eid = 0xe1c5;
-      turn = 0;
+      page_index = 0;
     }
 
 in_range : StartIsInRange start
@@ -251,7 +251,7 @@ it_starts lines = record {
   count = refl;
   day = refl;
   eid = refl;
-  turn = refl;
+  page_index = refl;
 }
 
 end_is : IsProgram (code (line End ∷ []))
@@ -309,7 +309,7 @@ its_code = record {
   labels = (record { place = refl; current = refl; following = refl; pending = refl; counters = refl }, refl);
 }
 
--- the code that ends does what the script says
+-- the code that ends plays as the script reads
 plays : PlaysAsItReads silent (code (line End ∷ []))
 plays = scripts_play silent (code (line End ∷ [])) end_is (typed_if (code (line End ∷ [])) end_is refl) its_code
 

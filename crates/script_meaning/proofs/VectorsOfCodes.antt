@@ -1,4 +1,4 @@
--- Small scripts: each definition where it holds, and where it fails.
+-- Test vectors: small scripts for which each definition holds, and for which it fails.
 use Rattle.std.proofs.Common.{◌≡◌, ◌≢◌, ◌++◌, ◌∙◌, length-append, ℕ, zero, suc, ◌+◌, ◌≤◌, true, false, List, [], ◌∷◌, map, length, Some, None, inl, inr, refl, sym, ap, subst, arith, rules}
 use Rattle.mux_config.specs.Configuration.{Configuration, nothing as no_configuration}
 use Rattle.mux_config.specs.declared.edit.Edit.TheVariants.{AddSub}
@@ -23,10 +23,10 @@ use Rattle.script_front.specs.Block.{Block, nothing, basic, stop, either, repeat
 use Rattle.script_front.specs.Tree.{Tree}
 use Rattle.script_meaning.specs.declared.flow.UnpricedLabel.{UnpricedLabel}
 use Rattle.script_meaning.specs.declared.flow.ProgramPoint.{ProgramPoint}
-use Rattle.script_meaning.specs.Scheme.{at_label, past, falls_out, spot_after, all_places, marks_of}
-use Rattle.script_meaning.specs.Judged.{WaysAgree, BranchesAgree, ComesRound, IsDone, Reached, IsJudged}
-use Rattle.script_meaning.specs.Need.{GoesTo, HasPath, IsWithinBudget, IsNeed}
-use Rattle.script_meaning.specs.Compiled.{AreFine, StandsIn, Added, Tabled, IsLabelOf, AreLabelsOf, IsCodeOf, CostsItsNeeds, IsAccepted, beginning, lines_of_places, instrs_of, nested, places_of}
+use Rattle.script_meaning.specs.Scheme.{at_label, without_label, falls_out, point_after, all_places, unpriced_labels}
+use Rattle.script_meaning.specs.Judged.{WaysAgree, BranchesAgree, FitsEntry, IsDone, Reached, IsJudged}
+use Rattle.script_meaning.specs.Need.{StepsTo, HasPath, IsWithinBudget, IsNeed}
+use Rattle.script_meaning.specs.Compiled.{AreFine, IsInTable, Added, Tabled, IsLabelOf, AreLabelsOf, IsCodeOf, CostsItsNeeds, IsAccepted, beginning, lines_of_placed, instrs_of, nested, placed_instrs}
 
 -- ---- values shared by these vectors
 
@@ -39,7 +39,7 @@ sub = record { id = 1; start = 0; protection = record { set = A; level = 3 }; kb
 abbrev one_sub : Configuration
 one_sub = record { subs = sub ∷ []; services = []; packets = [] }
 
--- the empty configuration, and perhaps a swap to one sub-channel
+-- what is known: the empty configuration is current, with this next one and swap
 abbrev knows : Configuration → Swap → Flow
 knows next pending = record { current = no_configuration; next = next; pending = pending }
 
@@ -50,22 +50,22 @@ start = beginning no_configuration
 abbrev waits : Block → Block
 waits rest = basic 3 (Waits 1) rest
 
--- ---- how many instructions can run
+-- ---- steps and paths
 
 abbrev turns : List Instr
 turns = Set 0 3 ∷ Wait 1 ∷ Loop 0 1 ∷ End ∷ []
 
-a_test_jumps : GoesTo (Test 1 5) 0 5
+a_test_jumps : StepsTo (Test 1 5) 0 5
 a_test_jumps = (refl, inr refl)
 
-a_test_goes_on : GoesTo (Test 1 5) 0 1
+a_test_goes_on : StepsTo (Test 1 5) 0 1
 a_test_goes_on = (refl, inl (refl, refl))
 
-a_wait_suspends : (to : ℕ) → GoesTo (Wait 1) 0 to → ⊥
+a_wait_suspends : (to : ℕ) → StepsTo (Wait 1) 0 to → ⊥
 a_wait_suspends to h = let e : true ≡ false = h.0 in absurd cc
 
 -- a `settle` may continue in the same frame
-a_settle_goes_on : GoesTo Settle 4 5
+a_settle_goes_on : StepsTo Settle 4 5
 a_settle_goes_on = (refl, inl (refl, refl))
 
 two_run_first : HasPath turns 0 2
@@ -75,7 +75,7 @@ one_runs_next : HasPath turns 1 2 → ⊥
 one_runs_next h =
     let same : Some (Wait 1) ≡ Some h.0 = h.2 in
     let is : h.0 ≡ Wait 1 = cc in
-    let goes : GoesTo (Wait 1) 1 h.1 = subst (λ j. GoesTo j 1 h.1) is h.3 in
+    let goes : StepsTo (Wait 1) 1 h.1 = subst (λ j. StepsTo j 1 h.1) is h.3 in
     let e : true ≡ false = goes.0 in
     absurd cc
 
@@ -83,7 +83,7 @@ one_runs_next h =
 abbrev two : List Instr
 two = Wait 1 ∷ End ∷ []
 
-stops : (i j : Instr) (to pc : ℕ) → suspends i ≡ true → Some i ≡ Some j → GoesTo j pc to → ⊥
+stops : (i j : Instr) (to pc : ℕ) → suspends i ≡ true → Some i ≡ Some j → StepsTo j pc to → ⊥
 stops i j to pc s e g =
     let is : j ≡ i = cc in
     let not : suspends i ≡ false = subst (λ x. suspends x ≡ false) is g.0 in
@@ -96,7 +96,7 @@ stays_within_one zero (suc (suc n)) h = absurd (stops (Wait 1) h.0 h.1 0 refl h.
 stays_within_one (suc zero) (suc (suc n)) h = absurd (stops End h.0 h.1 1 refl h.2 h.3)
 stays_within_one (suc (suc pc)) (suc (suc n)) h = let none : None ≡ Some h.0 = h.2 in absurd cc
 
--- it jumps to itself as often as one likes
+-- a jump to itself has paths of every length
 round_and_round : (n : ℕ) → HasPath (Jump 0 ∷ []) 0 n
 round_and_round zero = tt
 round_and_round (suc zero) = search rules
@@ -111,7 +111,7 @@ needs_one = record { path = search rules; longest = λ n h. stays_within_one 0 n
 needs_no_two : IsNeed two 0 2 → ⊥
 needs_no_two h = let e : 2 ≤ 1 = stays_within_one 0 2 h.path in omega (arith, e)
 
--- ---- where ways meet
+-- ---- paths that merge
 
 both_pending : widest (Within 28 31) (Within 30 33) ≡ Within 28 33
 both_pending = refl
@@ -131,14 +131,14 @@ ways_agree = (((refl, refl), omega arith, omega arith), ((refl, refl), omega ari
 not_the_empty : one_sub ≢ no_configuration
 not_the_empty e = let subs : sub ∷ [] ≡ [] = ap (λ (c : Configuration). c.subs) e in absurd cc
 
--- one has edited the next configuration, the other one has not
+-- one path has edited the next configuration, the other has not
 ways_differ : WaysAgree (Some (at_label (knows no_configuration Idle))) (Some (at_label (knows one_sub Idle))) → ⊥
 ways_differ h = let e : no_configuration ≡ one_sub = h.0.1 in not_the_empty (sym e)
 
-the_loop_comes_round : ComesRound (Some (past (knows one_sub Idle))) (at_label (knows one_sub Idle))
+the_loop_comes_round : FitsEntry (Some (without_label (knows one_sub Idle))) (at_label (knows one_sub Idle))
 the_loop_comes_round = (refl, refl)
 
-the_loop_has_edited : ComesRound (Some (past (knows one_sub Idle))) start → ⊥
+the_loop_has_edited : FitsEntry (Some (without_label (knows one_sub Idle))) start → ⊥
 the_loop_has_edited h = not_the_empty h.1
 
 branches_agree : BranchesAgree None (Some start)
@@ -155,10 +155,10 @@ none_follows = tt
 one_follows : IsDone (waits nothing) → ⊥
 one_follows h = h
 
-what_ends_leads_nowhere : Reached (spot_after plan (stop 4 nothing) start) nothing (λ u. ⊥)
+what_ends_leads_nowhere : Reached (point_after plan (stop 4 nothing) start) nothing (λ u. ⊥)
 what_ends_leads_nowhere = tt
 
-nothing_is_reached_after_it : Reached (spot_after plan (stop 4 nothing) start) (waits nothing) (λ u. Unit {0}) → ⊥
+nothing_is_reached_after_it : Reached (point_after plan (stop 4 nothing) start) (waits nothing) (λ u. Unit {0}) → ⊥
 nothing_is_reached_after_it h = h
 
 a_wait_is_judged : IsJudged plan (waits nothing) start
@@ -185,15 +185,15 @@ falls_not = refl
 
 -- `repeat 3 { wait 1 }`, in a text of five lines
 the_lines_of_a_loop :
-    lines_of_places (all_places plan 5 (repeat 2 3 (waits nothing) nothing) start)
+    lines_of_placed (all_places plan 5 (repeat 2 3 (waits nothing) nothing) start)
     ≡ record { number = 2; instr = Set 0 3 } ∷ record { number = 3; instr = Wait 1 } ∷ record { number = 2; instr = Loop 0 1 } ∷ record { number = 5; instr = End } ∷ []
 the_lines_of_a_loop = refl
 
-the_labels_of_a_loop : map (λ m. m.pc) (marks_of 0 (all_places plan 5 (repeat 2 3 (waits nothing) nothing) start)) ≡ 0 ∷ 1 ∷ []
+the_labels_of_a_loop : map (λ m. m.pc) (unpriced_labels 0 (all_places plan 5 (repeat 2 3 (waits nothing) nothing) start)) ≡ 0 ∷ 1 ∷ []
 the_labels_of_a_loop = refl
 
 -- `if contact 1 { } else { }` and `wait 1`
-the_instructions_of_a_choice : instrs_of (lines_of_places (all_places plan 5 (either 2 1 nothing nothing (waits nothing)) start)) ≡ Test 1 2 ∷ Jump 2 ∷ Wait 1 ∷ End ∷ []
+the_instructions_of_a_choice : instrs_of (lines_of_placed (all_places plan 5 (either 2 1 nothing nothing (waits nothing)) start)) ≡ Test 1 2 ∷ Jump 2 ∷ Wait 1 ∷ End ∷ []
 the_instructions_of_a_choice = refl
 
 two_deep : nested (repeat 2 3 (repeat 3 3 (waits nothing) nothing) nothing) ≡ 2
@@ -204,10 +204,10 @@ two_deep = refl
 abbrev mark : ℕ → Flow → UnpricedLabel
 mark pc flow = record { pc = pc; flow = flow; repeats = 1 }
 
-stands : StandsIn one_sub (no_configuration ∷ one_sub ∷ [])
+stands : IsInTable one_sub (no_configuration ∷ one_sub ∷ [])
 stands = (1, refl)
 
-stands_not : StandsIn one_sub (no_configuration ∷ []) → ⊥
+stands_not : IsInTable one_sub (no_configuration ∷ []) → ⊥
 stands_not (zero, e) = let same : no_configuration ≡ one_sub = cc in not_the_empty (sym same)
 stands_not (suc n, e) = let none : None ≡ Some one_sub = e in absurd cc
 
@@ -221,13 +221,13 @@ tabled : Tabled [] (mark 0 (knows one_sub Idle) ∷ mark 3 (knows one_sub Idle) 
 tabled =
     (no_configuration ∷ [], no_configuration ∷ one_sub ∷ [], inr (none, refl), inr (stands_not, refl), (no_configuration ∷ one_sub ∷ [], no_configuration ∷ one_sub ∷ [], inl ((0, refl), refl), inl ((1, refl), refl), refl))
   where
-    none : StandsIn no_configuration [] → ⊥
+    none : IsInTable no_configuration [] → ⊥
     none h = let e : None ≡ Some no_configuration = h.1 in absurd cc
 
 -- the current configuration is before the next one
 tabled_in_order : Tabled [] (mark 0 (knows one_sub Idle) ∷ []) [] → ⊥
 tabled_in_order h = let last : [] ≡ h.1 = h.4 in elim h.3 [
-  | inl same ↦ let there : StandsIn one_sub h.0 = same.0 in let e : h.1 ≡ h.0 = same.1 in let none : StandsIn one_sub [] = subst (λ t. StandsIn one_sub t) (sym (last ∙ e)) there in let f : None ≡ Some one_sub = none.1 in absurd cc
+  | inl same ↦ let there : IsInTable one_sub h.0 = same.0 in let e : h.1 ≡ h.0 = same.1 in let none : IsInTable one_sub [] = subst (λ t. IsInTable one_sub t) (sym (last ∙ e)) there in let f : None ≡ Some one_sub = none.1 in absurd cc
   | inr new ↦ let e : 0 ≡ length (h.0 ++ one_sub ∷ []) = ap length last ∙ ap length new.1 in let n = length-append h.0 (one_sub ∷ []) in omega (arith, e, n)
 ]
 
@@ -258,7 +258,7 @@ items_are_fine = (refl, tt)
 used_twice : AreFine (item ∷ item ∷ []) no_configuration → ⊥
 used_twice h = let e : Some IdUsed ≡ None = h.1.0 in absurd cc
 
--- a script that ends at once, with these items
+-- a script with these items that ends at once
 abbrev ends : List Item → ℕ → Tree
 ends items budget = record {
   header = record { eid = 0xe1c5; mode = I; period = 4; notice = 24; budget = budget };
@@ -270,7 +270,7 @@ ends items budget = record {
   last_line = 2;
 }
 
--- an End, at a label of this cost
+-- the code of one End, with a label of this cost
 abbrev ending : ℕ → Program
 ending cost = record {
   plan = plan;
@@ -306,7 +306,7 @@ costs_more h =
     let e : 2 ≤ 1 = only_an_end 0 2 need.path in
     omega (arith, e)
 
-few_configurations : (table : List Configuration) → Tabled [] (marks_of 0 (places_of (ends [] 20))) table → length table ≤ MOST_CONFIGURATIONS
+few_configurations : (table : List Configuration) → Tabled [] (unpriced_labels 0 (placed_instrs (ends [] 20))) table → length table ≤ MOST_CONFIGURATIONS
 few_configurations table h = let last : table ≡ h.1 = h.4 in let a = most no_configuration [] h.0 h.2 in let b = most no_configuration h.0 h.1 h.3 in let n = ap length last in omega (arith, a, b, n)
   where
     most : (c : Configuration) (table new : List Configuration) → Added c table new → length new ≤ length table + 1
@@ -325,6 +325,6 @@ is_accepted = record {
   within = λ pc n h. let e = only_an_end pc n h in omega (arith, e);
 }
 
--- no instruction is within no budget
+-- even one instruction exceeds a budget of 0
 without_a_budget : IsAccepted (ends [] 0) → ⊥
 without_a_budget h = let e : 1 ≤ 0 = h.within 0 1 (search rules) in omega (arith, e)

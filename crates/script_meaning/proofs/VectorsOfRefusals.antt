@@ -1,4 +1,4 @@
--- Small scripts that are refused: the line and the cause, and what is none.
+-- Test vectors: small scripts that are refused, with the line and the cause, and wrong lines and causes.
 use Rattle.std.proofs.Common.{◌≡◌, ◌≢◌, ℕ, ◌<◌, ◌≤◌, List, [], ◌∷◌, Some, None, inl, inr, refl, ap, sym, arith}
 use Rattle.mux_config.specs.Configuration.{Configuration, nothing as no_configuration}
 use Rattle.mux_config.specs.declared.edit.Edit.TheVariants.{AddSub}
@@ -15,8 +15,8 @@ use Rattle.script_front.specs.declared.tree.Item.{Item}
 use Rattle.script_front.specs.Block.{Block, nothing, basic, stop, forever}
 use Rattle.script_front.specs.Tree.{Tree}
 use Rattle.script_meaning.specs.declared.flow.ProgramPoint.{ProgramPoint}
-use Rattle.script_meaning.specs.Scheme.{past, spot_after}
-use Rattle.script_meaning.specs.Judged.{ComesRound}
+use Rattle.script_meaning.specs.Scheme.{without_label, point_after}
+use Rattle.script_meaning.specs.Judged.{FitsEntry}
 use Rattle.script_meaning.specs.Compiled.{beginning}
 use Rattle.script_meaning.specs.Refused.{IsUnreached, IsMismatch, IsRefusedAfter, IsRefusedIn, IsItemRefused, IsOpeningRefused, IsRefused}
 
@@ -40,7 +40,7 @@ not_in_line_four : IsRefusedIn plan (basic 3 Joins nothing) start 4 JoinIdle →
 not_in_line_four (inl h) = let e : 4 ≡ 3 = h.0 in absurd (omega (arith, e))
 not_in_line_four (inr h) = h.0
 
--- the first of two
+-- only the first of two is named
 the_second_is_not_named : IsRefusedIn plan (basic 3 Joins (basic 4 Joins nothing)) start 4 JoinIdle → ⊥
 the_second_is_not_named (inl h) = let e : 4 ≡ 3 = h.0 in absurd (omega (arith, e))
 the_second_is_not_named (inr h) = h.0
@@ -55,15 +55,15 @@ nothing_after_an_end line cause h = h
 what_is_reached : IsRefusedAfter (Some start) nothing (λ u. ⊥) 3 Table → ⊥
 what_is_reached h = h
 
--- a loop that adds a sub-channel each time does not come back as it began
+-- a loop that adds a sub-channel in each iteration does not fit its entry
 one_more_each_time : IsRefusedIn plan (forever 2 (basic 3 (Edits (AddSub sub)) nothing) nothing) start 2 Mismatch
 one_more_each_time = inr (((refl, refl), tt), inl ((λ round. not_the_empty round.1), refl, refl))
   where
     not_the_empty : one_sub ≢ no_configuration
     not_the_empty e = let subs : sub ∷ [] ≡ [] = ap (λ (c : Configuration). c.subs) e in absurd cc
 
--- a loop that waits does
-no_mismatch : IsMismatch 2 (ComesRound (spot_after plan (basic 3 (Waits 1) nothing) start) start) 2 Mismatch → ⊥
+-- a loop that only waits fits it
+no_mismatch : IsMismatch 2 (FitsEntry (point_after plan (basic 3 (Waits 1) nothing) start) start) 2 Mismatch → ⊥
 no_mismatch h = h.0 (refl, refl)
 
 -- ---- items and the opening

@@ -1,4 +1,4 @@
--- What a script is compiled to, and which scripts are.
+-- The code of a script, and which scripts are accepted.
 use Rattle.std.specs.Prelude.{◌≡◌, ℕ, zero, suc, ◌+◌, ◌≤◌, ◌⊎◌, List, [], ◌∷◌, ◌++◌, length, map, max, slice_get, Contains, Some, None}
 use Rattle.mux_config.specs.Configuration.{Configuration, nothing as no_configuration}
 use Rattle.mux_config.specs.Edits.{edit_fault, changed}
@@ -18,7 +18,7 @@ use Rattle.script_front.specs.Block.{Block, nothing, basic, stop, when, either, 
 use Rattle.script_front.specs.Tree.{Tree}
 use Rattle.script_meaning.specs.declared.flow.UnpricedLabel.{UnpricedLabel}
 use Rattle.script_meaning.specs.declared.flow.ProgramPoint.{ProgramPoint}
-use Rattle.script_meaning.specs.Scheme.{Place, at_label, all_places, marks_of}
+use Rattle.script_meaning.specs.Scheme.{PlacedInstr, at_label, all_places, unpriced_labels}
 use Rattle.script_meaning.specs.Judged.{IsJudged}
 use Rattle.script_meaning.specs.Need.{IsWithinBudget, IsNeed}
 
@@ -34,7 +34,7 @@ plan_of s =
       budget = s.header.budget;
     }
 
--- items, one after another, as edits of a configuration
+-- the items applied to a configuration, in order
 abbrev pub with_items : List Item → Configuration → Configuration
 with_items [] c = c
 with_items (item ∷ items) c = with_items items (changed item.edit c)
@@ -54,36 +54,36 @@ beginning c = at_label (record { current = c; next = c; pending = Idle })
 abbrev pub body_of : Tree → Block
 body_of s = block_of (table_of [] s.blocks) s.statements
 
-abbrev pub places_of : Tree → List Place
-places_of s = all_places (plan_of s) s.last_line (body_of s) (beginning (opening_of s))
+abbrev pub placed_instrs : Tree → List PlacedInstr
+placed_instrs s = all_places (plan_of s) s.last_line (body_of s) (beginning (opening_of s))
 
-abbrev pub lines_of_places : List Place → List Line
-lines_of_places ps = map (λ p. record { number = p.line; instr = p.instr }) ps
+abbrev pub lines_of_placed : List PlacedInstr → List Line
+lines_of_placed ps = map (λ p. record { number = p.line; instr = p.instr }) ps
 
 abbrev pub instrs_of : List Line → List Instr
 instrs_of lines = map (λ l. l.instr) lines
 
 -- ---- labels and their configurations
 
-abbrev pub StandsIn : Configuration → List Configuration → Type 0
-StandsIn c table = (i : ℕ) × (slice_get table i ≡ Some c)
+abbrev pub IsInTable : Configuration → List Configuration → Type 0
+IsInTable c table = (i : ℕ) × (slice_get table i ≡ Some c)
 
--- a table with one configuration more, where it has not that one yet
+-- a table with this configuration, appended if absent
 abbrev pub Added : Configuration → List Configuration → List Configuration → Type 0
-Added c table new = (StandsIn c table × (new ≡ table)) ⊎ ((StandsIn c table → ⊥) × (new ≡ table ++ c ∷ []))
+Added c table new = (IsInTable c table × (new ≡ table)) ⊎ ((IsInTable c table → ⊥) × (new ≡ table ++ c ∷ []))
 
--- with those of labels, the current one of each before the next one
+-- a table with those of these labels, the current one of each before the next one
 abbrev pub Tabled : List Configuration → List UnpricedLabel → List Configuration → Type 0
 Tabled table [] new = new ≡ table
 Tabled table (m ∷ ms) new =
     (one both : List Configuration) × Added m.flow.current table one × Added m.flow.next one both × Tabled both ms new
 
--- as many of the first counters as are asked for
+-- the first `r` counters
 abbrev pub first_counters : ℕ → Counters
 first_counters zero = record { 0 = 0 }
 first_counters (suc r) = with_counter r (first_counters r)
 
--- a label says what is known there
+-- a label declares what is known there
 pub record IsLabelOf (table : List Configuration) (m : UnpricedLabel) (l : Label) : Type 0 where
   pub place : l.pc ≡ m.pc
   pub current : slice_get table l.cur ≡ Some m.flow.current
@@ -96,18 +96,18 @@ AreLabelsOf table [] ls = ls ≡ []
 AreLabelsOf table (m ∷ ms) [] = ⊥
 AreLabelsOf table (m ∷ ms) (l ∷ ls) = IsLabelOf table m l × AreLabelsOf table ms ls
 
--- the code of a script, but for what its labels cost
+-- the code of a script, except for the costs of its labels
 pub record IsCodeOf (s : Tree) (code : Program) : Type 0 where
   pub plan : code.plan ≡ plan_of s
-  pub lines : code.lines ≡ lines_of_places (places_of s)
-  pub table : Tabled [] (marks_of 0 (places_of s)) code.configurations
-  pub labels : AreLabelsOf code.configurations (marks_of 0 (places_of s)) code.labels
+  pub lines : code.lines ≡ lines_of_placed (placed_instrs s)
+  pub table : Tabled [] (unpriced_labels 0 (placed_instrs s)) code.configurations
+  pub labels : AreLabelsOf code.configurations (unpriced_labels 0 (placed_instrs s)) code.labels
 
 -- each label costs what the code needs from there
 abbrev pub CostsItsNeeds : Program → Type 0
 CostsItsNeeds code = (l : Label) → Contains code.labels l → IsNeed (instrs_of code.lines) l.pc l.cost
 
--- the law of codes: a script has one code at most whose labels cost their needs
+-- the law of codes: a script has at most one code whose labels cost their needs
 abbrev pub ScriptsHaveOneCode : Type 0
 ScriptsHaveOneCode = (s : Tree) (a b : Program) → IsCodeOf s a → IsCodeOf s b → CostsItsNeeds a → CostsItsNeeds b → a ≡ b
 
@@ -129,9 +129,9 @@ pub record IsAccepted (s : Tree) : Type 0 where
   pub sound : IsSound (opening_of s)
   pub within_period : pages_alone (plan_of s) (opening_of s) ≤ s.header.period
   pub judged : IsJudged (plan_of s) (body_of s) (beginning (opening_of s))
-  pub instructions : length (places_of s) ≤ MOST_INSTRUCTIONS
-  pub labels : length (marks_of 0 (places_of s)) ≤ MOST_LABELS
+  pub instructions : length (placed_instrs s) ≤ MOST_INSTRUCTIONS
+  pub labels : length (unpriced_labels 0 (placed_instrs s)) ≤ MOST_LABELS
   pub configurations :
-      (table : List Configuration) → Tabled [] (marks_of 0 (places_of s)) table → length table ≤ MOST_CONFIGURATIONS
+      (table : List Configuration) → Tabled [] (unpriced_labels 0 (placed_instrs s)) table → length table ≤ MOST_CONFIGURATIONS
   pub repeats : nested (body_of s) ≤ COUNTERS
-  pub within : IsWithinBudget s.header.budget (instrs_of (lines_of_places (places_of s)))
+  pub within : IsWithinBudget s.header.budget (instrs_of (lines_of_placed (placed_instrs s)))

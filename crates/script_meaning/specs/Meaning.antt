@@ -1,5 +1,5 @@
--- What a script says: its own machine, whose control is the list of statements that are still to do. It knows no
--- index of an instruction, no label and no counter.
+-- The meaning of scripts: an abstract machine whose control state is the list of statements still to execute. It has no
+-- pc, no labels and no counters.
 use Rattle.std.specs.Prelude.{◌≡◌, ◌↔◌, ℕ, zero, suc, Bool, true, false, if◌then◌else◌, List, [], ◌∷◌, Option, None}
 use Rattle.mux_config.specs.Configuration.{Configuration}
 use Rattle.std.specs.List.{AllByRecursion}
@@ -25,23 +25,23 @@ use Rattle.script_front.specs.Times.{frame_at}
 use Rattle.script_front.specs.Tree.{Tree}
 use Rattle.script_meaning.specs.Compiled.{IsCodeOf, plan_of, body_of, opening_of}
 
--- ---- where a script has come to
+-- ---- the state of a script
 
--- what a player's state has beside its pc, and beside what only its bytes need
+-- a player's state, except the pc, the counters, the EId and the page index
 pub record Scene : Type 0 where
   -- the current and the next configuration
   pub current : Configuration
   pub next : Configuration
-  -- the frames until the swap, where one is pending
+  -- the frames until the swap, if one is pending
   pub left : Option ℕ
-  -- what is waited for
+  -- what the script waits for
   pub hold : Hold
   pub contacts : Contacts
   -- the CIF count, and the frame of the day
   pub count : ℕ
   pub day : ℕ
 
--- the statements that are still to do, and the scene
+-- the statements still to execute, and the scene
 pub record Reading : Type 0 where
   pub todo : Block
   pub scene : Scene
@@ -62,7 +62,7 @@ scene_of s =
       day = s.day;
     }
 
--- a player's state that has this scene; the rest of it does not matter, see `SceneSuffices`
+-- some player's state with this scene; the rest of it does not matter, see `SceneSuffices`
 abbrev pub state_of_scene : Scene → State
 state_of_scene x =
     record {
@@ -76,12 +76,12 @@ state_of_scene x =
       count = x.count;
       day = x.day;
       eid = 0;
-      turn = 0;
+      page_index = 0;
     }
 
 -- ---- one statement
 
--- a statement that is one instruction: an edit, a wait, a commit, `join` and `settle` each act as the one of their name
+-- an edit, a wait, a commit, `join` and `settle` act as the instruction of the same name
 abbrev pub acts_as : Act → Instr
 acts_as (Edit edit) = DoesEdit edit
 acts_as (Wait frames) = DoesWait frames
@@ -92,11 +92,11 @@ acts_as (CommitAt count) = DoesCommitAt count
 acts_as Join = DoesJoin
 acts_as Settle = DoesSettle
 
--- what an instruction makes of the scene
+-- the scene after an instruction
 abbrev pub acts : Plan → Instr → Scene → Scene
 acts plan i x = scene_of (effect plan i (state_of_scene x))
 
--- the statements of one block, and then those of another
+-- the statements of one block, then those of another
 abbrev pub followed : Block → Block → Block
 followed nothing more = more
 followed (basic line act rest) more = basic line act (followed rest more)
@@ -107,8 +107,8 @@ followed (repeat line times body rest) more = repeat line times body (followed r
 followed (forever line body rest) more = forever line body (followed rest more)
 followed (apply line number named rest) more = apply line number named (followed rest more)
 
--- the first statement is done: a branch, a loop or a block that is applied becomes what it means, and any other
--- statement acts as its instruction; where nothing is left to do, that is `end`, after which nothing is left
+-- the reading after the first statement: a branch, a loop or an applied block is replaced by the statements that it
+-- stands for, any other statement acts as its instruction, and an empty list acts as `end`
 abbrev pub first_done : Plan → Block → Scene → Reading
 first_done plan nothing x = reading nothing (acts plan End x)
 first_done plan (stop line rest) x = reading nothing (acts plan End x)
@@ -122,29 +122,29 @@ first_done plan (repeat line (suc times) body rest) x = reading (followed body (
 first_done plan (forever line body rest) x = reading (followed body (forever line body rest)) x
 first_done plan (apply line number named rest) x = reading (followed named rest) x
 
--- it meets no trap
+-- the first statement does not trap
 abbrev pub IsFineToDo : Plan → Block → Scene → Type 0
 IsFineToDo plan (basic line act rest) x = IsAllowed plan (acts_as act) (state_of_scene x)
 IsFineToDo plan _ x = Unit {0}
 
 -- ---- frames and events
 
--- this many statements lead from one reading to another, in which something is waited for or all has ended
+-- the script executes this many statements from one reading to another, where it waits or has ended
 abbrev pub Performs : Plan → Reading → ℕ → Reading → Type 0
 Performs plan x zero y = (is_running x.scene.hold ≡ false) × (x ≡ y)
 Performs plan x (suc n) y =
     (is_running x.scene.hold ≡ true) × IsFineToDo plan x.todo x.scene
     × Performs plan (first_done plan x.todo x.scene) n y
 
--- a frame begins: a swap that is due is made, and a wait ends where its condition is met
+-- a frame begins: a swap that is due is made, and a wait ends if its condition is met
 abbrev pub opens : Scene → Scene
 opens x = scene_of (ready (state_of_scene x))
 
--- a frame ends: the counts continue
+-- a frame ends: the counts advance
 abbrev pub closes : Plan → Scene → Scene
 closes plan x = scene_of (with_next_counts plan (state_of_scene x))
 
--- in between are the statements, however many
+-- a whole frame: any number of statements in between
 pub record PerformsFrame (plan : Plan) (x y : Reading) : Type 0 where
   pub steps : ℕ
   pub done : Reading
@@ -158,14 +158,14 @@ abbrev pub PerformsEvent : Plan → Reading → Event → Reading → Type 0
 PerformsEvent plan x (Contact contact closed) y = y ≡ reading x.todo (with_level contact closed x.scene)
 PerformsEvent plan x Frame y = PerformsFrame plan x y
 
--- over all events
+-- the reading after a list of events
 abbrev pub PerformsAll : Plan → Reading → List Event → Reading → Type 0
 PerformsAll plan x [] y = x ≡ y
 PerformsAll plan x (e ∷ es) y = (z : Reading) × PerformsEvent plan x e z × PerformsAll plan z es y
 
--- ---- that nothing else of a player's state matters
+-- ---- nothing else in a player's state matters
 
--- what a frame and a statement make of a scene, and what traps, is the same for every state that has the scene
+-- how a frame and a statement change a scene, and which statements trap, is the same for every state with that scene
 pub record SceneSuffices (plan : Plan) (s : State) : Type 0 where
   pub opened : scene_of (ready s) ≡ opens (scene_of s)
   pub closed : scene_of (with_next_counts plan s) ≡ closes plan (scene_of s)
@@ -178,7 +178,7 @@ ScenesSuffice = (plan : Plan) (s : State) → SceneSuffices plan s
 
 -- ---- the law
 
--- at first all statements are to do, the opening is current and next, and nothing is pending or waited for
+-- at the start all statements are still to execute, the opening is current and next, and no swap or wait is pending
 abbrev pub begins : Tree → Start → Reading
 begins s start =
     reading
@@ -193,21 +193,21 @@ begins s start =
       day = start.day;
     })
 
--- over these events the script comes to one reading, and its scene is that of the state
+-- over these events the script reaches exactly one reading, whose scene is that of the state
 pub record PlaysAlong (s : Tree) (start : Start) (events : List Event) (state : State) : Type 0 where
   pub end : Reading
   pub comes : PerformsAll (plan_of s) (begins s start) events end
   pub only : (other : Reading) → PerformsAll (plan_of s) (begins s start) events other → other ≡ end
   pub same : scene_of state ≡ end.scene
 
--- the code does what the script says: from every start in range, after every list of events
+-- the code plays as the script reads: from every start in range, after every list of events
 abbrev pub PlaysAsItReads : Tree → Program → Type 0
 PlaysAsItReads s code =
     (start : Start) (first : State) (events : List Event)
     → StartIsInRange start → IsStart code start first → AllByRecursion IsEvent events
     → PlaysAlong s start events (run code first events)
 
--- so does every typed code of a script
+-- the law of scripts: every typed code of a script does
 abbrev pub ScriptsPlayAsTheyRead : Type 0
 ScriptsPlayAsTheyRead =
     (s : Tree) (code : Program) → IsProgram code → IsTyped code → IsCodeOf s code → PlaysAsItReads s code

@@ -7,20 +7,20 @@ use Rattle.plan_code.specs.declared.plan.Plan.{Plan}
 use Rattle.plan_flow.specs.declared.cause.Cause.{Cause}
 use Rattle.plan_flow.specs.declared.cause.Cause.TheVariants.{Edit as OfEdit, Config as OfConfig, Table, Mismatch, Round, Cost}
 use Rattle.plan_flow.specs.Rules.{IsFine, pages_alone}
-use Rattle.plan_flow.specs.Flows.{known_at, moved}
+use Rattle.plan_flow.specs.Flows.{known_at, after_instr}
 use Rattle.plan_flow.specs.Causes.{Where, WhereSome, ◌orelse◌, FlowRefused}
 use Rattle.script_front.specs.declared.tree.Item.{Item}
 use Rattle.script_front.specs.Block.{Block, nothing, basic, stop, when, either, repeat, forever, apply}
 use Rattle.script_front.specs.Tree.{Tree}
 use Rattle.script_meaning.specs.declared.flow.ProgramPoint.{ProgramPoint}
-use Rattle.script_meaning.specs.Scheme.{at_label, past, meet, join, head, instr_of_act, spot_after}
-use Rattle.script_meaning.specs.Judged.{IsJudged, WaysAgree, BranchesAgree, ComesRound}
+use Rattle.script_meaning.specs.Scheme.{at_label, without_label, meet, join, head, instr_of_act, point_after}
+use Rattle.script_meaning.specs.Judged.{IsJudged, WaysAgree, BranchesAgree, FitsEntry}
 use Rattle.script_meaning.specs.Need.{IsWithinBudget}
-use Rattle.script_meaning.specs.Compiled.{AreFine, plan_of, opening_of, body_of, beginning, places_of, lines_of_places, instrs_of}
+use Rattle.script_meaning.specs.Compiled.{AreFine, plan_of, opening_of, body_of, beginning, placed_instrs, lines_of_placed, instrs_of}
 
 -- ---- statements
 
--- the first statement can't be reached: `Table`, at its line
+-- the first statement is unreachable: `Table`, at its line
 abbrev pub IsUnreached : Block → ℕ → Cause → Type 0
 IsUnreached nothing at given = ⊥
 IsUnreached (basic line act rest) at given = (at ≡ line) × (given ≡ Table)
@@ -31,61 +31,61 @@ IsUnreached (repeat line times body rest) at given = (at ≡ line) × (given ≡
 IsUnreached (forever line body rest) at given = (at ≡ line) × (given ≡ Table)
 IsUnreached (apply line number named rest) at given = (at ≡ line) × (given ≡ Table)
 
--- ways that meet, or a loop that comes round, do not agree: `Mismatch`, at the line of the statement
+-- paths that merge, or the end and the entry of a loop, do not agree: `Mismatch`, at the line of the statement
 abbrev pub IsMismatch : ℕ → Type 0 → ℕ → Cause → Type 0
 IsMismatch line agree at given = (agree → ⊥) × (at ≡ line) × (given ≡ Mismatch)
 
--- what follows a way
+-- the rest of a block is refused, after this point
 abbrev pub IsRefusedAfter : Option ProgramPoint → Block → (ProgramPoint → Type 0) → ℕ → Cause → Type 0
 IsRefusedAfter None rest refused at given = IsUnreached rest at given
 IsRefusedAfter (Some s) rest refused at given = refused s
 
--- from this spot the block is refused at this line, with this cause: all before it is fine
+-- from this point on the block is refused at this line, with this cause; all before is valid
 abbrev pub IsRefusedIn : Plan → Block → ProgramPoint → ℕ → Cause → Type 0
 IsRefusedIn plan nothing s at given = ⊥
 IsRefusedIn plan (basic line act rest) s at given =
     ((at ≡ line) × FlowRefused plan (instr_of_act act) (known_at s.flow) given)
     ⊎ (IsFine plan (instr_of_act act) (known_at s.flow)
-    × IsRefusedIn plan rest (past (moved plan (instr_of_act act) s.flow)) at given)
+    × IsRefusedIn plan rest (without_label (after_instr plan (instr_of_act act) s.flow)) at given)
 IsRefusedIn plan (stop line rest) s at given = IsUnreached rest at given
 IsRefusedIn plan (when line contact first rest) s at given =
-    let a = spot_after plan first (past s.flow) in
-    IsRefusedIn plan first (past s.flow) at given
-    ⊎ (IsJudged plan first (past s.flow)
+    let a = point_after plan first (without_label s.flow) in
+    IsRefusedIn plan first (without_label s.flow) at given
+    ⊎ (IsJudged plan first (without_label s.flow)
     × (IsMismatch line (WaysAgree a (Some s)) at given
     ⊎ (WaysAgree a (Some s)
     × IsRefusedAfter (meet a (Some s)) rest (λ u. IsRefusedIn plan rest u at given) at given)))
 IsRefusedIn plan (either line contact first second rest) s at given =
-    let a = spot_after plan first (past s.flow) in
-    let b = spot_after plan second (at_label s.flow) in
-    IsRefusedIn plan first (past s.flow) at given
-    ⊎ (IsJudged plan first (past s.flow)
+    let a = point_after plan first (without_label s.flow) in
+    let b = point_after plan second (at_label s.flow) in
+    IsRefusedIn plan first (without_label s.flow) at given
+    ⊎ (IsJudged plan first (without_label s.flow)
     × (IsRefusedIn plan second (at_label s.flow) at given
     ⊎ (IsJudged plan second (at_label s.flow)
     × (IsMismatch line (BranchesAgree a b) at given
     ⊎ (BranchesAgree a b
     × IsRefusedAfter (join a b) rest (λ u. IsRefusedIn plan rest u at given) at given)))))
 IsRefusedIn plan (repeat line times body rest) s at given =
-    let start = head body (past s.flow) in
+    let start = head body (without_label s.flow) in
     IsRefusedIn plan body start at given
     ⊎ (IsJudged plan body start
-    × (IsMismatch line (ComesRound (spot_after plan body start) start) at given
-    ⊎ (ComesRound (spot_after plan body start) start
-    × IsRefusedAfter (spot_after plan body start) rest (λ u. IsRefusedIn plan rest (past u.flow) at given) at given)))
+    × (IsMismatch line (FitsEntry (point_after plan body start) start) at given
+    ⊎ (FitsEntry (point_after plan body start) start
+    × IsRefusedAfter (point_after plan body start) rest (λ u. IsRefusedIn plan rest (without_label u.flow) at given) at given)))
 IsRefusedIn plan (forever line body rest) s at given =
     let start = head body s in
     IsRefusedIn plan body start at given
     ⊎ (IsJudged plan body start
-    × (IsMismatch line (ComesRound (spot_after plan body start) start) at given
-    ⊎ (ComesRound (spot_after plan body start) start × IsUnreached rest at given)))
+    × (IsMismatch line (FitsEntry (point_after plan body start) start) at given
+    ⊎ (FitsEntry (point_after plan body start) start × IsUnreached rest at given)))
 IsRefusedIn plan (apply line number named rest) s at given =
     IsRefusedIn plan named s at given
     ⊎ (IsJudged plan named s
-    × IsRefusedAfter (spot_after plan named s) rest (λ u. IsRefusedIn plan rest u at given) at given)
+    × IsRefusedAfter (point_after plan named s) rest (λ u. IsRefusedIn plan rest u at given) at given)
 
 -- ---- items, the opening, costs
 
--- of items, from this configuration on: the first that has a fault, at its line
+-- items applied to this configuration: the first that has a fault, at its line
 abbrev pub IsItemRefused : List Item → Configuration → ℕ → Cause → Type 0
 IsItemRefused [] c at given = ⊥
 IsItemRefused (item ∷ items) c at given =
@@ -96,7 +96,7 @@ IsItemRefused (item ∷ items) c at given =
 abbrev pub IsOpeningRefused : Plan → Configuration → Cause → Type 0
 IsOpeningRefused plan c = WhereSome (first_fault c) OfConfig orelse Where (plan.period < pages_alone plan c) Round
 
--- what is tested, in this order: the items, the opening at the line of `begin`, the statements, and last the costs
+-- tested in this order: the items, the opening at the line of `begin`, the statements, the costs
 abbrev pub IsRefused : Tree → ℕ → Cause → Type 0
 IsRefused s at given =
     IsItemRefused s.items no_configuration at given
@@ -105,5 +105,5 @@ IsRefused s at given =
     ⊎ (IsSound (opening_of s) × (pages_alone (plan_of s) (opening_of s) ≤ s.header.period)
     × (IsRefusedIn (plan_of s) (body_of s) (beginning (opening_of s)) at given
     ⊎ (IsJudged (plan_of s) (body_of s) (beginning (opening_of s))
-    × (IsWithinBudget s.header.budget (instrs_of (lines_of_places (places_of s))) → ⊥)
+    × (IsWithinBudget s.header.budget (instrs_of (lines_of_placed (placed_instrs s))) → ⊥)
     × (given ≡ Cost))))))

@@ -3,7 +3,7 @@ use Rattle.std.specs.Prelude.{ℕ, ◌+◌, Bool, true, false, if◌then◌else�
 use Rattle.plan_code.specs.declared.plan.Plan.{Plan}
 use Rattle.plan_code.specs.declared.instr.Instr.{Instr}
 use Rattle.plan_code.specs.declared.instr.Instr.TheVariants.{Wait, Until, WaitContact, CommitIn, CommitAt, Join, Settle, End, Edit, Test, Jump, Set, Loop}
-use Rattle.plan_flow.specs.Flows.{Flow, moved, merged}
+use Rattle.plan_flow.specs.Flows.{Flow, after_instr, merged}
 use Rattle.script_front.specs.declared.tree.Act.{Act}
 use Rattle.script_front.specs.declared.tree.Act.TheVariants.{Edit as Edits, Wait as Waits, WaitContact as WaitsContact, Until as WaitsUntil, CommitIn as CommitsIn, CommitAt as CommitsAt, Join as Joins, Settle as Settles}
 use Rattle.script_front.specs.Block.{Block, nothing, basic, stop, when, either, repeat, forever, apply}
@@ -16,20 +16,20 @@ use Rattle.script_meaning.specs.declared.flow.ProgramPoint.{ProgramPoint}
 abbrev pub at_label : Flow → ProgramPoint
 at_label t = record { flow = t; labelled = true }
 
--- where there is no label
-abbrev pub past : Flow → ProgramPoint
-past t = record { flow = t; labelled = false }
+-- a point without a label
+abbrev pub without_label : Flow → ProgramPoint
+without_label t = record { flow = t; labelled = false }
 
--- ---- ways that meet at a label
+-- ---- paths that merge at a label
 
--- a way that doesn't come there is None
+-- a path that ends before is None
 abbrev pub meet : Option ProgramPoint → Option ProgramPoint → Option ProgramPoint
 meet None None = None
 meet None (Some t) = Some (at_label t.flow)
 meet (Some s) None = Some (at_label s.flow)
 meet (Some s) (Some t) = Some (at_label (merged s.flow t.flow))
 
--- after two branches: where the first doesn't fall out, the second continues and there is no label
+-- after two branches: if the first doesn't fall out, the second continues and there is no label
 abbrev pub join : Option ProgramPoint → Option ProgramPoint → Option ProgramPoint
 join None second = second
 join (Some s) second = meet second (Some s)
@@ -50,7 +50,7 @@ instr_of_act (CommitsAt count) = CommitAt count
 instr_of_act Joins = Join
 instr_of_act Settles = Settle
 
--- what follows can be reached
+-- control reaches the end of the block
 abbrev pub falls_out : Block → Bool
 falls_out nothing = true
 falls_out (basic line act rest) = falls_out rest
@@ -61,81 +61,81 @@ falls_out (repeat line times body rest) = falls_out body && falls_out rest
 falls_out (forever line body rest) = false
 falls_out (apply line number named rest) = falls_out named && falls_out rest
 
--- the head of a loop: a label, where it can be repeated
+-- the head of a loop: it has a label if control reaches the end of the body
 abbrev pub head : Block → ProgramPoint → ProgramPoint
 head body s = record { flow = s.flow; labelled = if falls_out body then true else s.labelled }
 
--- where a block leads: nowhere, if it doesn't fall out
-abbrev pub spot_after : Plan → Block → ProgramPoint → Option ProgramPoint
-spot_after plan nothing s = Some s
-spot_after plan (basic line act rest) s = spot_after plan rest (past (moved plan (instr_of_act act) s.flow))
-spot_after plan (stop line rest) s = None
-spot_after plan (when line contact first rest) s =
-    onward (meet (spot_after plan first (past s.flow)) (Some s)) None (λ u. spot_after plan rest u)
-spot_after plan (either line contact first second rest) s =
-    onward (join (spot_after plan first (past s.flow)) (spot_after plan second (at_label s.flow))) None (λ u. spot_after plan rest u)
-spot_after plan (repeat line times body rest) s =
-    onward (spot_after plan body (head body (past s.flow))) None (λ u. spot_after plan rest (past u.flow))
-spot_after plan (forever line body rest) s = None
-spot_after plan (apply line number named rest) s = onward (spot_after plan named s) None (λ u. spot_after plan rest u)
+-- the point after a block: None if it doesn't fall out
+abbrev pub point_after : Plan → Block → ProgramPoint → Option ProgramPoint
+point_after plan nothing s = Some s
+point_after plan (basic line act rest) s = point_after plan rest (without_label (after_instr plan (instr_of_act act) s.flow))
+point_after plan (stop line rest) s = None
+point_after plan (when line contact first rest) s =
+    onward (meet (point_after plan first (without_label s.flow)) (Some s)) None (λ u. point_after plan rest u)
+point_after plan (either line contact first second rest) s =
+    onward (join (point_after plan first (without_label s.flow)) (point_after plan second (at_label s.flow))) None (λ u. point_after plan rest u)
+point_after plan (repeat line times body rest) s =
+    onward (point_after plan body (head body (without_label s.flow))) None (λ u. point_after plan rest (without_label u.flow))
+point_after plan (forever line body rest) s = None
+point_after plan (apply line number named rest) s = onward (point_after plan named s) None (λ u. point_after plan rest u)
 
--- an instruction, with what is known before it and the number of repeats around it
-pub record Place : Type 0 where
+-- an instruction, with the point before it and the number of enclosing repeats
+pub record PlacedInstr : Type 0 where
   pub line : ℕ
   pub instr : Instr
-  pub spot : ProgramPoint
+  pub point : ProgramPoint
   pub repeats : ℕ
 
-abbrev pub place_of_instr : ℕ → Instr → ℕ → ProgramPoint → Place
-place_of_instr line i r s = record { line = line; instr = i; spot = s; repeats = r }
+abbrev pub placed_instr : ℕ → Instr → ℕ → ProgramPoint → PlacedInstr
+placed_instr line i r s = record { line = line; instr = i; point = s; repeats = r }
 
-abbrev pub alone : ℕ → Instr → ℕ → ProgramPoint → List Place
-alone line i r s = place_of_instr line i r s ∷ []
+abbrev pub alone : ℕ → Instr → ℕ → ProgramPoint → List PlacedInstr
+alone line i r s = placed_instr line i r s ∷ []
 
 -- the code of a block inside this many repeats, from this pc on
-abbrev pub places : Plan → ℕ → ℕ → Block → ProgramPoint → List Place
+abbrev pub places : Plan → ℕ → ℕ → Block → ProgramPoint → List PlacedInstr
 places plan r pc nothing s = []
 places plan r pc (basic line act rest) s =
-    place_of_instr line (instr_of_act act) r s ∷ places plan r (pc + 1) rest (past (moved plan (instr_of_act act) s.flow))
-places plan r pc (stop line rest) s = place_of_instr line End r s ∷ []
+    placed_instr line (instr_of_act act) r s ∷ places plan r (pc + 1) rest (without_label (after_instr plan (instr_of_act act) s.flow))
+places plan r pc (stop line rest) s = placed_instr line End r s ∷ []
 places plan r pc (when line contact first rest) s =
-    let firsts = places plan r (pc + 1) first (past s.flow) in
+    let firsts = places plan r (pc + 1) first (without_label s.flow) in
     let end = pc + 1 + length firsts in
-    place_of_instr line (Test contact end) r s
-    ∷ (firsts ++ onward (meet (spot_after plan first (past s.flow)) (Some s)) [] (λ u. places plan r end rest u))
+    placed_instr line (Test contact end) r s
+    ∷ (firsts ++ onward (meet (point_after plan first (without_label s.flow)) (Some s)) [] (λ u. places plan r end rest u))
 places plan r pc (either line contact first second rest) s =
-    let firsts = places plan r (pc + 1) first (past s.flow) in
-    let leaving = spot_after plan first (past s.flow) in
+    let firsts = places plan r (pc + 1) first (without_label s.flow) in
+    let leaving = point_after plan first (without_label s.flow) in
     let start = pc + 1 + length firsts + (if falls_out first then 1 else 0) in
     let seconds = places plan r start second (at_label s.flow) in
     let end = start + length seconds in
-    place_of_instr line (Test contact start) r s
+    placed_instr line (Test contact start) r s
     ∷ (firsts ++ (onward leaving [] (alone line (Jump end) r) ++ (seconds
-    ++ onward (join leaving (spot_after plan second (at_label s.flow))) [] (λ u. places plan r end rest u))))
+    ++ onward (join leaving (point_after plan second (at_label s.flow))) [] (λ u. places plan r end rest u))))
 places plan r pc (repeat line times body rest) s =
-    let start = head body (past s.flow) in
+    let start = head body (without_label s.flow) in
     let bodies = places plan (r + 1) (pc + 1) body start in
     let end = pc + 1 + length bodies in
-    place_of_instr line (Set r times) r s
-    ∷ (bodies ++ onward (spot_after plan body start) [] (λ u.
-    place_of_instr line (Loop r (pc + 1)) (r + 1) u ∷ places plan r (end + 1) rest (past u.flow)))
+    placed_instr line (Set r times) r s
+    ∷ (bodies ++ onward (point_after plan body start) [] (λ u.
+    placed_instr line (Loop r (pc + 1)) (r + 1) u ∷ places plan r (end + 1) rest (without_label u.flow)))
 places plan r pc (forever line body rest) s =
     let start = head body s in
-    places plan r pc body start ++ onward (spot_after plan body start) [] (alone line (Jump pc) r)
+    places plan r pc body start ++ onward (point_after plan body start) [] (alone line (Jump pc) r)
 places plan r pc (apply line number named rest) s =
     let names = places plan r pc named s in
-    names ++ onward (spot_after plan named s) [] (λ u. places plan r (pc + length names) rest u)
+    names ++ onward (point_after plan named s) [] (λ u. places plan r (pc + length names) rest u)
 
--- all of a script: an End follows, in this line, where it falls out
-abbrev pub all_places : Plan → ℕ → Block → ProgramPoint → List Place
-all_places plan last b s = places plan 0 0 b s ++ onward (spot_after plan b s) [] (alone last End 0)
+-- the code of a whole script: it ends with an End, in this line, if control reaches the end
+abbrev pub all_places : Plan → ℕ → Block → ProgramPoint → List PlacedInstr
+all_places plan last b s = places plan 0 0 b s ++ onward (point_after plan b s) [] (alone last End 0)
 
 -- ---- labels
 
-abbrev pub mark_of : ℕ → Place → UnpricedLabel
-mark_of pc p = record { pc = pc; flow = p.spot.flow; repeats = p.repeats }
+abbrev pub unpriced_label : ℕ → PlacedInstr → UnpricedLabel
+unpriced_label pc p = record { pc = pc; flow = p.point.flow; repeats = p.repeats }
 
--- of places from this pc on
-abbrev pub marks_of : ℕ → List Place → List UnpricedLabel
-marks_of pc [] = []
-marks_of pc (p ∷ ps) = if p.spot.labelled then mark_of pc p ∷ marks_of (pc + 1) ps else marks_of (pc + 1) ps
+-- of instructions from this pc on
+abbrev pub unpriced_labels : ℕ → List PlacedInstr → List UnpricedLabel
+unpriced_labels pc [] = []
+unpriced_labels pc (p ∷ ps) = if p.point.labelled then unpriced_label pc p ∷ unpriced_labels (pc + 1) ps else unpriced_labels (pc + 1) ps

@@ -1,4 +1,4 @@
-//! What is known at the instructions of a script's code.
+//! Program points: what is known at the instructions of a script's code.
 
 ghost use Rattle.std.specs.Prelude.{◌≡◌, true};
 ghost use Rattle.plan_code.specs.declared.label.Swap.TheVariants.{Idle};
@@ -17,7 +17,7 @@ pub struct ProgramPoint {
     pub labelled: bool,
 }
 
-/// The same configuration.
+/// A copy of a configuration.
 fn copied(tables: &Tables) -> Tables
     ensures { result ≡ tables.now }
 {
@@ -27,7 +27,7 @@ fn copied(tables: &Tables) -> Tables
 }
 
 impl ProgramPoint {
-    /// What is known at the beginning: this configuration, and no swap is pending. It has a label.
+    /// The program point at the start: this configuration, no pending swap, and a label.
     pub fn opening(config: &Config) -> ProgramPoint
         ensures { result ≡ record {
           flow = record { current = config.now; next = config.now; pending = Idle };
@@ -44,7 +44,7 @@ impl ProgramPoint {
         }
     }
 
-    /// The same.
+    /// A copy of this program point.
     pub fn copied(&self) -> ProgramPoint
         ensures { result ≡ self.now }
     {
@@ -66,6 +66,6 @@ pub struct UnpricedLabel {
     pub pc: u16,
     /// What is known there.
     pub flow: Flow<Tables>,
-    /// How many repeats are around it: this many counters are set, the first ones.
+    /// The number of enclosing repeats; their counters, the first ones, are set.
     pub repeats: u8,
 }

@@ -1,4 +1,4 @@
-//! What holds of the codes of all scripts. Each law is a function that does nothing; its contract is the law.
+//! The laws of scripts and their codes. Each law is a function that does nothing; its contract is the law.
 
 ghost use Rattle.script_meaning.specs.Compiled.{ScriptsHaveOneCode};
 ghost use Rattle.script_meaning.specs.Meaning.{ScenesSuffice, ScriptsPlayAsTheyRead};
@@ -9,16 +9,16 @@ pub fn codes()
     ensures { ScriptsHaveOneCode }
 {}
 
-/// The law of scenes: what a frame and a statement make of the configurations, the swap, the contacts, the counts and
-/// what is waited for depends on these alone, and on nothing else of a player's state; nor does what traps.
+/// The law of scenes: how a frame and a statement change the configurations, the swap, the contacts, the counts and the
+/// wait, and whether the statement traps, depends on these alone, and on nothing else in a player's state.
 pub fn scenes()
     ensures { ScenesSuffice }
 {}
 
 /// The law of scripts: a typed code of a script plays as the script reads. From every start in range and over every
-/// list of contact changes and frames the script's own machine meets no trap and comes to one end. There the code has
-/// come to the same current and next configuration, frames until the swap and CIF count; and to the same contacts,
-/// frame of the day, and what is waited for.
+/// list of contact changes and frames, the abstract machine for scripts never traps and reaches exactly one state. The
+/// code reaches the same current and next configuration, frames until the swap and CIF count, and the same contacts,
+/// frame of the day and wait.
 pub fn scripts()
     ensures { ScriptsPlayAsTheyRead }
 {}

@@ -1,10 +1,10 @@
--- Items applied one after another: the loop's invariant and its result.
+-- Items applied in order: the loop's invariant and result.
 use Rattle.std.proofs.Common.{◌≡◌, ℕ, ◌+◌, ◌<◌, ◌≤◌, List, [], ◌∷◌, length, get_or, drop, Option, Some, None, Result, Ok, Err, refl, sym, ap, ◌∙◌}
 use Rattle.std.proofs.lemmas.List.{drop_more, drop_all}
 use Rattle.mux_types.specs.Configuration.{Configuration}
 use Rattle.mux_config.specs.declared.fault.EditFault.{EditFault}
 use Rattle.mux_config.specs.Edits.{edit_fault, changed}
-use Rattle.mux_edits.specs.Sequences.{Lead}
+use Rattle.mux_edits.specs.Sequences.{Transform}
 use Rattle.script_front.specs.declared.tree.Item.{Item}
 use Rattle.script_front.specs.Alike.{added_by}
 use Rattle.script_opening.specs.declared.opening.ItemFault.{ItemFault}
@@ -13,14 +13,14 @@ use Rattle.script_opening.specs.Openings.{made_by, unless_fault}
 ok_is_err : {P : Type 0} (c : Configuration) (f : ItemFault) → Err f ≡ Ok c → P
 ok_is_err c f e = absurd (cc)
 
--- ---- what items lead to
+-- ---- the configuration after items
 
 leads_by : (item : Item) (items : List Item) (c d : Configuration) (o : Option EditFault) → edit_fault item.edit c ≡ o → unless_fault o item.line (made_by items (changed item.edit c)) ≡ Ok d
-    → (made_by items (changed item.edit c) ≡ Ok d → Lead (added_by items) (changed item.edit c) d) → Lead (added_by (item ∷ items)) c d
+    → (made_by items (changed item.edit c) ≡ Ok d → Transform (added_by items) (changed item.edit c) d) → Transform (added_by (item ∷ items)) c d
 leads_by item items c d None is e rest = let more = rest e in record { fine = (is, more.fine); arrive = more.arrive }
 leads_by item items c d (Some fault) is e rest = ok_is_err d (record { line = item.line; fault = fault }) e
 
-pub made_leads : (items : List Item) (c d : Configuration) → made_by items c ≡ Ok d → Lead (added_by items) c d
+pub made_leads : (items : List Item) (c d : Configuration) → made_by items c ≡ Ok d → Transform (added_by items) c d
 made_leads [] c d e = let same : c ≡ d = cc in record { fine = tt; arrive = same }
 made_leads (item ∷ items) c d e = leads_by item items c d (edit_fault item.edit c) refl e (made_leads items (changed item.edit c) d)
 

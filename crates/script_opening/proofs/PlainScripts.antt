@@ -1,4 +1,4 @@
--- Scripts without blocks: their lists item by item, and that they are scripts.
+-- Scripts without blocks: their items and statements one by one, and that they are scripts.
 use Rattle.std.proofs.Common.{◌≡◌, ℕ, zero, suc, ◌+◌, ◌*◌, ◌/◌, ◌%◌, ◌<◌, ◌≤◌, ◌==◌, Bool, true, false, cond, List, [], ◌∷◌, ◌++◌, length, get_or, take, refl, sym, ap, ◌∙◌, subst, arith, length-take-le}
 use Rattle.std.specs.List.{All, AllByRecursion, flat_map}
 use Rattle.std.proofs.lemmas.List.{take_more, take_all}
@@ -22,10 +22,10 @@ use Rattle.script_front.specs.declared.tree.Statement.{Statement}
 use Rattle.script_front.specs.Block.{Block, nothing, basic, before, and_then, block_of}
 use Rattle.script_front.specs.Alike.{added_by}
 use Rattle.script_front.specs.Tree.{Tree, IsScript, IsHeader, IsAct, IsItem, Adds, IsInBounds, AllFit, AreNamedApart, counted, counted_in}
-use Rattle.script_front.specs.Words.{IsName}
+use Rattle.script_front.specs.Keywords.{IsName}
 use Rattle.script_opening.specs.Plain.{items_from, acts_from}
 
--- ---- one more at the end
+-- ---- appending one
 
 pub items_pushed : (line : ℕ) (es : List Edit) (e : Edit) → items_from line (es ++ e ∷ []) ≡ items_from line es ++ record { line = line + length es; edit = e } ∷ []
 items_pushed line [] e = let same : line ≡ line + 0 = omega arith in ap (λ (n : ℕ). record { line = n; edit = e } ∷ []) same
@@ -45,7 +45,7 @@ pub then_pushed : (ss : List Statement) (s : Statement) (b : Block) → and_then
 then_pushed [] s b = refl
 then_pushed (x ∷ ss) s b = ap (before [] x) (then_pushed ss s b)
 
--- ---- how far the loops have come
+-- ---- loop invariants
 
 pub record AreItemsFrom (line now : ℕ) (es : List Edit) (i : ℕ) (out : List Item) : Type 0 where
   pub here : now ≡ line + i
@@ -86,7 +86,7 @@ act_on line now acts i a out s lt same is h =
 pub acts_done : (line now : ℕ) (acts : List Act) (i : ℕ) (out : List Statement) → length acts ≤ i → AreActsFrom line now acts i out → (b : Block) → and_then [] out b ≡ acts_from line acts b
 acts_done line now acts i out past h b = h.so_far b ∙ ap (λ (xs : List Act). acts_from line xs b) (take_all i acts past)
 
--- ---- what items add
+-- ---- the edits of items
 
 pub added_again : (line : ℕ) (es : List Edit) → added_by (items_from line es) ≡ es
 added_again line [] = refl
@@ -96,7 +96,7 @@ pub items_length : (line : ℕ) (es : List Edit) → length (items_from line es)
 items_length line [] = refl
 items_length line (e ∷ es) = let rest = items_length (line + 1) es in omega (arith, rest)
 
--- ---- that they are items
+-- ---- the edits can be items
 
 abbrev pub IsAdding : Edit → Type 0
 IsAdding e = IsEdit e × Adds e
@@ -115,12 +115,12 @@ each_of f (x ∷ xs) h = both IsAdding (f x) (flat_map f xs) h.0 (each_of f xs h
 
 -- ---- a rate with a size is a number of 16 bits
 
--- what holds of one of two numbers holds of the one that is chosen
+-- what holds of two numbers holds of the selected one
 chosen : (P : ℕ → Type 0) (b : Bool) (x y : ℕ) → P x → P y → P (cond b x y)
 chosen P true x y h k = h
 chosen P false x y h k = k
 
--- so many steps fit that the rate is small
+-- the size is within 864 capacity units, so the number of rate steps is small
 abbrev AreFew : ℕ → ℕ → Type 0
 AreFew q units = units * q ≤ 864 → q ≤ 864
 
@@ -171,7 +171,7 @@ made_adding c h =
     (each_of service_added c.services (each_as IsService (λ x. AllByRecursion IsAdding (service_added x)) service_adding c.services h.services_formed))
     (each_of packet_added c.packets (each_as IsAddressed (λ x. AllByRecursion IsAdding (packet_added x)) (λ x k. (packet_adding x k, tt)) c.packets h.packets_addressed)))
 
--- ---- that it is a script
+-- ---- the result is a script
 
 items_formed : (line : ℕ) (es : List Edit) → AllByRecursion IsAdding es → All IsItem (items_from line es)
 items_formed line [] h k d lt = absurd (omega (arith, lt))

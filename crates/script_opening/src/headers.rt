@@ -1,4 +1,4 @@
-//! Headers within their ranges.
+//! Makes headers with numbers in range.
 
 ghost use Rattle.std.specs.Prelude.{◌≡◌, IfSome, IfNone};
 ghost use Rattle.script_front.specs.Tree.{IsHeader};
@@ -6,8 +6,8 @@ ghost use Rattle.script_front.specs.Tree.{IsHeader};
 use fib_codec::Mode;
 use script_front::Header;
 
-/// The header of these numbers; None where the period is not 1 to 60 frames, the notice not 12 to 248 frames, or the
-/// budget not 1 to 255 instructions per frame.
+/// The header with these fields; None unless the period is 1 to 60 frames, the notice 12 to 248 frames, and the budget
+/// 1 to 255 instructions per frame.
 pub fn header_of(eid: u16, mode: Mode, period: u8, notice: u8, budget: u8) -> Option<Header>
     ensures formed { IfSome result IsHeader }
     ensures value { IfSome result (λ h. h ≡ record {

@@ -1,7 +1,7 @@
-//! Scripts and the configurations that they begin with: the configuration that the items of a script make
-//! ([`opening`]), and the script of a configuration ([`script_of`]).
+//! Openings of scripts: the configuration that the items of a script make ([`opening_of`]), and the script that begins
+//! with a configuration ([`script_of`]).
 //!
-//! What items make is defined in `specs/Openings.antt`, and what the script of a configuration is in
+//! The configuration of items is defined in `specs/Openings.antt`, and the script of a configuration in
 //! `specs/Plain.antt`.
 #![tactic(auto)]
 

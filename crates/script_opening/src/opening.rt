@@ -1,28 +1,28 @@
-//! The configuration that a script begins with.
+//! Builds the configuration that a script begins with.
 
 ghost use Rattle.std.specs.Prelude.{◌≡◌, None, Some, IfOk, IfErr, OnOk};
 ghost use Rattle.mux_config.specs.Configuration.{nothing};
 ghost use Rattle.mux_config.specs.Edits.{changed, edit_fault};
 ghost use Rattle.script_front.specs.Alike.{added_by};
-ghost use Rattle.mux_edits.specs.Sequences.{Lead};
+ghost use Rattle.mux_edits.specs.Sequences.{Transform};
 ghost use Rattle.script_opening.specs.Openings.{made_by};
 
 use mux_config::{Config, EditFault, Store};
 use script_front::{Item, Script};
 use thiserror::Error;
 
-/// Why the items of a script make no configuration: the first of them that has a fault, with its line, 1 to 65,535 in a
-/// script that was read. It is printed as `compile` prints it.
+/// Why the items of a script make no configuration: the first item with a fault. The line is 1 to 65,535 in a script
+/// that was read. `Display` writes the line that `compile` prints.
 #[derive(Clone, Copy, Debug, PartialEq, Eq, Error)]
 #[error("refused line {line}: Edit {fault}")]
 pub struct ItemFault {
     /// The line of the item's first token.
     pub line: u16,
-    /// Its fault.
+    /// The fault.
     pub fault: EditFault,
 }
 
-/// One item.
+/// Applies one item.
 fn add(item: &Item, config: &mut Config) -> Result<(), ItemFault>
     ensures made { OnOk result (config.new ≡ changed item.now.edit config.old) }
     ensures fine { OnOk result (edit_fault item.now.edit config.old ≡ None) }
@@ -36,11 +36,11 @@ fn add(item: &Item, config: &mut Config) -> Result<(), ItemFault>
     }
 }
 
-/// The configuration that these items make from the empty one.
+/// Applies the items to the empty configuration, in order.
 #[tactic(auto, using(crate::proofs::Openings::made_leads))]
 fn made_by(items: &[Item]) -> Result<Config, ItemFault>
     ensures value { result ≡ made_by items.now nothing }
-    ensures leads { IfOk result (λ c. Lead (added_by items.now) nothing c) }
+    ensures leads { IfOk result (λ c. Transform (added_by items.now) nothing c) }
 {
     let mut config = Config::empty();
     for item in items {
@@ -51,11 +51,11 @@ fn made_by(items: &[Item]) -> Result<Config, ItemFault>
     Ok(config)
 }
 
-/// The configuration that a script begins with: what its items make from the empty one, sound or not. The first item
-/// that has a fault is reported, with its line.
+/// The configuration that a script begins with: its items, applied to the empty one. It may be unsound. The first item
+/// with a fault is reported, with its line.
 pub fn opening_of(script: &Script) -> Result<Config, ItemFault>
     ensures value { result ≡ made_by script.now.items nothing }
-    ensures leads { IfOk result (λ c. Lead (added_by script.now.items) nothing c) }
+    ensures leads { IfOk result (λ c. Transform (added_by script.now.items) nothing c) }
 {
     made_by(script.items())
 }

@@ -1,10 +1,10 @@
-//! Scripts without blocks, of a configuration and the acts after `begin`.
+//! Makes scripts without blocks, from a configuration and the acts after `begin`.
 
 ghost use Rattle.std.specs.Prelude.{◌≡◌, ◌≤◌, ◌+◌, ◌++◌, ◌∷◌, [], length, OnOk, IfOk};
 ghost use Rattle.std.specs.List.{All};
 ghost use Rattle.mux_config.specs.Configuration.{nothing};
 ghost use Rattle.mux_edits.specs.Making.{edits_that_make};
-ghost use Rattle.mux_edits.specs.Sequences.{Lead};
+ghost use Rattle.mux_edits.specs.Sequences.{Transform};
 ghost use Rattle.script_front.specs.Alike.{added_by};
 ghost use Rattle.script_front.specs.Block.{Block, and_then};
 ghost use Rattle.script_front.specs.Tree.{IsHeader, IsAct};
@@ -16,7 +16,7 @@ use script_front::make::acting;
 use script_front::{Act, Header, Item, Names, Script, Statement};
 use std::alloc::{AllocError, Global};
 
-/// The most acts of such a script.
+/// The maximum number of acts in such a script.
 pub const MOST_ACTS: usize = 7000;
 
 /// Appends an item to a list.
@@ -29,7 +29,7 @@ fn put<T: Drop>(list: &mut Vec<T>, item: T) -> Result<(), AllocError>
     }
 }
 
-/// Edits as items, on lines from this one on.
+/// The edits as items, one per line from this line on.
 fn items_from(alloc: Global, first: u16, edits: &[Edit]) -> Result<Vec<Item>, AllocError>
     requires { first + length edits.now ≤ 65535 }
     ensures { IfOk result (λ v. v.items ≡ items_from first edits.now) }
@@ -43,7 +43,7 @@ fn items_from(alloc: Global, first: u16, edits: &[Edit]) -> Result<Vec<Item>, Al
     Ok(items)
 }
 
-/// Acts as statements, on lines from this one on.
+/// The acts as statements, one per line from this line on.
 fn statements_from(alloc: Global, first: u16, acts: &[Act]) -> Result<Vec<Statement>, AllocError>
     requires { first + length acts.now ≤ 65535 }
     ensures { IfOk result (λ v. (b : Block) → and_then [] v.items b
@@ -58,8 +58,8 @@ fn statements_from(alloc: Global, first: u16, acts: &[Act]) -> Result<Vec<Statem
     Ok(statements)
 }
 
-/// The script of this header that begins with a configuration, sound or not, followed by these acts: the edits that
-/// make the configuration as items, and each act as a statement, on the lines on which `print` prints them.
+/// The script with this header that begins with a configuration, which may be unsound, and has these acts. The edits
+/// that make the configuration are its items and the acts its statements, on the lines on which `print` prints them.
 pub fn script_of(
     alloc: Global,
     header: Header,
@@ -70,7 +70,7 @@ pub fn script_of(
     requires acts { All IsAct acts.now }
     requires few { length acts.now ≤ MOST_ACTS }
     ensures plain { IfOk result (λ s. IsPlain header (edits_that_make config.now) acts.now s) }
-    ensures makes { IfOk result (λ s. Lead (added_by s.items) nothing config.now) }
+    ensures makes { IfOk result (λ s. Transform (added_by s.items) nothing config.now) }
 {
     let edits = edits_that_make(alloc, config)?;
     let items = items_from(alloc, 3, edits.as_slice())?;

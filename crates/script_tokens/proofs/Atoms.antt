@@ -1,4 +1,4 @@
--- Atoms that are no names, no profiles and no times.
+-- Atoms that are not names, profiles, times or decimals in range.
 use Rattle.std.proofs.Common.{◌≡◌, ◌≢◌, ◌⊎◌, inl, inr, ℕ, ◌+◌, ◌*◌, ◌/◌, ◌%◌, ◌<◌, ◌≤◌, true, false, List, [], ◌∷◌, length, get_or, refl, sym, ap, ◌∙◌, subst, arith}
 use Rattle.std.specs.Prelude.{Result, Ok, Err, OnErr}
 use Rattle.std.proofs.lemmas.Bool.{false≢true}
@@ -9,8 +9,8 @@ use Rattle.std.proofs.lemmas.Fmt.{decimal_injective}
 use Rattle.mux_eep.specs.declared.sizes.EepSet.{EepSet}
 use Rattle.mux_eep.specs.declared.sizes.EepSet.TheVariants.{A, B}
 use Rattle.mux_eep.specs.Sizes.{Profile}
-use Rattle.script_tokens.specs.Words.{IsName}
-use Rattle.script_tokens.specs.Spelling.{set_letter, profile_word, two_digits, time_word}
+use Rattle.script_tokens.specs.Keywords.{IsName}
+use Rattle.script_tokens.specs.Spelling.{set_letter, profile_text, two_digits, time_text}
 use Rattle.script_tokens.specs.Reading.{Spelled, BeginsWith}
 
 -- ---- the first of two lists
@@ -18,28 +18,28 @@ use Rattle.script_tokens.specs.Reading.{Spelled, BeginsWith}
 first_is : (v w : List ℕ) (vs ws : Spelled) → v ∷ vs ≡ w ∷ ws → v ≡ w
 first_is v w vs ws e = cc
 
-pub no_name : (words : Spelled) (w : List ℕ) → BeginsWith words w → (IsName w → ⊥) → (name : List ℕ) (rest : Spelled) → IsName name → words ≢ name ∷ rest
-no_name words w h none name rest is e = none (subst IsName (first_is _ _ _ _ (sym e ∙ h.begins)) is)
+pub no_name : (lexemes : Spelled) (w : List ℕ) → BeginsWith lexemes w → (IsName w → ⊥) → (name : List ℕ) (rest : Spelled) → IsName name → lexemes ≢ name ∷ rest
+no_name lexemes w h none name rest is e = none (subst IsName (first_is _ _ _ _ (sym e ∙ h.begins)) is)
 
-pub same_decimal : (words : Spelled) (m n : ℕ) (xs ys : Spelled) → m < 1000000000 → n < 1000000000 → words ≡ decimal m ∷ xs → words ≡ decimal n ∷ ys → m ≡ n
-same_decimal words m n xs ys a b e f = decimal_injective m n (omega arith) (omega arith) (first_is (decimal m) (decimal n) xs ys (sym e ∙ f))
+pub same_decimal : (lexemes : Spelled) (m n : ℕ) (xs ys : Spelled) → m < 1000000000 → n < 1000000000 → lexemes ≡ decimal m ∷ xs → lexemes ≡ decimal n ∷ ys → m ≡ n
+same_decimal lexemes m n xs ys a b e f = decimal_injective m n (omega arith) (omega arith) (first_is (decimal m) (decimal n) xs ys (sym e ∙ f))
 
 -- ---- profiles
 
-pub profile_length : (atom : List ℕ) (p : Profile) → atom ≡ profile_word p → length atom ≡ 3
+pub profile_length : (atom : List ℕ) (p : Profile) → atom ≡ profile_text p → length atom ≡ 3
 profile_length atom p e = ap length e
 
-pub profile_level : (atom : List ℕ) (p : Profile) → atom ≡ profile_word p → get_or atom 0 0 ≡ 48 + p.level
+pub profile_level : (atom : List ℕ) (p : Profile) → atom ≡ profile_text p → get_or atom 0 0 ≡ 48 + p.level
 profile_level atom p e = ap (λ (xs : List ℕ). get_or xs 0 0) e
 
-pub profile_dash : (atom : List ℕ) (p : Profile) → atom ≡ profile_word p → get_or atom 1 0 ≡ 45
+pub profile_dash : (atom : List ℕ) (p : Profile) → atom ≡ profile_text p → get_or atom 1 0 ≡ 45
 profile_dash atom p e = ap (λ (xs : List ℕ). get_or xs 1 0) e
 
 set_is : (s : EepSet) → (set_letter s ≡ 65) ⊎ (set_letter s ≡ 66)
 set_is A = inl refl
 set_is B = inr refl
 
-pub profile_set : (atom : List ℕ) (p : Profile) → atom ≡ profile_word p → (get_or atom 2 0 ≡ 65) ⊎ (get_or atom 2 0 ≡ 66)
+pub profile_set : (atom : List ℕ) (p : Profile) → atom ≡ profile_text p → (get_or atom 2 0 ≡ 65) ⊎ (get_or atom 2 0 ≡ 66)
 profile_set atom p e = let f : get_or atom 2 0 ≡ set_letter p.set = ap (λ (xs : List ℕ). get_or xs 2 0) e in
     elim (set_is p.set) [ inl g ↦ inl (f ∙ g) | inr g ↦ inr (f ∙ g) ]
 
@@ -64,55 +64,55 @@ two_injective a b m n s t e f =
     let l = ap (λ (xs : List ℕ). get_or xs 1 0) (sym e ∙ f) in
     omega (arith, h, l)
 
--- the parts of a time
+-- the digits of a time
 pub record HasTime (a b c d e f t : ℕ) : Type 0 where
   pub hours : a ∷ b ∷ [] ≡ two_digits (t / 3600)
   pub minutes : c ∷ d ∷ [] ≡ two_digits (t / 60 % 60)
   pub seconds : e ∷ f ∷ [] ≡ two_digits (t % 60)
 
-pub time_parts : (atom : List ℕ) (t : ℕ) → atom ≡ time_word t → HasTime (get_or atom 0 0) (get_or atom 1 0) (get_or atom 3 0) (get_or atom 4 0) (get_or atom 6 0) (get_or atom 7 0) t
+pub time_parts : (atom : List ℕ) (t : ℕ) → atom ≡ time_text t → HasTime (get_or atom 0 0) (get_or atom 1 0) (get_or atom 3 0) (get_or atom 4 0) (get_or atom 6 0) (get_or atom 7 0) t
 time_parts atom t is = record {
   hours = ap (λ (xs : List ℕ). get_or xs 0 0 ∷ get_or xs 1 0 ∷ []) is;
   minutes = ap (λ (xs : List ℕ). get_or xs 3 0 ∷ get_or xs 4 0 ∷ []) is;
   seconds = ap (λ (xs : List ℕ). get_or xs 6 0 ∷ get_or xs 7 0 ∷ []) is;
 }
 
-pub time_length : (atom : List ℕ) (t : ℕ) → atom ≡ time_word t → length atom ≡ 8
+pub time_length : (atom : List ℕ) (t : ℕ) → atom ≡ time_text t → length atom ≡ 8
 time_length atom t e = ap length e
 
-pub first_colon : (atom : List ℕ) (t : ℕ) → atom ≡ time_word t → get_or atom 2 0 ≡ 58
+pub first_colon : (atom : List ℕ) (t : ℕ) → atom ≡ time_text t → get_or atom 2 0 ≡ 58
 first_colon atom t e = ap (λ (xs : List ℕ). get_or xs 2 0) e
 
-pub second_colon : (atom : List ℕ) (t : ℕ) → atom ≡ time_word t → get_or atom 5 0 ≡ 58
+pub second_colon : (atom : List ℕ) (t : ℕ) → atom ≡ time_text t → get_or atom 5 0 ≡ 58
 second_colon atom t e = ap (λ (xs : List ℕ). get_or xs 5 0) e
 
-pub no_hours : (atom : List ℕ) (t : ℕ) → t < 86400 → ((n : ℕ) → n < 100 → get_or atom 0 0 ∷ get_or atom 1 0 ∷ [] ≢ two_digits n) → atom ≢ time_word t
+pub no_hours : (atom : List ℕ) (t : ℕ) → t < 86400 → ((n : ℕ) → n < 100 → get_or atom 0 0 ∷ get_or atom 1 0 ∷ [] ≢ two_digits n) → atom ≢ time_text t
 no_hours atom t small none e = none (t / 3600) (omega arith) (time_parts atom t e).hours
 
-pub no_minutes : (atom : List ℕ) (t : ℕ) → t < 86400 → ((n : ℕ) → n < 100 → get_or atom 3 0 ∷ get_or atom 4 0 ∷ [] ≢ two_digits n) → atom ≢ time_word t
+pub no_minutes : (atom : List ℕ) (t : ℕ) → t < 86400 → ((n : ℕ) → n < 100 → get_or atom 3 0 ∷ get_or atom 4 0 ∷ [] ≢ two_digits n) → atom ≢ time_text t
 no_minutes atom t small none e = none (t / 60 % 60) (omega arith) (time_parts atom t e).minutes
 
-pub no_seconds : (atom : List ℕ) (t : ℕ) → t < 86400 → ((n : ℕ) → n < 100 → get_or atom 6 0 ∷ get_or atom 7 0 ∷ [] ≢ two_digits n) → atom ≢ time_word t
+pub no_seconds : (atom : List ℕ) (t : ℕ) → t < 86400 → ((n : ℕ) → n < 100 → get_or atom 6 0 ∷ get_or atom 7 0 ∷ [] ≢ two_digits n) → atom ≢ time_text t
 no_seconds atom t small none e = none (t % 60) (omega arith) (time_parts atom t e).seconds
 
-pub more_minutes : (atom : List ℕ) (t n : ℕ) → n < 100 → 59 < n → get_or atom 3 0 ∷ get_or atom 4 0 ∷ [] ≡ two_digits n → t < 86400 → atom ≢ time_word t
+pub more_minutes : (atom : List ℕ) (t n : ℕ) → n < 100 → 59 < n → get_or atom 3 0 ∷ get_or atom 4 0 ∷ [] ≡ two_digits n → t < 86400 → atom ≢ time_text t
 more_minutes atom t n small more is low e = let same = two_injective _ _ n (t / 60 % 60) small (omega arith) is (time_parts atom t e).minutes in omega (arith, same, more)
 
-pub more_seconds : (atom : List ℕ) (t n : ℕ) → n < 100 → 59 < n → get_or atom 6 0 ∷ get_or atom 7 0 ∷ [] ≡ two_digits n → t < 86400 → atom ≢ time_word t
+pub more_seconds : (atom : List ℕ) (t n : ℕ) → n < 100 → 59 < n → get_or atom 6 0 ∷ get_or atom 7 0 ∷ [] ≡ two_digits n → t < 86400 → atom ≢ time_text t
 more_seconds atom t n small more is low e = let same = two_injective _ _ n (t % 60) small (omega arith) is (time_parts atom t e).seconds in omega (arith, same, more)
 
-pub more_hours : (atom : List ℕ) (t h m s : ℕ) → h < 100 → m < 60 → s < 60 → 86400 ≤ h * 3600 + m * 60 + s → get_or atom 0 0 ∷ get_or atom 1 0 ∷ [] ≡ two_digits h → t < 86400 → atom ≢ time_word t
+pub more_hours : (atom : List ℕ) (t h m s : ℕ) → h < 100 → m < 60 → s < 60 → 86400 ≤ h * 3600 + m * 60 + s → get_or atom 0 0 ∷ get_or atom 1 0 ∷ [] ≡ two_digits h → t < 86400 → atom ≢ time_text t
 more_hours atom t h m s a b c more is low e = let same = two_injective _ _ h (t / 3600) a (omega arith) is (time_parts atom t e).hours in omega (arith, same, more)
 
 -- ---- decimals
 
-pub decimal_below : (words : Spelled) (m n low : ℕ) (xs ys : Spelled) → m < 1000000000 → n < 1000000000 → m < low → low ≤ n → words ≡ decimal m ∷ xs → words ≡ decimal n ∷ ys → ⊥
-decimal_below words m n low xs ys a b less from e f = let same = same_decimal words m n xs ys a b e f in omega (arith, same, less, from)
+pub decimal_below : (lexemes : Spelled) (m n low : ℕ) (xs ys : Spelled) → m < 1000000000 → n < 1000000000 → m < low → low ≤ n → lexemes ≡ decimal m ∷ xs → lexemes ≡ decimal n ∷ ys → ⊥
+decimal_below lexemes m n low xs ys a b less from e f = let same = same_decimal lexemes m n xs ys a b e f in omega (arith, same, less, from)
 
-pub decimal_above : (words : Spelled) (m n high : ℕ) (xs ys : Spelled) → m < 1000000000 → n < 1000000000 → high < m → n ≤ high → words ≡ decimal m ∷ xs → words ≡ decimal n ∷ ys → ⊥
-decimal_above words m n high xs ys a b more to e f = let same = same_decimal words m n xs ys a b e f in omega (arith, same, more, to)
+pub decimal_above : (lexemes : Spelled) (m n high : ℕ) (xs ys : Spelled) → m < 1000000000 → n < 1000000000 → high < m → n ≤ high → lexemes ≡ decimal m ∷ xs → lexemes ≡ decimal n ∷ ys → ⊥
+decimal_above lexemes m n high xs ys a b more to e f = let same = same_decimal lexemes m n xs ys a b e f in omega (arith, same, more, to)
 
--- what holds whatever is answered
+-- what holds whatever the result is
 pub told : {X E T : Type 0} (r : Result X E) → T → OnErr r T
 told (Ok x) t = tt
 told (Err e) t = t

@@ -1,9 +1,9 @@
--- A brace is no atom.
+-- A brace is not an atom.
 use Rattle.std.proofs.Common.{◌≡◌, ℕ, List, subst}
 use Rattle.script_tokens.specs.declared.token.Kind.TheVariants.{Brace, Letter}
 use Rattle.script_tokens.specs.declared.keyword.Keyword.TheVariants.{OpenBrace, CloseBrace}
 use Rattle.script_tokens.specs.Texts.{AreLetters}
-use Rattle.script_tokens.specs.Words.{letters}
+use Rattle.script_tokens.specs.Keywords.{letters}
 
 pub no_open : (w : List ℕ) → w ≡ letters OpenBrace → AreLetters w → ⊥
 unfolding letters

@@ -1,4 +1,4 @@
--- The bytes of a decimal and its number.
+-- The bytes of a decimal, and its value.
 use Rattle.std.proofs.Common.{◌≡◌, ℕ, zero, suc, ◌+◌, ◌-◌, ◌*◌, ◌^◌, ◌<◌, ◌≤◌, true, false, List, [], ◌∷◌, length, get_or, drop, refl, sym, ap, ◌∙◌, subst, add-one, rules, arith}
 use Rattle.std.proofs.Math.Nat.{pow-succ', pow-le-pow_right}
 use Rattle.std.proofs.Math.Seq.{drop-cons}
@@ -22,7 +22,7 @@ own = numerals_by_fold _ (search rules) read_on (search rules)
 cut : (bs : List ℕ) (i : ℕ) → i < length bs → drop i bs ≡ get_or bs i 0 ∷ drop (i + 1) bs
 cut bs i lt = rw (add-one, drop-cons bs i 0 lt) refl
 
--- so far the value, and the bytes are digits as those that are left are
+-- the loop's state: the value so far, and whether the remaining bytes are digits
 pub record Reading (bs : List ℕ) (i v : ℕ) : Type 0 where
   pub value : read_on v (drop i bs) ≡ read_on 0 bs
   pub digits : all_ascii_digits (drop i bs) ≡ all_ascii_digits bs

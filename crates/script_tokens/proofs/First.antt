@@ -1,8 +1,8 @@
--- Keywords with which items and statements begin.
+-- The keywords that begin items and statements.
 use Rattle.std.proofs.Common.{◌≡◌, true, refl}
 use Rattle.script_tokens.specs.declared.keyword.Keyword.{Keyword}
 use Rattle.script_tokens.specs.declared.keyword.Keyword.TheVariants as the
-use Rattle.script_tokens.specs.Words.{begins_item, begins_statement}
+use Rattle.script_tokens.specs.Keywords.{begins_item, begins_statement}
 
 pub item_is_statement : (k : Keyword) → begins_item k ≡ true → begins_statement k ≡ true
 item_is_statement the.Ensemble e = e

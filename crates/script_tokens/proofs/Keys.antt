@@ -1,5 +1,5 @@
 -- The keywords of the grammar have different letters.
-use Rattle.std.proofs.Common.{◌≡◌, ℕ, true, false, ◌<◌, List, [], ◌∷◌, refl, sym, ap, ◌∙◌, subst, arith}
+use Rattle.std.proofs.Common.{◌≡◌, ◌≢◌, ℕ, true, false, ◌<◌, List, [], ◌∷◌, refl, sym, ap, ◌∙◌, subst, arith}
 use Rattle.std.specs.Str.{bytes_eq, all_ascii_digits}
 use denote.Enum.Bare.{sameb}
 use denote.Enum.Declared.{tag_of}
@@ -13,8 +13,9 @@ use Rattle.script_tokens.proofs.Digits.{own}
 use Rattle.std.specs.Fmt.{decimal}
 use Rattle.script_tokens.specs.declared.keyword.Keyword.{Keyword}
 use Rattle.script_tokens.specs.declared.keyword.Keyword.TheVariants.{Ensemble, Mode, Period, Notice, Budget, Define, Begin, Sub, At, Eep, Service, Audio, In, Data, Carry, Packet, Groups, Raw, TypeWord, Address, Drop, Component, Move, Rate, Wait, Contact, Closed, Open, Until, Commit, Join, Settle, End, If, Else, Repeat, Forever, Apply, OpenBrace, CloseBrace}
-use Rattle.script_tokens.specs.Words.{the, text, letters, head_words, item_words, packet_words, change_words, wait_words, flow_words, keywords, word_among, word_of, IsNoneOf, IsNoKeyword}
+use Rattle.script_tokens.specs.Keywords.{the, text, letters, head_keywords, item_keywords, packet_keywords, change_keywords, wait_keywords, flow_keywords, keywords, lexeme_among, word_of, IsNoneOf, IsNoKeyword}
 use Rattle.script_tokens.specs.Reading.{Spelled}
+use Rattle.script_tokens.specs.Spelling.{level_text}
 
 pub word_the : (k : Keyword) → word_of (letters k) ≡ the k
 unfolding letters word_of
@@ -65,7 +66,7 @@ the_injective j k e = cc
 pub letters_injective : (j k : Keyword) → letters j ≡ letters k → j ≡ k
 letters_injective j k e = the_injective j k (sym (word_the j) ∙ ap word_of e ∙ word_the k)
 
--- words that begin alike
+-- the first tokens of equal lists, and the rests
 pub first_is : (v w : List ℕ) (vs ws : Spelled) → v ∷ vs ≡ w ∷ ws → v ≡ w
 first_is v w vs ws e = cc
 
@@ -75,13 +76,13 @@ rest_is v w vs ws e = cc
 pub same_key : (j k : Keyword) (vs ws : Spelled) → letters j ∷ vs ≡ letters k ∷ ws → j ≡ k
 same_key j k vs ws e = letters_injective j k (first_is (letters j) (letters k) vs ws e)
 
--- ---- words that are no keywords
+-- ---- bytes that are not a keyword
 
 false_if : (b : Bool) → (b ≡ true → ⊥) → b ≡ false
 false_if true h = absurd (h refl)
 false_if false h = refl
 
-none_among : (ks : List Keyword) (w : List ℕ) → IsNoKeyword w → word_among ks w ≡ text w
+none_among : (ks : List Keyword) (w : List ℕ) → IsNoKeyword w → lexeme_among ks w ≡ text w
 none_among [] w h = refl
 none_among (k ∷ ks) w h = let e = false_if (bytes_eq w (letters k)) (λ f. h k ((bytes_eq-Decides w (letters k)).0 f)) in rw (e) (none_among ks w h)
 
@@ -146,17 +147,17 @@ pub found_of : (r : Option Keyword) (w : List ℕ) → IfSome r (λ k. w ≡ let
 found_of None w h none k e = absurd (none refl k e)
 found_of (Some j) w h none k e = ap Some (letters_injective j k (sym h ∙ e))
 
--- words that begin with this keyword, where another was found
-pub found_is : (r : Option Keyword) (words : Spelled) (found : Keyword) → ((k : Keyword) (rest : Spelled) → words ≡ letters k ∷ rest → r ≡ Some k) → r ≡ Some found
-    → (k : Keyword) (rest : Spelled) → words ≡ letters k ∷ rest → found ≡ k
-found_is r words found h is k rest e = some_is found k (sym is ∙ h k rest e)
+-- tokens that begin with this keyword, where another was found
+pub found_is : (r : Option Keyword) (lexemes : Spelled) (found : Keyword) → ((k : Keyword) (rest : Spelled) → lexemes ≡ letters k ∷ rest → r ≡ Some k) → r ≡ Some found
+    → (k : Keyword) (rest : Spelled) → lexemes ≡ letters k ∷ rest → found ≡ k
+found_is r lexemes found h is k rest e = some_is found k (sym is ∙ h k rest e)
   where
     some_is : (x y : Keyword) → Some x ≡ Some y → x ≡ y
     some_is x y f = cc
 
 -- bytes that spell no keyword of any subject spell no keyword
-pub no_keyword : (w : List ℕ) → IsNoneOf head_words w → IsNoneOf item_words w → IsNoneOf packet_words w
-    → IsNoneOf change_words w → IsNoneOf wait_words w → IsNoneOf flow_words w → IsNoKeyword w
+pub no_keyword : (w : List ℕ) → IsNoneOf head_keywords w → IsNoneOf item_keywords w → IsNoneOf packet_keywords w
+    → IsNoneOf change_keywords w → IsNoneOf wait_keywords w → IsNoneOf flow_keywords w → IsNoKeyword w
 no_keyword w h i p c t f Ensemble = h.0
 no_keyword w h i p c t f Mode = h.1.0
 no_keyword w h i p c t f Period = h.1.1.0
@@ -197,3 +198,15 @@ no_keyword w h i p c t f Forever = f.1.1.1.1.0
 no_keyword w h i p c t f Apply = f.1.1.1.1.1.0
 no_keyword w h i p c t f OpenBrace = f.1.1.1.1.1.1.0
 no_keyword w h i p c t f CloseBrace = f.1.1.1.1.1.1.1.0
+
+-- ---- levels of contacts
+
+pub no_level : (lexemes : Spelled) → ((rest : Spelled) → lexemes ≢ letters Closed ∷ rest) → ((rest : Spelled) → lexemes ≢ letters Open ∷ rest) → (closed : Bool) (rest : Spelled) → lexemes ≢ level_text closed ∷ rest
+no_level lexemes g r true rest e = g rest e
+no_level lexemes g r false rest e = r rest e
+
+pub one_level : (b c : Bool) → level_text b ≡ level_text c → b ≡ c
+one_level true true e = refl
+one_level true false e = let same = letters_injective Closed Open e in absurd cc
+one_level false true e = let same = letters_injective Open Closed e in absurd cc
+one_level false false e = refl

@@ -1,4 +1,4 @@
--- A step of the lexer: what it puts before the tokens of the rest.
+-- A step of the lexer: the tokens that it puts before those of the rest.
 use Rattle.std.proofs.Common.{◌≡◌, ◌≢◌, ℕ, ◌+◌, ◌<◌, ◌≤◌, Bool, true, false, cond, List, [], ◌∷◌, ◌++◌, length, get_or, drop, refl, sym, ap, ◌∙◌, add-one, arith}
 use Rattle.std.proofs.Math.Seq.{drop-cons}
 use Rattle.std.proofs.lemmas.List.{append-nil, drop_all}
@@ -11,7 +11,7 @@ use Rattle.script_tokens.specs.declared.token.Kind.TheVariants.{Blank, LineEnd, 
 use Rattle.script_tokens.specs.declared.token.Place.{Place}
 use Rattle.script_tokens.specs.declared.fault.ScriptFault.{ScriptFault}
 use Rattle.script_tokens.specs.declared.fault.ScriptFault.TheVariants.{Byte, Number, Expected, Depth, NameUsed, NameUnknown, Limit, Memory}
-use Rattle.script_tokens.specs.Bytes.{kind_of, place_after}
+use Rattle.script_tokens.specs.Bytes.{kind_of, position_after}
 use Rattle.script_tokens.specs.Lexing.{inside_after, is_bad, IsQuiet, atom_ended, made, fits, added, tokens_before, lexed, Pushes}
 
 pub cut_at : (bs : List ℕ) (i : ℕ) → i < length bs → drop i bs ≡ get_or bs i 0 ∷ drop (i + 1) bs
@@ -28,7 +28,7 @@ before_before : (limits : Limits) (ts us : List Token) (r : Cuts) → tokens_bef
 before_before limits [] us r = refl
 before_before limits (t ∷ ts) us r = ap (λ x. cond (fits limits t) (added t x) (Err (Limit t.position))) (before_before limits ts us r)
 
--- tokens that all fit: the result of the rest decides
+-- tokens that are all within the limits
 pub record AllIn (limits : Limits) (ts : List Token) : Type 0 where
   pub fit : tokens_before limits ts (Ok []) ≡ Ok ts
 
@@ -40,7 +40,7 @@ unadded : (t : Token) (r : Cuts) (us : List Token) → added t r ≡ Ok (t ∷ u
 unadded t (Ok vs) us e = cc
 unadded t (Err f) us e = absurd cc
 
--- an error behind tokens that fit is the error of all
+-- where all tokens fit, an error after them is the result
 pub before_err : (limits : Limits) (ts : List Token) (e : ScriptFault) → tokens_before limits ts (Ok []) ≡ Ok ts → tokens_before limits ts (Err e) ≡ Err e
 before_err limits [] e h = refl
 before_err limits (t ∷ ts) e h =
@@ -57,7 +57,7 @@ fault_at : (limits : Limits) (t : Token) (r s : Cuts) (e : ScriptFault) (b : Boo
 fault_at limits t r s e true f h = later t r s e f h
 fault_at limits t r s e false f h = h
 
--- a fault among tokens is the fault, whatever follows
+-- where a token is past a limit, that is the result whatever follows
 pub before_fault : (limits : Limits) (ts : List Token) (r : Cuts) (e : ScriptFault) → tokens_before limits ts (Ok []) ≡ Err e → tokens_before limits ts r ≡ Err e
 before_fault limits [] r e h = absurd cc
 before_fault limits (t ∷ ts) r e h =
@@ -73,13 +73,13 @@ more_in limits (t ∷ ts) us h k =
 
 -- ---- the loop
 
--- what was cut so far, and what is left
+-- the tokens cut so far, and the result of the rest
 pub record CutSoFar (limits : Limits) (all : Cuts) (ts : List Token) (rest : Cuts) : Type 0 where
   pub given : all ≡ tokens_before limits ts rest
   pub fit : tokens_before limits ts (Ok []) ≡ Ok ts
 
 pub cut_on : (limits : Limits) (all : Cuts) (ts us : List Token) (m n : Inside) (p q : Place) (bs : List ℕ) (i : ℕ) (k : Kind) → i < length bs → k ≡ kind_of (get_or bs i 0)
-    → Pushes limits ts us (made m p k) (Ok tt) → is_bad m k ≡ false → n ≡ inside_after m p k → q ≡ place_after p k
+    → Pushes limits ts us (made m p k) (Ok tt) → is_bad m k ≡ false → n ≡ inside_after m p k → q ≡ position_after p k
     → CutSoFar limits all ts (lexed limits m p (drop i bs)) → CutSoFar limits all us (lexed limits n q (drop (i + 1) bs))
 unfolding lexed
 cut_on limits all ts us m n p q bs i k lt is push good e f h = record {
@@ -90,25 +90,25 @@ cut_on limits all ts us m n p q bs i k lt is push good e f h = record {
   fit = rw (push.0) (more_in limits ts (made m p k) h.fit push.1);
 }
 
--- a byte that is quiet
+-- a quiet byte
 pub quiet_on : (limits : Limits) (all : Cuts) (ts : List Token) (m : Inside) (p q : Place) (bs : List ℕ) (i : ℕ) (k : Kind) → i < length bs → k ≡ kind_of (get_or bs i 0)
-    → IsQuiet m k → q ≡ place_after p k
+    → IsQuiet m k → q ≡ position_after p k
     → CutSoFar limits all ts (lexed limits m p (drop i bs)) → CutSoFar limits all ts (lexed limits m q (drop (i + 1) bs))
 quiet_on limits all ts m p q bs i k lt is quiet f h =
     let none : Pushes limits ts ts (made m p k) (Ok tt) = rw (quiet.none p) (sym (append-nil ts), refl) in
     cut_on limits all ts ts m m p q bs i k lt is none quiet.good (sym (quiet.stays p)) f h
 
--- a fault as tokens are pushed
+-- pushing a token fails
 pub fault_pushed : (limits : Limits) (all : Cuts) (ts us : List Token) (m : Inside) (p : Place) (bs : List ℕ) (i : ℕ) (k : Kind) (e : ScriptFault) → i < length bs → k ≡ kind_of (get_or bs i 0)
     → tokens_before limits (made m p k) (Ok []) ≡ Err e
     → CutSoFar limits all ts (lexed limits m p (drop i bs)) → all ≡ Err e
 unfolding lexed
 fault_pushed limits all ts us m p bs i k e lt is push h =
-    let rest : Cuts = if is_bad m k then Err (Byte p.position) else lexed limits (inside_after m p k) (place_after p k) (drop (i + 1) bs) in
+    let rest : Cuts = if is_bad m k then Err (Byte p.position) else lexed limits (inside_after m p k) (position_after p k) (drop (i + 1) bs) in
     let step : lexed limits m p (drop i bs) ≡ tokens_before limits (made m p k) rest = rw (cut_at bs i lt, ← is) refl in
     h.given ∙ ap (tokens_before limits ts) (step ∙ before_fault limits (made m p k) rest e push) ∙ before_err limits ts e h.fit
 
--- a bad byte, after the tokens that it ends
+-- a bad byte, after the token that it ends
 pub bad_here : (limits : Limits) (all : Cuts) (ts us : List Token) (m : Inside) (p : Place) (bs : List ℕ) (i : ℕ) (k : Kind) → i < length bs → k ≡ kind_of (get_or bs i 0)
     → Pushes limits ts us (made m p k) (Ok tt) → is_bad m k ≡ true
     → CutSoFar limits all ts (lexed limits m p (drop i bs)) → all ≡ Err (Byte p.position)
@@ -135,7 +135,7 @@ fault_at_end limits all ts m p bs i e long push h =
 pub nothing_cut : (limits : Limits) (r : Cuts) → CutSoFar limits r [] r
 nothing_cut limits r = record { given = refl; fit = refl }
 
--- a fault that is not want of memory is the first of the tokens
+-- a fault other than out of memory is that of the tokens
 pub its_fault : (limits : Limits) (old new ts : List Token) (e : ScriptFault) → Pushes limits old new ts (Err e) → e ≢ Memory → tokens_before limits ts (Ok []) ≡ Err e
 its_fault limits old new ts Memory h ne = absurd (ne refl)
 its_fault limits old new ts (Byte p) h ne = h
@@ -151,7 +151,7 @@ pub record Follows (p q : Place) : Type 0 where
   pub line : q.position.line ≤ p.position.line + 1
   pub column : q.position.column ≤ p.position.column + 1
 
-pub follows : (p q : Place) (k : Kind) → q ≡ place_after p k → Follows p q
+pub follows : (p q : Place) (k : Kind) → q ≡ position_after p k → Follows p q
 follows p q LineEnd e = rw (e) (record { at = refl; line = omega arith; column = omega arith })
 follows p q Blank e = rw (e) (record { at = refl; line = omega arith; column = omega arith })
 follows p q Hash e = rw (e) (record { at = refl; line = omega arith; column = omega arith })

@@ -1,8 +1,8 @@
--- Hexadecimal digits and times, and their numbers.
+-- Hexadecimal digits and times, and their values.
 use Rattle.std.proofs.Common.{◌≡◌, ◌⊎◌, inl, inr, sym, take, drop, ℕ, ◌+◌, ◌-◌, ◌*◌, ◌/◌, ◌%◌, ◌<◌, ◌≤◌, List, [], ◌∷◌, ◌++◌, length, get_or, refl, ap, ◌∙◌, lt-ltb, le-ltb, arith}
 use Rattle.std.proofs.lemmas.Bool.{cases_lt}
 use Rattle.std.proofs.lemmas.List.{take_at, drop_at}
-use Rattle.script_tokens.specs.Spelling.{hex_digit, hex_byte, hex_word, hex_long, two_digits, time_word}
+use Rattle.script_tokens.specs.Spelling.{hex_digit, hex_byte, hex_text, hex_long, two_digits, time_text}
 
 pub low_digit : (b : ℕ) → 48 ≤ b → b ≤ 57 → b ≡ hex_digit (b - 48)
 low_digit b from to = let lt : b - 48 < 10 = omega arith in rw (lt-ltb (b - 48) 10 lt) (omega arith)
@@ -16,17 +16,17 @@ two_hex high low d e h l small =
     let g : (d * 16 + e) % 16 ≡ e = omega arith in
     rw (f, g, h, l) refl
 
-pub four_hex : (a b c d high low : ℕ) → a ∷ b ∷ [] ≡ hex_byte high → c ∷ d ∷ [] ≡ hex_byte low → low < 256 → a ∷ b ∷ c ∷ d ∷ [] ≡ hex_word (high * 256 + low)
+pub four_hex : (a b c d high low : ℕ) → a ∷ b ∷ [] ≡ hex_byte high → c ∷ d ∷ [] ≡ hex_byte low → low < 256 → a ∷ b ∷ c ∷ d ∷ [] ≡ hex_text (high * 256 + low)
 four_hex a b c d high low h l small =
     let f : (high * 256 + low) / 256 ≡ high = omega arith in
     let g : (high * 256 + low) % 256 ≡ low = omega arith in
     rw (f, g) (ap (λ (xs : List ℕ). xs ++ (c ∷ d ∷ [])) h ∙ ap (λ (xs : List ℕ). hex_byte high ++ xs) l)
 
-pub eight_hex : (front back : List ℕ) (high low : ℕ) → front ≡ hex_word high → back ≡ hex_word low → low < 65536 → front ++ back ≡ hex_long (high * 65536 + low)
+pub eight_hex : (front back : List ℕ) (high low : ℕ) → front ≡ hex_text high → back ≡ hex_text low → low < 65536 → front ++ back ≡ hex_long (high * 65536 + low)
 eight_hex front back high low x y small =
     let i : (high * 65536 + low) / 65536 ≡ high = omega arith in
     let j : (high * 65536 + low) % 65536 ≡ low = omega arith in
-    rw (i, j) (ap (λ (xs : List ℕ). xs ++ back) x ∙ ap (λ (xs : List ℕ). hex_word high ++ xs) y)
+    rw (i, j) (ap (λ (xs : List ℕ). xs ++ back) x ∙ ap (λ (xs : List ℕ). hex_text high ++ xs) y)
 
 pub two_decimal : (tens ones : ℕ) → 48 ≤ tens → tens ≤ 57 → 48 ≤ ones → ones ≤ 57 → tens ∷ ones ∷ [] ≡ two_digits ((tens - 48) * 10 + (ones - 48))
 two_decimal tens ones a b c d =
@@ -35,7 +35,7 @@ two_decimal tens ones a b c d =
     rw (f, g) refl
 
 pub a_time : (a b c d e f hours minutes seconds : ℕ) → a ∷ b ∷ [] ≡ two_digits hours → c ∷ d ∷ [] ≡ two_digits minutes → e ∷ f ∷ [] ≡ two_digits seconds → minutes < 60 → seconds < 60
-    → a ∷ b ∷ 58 ∷ c ∷ d ∷ 58 ∷ e ∷ f ∷ [] ≡ time_word (hours * 3600 + minutes * 60 + seconds)
+    → a ∷ b ∷ 58 ∷ c ∷ d ∷ 58 ∷ e ∷ f ∷ [] ≡ time_text (hours * 3600 + minutes * 60 + seconds)
 a_time a b c d e f hours minutes seconds h m s small less =
     let x : (hours * 3600 + minutes * 60 + seconds) / 3600 ≡ hours = omega arith in
     let y : (hours * 3600 + minutes * 60 + seconds) / 60 % 60 ≡ minutes = omega arith in
@@ -57,7 +57,7 @@ eight_bytes (a ∷ b ∷ c ∷ d ∷ e ∷ f ∷ []) low high = absurd (omega ar
 eight_bytes (a ∷ b ∷ c ∷ d ∷ e ∷ f ∷ g ∷ []) low high = absurd (omega arith)
 eight_bytes (a ∷ b ∷ c ∷ d ∷ e ∷ f ∷ g ∷ h ∷ i ∷ xs) low high = absurd (omega arith)
 
--- ---- atoms that are no such numbers
+-- ---- atoms that are not such numbers
 
 pub hex_range : (d : ℕ) → d < 16 → ((48 ≤ hex_digit d) × (hex_digit d ≤ 57)) ⊎ ((65 ≤ hex_digit d) × (hex_digit d ≤ 70))
 hex_range d small = elim (cases_lt d 10) [
@@ -83,24 +83,24 @@ two_front xs = get_or xs 0 0 ∷ get_or xs 1 0 ∷ []
 two_back : List ℕ → List ℕ
 two_back xs = get_or xs 2 0 ∷ get_or xs 3 0 ∷ []
 
-pub no_front : (a b c d n : ℕ) → ((m : ℕ) → m < 256 → a ∷ b ∷ [] ≡ hex_byte m → ⊥) → n < 65536 → a ∷ b ∷ c ∷ d ∷ [] ≡ hex_word n → ⊥
+pub no_front : (a b c d n : ℕ) → ((m : ℕ) → m < 256 → a ∷ b ∷ [] ≡ hex_byte m → ⊥) → n < 65536 → a ∷ b ∷ c ∷ d ∷ [] ≡ hex_text n → ⊥
 unfolding two_front
 no_front a b c d n none small e = none (n / 256) (omega arith) (ap two_front e)
 
-pub no_back : (a b c d n : ℕ) → ((m : ℕ) → m < 256 → c ∷ d ∷ [] ≡ hex_byte m → ⊥) → n < 65536 → a ∷ b ∷ c ∷ d ∷ [] ≡ hex_word n → ⊥
+pub no_back : (a b c d n : ℕ) → ((m : ℕ) → m < 256 → c ∷ d ∷ [] ≡ hex_byte m → ⊥) → n < 65536 → a ∷ b ∷ c ∷ d ∷ [] ≡ hex_text n → ⊥
 unfolding two_back
 no_back a b c d n none small e = none (n % 256) (omega arith) (ap two_back e)
 
-pub not_four : (atom : List ℕ) (n : ℕ) → atom ≡ hex_word n → length atom ≡ 4
+pub not_four : (atom : List ℕ) (n : ℕ) → atom ≡ hex_text n → length atom ≡ 4
 not_four atom n e = ap length e
 
 pub not_eight : (atom : List ℕ) (n : ℕ) → atom ≡ hex_long n → length atom ≡ 8
 not_eight atom n e = ap length e
 
-pub no_long_front : (front back : List ℕ) (n : ℕ) → length front ≡ 4 → ((m : ℕ) → m < 65536 → front ≡ hex_word m → ⊥) → n < 4294967296 → front ++ back ≡ hex_long n → ⊥
+pub no_long_front : (front back : List ℕ) (n : ℕ) → length front ≡ 4 → ((m : ℕ) → m < 65536 → front ≡ hex_text m → ⊥) → n < 4294967296 → front ++ back ≡ hex_long n → ⊥
 no_long_front front back n len none small e =
     none (n / 65536) (omega arith) (sym (take_at front back 4 len) ∙ ap (take 4) e)
 
-pub no_long_back : (front back : List ℕ) (n : ℕ) → length front ≡ 4 → ((m : ℕ) → m < 65536 → back ≡ hex_word m → ⊥) → n < 4294967296 → front ++ back ≡ hex_long n → ⊥
+pub no_long_back : (front back : List ℕ) (n : ℕ) → length front ≡ 4 → ((m : ℕ) → m < 65536 → back ≡ hex_text m → ⊥) → n < 4294967296 → front ++ back ≡ hex_long n → ⊥
 no_long_back front back n len none small e =
     none (n % 65536) (omega arith) (sym (drop_at front back 4 len) ∙ ap (drop 4) e)

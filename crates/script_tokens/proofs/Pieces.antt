@@ -1,4 +1,4 @@
--- The machine of bytes cuts a text into the tokens of its pieces.
+-- The lexer cuts a text into the tokens of its pieces.
 use Rattle.std.proofs.Common.{◌≡◌, ◌≢◌, ◌⊎◌, inl, inr, ℕ, ◌+◌, ◌≤◌, Bool, true, false, cond, List, [], ◌∷◌, ◌++◌, length, refl, sym, ap, ◌∙◌, subst, arith}
 use Rattle.std.specs.Prelude.{Result, Ok, Err}
 use Rattle.script_tokens.specs.declared.token.Token.{Token}
@@ -10,9 +10,9 @@ use Rattle.script_tokens.specs.declared.token.Inside.TheVariants.{Nothing, Comme
 use Rattle.script_tokens.specs.declared.token.Place.{Place}
 use Rattle.script_tokens.specs.declared.fault.ScriptFault.{ScriptFault}
 use Rattle.script_tokens.specs.declared.fault.ScriptFault.TheVariants.{Byte, Limit}
-use Rattle.script_tokens.specs.Bytes.{kind_of, place_after, place_behind, first_place, token_at}
+use Rattle.script_tokens.specs.Bytes.{kind_of, position_after, position_past, first_position, token_at}
 use Rattle.script_tokens.specs.Lexing.{inside_after, is_bad, atom_ended, made, fits, added, tokens_before, lexed}
-use Rattle.script_tokens.specs.Texts.{Piece, blank, comment, brace, atom, text_of, AreLetters, HaveNoLineEnd, MayStandBefore, AreText, tokens_of, TokensFit, IsCutInto, TextsAreCut}
+use Rattle.script_tokens.specs.Texts.{Piece, blank, comment, brace, atom, text_of, AreLetters, HaveNoLineEnd, CanPrecede, AreText, tokens_of, TokensFit, IsCutInto, TextsAreCut}
 use Rattle.std.proofs.lemmas.Bool.{eqb-true}
 use Rattle.script_tokens.proofs.Lexing.{Cuts}
 
@@ -20,24 +20,24 @@ abbrev head_of : List ℕ → ℕ
 head_of [] = 0
 head_of (b ∷ bs) = b
 
--- ---- pieces are cut into their tokens
+-- ---- from pieces to tokens
 
--- what ends an atom: the end, or a byte that is no letter
+-- what ends an atom: the end of the text, or a byte that cannot be in an atom
 abbrev Ends : List ℕ → Type 0
 Ends [] = Unit {0}
 Ends (b ∷ bs) = kind_of b ≢ Letter
 
--- what ends a comment: the end, or that of the line
+-- what ends a comment: the end of the text, or of the line
 abbrev EndsLine : List ℕ → Type 0
 EndsLine [] = Unit {0}
 EndsLine (b ∷ bs) = kind_of b ≡ LineEnd
 
-letters_on : (limits : Limits) (q p : Place) (bs rest : List ℕ) → AreLetters bs → lexed limits (Atom q) p (bs ++ rest) ≡ lexed limits (Atom q) (place_behind p bs) rest
+letters_on : (limits : Limits) (q p : Place) (bs rest : List ℕ) → AreLetters bs → lexed limits (Atom q) p (bs ++ rest) ≡ lexed limits (Atom q) (position_past p bs) rest
 unfolding lexed
 letters_on limits q p [] rest h = refl
-letters_on limits q p (b ∷ bs) rest h = rw (h.0) (letters_on limits q (place_after p Letter) bs rest h.1)
+letters_on limits q p (b ∷ bs) rest h = rw (h.0) (letters_on limits q (position_after p Letter) bs rest h.1)
 
-in_line : (limits : Limits) (p : Place) (b : ℕ) (k : Kind) (rest : List ℕ) → kind_of b ≡ k → k ≢ LineEnd → lexed limits Comment p (b ∷ rest) ≡ lexed limits Comment (place_after p k) rest
+in_line : (limits : Limits) (p : Place) (b : ℕ) (k : Kind) (rest : List ℕ) → kind_of b ≡ k → k ≢ LineEnd → lexed limits Comment p (b ∷ rest) ≡ lexed limits Comment (position_after p k) rest
 unfolding lexed
 in_line limits p b Blank rest e ne = rw (e) refl
 in_line limits p b LineEnd rest e ne = absurd (ne refl)
@@ -46,9 +46,9 @@ in_line limits p b Brace rest e ne = rw (e) refl
 in_line limits p b Letter rest e ne = rw (e) refl
 in_line limits p b Bad rest e ne = rw (e) refl
 
-line_on : (limits : Limits) (p : Place) (bs rest : List ℕ) → HaveNoLineEnd bs → lexed limits Comment p (bs ++ rest) ≡ lexed limits Comment (place_behind p bs) rest
+line_on : (limits : Limits) (p : Place) (bs rest : List ℕ) → HaveNoLineEnd bs → lexed limits Comment p (bs ++ rest) ≡ lexed limits Comment (position_past p bs) rest
 line_on limits p [] rest h = refl
-line_on limits p (b ∷ bs) rest h = in_line limits p b (kind_of b) (bs ++ rest) refl h.0 ∙ line_on limits (place_after p (kind_of b)) bs rest h.1
+line_on limits p (b ∷ bs) rest h = in_line limits p b (kind_of b) (bs ++ rest) refl h.0 ∙ line_on limits (position_after p (kind_of b)) bs rest h.1
 
 line_ends : (limits : Limits) (p : Place) (bs : List ℕ) → EndsLine bs → lexed limits Comment p bs ≡ lexed limits Nothing p bs
 unfolding lexed
@@ -69,66 +69,66 @@ unfolding lexed
 atom_ends limits q p [] e = refl
 atom_ends limits q p (b ∷ bs) e = atom_ends_by limits q p b (kind_of b) bs refl e
 
-ends_atom : (bs : List ℕ) (ps : List Piece) → MayStandBefore (atom bs) ps → AreText ps → Ends (text_of ps)
+ends_atom : (bs : List ℕ) (ps : List Piece) → CanPrecede (atom bs) ps → AreText ps → Ends (text_of ps)
 ends_atom bs [] m h = tt
 ends_atom bs (blank b ∷ ps) m h = λ e. elim h.0 [ inl f ↦ absurd (let g : Letter ≡ Blank = sym e ∙ f in cc) | inr f ↦ absurd (let g : Letter ≡ LineEnd = sym e ∙ f in cc) ]
 ends_atom bs (comment cs ∷ ps) m h = λ e. absurd cc
 ends_atom bs (brace b ∷ ps) m h = λ e. absurd (let g : Letter ≡ Brace = sym e ∙ h.0 in cc)
 ends_atom bs (atom cs ∷ ps) m h = absurd m
 
-ends_line : (bs : List ℕ) (ps : List Piece) → MayStandBefore (comment bs) ps → EndsLine (text_of ps)
+ends_line : (bs : List ℕ) (ps : List Piece) → CanPrecede (comment bs) ps → EndsLine (text_of ps)
 ends_line bs [] m = tt
 ends_line bs (blank b ∷ ps) m = m
 ends_line bs (comment cs ∷ ps) m = absurd m
 ends_line bs (brace b ∷ ps) m = absurd m
 ends_line bs (atom cs ∷ ps) m = absurd m
 
--- how many bytes are before a point
-past_at : (p : Place) (bs : List ℕ) → AreLetters bs → (place_behind p bs).at ≡ p.at + length bs
+-- the offset after the bytes of an atom
+past_at : (p : Place) (bs : List ℕ) → AreLetters bs → (position_past p bs).at ≡ p.at + length bs
 past_at p [] h = omega arith
 past_at p (b ∷ bs) h =
-    let later = past_at (place_after p Letter) bs h.1 in
-    let same : place_behind p (b ∷ bs) ≡ place_behind (place_after p Letter) bs = ap (λ (k : Kind). place_behind (place_after p k) bs) h.0 in
+    let later = past_at (position_after p Letter) bs h.1 in
+    let same : position_past p (b ∷ bs) ≡ position_past (position_after p Letter) bs = ap (λ (k : Kind). position_past (position_after p k) bs) h.0 in
     let sum : p.at + 1 + length bs ≡ p.at + length (b ∷ bs) = omega arith in
     ap (λ (q : Place). q.at) same ∙ later ∙ sum
 
-begins_atom : (limits : Limits) (p : Place) (b : ℕ) (rest : List ℕ) → kind_of b ≡ Letter → lexed limits Nothing p (b ∷ rest) ≡ lexed limits (Atom p) (place_after p Letter) rest
+begins_atom : (limits : Limits) (p : Place) (b : ℕ) (rest : List ℕ) → kind_of b ≡ Letter → lexed limits Nothing p (b ∷ rest) ≡ lexed limits (Atom p) (position_after p Letter) rest
 unfolding lexed
 begins_atom limits p b rest e = rw (e) refl
 
-cut_atom : (limits : Limits) (p : Place) (bs rest : List ℕ) → 1 ≤ length bs → AreLetters bs → lexed limits Nothing p (bs ++ rest) ≡ lexed limits (Atom p) (place_behind p bs) rest
+cut_atom : (limits : Limits) (p : Place) (bs rest : List ℕ) → 1 ≤ length bs → AreLetters bs → lexed limits Nothing p (bs ++ rest) ≡ lexed limits (Atom p) (position_past p bs) rest
 cut_atom limits p [] rest some h = absurd (omega (arith, some))
-cut_atom limits p (b ∷ bs) rest some h = begins_atom limits p b (bs ++ rest) h.0 ∙ rw (h.0) (letters_on limits p (place_after p Letter) bs rest h.1)
+cut_atom limits p (b ∷ bs) rest some h = begins_atom limits p b (bs ++ rest) h.0 ∙ rw (h.0) (letters_on limits p (position_after p Letter) bs rest h.1)
 
-blank_on : (limits : Limits) (p : Place) (b : ℕ) (rest : List ℕ) → (kind_of b ≡ Blank) ⊎ (kind_of b ≡ LineEnd) → lexed limits Nothing p (b ∷ rest) ≡ lexed limits Nothing (place_behind p (b ∷ [])) rest
+blank_on : (limits : Limits) (p : Place) (b : ℕ) (rest : List ℕ) → (kind_of b ≡ Blank) ⊎ (kind_of b ≡ LineEnd) → lexed limits Nothing p (b ∷ rest) ≡ lexed limits Nothing (position_past p (b ∷ [])) rest
 unfolding lexed
 blank_on limits p b rest h = elim h [ inl e ↦ rw (e) refl | inr e ↦ rw (e) refl ]
 
 brace_on : (limits : Limits) (p : Place) (b : ℕ) (rest : List ℕ) → kind_of b ≡ Brace
-    → lexed limits Nothing p (b ∷ rest) ≡ tokens_before limits (token_at p (p.at + 1) ∷ []) (lexed limits Nothing (place_behind p (b ∷ [])) rest)
+    → lexed limits Nothing p (b ∷ rest) ≡ tokens_before limits (token_at p (p.at + 1) ∷ []) (lexed limits Nothing (position_past p (b ∷ [])) rest)
 unfolding lexed
 brace_on limits p b rest e = rw (e) refl
 
-comment_on : (limits : Limits) (p : Place) (rest : List ℕ) → lexed limits Nothing p (35 ∷ rest) ≡ lexed limits Comment (place_behind p (35 ∷ [])) rest
+comment_on : (limits : Limits) (p : Place) (rest : List ℕ) → lexed limits Nothing p (35 ∷ rest) ≡ lexed limits Comment (position_past p (35 ∷ [])) rest
 unfolding lexed
 comment_on limits p rest = refl
 
 cut_pieces : (limits : Limits) (p : Place) (ps : List Piece) → AreText ps → TokensFit limits (tokens_of p ps) → lexed limits Nothing p (text_of ps) ≡ Ok (tokens_of p ps)
 unfolding lexed
 cut_pieces limits p [] h f = refl
-cut_pieces limits p (blank b ∷ ps) h f = blank_on limits p b (text_of ps) h.0 ∙ cut_pieces limits (place_behind p (b ∷ [])) ps h.2 f
+cut_pieces limits p (blank b ∷ ps) h f = blank_on limits p b (text_of ps) h.0 ∙ cut_pieces limits (position_past p (b ∷ [])) ps h.2 f
 cut_pieces limits p (comment bs ∷ ps) h f =
-    comment_on limits p (bs ++ text_of ps) ∙ line_on limits (place_behind p (35 ∷ [])) bs (text_of ps) h.0
-    ∙ line_ends limits (place_behind p (35 ∷ bs)) (text_of ps) (ends_line bs ps h.1) ∙ cut_pieces limits (place_behind p (35 ∷ bs)) ps h.2 f
-cut_pieces limits p (brace b ∷ ps) h f = brace_on limits p b (text_of ps) h.0 ∙ rw (cut_pieces limits (place_behind p (b ∷ [])) ps h.2 f.1, f.0) refl
+    comment_on limits p (bs ++ text_of ps) ∙ line_on limits (position_past p (35 ∷ [])) bs (text_of ps) h.0
+    ∙ line_ends limits (position_past p (35 ∷ bs)) (text_of ps) (ends_line bs ps h.1) ∙ cut_pieces limits (position_past p (35 ∷ bs)) ps h.2 f
+cut_pieces limits p (brace b ∷ ps) h f = brace_on limits p b (text_of ps) h.0 ∙ rw (cut_pieces limits (position_past p (b ∷ [])) ps h.2 f.1, f.0) refl
 cut_pieces limits p (atom bs ∷ ps) h f =
     let at = past_at p bs h.0.1 in
-    cut_atom limits p bs (text_of ps) h.0.0 h.0.1 ∙ atom_ends limits p (place_behind p bs) (text_of ps) (ends_atom bs ps h.1 h.2)
-    ∙ rw (cut_pieces limits (place_behind p bs) ps h.2 f.1, at, f.0) refl
+    cut_atom limits p bs (text_of ps) h.0.0 h.0.1 ∙ atom_ends limits p (position_past p bs) (text_of ps) (ends_atom bs ps h.1 h.2)
+    ∙ rw (cut_pieces limits (position_past p bs) ps h.2 f.1, at, f.0) refl
 
--- ---- what is cut consists of pieces
+-- ---- from tokens to pieces
 
--- tokens before those of the rest, and all within the limits
+-- the tokens come before those of the rest, and are all within the limits
 record Parts (limits : Limits) (ts us : List Token) (r : Cuts) : Type 0 where
   pub later : List Token
   pub rest : r ≡ Ok later
@@ -153,10 +153,10 @@ parts limits (t ∷ ts) us r e =
 
 abbrev pub Goes : Inside → Place → List ℕ → List Piece → List ℕ → List Token → Type 0
 Goes Nothing p begun ps bs ts = (begun ≡ []) × (text_of ps ≡ bs) × (tokens_of p ps ≡ ts)
-Goes Comment p begun ps bs ts = HaveNoLineEnd begun × MayStandBefore (comment begun) ps × (begun ++ text_of ps ≡ bs) × (tokens_of (place_behind p begun) ps ≡ ts)
-Goes (Atom q) p begun ps bs ts = AreLetters begun × MayStandBefore (atom begun) ps × (begun ++ text_of ps ≡ bs) × (token_at q (p.at + length begun) ∷ tokens_of (place_behind p begun) ps ≡ ts)
+Goes Comment p begun ps bs ts = HaveNoLineEnd begun × CanPrecede (comment begun) ps × (begun ++ text_of ps ≡ bs) × (tokens_of (position_past p begun) ps ≡ ts)
+Goes (Atom q) p begun ps bs ts = AreLetters begun × CanPrecede (atom begun) ps × (begun ++ text_of ps ≡ bs) × (token_at q (p.at + length begun) ∷ tokens_of (position_past p begun) ps ≡ ts)
 
--- the pieces of the bytes that are left, behind what has begun of an atom or a comment
+-- the pieces of the remaining bytes, after the rest of an atom or comment that has begun
 pub record Found (m : Inside) (p : Place) (bs : List ℕ) (ts : List Token) : Type 0 where
   pub begun : List ℕ
   pub pieces : List Piece
@@ -174,14 +174,14 @@ hash_test false false false false false e = absurd cc
 is_hash : (b : ℕ) → kind_of b ≡ Hash → 35 ≡ b
 is_hash b e = sym (eqb-true b 35 (hash_test _ _ _ _ _ e))
 
-other_atom : (bs cs : List ℕ) (ps : List Piece) → MayStandBefore (atom bs) ps → MayStandBefore (atom cs) ps
+other_atom : (bs cs : List ℕ) (ps : List Piece) → CanPrecede (atom bs) ps → CanPrecede (atom cs) ps
 other_atom bs cs [] h = tt
 other_atom bs cs (blank b ∷ ps) h = tt
 other_atom bs cs (comment ds ∷ ps) h = tt
 other_atom bs cs (brace b ∷ ps) h = tt
 other_atom bs cs (atom ds ∷ ps) h = h
 
-other_comment : (bs cs : List ℕ) (ps : List Piece) → MayStandBefore (comment bs) ps → MayStandBefore (comment cs) ps
+other_comment : (bs cs : List ℕ) (ps : List Piece) → CanPrecede (comment bs) ps → CanPrecede (comment cs) ps
 other_comment bs cs [] h = tt
 other_comment bs cs (blank b ∷ ps) h = h
 other_comment bs cs (comment ds ∷ ps) h = h
@@ -191,7 +191,7 @@ other_comment bs cs (atom ds ∷ ps) h = h
 longer : (q p : Place) (n : ℕ) → token_at q (p.at + (n + 1)) ≡ token_at q (p.at + 1 + n)
 longer q p n = ap (λ (to : ℕ). token_at q to) (omega arith)
 
-atom_more : (q p : Place) (b : ℕ) (bs : List ℕ) (ts : List Token) → kind_of b ≡ Letter → Found (Atom q) (place_after p Letter) bs ts → Found (Atom q) p (b ∷ bs) ts
+atom_more : (q p : Place) (b : ℕ) (bs : List ℕ) (ts : List Token) → kind_of b ≡ Letter → Found (Atom q) (position_after p Letter) bs ts → Found (Atom q) p (b ∷ bs) ts
 atom_more q p b bs ts e h = record {
   begun = b ∷ h.begun;
   pieces = h.pieces;
@@ -204,7 +204,7 @@ atom_more q p b bs ts e h = record {
   );
 }
 
-comment_more : (p : Place) (b : ℕ) (k : Kind) (bs : List ℕ) (ts : List Token) → kind_of b ≡ k → k ≢ LineEnd → Found Comment (place_after p k) bs ts → Found Comment p (b ∷ bs) ts
+comment_more : (p : Place) (b : ℕ) (k : Kind) (bs : List ℕ) (ts : List Token) → kind_of b ≡ k → k ≢ LineEnd → Found Comment (position_after p k) bs ts → Found Comment p (b ∷ bs) ts
 comment_more p b k bs ts e ne h = record {
   begun = b ∷ h.begun;
   pieces = h.pieces;
@@ -212,7 +212,7 @@ comment_more p b k bs ts e ne h = record {
   goes = ((λ f. ne (sym e ∙ f), h.goes.0), other_comment h.begun (b ∷ h.begun) h.pieces h.goes.1, ap (λ (xs : List ℕ). b ∷ xs) h.goes.2, rw (e) h.goes.3);
 }
 
-blank_more : (p : Place) (b : ℕ) (k : Kind) (bs : List ℕ) (ts : List Token) → kind_of b ≡ k → (kind_of b ≡ Blank) ⊎ (kind_of b ≡ LineEnd) → Found Nothing (place_after p k) bs ts → Found Nothing p (b ∷ bs) ts
+blank_more : (p : Place) (b : ℕ) (k : Kind) (bs : List ℕ) (ts : List Token) → kind_of b ≡ k → (kind_of b ≡ Blank) ⊎ (kind_of b ≡ LineEnd) → Found Nothing (position_after p k) bs ts → Found Nothing p (b ∷ bs) ts
 blank_more p b k bs ts e is h = record {
   begun = [];
   pieces = blank b ∷ h.pieces;
@@ -220,7 +220,7 @@ blank_more p b k bs ts e is h = record {
   goes = (refl, ap (λ (xs : List ℕ). b ∷ xs) h.goes.1, rw (e) h.goes.2);
 }
 
-brace_more : (p : Place) (b : ℕ) (bs : List ℕ) (ts : List Token) → kind_of b ≡ Brace → Found Nothing (place_after p Brace) bs ts → Found Nothing p (b ∷ bs) (token_at p (p.at + 1) ∷ ts)
+brace_more : (p : Place) (b : ℕ) (bs : List ℕ) (ts : List Token) → kind_of b ≡ Brace → Found Nothing (position_after p Brace) bs ts → Found Nothing p (b ∷ bs) (token_at p (p.at + 1) ∷ ts)
 brace_more p b bs ts e h = record {
   begun = [];
   pieces = brace b ∷ h.pieces;
@@ -228,7 +228,7 @@ brace_more p b bs ts e h = record {
   goes = (refl, ap (λ (xs : List ℕ). b ∷ xs) h.goes.1, rw (e) (ap (λ (us : List Token). token_at p (p.at + 1) ∷ us) h.goes.2));
 }
 
-comment_begins : (p : Place) (b : ℕ) (bs : List ℕ) (ts : List Token) → kind_of b ≡ Hash → Found Comment (place_after p Hash) bs ts → Found Nothing p (b ∷ bs) ts
+comment_begins : (p : Place) (b : ℕ) (bs : List ℕ) (ts : List Token) → kind_of b ≡ Hash → Found Comment (position_after p Hash) bs ts → Found Nothing p (b ∷ bs) ts
 comment_begins p b bs ts e h = record {
   begun = [];
   pieces = comment h.begun ∷ h.pieces;
@@ -236,7 +236,7 @@ comment_begins p b bs ts e h = record {
   goes = (refl, ap (λ (x : ℕ). x ∷ (h.begun ++ text_of h.pieces)) (is_hash b e) ∙ ap (λ (xs : List ℕ). b ∷ xs) h.goes.2, h.goes.3);
 }
 
-atom_begins : (p : Place) (b : ℕ) (bs : List ℕ) (ts : List Token) → kind_of b ≡ Letter → Found (Atom p) (place_after p Letter) bs ts → Found Nothing p (b ∷ bs) ts
+atom_begins : (p : Place) (b : ℕ) (bs : List ℕ) (ts : List Token) → kind_of b ≡ Letter → Found (Atom p) (position_after p Letter) bs ts → Found Nothing p (b ∷ bs) ts
 atom_begins p b bs ts e h = record {
   begun = [];
   pieces = atom (b ∷ h.begun) ∷ h.pieces;
@@ -248,7 +248,7 @@ atom_begins p b bs ts e h = record {
   );
 }
 
-line_over : (p : Place) (b : ℕ) (bs : List ℕ) (ts : List Token) → kind_of b ≡ LineEnd → Found Nothing (place_after p LineEnd) bs ts → Found Comment p (b ∷ bs) ts
+line_over : (p : Place) (b : ℕ) (bs : List ℕ) (ts : List Token) → kind_of b ≡ LineEnd → Found Nothing (position_after p LineEnd) bs ts → Found Comment p (b ∷ bs) ts
 line_over p b bs ts e h = record {
   begun = [];
   pieces = blank b ∷ h.pieces;
@@ -256,7 +256,7 @@ line_over p b bs ts e h = record {
   goes = (tt, e, ap (λ (xs : List ℕ). b ∷ xs) h.goes.1, rw (e) h.goes.2);
 }
 
-no_atom : (b : ℕ) (bs : List ℕ) (ps : List Piece) → kind_of b ≢ Letter → AreText ps → text_of ps ≡ b ∷ bs → MayStandBefore (atom []) ps
+no_atom : (b : ℕ) (bs : List ℕ) (ps : List Piece) → kind_of b ≢ Letter → AreText ps → text_of ps ≡ b ∷ bs → CanPrecede (atom []) ps
 no_atom b bs [] ne h e = tt
 no_atom b bs (blank c ∷ ps) ne h e = tt
 no_atom b bs (comment cs ∷ ps) ne h e = tt
@@ -264,7 +264,7 @@ no_atom b bs (brace c ∷ ps) ne h e = tt
 no_atom b bs (atom [] ∷ ps) ne h e = absurd (let some = h.0.0 in omega (arith, some))
 no_atom b bs (atom (c ∷ cs) ∷ ps) ne h e = absurd (ne (let same : b ≡ c = ap (λ (xs : List ℕ). head_of xs) (sym e) in ap kind_of same ∙ h.0.1.0))
 
--- an atom that ends here, before what a byte that is no letter begins
+-- an atom that ends before a byte that cannot be in an atom
 atom_over : (q p : Place) (b : ℕ) (bs : List ℕ) (ts : List Token) → kind_of b ≢ Letter → Found Nothing p (b ∷ bs) ts → Found (Atom q) p (b ∷ bs) (token_at q p.at ∷ ts)
 atom_over q p b bs ts ne h = record {
   begun = [];
@@ -279,7 +279,7 @@ atom_over q p b bs ts ne h = record {
 }
 
 found_step : (m : Inside) (p : Place) (b : ℕ) (k : Kind) (bs : List ℕ) (ts : List Token) → kind_of b ≡ k → is_bad m k ≡ false
-    → Found (inside_after m p k) (place_after p k) bs ts → Found m p (b ∷ bs) (made m p k ++ ts)
+    → Found (inside_after m p k) (position_after p k) bs ts → Found m p (b ∷ bs) (made m p k ++ ts)
 found_step Nothing p b Blank bs ts e good h = blank_more p b Blank bs ts e (inl e) h
 found_step Nothing p b LineEnd bs ts e good h = blank_more p b LineEnd bs ts e (inr e) h
 found_step Nothing p b Hash bs ts e good h = comment_begins p b bs ts e h
@@ -323,23 +323,23 @@ unfolding lexed
 found_pieces limits m p [] ts e = found_end limits m p ts e
 found_pieces limits m p (b ∷ bs) ts e =
     let k = kind_of b in
-    let h = parts limits (made m p k) ts (cond (is_bad m k) (Err (Byte p.position)) (lexed limits (inside_after m p k) (place_after p k) bs)) e in
-    let good = good_byte (is_bad m k) p (lexed limits (inside_after m p k) (place_after p k) bs) h.later h.rest in
-    let later = found_pieces limits (inside_after m p k) (place_after p k) bs h.later good.1 in
+    let h = parts limits (made m p k) ts (cond (is_bad m k) (Err (Byte p.position)) (lexed limits (inside_after m p k) (position_after p k) bs)) e in
+    let good = good_byte (is_bad m k) p (lexed limits (inside_after m p k) (position_after p k) bs) h.later h.rest in
+    let later = found_pieces limits (inside_after m p k) (position_after p k) bs h.later good.1 in
     subst (λ (us : List Token). Found m p (b ∷ bs) us × TokensFit limits us) (sym h.whole)
     (found_step m p b k bs h.later refl good.0 later.0, both_fit limits (made m p k) h.later h.inside later.1)
 
 pub texts_are_cut : TextsAreCut
 texts_are_cut limits text tokens = (
-  λ e. let h = found_pieces limits Nothing first_place text tokens e in
+  λ e. let h = found_pieces limits Nothing first_position text tokens e in
       record { pieces = h.0.pieces; formed = h.0.formed; whole = h.0.goes.1; are = h.0.goes.2; within = h.1 },
-  λ h. let all : TokensFit limits (tokens_of first_place h.pieces) = subst (λ (us : List Token). TokensFit limits us) (sym h.are) h.within in
-      let cut = cut_pieces limits first_place h.pieces h.formed all in
-      ap (lexed limits Nothing first_place) (sym h.whole) ∙ cut ∙ ap Ok h.are,
+  λ h. let all : TokensFit limits (tokens_of first_position h.pieces) = subst (λ (us : List Token). TokensFit limits us) (sym h.are) h.within in
+      let cut = cut_pieces limits first_position h.pieces h.formed all in
+      ap (lexed limits Nothing first_position) (sym h.whole) ∙ cut ∙ ap Ok h.are,
 )
 
-pub cut_into : (limits : Limits) (text : List ℕ) (ts : List Token) → lexed limits Nothing first_place text ≡ Ok ts → IsCutInto limits text ts
+pub cut_into : (limits : Limits) (text : List ℕ) (ts : List Token) → lexed limits Nothing first_position text ≡ Ok ts → IsCutInto limits text ts
 cut_into limits text ts e = (texts_are_cut limits text ts).0 e
 
-pub not_cut : (limits : Limits) (text : List ℕ) (f : ScriptFault) → lexed limits Nothing first_place text ≡ Err f → (ts : List Token) → IsCutInto limits text ts → ⊥
-not_cut limits text f e ts h = let is : lexed limits Nothing first_place text ≡ Ok ts = (texts_are_cut limits text ts).1 h in absurd (let g : Result (List Token) ScriptFault = Err f in let both : g ≡ Ok ts = sym e ∙ is in cc)
+pub not_cut : (limits : Limits) (text : List ℕ) (f : ScriptFault) → lexed limits Nothing first_position text ≡ Err f → (ts : List Token) → IsCutInto limits text ts → ⊥
+not_cut limits text f e ts h = let is : lexed limits Nothing first_position text ≡ Ok ts = (texts_are_cut limits text ts).1 h in absurd (let g : Result (List Token) ScriptFault = Err f in let both : g ≡ Ok ts = sym e ∙ is in cc)

@@ -1,4 +1,4 @@
--- Tokens that are cut are in order within the text, on lines within the limit.
+-- The tokens of a text are in order within the text, and on lines within the limit.
 use Rattle.std.proofs.Common.{◌≡◌, ℕ, ◌+◌, ◌<◌, ◌≤◌, Bool, true, false, cond, List, [], ◌∷◌, ◌++◌, length, refl, sym, ap, ◌∙◌, subst, arith}
 use Rattle.std.specs.Prelude.{Ok, Err}
 use Rattle.std.proofs.lemmas.Bool.Decides.{nat_tests}
@@ -10,8 +10,8 @@ use Rattle.script_tokens.specs.declared.token.Inside.{Inside}
 use Rattle.script_tokens.specs.declared.token.Inside.TheVariants.{Nothing, Comment, Atom}
 use Rattle.script_tokens.specs.declared.token.Place.{Place}
 use Rattle.script_tokens.specs.declared.fault.ScriptFault.TheVariants.{Byte, Limit}
-use Rattle.script_tokens.specs.Bytes.{kind_of, place_after, first_place}
-use Rattle.script_tokens.specs.Reading.{AreWithin}
+use Rattle.script_tokens.specs.Bytes.{kind_of, position_after, first_position}
+use Rattle.script_tokens.specs.Reading.{AreWithin, AreOnScriptLines}
 use Rattle.script_tokens.specs.Lexing.{inside_after, is_bad, atom_ended, made, fits, added, tokens_before, lexed, InOrder}
 use Rattle.script_tokens.proofs.Lexing.{Cuts}
 
@@ -29,7 +29,7 @@ lower : (n m : ℕ) (ts : List Token) (to : ℕ) → m ≤ n → InOrder n ts to
 lower n m [] to le h = omega (arith, h)
 lower n m (t ∷ ts) to le h = (omega (arith, h.0), h.1, h.2)
 
-step : (m : Inside) (p : Place) (k : Kind) (us : List Token) (to : ℕ) → IsOpen m p → InOrder (begins (inside_after m p k) (place_after p k)) us to
+step : (m : Inside) (p : Place) (k : Kind) (us : List Token) (to : ℕ) → IsOpen m p → InOrder (begins (inside_after m p k) (position_after p k)) us to
     → InOrder (begins m p) (made m p k ++ us) to
 step Nothing p Blank us to o h = lower (p.at + 1) _ us to (omega arith) h
 step Nothing p LineEnd us to o h = lower (p.at + 1) _ us to (omega arith) h
@@ -50,7 +50,7 @@ step (Atom q) p Brace us to o h = (omega arith, o, (omega arith, omega arith, h)
 step (Atom q) p Letter us to o h = h
 step (Atom q) p Bad us to o h = (omega arith, o, lower (p.at + 1) _ us to (omega arith) h)
 
-stays_open : (m : Inside) (p : Place) (k : Kind) → IsOpen m p → IsOpen (inside_after m p k) (place_after p k)
+stays_open : (m : Inside) (p : Place) (k : Kind) → IsOpen m p → IsOpen (inside_after m p k) (position_after p k)
 stays_open Nothing p Letter o = omega arith
 stays_open (Atom q) p Letter o = omega arith
 stays_open Nothing p Blank o = tt
@@ -70,7 +70,7 @@ stays_open (Atom q) p Hash o = tt
 stays_open (Atom q) p Brace o = tt
 stays_open (Atom q) p Bad o = tt
 
-at_after : (p : Place) (k : Kind) → (place_after p k).at ≡ p.at + 1
+at_after : (p : Place) (k : Kind) → (position_after p k).at ≡ p.at + 1
 at_after p LineEnd = refl
 at_after p Blank = refl
 at_after p Hash = refl
@@ -83,7 +83,7 @@ abbrev pub AllIn : Limits → List Token → Type 0
 AllIn limits [] = Unit {0}
 AllIn limits (t ∷ ts) = (fits limits t ≡ true) × AllIn limits ts
 
--- tokens before those of the rest, and all within the limits
+-- the tokens come before those of the rest, and are all within the limits
 record Parts (limits : Limits) (ts us : List Token) (r : Cuts) : Type 0 where
   pub later : List Token
   pub rest : r ≡ Ok later
@@ -132,13 +132,13 @@ unfolding lexed
 cut_in_order limits m p [] ts o e = at_end limits m p ts o e
 cut_in_order limits m p (b ∷ bs) ts o e =
     let k = kind_of b in
-    let h = parts limits (made m p k) ts (cond (is_bad m k) (Err (Byte p.position)) (lexed limits (inside_after m p k) (place_after p k) bs)) e in
-    let good = not_bad (is_bad m k) p (lexed limits (inside_after m p k) (place_after p k) bs) h.later h.rest in
-    let later = cut_in_order limits (inside_after m p k) (place_after p k) bs h.later (stays_open m p k o) good in
-    let to : (place_after p k).at + length bs ≡ p.at + length (b ∷ bs) = (let a = at_after p k in omega (arith, a)) in
+    let h = parts limits (made m p k) ts (cond (is_bad m k) (Err (Byte p.position)) (lexed limits (inside_after m p k) (position_after p k) bs)) e in
+    let good = not_bad (is_bad m k) p (lexed limits (inside_after m p k) (position_after p k) bs) h.later h.rest in
+    let later = cut_in_order limits (inside_after m p k) (position_after p k) bs h.later (stays_open m p k o) good in
+    let to : (position_after p k).at + length bs ≡ p.at + length (b ∷ bs) = (let a = at_after p k in omega (arith, a)) in
     record {
       order = subst (λ (us : List Token). InOrder (begins m p) us (p.at + length (b ∷ bs))) (sym h.whole)
-          (step m p k h.later (p.at + length (b ∷ bs)) o (subst (λ (n : ℕ). InOrder (begins (inside_after m p k) (place_after p k)) h.later n) to later.order));
+          (step m p k h.later (p.at + length (b ∷ bs)) o (subst (λ (n : ℕ). InOrder (begins (inside_after m p k) (position_after p k)) h.later n) to later.order));
       inside = subst (λ (us : List Token). AllIn limits us) (sym h.whole) (all_both limits (made m p k) h.later h.inside later.inside);
     }
 
@@ -149,14 +149,19 @@ reaches from (t ∷ ts) to h = let later = reaches t.end ts to h.2 in omega (ari
 line_of : (limits : Limits) (t : Token) → fits limits t ≡ true → t.position.line ≤ limits.line
 line_of limits t e = grind (arith, nat_tests, e)
 
-are_within : (limits : Limits) (from : ℕ) (ts : List Token) (to : ℕ) → limits.line ≤ 65535 → InOrder from ts to → AllIn limits ts → AreWithin to ts
-are_within limits from [] to small h k = tt
-are_within limits from (t ∷ ts) to small h k =
-    let line = line_of limits t k.0 in
-    (h.1, reaches t.end ts to h.2, omega (arith, line), are_within limits t.end ts to small h.2 k.1)
+are_within : (from : ℕ) (ts : List Token) (to : ℕ) → InOrder from ts to → AreWithin to ts
+are_within from [] to h = tt
+are_within from (t ∷ ts) to h = (h.1, reaches t.end ts to h.2, are_within t.end ts to h.2)
 
-pub within : (limits : Limits) (bs : List ℕ) (ts : List Token) → limits.line ≤ 65535 → lexed limits Nothing first_place bs ≡ Ok ts → AreWithin (length bs) ts
-within limits bs ts small e =
-    let h = cut_in_order limits Nothing first_place bs ts tt e in
+pub within : (limits : Limits) (bs : List ℕ) (ts : List Token) → lexed limits Nothing first_position bs ≡ Ok ts → AreWithin (length bs) ts
+within limits bs ts e =
+    let h = cut_in_order limits Nothing first_position bs ts tt e in
     let z : 0 + length bs ≡ length bs = omega arith in
-    subst (λ (n : ℕ). AreWithin n ts) z (are_within limits 0 ts (0 + length bs) small h.order h.inside)
+    subst (λ (n : ℕ). AreWithin n ts) z (are_within 0 ts (0 + length bs) h.order)
+
+are_on_lines : (limits : Limits) (ts : List Token) → limits.line ≤ 65535 → AllIn limits ts → AreOnScriptLines ts
+are_on_lines limits [] small k = tt
+are_on_lines limits (t ∷ ts) small k = let line = line_of limits t k.0 in (omega (arith, line), are_on_lines limits ts small k.1)
+
+pub on_script_lines : (limits : Limits) (bs : List ℕ) (ts : List Token) → limits.line ≤ 65535 → lexed limits Nothing first_position bs ≡ Ok ts → AreOnScriptLines ts
+on_script_lines limits bs ts small e = are_on_lines limits ts small (cut_in_order limits Nothing first_position bs ts tt e).inside

@@ -1,29 +1,29 @@
--- Short texts: which have tokens, and which have none.
+-- Short texts that have tokens, and some that have none.
 use Rattle.std.proofs.Common.{◌≡◌, List, [], ◌∷◌, refl, arith, Ok}
 use Rattle.std.specs.Prelude.{Result}
 use Rattle.script_tokens.specs.declared.token.Token.{Token}
 use Rattle.script_tokens.specs.declared.fault.ScriptFault.{ScriptFault}
 use Rattle.script_tokens.specs.declared.fault.ScriptFault.TheVariants.{Byte}
-use Rattle.script_tokens.specs.Bytes.{first_place, token_at}
+use Rattle.script_tokens.specs.Bytes.{first_position, token_at}
 use Rattle.script_tokens.specs.Lexing.{lexed}
 use Rattle.script_tokens.specs.Texts.{AreTokens, script_limits}
 use Rattle.script_tokens.proofs.Pieces.{texts_are_cut, cut_into, not_cut}
 
 -- `ab` is one atom
-one_atom : AreTokens (97 ∷ 98 ∷ []) (token_at first_place 2 ∷ [])
+one_atom : AreTokens (97 ∷ 98 ∷ []) (token_at first_position 2 ∷ [])
 unfolding lexed
-one_atom = (omega arith, cut_into script_limits (97 ∷ 98 ∷ []) (token_at first_place 2 ∷ []) refl)
+one_atom = (omega arith, cut_into script_limits (97 ∷ 98 ∷ []) (token_at first_position 2 ∷ []) refl)
 
--- and not two
+-- and not two atoms
 not_two_atoms : (t u : Token) → AreTokens (97 ∷ 98 ∷ []) (t ∷ u ∷ []) → ⊥
 unfolding lexed
 not_two_atoms t u h =
     let is = (texts_are_cut script_limits (97 ∷ 98 ∷ []) (t ∷ u ∷ [])).1 h.1 in
-    let one : Result (List Token) ScriptFault = Ok (token_at first_place 2 ∷ []) in
+    let one : Result (List Token) ScriptFault = Ok (token_at first_position 2 ∷ []) in
     let same : one ≡ Ok (t ∷ u ∷ []) = is in
     absurd cc
 
 -- `@` has no tokens
 no_tokens : (ts : List Token) → AreTokens (64 ∷ []) ts → ⊥
 unfolding lexed
-no_tokens ts h = not_cut script_limits (64 ∷ []) (Byte first_place.position) refl ts h.1
+no_tokens ts h = not_cut script_limits (64 ∷ []) (Byte first_position.position) refl ts h.1

@@ -1,4 +1,4 @@
--- Which lists of bytes are words, each a brace or an atom; the letters of values and names.
+-- Which lists of bytes are tokens, each a brace or an atom; the letters of values and names.
 use Rattle.std.proofs.Common.{◌≡◌, ◌⊎◌, inl, inr, ℕ, zero, suc, ◌+◌, ◌-◌, ◌/◌, ◌%◌, ◌<◌, ◌≤◌, Bool, true, false, ◌&&◌, ◌||◌, nat_le, List, [], ◌∷◌, ◌++◌, length, refl, sym, subst, arith}
 use Rattle.std.proofs.lemmas.Bool.{false≢true}
 use Rattle.std.proofs.lemmas.Bool.Decides.{nat_tests}
@@ -13,8 +13,8 @@ use Rattle.script_tokens.specs.declared.keyword.Keyword.{Keyword}
 use Rattle.script_tokens.specs.declared.keyword.Keyword.TheVariants.{Ensemble, Mode, Period, Notice, Budget, Define, Begin, Sub, At, Eep, Service, Audio, In, Data, Carry, Packet, Groups, Raw, TypeWord, Address, Drop, Component, Move, Rate, Wait, Contact, Closed, Open, Until, Commit, Join, Settle, End, If, Else, Repeat, Forever, Apply, OpenBrace, CloseBrace}
 use Rattle.script_tokens.specs.Bytes.{kind_of}
 use Rattle.script_tokens.specs.Texts.{AreLetters}
-use Rattle.script_tokens.specs.Words.{letters, is_lower, is_name_byte, IsName}
-use Rattle.script_tokens.specs.Spelling.{hex_digit, hex_word, hex_long, sid_word, set_letter, profile_word, two_digits, time_word}
+use Rattle.script_tokens.specs.Keywords.{letters, is_lower, is_name_byte, IsName}
+use Rattle.script_tokens.specs.Spelling.{hex_digit, hex_text, hex_long, sid_text, set_letter, profile_text, two_digits, time_text}
 use Rattle.mux_eep.specs.declared.sizes.EepSet.{EepSet}
 use Rattle.mux_eep.specs.declared.sizes.EepSet.TheVariants.{A, B}
 use Rattle.mux_eep.specs.Sizes.{Profile}
@@ -29,7 +29,7 @@ use Rattle.std.proofs.lemmas.Bool.{eqb-true}
 use Rattle.script_tokens.specs.Reading.{Spelled}
 use Rattle.script_tokens.proofs.Digits.{own, digit_range}
 
--- ---- words
+-- ---- tokens
 
 pub record IsAtom (w : List ℕ) : Type 0 where
   pub some : 1 ≤ length w
@@ -47,7 +47,7 @@ abbrev pub AreWords : Spelled → Type 0
 AreWords [] = Unit {0}
 AreWords (w ∷ ws) = IsWord w × AreWords ws
 
--- ---- which lists of bytes are words
+-- ---- which lists of bytes are tokens
 
 and_left : (a b : Bool) → (a && b) ≡ true → a ≡ true
 and_left true b e = refl
@@ -105,7 +105,7 @@ hex_letter (suc (suc (suc (suc (suc (suc (suc (suc (suc (suc (suc (suc (suc (suc
 hex_letter (suc (suc (suc (suc (suc (suc (suc (suc (suc (suc (suc (suc (suc (suc (suc zero))))))))))))))) lt = refl
 hex_letter (suc (suc (suc (suc (suc (suc (suc (suc (suc (suc (suc (suc (suc (suc (suc (suc d)))))))))))))))) lt = absurd (omega arith)
 
-pub hex_word_word : (n : ℕ) → n < 65536 → IsWord (hex_word n)
+pub hex_word_word : (n : ℕ) → n < 65536 → IsWord (hex_text n)
 hex_word_word n small = inl (record {
   some = omega arith;
   are = (hex_letter (n / 256 / 16) (omega arith), (hex_letter (n / 256 % 16) (omega arith), (hex_letter (n % 256 / 16) (omega arith), (hex_letter (n % 256 % 16) (omega arith), tt))));
@@ -115,16 +115,16 @@ letters_both : (xs ys : List ℕ) → AreLetters xs → AreLetters ys → AreLet
 letters_both [] ys h k = k
 letters_both (x ∷ xs) ys h k = (h.0, letters_both xs ys h.1 k)
 
-four_letters : (n : ℕ) → n < 65536 → AreLetters (hex_word n)
+four_letters : (n : ℕ) → n < 65536 → AreLetters (hex_text n)
 four_letters n small = (hex_letter (n / 256 / 16) (omega arith), (hex_letter (n / 256 % 16) (omega arith), (hex_letter (n % 256 / 16) (omega arith), (hex_letter (n % 256 % 16) (omega arith), tt))))
 
 pub hex_long_word : (n : ℕ) → n < 4294967296 → IsWord (hex_long n)
 hex_long_word n small = inl (record {
   some = omega arith;
-  are = letters_both (hex_word (n / 65536)) (hex_word (n % 65536)) (four_letters (n / 65536) (omega arith)) (four_letters (n % 65536) (omega arith));
+  are = letters_both (hex_text (n / 65536)) (hex_text (n % 65536)) (four_letters (n / 65536) (omega arith)) (four_letters (n % 65536) (omega arith));
 })
 
-pub sid_word_word : (s : Sid) → IsSid s → IsWord (sid_word s)
+pub sid_word_word : (s : Sid) → IsSid s → IsWord (sid_text s)
 sid_word_word (Short n) h = hex_word_word n h
 sid_word_word (Long n) h = hex_long_word n h
 
@@ -132,20 +132,20 @@ set_kind : (s : EepSet) → kind_of (set_letter s) ≡ Letter
 set_kind A = refl
 set_kind B = refl
 
-pub profile_word_word : (p : Profile) → p.level ≤ 4 → IsWord (profile_word p)
+pub profile_word_word : (p : Profile) → p.level ≤ 4 → IsWord (profile_text p)
 profile_word_word p h = inl (record { some = omega arith; are = (digit_letter p.level (omega (arith, h)), (refl, (set_kind p.set, tt))) })
 
 two_letters : (n : ℕ) → n < 100 → AreLetters (two_digits n)
 two_letters n small = (digit_letter (n / 10) (omega arith), (digit_letter (n % 10) (omega arith), tt))
 
-pub time_word_word : (s : ℕ) → s < 86400 → IsWord (time_word s)
+pub time_word_word : (s : ℕ) → s < 86400 → IsWord (time_text s)
 time_word_word s small =
     let a = two_letters (s / 3600) (omega arith) in
     let b = two_letters (s / 60 % 60) (omega arith) in
     let c = two_letters (s % 60) (omega arith) in
     inl (record { some = omega arith; are = (a.0, (a.1.0, (refl, (b.0, (b.1.0, (refl, (c.0, (c.1.0, tt)))))))) })
 
--- ---- keywords, and names
+-- ---- keywords and names
 
 is_letter : Kind → Bool
 is_letter Letter = true
@@ -172,48 +172,48 @@ are_letters (b ∷ bs) e = (letter_is (kind_of b) (and_left (is_letter (kind_of 
 atom_word : (w : List ℕ) → 1 ≤ length w → all_letters w ≡ true → IsWord w
 atom_word w some e = inl (record { some = some; are = are_letters w e })
 
-pub keyword_word : (k : Keyword) → IsWord (letters k)
+pub keyword_text : (k : Keyword) → IsWord (letters k)
 unfolding letters all_letters is_letter
-keyword_word Ensemble = atom_word (letters Ensemble) (omega arith) refl
-keyword_word Mode = atom_word (letters Mode) (omega arith) refl
-keyword_word Period = atom_word (letters Period) (omega arith) refl
-keyword_word Notice = atom_word (letters Notice) (omega arith) refl
-keyword_word Budget = atom_word (letters Budget) (omega arith) refl
-keyword_word Define = atom_word (letters Define) (omega arith) refl
-keyword_word Begin = atom_word (letters Begin) (omega arith) refl
-keyword_word Sub = atom_word (letters Sub) (omega arith) refl
-keyword_word At = atom_word (letters At) (omega arith) refl
-keyword_word Eep = atom_word (letters Eep) (omega arith) refl
-keyword_word Service = atom_word (letters Service) (omega arith) refl
-keyword_word Audio = atom_word (letters Audio) (omega arith) refl
-keyword_word In = atom_word (letters In) (omega arith) refl
-keyword_word Data = atom_word (letters Data) (omega arith) refl
-keyword_word Carry = atom_word (letters Carry) (omega arith) refl
-keyword_word Packet = atom_word (letters Packet) (omega arith) refl
-keyword_word Groups = atom_word (letters Groups) (omega arith) refl
-keyword_word Raw = atom_word (letters Raw) (omega arith) refl
-keyword_word TypeWord = atom_word (letters TypeWord) (omega arith) refl
-keyword_word Address = atom_word (letters Address) (omega arith) refl
-keyword_word Drop = atom_word (letters Drop) (omega arith) refl
-keyword_word Component = atom_word (letters Component) (omega arith) refl
-keyword_word Move = atom_word (letters Move) (omega arith) refl
-keyword_word Rate = atom_word (letters Rate) (omega arith) refl
-keyword_word Wait = atom_word (letters Wait) (omega arith) refl
-keyword_word Contact = atom_word (letters Contact) (omega arith) refl
-keyword_word Closed = atom_word (letters Closed) (omega arith) refl
-keyword_word Open = atom_word (letters Open) (omega arith) refl
-keyword_word Until = atom_word (letters Until) (omega arith) refl
-keyword_word Commit = atom_word (letters Commit) (omega arith) refl
-keyword_word Join = atom_word (letters Join) (omega arith) refl
-keyword_word Settle = atom_word (letters Settle) (omega arith) refl
-keyword_word End = atom_word (letters End) (omega arith) refl
-keyword_word If = atom_word (letters If) (omega arith) refl
-keyword_word Else = atom_word (letters Else) (omega arith) refl
-keyword_word Repeat = atom_word (letters Repeat) (omega arith) refl
-keyword_word Forever = atom_word (letters Forever) (omega arith) refl
-keyword_word Apply = atom_word (letters Apply) (omega arith) refl
-keyword_word OpenBrace = inr (record { byte = 123; is = refl; kind = refl })
-keyword_word CloseBrace = inr (record { byte = 125; is = refl; kind = refl })
+keyword_text Ensemble = atom_word (letters Ensemble) (omega arith) refl
+keyword_text Mode = atom_word (letters Mode) (omega arith) refl
+keyword_text Period = atom_word (letters Period) (omega arith) refl
+keyword_text Notice = atom_word (letters Notice) (omega arith) refl
+keyword_text Budget = atom_word (letters Budget) (omega arith) refl
+keyword_text Define = atom_word (letters Define) (omega arith) refl
+keyword_text Begin = atom_word (letters Begin) (omega arith) refl
+keyword_text Sub = atom_word (letters Sub) (omega arith) refl
+keyword_text At = atom_word (letters At) (omega arith) refl
+keyword_text Eep = atom_word (letters Eep) (omega arith) refl
+keyword_text Service = atom_word (letters Service) (omega arith) refl
+keyword_text Audio = atom_word (letters Audio) (omega arith) refl
+keyword_text In = atom_word (letters In) (omega arith) refl
+keyword_text Data = atom_word (letters Data) (omega arith) refl
+keyword_text Carry = atom_word (letters Carry) (omega arith) refl
+keyword_text Packet = atom_word (letters Packet) (omega arith) refl
+keyword_text Groups = atom_word (letters Groups) (omega arith) refl
+keyword_text Raw = atom_word (letters Raw) (omega arith) refl
+keyword_text TypeWord = atom_word (letters TypeWord) (omega arith) refl
+keyword_text Address = atom_word (letters Address) (omega arith) refl
+keyword_text Drop = atom_word (letters Drop) (omega arith) refl
+keyword_text Component = atom_word (letters Component) (omega arith) refl
+keyword_text Move = atom_word (letters Move) (omega arith) refl
+keyword_text Rate = atom_word (letters Rate) (omega arith) refl
+keyword_text Wait = atom_word (letters Wait) (omega arith) refl
+keyword_text Contact = atom_word (letters Contact) (omega arith) refl
+keyword_text Closed = atom_word (letters Closed) (omega arith) refl
+keyword_text Open = atom_word (letters Open) (omega arith) refl
+keyword_text Until = atom_word (letters Until) (omega arith) refl
+keyword_text Commit = atom_word (letters Commit) (omega arith) refl
+keyword_text Join = atom_word (letters Join) (omega arith) refl
+keyword_text Settle = atom_word (letters Settle) (omega arith) refl
+keyword_text End = atom_word (letters End) (omega arith) refl
+keyword_text If = atom_word (letters If) (omega arith) refl
+keyword_text Else = atom_word (letters Else) (omega arith) refl
+keyword_text Repeat = atom_word (letters Repeat) (omega arith) refl
+keyword_text Forever = atom_word (letters Forever) (omega arith) refl
+keyword_text Apply = atom_word (letters Apply) (omega arith) refl
+keyword_text OpenBrace = inr (record { byte = 123; is = refl; kind = refl })
+keyword_text CloseBrace = inr (record { byte = 125; is = refl; kind = refl })
 
 lower_letter : (d : ℕ) → d < 26 → kind_of (97 + d) ≡ Letter
 lower_letter zero lt = refl
@@ -276,17 +276,17 @@ name_word (b ∷ bs) h =
 pub decimal_letters : (n : ℕ) → n < 1000000000 → AreLetters (decimal n)
 decimal_letters n small = digits_letters (decimal n) (digits_decimal own n (omega arith))
 
-pub hex_letters : (n : ℕ) → n < 65536 → AreLetters (hex_word n)
+pub hex_letters : (n : ℕ) → n < 65536 → AreLetters (hex_text n)
 hex_letters n small = four_letters n small
 
-pub sid_letters : (s : Sid) → IsSid s → AreLetters (sid_word s)
+pub sid_letters : (s : Sid) → IsSid s → AreLetters (sid_text s)
 sid_letters (Short n) h = four_letters n h
-sid_letters (Long n) h = letters_both (hex_word (n / 65536)) (hex_word (n % 65536)) (four_letters (n / 65536) (omega (arith, h))) (four_letters (n % 65536) (omega (arith, h)))
+sid_letters (Long n) h = letters_both (hex_text (n / 65536)) (hex_text (n % 65536)) (four_letters (n / 65536) (omega (arith, h))) (four_letters (n % 65536) (omega (arith, h)))
 
-pub profile_letters : (p : Profile) → p.level ≤ 4 → AreLetters (profile_word p)
+pub profile_letters : (p : Profile) → p.level ≤ 4 → AreLetters (profile_text p)
 profile_letters p h = (digit_letter p.level (omega (arith, h)), (refl, (set_kind p.set, tt)))
 
-pub time_letters : (s : ℕ) → s < 86400 → AreLetters (time_word s)
+pub time_letters : (s : ℕ) → s < 86400 → AreLetters (time_text s)
 time_letters s small =
     let a = two_letters (s / 3600) (omega arith) in
     let b = two_letters (s / 60 % 60) (omega arith) in
@@ -315,6 +315,6 @@ small_name [] h k d lt = absurd (omega (arith, lt))
 small_name (b ∷ bs) h zero d lt = let r = lower_range b (and_left (is_lower b) (list_all is_name_byte bs) h.formed) in omega (arith, r.1)
 small_name (b ∷ bs) h (suc k) d lt = small_bytes bs (and_right (is_lower b) (list_all is_name_byte bs) h.formed) k d (omega (arith, lt))
 
--- names are text
+-- names are UTF-8
 pub name_utf8 : (bs : List ℕ) → IsName bs → IsUtf8 bs
 name_utf8 bs h = IsUtf8-from_ascii bs (IsAscii-from_all bs (small_name bs h))

@@ -1,4 +1,4 @@
--- The bytes of a text, and the points in it.
+-- The kinds of bytes, and positions in a text.
 use Rattle.std.specs.Prelude.{ℕ, ◌+◌, ◌==◌, ◌||◌, ◌&&◌, Bool, if◌then◌else◌, nat_le, List, [], ◌∷◌}
 use Rattle.script_tokens.specs.declared.token.Token.{Token}
 use Rattle.script_tokens.specs.declared.token.Kind.{Kind}
@@ -32,17 +32,17 @@ kind_numbered n =
     else Bad
 
 -- lines and columns are counted from 1, columns in bytes
-abbrev pub first_place : Place
-first_place = record { at = 0; position = record { line = 1; column = 1 } }
+abbrev pub first_position : Place
+first_position = record { at = 0; position = record { line = 1; column = 1 } }
 
-abbrev pub place_after : Place → Kind → Place
-place_after p LineEnd = record { at = p.at + 1; position = record { line = p.position.line + 1; column = 1 } }
-place_after p k = record { at = p.at + 1; position = record { line = p.position.line; column = p.position.column + 1 } }
+abbrev pub position_after : Place → Kind → Place
+position_after p LineEnd = record { at = p.at + 1; position = record { line = p.position.line + 1; column = 1 } }
+position_after p k = record { at = p.at + 1; position = record { line = p.position.line; column = p.position.column + 1 } }
 
--- the point behind bytes
-abbrev pub place_behind : Place → List ℕ → Place
-place_behind p [] = p
-place_behind p (b ∷ bs) = place_behind (place_after p (kind_of b)) bs
+-- the position after these bytes
+abbrev pub position_past : Place → List ℕ → Place
+position_past p [] = p
+position_past p (b ∷ bs) = position_past (position_after p (kind_of b)) bs
 
 abbrev pub token_at : (start : Place) → (end : ℕ) → Token
 token_at p end = record { start = p.at; end = end; position = p.position }

@@ -1,4 +1,4 @@
--- The keywords with which items, edits and statements begin, as keywords of the grammar.
+-- The keywords that begin items, edits and statements, as keywords of the grammar.
 use Rattle.script_tokens.specs.declared.keyword.Keyword.{Keyword}
 use Rattle.script_tokens.specs.declared.keyword.Keyword.TheVariants as the
 use Rattle.script_tokens.specs.declared.first_keyword.ComponentKeyword.{ComponentKeyword}

@@ -1,4 +1,4 @@
--- Cutting a text into tokens byte by byte. The contract of `cut` cites it; which texts are cut so is defined in `Texts.antt`.
+-- Cutting a text into tokens byte by byte: the contract of `cut`. The tokens of a text are defined in `Texts.antt`.
 use Rattle.std.specs.Prelude.{◌≡◌, ℕ, ◌+◌, ◌<◌, ◌≤◌, ◌&&◌, Bool, true, false, if◌then◌else◌, nat_le, List, [], ◌∷◌, ◌++◌, Result, Ok, Err}
 use Rattle.script_tokens.specs.declared.fault.ScriptFault.{ScriptFault}
 use Rattle.script_tokens.specs.declared.fault.ScriptFault.TheVariants.{Byte, Limit, Memory}
@@ -9,7 +9,7 @@ use Rattle.script_tokens.specs.declared.token.Kind.TheVariants.{Blank, LineEnd, 
 use Rattle.script_tokens.specs.declared.token.Inside.{Inside}
 use Rattle.script_tokens.specs.declared.token.Inside.TheVariants.{Nothing, Comment, Atom}
 use Rattle.script_tokens.specs.declared.token.Place.{Place}
-use Rattle.script_tokens.specs.Bytes.{kind_of, place_after, token_at}
+use Rattle.script_tokens.specs.Bytes.{kind_of, position_after, token_at}
 
 -- the atom that a byte ends, if any
 abbrev pub atom_ended : Inside → ℕ → Kind → List Token
@@ -44,17 +44,17 @@ is_bad Comment k = false
 is_bad m Bad = true
 is_bad m k = false
 
--- a byte that makes no token, and leaves the lexer's state as it is
+-- a byte that makes no token and leaves the lexer's state unchanged
 pub record IsQuiet (m : Inside) (k : Kind) : Type 0 where
   pub none : (p : Place) → made m p k ≡ []
   pub good : is_bad m k ≡ false
   pub stays : (p : Place) → inside_after m p k ≡ m
 
--- a token is within the limits: one of more than one byte is an atom
+-- a token is within the limits: only an atom can have more than one byte
 abbrev pub fits : Limits → Token → Bool
 fits limits t = nat_le t.end (t.start + limits.atom) && nat_le t.position.line limits.line
 
--- tokens before the result of the rest, or the first that is past a limit
+-- these tokens, then the result of the rest; or the first that is past a limit
 abbrev pub added : Token → Result (List Token) ScriptFault → Result (List Token) ScriptFault
 added t (Ok us) = Ok (t ∷ us)
 added t (Err e) = Err e
@@ -68,15 +68,15 @@ lexed limits m p [] = tokens_before limits (atom_ended m p.at Blank) (Ok [])
 lexed limits m p (b ∷ bs) =
     tokens_before limits (made m p (kind_of b))
     (if is_bad m (kind_of b) then Err (Byte p.position)
-    else lexed limits (inside_after m p (kind_of b)) (place_after p (kind_of b)) bs)
+    else lexed limits (inside_after m p (kind_of b)) (position_after p (kind_of b)) bs)
 
--- these tokens were pushed, or the first that is past a limit is the fault
+-- these tokens were pushed, or the fault is out of memory or names the first that is past a limit
 abbrev pub Pushes : Limits → (old new ts : List Token) → Result (Unit {0}) ScriptFault → Type 0
 Pushes limits old new ts (Ok u) = (new ≡ old ++ ts) × (tokens_before limits ts (Ok []) ≡ Ok ts)
 Pushes limits old new ts (Err Memory) = Unit {0}
 Pushes limits old new ts (Err e) = tokens_before limits ts (Ok []) ≡ Err e
 
--- tokens one after another, from an offset on and up to another
+-- tokens in order between two offsets, none empty and no two overlapping
 abbrev pub InOrder : ℕ → List Token → ℕ → Type 0
 InOrder from [] to = from ≤ to
 InOrder from (t ∷ ts) to = (from ≤ t.start) × (t.start < t.end) × InOrder t.end ts to

@@ -5,4 +5,4 @@ pub mod Reading
 pub mod Spelling
 pub mod Texts
 pub mod Times
-pub mod Words
+pub mod Keywords

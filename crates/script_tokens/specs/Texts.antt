@@ -1,5 +1,5 @@
--- What a text is: blanks, comments, braces and atoms, one after another. No two atoms touch, and a comment ends with
--- its line.
+-- The syntax of texts: blanks, comments, braces and atoms, one after another. No two atoms are adjacent, and a comment
+-- ends with its line.
 use Rattle.std.specs.Prelude.{◌≡◌, ◌≢◌, ◌⊎◌, ℕ, ◌+◌, ◌<◌, ◌≤◌, true, List, [], ◌∷◌, ◌++◌, length, Ok, Err}
 use Rattle.script_tokens.specs.declared.token.Token.{Token}
 use Rattle.script_tokens.specs.declared.token.Limits.{Limits}
@@ -8,12 +8,12 @@ use Rattle.script_tokens.specs.declared.token.Inside.TheVariants.{Nothing}
 use Rattle.script_tokens.specs.declared.token.Place.{Place}
 use Rattle.script_tokens.specs.declared.fault.ScriptFault.{ScriptFault}
 use Rattle.script_tokens.specs.declared.fault.ScriptFault.TheVariants.{Limit}
-use Rattle.script_tokens.specs.Bytes.{kind_of, place_behind, first_place, token_at}
+use Rattle.script_tokens.specs.Bytes.{kind_of, position_past, first_position, token_at}
 use Rattle.script_tokens.specs.Lexing.{fits, lexed}
 
 pub data Piece : Type 0 where
   blank : (byte : ℕ) → Piece
-  -- `#`, and the bytes behind it up to before the end of its line
+  -- `#`, and the bytes after it up to the end of the line, exclusive
   comment : (bytes : List ℕ) → Piece
   brace : (byte : ℕ) → Piece
   atom : (bytes : List ℕ) → Piece
@@ -42,44 +42,44 @@ IsPiece (comment bs) = HaveNoLineEnd bs
 IsPiece (brace b) = kind_of b ≡ Brace
 IsPiece (atom bs) = (1 ≤ length bs) × AreLetters bs
 
--- no atom behind an atom, and behind a comment only the end of its line
-abbrev pub MayStandBefore : Piece → List Piece → Type 0
-MayStandBefore (atom bs) (atom cs ∷ ps) = ⊥
-MayStandBefore (comment bs) (blank b ∷ ps) = kind_of b ≡ LineEnd
-MayStandBefore (comment bs) (comment cs ∷ ps) = ⊥
-MayStandBefore (comment bs) (brace b ∷ ps) = ⊥
-MayStandBefore (comment bs) (atom cs ∷ ps) = ⊥
-MayStandBefore p ps = Unit {0}
+-- no atom is followed by an atom, and a comment only by the end of its line
+abbrev pub CanPrecede : Piece → List Piece → Type 0
+CanPrecede (atom bs) (atom cs ∷ ps) = ⊥
+CanPrecede (comment bs) (blank b ∷ ps) = kind_of b ≡ LineEnd
+CanPrecede (comment bs) (comment cs ∷ ps) = ⊥
+CanPrecede (comment bs) (brace b ∷ ps) = ⊥
+CanPrecede (comment bs) (atom cs ∷ ps) = ⊥
+CanPrecede p ps = Unit {0}
 
 abbrev pub AreText : List Piece → Type 0
 AreText [] = Unit {0}
-AreText (p ∷ ps) = IsPiece p × MayStandBefore p ps × AreText ps
+AreText (p ∷ ps) = IsPiece p × CanPrecede p ps × AreText ps
 
--- the tokens of a text that begins at this point: each is the slice of its span
+-- the tokens of these pieces, where the first begins at this offset
 abbrev pub tokens_of : Place → List Piece → List Token
 tokens_of at [] = []
-tokens_of at (blank b ∷ ps) = tokens_of (place_behind at (b ∷ [])) ps
-tokens_of at (comment bs ∷ ps) = tokens_of (place_behind at (35 ∷ bs)) ps
-tokens_of at (brace b ∷ ps) = token_at at (at.at + 1) ∷ tokens_of (place_behind at (b ∷ [])) ps
-tokens_of at (atom bs ∷ ps) = token_at at (at.at + length bs) ∷ tokens_of (place_behind at bs) ps
+tokens_of at (blank b ∷ ps) = tokens_of (position_past at (b ∷ [])) ps
+tokens_of at (comment bs ∷ ps) = tokens_of (position_past at (35 ∷ bs)) ps
+tokens_of at (brace b ∷ ps) = token_at at (at.at + 1) ∷ tokens_of (position_past at (b ∷ [])) ps
+tokens_of at (atom bs ∷ ps) = token_at at (at.at + length bs) ∷ tokens_of (position_past at bs) ps
 
 abbrev pub TokensFit : Limits → List Token → Type 0
 TokensFit limits [] = Unit {0}
 TokensFit limits (t ∷ ts) = (fits limits t ≡ true) × TokensFit limits ts
 
--- the text consists of pieces that have these tokens, of which none is past a limit
+-- the text consists of pieces that have these tokens, none of them past a limit
 pub record IsCutInto (limits : Limits) (text : List ℕ) (tokens : List Token) : Type 0 where
   pub pieces : List Piece
   pub formed : AreText pieces
   pub whole : text_of pieces ≡ text
-  pub are : tokens_of first_place pieces ≡ tokens
+  pub are : tokens_of first_position pieces ≡ tokens
   pub within : TokensFit limits tokens
 
--- cutting a text answers its tokens exactly where it is one
+-- cutting a text returns these tokens exactly where they are the text's tokens
 abbrev pub TextsAreCut : Type 0
 TextsAreCut = (limits : Limits) → (text : List ℕ) → (tokens : List Token)
-    → (lexed limits Nothing first_place text ≡ Ok tokens → IsCutInto limits text tokens)
-    × (IsCutInto limits text tokens → lexed limits Nothing first_place text ≡ Ok tokens)
+    → (lexed limits Nothing first_position text ≡ Ok tokens → IsCutInto limits text tokens)
+    × (IsCutInto limits text tokens → lexed limits Nothing first_position text ≡ Ok tokens)
 
 -- ---- scripts
 
@@ -93,8 +93,8 @@ MOST_BYTES = 1048576
 abbrev pub AreTokens : List ℕ → List Token → Type 0
 AreTokens text tokens = (length text ≤ MOST_BYTES) × IsCutInto script_limits text tokens
 
--- why a text has no tokens: it is too long, or the first fault from its front
+-- why a text has no tokens: it is too long, or the first fault in text order
 abbrev pub IsFirstFault : List ℕ → ScriptFault → Type 0
 IsFirstFault text fault =
     ((MOST_BYTES < length text) × (fault ≡ Limit (record { line = 1; column = 1 })))
-    ⊎ ((length text ≤ MOST_BYTES) × (lexed script_limits Nothing first_place text ≡ Err fault))
+    ⊎ ((length text ≤ MOST_BYTES) × (lexed script_limits Nothing first_position text ≡ Err fault))

@@ -1,10 +1,10 @@
-//! Why a text is no script.
+//! Why a text is not a script.
 
 use std::alloc::AllocError;
 use std::fmt::{self, Display, Formatter, Write};
 use thiserror::Error;
 
-/// A position of a text: its line and its column in bytes, both from 1.
+/// A position in a text: its line and its column in bytes, both from 1.
 #[derive(Clone, Copy, Debug, PartialEq, Eq)]
 pub struct Position {
     pub line: usize,
@@ -35,13 +35,13 @@ impl Display for Position {
     }
 }
 
-/// Why a text is no script, with the position of the token, or just past the text.
+/// Why a text is not a script, with the position of the token at fault, or just past the text.
 #[derive(Clone, Copy, Debug, PartialEq, Eq, Error)]
 pub enum ScriptFault {
     /// A byte outside comments that is not allowed in a script.
     #[error("{0}: Byte")]
     Byte(Position),
-    /// An atom in place of a value that is no such value in range.
+    /// An atom where a value is required that is not such a value in range.
     #[error("{0}: Number")]
     Number(Position),
     /// A token, or the end of the text, where another token is required.
@@ -56,10 +56,10 @@ pub enum ScriptFault {
     /// A name that is not defined before it is applied.
     #[error("{0}: NameUnknown")]
     NameUnknown(Position),
-    /// A text, a line, an atom, the defined blocks, or the items and statements past their limit.
+    /// A text, a line, an atom, the defined blocks, or the items and statements exceed their limit.
     #[error("{0}: Limit")]
     Limit(Position),
-    /// Memory was refused.
+    /// Out of memory.
     #[error("no memory")]
     Memory,
 }

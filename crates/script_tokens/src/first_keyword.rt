@@ -1,12 +1,12 @@
-//! The keywords with which items, edits and statements begin.
+//! The keywords that begin items, edits and statements.
 
 ghost use Rattle.std.specs.Prelude.{◌≡◌, IfSome, None, false};
-ghost use Rattle.script_tokens.specs.Words.{begins_item, begins_statement};
+ghost use Rattle.script_tokens.specs.Keywords.{begins_item, begins_statement};
 ghost use Rattle.script_tokens.specs.First.{item_keyword, edit_keyword, statement_keyword};
 
 use crate::keyword::Keyword;
 
-/// A keyword with which a component begins.
+/// A keyword that begins a component.
 #[derive(Clone, Copy, Debug, PartialEq, Eq)]
 pub enum ComponentKeyword {
     Audio,
@@ -14,7 +14,7 @@ pub enum ComponentKeyword {
     Carry,
 }
 
-/// A keyword with which an item begins.
+/// A keyword that begins an item.
 #[derive(Clone, Copy, Debug, PartialEq, Eq)]
 pub enum ItemKeyword {
     Sub,
@@ -23,7 +23,7 @@ pub enum ItemKeyword {
     Component(ComponentKeyword),
 }
 
-/// A keyword with which an edit begins.
+/// A keyword that begins an edit.
 #[derive(Clone, Copy, Debug, PartialEq, Eq)]
 pub enum EditKeyword {
     Drop,
@@ -32,7 +32,7 @@ pub enum EditKeyword {
     Item(ItemKeyword),
 }
 
-/// A keyword with which a statement without a block begins.
+/// A keyword that begins a statement without a block.
 #[derive(Clone, Copy, Debug, PartialEq, Eq)]
 pub enum ActKeyword {
     Wait,
@@ -43,7 +43,7 @@ pub enum ActKeyword {
     Edit(EditKeyword),
 }
 
-/// A keyword with which a statement begins.
+/// A keyword that begins a statement.
 #[derive(Clone, Copy, Debug, PartialEq, Eq)]
 pub enum StatementKeyword {
     End,
@@ -67,7 +67,7 @@ fn item(keyword: ItemKeyword) -> StatementKeyword
 }
 
 impl Keyword {
-    /// The same keyword as one with which a statement begins; None where none does.
+    /// This keyword as one that begins a statement; None if it begins none.
     pub fn statement(self) -> Option<StatementKeyword>
         ensures found { IfSome result (λ k. self ≡ statement_keyword k) }
         ensures none { result ≡ None → begins_statement self ≡ false }
@@ -118,7 +118,7 @@ impl Keyword {
 }
 
 impl StatementKeyword {
-    /// The same keyword as one with which an item begins; None where none does.
+    /// This keyword as one that begins an item; None if it begins none.
     pub fn item(self) -> Option<ItemKeyword>
         ensures found { IfSome result (λ k. statement_keyword self ≡ item_keyword k) }
         ensures none { result ≡ None → begins_item (statement_keyword self) ≡ false }

@@ -1,7 +1,7 @@
 //! The keywords of the grammar.
 
 ghost use Rattle.std.specs.Prelude.{◌≡◌, IfSome, None};
-ghost use Rattle.script_tokens.specs.Words.{letters, IsNoneOf, head_words, item_words, packet_words, change_words, wait_words, flow_words};
+ghost use Rattle.script_tokens.specs.Keywords.{letters, IsNoneOf, head_keywords, item_keywords, packet_keywords, change_keywords, wait_keywords, flow_keywords};
 
 /// A keyword of the grammar, or a brace.
 #[derive(Clone, Copy, Debug, PartialEq, Eq)]
@@ -89,40 +89,41 @@ pub enum Keyword {
 }
 
 impl Keyword {
-    ghost use Rattle.script_tokens.specs.Words.{letters, IsNoKeyword};
+    ghost use Rattle.script_tokens.specs.Keywords.{letters, IsNoKeyword};
 
-    /// The keyword of these bytes; None where they are neither a keyword nor a brace.
+    /// The keyword that these bytes spell; None if they spell neither a keyword nor a brace.
     #[tactic(auto, using(crate::proofs::Keys::no_keyword))]
     pub fn of(bytes: &[u8]) -> Option<Keyword>
         ensures found { IfSome result (λ k. bytes.now ≡ letters k) }
         ensures none { result ≡ None → IsNoKeyword bytes.now }
     {
-        if let Some(keyword) = head_word(bytes) {
+        if let Some(keyword) = find_head(bytes) {
             return Some(keyword);
         }
-        if let Some(keyword) = item_word(bytes) {
+        if let Some(keyword) = find_item(bytes) {
             return Some(keyword);
         }
-        if let Some(keyword) = packet_word(bytes) {
+        if let Some(keyword) = find_packet(bytes) {
             return Some(keyword);
         }
-        if let Some(keyword) = change_word(bytes) {
+        if let Some(keyword) = find_change(bytes) {
             return Some(keyword);
         }
-        if let Some(keyword) = wait_word(bytes) {
+        if let Some(keyword) = find_wait(bytes) {
             return Some(keyword);
         }
-        flow_word(bytes)
+        find_flow(bytes)
     }
 }
 
-// The keywords by subject, a function each: to the prover a list of byte strings costs the square of its length.
+// The keywords by subject, one function for each: for the prover, a match on byte strings costs the square of its
+// length.
 
-/// The keyword of these bytes, where it is one of the head of a script, up to `begin`.
-#[tactic(auto, unfolding(crate::specs::Words::letters))]
-fn head_word(bytes: &[u8]) -> Option<Keyword>
+/// The keyword that these bytes spell, if it is one of the head of a script, up to `begin`.
+#[tactic(auto, unfolding(crate::specs::Keywords::letters))]
+fn find_head(bytes: &[u8]) -> Option<Keyword>
     ensures found { IfSome result (λ k. bytes.now ≡ letters k) }
-    ensures none { result ≡ None → IsNoneOf head_words bytes.now }
+    ensures none { result ≡ None → IsNoneOf head_keywords bytes.now }
 {
     match bytes {
         b"ensemble" => Some(Keyword::Ensemble),
@@ -136,11 +137,11 @@ fn head_word(bytes: &[u8]) -> Option<Keyword>
     }
 }
 
-/// The keyword of these bytes, where it is one of a sub-channel, or of a service and its components in stream mode.
-#[tactic(auto, unfolding(crate::specs::Words::letters))]
-fn item_word(bytes: &[u8]) -> Option<Keyword>
+/// The keyword that these bytes spell, if it is one of a sub-channel, a service or a component of a service.
+#[tactic(auto, unfolding(crate::specs::Keywords::letters))]
+fn find_item(bytes: &[u8]) -> Option<Keyword>
     ensures found { IfSome result (λ k. bytes.now ≡ letters k) }
-    ensures none { result ≡ None → IsNoneOf item_words bytes.now }
+    ensures none { result ≡ None → IsNoneOf item_keywords bytes.now }
 {
     match bytes {
         b"sub" => Some(Keyword::Sub),
@@ -155,11 +156,11 @@ fn item_word(bytes: &[u8]) -> Option<Keyword>
     }
 }
 
-/// The keyword of these bytes, where it is one of a packet component.
-#[tactic(auto, unfolding(crate::specs::Words::letters))]
-fn packet_word(bytes: &[u8]) -> Option<Keyword>
+/// The keyword that these bytes spell, if it is one of a packet component.
+#[tactic(auto, unfolding(crate::specs::Keywords::letters))]
+fn find_packet(bytes: &[u8]) -> Option<Keyword>
     ensures found { IfSome result (λ k. bytes.now ≡ letters k) }
-    ensures none { result ≡ None → IsNoneOf packet_words bytes.now }
+    ensures none { result ≡ None → IsNoneOf packet_keywords bytes.now }
 {
     match bytes {
         b"packet" => Some(Keyword::Packet),
@@ -171,11 +172,11 @@ fn packet_word(bytes: &[u8]) -> Option<Keyword>
     }
 }
 
-/// The keyword of these bytes, where it is one of a change, or of its swap.
-#[tactic(auto, unfolding(crate::specs::Words::letters))]
-fn change_word(bytes: &[u8]) -> Option<Keyword>
+/// The keyword that these bytes spell, if it is one of a change or its swap.
+#[tactic(auto, unfolding(crate::specs::Keywords::letters))]
+fn find_change(bytes: &[u8]) -> Option<Keyword>
     ensures found { IfSome result (λ k. bytes.now ≡ letters k) }
-    ensures none { result ≡ None → IsNoneOf change_words bytes.now }
+    ensures none { result ≡ None → IsNoneOf change_keywords bytes.now }
 {
     match bytes {
         b"drop" => Some(Keyword::Drop),
@@ -189,11 +190,11 @@ fn change_word(bytes: &[u8]) -> Option<Keyword>
     }
 }
 
-/// The keyword of these bytes, where it is one of waiting.
-#[tactic(auto, unfolding(crate::specs::Words::letters))]
-fn wait_word(bytes: &[u8]) -> Option<Keyword>
+/// The keyword that these bytes spell, if it is one of the waits.
+#[tactic(auto, unfolding(crate::specs::Keywords::letters))]
+fn find_wait(bytes: &[u8]) -> Option<Keyword>
     ensures found { IfSome result (λ k. bytes.now ≡ letters k) }
-    ensures none { result ≡ None → IsNoneOf wait_words bytes.now }
+    ensures none { result ≡ None → IsNoneOf wait_keywords bytes.now }
 {
     match bytes {
         b"wait" => Some(Keyword::Wait),
@@ -205,11 +206,11 @@ fn wait_word(bytes: &[u8]) -> Option<Keyword>
     }
 }
 
-/// The keyword of these bytes, where it is one that says what comes next, or a brace.
-#[tactic(auto, unfolding(crate::specs::Words::letters))]
-fn flow_word(bytes: &[u8]) -> Option<Keyword>
+/// The keyword that these bytes spell, if it is one of control flow, or a brace.
+#[tactic(auto, unfolding(crate::specs::Keywords::letters))]
+fn find_flow(bytes: &[u8]) -> Option<Keyword>
     ensures found { IfSome result (λ k. bytes.now ≡ letters k) }
-    ensures none { result ≡ None → IsNoneOf flow_words bytes.now }
+    ensures none { result ≡ None → IsNoneOf flow_keywords bytes.now }
 {
     match bytes {
         b"end" => Some(Keyword::End),

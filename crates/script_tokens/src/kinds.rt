@@ -1,11 +1,11 @@
-//! What each byte is to the lexer.
+//! The lexer's classification of bytes.
 
 ghost use Rattle.std.specs.Prelude.{◌≡◌};
 ghost use Rattle.script_tokens.specs.Bytes.{kind_of, kind_numbered};
 
 use crate::token::Kind;
 
-/// The number of the kind of each byte, as `numbered` has it.
+/// The number of each byte's kind; `numbered` maps the numbers to kinds.
 #[rattlefmt::skip]
 const KINDS: [u8; 256] = [
     5, 5, 5, 5, 5, 5, 5, 5, 5, 0, 1, 5, 5, 0, 5, 5, 5, 5, 5, 5, 5, 5, 5, 5, 5, 5, 5, 5, 5, 5, 5, 5,
@@ -18,7 +18,7 @@ const KINDS: [u8; 256] = [
     5, 5, 5, 5, 5, 5, 5, 5, 5, 5, 5, 5, 5, 5, 5, 5, 5, 5, 5, 5, 5, 5, 5, 5, 5, 5, 5, 5, 5, 5, 5, 5,
 ];
 
-/// What a byte is to the lexer.
+/// The kind of a byte.
 #[inline]
 #[tactic(auto, using(crate::proofs::KindTable::in_kinds))]
 pub fn kind_of(byte: u8) -> Kind
@@ -27,7 +27,7 @@ pub fn kind_of(byte: u8) -> Kind
     numbered(KINDS[usize::from(byte)])
 }
 
-/// The kind of this number.
+/// The kind with this number.
 #[inline]
 fn numbered(number: u8) -> Kind
     ensures { result ≡ kind_numbered number }

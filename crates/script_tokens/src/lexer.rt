@@ -1,9 +1,9 @@
 //! Cutting a text into tokens.
 
 ghost use Rattle.std.specs.Prelude.{◌≡◌, ◌≢◌, ◌+◌, ◌∷◌, [], ◌<◌, ◌≤◌, true, false, length, List, IfOk, IfErr, Ok, Err, Result};
-ghost use Rattle.script_tokens.specs.Bytes.{place_after, first_place, token_at};
+ghost use Rattle.script_tokens.specs.Bytes.{position_after, first_position, token_at};
 ghost use Rattle.script_tokens.specs.Lexing.{inside_after, is_bad, IsQuiet, atom_ended, made, fits, lexed, Pushes};
-ghost use Rattle.script_tokens.specs.Reading.{AreWithin};
+ghost use Rattle.script_tokens.specs.Reading.{AreWithin, AreOnScriptLines};
 ghost use Rattle.script_tokens.specs.Texts.{AreTokens, IsFirstFault};
 ghost use Rattle.script_tokens.specs.declared.token.Token.{Token};
 ghost use Rattle.script_tokens.specs.declared.fault.ScriptFault.TheVariants.{Memory};
@@ -41,7 +41,7 @@ fn is_bad(inside: Inside, kind: Kind) -> bool
     }
 }
 
-/// Whether a byte of this kind makes no token and leaves the lexer's state as it is.
+/// Whether a byte of this kind makes no token and leaves the lexer's state unchanged.
 fn is_quiet(inside: Inside, kind: Kind) -> bool
     ensures { result ≡ true → IsQuiet inside kind }
 {
@@ -52,11 +52,11 @@ fn is_quiet(inside: Inside, kind: Kind) -> bool
     }
 }
 
-fn place_after(place: Place, kind: Kind) -> Place
+fn position_after(place: Place, kind: Kind) -> Place
     requires room { place.at + 1 < usize.MAX }
     requires lines { place.position.line ≤ place.at + 1 }
     requires columns { place.position.column ≤ place.at + 1 }
-    ensures { result ≡ place_after place kind }
+    ensures { result ≡ position_after place kind }
 {
     let position = match kind {
         Kind::LineEnd => Position {
@@ -78,12 +78,13 @@ fn place_after(place: Place, kind: Kind) -> Place
 ///
 /// # Errors
 ///
-/// The first from the front of: `Byte` for a byte outside comments that is not allowed in a text, `Limit` for a
-/// token past a limit; `Memory` where memory is refused.
+/// The first in text order of: `Byte` for a byte outside comments that is not allowed in a text, `Limit` for a token
+/// past a limit. `Memory` if memory runs out.
 pub fn cut(alloc: Global, text: &str, limits: Limits) -> Result<Vec<Token>, ScriptFault>
-    ensures tokens { IfOk result (λ v. lexed limits Nothing first_place text.now ≡ Ok v.items) }
-    ensures fault { IfErr result (λ e. e ≢ Memory → lexed limits Nothing first_place text.now ≡ Err
+    ensures tokens { IfOk result (λ v. lexed limits Nothing first_position text.now ≡ Ok v.items) }
+    ensures fault { IfErr result (λ e. e ≢ Memory → lexed limits Nothing first_position text.now ≡ Err
         e) }
+    ensures within { IfOk result (λ v. AreWithin (length text.now) v.items) }
 {
     let mut tokens = Vec::new(alloc);
     let mut inside = Inside::Nothing;
@@ -94,7 +95,7 @@ pub fn cut(alloc: Global, text: &str, limits: Limits) -> Result<Vec<Token>, Scri
     for byte in text.as_bytes() {
         let kind = kind_of(*byte);
         if is_quiet(inside, kind) {
-            place = place_after(place, kind);
+            place = position_after(place, kind);
             continue;
         }
         push_made(&mut tokens, limits, inside, place, kind)?;
@@ -102,7 +103,7 @@ pub fn cut(alloc: Global, text: &str, limits: Limits) -> Result<Vec<Token>, Scri
             return Err(ScriptFault::Byte(place.position));
         }
         inside = inside_after(inside, place, kind);
-        place = place_after(place, kind);
+        place = position_after(place, kind);
     }
     push_atom(&mut tokens, limits, inside, place.at, Kind::Blank)?;
     Ok(tokens)
@@ -173,20 +174,21 @@ fn fits(limits: Limits, token: Token) -> bool
     token.position.line <= limits.line
 }
 
-/// The tokens of a script: each is a brace or an atom, the slice of its span.
+/// The tokens of a script, which are its braces and atoms, each with its span.
 ///
 /// # Errors
 ///
-/// `Limit` at 1:1 for a text of more than 1,048,576 bytes; else the first from the front of: `Byte` for a byte
-/// outside comments that is not allowed in a script, `Limit` for an atom of more than 32 bytes or a token past
-/// line 65,535; `Memory` where memory is refused.
-#[tactic(auto, using(crate::proofs::Spans::within, crate::proofs::Pieces::cut_into, crate::proofs::Pieces::not_cut))]
+/// `Limit` at 1:1 for a text of more than 1,048,576 bytes; otherwise the first in text order of: `Byte` for a byte
+/// outside comments that is not allowed in a script, `Limit` for an atom of more than 32 bytes or a token past line
+/// 65,535. `Memory` if memory runs out.
+#[tactic(auto, using(crate::proofs::Spans::on_script_lines, crate::proofs::Pieces::cut_into, crate::proofs::Pieces::not_cut))]
 pub fn lex(alloc: Global, text: &str) -> Result<Vec<Token>, ScriptFault>
     ensures tokens { IfOk result (λ v. AreTokens text.now v.items) }
     ensures none { IfErr result (λ e. e ≢ Memory → (tokens : List Token) → AreTokens text.now
         tokens → ⊥) }
     ensures fault { IfErr result (λ e. e ≢ Memory → IsFirstFault text.now e) }
     ensures within { IfOk result (λ v. AreWithin (length text.now) v.items) }
+    ensures lines { IfOk result (λ v. AreOnScriptLines v.items) }
 {
     if text.len() > MOST_BYTES {
         return Err(ScriptFault::Limit(Position { line: 1, column: 1 }));

@@ -1,9 +1,9 @@
-//! The tokens of texts and the values that they spell: what scripts, event files and command files are read from.
+//! Tokens of scripts, event files and command files, and the values that tokens spell.
 //!
-//! `lex` cuts a script's text into its tokens, `cut` a text within other limits. A `Reader` goes through the tokens of
-//! a text, one after another; each call of `values` takes the next one as a value, and `number` says which value an
-//! atom spells. Begin with `Token` and `Reader`. What a text is, which `lex` answers, is defined in `specs/Texts.antt`
-//! (`AreTokens`, `IsFirstFault`), how values are spelled in `specs/Spelling.antt`.
+//! `lex` cuts a script into tokens; `cut` does so for a text with other limits. A `Reader` iterates over the tokens of
+//! a text; each function of `values` reads the next token as a value, and those of `number` give the value that an atom
+//! spells. Begin with `Token` and `Reader`. Which tokens `lex` returns, and which fault, is defined in
+//! `specs/Texts.antt` (`AreTokens`, `IsFirstFault`); how values are spelled, in `specs/Spelling.antt`.
 #![tactic(auto)]
 
 pub mod fault;

@@ -3,7 +3,7 @@
 ghost use Rattle.std.specs.Prelude.{◌≡◌, ◌≢◌, ℕ, ◌<◌, ◌≤◌, ◌++◌, ◌∷◌, [], length, IfSome, None};
 ghost use Rattle.mux_types.specs.declared.numbers.Sid.{Sid};
 ghost use Rattle.mux_eep.specs.Sizes.{Profile};
-ghost use Rattle.script_tokens.specs.Spelling.{hex_digit, hex_byte, hex_word, hex_long, sid_word, profile_word, two_digits, time_word};
+ghost use Rattle.script_tokens.specs.Spelling.{hex_digit, hex_byte, hex_text, hex_long, sid_text, profile_text, two_digits, time_text};
 ghost use Rattle.std.specs.Fmt.{decimal};
 ghost use Rattle.mux_config.specs.Configuration.{IsSid};
 
@@ -11,7 +11,7 @@ use crate::time::TimeOfDay;
 use mux_config::Sid;
 use mux_eep::{EepSet, Protection};
 
-/// The number of a decimal without a superfluous zero, of at most nine digits; None where the atom is none.
+/// The value of a decimal without leading zeros, of at most nine digits; None if the atom is not one.
 pub fn decimal(atom: &[u8]) -> Option<u32>
     ensures found { IfSome result (λ n. (atom.now ≡ decimal n) × (n < 1000000000)) }
     ensures none { result ≡ None → (n : ℕ) → n < 1000000000 → atom.now ≢ decimal n }
@@ -37,7 +37,7 @@ pub fn decimal(atom: &[u8]) -> Option<u32>
     Some(value)
 }
 
-/// The value of a digit 0-9 or A-F.
+/// The value of a digit 0-9 or A-F; None for any other byte.
 #[tactic(auto, using(crate::proofs::Numerals::low_digit, crate::proofs::Numerals::high_digit, crate::proofs::Numerals::no_digit))]
 fn hex_digit(byte: u8) -> Option<u8>
     ensures range { IfSome result (λ d. d < 16) }
@@ -51,7 +51,7 @@ fn hex_digit(byte: u8) -> Option<u8>
     }
 }
 
-/// The value of two digits 0-9 or A-F.
+/// The value of two digits 0-9 or A-F; None if they are not.
 #[tactic(auto, using(crate::proofs::Numerals::two_hex, crate::proofs::Numerals::no_high, crate::proofs::Numerals::no_low))]
 fn hex_byte(high: u8, low: u8) -> Option<u8>
     ensures spells { IfSome result (λ n. high ∷ low ∷ [] ≡ hex_byte n) }
@@ -62,11 +62,11 @@ fn hex_byte(high: u8, low: u8) -> Option<u8>
     Some(high * 16 + low)
 }
 
-/// The value of four digits 0-9 or A-F; None where the atom is no such four.
+/// The value of four digits 0-9 or A-F; None if the atom is anything else.
 #[tactic(auto, using(crate::proofs::Numerals::four_hex, crate::proofs::Numerals::no_front, crate::proofs::Numerals::no_back, crate::proofs::Numerals::not_four))]
-pub fn hex_word(atom: &[u8]) -> Option<u16>
-    ensures spells { IfSome result (λ n. atom.now ≡ hex_word n) }
-    ensures none { result ≡ None → (n : ℕ) → n < 65536 → atom.now ≢ hex_word n }
+pub fn hex_text(atom: &[u8]) -> Option<u16>
+    ensures spells { IfSome result (λ n. atom.now ≡ hex_text n) }
+    ensures none { result ≡ None → (n : ℕ) → n < 65536 → atom.now ≢ hex_text n }
 {
     match atom {
         [a, b, c, d] => {
@@ -78,26 +78,26 @@ pub fn hex_word(atom: &[u8]) -> Option<u16>
     }
 }
 
-/// The value of two times four digits 0-9 or A-F.
+/// The value of eight digits 0-9 or A-F, given as two groups of four; None if they are not.
 #[tactic(auto, using(crate::proofs::Numerals::eight_hex, crate::proofs::Numerals::no_long_front, crate::proofs::Numerals::no_long_back))]
 fn hex_long(front: &[u8], back: &[u8]) -> Option<u32>
     ensures spells { IfSome result (λ n. front.now ++ back.now ≡ hex_long n) }
     ensures none { result ≡ None → length front.now ≡ 4 → (n : ℕ) → n < 4294967296
         → front.now ++ back.now ≢ hex_long n }
 {
-    let high = hex_word(front)?;
-    let low = hex_word(back)?;
+    let high = hex_text(front)?;
+    let low = hex_text(back)?;
     Some(u32::from(high) * 65_536 + u32::from(low))
 }
 
-/// The SId of an atom: four digits 0-9 or A-F for a short one, eight for a long one; None where it is neither.
+/// The SId of an atom: four digits 0-9 or A-F for a short one, eight for a long one; None if it is neither.
 pub fn sid(atom: &[u8]) -> Option<Sid>
     ensures range { IfSome result IsSid }
-    ensures spells { IfSome result (λ s. atom.now ≡ sid_word s) }
-    ensures none { result ≡ None → (s : Sid) → IsSid s → atom.now ≢ sid_word s }
+    ensures spells { IfSome result (λ s. atom.now ≡ sid_text s) }
+    ensures none { result ≡ None → (s : Sid) → IsSid s → atom.now ≢ sid_text s }
 {
     match atom {
-        [_, _, _, _] => Some(Sid::Short(hex_word(atom)?)),
+        [_, _, _, _] => Some(Sid::Short(hex_text(atom)?)),
         [a, b, c, d, e, f, g, h] => {
             let long = hex_long(&[*a, *b, *c, *d], &[*e, *f, *g, *h])?;
             Some(Sid::Long(long))
@@ -106,13 +106,13 @@ pub fn sid(atom: &[u8]) -> Option<Sid>
     }
 }
 
-/// The protection profile of an atom, `1-A` to `4-A` or `1-B` to `4-B`; None where it is none.
+/// The protection profile of an atom, `1-A` to `4-A` or `1-B` to `4-B`; None if it is not one.
 #[tactic(auto, using(crate::proofs::Atoms::profile_length, crate::proofs::Atoms::profile_level, crate::proofs::Atoms::profile_dash, crate::proofs::Atoms::profile_set))]
 pub fn profile(atom: &[u8]) -> Option<Protection>
     ensures range { IfSome result (λ p. (1 ≤ p.level) × (p.level ≤ 4)) }
-    ensures spells { IfSome result (λ p. atom.now ≡ profile_word p) }
+    ensures spells { IfSome result (λ p. atom.now ≡ profile_text p) }
     ensures none { result ≡ None → (p : Profile) → 1 ≤ p.level → p.level ≤ 4
-        → atom.now ≢ profile_word p }
+        → atom.now ≢ profile_text p }
 {
     match atom {
         [level, b'-', b'A'] => Protection::new(EepSet::A, level.checked_sub(b'0')?),
@@ -121,7 +121,7 @@ pub fn profile(atom: &[u8]) -> Option<Protection>
     }
 }
 
-/// The number of two decimal digits.
+/// The value of two decimal digits; None if they are not.
 #[tactic(auto, using(crate::proofs::Numerals::two_decimal, crate::proofs::Atoms::no_tens, crate::proofs::Atoms::no_ones))]
 fn two_digits(tens: u8, ones: u8) -> Option<u32>
     ensures range { IfSome result (λ n. n < 100) }
@@ -137,12 +137,12 @@ fn two_digits(tens: u8, ones: u8) -> Option<u32>
     Some(u32::from(tens - b'0') * 10 + u32::from(ones - b'0'))
 }
 
-/// The time of an atom `HH:MM:SS`, 00:00:00 to 23:59:59; None where it is none.
+/// The time of an atom `HH:MM:SS`, 00:00:00 to 23:59:59; None if it is not one.
 #[tactic(auto, using(crate::proofs::Numerals::a_time, crate::proofs::Atoms::time_length, crate::proofs::Atoms::first_colon, crate::proofs::Atoms::second_colon, crate::proofs::Atoms::no_hours, crate::proofs::Atoms::no_minutes, crate::proofs::Atoms::no_seconds, crate::proofs::Atoms::more_hours, crate::proofs::Atoms::more_minutes, crate::proofs::Atoms::more_seconds))]
 pub fn time(atom: &[u8]) -> Option<TimeOfDay>
     ensures range { IfSome result (λ t. t < 86400) }
-    ensures spells { IfSome result (λ t. atom.now ≡ time_word t) }
-    ensures none { result ≡ None → (t : ℕ) → t < 86400 → atom.now ≢ time_word t }
+    ensures spells { IfSome result (λ t. atom.now ≡ time_text t) }
+    ensures none { result ≡ None → (t : ℕ) → t < 86400 → atom.now ≢ time_text t }
 {
     match atom {
         [a, b, b':', c, d, b':', e, f] => {

@@ -1,4 +1,6 @@
-//! The tokens of a text, one after another.
+//! A reader of the tokens of a text.
+
+ghost use Rattle.std.specs.Prelude.{◌≡◌, min};
 
 use crate::fault::{Position, ScriptFault};
 use crate::first_keyword::{ItemKeyword, StatementKeyword};
@@ -6,7 +8,7 @@ use crate::keyword::Keyword;
 use crate::token::Token;
 use std::marker::Model;
 
-/// What is left of the tokens of a text.
+/// The remaining tokens of a text.
 #[derive(Drop)]
 pub struct Reader<'a> {
     text: &'a [u8],
@@ -16,13 +18,13 @@ pub struct Reader<'a> {
 
 impl<'a> Model for Reader<'a> {
     ghost use Rattle.std.specs.Prelude.{ℕ, List, length};
-    ghost use Rattle.script_tokens.specs.Reading.{Input, words_of, lines_of, AreWithin, AreLastOf};
+    ghost use Rattle.script_tokens.specs.Reading.{Input, lexemes_of, shown_lines, AreWithin, AreLastOf};
 
     ghost Value = { Input };
 
     ghost view = { λ r. record {
-      words = words_of r.text.now r.tokens.now;
-      lines = lines_of r.all.now;
+      lexemes = lexemes_of r.text.now r.tokens.now;
+      lines = shown_lines r.all.now;
     } };
 
     ghost invariant = { λ r. AreWithin (length r.text.now) r.tokens.now
@@ -31,27 +33,36 @@ impl<'a> Model for Reader<'a> {
 }
 
 impl<'a> Reader<'a> {
-    ghost use Rattle.std.specs.Prelude.{◌≡◌, ◌≢◌, ℕ, ◌<◌, length, drop, List, [], ◌∷◌, MatchOption, IsSome, IfSome, None, Some, true, false, IfOk, OnOk, OnErr};
-    ghost use Rattle.script_tokens.specs.Reading.{words_of, lines_of, line_of_left, line_of, AreWithin, BeginsWith, Passes};
-    ghost use Rattle.script_tokens.specs.Words.{letters, begins_item, begins_statement};
+    ghost use Rattle.std.specs.Prelude.{◌≡◌, ◌≢◌, ◌↔◌, ℕ, ◌<◌, length, drop, List, [], ◌∷◌, IsTrue, MatchOption, IsSome, IfSome, None, Some, true, false, IfOk, IfErr, OnOk, OnErr};
+    ghost use Rattle.script_tokens.specs.Reading.{lexemes_of, lines_of, shown_lines, line_of_left, line_of, AreWithin, AreOnScriptLines, BeginsWith, Passes};
+    ghost use Rattle.script_tokens.specs.Keywords.{letters, begins_item, begins_statement};
     ghost use Rattle.script_tokens.specs.First.{item_keyword, statement_keyword};
     ghost use Rattle.script_tokens.specs.Texts.{AreLetters};
+    ghost use Rattle.script_tokens.specs.declared.fault.ScriptFault.TheVariants.{Memory};
     ghost use Rattle.script_tokens.specs.declared.keyword.Keyword.{Keyword};
 
-    /// A reader of these tokens of a text.
+    /// A reader at the first of these tokens of a text.
+    #[tactic(auto, using(crate::proofs::Ending::shown_are))]
     pub fn new(text: &'a [u8], tokens: &'a [Token]) -> Self
         requires { AreWithin (length text.now) tokens.now }
-        ensures { result ≡ record {
-          words = words_of text.now tokens.now;
-          lines = lines_of
-              tokens.now;
+        ensures reads { result ≡ record {
+          lexemes = lexemes_of text.now tokens.now;
+          lines = shown_lines tokens.now;
         } }
+        ensures lines { AreOnScriptLines tokens.now → result.lines ≡ lines_of tokens.now }
     {
         Reader {
             text,
             all: tokens,
             tokens,
         }
+    }
+
+    /// Whether no token is left.
+    pub fn is_empty(&self) -> bool
+        ensures { IsTrue result ↔ (self.now.lexemes ≡ []) }
+    {
+        self.peek().is_none()
     }
 
     /// The position of the next token, or just past the text.
@@ -62,29 +73,30 @@ impl<'a> Reader<'a> {
         }
     }
 
-    /// The line of the next token; 0 where none is left.
+    /// The line of the next token, at most 65,535, the last line of a script; 0 where no token is left.
     pub fn line(&self) -> u16
-        ensures { 0 < length self.now.words → result ≡ line_of self.now.lines self.now.words }
+        ensures { 0 < length self.now.lexemes → result ≡ line_of self.now.lines self.now.lexemes }
     {
         match self.tokens.first() {
             None => 0,
-            Some(first) => first.position.line as u16,
+            Some(first) => shown_line(*first),
         }
     }
 
-    /// The line of the last token of the text; 0 where it has none.
+    /// The line of the last token of the text, at most 65,535, the last line of a script; 0 where the text has no
+    /// token.
     pub fn last_line(&self) -> u16
         ensures { result ≡ line_of_left self.now.lines 1 }
     {
         match self.all.last() {
             None => 0,
-            Some(last) => last.position.line as u16,
+            Some(last) => shown_line(*last),
         }
     }
 
-    /// The bytes of the next token.
+    /// The bytes of the next token; None where no token is left.
     pub fn peek(&self) -> Option<&'a [u8]>
-        ensures { MatchOption result (self.now.words ≡ []) (λ w. BeginsWith self.now.words w.now) }
+        ensures { MatchOption result (self.now.lexemes ≡ []) (λ w. BeginsWith self.now.lexemes w.now) }
     {
         match self.tokens.first() {
             None => None,
@@ -92,11 +104,11 @@ impl<'a> Reader<'a> {
         }
     }
 
-    /// Passes over the next token.
+    /// Advances past the next token, if there is one.
     pub fn advance(&mut self)
-        ensures words { self.new.words ≡ drop 1 self.old.words }
+        ensures lexemes { self.new.lexemes ≡ drop 1 self.old.lexemes }
         ensures lines { self.new.lines ≡ self.old.lines }
-        ensures passes { (word : List ℕ) → BeginsWith self.old.words word → Passes (word ∷ [])
+        ensures passes { (word : List ℕ) → BeginsWith self.old.lexemes word → Passes (word ∷ [])
             self.old self.new }
     {
         if let Some((_first, rest)) = self.tokens.split_first() {
@@ -104,13 +116,13 @@ impl<'a> Reader<'a> {
         }
     }
 
-    /// The next token, where it is a keyword or a brace.
+    /// The next token, if it is a keyword or a brace.
     pub fn keyword(&self) -> Option<Keyword>
-        ensures some { IsSome result → 0 < length self.now.words }
-        ensures begins { IfSome result (λ k. BeginsWith self.now.words (letters k)) }
+        ensures some { IsSome result → 0 < length self.now.lexemes }
+        ensures begins { IfSome result (λ k. BeginsWith self.now.lexemes (letters k)) }
         ensures none { result ≡ None → (k : Keyword) (rest : List (List ℕ))
-            → self.now.words ≢ letters k ∷ rest }
-        ensures is { (k : Keyword) (rest : List (List ℕ)) → self.now.words ≡ letters k ∷ rest
+            → self.now.lexemes ≢ letters k ∷ rest }
+        ensures is { (k : Keyword) (rest : List (List ℕ)) → self.now.lexemes ≡ letters k ∷ rest
             → result ≡ Some k }
     {
         match self.peek() {
@@ -119,13 +131,13 @@ impl<'a> Reader<'a> {
         }
     }
 
-    /// The next token, where it is a keyword with which a statement begins.
+    /// The next token, if it is a keyword that begins a statement.
     pub fn statement_keyword(&self) -> Option<StatementKeyword>
-        ensures some { IsSome result → 0 < length self.now.words }
-        ensures begins { IfSome result (λ k. BeginsWith self.now.words (letters (statement_keyword
+        ensures some { IsSome result → 0 < length self.now.lexemes }
+        ensures begins { IfSome result (λ k. BeginsWith self.now.lexemes (letters (statement_keyword
             k))) }
         ensures none { result ≡ None → (k : Keyword) (rest : List (List ℕ))
-            → begins_statement k ≡ true → self.now.words ≢ letters k ∷ rest }
+            → begins_statement k ≡ true → self.now.lexemes ≢ letters k ∷ rest }
     {
         match self.keyword() {
             None => None,
@@ -133,12 +145,12 @@ impl<'a> Reader<'a> {
         }
     }
 
-    /// The next token, where it is a keyword with which an item begins.
+    /// The next token, if it is a keyword that begins an item.
     pub fn item_keyword(&self) -> Option<ItemKeyword>
-        ensures some { IsSome result → 0 < length self.now.words }
-        ensures begins { IfSome result (λ k. BeginsWith self.now.words (letters (item_keyword k))) }
+        ensures some { IsSome result → 0 < length self.now.lexemes }
+        ensures begins { IfSome result (λ k. BeginsWith self.now.lexemes (letters (item_keyword k))) }
         ensures none { result ≡ None → (k : Keyword) (rest : List (List ℕ))
-            → begins_item k ≡ true → self.now.words ≢ letters k ∷ rest }
+            → begins_item k ≡ true → self.now.lexemes ≢ letters k ∷ rest }
     {
         match self.statement_keyword() {
             None => None,
@@ -146,11 +158,11 @@ impl<'a> Reader<'a> {
         }
     }
 
-    /// Whether this keyword is next.
+    /// Whether the next token is this keyword.
     pub fn is_next(&self, keyword: Keyword) -> bool
-        ensures some { result ≡ true → 0 < length self.now.words }
-        ensures begins { result ≡ true → BeginsWith self.now.words (letters keyword) }
-        ensures none { result ≡ false → (rest : List (List ℕ)) → self.now.words ≢ letters keyword ∷
+        ensures some { result ≡ true → 0 < length self.now.lexemes }
+        ensures begins { result ≡ true → BeginsWith self.now.lexemes (letters keyword) }
+        ensures none { result ≡ false → (rest : List (List ℕ)) → self.now.lexemes ≢ letters keyword ∷
             rest }
     {
         match self.keyword() {
@@ -159,17 +171,18 @@ impl<'a> Reader<'a> {
         }
     }
 
-    /// The next token, where it is an atom.
+    /// The next token, if it is an atom; the reader does not advance.
     ///
     /// # Errors
     ///
-    /// `Expected` where it is a brace, or no token is left.
+    /// `Expected` if it is a brace, or no token is left.
     #[tactic(auto, using(crate::proofs::Braces::no_open, crate::proofs::Braces::no_close))]
     pub fn atom(&self) -> Result<&'a [u8], ScriptFault>
-        ensures some { OnOk result (0 < length self.now.words) }
-        ensures begins { IfOk result (λ w. BeginsWith self.now.words w.now) }
+        ensures some { OnOk result (0 < length self.now.lexemes) }
+        ensures begins { IfOk result (λ w. BeginsWith self.now.lexemes w.now) }
         ensures none { OnErr result ((w : List ℕ) (rest : List (List ℕ)) → AreLetters w
-            → self.now.words ≢ w ∷ rest) }
+            → self.now.lexemes ≢ w ∷ rest) }
+        ensures named { IfErr result (λ e. e ≢ Memory) }
     {
         match self.peek() {
             None => Err(self.expected()),
@@ -179,26 +192,31 @@ impl<'a> Reader<'a> {
         }
     }
 
-    /// The fault of an atom that is no value in range.
-    pub fn no_number(&self) -> ScriptFault {
+    /// The fault for an atom that is not the required value in range.
+    pub fn no_number(&self) -> ScriptFault
+        ensures { result ≢ Memory }
+    {
         ScriptFault::Number(self.position())
     }
 
-    /// The fault of a wrong token, or of the end.
-    pub fn expected(&self) -> ScriptFault {
+    /// The fault for a wrong token, or for the end of the text.
+    pub fn expected(&self) -> ScriptFault
+        ensures { result ≢ Memory }
+    {
         ScriptFault::Expected(self.position())
     }
 
-    /// Passes over this keyword.
+    /// Advances past the next token, which must be this keyword.
     ///
     /// # Errors
     ///
-    /// `Expected` where it is not next.
+    /// `Expected` if it is not.
     pub fn expect(&mut self, keyword: Keyword) -> Result<(), ScriptFault>
         ensures spells { OnOk result (Passes (letters keyword ∷ []) self.old self.new) }
-        ensures none { OnErr result ((rest : List (List ℕ)) → self.old.words ≢ letters keyword ∷
+        ensures none { OnErr result ((rest : List (List ℕ)) → self.old.lexemes ≢ letters keyword ∷
             rest) }
-        ensures shorter { OnOk result (length self.new.words < length self.old.words) }
+        ensures shorter { OnOk result (length self.new.lexemes < length self.old.lexemes) }
+        ensures named { IfErr result (λ e. e ≢ Memory) }
     {
         if !self.is_next(keyword) {
             return Err(self.expected());
@@ -206,4 +224,11 @@ impl<'a> Reader<'a> {
         self.advance();
         Ok(())
     }
+}
+
+/// The line of a token, at most 65,535, the last line of a script.
+fn shown_line(token: Token) -> u16
+    ensures { result ≡ min token.position.line 65535 }
+{
+    token.position.line.min(65_535) as u16
 }

@@ -1,4 +1,4 @@
-//! Times of the day as a script writes them.
+//! Times of day as written in scripts.
 
 ghost use Rattle.std.specs.Prelude.{◌≡◌, ◌*◌, ◌/◌, ◌<◌, ◌↔◌, IsSome, IfSome};
 ghost use Rattle.script_tokens.specs.Times.{frame_at};
@@ -6,7 +6,7 @@ ghost use Rattle.script_tokens.specs.Times.{frame_at};
 use plan_code::DayFrame;
 use std::marker::Model;
 
-/// A time of the day in whole seconds, 0 to 86,399, written `HH:MM:SS`.
+/// A time of day in whole seconds, 0 to 86,399, written `HH:MM:SS`.
 #[derive(Clone, Copy, Debug, PartialEq, Eq, PartialOrd, Ord)]
 pub struct TimeOfDay {
     seconds: u32,
@@ -25,7 +25,7 @@ impl Model for TimeOfDay {
 }
 
 impl TimeOfDay {
-    /// The time this many seconds after midnight; None where the day has ended by then.
+    /// The time this many seconds after midnight; None from 86,400 on.
     pub fn new(seconds: u32) -> Option<TimeOfDay>
         ensures in_range { IsSome result ↔ (seconds < 86400) }
         ensures value { IfSome result (λ t. t ≡ seconds) }
@@ -45,8 +45,8 @@ impl TimeOfDay {
         self.seconds
     }
 
-    /// The first frame of the day that begins at this time or after it: a frame has 24 ms, so that three
-    /// seconds have 125 of them.
+    /// The first frame of the day that begins at this time or after it. A frame takes 24 ms, so there are 125 frames in
+    /// three seconds.
     pub fn frame(self) -> DayFrame
         ensures { result ≡ frame_at self }
     {

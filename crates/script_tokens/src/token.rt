@@ -1,8 +1,8 @@
-//! Tokens, and the states of the lexer.
+//! Tokens, their limits, and the states of the lexer.
 
 use crate::fault::Position;
 
-/// A token of a text: the bytes from `start` to before `end`, and the position of its first byte.
+/// A token of a text: the bytes from `start` to `end`, exclusive, and the position of the first byte.
 #[derive(Clone, Copy, Debug, PartialEq, Eq)]
 pub struct Token {
     pub start: usize,
@@ -13,7 +13,7 @@ pub struct Token {
 /// The limits on the tokens of a text.
 #[derive(Clone, Copy, Debug, PartialEq, Eq)]
 pub struct Limits {
-    /// The most bytes of an atom.
+    /// The maximum length of an atom in bytes.
     pub atom: usize,
     /// The last line on which a token may begin.
     pub line: usize,
@@ -31,10 +31,10 @@ pub const NO_LIMITS: Limits = Limits {
     line: usize::MAX,
 };
 
-/// The most bytes of a script.
+/// The maximum length of a script in bytes.
 pub const MOST_BYTES: usize = 1_048_576;
 
-/// What a byte is to the lexer.
+/// The kind of a byte.
 #[derive(Clone, Copy, Debug, PartialEq, Eq)]
 pub enum Kind {
     /// Space, tab, carriage return or `;`.
@@ -51,20 +51,20 @@ pub enum Kind {
     Bad,
 }
 
-/// A point of a text: its offset in bytes, and its position.
+/// A byte offset in a text, with its line and column.
 #[derive(Clone, Copy, Debug, PartialEq, Eq)]
 pub struct Place {
     pub at: usize,
     pub position: Position,
 }
 
-/// The state of the lexer: what the bytes so far have begun.
+/// The state of the lexer between two bytes.
 #[derive(Clone, Copy, Debug, PartialEq, Eq)]
 pub enum Inside {
     /// Neither an atom nor a comment.
     Nothing,
     /// A comment.
     Comment,
-    /// An atom that began at this point.
+    /// An atom, which begins here.
     Atom(Place),
 }

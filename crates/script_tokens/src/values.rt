@@ -1,18 +1,20 @@
 //! Reading values: numbers in their ranges, identifiers, profiles and times.
 //!
-//! Each call passes over what it reads. If an atom is next that is no such value, the fault is `Number` at that atom; if
-//! a brace or the end of the text is next, `Expected`.
+//! Each function but `name` advances past the token that it reads. Unless a function says otherwise, the fault is
+//! `Number` where the next token is an atom that is not such a value, and `Expected` where it is a brace or the text
+//! has ended.
 
-ghost use Rattle.std.specs.Prelude.{◌≡◌, ℕ, ◌∷◌, ◌<◌, ◌≤◌, [], length, List, ◌≢◌, IfOk, OnOk, OnErr};
+ghost use Rattle.std.specs.Prelude.{◌≡◌, ℕ, ◌∷◌, ◌<◌, ◌≤◌, [], length, List, ◌≢◌, Bool, IfOk, IfErr, OnOk, OnErr};
 ghost use Rattle.mux_types.specs.declared.numbers.Sid.{Sid};
 ghost use Rattle.mux_eep.specs.Sizes.{Profile};
 ghost use Rattle.std.specs.Fmt.{decimal};
+ghost use Rattle.script_tokens.specs.declared.fault.ScriptFault.TheVariants.{Memory};
 ghost use Rattle.script_tokens.specs.Reading.{Passes, BeginsWith};
-ghost use Rattle.script_tokens.specs.Spelling.{hex_word, sid_word, profile_word, time_word};
+ghost use Rattle.script_tokens.specs.Spelling.{hex_text, sid_text, profile_text, level_text, time_text};
 ghost use Rattle.mux_config.specs.Configuration.{IsSid};
 ghost use Rattle.std.specs.Prelude.{true, false};
 ghost use Rattle.std.specs.List.{list_all};
-ghost use Rattle.script_tokens.specs.Words.{IsName, has_name_letters, is_name_byte};
+ghost use Rattle.script_tokens.specs.Keywords.{IsName, has_name_letters, is_name_byte};
 
 use crate::fault::ScriptFault;
 use crate::keyword::Keyword;
@@ -29,9 +31,10 @@ pub fn decimal(reader: &mut Reader, low: u32, high: u32) -> Result<u32, ScriptFa
     ensures spells { IfOk result (λ n. Passes (decimal n ∷ []) reader.old reader.new) }
     ensures none { OnErr result ((n : ℕ) (rest : List (List ℕ)) → low ≤ n → n ≤ high → n <
         1000000000
-        → reader.old.words ≢ decimal n ∷ rest) }
+        → reader.old.lexemes ≢ decimal n ∷ rest) }
     ensures range { IfOk result (λ n. (low ≤ n) × (n ≤ high)) }
-    ensures shorter { OnOk result (length reader.new.words < length reader.old.words) }
+    ensures shorter { OnOk result (length reader.new.lexemes < length reader.old.lexemes) }
+    ensures named { IfErr result (λ e. e ≢ Memory) }
 {
     let atom = reader.atom()?;
     let Some(value) = number::decimal(atom) else {
@@ -48,11 +51,11 @@ pub fn decimal(reader: &mut Reader, low: u32, high: u32) -> Result<u32, ScriptFa
 }
 
 /// A decimal from 0 to 65,535.
-pub fn word(reader: &mut Reader) -> Result<u16, ScriptFault>
+pub fn any_u16(reader: &mut Reader) -> Result<u16, ScriptFault>
     ensures spells { IfOk result (λ n. Passes (decimal n ∷ []) reader.old reader.new) }
     ensures none { OnErr result ((n : ℕ) (rest : List (List ℕ)) → n < 65536
-        → reader.old.words ≢ decimal n ∷ rest) }
-    ensures shorter { OnOk result (length reader.new.words < length reader.old.words) }
+        → reader.old.lexemes ≢ decimal n ∷ rest) }
+    ensures shorter { OnOk result (length reader.new.lexemes < length reader.old.lexemes) }
 {
     let value = decimal(reader, 0, 65_535)?;
     Ok(value as u16)
@@ -62,9 +65,9 @@ pub fn word(reader: &mut Reader) -> Result<u16, ScriptFault>
 pub fn sub_id(reader: &mut Reader) -> Result<SubId, ScriptFault>
     ensures spells { IfOk result (λ n. Passes (decimal n ∷ []) reader.old reader.new) }
     ensures none { OnErr result ((n : ℕ) (rest : List (List ℕ)) → n < 64
-        → reader.old.words ≢ decimal n ∷ rest) }
+        → reader.old.lexemes ≢ decimal n ∷ rest) }
     ensures range { IfOk result (λ s. s < 64) }
-    ensures shorter { OnOk result (length reader.new.words < length reader.old.words) }
+    ensures shorter { OnOk result (length reader.new.lexemes < length reader.old.lexemes) }
 {
     let value = decimal(reader, 0, 63)?;
     match SubId::new(value as u8) {
@@ -73,13 +76,13 @@ pub fn sub_id(reader: &mut Reader) -> Result<SubId, ScriptFault>
     }
 }
 
-/// A SCId, 0 to 4095.
+/// An SCId, 0 to 4095.
 pub fn sc_id(reader: &mut Reader) -> Result<ScId, ScriptFault>
     ensures spells { IfOk result (λ n. Passes (decimal n ∷ []) reader.old reader.new) }
     ensures none { OnErr result ((n : ℕ) (rest : List (List ℕ)) → n < 4096
-        → reader.old.words ≢ decimal n ∷ rest) }
+        → reader.old.lexemes ≢ decimal n ∷ rest) }
     ensures range { IfOk result (λ s. s < 4096) }
-    ensures shorter { OnOk result (length reader.new.words < length reader.old.words) }
+    ensures shorter { OnOk result (length reader.new.lexemes < length reader.old.lexemes) }
 {
     let value = decimal(reader, 0, 4095)?;
     match ScId::new(value as u16) {
@@ -88,13 +91,13 @@ pub fn sc_id(reader: &mut Reader) -> Result<ScId, ScriptFault>
     }
 }
 
-/// A type, 0 to 63.
+/// A component type (ASCTy or DSCTy), 0 to 63.
 pub fn sc_ty(reader: &mut Reader) -> Result<ScTy, ScriptFault>
     ensures spells { IfOk result (λ n. Passes (decimal n ∷ []) reader.old reader.new) }
     ensures none { OnErr result ((n : ℕ) (rest : List (List ℕ)) → n < 64
-        → reader.old.words ≢ decimal n ∷ rest) }
+        → reader.old.lexemes ≢ decimal n ∷ rest) }
     ensures range { IfOk result (λ t. t < 64) }
-    ensures shorter { OnOk result (length reader.new.words < length reader.old.words) }
+    ensures shorter { OnOk result (length reader.new.lexemes < length reader.old.lexemes) }
 {
     let value = decimal(reader, 0, 63)?;
     match ScTy::new(value as u8) {
@@ -107,9 +110,9 @@ pub fn sc_ty(reader: &mut Reader) -> Result<ScTy, ScriptFault>
 pub fn start(reader: &mut Reader) -> Result<StartAddress, ScriptFault>
     ensures spells { IfOk result (λ n. Passes (decimal n ∷ []) reader.old reader.new) }
     ensures none { OnErr result ((n : ℕ) (rest : List (List ℕ)) → n < 1024
-        → reader.old.words ≢ decimal n ∷ rest) }
+        → reader.old.lexemes ≢ decimal n ∷ rest) }
     ensures range { IfOk result (λ s. s < 1024) }
-    ensures shorter { OnOk result (length reader.new.words < length reader.old.words) }
+    ensures shorter { OnOk result (length reader.new.lexemes < length reader.old.lexemes) }
 {
     let value = decimal(reader, 0, 1023)?;
     match StartAddress::new(value as u16) {
@@ -122,9 +125,10 @@ pub fn start(reader: &mut Reader) -> Result<StartAddress, ScriptFault>
 pub fn contact(reader: &mut Reader) -> Result<ContactId, ScriptFault>
     ensures spells { IfOk result (λ n. Passes (decimal n ∷ []) reader.old reader.new) }
     ensures none { OnErr result ((n : ℕ) (rest : List (List ℕ)) → n < 16
-        → reader.old.words ≢ decimal n ∷ rest) }
+        → reader.old.lexemes ≢ decimal n ∷ rest) }
     ensures range { IfOk result (λ c. c < 16) }
-    ensures shorter { OnOk result (length reader.new.words < length reader.old.words) }
+    ensures shorter { OnOk result (length reader.new.lexemes < length reader.old.lexemes) }
+    ensures named { IfErr result (λ e. e ≢ Memory) }
 {
     let value = decimal(reader, 0, 15)?;
     match ContactId::new(value as u8) {
@@ -133,13 +137,33 @@ pub fn contact(reader: &mut Reader) -> Result<ContactId, ScriptFault>
     }
 }
 
+/// The level of a contact, `closed` or `open`: whether it is closed.
+///
+/// # Errors
+///
+/// `Expected` where the next token is neither.
+pub fn level(reader: &mut Reader) -> Result<bool, ScriptFault>
+    ensures spells { IfOk result (λ closed. Passes (level_text closed ∷ []) reader.old reader.new) }
+    ensures none { OnErr result ((closed : Bool) (rest : List (List ℕ))
+        → reader.old.lexemes ≢ level_text closed ∷ rest) }
+    ensures shorter { OnOk result (length reader.new.lexemes < length reader.old.lexemes) }
+    ensures named { IfErr result (λ e. e ≢ Memory) }
+{
+    if reader.is_next(Keyword::Closed) {
+        reader.advance();
+        return Ok(true);
+    }
+    reader.expect(Keyword::Open)?;
+    Ok(false)
+}
+
 /// A number of frames to wait, 1 to 65,535.
 pub fn frames(reader: &mut Reader) -> Result<Frames, ScriptFault>
     ensures spells { IfOk result (λ n. Passes (decimal n ∷ []) reader.old reader.new) }
     ensures none { OnErr result ((n : ℕ) (rest : List (List ℕ)) → 1 ≤ n → n < 65536
-        → reader.old.words ≢ decimal n ∷ rest) }
+        → reader.old.lexemes ≢ decimal n ∷ rest) }
     ensures range { IfOk result (λ f. (1 ≤ f) × (f < 65536)) }
-    ensures shorter { OnOk result (length reader.new.words < length reader.old.words) }
+    ensures shorter { OnOk result (length reader.new.lexemes < length reader.old.lexemes) }
 {
     let value = decimal(reader, 1, 65_535)?;
     match Frames::new(value as u16) {
@@ -148,13 +172,13 @@ pub fn frames(reader: &mut Reader) -> Result<Frames, ScriptFault>
     }
 }
 
-/// A number of times, 1 to 65,535.
+/// The number of times that a loop repeats, 1 to 65,535.
 pub fn times(reader: &mut Reader) -> Result<Times, ScriptFault>
     ensures spells { IfOk result (λ n. Passes (decimal n ∷ []) reader.old reader.new) }
     ensures none { OnErr result ((n : ℕ) (rest : List (List ℕ)) → 1 ≤ n → n < 65536
-        → reader.old.words ≢ decimal n ∷ rest) }
+        → reader.old.lexemes ≢ decimal n ∷ rest) }
     ensures range { IfOk result (λ t. (1 ≤ t) × (t < 65536)) }
-    ensures shorter { OnOk result (length reader.new.words < length reader.old.words) }
+    ensures shorter { OnOk result (length reader.new.lexemes < length reader.old.lexemes) }
 {
     let value = decimal(reader, 1, 65_535)?;
     match Times::new(value as u16) {
@@ -163,13 +187,13 @@ pub fn times(reader: &mut Reader) -> Result<Times, ScriptFault>
     }
 }
 
-/// A delay of a swap in frames, 1 to 60,000.
+/// The delay of a swap in frames, 1 to 60,000.
 pub fn delay(reader: &mut Reader) -> Result<Delay, ScriptFault>
     ensures spells { IfOk result (λ n. Passes (decimal n ∷ []) reader.old reader.new) }
     ensures none { OnErr result ((n : ℕ) (rest : List (List ℕ)) → 1 ≤ n → n ≤ 60000
-        → reader.old.words ≢ decimal n ∷ rest) }
+        → reader.old.lexemes ≢ decimal n ∷ rest) }
     ensures range { IfOk result (λ d. (1 ≤ d) × (d ≤ 60000)) }
-    ensures shorter { OnOk result (length reader.new.words < length reader.old.words) }
+    ensures shorter { OnOk result (length reader.new.lexemes < length reader.old.lexemes) }
 {
     let value = decimal(reader, 1, 60_000)?;
     match Delay::new(value as u16) {
@@ -181,13 +205,13 @@ pub fn delay(reader: &mut Reader) -> Result<Delay, ScriptFault>
 /// An EId: four digits 0-9 or A-F.
 #[tactic(auto, using(crate::proofs::Wording::hex_letters))]
 pub fn eid(reader: &mut Reader) -> Result<u16, ScriptFault>
-    ensures spells { IfOk result (λ n. Passes (hex_word n ∷ []) reader.old reader.new) }
+    ensures spells { IfOk result (λ n. Passes (hex_text n ∷ []) reader.old reader.new) }
     ensures none { OnErr result ((n : ℕ) (rest : List (List ℕ)) → n < 65536
-        → reader.old.words ≢ hex_word n ∷ rest) }
-    ensures shorter { OnOk result (length reader.new.words < length reader.old.words) }
+        → reader.old.lexemes ≢ hex_text n ∷ rest) }
+    ensures shorter { OnOk result (length reader.new.lexemes < length reader.old.lexemes) }
 {
     let atom = reader.atom()?;
-    match number::hex_word(atom) {
+    match number::hex_text(atom) {
         Some(eid) => {
             reader.advance();
             Ok(eid)
@@ -199,11 +223,11 @@ pub fn eid(reader: &mut Reader) -> Result<u16, ScriptFault>
 /// An SId: four digits 0-9 or A-F for a short one, eight for a long one.
 #[tactic(auto, using(crate::proofs::Wording::sid_letters))]
 pub fn sid(reader: &mut Reader) -> Result<Sid, ScriptFault>
-    ensures spells { IfOk result (λ s. Passes (sid_word s ∷ []) reader.old reader.new) }
+    ensures spells { IfOk result (λ s. Passes (sid_text s ∷ []) reader.old reader.new) }
     ensures none { OnErr result ((n : Sid) (rest : List (List ℕ)) → IsSid n
-        → reader.old.words ≢ sid_word n ∷ rest) }
+        → reader.old.lexemes ≢ sid_text n ∷ rest) }
     ensures range { IfOk result IsSid }
-    ensures shorter { OnOk result (length reader.new.words < length reader.old.words) }
+    ensures shorter { OnOk result (length reader.new.lexemes < length reader.old.lexemes) }
 {
     let atom = reader.atom()?;
     match number::sid(atom) {
@@ -218,11 +242,11 @@ pub fn sid(reader: &mut Reader) -> Result<Sid, ScriptFault>
 /// A protection profile, `1-A` to `4-A` or `1-B` to `4-B`.
 #[tactic(auto, using(crate::proofs::Wording::profile_letters))]
 pub fn profile(reader: &mut Reader) -> Result<Protection, ScriptFault>
-    ensures spells { IfOk result (λ p. Passes (profile_word p ∷ []) reader.old reader.new) }
+    ensures spells { IfOk result (λ p. Passes (profile_text p ∷ []) reader.old reader.new) }
     ensures none { OnErr result ((n : Profile) (rest : List (List ℕ)) → 1 ≤ n.level → n.level ≤ 4
-        → reader.old.words ≢ profile_word n ∷ rest) }
+        → reader.old.lexemes ≢ profile_text n ∷ rest) }
     ensures range { IfOk result (λ p. (1 ≤ p.level) × (p.level ≤ 4)) }
-    ensures shorter { OnOk result (length reader.new.words < length reader.old.words) }
+    ensures shorter { OnOk result (length reader.new.lexemes < length reader.old.lexemes) }
 {
     let atom = reader.atom()?;
     match number::profile(atom) {
@@ -234,14 +258,14 @@ pub fn profile(reader: &mut Reader) -> Result<Protection, ScriptFault>
     }
 }
 
-/// A time of the day, 00:00:00 to 23:59:59.
+/// A time of day, 00:00:00 to 23:59:59.
 #[tactic(auto, using(crate::proofs::Wording::time_letters))]
 pub fn time(reader: &mut Reader) -> Result<TimeOfDay, ScriptFault>
-    ensures spells { IfOk result (λ t. Passes (time_word t ∷ []) reader.old reader.new) }
+    ensures spells { IfOk result (λ t. Passes (time_text t ∷ []) reader.old reader.new) }
     ensures none { OnErr result ((n : ℕ) (rest : List (List ℕ)) → n < 86400
-        → reader.old.words ≢ time_word n ∷ rest) }
+        → reader.old.lexemes ≢ time_text n ∷ rest) }
     ensures range { IfOk result (λ t. t < 86400) }
-    ensures shorter { OnOk result (length reader.new.words < length reader.old.words) }
+    ensures shorter { OnOk result (length reader.new.lexemes < length reader.old.lexemes) }
 {
     let atom = reader.atom()?;
     match number::time(atom) {
@@ -253,17 +277,18 @@ pub fn time(reader: &mut Reader) -> Result<TimeOfDay, ScriptFault>
     }
 }
 
-/// The name of a block, which is not passed over.
+/// The name of a block; the reader does not advance.
 ///
 /// # Errors
 ///
-/// `Expected` where no atom is next, or one that is ill formed or a keyword.
+/// `Expected` where the next token is not a name: a brace, an ill-formed atom or a keyword; or where the text has
+/// ended.
 pub fn name<'a>(reader: &Reader<'a>) -> Result<&'a str, ScriptFault>
     ensures formed { IfOk result (λ s. IsName s.now) }
-    ensures begins { IfOk result (λ s. BeginsWith reader.now.words s.now) }
-    ensures some { OnOk result (0 < length reader.now.words) }
+    ensures begins { IfOk result (λ s. BeginsWith reader.now.lexemes s.now) }
+    ensures some { OnOk result (0 < length reader.now.lexemes) }
     ensures none { OnErr result ((name : List ℕ) (rest : List (List ℕ)) → IsName name
-        → reader.now.words ≢ name ∷ rest) }
+        → reader.now.lexemes ≢ name ∷ rest) }
 {
     let atom = reader.atom()?;
     if !is_name(atom) {
@@ -275,7 +300,7 @@ pub fn name<'a>(reader: &Reader<'a>) -> Result<&'a str, ScriptFault>
     }
 }
 
-/// Whether a block may have this name.
+/// Whether an atom can be the name of a block.
 fn is_name(atom: &[u8]) -> bool
     ensures formed { result ≡ true → IsName atom.now }
     ensures none { result ≡ false → IsName atom.now → ⊥ }

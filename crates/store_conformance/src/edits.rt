@@ -1,4 +1,4 @@
-//! Edits of full sets: the faults in their order, that nothing changes at one, and that the twins do the same.
+//! Tests edits of full sets: the order of their faults, that a fault changes nothing, and the `_known` twins.
 
 use crate::parts::{
     add_component, add_sub, carried, drop_component, holds, move_sub, packet, rate_sub, sc_id,
@@ -7,9 +7,9 @@ use crate::parts::{
 use mux_config::{Carrier, Edit, EditFault, Sid, Store};
 use std::test::Fail;
 
-/// Sub-channels 0 to 63 of 4-A 8 kbit/s, one after the other, from capacity unit 0 on; the services with the
-/// 16-bit SIds 0 to 62, the first with 12 components, and the 32-bit SId 1, with 11; and the packet components
-/// 0 to 63.
+/// A store with sub-channels 0 to 63 at 4-A and 8 kbit/s, one after the other from capacity unit 0; the services with
+/// the 16-bit SIds 0 to 62, the first with 12 components, and with the 32-bit SId 1, with 11; and the packet
+/// components 0 to 63.
 pub fn full<S: Store>() -> Result<S, Fail> {
     let mut store = S::empty();
     for k in 0u8..64 {
@@ -28,7 +28,7 @@ pub fn full<S: Store>() -> Result<S, Fail> {
     Ok(store)
 }
 
-/// Each edit is refused with its fault, and leaves everything as it was.
+/// Each edit is refused with its fault, and changes nothing.
 fn refuses<S: Store>(store: &mut S, rows: &[(Edit, EditFault)]) -> Result<(), Fail> {
     let mut before = S::empty();
     before.copy_from(store);
@@ -109,7 +109,7 @@ pub fn faults_of_sub_channels<S: Store>() -> Result<(), Fail> {
     Ok(())
 }
 
-/// The edit, and its twin for a caller who knows that no fault holds, do the same.
+/// The edit has the same effect as its twin for a caller that knows that there is no fault.
 fn edits_alike<S: Store>(full: &S, edit: Edit) -> Result<(), Fail> {
     let mut edited = S::empty();
     let mut known = S::empty();
@@ -124,7 +124,7 @@ fn edits_alike<S: Store>(full: &S, edit: Edit) -> Result<(), Fail> {
     holds(!known.same(full), format_args!("a change by {edit:?}"))
 }
 
-/// Each edit and its twin do the same.
+/// Each edit and its twin have the same effect.
 pub fn twins<S: Store>() -> Result<(), Fail> {
     let mut store: S = full()?;
     let drops = [

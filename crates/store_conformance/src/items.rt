@@ -1,12 +1,12 @@
-//! The members of each set in their order, and copies.
+//! Tests the order of the members of each set, and copies.
 
 use crate::edits::full;
 use crate::parts::{holds, packet, sc_id, sound, sub, sub_id};
 use mux_config::{Config, Sid, Store};
 use std::test::Fail;
 
-/// The members of each set stand in ascending order of SubChId, SId (16-bit ones first) and SCId, however they
-/// came, and are found by these.
+/// The members of each set are in ascending order of SubChId, SId (16-bit ones first) and SCId, in whatever order they
+/// were added, and are found by these.
 pub fn members<S: Store>() -> Result<(), Fail> {
     let mut store = S::empty();
     for id in [9u8, 3, 63, 0] {
@@ -45,7 +45,7 @@ pub fn members<S: Store>() -> Result<(), Fail> {
     Ok(())
 }
 
-/// Services stand in ascending order of SId, with their components, and are found by it.
+/// Services are in ascending order of SId, with their components, and are found by it.
 pub fn services<S: Store>() -> Result<(), Fail> {
     let mut store = S::empty();
     for sid in [Sid::Long(1), Sid::Short(0xFFFF), Sid::Short(1)] {
@@ -72,7 +72,8 @@ pub fn services<S: Store>() -> Result<(), Fail> {
     Ok(())
 }
 
-/// A store that is copied, or taken through a `Config` and back, holds the same; an edit then parts the two.
+/// A store that is copied, or converted to a `Config` and back, has the same content; an edit then makes the two
+/// differ.
 pub fn copies<S: Store>() -> Result<(), Fail> {
     let store: S = full()?;
     let config: Config = store.to_config();

@@ -1,8 +1,8 @@
-//! Tests that every `Store` has to pass: a crate that brings a store calls these runs in its own tests.
+//! Tests that every `Store` has to pass: a crate with a store calls these runs in its own tests.
 //!
-//! Each run takes the store by its type, and fails at the first answer that is not the expected one; `every_run` is all of
-//! them. `parts` makes sub-channels, services, packet components and edits by their numbers. What a store is, is the
-//! contract of `mux_config::Store`; begin with `edits::full`.
+//! Each run takes the type of the store, and fails at the first unexpected result; `every_run` is all of them. `parts`
+//! makes sub-channels, services, packet components and edits from their numbers. The contract of `mux_config::Store`
+//! says what a store is; begin with `edits::full`.
 #![tactic(auto)]
 
 pub mod edits;
@@ -13,8 +13,8 @@ pub mod soundness;
 use mux_config::Store;
 use std::test::Fail;
 
-/// Every run, one after the other: the faults of edits in their order, edits beside their twins, members in ascending
-/// order, copies, soundness, and what a step between two configurations changes.
+/// All runs, one after the other: the faults of edits in their order, edits and their twins, members in ascending
+/// order, copies, soundness, and what a reconfiguration changes.
 pub fn every_run<S: Store>() -> Result<(), Fail> {
     edits::faults_of_full_sets::<S>()?;
     edits::faults_of_sub_channels::<S>()?;

@@ -1,4 +1,4 @@
-//! Parts of configurations and edits for tests, by their numbers. A number out of its range becomes 0.
+//! Parts of configurations and edits for tests, made from their numbers. A number out of range becomes 0.
 
 ghost use Rattle.std.specs.Prelude.{◌≡◌, ◌↔◌, true, IsOk};
 
@@ -9,7 +9,7 @@ use mux_eep::{EepSet, Protection};
 use std::fmt::Display;
 use std::test::Fail;
 
-/// A run fails with the text where a fact does not hold.
+/// Fails with the text if the condition is false.
 pub fn holds<T: Display + Drop>(is: bool, text: T) -> Result<(), Fail>
     ensures is_ok { IsOk result ↔ is ≡ true }
 {

@@ -1,4 +1,4 @@
-//! Soundness of configurations, and what the step from one to another changes.
+//! Tests the soundness of configurations, and what a reconfiguration changes.
 
 use crate::parts::{
     add_component, carried, drop_component, holds, move_sub, packet, rate_sub, sc_id, sound, sub,
@@ -7,7 +7,7 @@ use crate::parts::{
 use mux_config::{Carrier, Change, ConfigFault, Edit, Sid, Store, Sub, change, soundness};
 use std::test::Fail;
 
-/// Only these sub-channels.
+/// A store with only these sub-channels.
 pub fn of_subs<S: Store>(subs: &[Sub]) -> Result<S, Fail> {
     let mut store = S::empty();
     for sub in subs {
@@ -20,7 +20,7 @@ fn overlap(a: u8, b: u8) -> ConfigFault {
     ConfigFault::Overlap(sub_id(a), sub_id(b))
 }
 
-/// Sub-channels that share capacity units, at their edges too, and sub-channels that only touch.
+/// Sub-channels that share capacity units, including just at their edges, and sub-channels that only touch.
 pub fn shared_capacity_units<S: Store>() -> Result<(), Fail> {
     let rows: [(&[Sub], Result<(), ConfigFault>); 7] = [
         (&[sub(1, 0, 3, 128), sub(2, 96, 3, 64)], Ok(())),
@@ -50,7 +50,7 @@ pub fn shared_capacity_units<S: Store>() -> Result<(), Fail> {
     Ok(())
 }
 
-/// The first fault is told: overlaps, then orphans, then addresses that are used twice, then empty services.
+/// The first fault is reported: overlaps, then orphans, then addresses that are used twice, then empty services.
 pub fn first_faults<S: Store>() -> Result<(), Fail> {
     let mut store: S = of_subs(&[sub(1, 0, 3, 128), sub(2, 95, 3, 64)])?;
     let one = Sid::Short(0xC221);
@@ -86,7 +86,7 @@ pub fn first_faults<S: Store>() -> Result<(), Fail> {
     Ok(())
 }
 
-/// A sub-channel that is dropped is in no one's way.
+/// A sub-channel that was dropped shares no capacity unit.
 pub fn dropped_sub_channels<S: Store>() -> Result<(), Fail> {
     let mut store: S = of_subs(&[sub(1, 0, 4, 8), sub(2, 0, 4, 8), sub(3, 0, 4, 8)])?;
     store.drop_sub(sub_id(1))?;
@@ -99,7 +99,7 @@ pub fn dropped_sub_channels<S: Store>() -> Result<(), Fail> {
     Ok(())
 }
 
-/// What the step from one configuration to the next changes: sub-channels, services, both or nothing.
+/// What a reconfiguration changes: sub-channels, services, both or nothing.
 pub fn changes<S: Store>() -> Result<(), Fail> {
     let mut current: S = of_subs(&[sub(1, 0, 3, 128)])?;
     let sid = Sid::Short(0xC221);

@@ -1,10 +1,10 @@
--- Entries that agree are one.
+-- Entries that agree are equal.
 use Rattle.std.proofs.Common.{◌≡◌, ◌↔◌, ℕ, Bool, true, false, ◌&&◌, ◌==◌, List, refl, sym, ap, ◌∙◌}
 use Rattle.std.specs.Prelude.{IsTrue, bytes_eq}
 use Rattle.std.proofs.lemmas.Bool.{eq-eqb, eqb-true, false≢true}
 use Rattle.std.proofs.lemmas.Slice.Eq.{bytes_eq-Decides}
 use Rattle.fib_reader.specs.Raw.{Raw}
-use Rattle.stream_check.specs.Standing.{agree, bool_eq}
+use Rattle.stream_check.specs.Lookup.{agree, bool_eq}
 
 both : (a b : Bool) → (a && b) ≡ true → (a ≡ true) × (b ≡ true)
 both true b h = (refl, h)
@@ -41,7 +41,7 @@ agree_same a b h =
     let bytes : a.bytes ≡ b.bytes = (bytes_eq-Decides a.bytes b.bytes).0 two.1 in
     ap (λ n. raw_with n a.long a.bytes) ext ∙ ap (λ l. raw_with b.ext l a.bytes) long ∙ ap (λ bs. raw_with b.ext b.long bs) bytes
 
--- a test that decides whether they are one tells whether they agree
+-- a test of equality decides whether entries agree
 pub agree_where : (b : Bool) (x y : Raw) → (IsTrue b ↔ (x ≡ y)) → b ≡ agree x y
 agree_where true x y h = sym (ap (λ z. agree x z) (sym (h.0 refl)) ∙ agree_self x)
 agree_where false x y h = elim (agree x y) as (λ t. agree x y ≡ t → false ≡ t) [

@@ -1,4 +1,4 @@
--- What is kept of nothing.
+-- The state before the first FIB.
 use Rattle.std.proofs.Common.{ℕ, false, [], None, refl, arith}
 use Rattle.stream_check.specs.declared.memory.Memory.{Memory}
 use Rattle.stream_check.specs.Pictures.{empty_picture}
@@ -32,7 +32,7 @@ at_first step period = record {
 pub knows_nothing : (step period : ℕ) → Knows step period [] (at_first step period)
 knows_nothing step period = record {
   mode = refl;
-  turn = refl;
+  page_index = refl;
   heard = refl;
   frames = refl;
   due = refl;

@@ -1,22 +1,22 @@
--- Entries that are heard one after the other.
+-- Hearing entries one after the other.
 use Rattle.std.proofs.Common.{◌≡◌, ℕ, Bool, true, false, cond, List, [], ◌∷◌, ◌++◌, map, Option, Some, None, refl, sym, ap, ◌∙◌, subst}
 use Rattle.std.proofs.lemmas.Bool.{false≢true}
 use Rattle.std.proofs.lemmas.List.{append_assoc, append-nil, map-append}
 use Rattle.stream_check.specs.declared.finding.Finding.{Finding}
-use Rattle.stream_check.specs.declared.telling.FrameAt.{FrameAt}
+use Rattle.stream_check.specs.declared.reporting.FrameAt.{FrameAt}
 use Rattle.stream_check.specs.declared.memory.Memory.{Memory}
-use Rattle.stream_check.specs.Telling.{with_more, in_frame}
+use Rattle.stream_check.specs.Reporting.{with_more, in_frame}
 use Rattle.stream_check.specs.History.{Item, Moment, Said, said}
 use Rattle.stream_check.specs.Rules.{known_of, findings_at, has_no_room}
 use Rattle.stream_check.specs.Stream.{findings_at_items, runs_full}
 use Rattle.stream_check.specs.Memory.{Knows}
 use Rattle.stream_check.specs.Hearing.{Hears}
 
-pub more_twice : (told : Option (List Finding)) (xs ys : List Finding) → with_more (with_more told xs) ys ≡ with_more told (xs ++ ys)
+pub more_twice : (reported : Option (List Finding)) (xs ys : List Finding) → with_more (with_more reported xs) ys ≡ with_more reported (xs ++ ys)
 more_twice None xs ys = refl
 more_twice (Some fs) xs ys = ap (λ l. Some l) (append_assoc fs xs ys)
 
-pub more_none : (told : Option (List Finding)) → told ≡ with_more told []
+pub more_none : (reported : Option (List Finding)) → reported ≡ with_more reported []
 more_none None = refl
 more_none (Some fs) = ap (λ l. Some l) (sym (append-nil fs))
 
@@ -57,34 +57,34 @@ findings_stay step period (x ∷ xs) ys past e = elim (has_no_room (known_of ste
       | false ↦ λ h. ap (λ fs. findings_at (known_of step period past) x ++ fs) (findings_stay step period xs ys (Said x ∷ past) h)
     ] e
 
--- nothing more
-pub hears_nothing : (at : FrameAt) (m : Memory) (told : Option (List Finding)) → Hears at [] m told m told false
-hears_nothing at m told past k = record {
-  findings = more_none told;
+-- no entries
+pub hears_nothing : (at : FrameAt) (m : Memory) (reported : Option (List Finding)) → Hears at [] m reported m reported false
+hears_nothing at m reported past k = record {
+  findings = more_none reported;
   room = refl;
   knows = λ e. subst (λ (s : ℕ). Knows s m.period past m) refl k;
 }
 
--- entries, and then others
-pub hears_more : (at : FrameAt) (xs ys : List Item) (old mid new : Memory) (before told after : Option (List Finding)) (full : Bool)
-    → mid.step ≡ old.step → mid.period ≡ old.period → Hears at xs old before mid told false → Hears at ys mid told new after full → Hears at (xs ++ ys) old before new after full
-hears_more at xs ys old mid new before told after full same turn h g past k =
+-- some entries, and then others
+pub hears_more : (at : FrameAt) (xs ys : List Item) (old mid new : Memory) (before reported after : Option (List Finding)) (full : Bool)
+    → mid.step ≡ old.step → mid.period ≡ old.period → Hears at xs old before mid reported false → Hears at ys mid reported new after full → Hears at (xs ++ ys) old before new after full
+hears_more at xs ys old mid new before reported after full same page_index h g past k =
     let one = h past k in
     let known : Knows mid.step mid.period (said xs past) mid =
-    subst (λ (s : ℕ). Knows s mid.period (said xs past) mid) (sym same) (subst (λ (p : ℕ). Knows old.step p (said xs past) mid) (sym turn) (one.knows refl)) in
+    subst (λ (s : ℕ). Knows s mid.period (said xs past) mid) (sym same) (subst (λ (p : ℕ). Knows old.step p (said xs past) mid) (sym page_index) (one.knows refl)) in
     let two = g (said xs past) known in
     record {
       findings = two.findings ∙ ap (λ t. with_more t (map (in_frame at) (findings_at_items mid.step mid.period (said xs past) ys))) one.findings
           ∙ more_twice before (map (in_frame at) (findings_at_items old.step old.period past xs)) (map (in_frame at) (findings_at_items mid.step mid.period (said xs past) ys))
-          ∙ ap (λ fs. with_more before (map (in_frame at) (findings_at_items old.step old.period past xs) ++ fs)) (ap (λ s. map (in_frame at) (findings_at_items s mid.period (said xs past) ys)) same ∙ ap (λ p. map (in_frame at) (findings_at_items old.step p (said xs past) ys)) turn)
+          ∙ ap (λ fs. with_more before (map (in_frame at) (findings_at_items old.step old.period past xs) ++ fs)) (ap (λ s. map (in_frame at) (findings_at_items s mid.period (said xs past) ys)) same ∙ ap (λ p. map (in_frame at) (findings_at_items old.step p (said xs past) ys)) page_index)
           ∙ ap (with_more before) (sym (map-append (in_frame at) (findings_at_items old.step old.period past xs) (findings_at_items old.step old.period (said xs past) ys)))
           ∙ ap (λ fs. with_more before (map (in_frame at) fs)) (sym (findings_append old.step old.period xs ys past one.room));
-      room = full_append old.step old.period xs ys past one.room ∙ sym (ap (λ s. runs_full s mid.period (said xs past) ys) same ∙ ap (λ p. runs_full old.step p (said xs past) ys) turn) ∙ two.room;
+      room = full_append old.step old.period xs ys past one.room ∙ sym (ap (λ s. runs_full s mid.period (said xs past) ys) same ∙ ap (λ p. runs_full old.step p (said xs past) ys) page_index) ∙ two.room;
       knows = λ e. subst (λ (l : List Moment). Knows old.step old.period l new) (sym (said_append xs ys past))
-          (subst (λ (s : ℕ). Knows s old.period (said ys (said xs past)) new) same (subst (λ (p : ℕ). Knows mid.step p (said ys (said xs past)) new) turn (two.knows e)));
+          (subst (λ (s : ℕ). Knows s old.period (said ys (said xs past)) new) same (subst (λ (p : ℕ). Knows mid.step p (said ys (said xs past)) new) page_index (two.knows e)));
     }
 
--- and those that follow one for which there was no room
+-- entries after one for which there was no room
 pub hears_full : (at : FrameAt) (xs ys : List Item) (old new : Memory) (before after : Option (List Finding)) → Hears at xs old before new after true → Hears at (xs ++ ys) old before new after true
 hears_full at xs ys old new before after h past k =
     let one = h past k in

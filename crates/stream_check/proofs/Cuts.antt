@@ -1,4 +1,4 @@
--- A cut, a part more or less at its end.
+-- A cut with one part more or less at its end.
 use Rattle.std.proofs.Common.{◌≡◌, ℕ, suc, ◌+◌, List, [], ◌∷◌, ◌++◌, length, Contains, flat_map, refl, sym, ap, ◌∙◌, arith}
 use Rattle.std.specs.List.{AllByRecursion}
 use Rattle.std.proofs.lemmas.List.{append_assoc, append-nil, length-append}
@@ -53,7 +53,7 @@ last_by wanted n frames (p ∷ ps) count whole each =
 pub last : (wanted : List ℕ) (n : ℕ) (frames : List (List ℕ)) → IsCutInto wanted (suc n) frames → Last wanted n frames
 last wanted n frames c = last_by wanted n frames c.parts c.count c.whole c.each
 
--- one part more
+-- one more part
 each_more : (wanted : List ℕ) (parts : List (List (List ℕ))) (part : List (List ℕ))
     → AllByRecursion (IsPart wanted) parts → IsPart wanted part → AllByRecursion (IsPart wanted) (parts ++ part ∷ [])
 each_more wanted [] part each whole = (whole, tt)
@@ -67,7 +67,7 @@ more wanted n front part c whole = record {
   each = each_more wanted c.parts part c.each whole;
 }
 
--- no part at all
+-- no part
 pub none : (wanted : List ℕ) → IsCutInto wanted 0 []
 none wanted = record { parts = []; count = refl; whole = refl; each = tt }
 
@@ -78,7 +78,7 @@ none_by wanted frames (p ∷ ps) count whole = absurd (omega arith)
 pub none_only : (wanted : List ℕ) (frames : List (List ℕ)) → IsCutInto wanted 0 frames → frames ≡ []
 none_only wanted frames c = none_by wanted frames c.parts c.count c.whole
 
--- of less that is wanted
+-- with fewer identifiers wanted
 each_of : (wanted other : List ℕ) → ((x : ℕ) → Contains other x → Contains wanted x) → (parts : List (List (List ℕ)))
     → AllByRecursion (IsPart wanted) parts → AllByRecursion (IsPart other) parts
 each_of wanted other less [] each = tt
@@ -87,7 +87,7 @@ each_of wanted other less (p ∷ ps) each = ((each.0.0, λ x h. each.0.1 x (less
 pub of_less : (wanted other : List ℕ) (n : ℕ) (frames : List (List ℕ)) → ((x : ℕ) → Contains other x → Contains wanted x) → IsCutInto wanted n frames → IsCutInto other n frames
 of_less wanted other n frames less c = record { parts = c.parts; count = c.count; whole = c.whole; each = each_of wanted other less c.parts c.each }
 
--- what more frames have
+-- with more frames
 pub has_left : (wanted : List ℕ) (xs ys : List (List ℕ)) → HasAll wanted xs → HasAll wanted (xs ++ ys)
 has_left wanted xs ys h x want = heard_left xs ys x (h x want)
 

@@ -1,4 +1,4 @@
--- What is kept stays what was said before, a FIG 0/0 further.
+-- After a FIG 0/0 the state still agrees with the past of the stream.
 use Rattle.std.proofs.Common.{◌≡◌, ℕ, ◌+◌, ◌%◌, ◌≤◌, ◌==◌, ◌&&◌, ◌||◌, Bool, true, false, cond, not, List, [], ◌∷◌, ◌++◌, length, Option, Some, None, refl, sym, ap, ◌∙◌, arith, inl, inr, subst, lt-ltb, le-ltb}
 use Rattle.std.proofs.lemmas.Bool.{cases_lt, false≢true}
 use Rattle.std.proofs.lemmas.List.{append-nil}
@@ -13,7 +13,7 @@ use Rattle.stream_check.proofs.Notice.{notice_none, notice_begins, each_in}
 use Rattle.stream_check.proofs.Members.{or_false, or_true, ensemble_swap, ensemble_flagged, ensemble_placed, ensemble_no_member, ensemble_heard, after_is}
 use Rattle.stream_check.proofs.Knowing.{later_second}
 
--- ---- what the past says of it
+-- ---- the past with a FIG 0/0
 
 not_is : (a b : Bool) → not a ≡ b → a ≡ not b
 not_is true b e = ap not e
@@ -71,7 +71,7 @@ last_is key past i b e sw =
     ∙ ap (λ t. cond (b || (t && (not i.next && (key_of i.raw == key)))) (frames_ended past + 1) (last_heard key past)) (ensemble_no_member past i e)
     ∙ ap (λ t. cond t (frames_ended past + 1) (last_heard key past)) (or_false b)
 
--- ---- what a listener makes of it
+-- ---- what a listener knows after a FIG 0/0
 
 abbrev pub heard_as : Bool → Bool → EnsembleInformation → Listening → Listening
 heard_as b f e l = cond f (record (record (cond b (swapped l) l) { tuned = true }) { awaited = e.occurrence }) (record (cond b (swapped l) l) { tuned = true })
@@ -86,7 +86,7 @@ heard_is e l b f made fl =
     ∙ ap (λ t. cond t (record (cond b (swapped l) l) { tuned = true }) (record (record (cond b (swapped l) l) { tuned = true }) { awaited = e.occurrence })) (not_is (e.change == 0) f fl)
     ∙ turned f Listening (record (record (cond b (swapped l) l) { tuned = true }) { awaited = e.occurrence }) (record (cond b (swapped l) l) { tuned = true })
 
--- ---- counted up to three
+-- ---- counting up to three
 
 at_most_more : (n : ℕ) → at_most 3 (at_most 3 n + 1) ≡ at_most 3 (n + 1)
 at_most_more n = elim (cases_lt n 3) [
@@ -118,7 +118,7 @@ cut_kept true false c h = refl
 cut_kept false true c h = or_true c
 cut_kept false false c h = h refl
 
--- the parts that are the same in each case
+-- what all cases have in common
 record Same (step period : ℕ) (past : List Moment) (i : Item) (m : Memory) (b f : Bool) : Type 0 where
   ens : is_ensemble i ≡ true
   sw : is_swap past i ≡ b
@@ -137,12 +137,12 @@ swapped_last past i m step period e sw k =
     later_second h.at (m.frames + 1) below ∙ ap (λ n. n + 1) k.frames ∙ sym (last_is (key_of h.raw) past i true e sw))
     k.notice.stamps
 
--- a swap
+-- with a swap
 case_swap : (f : Bool) (step period : ℕ) (past : List Moment) (i : Item) (m : Memory) → Same step period past i m true f → Knows step period past m → Knows step period (Said i ∷ past) (noted true f i.first (ensemble_of i) m)
 case_swap true step period past i m s k =
     record {
       mode = k.mode;
-      turn = k.turn;
+      page_index = k.page_index;
       heard = s.heard;
       frames = k.frames;
       due = k.due;
@@ -154,7 +154,7 @@ case_swap true step period past i m s k =
       flags = sym (flags_are past i true s.fl);
       times = sym (ap (at_most 3) (times_are past i true true s.sw s.fl));
       settles_at = ap (λ t. cond t (m.frames + m.period) 0) k.is_cut_off ∙ ap (λ n. cond (is_cut_off past) (n + m.period) 0) k.frames
-          ∙ ap (λ n. cond (is_cut_off past) (frames_ended past + n) 0) k.turn ∙ sym (settles_is period past i true s.sw);
+          ∙ ap (λ n. cond (is_cut_off past) (frames_ended past + n) 0) k.page_index ∙ sym (settles_is period past i true s.sw);
       untuned = λ u. absurd (false≢true (sym u));
       few = subst (λ (rs : List (List ℕ)). length rs ≤ frames_ended past) (sym (rows_are past i true s.sw)) (omega arith);
       swapped = omega (arith, k.frames);
@@ -166,7 +166,7 @@ case_swap true step period past i m s k =
 case_swap false step period past i m s k =
     record {
       mode = k.mode;
-      turn = k.turn;
+      page_index = k.page_index;
       heard = s.heard;
       frames = k.frames;
       due = k.due;
@@ -178,7 +178,7 @@ case_swap false step period past i m s k =
       flags = k.flags ∙ sym (flags_are past i false s.fl);
       times = sym (ap (at_most 3) (times_are past i true false s.sw s.fl));
       settles_at = ap (λ t. cond t (m.frames + m.period) 0) k.is_cut_off ∙ ap (λ n. cond (is_cut_off past) (n + m.period) 0) k.frames
-          ∙ ap (λ n. cond (is_cut_off past) (frames_ended past + n) 0) k.turn ∙ sym (settles_is period past i true s.sw);
+          ∙ ap (λ n. cond (is_cut_off past) (frames_ended past + n) 0) k.page_index ∙ sym (settles_is period past i true s.sw);
       untuned = λ u. absurd (false≢true (sym u));
       few = subst (λ (rs : List (List ℕ)). length rs ≤ frames_ended past) (sym (rows_are past i true s.sw)) (omega arith);
       swapped = omega (arith, k.frames);
@@ -188,12 +188,12 @@ case_swap false step period past i m s k =
           (subst (λ (r : List ℕ). HasNotice [] r 0 0 0 empty_picture false) (sym (row_is past i true s.ens s.sw)) (notice_none false));
     }
 
--- none
+-- without a swap
 case_stay : (f : Bool) (step period : ℕ) (past : List Moment) (i : Item) (m : Memory) → Same step period past i m false f → Knows step period past m → Knows step period (Said i ∷ past) (noted false f i.first (ensemble_of i) m)
 case_stay true step period past i m s k =
     record {
       mode = k.mode;
-      turn = k.turn;
+      page_index = k.page_index;
       heard = s.heard;
       frames = k.frames;
       due = k.due;
@@ -218,7 +218,7 @@ case_stay true step period past i m s k =
 case_stay false step period past i m s k =
     record {
       mode = k.mode;
-      turn = k.turn;
+      page_index = k.page_index;
       heard = s.heard;
       frames = k.frames;
       due = k.due;

@@ -1,4 +1,4 @@
--- What the check of a stream knows and has told, a FIB further.
+-- What the checker knows and has reported after one more FIB.
 use Rattle.std.proofs.Common.{◌≡◌, ◌≢◌, ℕ, ◌+◌, ◌<◌, ◌≤◌, ◌&&◌, ◌||◌, nat_lt, lt-ltb, Bool, true, false, not, List, [], ◌∷◌, ◌++◌, length, map, Option, refl, sym, ap, ◌∙◌, arith, inl, inr, ◌⊎◌, subst}
 use Rattle.std.proofs.lemmas.Bool.{false≢true, cases_lt}
 use Rattle.std.proofs.lemmas.List.{append-nil, length-append, length-map, map-append}
@@ -8,7 +8,7 @@ use Rattle.fib_codec.specs.declared.modes.Mode.{Mode}
 use Rattle.fib_codec.specs.declared.modes.Mode.TheVariants.{I, II, III, IV}
 use Rattle.stream_check.specs.declared.finding.Finding.{Finding}
 use Rattle.stream_check.specs.declared.memory.Memory.{Memory}
-use Rattle.stream_check.specs.Telling.{with_more}
+use Rattle.stream_check.specs.Reporting.{with_more}
 use Rattle.stream_check.specs.Frames.{Fib, Reading, first_in, opening, is_there, begins_with_ensemble, holds_ensemble, IsOneFrame, AreFrames, HoldsFirst, IsFramed, damaged_in}
 use Rattle.stream_check.specs.History.{Item, Moment, Said, said, frame_items, frames_ended}
 use Rattle.stream_check.specs.Stream.{findings_in, after_frame, findings_of, after_frames}
@@ -20,7 +20,7 @@ use Rattle.stream_check.specs.Following.{Checking, Follows, EndsFull, IsSummary,
 use Rattle.stream_check.proofs.Chain.{more_twice, more_none}
 use Rattle.stream_check.proofs.Framing.{flat, one_more, held_of, skips_more, goes_on, after_more, full_more, findings_more, damaged_append}
 
--- ---- how many frames there were
+-- ---- the number of frames
 
 said_frames : (is : List Item) (past : List Moment) → frames_ended (said is past) ≡ frames_ended past
 said_frames [] past = refl
@@ -40,11 +40,11 @@ no_frames : (frames : List (List Fib)) → 0 ≡ length frames → frames ≡ []
 no_frames [] e = refl
 no_frames (f ∷ fs) e = absurd (omega (arith, e))
 
--- ---- a FIB that is skipped
+-- ---- a skipped FIB
 
-pub follows_skip : (r : Reading) (mode : Mode) (period : ℕ) (stream : List Fib) (start told : Option (List Finding)) (c : Checking) (fib : List ℕ) → c.memory.frames ≡ 0 → c.held ≡ [] → holds_ensemble (r.read fib) ≡ false
-    → Follows r mode period stream start told c → Follows r mode period (stream ++ r.read fib ∷ []) start told (record c { skipped = c.skipped + 1 })
-follows_skip r mode period stream start told c fib none empty silent f =
+pub follows_skip : (r : Reading) (mode : Mode) (period : ℕ) (stream : List Fib) (start reported : Option (List Finding)) (c : Checking) (fib : List ℕ) → c.memory.frames ≡ 0 → c.held ≡ [] → holds_ensemble (r.read fib) ≡ false
+    → Follows r mode period stream start reported c → Follows r mode period (stream ++ r.read fib ∷ []) start reported (record c { skipped = c.skipped + 1 })
+follows_skip r mode period stream start reported c fib none empty silent f =
     let count = frame_count (count_step mode) period f.frames c.memory f.knows in
     let nothing : f.frames ≡ [] = no_frames f.frames (sym none ∙ count) in
     let held : map r.read c.held ≡ [] = ap (map r.read) empty in
@@ -67,7 +67,7 @@ follows_skip r mode period stream start told c fib none empty silent f =
 
 -- ---- a FIB of a frame
 
--- the first FIB of all frames holds a FIG 0/0
+-- the first FIB of all frames contains a FIG 0/0
 first_holds : (size : ℕ) (frames : List (List Fib)) (held : List Fib) (fib : Fib) → AreFrames size frames held → HoldsFirst (flat frames ++ held) → (frames ≡ [] → held ≡ [] → holds_ensemble fib ≡ true) → HoldsFirst ((flat frames ++ held) ++ fib ∷ [])
 first_holds size [] [] fib all first new = new refl refl
 first_holds size [] (x ∷ xs) fib all first new = first
@@ -85,7 +85,7 @@ held_some : (r : Reading) (held : List (List ℕ)) → map r.read held ≢ [] �
 held_some r [] some e = some refl
 held_some r (x ∷ xs) some e = absurd cc
 
--- what a FIB has to be that is held: the first of all holds a FIG 0/0, and none but the first of a frame begins with one
+-- a FIB that is buffered: the first of all contains a FIG 0/0, and only the first of a frame may begin with one
 pub record IsNext (r : Reading) (c : Checking) (fib : List ℕ) : Type 0 where
   pub holds : c.memory.frames ≡ 0 → c.held ≡ [] → holds_ensemble (r.read fib) ≡ true
 
@@ -104,9 +104,9 @@ one_frame : (size : ℕ) (xs : List Fib) → IsOneFrame xs → length xs < size 
 one_frame size [] one lt = absurd one
 one_frame size (x ∷ xs) one lt = (one, lt)
 
-pub follows_hold : (r : Reading) (mode : Mode) (period : ℕ) (stream : List Fib) (start told : Option (List Finding)) (c : Checking) (fib : List ℕ) → IsNext r c fib → (c.held ≢ [] → begins_with_ensemble (r.read fib) ≡ false)
-    → length c.held + 1 < c.size → Follows r mode period stream start told c → Follows r mode period (stream ++ r.read fib ∷ []) start told (record c { held = c.held ++ fib ∷ [] })
-follows_hold r mode period stream start told c fib next later short f =
+pub follows_hold : (r : Reading) (mode : Mode) (period : ℕ) (stream : List Fib) (start reported : Option (List Finding)) (c : Checking) (fib : List ℕ) → IsNext r c fib → (c.held ≢ [] → begins_with_ensemble (r.read fib) ≡ false)
+    → length c.held + 1 < c.size → Follows r mode period stream start reported c → Follows r mode period (stream ++ r.read fib ∷ []) start reported (record c { held = c.held ++ fib ∷ [] })
+follows_hold r mode period stream start reported c fib next later short f =
     let held = map r.read c.held in
     let whole = one_more (map r.read c.held) (r.read fib) (λ some. later (held_some r c.held some)) (held_of (fib_count mode) f.frames (map r.read c.held) f.framed.cut) in
     let long = length-append (map r.read c.held) (r.read fib ∷ []) in
@@ -128,29 +128,29 @@ follows_hold r mode period stream start told c fib next later short f =
       findings = f.findings;
     }
 
--- ---- a frame that ends
+-- ---- the end of a frame
 
--- the frames with this one, and what follows it, as they are cut
+-- the stream cut into frames with this one, and the rest
 record Ends (r : Reading) (mode : Mode) (stream : List Fib) (c : Checking) (fib : List ℕ) (skipped : List Fib) (frames : List (List Fib)) (frame rest : List Fib) : Type 0 where
   framed : IsFramed (fib_count mode) (stream ++ r.read fib ∷ []) skipped (frames ++ frame ∷ []) rest
 
 flat_one : (frames : List (List Fib)) (frame : List Fib) → flat (frames ++ frame ∷ []) ≡ flat frames ++ frame
 flat_one frames frame = flat_map-append (λ g. g) frames (frame ∷ []) ∙ ap (λ l. flat frames ++ l) (append-nil frame)
 
-heard_same : (mode : Mode) (c : Checking) (frame : List Fib) (told after : Option (List Finding)) (new : Memory) (full : Bool) (period : ℕ) (past : List Moment) → c.size ≡ fib_count mode → Knows (count_step mode) period past c.memory
-    → HearsFrame c.size frame c.memory told new after full → IsFrameHeard (fib_count mode) (count_step mode) period past frame told after new full
-heard_same mode c frame told after new full period past size k h =
-    subst (λ (n : ℕ). IsFrameHeard n (count_step mode) period past frame told after new full) size
-    (subst (λ (s : ℕ). IsFrameHeard c.size s period past frame told after new full) k.mode
-    (subst (λ (p : ℕ). IsFrameHeard c.size c.memory.step p past frame told after new full) k.turn
-    (h past (subst (λ (s : ℕ). Knows s c.memory.period past c.memory) (sym k.mode) (subst (λ (p : ℕ). Knows (count_step mode) p past c.memory) (sym k.turn) k)))))
+heard_same : (mode : Mode) (c : Checking) (frame : List Fib) (reported after : Option (List Finding)) (new : Memory) (full : Bool) (period : ℕ) (past : List Moment) → c.size ≡ fib_count mode → Knows (count_step mode) period past c.memory
+    → HearsFrame c.size frame c.memory reported new after full → IsFrameHeard (fib_count mode) (count_step mode) period past frame reported after new full
+heard_same mode c frame reported after new full period past size k h =
+    subst (λ (n : ℕ). IsFrameHeard n (count_step mode) period past frame reported after new full) size
+    (subst (λ (s : ℕ). IsFrameHeard c.size s period past frame reported after new full) k.mode
+    (subst (λ (p : ℕ). IsFrameHeard c.size c.memory.step p past frame reported after new full) k.page_index
+    (h past (subst (λ (s : ℕ). Knows s c.memory.period past c.memory) (sym k.mode) (subst (λ (p : ℕ). Knows (count_step mode) p past c.memory) (sym k.page_index) k)))))
 
-pub follows_frame : (r : Reading) (mode : Mode) (period : ℕ) (stream : List Fib) (start told after : Option (List Finding)) (c new : Checking) (frame : List Fib) (fib : List ℕ) → (f : Follows r mode period stream start told c)
-    → IsFramed (fib_count mode) (stream ++ r.read fib ∷ []) f.skipped (f.frames ++ frame ∷ []) (map r.read new.held) → HearsFrame c.size frame c.memory told new.memory after false
+pub follows_frame : (r : Reading) (mode : Mode) (period : ℕ) (stream : List Fib) (start reported after : Option (List Finding)) (c new : Checking) (frame : List Fib) (fib : List ℕ) → (f : Follows r mode period stream start reported c)
+    → IsFramed (fib_count mode) (stream ++ r.read fib ∷ []) f.skipped (f.frames ++ frame ∷ []) (map r.read new.held) → HearsFrame c.size frame c.memory reported new.memory after false
     → new.size ≡ c.size → new.skipped ≡ c.skipped → new.damaged ≡ c.damaged + damaged_in frame → Follows r mode period (stream ++ r.read fib ∷ []) start after new
-follows_frame r mode period stream start told after c new frame fib f framed h size skips damages =
+follows_frame r mode period stream start reported after c new frame fib f framed h size skips damages =
     let past = after_frames (count_step mode) [] f.frames in
-    let all = heard_same mode c frame told after new.memory false period past f.size f.knows h in
+    let all = heard_same mode c frame reported after new.memory false period past f.size f.knows h in
     let more = damaged_append (flat f.frames) frame in
     record {
       skipped = f.skipped;
@@ -166,11 +166,11 @@ follows_frame r mode period stream start told after c new frame fib f framed h s
           ∙ ap (with_more start) (sym (findings_more (fib_count mode) (count_step mode) period [] f.frames frame f.room));
     }
 
-pub ends_frame : (r : Reading) (mode : Mode) (period : ℕ) (stream : List Fib) (start told after : Option (List Finding)) (c : Checking) (new : Memory) (frame rest : List Fib) (fib : List ℕ) → (f : Follows r mode period stream start told c)
-    → IsFramed (fib_count mode) (stream ++ r.read fib ∷ []) f.skipped (f.frames ++ frame ∷ []) rest → HearsFrame c.size frame c.memory told new after true → EndsFull r mode period (stream ++ r.read fib ∷ []) start after
-ends_frame r mode period stream start told after c new frame rest fib f framed h =
+pub ends_frame : (r : Reading) (mode : Mode) (period : ℕ) (stream : List Fib) (start reported after : Option (List Finding)) (c : Checking) (new : Memory) (frame rest : List Fib) (fib : List ℕ) → (f : Follows r mode period stream start reported c)
+    → IsFramed (fib_count mode) (stream ++ r.read fib ∷ []) f.skipped (f.frames ++ frame ∷ []) rest → HearsFrame c.size frame c.memory reported new after true → EndsFull r mode period (stream ++ r.read fib ∷ []) start after
+ends_frame r mode period stream start reported after c new frame rest fib f framed h =
     let past = after_frames (count_step mode) [] f.frames in
-    let all = heard_same mode c frame told after new true period past f.size f.knows h in
+    let all = heard_same mode c frame reported after new true period past f.size f.knows h in
     record {
       skipped = f.skipped;
       frames = f.frames ++ frame ∷ [];
@@ -182,10 +182,10 @@ ends_frame r mode period stream start told after c new frame rest fib f framed h
           ∙ ap (with_more start) (sym (findings_more (fib_count mode) (count_step mode) period [] f.frames frame f.room));
     }
 
--- what is held is a frame, as the next FIB begins with a FIG 0/0
-pub cut_before : (r : Reading) (mode : Mode) (period : ℕ) (stream : List Fib) (start told : Option (List Finding)) (c : Checking) (fib : List ℕ) → c.held ≢ [] → begins_with_ensemble (r.read fib) ≡ true → 1 < fib_count mode
-    → length c.held < c.size → (f : Follows r mode period stream start told c) → IsFramed (fib_count mode) (stream ++ r.read fib ∷ []) f.skipped (f.frames ++ map r.read c.held ∷ []) (r.read fib ∷ [])
-cut_before r mode period stream start told c fib some begins two short f =
+-- the buffered FIBs are a frame, as the next FIB begins with a FIG 0/0
+pub cut_before : (r : Reading) (mode : Mode) (period : ℕ) (stream : List Fib) (start reported : Option (List Finding)) (c : Checking) (fib : List ℕ) → c.held ≢ [] → begins_with_ensemble (r.read fib) ≡ true → 1 < fib_count mode
+    → length c.held < c.size → (f : Follows r mode period stream start reported c) → IsFramed (fib_count mode) (stream ++ r.read fib ∷ []) f.skipped (f.frames ++ map r.read c.held ∷ []) (r.read fib ∷ [])
+cut_before r mode period stream start reported c fib some begins two short f =
     let same = length-map c.held r.read in
     let le : length (map r.read c.held) ≤ fib_count mode = omega (arith, same, short, f.size) in
     goes_on (fib_count mode) stream f.skipped f.frames (map r.read c.held ∷ []) (map r.read c.held) (r.read fib ∷ []) (r.read fib)
@@ -197,10 +197,10 @@ cut_before r mode period stream start told c fib some begins two short f =
     is_one (inl one) = one
     is_one (inr none) = absurd (some_held r c.held some none)
 
--- what is held and this FIB are one
-pub cut_after : (r : Reading) (mode : Mode) (period : ℕ) (stream : List Fib) (start told : Option (List Finding)) (c : Checking) (fib : List ℕ) → IsNext r c fib → (c.held ≢ [] → begins_with_ensemble (r.read fib) ≡ false)
-    → length c.held + 1 ≡ c.size → (f : Follows r mode period stream start told c) → IsFramed (fib_count mode) (stream ++ r.read fib ∷ []) f.skipped (f.frames ++ map r.read (c.held ++ fib ∷ []) ∷ []) []
-cut_after r mode period stream start told c fib next later whole f =
+-- the buffered FIBs and this one are a frame
+pub cut_after : (r : Reading) (mode : Mode) (period : ℕ) (stream : List Fib) (start reported : Option (List Finding)) (c : Checking) (fib : List ℕ) → IsNext r c fib → (c.held ≢ [] → begins_with_ensemble (r.read fib) ≡ false)
+    → length c.held + 1 ≡ c.size → (f : Follows r mode period stream start reported c) → IsFramed (fib_count mode) (stream ++ r.read fib ∷ []) f.skipped (f.frames ++ map r.read (c.held ++ fib ∷ []) ∷ []) []
+cut_after r mode period stream start reported c fib next later whole f =
     let one_is = one_more (map r.read c.held) (r.read fib) (λ some. later (held_some r c.held some)) (held_of (fib_count mode) f.frames (map r.read c.held) f.framed.cut) in
     let long = length-append (map r.read c.held) (r.read fib ∷ []) in
     let one : length (r.read fib ∷ []) ≡ 1 = refl in
@@ -213,7 +213,7 @@ cut_after r mode period stream start told c fib next later whole f =
     (one_is, le, (λ lt. absurd (omega (arith, lt, all))), tt)
     (first_holds (fib_count mode) f.frames (map r.read c.held) (r.read fib) f.framed.cut f.framed.begun (holds_next r mode period c fib f.frames f.knows next)) f.framed)
 
--- ---- what the tests of a FIB say
+-- ---- the tests of a FIB
 
 not_true : (b : Bool) → not b ≡ true → b ≡ false
 not_true true e = absurd (false≢true e)
@@ -269,7 +269,7 @@ later_where r c fib o is e some = ap is_there (sym is) ∙ chosen (is_there o) c
     chosen true [] some h = absurd (some refl)
     chosen true (x ∷ xs) some h = absurd (false≢true (sym h))
 
--- ---- before the first FIB, and behind the last
+-- ---- before the first FIB, and after the last
 
 pub follows_nothing : (r : Reading) (mode : Mode) (period : ℕ) (start : Option (List Finding)) (c : Checking) → c.size ≡ fib_count mode → c.held ≡ [] → c.skipped ≡ 0 → c.damaged ≡ 0 → Knows (count_step mode) period [] c.memory
     → 0 < fib_count mode → Follows r mode period [] start start c
@@ -285,9 +285,9 @@ follows_nothing r mode period start c size held skips damages k some = record {
   findings = more_none start;
 }
 
-pub summed : (r : Reading) (mode : Mode) (period : ℕ) (stream : List Fib) (start told : Option (List Finding)) (c : Checking) (s : Summary) → (f : Follows r mode period stream start told c)
+pub summed : (r : Reading) (mode : Mode) (period : ℕ) (stream : List Fib) (start reported : Option (List Finding)) (c : Checking) (s : Summary) → (f : Follows r mode period stream start reported c)
     → s.frames ≡ c.memory.frames → s.skipped ≡ c.skipped → s.left_over ≡ length c.held → s.damaged ≡ c.damaged → IsSummary f.skipped f.frames (map r.read c.held) s
-summed r mode period stream start told c s f frames skips left damages = record {
+summed r mode period stream start reported c s f frames skips left damages = record {
   frame_count = frames ∙ frame_count (count_step mode) period f.frames c.memory f.knows;
   skips = skips ∙ f.skips;
   left = left ∙ sym (length-map c.held r.read);

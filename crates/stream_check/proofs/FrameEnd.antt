@@ -1,4 +1,4 @@
--- What is kept stays what was said before, to the end of a frame.
+-- After the end of a frame the state still agrees with the past of the stream.
 use Rattle.std.proofs.Common.{◌≡◌, ℕ, ◌+◌, ◌-◌, ◌%◌, ◌<◌, ◌≤◌, ◌==◌, Bool, true, false, cond, List, [], ◌∷◌, ◌++◌, length, map, Option, Some, refl, sym, ap, ◌∙◌, arith, subst}
 use Rattle.std.specs.List.{AllByRecursion, filter}
 use Rattle.std.proofs.lemmas.Bool.{false≢true, eq-eqb, ne_eqb, eqb-true}
@@ -8,9 +8,9 @@ use Rattle.fib_reader.specs.Listening.{Listening, all_entries}
 use Rattle.stream_check.specs.declared.finding.Finding.{Finding}
 use Rattle.stream_check.specs.declared.finding.What.{What}
 use Rattle.stream_check.specs.declared.finding.Fault.TheVariants as faults
-use Rattle.stream_check.specs.declared.telling.FrameAt.{FrameAt}
+use Rattle.stream_check.specs.declared.reporting.FrameAt.{FrameAt}
 use Rattle.stream_check.specs.declared.memory.Memory.{Memory}
-use Rattle.stream_check.specs.Telling.{with_more, in_frame, when}
+use Rattle.stream_check.specs.Reporting.{with_more, in_frame, when}
 use Rattle.stream_check.specs.Pictures.{Heard, heard_since, raws, key_of}
 use Rattle.stream_check.specs.Frames.{Fib, Reading}
 use Rattle.stream_check.specs.History.{Moment, Ended, said, frame_items, frames_ended, due, has_begun, row_at_hand, rows, last_heard}
@@ -60,7 +60,7 @@ case_frame : (begun whole : Bool) (step period : ℕ) (past : List Moment) (m : 
     → Knows step period (Ended count ∷ past) (framed count m (row_memory begun whole m))
 case_frame true true step period past m count b w k = record {
   mode = k.mode;
-  turn = k.turn;
+  page_index = k.page_index;
   heard = k.heard;
   frames = ap (λ n. n + 1) k.frames;
   due = refl;
@@ -81,7 +81,7 @@ case_frame true true step period past m count b w k = record {
 }
 case_frame true false step period past m count b w k = record {
   mode = k.mode;
-  turn = k.turn;
+  page_index = k.page_index;
   heard = k.heard;
   frames = ap (λ n. n + 1) k.frames;
   due = refl;
@@ -102,7 +102,7 @@ case_frame true false step period past m count b w k = record {
 }
 case_frame false whole step period past m count b w k = record {
   mode = k.mode;
-  turn = k.turn;
+  page_index = k.page_index;
   heard = k.heard;
   frames = ap (λ n. n + 1) k.frames;
   due = refl;
@@ -131,17 +131,17 @@ knows_frame step period past m count k = cases m.has_begun (heard_since m.since 
         (subst (λ (t : Bool). Knows step period (Ended count ∷ past) (framed count m (cond b (cond t (record m { rows = m.rows + 1; parts = m.parts + 1; since = m.rows + 1 }) (record m { rows = m.rows + 1 })) m))) (sym f)
         (case_frame b w step period past m count e f k))
 
--- and its numbers stay far from their limits
+-- the numbers stay far from their limits
 case_sane : (begun whole : Bool) (m : Memory) (count : ℕ) → IsSane m → IsSane (framed count m (row_memory begun whole m))
-case_sane true true m count s = record { mode = s.mode; turn = s.turn; due = below count; times = s.times; rows = omega (arith, s.rows); parts = omega (arith, s.parts) }
+case_sane true true m count s = record { mode = s.mode; page_index = s.page_index; due = below count; times = s.times; rows = omega (arith, s.rows); parts = omega (arith, s.parts) }
   where
     below : (n : ℕ) → (n + 1) % 5000 < 5000
     below n = omega arith
-case_sane true false m count s = record { mode = s.mode; turn = s.turn; due = below count; times = s.times; rows = omega (arith, s.rows); parts = omega (arith, s.parts) }
+case_sane true false m count s = record { mode = s.mode; page_index = s.page_index; due = below count; times = s.times; rows = omega (arith, s.rows); parts = omega (arith, s.parts) }
   where
     below : (n : ℕ) → (n + 1) % 5000 < 5000
     below n = omega arith
-case_sane false whole m count s = record { mode = s.mode; turn = s.turn; due = below count; times = s.times; rows = omega (arith, s.rows); parts = s.parts }
+case_sane false whole m count s = record { mode = s.mode; page_index = s.page_index; due = below count; times = s.times; rows = omega (arith, s.rows); parts = s.parts }
   where
     below : (n : ℕ) → (n + 1) % 5000 < 5000
     below n = omega arith
@@ -186,7 +186,7 @@ spread period past xs ys = ap (map silence) (filter_append (is_silent period pas
 
 pub silent_is : (step period : ℕ) (past : List Moment) (m : Memory) → Knows step period past m → silent_in m ≡ silent_findings period past
 silent_is step period past m k =
-    ap (λ p. quiet_findings m.swapped p m.frames m.current.subs ++ (quiet_findings m.swapped p m.frames m.current.services ++ quiet_findings m.swapped p m.frames m.current.packets)) k.turn
+    ap (λ p. quiet_findings m.swapped p m.frames m.current.subs ++ (quiet_findings m.swapped p m.frames m.current.services ++ quiet_findings m.swapped p m.frames m.current.packets)) k.page_index
     ∙ ap (λ fs. fs ++ (quiet_findings m.swapped period m.frames m.current.services ++ quiet_findings m.swapped period m.frames m.current.packets)) (quiet_raws period past m.swapped m.frames m.current.subs k.frames k.last.0)
     ∙ ap (λ fs. map silence (filter (is_silent period past) (raws m.current.subs)) ++ (fs ++ quiet_findings m.swapped period m.frames m.current.packets)) (quiet_raws period past m.swapped m.frames m.current.services k.frames k.last.1.0)
     ∙ ap (λ fs. map silence (filter (is_silent period past) (raws m.current.subs)) ++ (map silence (filter (is_silent period past) (raws m.current.services)) ++ fs)) (quiet_raws period past m.swapped m.frames m.current.packets k.frames k.last.1.1)
@@ -200,12 +200,12 @@ silent_is step period past m k =
 pub frame_len : (r : Reading) (fibs : List (List ℕ)) → length (map r.read fibs) ≡ length fibs
 frame_len r fibs = length-map fibs r.read
 
--- where all its entries were heard, and what is silent was told
-pub frame_done : (size : ℕ) (frame : List Fib) (at : FrameAt) (old mid : Memory) (before told one two : Option (List Finding))
+-- all entries of the frame were heard, and the silent ones were reported
+pub frame_done : (size : ℕ) (frame : List Fib) (at : FrameAt) (old mid : Memory) (before reported one two : Option (List Finding))
     → at ≡ record { frame = old.frames; count = count_of_frame old.step old.due frame }
     → one ≡ with_more before (map (in_frame at) (frame_findings size old.step old.due frame)) → Hears at (frame_items frame) old one mid two false → IsLater old mid
-    → told ≡ with_more two (map (in_frame at) (silent_in mid)) → HearsFrame size frame old before (with_frame (count_of_frame old.step old.due frame) mid) told false
-frame_done size frame at old mid before told one two place first h l last past k =
+    → reported ≡ with_more two (map (in_frame at) (silent_in mid)) → HearsFrame size frame old before (with_frame (count_of_frame old.step old.due frame) mid) reported false
+frame_done size frame at old mid before reported one two place first h l last past k =
     let all = h past k in
     let known = all.knows refl in
     let same : at ≡ frame_at old.step past frame = place ∙ ap (λ n. at_of n (count_of_frame old.step old.due frame)) k.frames ∙ ap (λ d. at_of (frames_ended past) (count_of_frame old.step d frame)) k.due in
@@ -227,17 +227,17 @@ frame_done size frame at old mid before told one two place first h l last past k
     at_of : ℕ → ℕ → FrameAt
     at_of n c = record { frame = n; count = c }
 
-    three : (at : FrameAt) (told : Option (List Finding)) (xs ys zs : List What) → with_more (with_more (with_more told (map (in_frame at) xs)) (map (in_frame at) ys)) (map (in_frame at) zs) ≡ with_more told (map (in_frame at) (xs ++ (ys ++ zs)))
-    three at told xs ys zs =
-        more_twice (with_more told (map (in_frame at) xs)) (map (in_frame at) ys) (map (in_frame at) zs)
-        ∙ more_twice told (map (in_frame at) xs) (map (in_frame at) ys ++ map (in_frame at) zs)
-        ∙ ap (with_more told) (sym (map-append (in_frame at) xs (ys ++ zs) ∙ ap (λ fs. map (in_frame at) xs ++ fs) (map-append (in_frame at) ys zs)))
+    three : (at : FrameAt) (reported : Option (List Finding)) (xs ys zs : List What) → with_more (with_more (with_more reported (map (in_frame at) xs)) (map (in_frame at) ys)) (map (in_frame at) zs) ≡ with_more reported (map (in_frame at) (xs ++ (ys ++ zs)))
+    three at reported xs ys zs =
+        more_twice (with_more reported (map (in_frame at) xs)) (map (in_frame at) ys) (map (in_frame at) zs)
+        ∙ more_twice reported (map (in_frame at) xs) (map (in_frame at) ys ++ map (in_frame at) zs)
+        ∙ ap (with_more reported) (sym (map-append (in_frame at) xs (ys ++ zs) ∙ ap (λ fs. map (in_frame at) xs ++ fs) (map-append (in_frame at) ys zs)))
 
--- where there was no room for one of them
-pub frame_full : (size : ℕ) (frame : List Fib) (at : FrameAt) (old mid : Memory) (before told one : Option (List Finding))
+-- there was no room for one of its entries
+pub frame_full : (size : ℕ) (frame : List Fib) (at : FrameAt) (old mid : Memory) (before reported one : Option (List Finding))
     → at ≡ record { frame = old.frames; count = count_of_frame old.step old.due frame }
-    → one ≡ with_more before (map (in_frame at) (frame_findings size old.step old.due frame)) → Hears at (frame_items frame) old one mid told true → HearsFrame size frame old before mid told true
-frame_full size frame at old mid before told one place first h past k =
+    → one ≡ with_more before (map (in_frame at) (frame_findings size old.step old.due frame)) → Hears at (frame_items frame) old one mid reported true → HearsFrame size frame old before mid reported true
+frame_full size frame at old mid before reported one place first h past k =
     let all = h past k in
     let same : at ≡ frame_at old.step past frame = place ∙ ap (λ n. at_of n (count_of_frame old.step old.due frame)) k.frames ∙ ap (λ d. at_of (frames_ended past) (count_of_frame old.step d frame)) k.due in
     let items = findings_at_items old.step old.period past (frame_items frame) in
@@ -254,7 +254,7 @@ frame_full size frame at old mid before told one place first h past k =
     at_of : ℕ → ℕ → FrameAt
     at_of n c = record { frame = n; count = c }
 
-    two : (at : FrameAt) (told : Option (List Finding)) (xs ys : List What) → with_more (with_more told (map (in_frame at) xs)) (map (in_frame at) ys) ≡ with_more told (map (in_frame at) (xs ++ (ys ++ [])))
-    two at told xs ys =
-        more_twice told (map (in_frame at) xs) (map (in_frame at) ys)
-        ∙ ap (with_more told) (sym (map-append (in_frame at) xs (ys ++ []) ∙ ap (λ fs. map (in_frame at) xs ++ map (in_frame at) fs) (append-nil ys)))
+    two : (at : FrameAt) (reported : Option (List Finding)) (xs ys : List What) → with_more (with_more reported (map (in_frame at) xs)) (map (in_frame at) ys) ≡ with_more reported (map (in_frame at) (xs ++ (ys ++ [])))
+    two at reported xs ys =
+        more_twice reported (map (in_frame at) xs) (map (in_frame at) ys)
+        ∙ ap (with_more reported) (sym (map-append (in_frame at) xs (ys ++ []) ∙ ap (λ fs. map (in_frame at) xs ++ map (in_frame at) fs) (append-nil ys)))

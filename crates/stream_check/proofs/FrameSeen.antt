@@ -1,4 +1,4 @@
--- What is seen of the FIBs of a frame, as one more comes.
+-- What is known of the FIBs of a frame with one more FIB.
 use Rattle.std.proofs.Common.{◌≡◌, ℕ, ◌+◌, ◌≤◌, ◌&&◌, Bool, true, false, cond, not, List, [], ◌∷◌, ◌++◌, map, Option, None, refl, sym, ap, ◌∙◌, arith}
 use Rattle.std.proofs.lemmas.List.{map-append}
 use Rattle.mux_entries.specs.Entries.{EnsembleInformation}
@@ -15,7 +15,7 @@ damaged_more (x ∷ xs) fib =
     let rest = damaged_more xs fib in
     omega (arith, rest)
 
--- how the frame begins, and how many are damaged, with one FIB more of which this is seen
+-- how the frame begins and how many FIBs are damaged, with one more FIB
 pub seen_more : (r : Reading) (fibs : List (List ℕ)) (fib : List ℕ) (sight : Sight) (damaged : ℕ) (begins : Option EnsembleInformation) (lacks : Bool)
     → AreSeen damaged begins lacks (map r.read fibs) → IsSeen sight (r.read fib)
     → AreSeen (damaged + cond sight.is_damaged 1 0) (cond (is_empty fibs) sight.opening begins) (cond (is_empty fibs) (not sight.is_damaged && not (is_there sight.opening)) lacks) (map r.read (fibs ++ fib ∷ []))

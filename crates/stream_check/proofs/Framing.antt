@@ -1,4 +1,4 @@
--- A stream that is cut into frames, a FIB further.
+-- A stream cut into frames, with one more FIB.
 use Rattle.std.proofs.Common.{◌≡◌, ◌≢◌, ℕ, ◌+◌, Bool, true, false, cond, List, [], ◌∷◌, ◌++◌, flat_map, refl, sym, ap, ◌∙◌, arith, inl, inr, ◌⊎◌, subst}
 use Rattle.std.specs.List.{AllByRecursion}
 use Rattle.std.proofs.lemmas.Bool.{false≢true}
@@ -36,19 +36,19 @@ pub all_append : {X : Type 0} (P : X → Type 0) (xs ys : List X) → AllByRecur
 all_append P [] ys a b = b
 all_append P (x ∷ xs) ys a b = (a.0, all_append P xs ys a.1 b)
 
--- a FIB more of the frame at hand
+-- one more FIB of the current frame
 pub one_more : (held : List Fib) (fib : Fib) → (held ≢ [] → begins_with_ensemble fib ≡ false) → IsOneFrame held ⊎ (held ≡ []) → IsOneFrame (held ++ fib ∷ [])
 one_more [] fib free one = tt
 one_more (x ∷ xs) fib free (inl one) = all_append (λ later. begins_with_ensemble later ≡ false) xs (fib ∷ []) one (free (λ e. absurd cc), tt)
 one_more (x ∷ xs) fib free (inr none) = absurd cc
 
--- the frame at hand, by all frames
+-- the current frame, from the whole cut
 pub held_of : (size : ℕ) (frames : List (List Fib)) (held : List Fib) → AreFrames size frames held → IsOneFrame held ⊎ (held ≡ [])
 held_of size [] [] all = inr refl
 held_of size [] (x ∷ xs) all = inl all.0
 held_of size (f ∷ fs) held all = held_of size fs held all.3
 
--- ---- each way that a stream goes on
+-- ---- the cases for the next FIB
 
 pub skips_more : (size : ℕ) (stream skipped : List Fib) (fib : Fib) → holds_ensemble fib ≡ false → IsFramed size stream skipped [] [] → IsFramed size (stream ++ fib ∷ []) (skipped ++ fib ∷ []) [] []
 skips_more size stream skipped fib no_ensemble f = record {
@@ -58,7 +58,7 @@ skips_more size stream skipped fib no_ensemble f = record {
   cut = tt;
 }
 
--- what is held and one more become other frames and another rest
+-- the buffered FIBs and one more become some frames and another rest
 pub goes_on : (size : ℕ) (stream skipped : List Fib) (frames tail : List (List Fib)) (held rest : List Fib) (fib : Fib) → flat tail ++ rest ≡ held ++ fib ∷ [] → AreFrames size tail rest
     → HoldsFirst ((flat frames ++ held) ++ fib ∷ []) → IsFramed size stream skipped frames held → IsFramed size (stream ++ fib ∷ []) skipped (frames ++ tail) rest
 goes_on size stream skipped frames tail held rest fib e t first f =
@@ -77,7 +77,7 @@ still_first xs fib some h = holds_some xs (fib ∷ []) some h
 pub now_first : (xs : List Fib) (fib : Fib) → xs ≡ [] → holds_ensemble fib ≡ true → HoldsFirst (xs ++ fib ∷ [])
 now_first xs fib none h = subst (λ (l : List Fib). HoldsFirst (l ++ fib ∷ [])) (sym none) h
 
--- ---- what is found in one frame more
+-- ---- the findings in one more frame
 
 pub after_more : (step : ℕ) (past : List Moment) (frames : List (List Fib)) (f : List Fib) → after_frames step past (frames ++ f ∷ []) ≡ after_frame step (after_frames step past frames) f
 after_more step past [] f = refl

@@ -1,4 +1,4 @@
--- Greedy cutting gives the most parts, and a new identifier begins it anew.
+-- A greedy cut gives the maximum number of parts; a new identifier restarts it.
 use Rattle.std.proofs.Common.{◌≡◌, ◌≢◌, ℕ, zero, suc, ◌+◌, ◌<◌, ◌≤◌, List, [], ◌∷◌, ◌++◌, length, Contains, refl, sym, ap, ◌∙◌, arith, inl, inr, subst}
 use Rattle.std.proofs.lemmas.Bool.{cases_lt}
 use Rattle.std.specs.List.{concat}
@@ -15,7 +15,7 @@ some_left : {X : Type 0} (xs ys : List X) → xs ≢ [] → xs ++ ys ≢ []
 some_left [] ys some e = some refl
 some_left (x ∷ xs) ys some e = absurd cc
 
--- a frame more, seen from a cut into one part more: what stands before its last part
+-- for a cut into one part more that ends with the new frame: what precedes its last part
 record Before (wanted : List ℕ) (k : ℕ) (front back done open_frames : List (List ℕ)) (frame : List ℕ) : Type 0 where
   start : List (List ℕ)
   back_before : List (List ℕ)
@@ -34,7 +34,7 @@ before wanted k front back done open_frames frame e c =
     let s = shorter l.front (l.part ++ back) (done ++ open_frames) frame (is ∙ sym (append_assoc done open_frames (frame ∷ []))) some in
     record { start = l.front; back_before = s.back; part = l.part; is_before = s.is; is = is; cut = l.cut; whole = l.whole }
 
--- a piece of a cut that ends where the frame at hand does, or sooner
+-- a front of the frames ends with the new frame, or earlier
 sooner : (n : ℕ) (wanted : List ℕ) (front back done open_frames : List (List ℕ)) (frame : List ℕ) (P : Type 0)
     → front ++ back ≡ done ++ (open_frames ++ frame ∷ [])
     → (front ≡ done ++ (open_frames ++ frame ∷ []) → P)
@@ -45,7 +45,7 @@ sooner n wanted front (b ∷ bs) done open_frames frame P e at less =
     let s = shorter front (b ∷ bs) (done ++ open_frames) frame (e ∙ sym (append_assoc done open_frames (frame ∷ []))) some in
     less s.back s.is
 
--- ---- a part is whole
+-- ---- the part is complete
 
 closes_most : (wanted : List ℕ) (n : ℕ) (done open_frames : List (List ℕ)) (frame : List ℕ) → IsGreedy wanted n done open_frames
     → (m : ℕ) (front back : List (List ℕ)) → front ++ back ≡ done ++ (open_frames ++ frame ∷ []) → IsCutInto wanted m front → m ≤ n + 1
@@ -72,7 +72,7 @@ greedy_closes wanted n done open_frames frame g all =
       soonest = λ front back e c. closes_soonest wanted n done open_frames frame g front back (e ∙ nil) c;
     }
 
--- ---- a part is not whole
+-- ---- the part is incomplete
 
 stays_most : (wanted : List ℕ) (n : ℕ) (done open_frames : List (List ℕ)) (frame : List ℕ) → IsGreedy wanted n done open_frames
     → (HasAll wanted (open_frames ++ frame ∷ []) → ⊥)
@@ -106,7 +106,7 @@ greedy_stays wanted n done open_frames frame g short = record {
   soonest = stays_soonest wanted n done open_frames frame g;
 }
 
--- ---- the most parts
+-- ---- the maximum number of parts
 
 cut_all : (wanted : List ℕ) (n : ℕ) (done open_frames : List (List ℕ)) → IsGreedy wanted n done open_frames → 0 < n → IsCutInto wanted n (done ++ open_frames)
 cut_all wanted zero done open_frames g some = absurd (omega arith)
@@ -134,7 +134,7 @@ most_is_one wanted n m frames one other =
     let ge = at_most wanted m n frames other one in
     omega (arith, le, ge)
 
--- some frames are a part of themselves
+-- any frames are one part if they contain all that is wanted
 itself : (wanted : List ℕ) (f : List ℕ) (fs : List (List ℕ)) → HasAll wanted (f ∷ fs) → IsCutInto wanted 1 (f ∷ fs)
 itself wanted f fs all = let some : f ∷ fs ≢ [] = λ q. absurd cc in more wanted 0 [] (f ∷ fs) (none wanted) (some, all)
 
@@ -152,7 +152,7 @@ some_right : {X : Type 0} (xs ys : List X) → ys ≢ [] → xs ++ ys ≢ []
 some_right [] ys some e = some e
 some_right (x ∷ xs) ys some e = absurd cc
 
--- one part or more are one part
+-- a cut into one part or more can be joined into one part
 one_part : (wanted : List ℕ) (n : ℕ) (frames : List (List ℕ)) → IsCutInto wanted (suc n) frames → IsPart wanted frames
 one_part wanted n frames c =
     let l = last wanted n frames c in
@@ -189,7 +189,7 @@ three_or_more wanted n frames h = (
 
 -- ---- a new identifier
 
--- a piece at the front that has it is in no frames that do not
+-- a front that contains the identifier is not within frames without it
 missing : (wanted : List ℕ) (x : ℕ) (frames : List (List ℕ)) → Contains wanted x → (Contains (concat frames) x → ⊥)
     → (m : ℕ) (front back : List (List ℕ)) → front ++ back ≡ frames → IsCutInto wanted m front → m ≤ 0
 missing wanted x frames want new zero front back e c = omega arith
@@ -215,7 +215,7 @@ first_part_waits wanted x before after part back want new e whole =
           absurd (new (subst (λ (row : List (List ℕ)). Contains (concat row) x) at.is (heard_left part at.back x (whole.1 x want))))
     ]
 
--- ---- the same wanted, by another list
+-- ---- equivalent lists of wanted identifiers
 
 pub same_wanted : (wanted other : List ℕ) (n : ℕ) (done open_frames : List (List ℕ)) → ((x : ℕ) → Contains wanted x → Contains other x)
     → ((x : ℕ) → Contains other x → Contains wanted x) → IsGreedy wanted n done open_frames → IsGreedy other n done open_frames

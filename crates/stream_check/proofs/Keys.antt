@@ -1,4 +1,4 @@
--- The identifiers of a picture, and what holds of each of its entries, where one more is kept.
+-- The identifiers of a picture, and properties of each of its entries, with one more entry.
 use Rattle.std.proofs.Common.{◌≡◌, ◌≢◌, ℕ, ◌<◌, ◌==◌, Bool, true, false, cond, nat_lt, List, [], ◌∷◌, ◌++◌, length, Contains, Option, Some, None, is_some, refl, sym, ap, ◌∙◌, arith, inl, inr, ◌⊎◌, subst}
 use Rattle.std.specs.Prelude.{◌||◌}
 use Rattle.std.specs.List.{AllByRecursion}
@@ -8,22 +8,22 @@ use Rattle.std.proofs.lemmas.List.Elements.{Contains-append_left, Contains-appen
 use Rattle.mux_config.specs.Tables.{entry_at, with_entry, with_entry_changed, has_entry}
 use Rattle.fib_reader.specs.Raw.{Raw}
 use Rattle.fib_reader.specs.Listening.{identifier_of}
-use Rattle.stream_check.specs.declared.heard_table.Standing.TheVariants as standings
+use Rattle.stream_check.specs.declared.heard_table.Lookup.TheVariants as standings
 use Rattle.stream_check.specs.Pictures.{Heard, HeardPicture, heard_key, raws, heard_kept, shown, picture_kept, Each, HasKinds, key_of, keys, keys_of}
-use Rattle.stream_check.specs.Standing.{agree, standing_to, standing, standing_in}
+use Rattle.stream_check.specs.Lookup.{agree, lookup_among, lookup, lookup_in}
 use Rattle.stream_check.specs.Rules.{finds_no_room, is_absent}
 use Rattle.stream_check.proofs.PartCount.{here, there, one_of, in_none}
 use Rattle.stream_check.proofs.Tables.{raw_in, has_found, standing_found, each_weaker, each_kept}
 
 -- ---- identifiers of one list
 
--- two entries of one kind whose identifiers differ
+-- two entries of one kind with different identifiers
 pub keys_differ : (x h : Heard) (e : ℕ) → x.raw.ext ≡ e → h.raw.ext ≡ e → (heard_key x == heard_key h) ≡ false → key_of x.raw ≢ key_of h.raw
 keys_differ x h e a b free same =
     let one : identifier_of x.raw ≡ identifier_of h.raw = omega (arith, a, b, same) in
     false≢true (sym free ∙ eq-eqb (heard_key x) (heard_key h) one)
 
--- and two of different kinds
+-- two entries of different kinds
 pub kinds_differ : (x h : Heard) (e f : ℕ) → x.raw.ext ≡ e → h.raw.ext ≡ f → e < 4 → f < 4 → e ≢ f → key_of x.raw ≢ key_of h.raw
 kinds_differ x h e f a b small less other same = other (omega (arith, a, b, same, small, less))
 
@@ -54,7 +54,7 @@ added_keeps h (x ∷ xs) k c = elim (nat_lt (heard_key h) (heard_key x)) as (λ 
   ]
 ]
 
--- an entry that is not there
+-- an entry that is not in the list
 none_has : (hs : List Heard) (h : Heard) (e : ℕ) → h.raw.ext ≡ e → AllByRecursion (λ x. x.raw.ext ≡ e) hs → has_entry heard_key (heard_key h) hs ≡ false → Contains (keys hs) (key_of h.raw) → ⊥
 none_has [] h e k all free c = in_none (key_of h.raw) c
 none_has (x ∷ xs) h e k all free c = elim (heard_key x == heard_key h) as (λ t. (heard_key x == heard_key h) ≡ t → (t || has_entry heard_key (heard_key h) xs) ≡ false → ⊥) [
@@ -78,17 +78,17 @@ kept_as_changed h hs e = ap (λ t. cond t (with_entry_changed heard_key h hs) (w
 kept_as_added : (h : Heard) (hs : List Heard) → has_entry heard_key (heard_key h) hs ≡ false → heard_kept h hs ≡ with_entry heard_key h hs
 kept_as_added h hs e = ap (λ t. cond t (with_entry_changed heard_key h hs) (with_entry heard_key h hs)) e
 
--- ---- whether it is there, by how it stands to the others
+-- ---- whether an entry is in the list, from its lookup
 
-by_standing : (raw : Raw) (hs : List Heard) (found : Option Heard) → found ≡ entry_at heard_key (identifier_of raw) hs → finds_no_room (standing_to raw (length hs) (raw_in found)) ≡ false
-    → is_absent (standing_to raw (length hs) (raw_in found)) ≡ not (is_some found)
+by_standing : (raw : Raw) (hs : List Heard) (found : Option Heard) → found ≡ entry_at heard_key (identifier_of raw) hs → finds_no_room (lookup_among raw (length hs) (raw_in found)) ≡ false
+    → is_absent (lookup_among raw (length hs) (raw_in found)) ≡ not (is_some found)
 by_standing raw hs None e free = elim (nat_lt (length hs) 64) as (λ t. finds_no_room (cond t standings.Absent standings.Full) ≡ false → is_absent (cond t standings.Absent standings.Full) ≡ true) [
   | true ↦ λ n. refl
   | false ↦ λ n. absurd (false≢true (sym n))
 ] free
 by_standing raw hs (Some h) e free = elim (agree h.raw raw) as (λ t. is_absent (cond t standings.Same standings.Other) ≡ false) [ true ↦ refl | false ↦ refl ]
 
-pub absent_where : (raw : Raw) (hs : List Heard) → finds_no_room (standing raw (raws hs)) ≡ false → is_absent (standing raw (raws hs)) ≡ not (has_entry heard_key (identifier_of raw) hs)
+pub absent_where : (raw : Raw) (hs : List Heard) → finds_no_room (lookup raw (raws hs)) ≡ false → is_absent (lookup raw (raws hs)) ≡ not (has_entry heard_key (identifier_of raw) hs)
 absent_where raw hs free =
     let found = standing_found raw hs (entry_at heard_key (identifier_of raw) hs) refl in
     ap is_absent found ∙ by_standing raw hs (entry_at heard_key (identifier_of raw) hs) refl (ap finds_no_room (sym found) ∙ free)
@@ -96,7 +96,7 @@ absent_where raw hs free =
 
 -- ---- pictures
 
--- the list that it goes into
+-- the list for an entry
 by_kind : (n : ℕ) → 0 < n → n < 4 → (n ≡ 1) ⊎ ((n ≡ 2) ⊎ (n ≡ 3))
 by_kind n some few = elim (cases_lt n 2) [
   | inl one ↦ inl (omega (arith, one, some))
@@ -112,28 +112,28 @@ service_kept h p e = ap (λ n. cond (n == 1) (record p { subs = heard_kept h p.s
 packet_kept : (h : Heard) (p : HeardPicture) → h.raw.ext ≡ 3 → picture_kept h p ≡ record p { packets = heard_kept h p.packets }
 packet_kept h p e = ap (λ n. cond (n == 1) (record p { subs = heard_kept h p.subs }) (cond (n == 2) (record p { services = heard_kept h p.services }) (record p { packets = heard_kept h p.packets }))) e
 
-sub_standing : (raw : Raw) (p : HeardPicture) → raw.ext ≡ 1 → standing_in raw (shown p) ≡ standing raw (raws p.subs)
-sub_standing raw p e = ap (λ n. standing raw (cond (n == 1) (raws p.subs) (cond (n == 2) (raws p.services) (raws p.packets)))) e
+sub_standing : (raw : Raw) (p : HeardPicture) → raw.ext ≡ 1 → lookup_in raw (shown p) ≡ lookup raw (raws p.subs)
+sub_standing raw p e = ap (λ n. lookup raw (cond (n == 1) (raws p.subs) (cond (n == 2) (raws p.services) (raws p.packets)))) e
 
-service_standing : (raw : Raw) (p : HeardPicture) → raw.ext ≡ 2 → standing_in raw (shown p) ≡ standing raw (raws p.services)
-service_standing raw p e = ap (λ n. standing raw (cond (n == 1) (raws p.subs) (cond (n == 2) (raws p.services) (raws p.packets)))) e
+service_standing : (raw : Raw) (p : HeardPicture) → raw.ext ≡ 2 → lookup_in raw (shown p) ≡ lookup raw (raws p.services)
+service_standing raw p e = ap (λ n. lookup raw (cond (n == 1) (raws p.subs) (cond (n == 2) (raws p.services) (raws p.packets)))) e
 
-packet_standing : (raw : Raw) (p : HeardPicture) → raw.ext ≡ 3 → standing_in raw (shown p) ≡ standing raw (raws p.packets)
-packet_standing raw p e = ap (λ n. standing raw (cond (n == 1) (raws p.subs) (cond (n == 2) (raws p.services) (raws p.packets)))) e
+packet_standing : (raw : Raw) (p : HeardPicture) → raw.ext ≡ 3 → lookup_in raw (shown p) ≡ lookup raw (raws p.packets)
+packet_standing raw p e = ap (λ n. lookup raw (cond (n == 1) (raws p.subs) (cond (n == 2) (raws p.services) (raws p.packets)))) e
 
--- ---- what holds of each entry
+-- ---- properties of each entry
 
 both_each : {X : Type 0} (P Q : X → Type 0) (xs : List X) → AllByRecursion P xs → AllByRecursion Q xs → AllByRecursion (λ x. P x × Q x) xs
 both_each P Q [] p q = tt
 both_each P Q (x ∷ xs) p q = ((p.0, q.0), both_each P Q xs p.1 q.1)
 
--- in the list that it goes into
+-- in the list for the entry
 own_kept : (P Q : Heard → Type 0) (h : Heard) (hs : List Heard) (e : ℕ) → h.raw.ext ≡ e → AllByRecursion (λ x. x.raw.ext ≡ e) hs → Q h
     → ((x : Heard) → key_of x.raw ≢ key_of h.raw → P x → Q x) → AllByRecursion P hs → AllByRecursion Q (heard_kept h hs)
 own_kept P Q h hs e k kinds one other all =
     each_kept (λ x. (x.raw.ext ≡ e) × P x) Q h hs one (λ x free both. other x (keys_differ x h e both.0 k free) both.1) (both_each (λ x. x.raw.ext ≡ e) P hs kinds all)
 
--- and in another one
+-- in another list
 other_kept : (P Q : Heard → Type 0) (h : Heard) (hs : List Heard) (e f : ℕ) → h.raw.ext ≡ f → AllByRecursion (λ x. x.raw.ext ≡ e) hs → e < 4 → f < 4 → e ≢ f
     → ((x : Heard) → key_of x.raw ≢ key_of h.raw → P x → Q x) → AllByRecursion P hs → AllByRecursion Q hs
 other_kept P Q h hs e f k kinds small less apart other all =
@@ -169,7 +169,7 @@ kinds_kept h p some few kinds = elim (by_kind h.raw.ext some few) [
 
 -- ---- the identifiers
 
--- where an entry with its identifier is there, none comes beside the others; where none is, it comes beside them
+-- an entry with a known identifier adds none; one with a new identifier adds it
 pub record Joined (h : Heard) (p : HeardPicture) : Type 0 where
   pub new : Contains (keys_of p) (key_of h.raw) → ⊥
   pub has : Contains (keys_of (picture_kept h p)) (key_of h.raw)
@@ -207,8 +207,8 @@ not_false : (b : Bool) → not b ≡ false → b ≡ true
 not_false true e = refl
 not_false false e = absurd (false≢true (sym e))
 
-pub known_keys : (h : Heard) (p : HeardPicture) → 0 < h.raw.ext → h.raw.ext < 4 → HasKinds p → finds_no_room (standing_in h.raw (shown p)) ≡ false
-    → is_absent (standing_in h.raw (shown p)) ≡ false → keys_of (picture_kept h p) ≡ keys_of p
+pub known_keys : (h : Heard) (p : HeardPicture) → 0 < h.raw.ext → h.raw.ext < 4 → HasKinds p → finds_no_room (lookup_in h.raw (shown p)) ≡ false
+    → is_absent (lookup_in h.raw (shown p)) ≡ false → keys_of (picture_kept h p) ≡ keys_of p
 known_keys h p some few kinds room known = elim (by_kind h.raw.ext some few) [
   | inl k ↦
       let s = sub_standing h.raw p k in
@@ -226,8 +226,8 @@ known_keys h p some few kinds room known = elim (by_kind h.raw.ext some few) [
   ]
 ]
 
-pub new_keys : (h : Heard) (p : HeardPicture) → 0 < h.raw.ext → h.raw.ext < 4 → HasKinds p → finds_no_room (standing_in h.raw (shown p)) ≡ false
-    → is_absent (standing_in h.raw (shown p)) ≡ true → Joined h p
+pub new_keys : (h : Heard) (p : HeardPicture) → 0 < h.raw.ext → h.raw.ext < 4 → HasKinds p → finds_no_room (lookup_in h.raw (shown p)) ≡ false
+    → is_absent (lookup_in h.raw (shown p)) ≡ true → Joined h p
 new_keys h p some few kinds room new = elim (by_kind h.raw.ext some few) [
   | inl k ↦
       let s = sub_standing h.raw p k in
@@ -278,7 +278,7 @@ new_keys h p some few kinds room new = elim (by_kind h.raw.ext some few) [
   ]
 ]
 
--- an entry with its identifier is there
+-- an entry with its identifier is in the list
 own_there : (hs : List Heard) (h : Heard) (e : ℕ) → h.raw.ext ≡ e → AllByRecursion (λ x. x.raw.ext ≡ e) hs → has_entry heard_key (heard_key h) hs ≡ true → Contains (keys hs) (key_of h.raw)
 own_there [] h e k all is = absurd (false≢true is)
 own_there (x ∷ xs) h e k all is = elim (heard_key x == heard_key h) as (λ t. (heard_key x == heard_key h) ≡ t → (t || has_entry heard_key (heard_key h) xs) ≡ true → Contains (keys (x ∷ xs)) (key_of h.raw)) [
@@ -289,8 +289,8 @@ own_there (x ∷ xs) h e k all is = elim (heard_key x == heard_key h) as (λ t. 
   | false ↦ λ same more. there (key_of x.raw) (key_of h.raw) (keys xs) (own_there xs h e k all.1 more)
 ] refl is
 
-pub known_has : (h : Heard) (p : HeardPicture) → 0 < h.raw.ext → h.raw.ext < 4 → HasKinds p → finds_no_room (standing_in h.raw (shown p)) ≡ false
-    → is_absent (standing_in h.raw (shown p)) ≡ false → Contains (keys_of p) (key_of h.raw)
+pub known_has : (h : Heard) (p : HeardPicture) → 0 < h.raw.ext → h.raw.ext < 4 → HasKinds p → finds_no_room (lookup_in h.raw (shown p)) ≡ false
+    → is_absent (lookup_in h.raw (shown p)) ≡ false → Contains (keys_of p) (key_of h.raw)
 known_has h p some few kinds room known = elim (by_kind h.raw.ext some few) [
   | inl k ↦
       let s = sub_standing h.raw p k in

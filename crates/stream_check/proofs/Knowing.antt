@@ -1,11 +1,11 @@
--- What is kept stays what was said before, an entry of FIG 0/1 to 0/3 further.
+-- After an entry of FIG 0/1 to 0/3 the state still agrees with the past of the stream.
 use Rattle.std.proofs.Common.{◌≡◌, ℕ, ◌+◌, ◌<◌, ◌≤◌, ◌==◌, ◌&&◌, ◌||◌, Bool, true, false, cond, not, List, [], ◌∷◌, ◌++◌, length, Some, refl, sym, ap, ◌∙◌, arith, inl, inr, subst, lt-ltb, le-ltb}
 use Rattle.std.proofs.lemmas.Bool.{cases_lt, false≢true, eq-eqb, ne_eqb}
 use Rattle.std.proofs.lemmas.List.{append-nil}
 use Rattle.fib_reader.specs.Listening.{Listening, into, pictured, picture_of}
 use Rattle.stream_check.specs.declared.memory.Memory.{Memory}
 use Rattle.stream_check.specs.Pictures.{Heard, picture_kept, key_of, shown}
-use Rattle.stream_check.specs.Standing.{standing_in}
+use Rattle.stream_check.specs.Lookup.{lookup_in}
 use Rattle.stream_check.specs.Rules.{finds_no_room, is_absent, at_most}
 use Rattle.stream_check.specs.History.{Item, Moment, Said, is_ensemble, frames_ended, listener_after, has_ensemble, has_begun, began_early, row_at_hand, rows, last_heard}
 use Rattle.stream_check.specs.Memory.{listener_in, with_current, with_next, later, IsLastHeard, HasNotice, Knows}
@@ -26,7 +26,7 @@ later_first a b le = ap (λ t. cond t b a) (le-ltb a b le)
 tuned_is : (step period : ℕ) (past : List Moment) (m : Memory) → Knows step period past m → (listener_after past).tuned ≡ m.tuned
 tuned_is step period past m k = ap (λ (l : Listening). l.tuned) (after_is past (listener_in m) k.heard)
 
--- before the first FIG 0/0 it is passed over
+-- before the first FIG 0/0 it is ignored
 pub knows_passed : (step period : ℕ) (past : List Moment) (m : Memory) (i : Item) → is_ensemble i ≡ false → m.tuned ≡ false → Knows step period past m → Knows step period (Said i ∷ past) m
 knows_passed step period past m i e untuned k =
     let l : Listening = listener_in m in
@@ -35,7 +35,7 @@ knows_passed step period past m i e untuned k =
     member_row past i e ∙ ap (λ b. row_at_hand past ++ cond (b && i.next) (key_of i.raw ∷ []) []) t ∙ append-nil (row_at_hand past) in
     record {
       mode = k.mode;
-      turn = k.turn;
+      page_index = k.page_index;
       heard = member_heard past i (listener_in m) k.heard ∙ member_entry i.next i.raw (listener_in m) e
           ∙ ap (λ b. cond b (into i.next (listener_in m) (pictured i.raw (picture_of i.next (listener_in m)))) (Some (listener_in m))) untuned;
       frames = k.frames;
@@ -61,7 +61,7 @@ knows_passed step period past m i e untuned k =
 
 -- an entry of the current configuration
 pub knows_current : (step period : ℕ) (past : List Moment) (m : Memory) (i : Item) → is_ensemble i ≡ false → i.raw.ext < 4 → 0 < i.raw.ext → m.tuned ≡ true → i.next ≡ false
-    → finds_no_room (standing_in i.raw (shown m.current)) ≡ false → Knows step period past m → Knows step period (Said i ∷ past) (with_current i.raw m)
+    → finds_no_room (lookup_in i.raw (shown m.current)) ≡ false → Knows step period past m → Knows step period (Said i ∷ past) (with_current i.raw m)
 knows_current step period past m i e few some tuned nx room k =
     let t : (listener_after past).tuned ≡ true = tuned_is step period past m k ∙ tuned in
     let same_row : row_at_hand (Said i ∷ past) ≡ row_at_hand past =
@@ -73,7 +73,7 @@ knows_current step period past m i e few some tuned nx room k =
     let upper : m.swapped ≤ m.frames + 1 = omega (arith, k.swapped, k.frames) in
     record {
       mode = k.mode;
-      turn = k.turn;
+      page_index = k.page_index;
       heard = member_heard past i (listener_in m) k.heard ∙ member_entry i.next i.raw (listener_in m) e
           ∙ ap (λ b. cond b (into i.next (listener_in m) (pictured i.raw (picture_of i.next (listener_in m)))) (Some (listener_in m))) tuned
           ∙ ap (λ b. into b (listener_in m) (pictured i.raw (picture_of b (listener_in m)))) nx
@@ -106,9 +106,9 @@ early : (b x y : Bool) → cond b x y ≡ cond (true && not b) y x
 early true x y = refl
 early false x y = refl
 
--- an entry of the next one
+-- an entry of the next configuration
 pub knows_next : (step period : ℕ) (past : List Moment) (m : Memory) (i : Item) → is_ensemble i ≡ false → i.raw.ext < 4 → 0 < i.raw.ext → m.tuned ≡ true → i.next ≡ true
-    → finds_no_room (standing_in i.raw (shown m.next)) ≡ false → Knows step period past m → Knows step period (Said i ∷ past) (with_next i.raw m)
+    → finds_no_room (lookup_in i.raw (shown m.next)) ≡ false → Knows step period past m → Knows step period (Said i ∷ past) (with_next i.raw m)
 knows_next step period past m i e few some tuned nx room k =
     let h : Heard = record { raw = i.raw; at = m.rows + 1 } in
     let t : (listener_after past).tuned ≡ true = tuned_is step period past m k ∙ tuned in
@@ -120,7 +120,7 @@ knows_next step period past m i e few some tuned nx room k =
     ∙ ap (λ b. cond (true && (not b && (key_of i.raw == key))) (frames_ended past + 1) (last_heard key past)) nx in
     record {
       mode = k.mode;
-      turn = k.turn;
+      page_index = k.page_index;
       heard = member_heard past i (listener_in m) k.heard ∙ member_entry i.next i.raw (listener_in m) e
           ∙ ap (λ b. cond b (into i.next (listener_in m) (pictured i.raw (picture_of i.next (listener_in m)))) (Some (listener_in m))) tuned
           ∙ ap (λ b. into b (listener_in m) (pictured i.raw (picture_of b (listener_in m)))) nx
@@ -145,10 +145,10 @@ knows_next step period past m i e few some tuned nx room k =
       last = each_in (IsLastHeard past m.swapped) (IsLastHeard (Said i ∷ past) m.swapped) m.current (λ x is. is ∙ sym (last_is (key_of x.raw))) k.last;
       notice = subst (λ (rs : List (List ℕ)). HasNotice rs (row_at_hand (Said i ∷ past)) m.rows (with_next i.raw m).since (with_next i.raw m).parts (picture_kept h m.next) true) (sym (member_rows past i e))
           (subst (λ (r : List ℕ). HasNotice (rows past) r m.rows (with_next i.raw m).since (with_next i.raw m).parts (picture_kept h m.next) true) (sym row_is)
-          (noticed (is_absent (standing_in i.raw (shown m.next))) refl));
+          (noticed (is_absent (lookup_in i.raw (shown m.next))) refl));
     }
   where
-    noticed : (a : Bool) → is_absent (standing_in i.raw (shown m.next)) ≡ a
+    noticed : (a : Bool) → is_absent (lookup_in i.raw (shown m.next)) ≡ a
         → HasNotice (rows past) (row_at_hand past ++ key_of i.raw ∷ []) m.rows (cond a 0 m.since) (cond a 0 m.parts) (picture_kept (record { raw = i.raw; at = m.rows + 1 }) m.next) true
     noticed true is = notice_new (rows past) (row_at_hand past) m.rows m.since m.parts m.next m.has_begun (record { raw = i.raw; at = m.rows + 1 }) some few k.kinds.1 room is refl k.notice
     noticed false is = notice_known (rows past) (row_at_hand past) m.rows m.since m.parts m.next m.has_begun (record { raw = i.raw; at = m.rows + 1 }) some few k.kinds.1 room is refl

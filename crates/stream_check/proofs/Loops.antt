@@ -1,8 +1,8 @@
--- Hearing entries in a loop: so far, and what is left.
+-- Hearing entries in a loop: those heard so far, and the rest.
 use Rattle.std.proofs.Common.{◌≡◌, true, false, List, [], ◌++◌, Option, refl, sym, ap, ◌∙◌, subst}
 use Rattle.std.proofs.lemmas.List.{append_assoc, append-nil}
 use Rattle.stream_check.specs.declared.finding.Finding.{Finding}
-use Rattle.stream_check.specs.declared.telling.FrameAt.{FrameAt}
+use Rattle.stream_check.specs.declared.reporting.FrameAt.{FrameAt}
 use Rattle.stream_check.specs.declared.memory.Memory.{Memory}
 use Rattle.stream_check.specs.History.{Item}
 use Rattle.stream_check.specs.Memory.{IsSane}
@@ -10,31 +10,31 @@ use Rattle.stream_check.specs.Hearing.{IsLater, Hears}
 use Rattle.stream_check.proofs.Chain.{hears_nothing, hears_more, hears_full}
 use Rattle.stream_check.proofs.Steps.{later_itself, later_twice}
 
--- of all entries these are left
-pub record IsOnItsWay (at : FrameAt) (all left : List Item) (old : Memory) (before : Option (List Finding)) (now : Memory) (told : Option (List Finding)) : Type 0 where
+-- of all entries, these remain
+pub record IsOnItsWay (at : FrameAt) (all left : List Item) (old : Memory) (before : Option (List Finding)) (now : Memory) (reported : Option (List Finding)) : Type 0 where
   pub done : List Item
   pub whole : done ++ left ≡ all
   pub later : IsLater old now
-  pub heard : Hears at done old before now told false
+  pub heard : Hears at done old before now reported false
 
 pub sets_out : (at : FrameAt) (all : List Item) (old : Memory) (before : Option (List Finding)) → IsSane old → IsOnItsWay at all all old before old before
 sets_out at all old before s = record { done = []; whole = refl; later = later_itself old s; heard = hears_nothing at old before }
 
-pub goes_on : (at : FrameAt) (all left some rest : List Item) (old now new : Memory) (before told after : Option (List Finding)) → left ≡ some ++ rest → IsLater now new → Hears at some now told new after false
-    → IsOnItsWay at all left old before now told → IsOnItsWay at all rest old before new after
-goes_on at all left some rest old now new before told after e l h w = record {
+pub goes_on : (at : FrameAt) (all left some rest : List Item) (old now new : Memory) (before reported after : Option (List Finding)) → left ≡ some ++ rest → IsLater now new → Hears at some now reported new after false
+    → IsOnItsWay at all left old before now reported → IsOnItsWay at all rest old before new after
+goes_on at all left some rest old now new before reported after e l h w = record {
   done = w.done ++ some;
   whole = append_assoc w.done some rest ∙ ap (λ r. w.done ++ r) (sym e) ∙ w.whole;
   later = later_twice old now new w.later l;
-  heard = hears_more at w.done some old now new before told after false w.later.step w.later.period w.heard h;
+  heard = hears_more at w.done some old now new before reported after false w.later.step w.later.period w.heard h;
 }
 
-pub breaks_off : (at : FrameAt) (all left some rest : List Item) (old now new : Memory) (before told after : Option (List Finding)) → left ≡ some ++ rest → Hears at some now told new after true
-    → IsOnItsWay at all left old before now told → Hears at all old before new after true
-breaks_off at all left some rest old now new before told after e h w =
+pub breaks_off : (at : FrameAt) (all left some rest : List Item) (old now new : Memory) (before reported after : Option (List Finding)) → left ≡ some ++ rest → Hears at some now reported new after true
+    → IsOnItsWay at all left old before now reported → Hears at all old before new after true
+breaks_off at all left some rest old now new before reported after e h w =
     subst (λ (is : List Item). Hears at is old before new after true) (append_assoc w.done some rest ∙ ap (λ r. w.done ++ r) (sym e) ∙ w.whole)
-    (hears_full at (w.done ++ some) rest old new before after (hears_more at w.done some old now new before told after true w.later.step w.later.period w.heard h))
+    (hears_full at (w.done ++ some) rest old new before after (hears_more at w.done some old now new before reported after true w.later.step w.later.period w.heard h))
 
-pub arrives : (at : FrameAt) (all left : List Item) (old now : Memory) (before told : Option (List Finding)) → left ≡ [] → IsOnItsWay at all left old before now told → Hears at all old before now told false
-arrives at all left old now before told e w =
-    subst (λ (is : List Item). Hears at is old before now told false) (sym (append-nil w.done) ∙ ap (λ r. w.done ++ r) (sym e) ∙ w.whole) w.heard
+pub arrives : (at : FrameAt) (all left : List Item) (old now : Memory) (before reported : Option (List Finding)) → left ≡ [] → IsOnItsWay at all left old before now reported → Hears at all old before now reported false
+arrives at all left old now before reported e w =
+    subst (λ (is : List Item). Hears at is old before now reported false) (sym (append-nil w.done) ∙ ap (λ r. w.done ++ r) (sym e) ∙ w.whole) w.heard

@@ -1,4 +1,4 @@
--- What an entry of FIG 0/1 to 0/3 leaves of what was said before.
+-- How an entry of FIG 0/1 to 0/3 affects the past of a stream.
 use Rattle.std.proofs.Common.{◌≡◌, ℕ, ◌+◌, ◌%◌, ◌==◌, ◌&&◌, ◌||◌, Bool, true, false, cond, not, List, [], ◌∷◌, ◌++◌, Option, Some, None, refl, sym, ap, ◌∙◌, arith}
 use Rattle.fib_reader.specs.Raw.{Raw, ensemble_in}
 use Rattle.fib_reader.specs.Listening.{Listening, hear_entry, is_made, where_heard, at_ensemble, into, pictured, picture_of}
@@ -17,7 +17,7 @@ pub or_true : (a : Bool) → (a || true) ≡ true
 or_true true = refl
 or_true false = refl
 
--- ---- an entry that is no FIG 0/0
+-- ---- an entry other than FIG 0/0
 
 pub no_swap : (past : List Moment) (i : Item) → is_ensemble i ≡ false → is_swap past i ≡ false
 no_swap past i e = ap (λ t. t && is_made (listener_after past).awaited (ensemble_of i)) e

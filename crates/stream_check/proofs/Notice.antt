@@ -1,4 +1,4 @@
--- The frames of a notice, an entry further and a frame further.
+-- The frames of a notice, with one more entry and with one more frame.
 use Rattle.std.proofs.Common.{◌≡◌, ◌≢◌, ◌↔◌, ℕ, ◌+◌, ◌<◌, ◌≤◌, ◌&&◌, Bool, true, false, nat_lt, List, [], ◌∷◌, ◌++◌, length, take, drop, Contains, refl, sym, ap, ◌∙◌, arith, inl, inr, ◌⊎◌, subst, lt-ltb}
 use Rattle.std.specs.List.{AllByRecursion, concat, list_all}
 use Rattle.std.proofs.lemmas.Bool.{cases_lt, false≢true}
@@ -7,7 +7,7 @@ use Rattle.std.proofs.lemmas.List.{append_assoc, append-nil, length-append, take
 use Rattle.std.proofs.lemmas.List.Elements.{Contains-append_left, Contains-append_right, Contains-append_cases}
 use Rattle.stream_check.specs.Cutting.{HasAll, IsGreedy}
 use Rattle.stream_check.specs.Pictures.{Heard, HeardPicture, empty_picture, picture_kept, heard_since, Each, HasKinds, key_of, keys, keys_of, shown}
-use Rattle.stream_check.specs.Standing.{standing_in}
+use Rattle.stream_check.specs.Lookup.{lookup_in}
 use Rattle.stream_check.specs.Rules.{finds_no_room, is_absent}
 use Rattle.stream_check.specs.Memory.{IsStamped, HasNotice}
 use Rattle.stream_check.proofs.Rows.{concat-more}
@@ -16,7 +16,7 @@ use Rattle.stream_check.proofs.PartCount.{here, there, one_of, in_none, greedy_a
 use Rattle.stream_check.proofs.Tables.{each_weaker}
 use Rattle.stream_check.proofs.Keys.{picture_each, known_keys, new_keys}
 
--- ---- an entry more
+-- ---- one more entry
 
 joins : (heard frame : List ℕ) (id x : ℕ) → x ≢ id → Contains (heard ++ frame) x ↔ Contains (heard ++ (frame ++ id ∷ [])) x
 joins heard frame id x other = (
@@ -41,7 +41,7 @@ stamp_other frames frame id x other h = (
       (λ c. (h.1 s le).0 (both.1 c), λ b. both.0 ((h.1 s le).1 b)),
 )
 
--- what was heard with it before, or is it
+-- an identifier was heard before, or is the new one
 heard_or_new : (frames : List (List ℕ)) (frame : List ℕ) (id x : ℕ) → Contains (concat frames ++ (frame ++ id ∷ [])) x → Contains (concat frames ++ frame) x ⊎ (x ≡ id)
 heard_or_new frames frame id x c = elim (Contains-append_cases (concat frames ++ frame) (id ∷ []) x (subst (λ (l : List ℕ). Contains l x) (sym (append_assoc (concat frames) frame (id ∷ []))) c)) [
   | inl before ↦ inl before
@@ -49,7 +49,7 @@ heard_or_new frames frame id x c = elim (Contains-append_cases (concat frames ++
 ]
 
 pub notice_known : (frames : List (List ℕ)) (frame : List ℕ) (count since parts : ℕ) (next : HeardPicture) (begun : Bool) (h : Heard) → 0 < h.raw.ext → h.raw.ext < 4 → HasKinds next
-    → finds_no_room (standing_in h.raw (shown next)) ≡ false → is_absent (standing_in h.raw (shown next)) ≡ false → h.at ≡ count + 1
+    → finds_no_room (lookup_in h.raw (shown next)) ≡ false → is_absent (lookup_in h.raw (shown next)) ≡ false → h.at ≡ count + 1
     → Contains (keys_of next) (key_of h.raw) → HasNotice frames frame count since parts next begun → HasNotice frames (frame ++ key_of h.raw ∷ []) count since parts (picture_kept h next) true
 notice_known frames frame count since parts next begun h some few kinds room known at has n =
     let same = known_keys h next some few kinds room known in
@@ -67,7 +67,7 @@ notice_known frames frame count since parts next begun h some few kinds room kno
     }
 
 pub notice_new : (frames : List (List ℕ)) (frame : List ℕ) (count since parts : ℕ) (next : HeardPicture) (begun : Bool) (h : Heard) → 0 < h.raw.ext → h.raw.ext < 4 → HasKinds next
-    → finds_no_room (standing_in h.raw (shown next)) ≡ false → is_absent (standing_in h.raw (shown next)) ≡ true → h.at ≡ count + 1
+    → finds_no_room (lookup_in h.raw (shown next)) ≡ false → is_absent (lookup_in h.raw (shown next)) ≡ true → h.at ≡ count + 1
     → HasNotice frames frame count since parts next begun → HasNotice frames (frame ++ key_of h.raw ∷ []) count 0 0 (picture_kept h next) true
 notice_new frames frame count since parts next begun h some few kinds room new at n =
     let j = new_keys h next some few kinds room new in
@@ -136,7 +136,7 @@ each_later since p e =
 later_each : (since : ℕ) (p : HeardPicture) → Each (λ h. since < h.at) p → heard_since since p ≡ true
 later_each since p e = true_both _ _ (later_all since p.subs e.0) (true_both _ _ (later_all since p.services e.1.0) (later_all since p.packets e.1.1))
 
--- by the identifiers
+-- a property of the identifiers
 by_keys : (Q : ℕ → Type 0) (hs : List Heard) → AllByRecursion (λ h. Q (key_of h.raw)) hs → (x : ℕ) → Contains (keys hs) x → Q x
 by_keys Q [] all x c = absurd (in_none x c)
 by_keys Q (h ∷ hs) all x c = elim (Contains-append_cases (key_of h.raw ∷ []) (keys hs) x c) [
@@ -173,7 +173,7 @@ each_both P Q R p f a b = (all_both p.subs a.0 b.0, (all_both p.services a.1.0 b
 pub each_in : (P Q : Heard → Type 0) (p : HeardPicture) → ((x : Heard) → P x → Q x) → Each P p → Each Q p
 each_in P Q p f a = (each_weaker P Q p.subs f a.0, (each_weaker P Q p.services f a.1.0, each_weaker P Q p.packets f a.1.1))
 
--- all were heard since a frame exactly where the frames since that one have them all
+-- all entries were heard after a frame exactly where the frames after it contain all of them
 whole_has_all : (frames : List (List ℕ)) (frame : List ℕ) (count since parts : ℕ) (next : HeardPicture) (begun : Bool) → HasNotice frames frame count since parts next begun → heard_since since next ≡ true
     → HasAll (keys_of next) (drop since frames ++ frame ∷ [])
 whole_has_all frames frame count since parts next begun n whole x want =

@@ -1,4 +1,4 @@
--- Cutting as soon as a part is whole gives the most parts, counted along the frames.
+-- Ending each part as early as possible gives the maximum number of parts, counted frame by frame.
 use Rattle.std.proofs.Common.{◌≡◌, ℕ, zero, suc, ◌+◌, ◌≤◌, ◌==◌, ◌&&◌, ◌||◌, Bool, true, false, cond, List, [], ◌∷◌, ◌++◌, Contains, refl, sym, ap, ◌∙◌, arith, inl, inr, subst}
 use Rattle.std.specs.List.{concat, list_all}
 use Rattle.std.proofs.lemmas.Bool.{eq-eqb, eqb-true, false≢true}
@@ -9,7 +9,7 @@ use Rattle.stream_check.specs.Parts.{contains, has_all, parts_from, most_parts, 
 use Rattle.stream_check.proofs.Cuts.{last, none}
 use Rattle.stream_check.proofs.Greedily.{greedy_closes, greedy_stays, greedy_is_most, most_is_one}
 
--- ---- what a list contains
+-- ---- membership in a list
 
 pub here : (x : ℕ) (xs : List ℕ) → Contains (x ∷ xs) x
 here x xs = (0, omega arith, refl)
@@ -123,7 +123,7 @@ is_the_most wanted frames =
     let count : 0 + parts_from wanted [] frames ≡ most_parts wanted frames = omega arith in
     subst (λ (n : ℕ). IsMostParts wanted n frames) count (along wanted 0 [] [] frames (greedy_at_first wanted))
 
--- so a greedy cut has this many parts
+-- so a greedy cut has this number of parts
 pub parts_counted : (wanted : List ℕ) (n : ℕ) (done open_frames : List (List ℕ)) → IsGreedy wanted n done open_frames → n ≡ most_parts wanted (done ++ open_frames)
 parts_counted wanted n done open_frames g =
     most_is_one wanted n (most_parts wanted (done ++ open_frames)) (done ++ open_frames) (greedy_is_most wanted n done open_frames g) (is_the_most wanted (done ++ open_frames))

@@ -1,4 +1,4 @@
--- A FIB is read in one way.
+-- Each FIB has exactly one reading.
 use Rattle.std.proofs.Common.{◌≡◌, ◌⊎◌, inl, inr, ℕ, List, Some, None, Ok, Err, refl}
 use Rattle.std.specs.Prelude.{Result}
 use Rattle.fib_codec.specs.Grammar.{Fig, IsFib}
@@ -21,7 +21,7 @@ pub read_damaged : (bytes : List ℕ) (fault : FibFault) → ((fs : List Fig) �
 read_damaged bytes fault every None damaged = refl
 read_damaged bytes fault every (Some fs) read = let one = every fs read in absurd cc
 
--- there is a reading of all FIBs
+-- a reading of all FIBs exists
 pub all_read : FaultOrFigs → FigsOrFault → Reading
 all_read apart either = record {
   read = λ bytes. read_of bytes (either bytes);

@@ -1,4 +1,4 @@
--- One entry is heard: what is told of it, and what is known after it.
+-- Hearing one entry: what is reported, and what is known afterwards.
 use Rattle.std.proofs.Common.{◌≡◌, ◌≢◌, ℕ, ◌+◌, ◌<◌, ◌≤◌, ◌==◌, ◌&&◌, ◌||◌, Bool, true, false, cond, not, List, [], ◌∷◌, ◌++◌, map, take, drop, Option, refl, sym, ap, ◌∙◌, arith, inl, inr, subst, lt-ltb, le-ltb}
 use Rattle.std.proofs.lemmas.Bool.{cases_lt, false≢true, ne_eqb}
 use Rattle.std.proofs.lemmas.List.{append-nil, append_assoc, map-append, take-append-drop}
@@ -7,11 +7,11 @@ use Rattle.fib_reader.specs.Raw.{Raw, ensemble_in}
 use Rattle.fib_reader.specs.Listening.{Listening, all_entries}
 use Rattle.stream_check.specs.declared.finding.Finding.{Finding}
 use Rattle.stream_check.specs.declared.finding.What.{What}
-use Rattle.stream_check.specs.declared.telling.FrameAt.{FrameAt}
+use Rattle.stream_check.specs.declared.reporting.FrameAt.{FrameAt}
 use Rattle.stream_check.specs.declared.memory.Memory.{Memory}
-use Rattle.stream_check.specs.Telling.{with_more, in_frame}
+use Rattle.stream_check.specs.Reporting.{with_more, in_frame}
 use Rattle.stream_check.specs.Pictures.{Heard, HeardPicture, key_of, keys, keys_of, raws, shown}
-use Rattle.stream_check.specs.Standing.{standing_in}
+use Rattle.stream_check.specs.Lookup.{lookup_in}
 use Rattle.stream_check.specs.Parts.{most_parts}
 use Rattle.stream_check.specs.History.{Item, Moment, Said, items_of, frames_ended, listener_after, due, last_eid, has_ensemble, has_begun, began_early, times_announced, last_flags, is_cut_off, rows}
 use Rattle.stream_check.specs.Rules.{Known, known_of, times_heard, at_most, has_flags, makes_swap, findings_at, ensemble_findings, member_findings, current_findings, next_findings, has_no_room, finds_no_room, is_absent}
@@ -23,7 +23,7 @@ use Rattle.stream_check.proofs.Knowing.{knows_passed, knows_current, knows_next}
 use Rattle.stream_check.proofs.Ensembles.{knows_ensemble}
 use Rattle.stream_check.proofs.Chain.{more_none}
 
--- ---- what is kept knows what was said before
+-- ---- the state knows what was sent before
 
 raw_keys : (hs : List Heard) → map key_of (raws hs) ≡ keys hs
 raw_keys [] = refl
@@ -82,25 +82,25 @@ known_same step period past m k =
 one_found : (k : Known) (i : Item) (found : List What) → has_no_room k i ≡ false → findings_at k i ≡ found → cond (has_no_room k i) [] (findings_at k i ++ []) ≡ found
 one_found k i found room is = ap (λ t. cond t [] (findings_at k i ++ [])) room ∙ append-nil (findings_at k i) ∙ is
 
--- heard where there is room for it
+-- an entry for which there is room
 pub heard_one : (at : FrameAt) (i : Item) (old new : Memory) (before after : Option (List Finding)) → has_no_room (known_in old) i ≡ false → after ≡ with_more before (map (in_frame at) (findings_at (known_in old) i))
     → ((past : List Moment) → Knows old.step old.period past old → Knows old.step old.period (Said i ∷ past) new) → Hears at (i ∷ []) old before new after false
-heard_one at i old new before after room told next past k =
+heard_one at i old new before after room reported next past k =
     let same = known_same old.step old.period past old k in
     let free : has_no_room (known_of old.step old.period past) i ≡ false = ap (λ t. has_no_room t i) (sym same) ∙ room in
     record {
-      findings = told ∙ ap (λ fs. with_more before (map (in_frame at) fs)) (ap (λ t. findings_at t i) same ∙ sym (one_found (known_of old.step old.period past) i (findings_at (known_of old.step old.period past) i) free refl));
+      findings = reported ∙ ap (λ fs. with_more before (map (in_frame at) fs)) (ap (λ t. findings_at t i) same ∙ sym (one_found (known_of old.step old.period past) i (findings_at (known_of old.step old.period past) i) free refl));
       room = ap (λ t. cond t true false) free;
       knows = λ e. next past k;
     }
 
--- without room for it
+-- an entry for which there is no room
 pub heard_none : (at : FrameAt) (i : Item) (old new : Memory) (before after : Option (List Finding)) → has_no_room (known_in old) i ≡ true → after ≡ before → Hears at (i ∷ []) old before new after true
-heard_none at i old new before after room told past k =
+heard_none at i old new before after room reported past k =
     let same = known_same old.step old.period past old k in
     let full : has_no_room (known_of old.step old.period past) i ≡ true = ap (λ t. has_no_room t i) (sym same) ∙ room in
     record {
-      findings = told ∙ more_none before ∙ ap (λ fs. with_more before (map (in_frame at) fs)) (sym (ap (λ t. cond t [] (findings_at (known_of old.step old.period past) i ++ [])) full));
+      findings = reported ∙ more_none before ∙ ap (λ fs. with_more before (map (in_frame at) fs)) (sym (ap (λ t. cond t [] (findings_at (known_of old.step old.period past) i ++ [])) full));
       room = ap (λ t. cond t true false) full;
       knows = λ e. absurd (false≢true (sym e));
     }
@@ -110,11 +110,11 @@ pub hears_ensemble : (at : FrameAt) (first next : Bool) (raw : Raw) (old new : M
     → after ≡ with_more before (map (in_frame at) (ensemble_findings (known_in old) first (ensemble_in raw)))
     → new ≡ with_ensemble first (ensemble_in raw) (cond (makes_swap (known_in old) (ensemble_in raw)) (with_swap old) old)
     → Hears at (items_of first next (raw ∷ [])) old before new after false
-hears_ensemble at first next raw old new before after zero told is =
+hears_ensemble at first next raw old new before after zero reported is =
     let e : (raw.ext == 0) ≡ true = ap (λ n. n == 0) zero in
     heard_one at (record { first = first; next = next; raw = raw }) old new before after
-    (ap (λ t. cond t false (old.tuned && finds_no_room (standing_in raw (cond next (shown old.next) (shown old.current))))) e)
-    (told ∙ ap (λ fs. with_more before (map (in_frame at) fs)) (sym (ap (λ t. cond t (ensemble_findings (known_in old) first (ensemble_in raw)) (member_findings (known_in old) next raw)) e)))
+    (ap (λ t. cond t false (old.tuned && finds_no_room (lookup_in raw (cond next (shown old.next) (shown old.current))))) e)
+    (reported ∙ ap (λ fs. with_more before (map (in_frame at) fs)) (sym (ap (λ t. cond t (ensemble_findings (known_in old) first (ensemble_in raw)) (member_findings (known_in old) next raw)) e)))
     (λ past k. subst (λ (m : Memory). Knows old.step old.period (Said (record { first = first; next = next; raw = raw }) ∷ past) m) (sym is)
     (knows_ensemble old.step old.period past old (record { first = first; next = next; raw = raw }) e k))
 
@@ -124,59 +124,59 @@ not_zero n other = ne_eqb n 0 other
 some_more : (n : ℕ) → n ≢ 0 → 0 < n
 some_more n other = elim (cases_lt 0 n) [ inl lt ↦ lt | inr le ↦ absurd (other (omega (arith, le))) ]
 
-room_of : (old : Memory) (first next : Bool) (raw : Raw) (b : Bool) → (raw.ext == 0) ≡ false → (old.tuned && finds_no_room (standing_in raw (cond next (shown old.next) (shown old.current)))) ≡ b
+room_of : (old : Memory) (first next : Bool) (raw : Raw) (b : Bool) → (raw.ext == 0) ≡ false → (old.tuned && finds_no_room (lookup_in raw (cond next (shown old.next) (shown old.current)))) ≡ b
     → has_no_room (known_in old) (record { first = first; next = next; raw = raw }) ≡ b
-room_of old first next raw b e is = ap (λ t. cond t false (old.tuned && finds_no_room (standing_in raw (cond next (shown old.next) (shown old.current))))) e ∙ is
+room_of old first next raw b e is = ap (λ t. cond t false (old.tuned && finds_no_room (lookup_in raw (cond next (shown old.next) (shown old.current))))) e ∙ is
 
 found_of : (old : Memory) (first next : Bool) (raw : Raw) → (raw.ext == 0) ≡ false → findings_at (known_in old) (record { first = first; next = next; raw = raw }) ≡ member_findings (known_in old) next raw
 found_of old first next raw e = ap (λ t. cond t (ensemble_findings (known_in old) first (ensemble_in raw)) (member_findings (known_in old) next raw)) e
 
--- before the first FIG 0/0
+-- an entry before the first FIG 0/0
 pub hears_passed : (at : FrameAt) (first next : Bool) (raw : Raw) (old : Memory) (before : Option (List Finding)) → raw.ext ≢ 0 → old.tuned ≡ false → Hears at (items_of first next (raw ∷ [])) old before old before false
 hears_passed at first next raw old before other untuned =
     let e = not_zero raw.ext other in
     heard_one at (record { first = first; next = next; raw = raw }) old old before before
-    (room_of old first next raw false e (ap (λ t. t && finds_no_room (standing_in raw (cond next (shown old.next) (shown old.current)))) untuned))
+    (room_of old first next raw false e (ap (λ t. t && finds_no_room (lookup_in raw (cond next (shown old.next) (shown old.current)))) untuned))
     (more_none before ∙ ap (λ fs. with_more before (map (in_frame at) fs)) (sym (found_of old first next raw e ∙ ap (λ t. cond t (cond next (next_findings (known_in old) raw) (current_findings (known_in old) raw)) []) untuned)))
     (λ past k. knows_passed old.step old.period past old (record { first = first; next = next; raw = raw }) e untuned k)
 
--- an entry of the current configuration, and one of the next one
+-- an entry of the current configuration; below, of the next one
 pub hears_current : (at : FrameAt) (first : Bool) (raw : Raw) (old new : Memory) (before after : Option (List Finding)) → raw.ext ≢ 0 → raw.ext < 4 → old.tuned ≡ true
-    → finds_no_room (standing_in raw (shown old.current)) ≡ false → after ≡ with_more before (map (in_frame at) (current_findings (known_in old) raw)) → new ≡ with_current raw old
+    → finds_no_room (lookup_in raw (shown old.current)) ≡ false → after ≡ with_more before (map (in_frame at) (current_findings (known_in old) raw)) → new ≡ with_current raw old
     → Hears at (items_of first false (raw ∷ [])) old before new after false
-hears_current at first raw old new before after other few tuned room told is =
+hears_current at first raw old new before after other few tuned room reported is =
     let e = not_zero raw.ext other in
     heard_one at (record { first = first; next = false; raw = raw }) old new before after
-    (room_of old first false raw false e (ap (λ t. t && finds_no_room (standing_in raw (shown old.current))) tuned ∙ room))
-    (told ∙ ap (λ fs. with_more before (map (in_frame at) fs)) (sym (found_of old first false raw e ∙ ap (λ t. cond t (current_findings (known_in old) raw) []) tuned)))
+    (room_of old first false raw false e (ap (λ t. t && finds_no_room (lookup_in raw (shown old.current))) tuned ∙ room))
+    (reported ∙ ap (λ fs. with_more before (map (in_frame at) fs)) (sym (found_of old first false raw e ∙ ap (λ t. cond t (current_findings (known_in old) raw) []) tuned)))
     (λ past k. subst (λ (m : Memory). Knows old.step old.period (Said (record { first = first; next = false; raw = raw }) ∷ past) m) (sym is)
     (knows_current old.step old.period past old (record { first = first; next = false; raw = raw }) e few (some_more raw.ext other) tuned refl room k))
 
 pub hears_next : (at : FrameAt) (first : Bool) (raw : Raw) (old new : Memory) (before after : Option (List Finding)) → raw.ext ≢ 0 → raw.ext < 4 → old.tuned ≡ true
-    → finds_no_room (standing_in raw (shown old.next)) ≡ false → after ≡ with_more before (map (in_frame at) (next_findings (known_in old) raw)) → new ≡ with_next raw old
+    → finds_no_room (lookup_in raw (shown old.next)) ≡ false → after ≡ with_more before (map (in_frame at) (next_findings (known_in old) raw)) → new ≡ with_next raw old
     → Hears at (items_of first true (raw ∷ [])) old before new after false
-hears_next at first raw old new before after other few tuned room told is =
+hears_next at first raw old new before after other few tuned room reported is =
     let e = not_zero raw.ext other in
     heard_one at (record { first = first; next = true; raw = raw }) old new before after
-    (room_of old first true raw false e (ap (λ t. t && finds_no_room (standing_in raw (shown old.next))) tuned ∙ room))
-    (told ∙ ap (λ fs. with_more before (map (in_frame at) fs)) (sym (found_of old first true raw e ∙ ap (λ t. cond t (next_findings (known_in old) raw) []) tuned)))
+    (room_of old first true raw false e (ap (λ t. t && finds_no_room (lookup_in raw (shown old.next))) tuned ∙ room))
+    (reported ∙ ap (λ fs. with_more before (map (in_frame at) fs)) (sym (found_of old first true raw e ∙ ap (λ t. cond t (next_findings (known_in old) raw) []) tuned)))
     (λ past k. subst (λ (m : Memory). Knows old.step old.period (Said (record { first = first; next = true; raw = raw }) ∷ past) m) (sym is)
     (knows_next old.step old.period past old (record { first = first; next = true; raw = raw }) e few (some_more raw.ext other) tuned refl room k))
 
--- or none of them, for want of room
+-- the same without room
 pub full_current : (at : FrameAt) (first : Bool) (raw : Raw) (old new : Memory) (before after : Option (List Finding)) → raw.ext ≢ 0 → old.tuned ≡ true
-    → finds_no_room (standing_in raw (shown old.current)) ≡ true → after ≡ before → Hears at (items_of first false (raw ∷ [])) old before new after true
-full_current at first raw old new before after other tuned room told =
+    → finds_no_room (lookup_in raw (shown old.current)) ≡ true → after ≡ before → Hears at (items_of first false (raw ∷ [])) old before new after true
+full_current at first raw old new before after other tuned room reported =
     heard_none at (record { first = first; next = false; raw = raw }) old new before after
-    (room_of old first false raw true (not_zero raw.ext other) (ap (λ t. t && finds_no_room (standing_in raw (shown old.current))) tuned ∙ room)) told
+    (room_of old first false raw true (not_zero raw.ext other) (ap (λ t. t && finds_no_room (lookup_in raw (shown old.current))) tuned ∙ room)) reported
 
 pub full_next : (at : FrameAt) (first : Bool) (raw : Raw) (old new : Memory) (before after : Option (List Finding)) → raw.ext ≢ 0 → old.tuned ≡ true
-    → finds_no_room (standing_in raw (shown old.next)) ≡ true → after ≡ before → Hears at (items_of first true (raw ∷ [])) old before new after true
-full_next at first raw old new before after other tuned room told =
+    → finds_no_room (lookup_in raw (shown old.next)) ≡ true → after ≡ before → Hears at (items_of first true (raw ∷ [])) old before new after true
+full_next at first raw old new before after other tuned room reported =
     heard_none at (record { first = first; next = true; raw = raw }) old new before after
-    (room_of old first true raw true (not_zero raw.ext other) (ap (λ t. t && finds_no_room (standing_in raw (shown old.next))) tuned ∙ room)) told
+    (room_of old first true raw true (not_zero raw.ext other) (ap (λ t. t && finds_no_room (lookup_in raw (shown old.next))) tuned ∙ room)) reported
 
--- ---- what stays as it was within a frame
+-- ---- what does not change within a frame
 
 below_three : (n : ℕ) → at_most 3 n ≤ 3
 below_three n = elim (cases_lt n 3) [
@@ -195,7 +195,7 @@ later_swap m s = record {
   step = refl;
   period = refl;
   frames = refl;
-  sane = record { mode = s.mode; turn = s.turn; due = s.due; times = omega arith; rows = omega arith; parts = omega arith };
+  sane = record { mode = s.mode; page_index = s.page_index; due = s.due; times = omega arith; rows = omega arith; parts = omega arith };
 }
 
 later_flags : (e : EnsembleInformation) (m : Memory) → IsSane m → IsLater m (with_flags e m)
@@ -204,7 +204,7 @@ later_flags e m s = elim (has_flags e) as (λ t. IsLater m (cond t (record m { i
     step = refl;
     period = refl;
     frames = refl;
-    sane = record { mode = s.mode; turn = s.turn; due = s.due; times = below_three (m.times + 1); rows = s.rows; parts = s.parts };
+    sane = record { mode = s.mode; page_index = s.page_index; due = s.due; times = below_three (m.times + 1); rows = s.rows; parts = s.parts };
   }
   | false ↦ later_itself m s
 ]
@@ -216,7 +216,7 @@ later_noted first e m s =
       step = f.step;
       period = f.period;
       frames = f.frames;
-      sane = record { mode = f.sane.mode; turn = f.sane.turn; due = f.sane.due; times = f.sane.times; rows = f.sane.rows; parts = f.sane.parts };
+      sane = record { mode = f.sane.mode; page_index = f.sane.page_index; due = f.sane.due; times = f.sane.times; rows = f.sane.rows; parts = f.sane.parts };
     }
 
 pub later_ensemble : (first : Bool) (e : EnsembleInformation) (m : Memory) (b : Bool) → IsSane m → IsLater m (with_ensemble first e (cond b (with_swap m) m))
@@ -228,35 +228,35 @@ later_current raw m s = record {
   step = refl;
   period = refl;
   frames = refl;
-  sane = record { mode = s.mode; turn = s.turn; due = s.due; times = s.times; rows = s.rows; parts = s.parts };
+  sane = record { mode = s.mode; page_index = s.page_index; due = s.due; times = s.times; rows = s.rows; parts = s.parts };
 }
 
 pub later_next : (raw : Raw) (m : Memory) → IsSane m → IsLater m (with_next raw m)
-later_next raw m s = elim (is_absent (standing_in raw (shown m.next))) as (λ t. IsLater m (record (with_next raw m) { since = cond t 0 m.since; parts = cond t 0 m.parts })) [
+later_next raw m s = elim (is_absent (lookup_in raw (shown m.next))) as (λ t. IsLater m (record (with_next raw m) { since = cond t 0 m.since; parts = cond t 0 m.parts })) [
   | true ↦ record {
     step = refl;
     period = refl;
     frames = refl;
-    sane = record { mode = s.mode; turn = s.turn; due = s.due; times = s.times; rows = s.rows; parts = omega arith };
+    sane = record { mode = s.mode; page_index = s.page_index; due = s.due; times = s.times; rows = s.rows; parts = omega arith };
   }
   | false ↦ record {
     step = refl;
     period = refl;
     frames = refl;
-    sane = record { mode = s.mode; turn = s.turn; due = s.due; times = s.times; rows = s.rows; parts = s.parts };
+    sane = record { mode = s.mode; page_index = s.page_index; due = s.due; times = s.times; rows = s.rows; parts = s.parts };
   }
 ]
 
--- ---- by the answer of a call
+-- ---- by the result of a call
 
 pub answered_current : (b : Bool) (at : FrameAt) (first : Bool) (raw : Raw) (old new : Memory) (before after : Option (List Finding)) → raw.ext ≢ 0 → raw.ext < 4 → old.tuned ≡ true
-    → (b ≡ true → finds_no_room (standing_in raw (shown old.current)) ≡ false) → (b ≡ true → after ≡ with_more before (map (in_frame at) (current_findings (known_in old) raw))) → (b ≡ true → new ≡ with_current raw old)
-    → (b ≡ false → finds_no_room (standing_in raw (shown old.current)) ≡ true) → (b ≡ false → after ≡ before) → Hears at (items_of first false (raw ∷ [])) old before new after (not b)
-answered_current true at first raw old new before after other few tuned room told is full same = hears_current at first raw old new before after other few tuned (room refl) (told refl) (is refl)
-answered_current false at first raw old new before after other few tuned room told is full same = full_current at first raw old new before after other tuned (full refl) (same refl)
+    → (b ≡ true → finds_no_room (lookup_in raw (shown old.current)) ≡ false) → (b ≡ true → after ≡ with_more before (map (in_frame at) (current_findings (known_in old) raw))) → (b ≡ true → new ≡ with_current raw old)
+    → (b ≡ false → finds_no_room (lookup_in raw (shown old.current)) ≡ true) → (b ≡ false → after ≡ before) → Hears at (items_of first false (raw ∷ [])) old before new after (not b)
+answered_current true at first raw old new before after other few tuned room reported is full same = hears_current at first raw old new before after other few tuned (room refl) (reported refl) (is refl)
+answered_current false at first raw old new before after other few tuned room reported is full same = full_current at first raw old new before after other tuned (full refl) (same refl)
 
 pub answered_next : (b : Bool) (at : FrameAt) (first : Bool) (raw : Raw) (old new : Memory) (before after : Option (List Finding)) → raw.ext ≢ 0 → raw.ext < 4 → old.tuned ≡ true
-    → (b ≡ true → finds_no_room (standing_in raw (shown old.next)) ≡ false) → (b ≡ true → after ≡ with_more before (map (in_frame at) (next_findings (known_in old) raw))) → (b ≡ true → new ≡ with_next raw old)
-    → (b ≡ false → finds_no_room (standing_in raw (shown old.next)) ≡ true) → (b ≡ false → after ≡ before) → Hears at (items_of first true (raw ∷ [])) old before new after (not b)
-answered_next true at first raw old new before after other few tuned room told is full same = hears_next at first raw old new before after other few tuned (room refl) (told refl) (is refl)
-answered_next false at first raw old new before after other few tuned room told is full same = full_next at first raw old new before after other tuned (full refl) (same refl)
+    → (b ≡ true → finds_no_room (lookup_in raw (shown old.next)) ≡ false) → (b ≡ true → after ≡ with_more before (map (in_frame at) (next_findings (known_in old) raw))) → (b ≡ true → new ≡ with_next raw old)
+    → (b ≡ false → finds_no_room (lookup_in raw (shown old.next)) ≡ true) → (b ≡ false → after ≡ before) → Hears at (items_of first true (raw ∷ [])) old before new after (not b)
+answered_next true at first raw old new before after other few tuned room reported is full same = hears_next at first raw old new before after other few tuned (room refl) (reported refl) (is refl)
+answered_next false at first raw old new before after other few tuned room reported is full same = full_next at first raw old new before after other tuned (full refl) (same refl)

@@ -1,4 +1,4 @@
--- Entries with when they were heard, and the entries alone.
+-- Tables of entries with times, and of the entries alone.
 use Rattle.std.proofs.Common.{Bor, ◌≡◌, ◌≢◌, ℕ, ◌<◌, ◌≤◌, ◌==◌, Bool, true, false, cond, nat_lt, List, [], ◌∷◌, length, Option, Some, None, is_some, refl, sym, ap, subst, ◌∙◌, lt-ltb, le-ltb}
 use Rattle.std.specs.Prelude.{◌||◌}
 use Rattle.std.specs.Option.{option_copied}
@@ -8,10 +8,10 @@ use Rattle.std.proofs.lemmas.List.{length-map}
 use Rattle.mux_config.specs.Tables.{entry_at, with_entry, with_entry_changed, has_entry}
 use Rattle.fib_reader.specs.Raw.{Raw}
 use Rattle.fib_reader.specs.Listening.{identifier_of, is_known, kept, has_room, pictured}
-use Rattle.stream_check.specs.declared.heard_table.Standing.{Standing}
-use Rattle.stream_check.specs.declared.heard_table.Standing.TheVariants as standings
+use Rattle.stream_check.specs.declared.heard_table.Lookup.{Lookup}
+use Rattle.stream_check.specs.declared.heard_table.Lookup.TheVariants as standings
 use Rattle.stream_check.specs.Pictures.{Heard, HeardPicture, heard_key, raws, heard_kept, shown, picture_kept}
-use Rattle.stream_check.specs.Standing.{agree, standing_to, standing, standing_in}
+use Rattle.stream_check.specs.Lookup.{agree, lookup_among, lookup, lookup_in}
 use Rattle.stream_check.specs.Rules.{finds_no_room}
 
 abbrev pub raw_in : Option Heard → Option Raw
@@ -25,22 +25,22 @@ found_raw k (h ∷ hs) = elim (heard_key h == k) as (λ t. cond t (Some h.raw) (
   | false ↦ found_raw k hs
 ]
 
--- how an entry stands to those of a table, by what is found there
-pub standing_found : (raw : Raw) (hs : List Heard) (found : Option Heard) → found ≡ entry_at heard_key (identifier_of raw) hs → standing raw (raws hs) ≡ standing_to raw (length hs) (raw_in found)
+-- how an entry compares with a table, from what is found there
+pub standing_found : (raw : Raw) (hs : List Heard) (found : Option Heard) → found ≡ entry_at heard_key (identifier_of raw) hs → lookup raw (raws hs) ≡ lookup_among raw (length hs) (raw_in found)
 standing_found raw hs found e =
-    ap (λ n. standing_to raw n (entry_at identifier_of (identifier_of raw) (raws hs))) (length-map hs (λ h. h.raw))
-    ∙ ap (standing_to raw (length hs)) (found_raw (identifier_of raw) hs ∙ ap raw_in (sym e))
+    ap (λ n. lookup_among raw n (entry_at identifier_of (identifier_of raw) (raws hs))) (length-map hs (λ h. h.raw))
+    ∙ ap (lookup_among raw (length hs)) (found_raw (identifier_of raw) hs ∙ ap raw_in (sym e))
 
-pub standing_known : (raw : Raw) (hs : List Heard) (h : Heard) (b : Bool) → Some h ≡ entry_at heard_key (identifier_of raw) hs → b ≡ agree h.raw raw → standing raw (raws hs) ≡ cond b standings.Same standings.Other
+pub standing_known : (raw : Raw) (hs : List Heard) (h : Heard) (b : Bool) → Some h ≡ entry_at heard_key (identifier_of raw) hs → b ≡ agree h.raw raw → lookup raw (raws hs) ≡ cond b standings.Same standings.Other
 standing_known raw hs h b e is = standing_found raw hs (Some h) e ∙ ap (λ t. cond t standings.Same standings.Other) (sym is)
 
-pub standing_new : (raw : Raw) (hs : List Heard) → None ≡ entry_at heard_key (identifier_of raw) hs → length hs < 64 → standings.Absent ≡ standing raw (raws hs)
+pub standing_new : (raw : Raw) (hs : List Heard) → None ≡ entry_at heard_key (identifier_of raw) hs → length hs < 64 → standings.Absent ≡ lookup raw (raws hs)
 standing_new raw hs e lt = sym (standing_found raw hs None e ∙ ap (λ t. cond t standings.Absent standings.Full) (lt-ltb (length hs) 64 lt))
 
-pub standing_full : (raw : Raw) (hs : List Heard) → None ≡ entry_at heard_key (identifier_of raw) hs → 64 ≤ length hs → standings.Full ≡ standing raw (raws hs)
+pub standing_full : (raw : Raw) (hs : List Heard) → None ≡ entry_at heard_key (identifier_of raw) hs → 64 ≤ length hs → standings.Full ≡ lookup raw (raws hs)
 standing_full raw hs e le = sym (standing_found raw hs None e ∙ ap (λ t. cond t standings.Absent standings.Full) (le-ltb (length hs) 64 le))
 
--- whether a look-up finds one
+-- whether a lookup finds an entry
 pub has_found : (k : ℕ) (hs : List Heard) → has_entry heard_key k hs ≡ is_some (entry_at heard_key k hs)
 has_found k [] = refl
 has_found k (h ∷ hs) = elim (heard_key h == k) as (λ t. (t || has_entry heard_key k hs) ≡ is_some (cond t (Some h) (entry_at heard_key k hs))) [
@@ -96,23 +96,23 @@ found_known k (x ∷ xs) r e = elim (identifier_of x == k) as (λ t. cond t (Som
   | false ↦ λ e. found_known k xs r e
 ] e
 
-room_where : (raw : Raw) (rs : List Raw) (found : Option Raw) → entry_at identifier_of (identifier_of raw) rs ≡ found → finds_no_room (standing_to raw (length rs) found) ≡ false → has_room raw rs ≡ true
+room_where : (raw : Raw) (rs : List Raw) (found : Option Raw) → entry_at identifier_of (identifier_of raw) rs ≡ found → finds_no_room (lookup_among raw (length rs) found) ≡ false → has_room raw rs ≡ true
 room_where raw rs None e free = elim (nat_lt (length rs) 64) as (λ t. nat_lt (length rs) 64 ≡ t → finds_no_room (cond t standings.Absent standings.Full) ≡ false → has_room raw rs ≡ true) [
   | true ↦ λ few n. or_right (is_known raw rs) (nat_lt (length rs) 64) few
   | false ↦ λ many n. absurd (false≢true (sym n))
 ] refl free
 room_where raw rs (Some r) e free = ap (λ t. t || nat_lt (length rs) 64) (found_known (identifier_of raw) rs r e)
 
-has_room_where : (raw : Raw) (rs : List Raw) → finds_no_room (standing raw rs) ≡ false → has_room raw rs ≡ true
+has_room_where : (raw : Raw) (rs : List Raw) → finds_no_room (lookup raw rs) ≡ false → has_room raw rs ≡ true
 has_room_where raw rs free = room_where raw rs (entry_at identifier_of (identifier_of raw) rs) refl free
 
--- an entry for which there is room is taken into a picture
-pub pictured_kept : (h : Heard) (p : HeardPicture) → finds_no_room (standing_in h.raw (shown p)) ≡ false → pictured h.raw (shown p) ≡ Some (shown (picture_kept h p))
-pictured_kept h p room = elim (h.raw.ext == 1) as (λ t. finds_no_room (standing h.raw (cond t (raws p.subs) (cond (h.raw.ext == 2) (raws p.services) (raws p.packets)))) ≡ false
+-- an entry for which there is room is kept in a picture
+pub pictured_kept : (h : Heard) (p : HeardPicture) → finds_no_room (lookup_in h.raw (shown p)) ≡ false → pictured h.raw (shown p) ≡ Some (shown (picture_kept h p))
+pictured_kept h p room = elim (h.raw.ext == 1) as (λ t. finds_no_room (lookup h.raw (cond t (raws p.subs) (cond (h.raw.ext == 2) (raws p.services) (raws p.packets)))) ≡ false
     → cond t (Some (record (shown p) { subs = kept h.raw (raws p.subs) })) (cond (h.raw.ext == 2) (cond (has_room h.raw (raws p.services)) (Some (record (shown p) { services = kept h.raw (raws p.services) })) None) (cond (has_room h.raw (raws p.packets)) (Some (record (shown p) { packets = kept h.raw (raws p.packets) })) None))
     ≡ Some (shown (cond t (record p { subs = heard_kept h p.subs }) (cond (h.raw.ext == 2) (record p { services = heard_kept h p.services }) (record p { packets = heard_kept h p.packets }))))) [
       | true ↦ λ room. rw (kept_raw h p.subs) refl
-      | false ↦ elim (h.raw.ext == 2) as (λ t. finds_no_room (standing h.raw (cond t (raws p.services) (raws p.packets))) ≡ false
+      | false ↦ elim (h.raw.ext == 2) as (λ t. finds_no_room (lookup h.raw (cond t (raws p.services) (raws p.packets))) ≡ false
           → cond t (cond (has_room h.raw (raws p.services)) (Some (record (shown p) { services = kept h.raw (raws p.services) })) None) (cond (has_room h.raw (raws p.packets)) (Some (record (shown p) { packets = kept h.raw (raws p.packets) })) None)
           ≡ Some (shown (cond t (record p { services = heard_kept h p.services }) (record p { packets = heard_kept h p.packets })))) [
             | true ↦ λ room. rw (has_room_where h.raw (raws p.services) room, kept_raw h p.services) refl
@@ -120,7 +120,7 @@ pictured_kept h p room = elim (h.raw.ext == 1) as (λ t. finds_no_room (standing
           ]
     ] room
 
--- ---- what holds of each entry
+-- ---- properties of each entry
 
 pub each_weaker : {X : Type 0} (P Q : X → Type 0) (xs : List X) → ((x : X) → P x → Q x) → AllByRecursion P xs → AllByRecursion Q xs
 each_weaker P Q [] f all = tt
@@ -156,28 +156,28 @@ each_added P Q h (x ∷ xs) one none other all =
     others [] none all = tt
     others (y ∷ ys) none all = (other y (or_first (heard_key y == heard_key h) (has_entry heard_key (heard_key h) ys) none) all.0, others ys (or_second (heard_key y == heard_key h) (has_entry heard_key (heard_key h) ys) none) all.1)
 
--- the entry that is kept, and each other one
+-- the new entry, and all others
 pub each_kept : (P Q : Heard → Type 0) (h : Heard) (hs : List Heard) → Q h → ((x : Heard) → (heard_key x == heard_key h) ≡ false → P x → Q x) → AllByRecursion P hs → AllByRecursion Q (heard_kept h hs)
 each_kept P Q h hs one other all = elim (has_entry heard_key (heard_key h) hs) as (λ t. has_entry heard_key (heard_key h) hs ≡ t → AllByRecursion Q (cond t (with_entry_changed heard_key h hs) (with_entry heard_key h hs))) [
   | true ↦ λ e. each_changed P Q h hs one other all
   | false ↦ λ e. each_added P Q h hs one e other all
 ] refl
 
--- in a list that an entry was taken into, or that had no room for it
-pub each_heard : (P : Heard → Type 0) (h : Heard) (hs new : List Heard) (s : Standing) → P h → AllByRecursion P hs
+-- in a list into which an entry was inserted, or which had no room for it
+pub each_heard : (P : Heard → Type 0) (h : Heard) (hs new : List Heard) (s : Lookup) → P h → AllByRecursion P hs
     → (s ≢ standings.Full → new ≡ heard_kept h hs) → (s ≡ standings.Full → new ≡ hs) → AllByRecursion P new
 each_heard P h hs new s one all kept full = by_cases s refl
   where
     taken : s ≢ standings.Full → AllByRecursion P new
     taken other = subst (AllByRecursion P) (sym (kept other)) (each_kept P P h hs one (λ x free p. p) all)
 
-    by_cases : (t : Standing) → s ≡ t → AllByRecursion P new
+    by_cases : (t : Lookup) → s ≡ t → AllByRecursion P new
     by_cases standings.Same e = taken (λ f. absurd (cc))
     by_cases standings.Other e = taken (λ f. absurd (cc))
     by_cases standings.Absent e = taken (λ f. absurd (cc))
     by_cases standings.Full e = subst (AllByRecursion P) (sym (full e)) all
 
--- ---- look-ups
+-- ---- lookups
 
 pub copied_is_some : {X : Type 0} (o : Option (Bor X)) → is_some (option_copied o) ≡ is_some o
 copied_is_some None = refl

@@ -1,4 +1,4 @@
--- The rules in small cases, computed by the checker from the definitions: each holds in one and fails in another.
+-- The rules in small cases, computed by the checker from the definitions: for each, one that holds and one that fails.
 use Rattle.std.proofs.Common.{◌≡◌, ℕ, true, false, List, [], ◌∷◌, Some, None, refl}
 use Rattle.fib_reader.specs.Raw.{Raw}
 use Rattle.stream_check.specs.declared.finding.EntryName.TheVariants as names
@@ -34,7 +34,7 @@ odd_in_mode_two = refl
 too_high : can_fall_at 1 250 ≡ false
 too_high = refl
 
--- ---- sub-channels: 1 has the units 0 to 95, 2 those from 95 on, 3 those from 96 on, 4 ends past the last unit
+-- ---- sub-channels: 1 has the units 0 to 95, 2 starts at 95, 3 starts at 96, 4 ends past the last unit
 
 abbrev sub : List ℕ → Raw
 sub bytes = record { ext = 1; long = false; bytes = bytes }
@@ -89,35 +89,35 @@ first_frame = Ended 0 ∷ Said (heard one) ∷ Said tuned_in ∷ []
 counted : due first_frame ≡ Some 1
 counted = refl
 
--- the same once more is no fault, another one is
+-- the same entry again is no fault, a changed one is
 same_again : findings_at (known_of 4 250 first_frame) (heard one) ≡ []
 same_again = refl
 
 changed_now : findings_at (known_of 4 250 first_frame) (heard (sub (4 ∷ 0 ∷ 136 ∷ 72 ∷ []))) ≡ whats.Fault (faults.Changed (names.Sub 1)) ∷ []
 changed_now = refl
 
--- a new one is none before the period is over, and is one then
+-- a new entry is no fault before the period is over, and is one afterwards
 new_at_first : findings_at (known_of 4 250 first_frame) (heard three) ≡ []
 new_at_first = refl
 
 new_later : findings_at (known_of 4 1 first_frame) (heard three) ≡ whats.Fault (faults.Appeared (names.Sub 3)) ∷ []
 new_later = refl
 
--- silent in the second frame where the period is one frame, and not where it is two
+-- silent in the second frame with a period of one frame, but not with a period of two
 silent_soon : silent_findings 1 first_frame ≡ whats.Fault (faults.Silent (names.Sub 1)) ∷ []
 silent_soon = refl
 
 silent_later : silent_findings 2 first_frame ≡ []
 silent_later = refl
 
--- FIG 0/0 at the count that is due, and at another
+-- FIG 0/0 at the count that is due; below, at another
 in_time : findings_at (known_of 1 250 first_frame) (record { first = true; next = false; raw = record { ext = 0; long = false; bytes = 225 ∷ 197 ∷ 0 ∷ 1 ∷ [] } }) ≡ []
 in_time = refl
 
 jumped : findings_at (known_of 1 250 first_frame) (record { first = true; next = false; raw = record { ext = 0; long = false; bytes = 225 ∷ 197 ∷ 0 ∷ 2 ∷ [] } }) ≡ whats.Fault (faults.Count 1) ∷ []
 jumped = refl
 
--- an announcement, and a swap that comes after it at once
+-- an announcement, and a swap immediately after it
 announced : findings_at (known_of 1 250 first_frame) (flagged 1) ≡ whats.Event (events.Announced 1 28) ∷ []
 announced = refl
 

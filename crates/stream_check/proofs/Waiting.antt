@@ -1,9 +1,9 @@
--- Where every entry was heard late enough, none is silent yet.
+-- Where every entry was last heard late enough, none is silent yet.
 use Rattle.std.proofs.Common.{◌≡◌, ℕ, ◌+◌, ◌<◌, ◌≤◌, false, List, [], ◌∷◌, ◌++◌, length, refl, ap, ◌∙◌, arith, inl, inr}
 use Rattle.std.specs.List.{AllByRecursion}
 use Rattle.std.proofs.lemmas.Bool.{cases_lt, ne_eqb}
 use Rattle.stream_check.specs.declared.finding.Fault.TheVariants as faults
-use Rattle.stream_check.specs.Telling.{when}
+use Rattle.stream_check.specs.Reporting.{when}
 use Rattle.stream_check.specs.Pictures.{Heard, heard_kept}
 use Rattle.stream_check.specs.Rules.{name_of}
 use Rattle.stream_check.specs.Memory.{later, is_quiet, quiet_findings}
@@ -36,7 +36,7 @@ none_quiet swapped period frames oldest (h ∷ hs) all soon =
     ap (λ t. when t (faults.Silent (name_of h.raw)) ++ quiet_findings swapped period frames hs) loud
     ∙ none_quiet swapped period frames oldest hs all.1 soon
 
--- a time before which none was heard, once one more is kept
+-- a time before which none was last heard, with one more entry
 pub kept_since : (n m : ℕ) (h : Heard) (hs : List Heard) → n ≤ m → n ≤ h.at → AllByRecursion (λ (x : Heard). m ≤ x.at) hs → AllByRecursion (λ (x : Heard). n ≤ x.at) (heard_kept h hs)
 kept_since n m h hs le now all = each_kept (λ x. m ≤ x.at) (λ x. n ≤ x.at) h hs now (λ x other late. omega (arith, le, late)) all
 

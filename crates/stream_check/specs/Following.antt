@@ -1,16 +1,16 @@
--- What the check of a stream knows, and what it has told, after the FIBs that it was given.
+-- What the checker knows and has reported after some FIBs.
 use Rattle.std.specs.Prelude.{◌≡◌, ℕ, ◌+◌, ◌<◌, ◌≤◌, ◌⊎◌, ◌||◌, Bool, true, false, not, nat_lt, List, [], ◌∷◌, ◌++◌, length, map, flat_map, Option}
 use Rattle.fib_codec.specs.Modes.{fib_count, count_step}
 use Rattle.fib_codec.specs.declared.modes.Mode.{Mode}
 use Rattle.stream_check.specs.declared.finding.Finding.{Finding}
 use Rattle.stream_check.specs.declared.memory.Memory.{Memory}
 use Rattle.stream_check.specs.declared.checker.Summary.{Summary}
-use Rattle.stream_check.specs.Telling.{with_more}
+use Rattle.stream_check.specs.Reporting.{with_more}
 use Rattle.stream_check.specs.Frames.{Fib, Reading, IsFramed, damaged_in}
 use Rattle.stream_check.specs.Stream.{findings_of, after_frames, frames_full}
 use Rattle.stream_check.specs.Memory.{IsSane, Knows, most}
 
--- the check as it stands: FIBs that are held are those of the frame at hand
+-- the checker between FIBs; the buffered FIBs are those of the current frame
 pub record Checking : Type 0 where
   pub size : ℕ
   pub memory : Memory
@@ -30,7 +30,7 @@ pub record IsChecking (c : Checking) : Type 0 where
 abbrev pub IsAtLimit : Checking → Type 0
 IsAtLimit c = (most ≤ c.memory.frames) ⊎ (most ≤ c.skipped) ⊎ (most ≤ c.damaged)
 
--- whether a FIG 0/0 was heard
+-- whether a FIG 0/0 has been heard
 abbrev pub is_empty : List (List ℕ) → Bool
 is_empty [] = true
 is_empty (x ∷ xs) = false
@@ -38,15 +38,15 @@ is_empty (x ∷ xs) = false
 abbrev pub is_begun : Checking → Bool
 is_begun c = nat_lt 0 c.memory.frames || not (is_empty c.held)
 
--- a FIB that is skipped, and one that is held
+-- with a FIB that is skipped; below, with one that is buffered
 abbrev pub with_skip : Checking → Checking
 with_skip c = record c { skipped = c.skipped + 1 }
 
 abbrev pub with_fib : List ℕ → Checking → Checking
 with_fib fib c = record c { held = c.held ++ fib ∷ [] }
 
--- after these FIBs: they are cut into frames, all of which were heard, and all that is found in these was told
-pub record Follows (r : Reading) (mode : Mode) (period : ℕ) (stream : List Fib) (start told : Option (List Finding)) (c : Checking) : Type 0 where
+-- after these FIBs: they are cut into frames, all of which were heard and whose findings were all reported
+pub record Follows (r : Reading) (mode : Mode) (period : ℕ) (stream : List Fib) (start reported : Option (List Finding)) (c : Checking) : Type 0 where
   pub skipped : List Fib
   pub frames : List (List Fib)
   pub framed : IsFramed (fib_count mode) stream skipped frames (map r.read c.held)
@@ -55,18 +55,18 @@ pub record Follows (r : Reading) (mode : Mode) (period : ℕ) (stream : List Fib
   pub damages : c.damaged ≡ damaged_in (flat_map (λ f. f) frames)
   pub room : frames_full (count_step mode) period [] frames ≡ false
   pub knows : Knows (count_step mode) period (after_frames (count_step mode) [] frames) c.memory
-  pub findings : told ≡ with_more start (findings_of (fib_count mode) (count_step mode) period [] frames)
+  pub findings : reported ≡ with_more start (findings_of (fib_count mode) (count_step mode) period [] frames)
 
--- or up to an entry for which there was no room: all that is found before it was told
-pub record EndsFull (r : Reading) (mode : Mode) (period : ℕ) (stream : List Fib) (start told : Option (List Finding)) : Type 0 where
+-- or up to an entry for which there was no room: all findings before it were reported
+pub record EndsFull (r : Reading) (mode : Mode) (period : ℕ) (stream : List Fib) (start reported : Option (List Finding)) : Type 0 where
   pub skipped : List Fib
   pub frames : List (List Fib)
   pub rest : List Fib
   pub framed : IsFramed (fib_count mode) stream skipped frames rest
   pub full : frames_full (count_step mode) period [] frames ≡ true
-  pub findings : told ≡ with_more start (findings_of (fib_count mode) (count_step mode) period [] frames)
+  pub findings : reported ≡ with_more start (findings_of (fib_count mode) (count_step mode) period [] frames)
 
--- what a stream was, as a whole
+-- the totals of a stream
 pub record IsSummary (skipped : List Fib) (frames : List (List Fib)) (rest : List Fib) (s : Summary) : Type 0 where
   pub frame_count : s.frames ≡ length frames
   pub skips : s.skipped ≡ length skipped

@@ -1,4 +1,4 @@
--- FIBs as they are read, and what is seen of them before they are heard.
+-- FIBs as they are read, and what is known of them before they are heard.
 use Rattle.std.specs.Prelude.{◌≡◌, ℕ, ◌+◌, ◌<◌, ◌≤◌, ◌==◌, ◌&&◌, Bool, true, false, not, if◌then◌else◌, List, [], ◌∷◌, ◌++◌, length, flat_map, Option, Some, None}
 use Rattle.std.specs.List.{AllByRecursion}
 use Rattle.mux_entries.specs.Entries.{EnsembleInformation}
@@ -8,7 +8,7 @@ use Rattle.stream_check.specs.declared.frame.Sight.{Sight}
 
 -- ---- FIBs
 
--- a FIB as it is read: its FIGs, or none where it is damaged
+-- a FIB as it is read: its FIGs, or None where it is damaged
 abbrev pub Fib : Type 0
 Fib = Option (List Fig)
 
@@ -16,7 +16,7 @@ abbrev pub Reads : List ℕ → Fib → Type 0
 Reads bytes (Some figs) = IsFib bytes figs
 Reads bytes None = (figs : List Fig) → IsFib bytes figs → ⊥
 
--- all FIBs, read by the grammar
+-- a reading of all FIBs by the grammar
 pub record Reading : Type 0 where
   pub read : List ℕ → Fib
   pub right : (bytes : List ℕ) → Reads bytes (read bytes)
@@ -67,7 +67,7 @@ pub record IsSeen (sight : Sight) (fib : Fib) : Type 0 where
 
 -- ---- frames
 
--- a frame: no later FIB of it begins with a FIG 0/0
+-- one frame: no later FIB of it begins with a FIG 0/0
 abbrev pub IsOneFrame : List Fib → Type 0
 IsOneFrame [] = ⊥
 IsOneFrame (fib ∷ fibs) = AllByRecursion (λ later. begins_with_ensemble later ≡ false) fibs
@@ -76,8 +76,8 @@ abbrev pub BeginsAnew : List Fib → Type 0
 BeginsAnew [] = ⊥
 BeginsAnew (fib ∷ fibs) = begins_with_ensemble fib ≡ true
 
--- frames one after the other, and what follows them and makes no frame. A frame has `size` FIBs, or fewer where the FIB
--- that follows it begins with a FIG 0/0.
+-- frames one after the other, and the rest, which is not a frame. A frame has `size` FIBs, or fewer if the FIB
+-- after it begins with a FIG 0/0.
 abbrev pub AreFrames : ℕ → List (List Fib) → List Fib → Type 0
 AreFrames size [] [] = Unit {0}
 AreFrames size [] (fib ∷ rest) = IsOneFrame (fib ∷ rest) × (length (fib ∷ rest) < size)
@@ -85,19 +85,19 @@ AreFrames size (frame ∷ frames) rest =
     IsOneFrame frame × (length frame ≤ size)
     × (length frame < size → BeginsAnew (flat_map (λ f. f) frames ++ rest)) × AreFrames size frames rest
 
--- a FIG 0/0 is in the first FIB of them
+-- the first of these FIBs contains a FIG 0/0
 abbrev pub HoldsFirst : List Fib → Type 0
 HoldsFirst [] = Unit {0}
 HoldsFirst (fib ∷ fibs) = holds_ensemble fib ≡ true
 
--- a stream of FIBs, cut into frames; those before the first that holds a FIG 0/0 are skipped
+-- a stream of FIBs, cut into frames; the FIBs before the first that contains a FIG 0/0 are skipped
 pub record IsFramed (size : ℕ) (stream skipped : List Fib) (frames : List (List Fib)) (rest : List Fib) : Type 0 where
   pub whole : stream ≡ skipped ++ (flat_map (λ f. f) frames ++ rest)
   pub before : AllByRecursion (λ fib. holds_ensemble fib ≡ false) skipped
   pub begun : HoldsFirst (flat_map (λ f. f) frames ++ rest)
   pub cut : AreFrames size frames rest
 
--- ---- of a frame
+-- ---- properties of a frame
 
 abbrev pub damaged_in : List Fib → ℕ
 damaged_in [] = 0
@@ -117,7 +117,7 @@ abbrev pub lacks_opening : List Fib → Bool
 lacks_opening [] = false
 lacks_opening (fib ∷ fibs) = not (is_damaged fib) && not (begins_with_ensemble fib)
 
--- what is seen of the FIBs of a frame: how many are damaged, and how the first of them begins
+-- what is known of a frame before it is heard: how many FIBs are damaged, and how the first one begins
 pub record AreSeen (damaged : ℕ) (begins : Option EnsembleInformation) (lacks : Bool) (frame : List Fib) : Type 0 where
   pub damaged_is : damaged ≡ damaged_in frame
   pub begins_is : begins ≡ first_opening frame

@@ -1,6 +1,6 @@
-pub mod Telling
+pub mod Reporting
 pub mod Pictures
-pub mod Standing
+pub mod Lookup
 pub mod Cutting
 pub mod Parts
 pub mod Frames

@@ -1,4 +1,4 @@
--- What is kept of a stream, and that it is what the frames before say.
+-- The checker's state, and how it agrees with the past of the stream.
 use Rattle.std.specs.Prelude.{◌≡◌, ◌↔◌, ℕ, ◌+◌, ◌%◌, ◌<◌, ◌≤◌, ◌^◌, ◌==◌, ◌&&◌, ◌||◌, Bool, true, false, not, if◌then◌else◌, nat_lt, List, [], ◌∷◌, ◌++◌, length, take, drop, Contains, Option, Some, None, IfSome}
 use Rattle.std.specs.List.{concat}
 use Rattle.mux_entries.specs.Entries.{EnsembleInformation}
@@ -7,9 +7,9 @@ use Rattle.fib_reader.specs.Listening.{Listening}
 use Rattle.stream_check.specs.declared.memory.Memory.{Memory}
 use Rattle.stream_check.specs.declared.finding.Fault.TheVariants as faults
 use Rattle.stream_check.specs.declared.finding.What.{What}
-use Rattle.stream_check.specs.Telling.{when}
+use Rattle.stream_check.specs.Reporting.{when}
 use Rattle.stream_check.specs.Pictures.{Heard, HeardPicture, empty_picture, shown, picture_kept, heard_since, Each, HasKinds, keys_of}
-use Rattle.stream_check.specs.Standing.{standing_in}
+use Rattle.stream_check.specs.Lookup.{lookup_in}
 use Rattle.stream_check.specs.Cutting.{IsGreedy}
 use Rattle.stream_check.specs.Pictures.{key_of}
 use Rattle.stream_check.specs.History.{Moment, frames_ended, listening, due, last_eid, has_ensemble, has_begun, began_early, times_announced, last_flags, is_cut_off, rows, row_at_hand, settles_at, last_heard}
@@ -18,7 +18,7 @@ use Rattle.stream_check.specs.Rules.{Known, at_most, is_absent, has_flags, name_
 abbrev pub listener_in : Memory → Listening
 listener_in m = record { tuned = m.tuned; current = shown m.current; next = shown m.next; awaited = m.awaited }
 
--- what it knows
+-- what the state knows
 abbrev pub known_in : Memory → Known
 known_in m = record {
   step = m.step;
@@ -43,13 +43,13 @@ most = 2 ^ 62
 
 pub record IsSane (m : Memory) : Type 0 where
   pub mode : (0 < m.step) × (m.step ≤ 4)
-  pub turn : m.period < 65536
+  pub page_index : m.period < 65536
   pub due : IfSome m.due (λ count. count < 5000)
   pub times : m.times ≤ 3
   pub rows : m.rows ≤ m.frames
   pub parts : m.parts ≤ m.rows
 
--- ---- what becomes of it
+-- ---- updates of the state
 
 abbrev pub with_swap : Memory → Memory
 with_swap m = record m {
@@ -88,8 +88,8 @@ with_ensemble first e m =
 abbrev pub with_current : Raw → Memory → Memory
 with_current raw m = record m { current = picture_kept (record { raw = raw; at = m.frames + 1 }) m.current }
 
--- an entry of the next configuration came; it begins the notice where nothing has, and where none had its identifier
--- the parts are counted anew
+-- after an entry of the next configuration: it begins the notice if none has begun, and if its identifier is new the
+-- parts are counted anew
 abbrev pub with_begun : Bool → Memory → Memory
 with_begun is_absent m = record m {
   began_early = if m.has_begun then m.began_early else not m.has_ensemble;
@@ -100,7 +100,7 @@ with_begun is_absent m = record m {
 
 abbrev pub with_next : Raw → Memory → Memory
 with_next raw m =
-    record (with_begun (is_absent (standing_in raw (shown m.next))) m) {
+    record (with_begun (is_absent (lookup_in raw (shown m.next))) m) {
       next = picture_kept (record { raw = raw; at = m.rows + 1 }) m.next;
     }
 
@@ -117,16 +117,16 @@ with_frame count m =
       due = Some ((count + 1) % 5000);
     }
 
--- ---- that it is what was said before
+-- ---- agreement with the past of the stream
 
--- an entry of the current configuration tells when it was last heard, the last swap aside
+-- an entry of the current configuration has the time when it was last heard, unless the last swap is later
 abbrev pub later : ℕ → ℕ → ℕ
 later a b = if nat_lt a b then b else a
 
 abbrev pub IsLastHeard : List Moment → ℕ → Heard → Type 0
 IsLastHeard past swapped h = later h.at swapped ≡ last_heard (key_of h.raw) past
 
--- the entries that were heard for the last time `period` frames before the one at hand
+-- an entry that was last heard `period` frames before the current one
 abbrev pub is_quiet : (swapped period frames : ℕ) → Heard → Bool
 is_quiet swapped period frames h = later h.at swapped + period == frames + 1
 
@@ -141,14 +141,14 @@ silent_in m =
     ++ (quiet_findings m.swapped m.period m.frames m.current.services
     ++ quiet_findings m.swapped m.period m.frames m.current.packets)
 
--- an entry of the next one tells in which of the notice's frames it was last heard
+-- an entry of the next configuration has the frame of the notice in which it was last heard
 abbrev pub IsStamped : List (List ℕ) → List ℕ → Heard → Type 0
 IsStamped frames frame h =
     (h.at ≤ length frames + 1)
     × ((s : ℕ) → s ≤ length frames → Contains (concat (drop s frames) ++ frame) (key_of h.raw) ↔ (s < h.at))
 
--- the frames of a notice that have ended and the one at hand: each entry of the next configuration was heard in them,
--- and no other; parts of them are whole, as many as can be
+-- the frames of a notice that have ended, and the current one: they contain exactly the entries of the next
+-- configuration; `parts` complete parts of them are a greedy cut
 pub record HasNotice (frames : List (List ℕ)) (frame : List ℕ) (count since parts : ℕ) (next : HeardPicture) (begun : Bool) : Type 0 where
   pub count_is : count ≡ length frames
   pub part : since ≤ length frames
@@ -159,7 +159,7 @@ pub record HasNotice (frames : List (List ℕ)) (frame : List ℕ) (count since 
 
 pub record Knows (step period : ℕ) (past : List Moment) (m : Memory) : Type 0 where
   pub mode : m.step ≡ step
-  pub turn : m.period ≡ period
+  pub page_index : m.period ≡ period
   pub heard : listening past ≡ Some (listener_in m)
   pub frames : m.frames ≡ frames_ended past
   pub due : m.due ≡ due past

@@ -1,11 +1,11 @@
--- Pictures whose entries tell when they were last heard.
+-- Pictures whose entries have the time when they were last heard.
 use Rattle.std.specs.Prelude.{◌≡◌, ℕ, ◌+◌, ◌*◌, ◌==◌, Bool, ◌&&◌, if◌then◌else◌, nat_lt, List, [], ◌++◌, map}
 use Rattle.std.specs.List.{list_all, AllByRecursion}
 use Rattle.fib_reader.specs.Raw.{Raw}
 use Rattle.fib_reader.specs.Listening.{Pictured, identifier_of}
 use Rattle.mux_config.specs.Tables.{with_entry, with_entry_changed, has_entry}
 
--- an entry, and a number that says when it was last heard
+-- an entry, and the time when it was last heard
 pub record Heard : Type 0 where
   pub raw : Raw
   pub at : ℕ
@@ -16,7 +16,7 @@ heard_key h = identifier_of h.raw
 abbrev pub raws : List Heard → List Raw
 raws hs = map (λ h. h.raw) hs
 
--- in place of the one with the same identifier, else beside the others
+-- replaces the entry with the same identifier, or inserts a new one
 abbrev pub heard_kept : Heard → List Heard → List Heard
 heard_kept h hs = if has_entry heard_key (heard_key h) hs then with_entry_changed heard_key h hs else with_entry heard_key h hs
 
@@ -29,7 +29,7 @@ pub record HeardPicture : Type 0 where
 abbrev pub empty_picture : HeardPicture
 empty_picture = record { subs = []; services = []; packets = [] }
 
--- as a listener sees it
+-- the picture of a listener
 abbrev pub shown : HeardPicture → Pictured
 shown p = record { subs = raws p.subs; services = raws p.services; packets = raws p.packets }
 
@@ -42,11 +42,11 @@ picture_kept h p =
     else if h.raw.ext == 2 then record p { services = heard_kept h p.services }
     else record p { packets = heard_kept h p.packets }
 
--- each entry was heard after this
+-- each entry was last heard after this time
 abbrev pub heard_since : ℕ → HeardPicture → Bool
 heard_since since p = list_all (λ h. nat_lt since h.at) p.subs && (list_all (λ h. nat_lt since h.at) p.services && list_all (λ h. nat_lt since h.at) p.packets)
 
--- of each entry
+-- a property of each entry
 abbrev pub Each : (Heard → Type 0) → HeardPicture → Type 0
 Each P p = AllByRecursion P p.subs × (AllByRecursion P p.services × AllByRecursion P p.packets)
 

@@ -1,8 +1,8 @@
--- What is found at an entry that is said, of what was known before it.
+-- The findings at an entry, given what was known before it.
 use Rattle.std.specs.Prelude.{ℕ, ◌+◌, ◌/◌, ◌%◌, ◌-◌, ◌==◌, ◌&&◌, ◌||◌, Bool, true, false, not, if◌then◌else◌, nat_lt, nat_le, List, [], ◌∷◌, ◌++◌, map, get_or, Option, Some, None, unwrap_or}
 use Rattle.std.specs.List.{filter}
 use Rattle.mux_entries.specs.Entries.{EnsembleInformation}
-use Rattle.fib_reader.specs.Raw.{Raw, word_at}
+use Rattle.fib_reader.specs.Raw.{Raw, u16_at_offset}
 use Rattle.fib_reader.specs.Listening.{Pictured, Listening, identifier_of, is_made, all_entries}
 use Rattle.stream_check.specs.declared.finding.EntryName.{EntryName}
 use Rattle.stream_check.specs.declared.finding.EntryName.TheVariants as names
@@ -11,10 +11,10 @@ use Rattle.stream_check.specs.declared.finding.Fault.TheVariants as faults
 use Rattle.stream_check.specs.declared.finding.Event.TheVariants as events
 use Rattle.stream_check.specs.declared.finding.What.{What}
 use Rattle.stream_check.specs.declared.finding.What.TheVariants as whats
-use Rattle.stream_check.specs.declared.heard_table.Standing.{Standing}
-use Rattle.stream_check.specs.declared.heard_table.Standing.TheVariants as standings
-use Rattle.stream_check.specs.Telling.{when, as_list}
-use Rattle.stream_check.specs.Standing.{standing_in, agree}
+use Rattle.stream_check.specs.declared.heard_table.Lookup.{Lookup}
+use Rattle.stream_check.specs.declared.heard_table.Lookup.TheVariants as standings
+use Rattle.stream_check.specs.Reporting.{when, as_list}
+use Rattle.stream_check.specs.Lookup.{lookup_in, agree}
 use Rattle.stream_check.specs.Parts.{most_parts}
 use Rattle.stream_check.specs.Pictures.{key_of}
 use Rattle.stream_check.specs.History.{Item, Moment, is_ensemble, ensemble_of, frames_ended, listener_after, due, last_eid, has_ensemble, has_begun, began_early, times_announced, last_flags, is_cut_off, rows, settles_at, last_heard}
@@ -22,9 +22,9 @@ use Rattle.stream_check.specs.History.{Item, Moment, is_ensemble, ensemble_of, f
 -- what is known before an entry
 pub record Known : Type 0 where
   pub step : ℕ
-  -- the listener that heard all before it
+  -- the listener that heard everything before it
   pub listener : Listening
-  -- how many frames have ended, and what is due in the frame at hand
+  -- the number of frames that have ended, and what is due in the current frame
   pub frames : ℕ
   pub due : Option ℕ
   pub eid : Option ℕ
@@ -36,10 +36,10 @@ pub record Known : Type 0 where
   pub flags : ℕ
   pub times : ℕ
   pub heard : ℕ
-  -- from which frame on the entries of the current configuration ought to be known
+  -- the frame from which on all entries of the current configuration should be known
   pub settles_at : ℕ
 
--- the entries of the next configuration
+-- the keys of the entries of the next configuration
 abbrev pub wanted : List Moment → List ℕ
 wanted past = map key_of (all_entries (listener_after past).next)
 
@@ -47,11 +47,11 @@ wanted past = map key_of (all_entries (listener_after past).next)
 abbrev pub times_heard : List Moment → ℕ
 times_heard past = most_parts (wanted past) (rows past)
 
--- up to a number
+-- limits a number
 abbrev pub at_most : ℕ → ℕ → ℕ
 at_most limit n = if nat_lt n limit then n else limit
 
--- each of it by what was said before
+-- what is known, from the past of the stream
 abbrev pub known_of : (step period : ℕ) → List Moment → Known
 known_of step period past = record {
   step = step;
@@ -90,7 +90,7 @@ has_low (Some low) = true
 abbrev pub is_awaited : Known → Bool
 is_awaited k = has_low k.listener.awaited
 
--- the swap that the listener makes at this FIG 0/0
+-- the listener makes a swap at this FIG 0/0
 abbrev pub makes_swap : Known → EnsembleInformation → Bool
 makes_swap k e = is_made k.listener.awaited e
 
@@ -103,15 +103,15 @@ abbrev pub is_other : ℕ → Option ℕ → Bool
 is_other n None = false
 is_other n (Some m) = not (n == m)
 
--- the first FIG of its frame, at a count that the mode's step divides
+-- the first FIG of its frame, at a count that is a multiple of the mode's step
 abbrev pub is_placed : Known → Bool → EnsembleInformation → Bool
 is_placed k first e = first && (e.count % k.step == 0)
 
--- in place, and of another ensemble than the last one in place
+-- in place, and of an ensemble other than the last one in place
 abbrev pub is_of_other_ensemble : Known → Bool → EnsembleInformation → Bool
 is_of_other_ensemble k first e = is_placed k first e && is_other e.eid k.eid
 
--- in place, at another count than was due
+-- in place, at a count other than the one that was due
 abbrev pub has_other_count : Known → Bool → EnsembleInformation → Bool
 has_other_count k first e = is_placed k first e && is_other e.count k.due
 
@@ -128,12 +128,12 @@ abbrev pub announces_another : Known → EnsembleInformation → Bool
 announces_another k e =
     is_awaited k && (not (e.change == k.flags) || not (occurrence_of e == awaited_low k))
 
--- flags where nothing was awaited, or where the swap has just been made
+-- flags where no swap was awaited, or where the swap has just been made
 abbrev pub announces_first : Known → EnsembleInformation → Bool
 announces_first k e = has_flags e && (makes_swap k e || not (is_awaited k))
 
--- the counts at which a swap can fall are multiples of the mode's step: their low part is below 250, and even where
--- the step is
+-- the counts on which a swap can fall are multiples of the mode's step: their low part is below 250, and even if
+-- the step is even
 abbrev pub can_fall_at : ℕ → ℕ → Bool
 can_fall_at step low = nat_lt low 250 && (low % 2 == 0 || not (step % 2 == 0))
 
@@ -152,24 +152,24 @@ are_same [] (b ∷ bs) = false
 are_same (a ∷ xs) [] = false
 are_same (a ∷ xs) (b ∷ bs) = agree a b && are_same xs bs
 
--- the flags of the change from one picture to the next: 1 where sub-channels differ, 2 where services or packet
--- components do
+-- the change flags from one picture to the next: 1 where sub-channels differ, 2 where services or packet components
+-- differ
 abbrev pub change_between : Pictured → Pictured → ℕ
 change_between a b =
     (if are_same a.subs b.subs then 0 else 1)
     + (if are_same a.services b.services && are_same a.packets b.packets then 0 else 2)
 
--- the capacity units of a sub-channel in the long form, from the first up to one that it doesn't have
+-- the capacity units of a sub-channel in the long form, from the first to the one after the last
 abbrev pub is_long_form : Raw → Bool
 is_long_form raw = get_or raw.bytes 2 0 / 128 == 1
 
 abbrev pub first_unit : Raw → ℕ
-first_unit raw = word_at 0 raw.bytes % 1024
+first_unit raw = u16_at_offset 0 raw.bytes % 1024
 
 abbrev pub end_unit : Raw → ℕ
-end_unit raw = first_unit raw + word_at 2 raw.bytes % 1024
+end_unit raw = first_unit raw + u16_at_offset 2 raw.bytes % 1024
 
--- two of the long form have a unit in common
+-- both are in the long form and have a unit in common
 abbrev pub share_unit : Raw → Raw → Bool
 share_unit a b =
     (is_long_form a && is_long_form b)
@@ -177,7 +177,8 @@ share_unit a b =
     && (nat_lt (first_unit b) (end_unit b)
     && (nat_lt (first_unit a) (end_unit b) && nat_lt (first_unit b) (end_unit a))))
 
--- the first that shares one with this, the first pair that shares one, the first that ends past the last unit
+-- the first one that shares a unit with this one; below, the first pair that shares one, and the first that ends past
+-- the last unit
 abbrev pub partner : Raw → List Raw → Option ℕ
 partner a [] = None
 partner a (b ∷ bs) = if share_unit a b then Some (identifier_of b) else partner a bs
@@ -200,14 +201,14 @@ past_end (a ∷ rest) = if ends_past a then Some (faults.PastEnd (identifier_of 
 abbrev pub changes : Known → ℕ
 changes k = change_between k.listener.current k.listener.next
 
--- of the notice, unless its beginning was not heard
+-- faults of the notice, unless its beginning was not heard
 abbrev pub notice_faults : Known → List What
 notice_faults k =
     when (not k.is_cut_off && nat_lt k.times 3) (faults.AnnouncedTimes k.times)
     ++ (when (not k.is_cut_off && nat_lt k.heard 3) (faults.NextHeard k.heard)
     ++ when (not k.is_cut_off && not (k.flags == changes k)) (faults.Flags k.flags (changes k)))
 
--- of the capacity units of the next configuration
+-- faults in the capacity units of the next configuration
 abbrev pub unit_faults : Known → List What
 unit_faults k = as_list (overlap k.listener.next.subs) ++ as_list (past_end k.listener.next.subs)
 
@@ -233,19 +234,19 @@ ensemble_findings k first e =
 
 -- ---- an entry of FIG 0/1 to 0/3
 
-abbrev pub is_other_one : Standing → Bool
+abbrev pub is_other_one : Lookup → Bool
 is_other_one standings.Same = false
 is_other_one standings.Other = true
 is_other_one standings.Absent = false
 is_other_one standings.Full = false
 
-abbrev pub is_absent : Standing → Bool
+abbrev pub is_absent : Lookup → Bool
 is_absent standings.Same = false
 is_absent standings.Other = false
 is_absent standings.Absent = true
 is_absent standings.Full = false
 
-abbrev pub finds_no_room : Standing → Bool
+abbrev pub finds_no_room : Lookup → Bool
 finds_no_room standings.Same = false
 finds_no_room standings.Other = false
 finds_no_room standings.Absent = false
@@ -256,25 +257,25 @@ is_settled k = nat_le k.settles_at k.frames
 
 abbrev pub current_findings : Known → Raw → List What
 current_findings k raw =
-    when (is_other_one (standing_in raw k.listener.current)) (faults.Changed (name_of raw))
-    ++ when (is_absent (standing_in raw k.listener.current) && is_settled k) (faults.Appeared (name_of raw))
+    when (is_other_one (lookup_in raw k.listener.current)) (faults.Changed (name_of raw))
+    ++ when (is_absent (lookup_in raw k.listener.current) && is_settled k) (faults.Appeared (name_of raw))
 
 abbrev pub next_findings : Known → Raw → List What
 next_findings k raw =
     when (not k.has_begun && k.has_ensemble) faults.NextUnannounced
-    ++ when (is_other_one (standing_in raw k.listener.next)) (faults.NextChanged (name_of raw))
+    ++ when (is_other_one (lookup_in raw k.listener.next)) (faults.NextChanged (name_of raw))
 
 abbrev pub member_findings : Known → Bool → Raw → List What
 member_findings k next raw =
     if k.listener.tuned then (if next then next_findings k raw else current_findings k raw) else []
 
--- the picture that it goes into has 64 others of its kind, and none with its identifier
+-- the picture for this entry has 64 others of its kind, and none with its identifier
 abbrev pub has_no_room : Known → Item → Bool
 has_no_room k i =
     if is_ensemble i then false
-    else k.listener.tuned && finds_no_room (standing_in i.raw (if i.next then k.listener.next else k.listener.current))
+    else k.listener.tuned && finds_no_room (lookup_in i.raw (if i.next then k.listener.next else k.listener.current))
 
--- ---- all that is found at an entry
+-- ---- all findings at an entry
 
 abbrev pub findings_at : Known → Item → List What
 findings_at k i =
@@ -282,7 +283,7 @@ findings_at k i =
 
 -- ---- the end of a frame
 
--- heard for the last time `period` frames before the one that ends
+-- last heard `period` frames before the one that ends
 abbrev pub is_silent : ℕ → List Moment → Raw → Bool
 is_silent period past raw = last_heard (key_of raw) past + period == frames_ended past + 1
 

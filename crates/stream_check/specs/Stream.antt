@@ -1,4 +1,4 @@
--- What is found in a frame, and in frames one after the other.
+-- The findings in a frame, and in successive frames.
 use Rattle.std.specs.Prelude.{ℕ, ◌%◌, ◌==◌, ◌&&◌, Bool, true, false, if◌then◌else◌, nat_lt, List, [], ◌∷◌, ◌++◌, length, map, Option, Some, None}
 use Rattle.mux_entries.specs.Entries.{EnsembleInformation}
 use Rattle.stream_check.specs.declared.finding.Finding.{Finding}
@@ -6,8 +6,8 @@ use Rattle.stream_check.specs.declared.finding.Fault.TheVariants as faults
 use Rattle.stream_check.specs.declared.finding.Event.TheVariants as events
 use Rattle.stream_check.specs.declared.finding.What.{What}
 use Rattle.stream_check.specs.declared.finding.What.TheVariants as whats
-use Rattle.stream_check.specs.declared.telling.FrameAt.{FrameAt}
-use Rattle.stream_check.specs.Telling.{when, in_frame}
+use Rattle.stream_check.specs.declared.reporting.FrameAt.{FrameAt}
+use Rattle.stream_check.specs.Reporting.{when, in_frame}
 use Rattle.stream_check.specs.Frames.{Fib, damaged_in, first_of_frame, first_opening, lacks_opening}
 use Rattle.stream_check.specs.History.{Item, Moment, Said, Ended, said, frame_items, frames_ended, due}
 use Rattle.stream_check.specs.Rules.{known_of, findings_at, has_no_room, silent_findings}
@@ -22,7 +22,7 @@ abbrev pub eid_in : Option EnsembleInformation → ℕ
 eid_in None = 0
 eid_in (Some e) = e.eid
 
--- the count that is due in a frame: at first that of its first FIG 0/0
+-- the count that is due in a frame; in the first frame that of its first FIG 0/0
 abbrev pub count_due : Option ℕ → List Fib → ℕ
 count_due None frame = count_in (first_of_frame frame)
 count_due (Some count) frame = count
@@ -31,11 +31,11 @@ abbrev pub placed_count : ℕ → ℕ → Option EnsembleInformation → ℕ
 placed_count step due None = due
 placed_count step due (Some e) = if e.count % step == 0 then e.count else due
 
--- that of its FIG 0/0 in place, else the one due
+-- the count of its FIG 0/0 in place, or else the one that was due
 abbrev pub count_of_frame : ℕ → Option ℕ → List Fib → ℕ
 count_of_frame step last frame = placed_count step (count_due last frame) (first_opening frame)
 
--- ---- of a frame as a whole
+-- ---- findings for a frame as a whole
 
 abbrev pub first_line : Option ℕ → List Fib → List What
 first_line None frame = whats.Event (events.Ensemble (eid_in (first_of_frame frame))) ∷ []
@@ -48,7 +48,7 @@ frame_findings size step last frame =
     ++ (when (nat_lt 0 (damaged_in frame)) (faults.Damaged (damaged_in frame))
     ++ when (count_due last frame % step == 0 && lacks_opening frame) faults.NoEnsemble))
 
--- ---- at its entries, one after the other, as long as there is room
+-- ---- findings at its entries, one after the other, as long as there is room
 
 abbrev pub findings_at_items : (step period : ℕ) → List Moment → List Item → List What
 findings_at_items step period past [] = []
@@ -62,7 +62,7 @@ runs_full step period past [] = false
 runs_full step period past (i ∷ is) =
     if has_no_room (known_of step period past) i then true else runs_full step period (Said i ∷ past) is
 
--- ---- all that is found
+-- ---- all findings
 
 abbrev pub frame_at : ℕ → List Moment → List Fib → FrameAt
 frame_at step past frame = record { frame = frames_ended past; count = count_of_frame step (due past) frame }
@@ -70,7 +70,7 @@ frame_at step past frame = record { frame = frames_ended past; count = count_of_
 abbrev pub last_findings : Bool → ℕ → List Moment → List What
 last_findings full period past = if full then [] else silent_findings period past
 
--- in a frame
+-- the findings in a frame
 abbrev pub findings_in : (size step period : ℕ) → List Moment → List Fib → List Finding
 findings_in size step period past frame =
     map (in_frame (frame_at step past frame))
@@ -78,11 +78,11 @@ findings_in size step period past frame =
     ++ (findings_at_items step period past (frame_items frame)
     ++ last_findings (runs_full step period past (frame_items frame)) period (said (frame_items frame) past)))
 
--- the past, a frame later
+-- the past with one more frame
 abbrev pub after_frame : ℕ → List Moment → List Fib → List Moment
 after_frame step past frame = Ended (count_of_frame step (due past) frame) ∷ said (frame_items frame) past
 
--- in frames, one after the other; all ends where there is no room for an entry
+-- the findings in successive frames; they end where there is no room for an entry
 abbrev pub findings_of : (size step period : ℕ) → List Moment → List (List Fib) → List Finding
 findings_of size step period past [] = []
 findings_of size step period past (frame ∷ frames) =

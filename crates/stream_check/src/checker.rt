@@ -1,42 +1,42 @@
-//! A stream is checked, FIB by FIB.
+//! The checker of a stream, which it receives FIB by FIB.
 
 ghost use Rattle.fib_codec.specs.Modes.{fib_count};
 
 use crate::frame::{FrameFibs, Sight, first_of, sight_of};
 use crate::memory::Memory;
-use crate::telling::Report;
+use crate::reporting::Report;
 use fib_codec::Mode;
 use std::marker::Model;
 use thiserror::Error;
 
-/// The most that is counted of anything: no stream comes near it.
+/// The limit of all counters; no real stream comes near it.
 const LIMIT: u64 = 1 << 62;
 
-/// Why the check of a stream ends before the stream does.
+/// Why a check ends before its stream does.
 #[derive(Clone, Copy, Debug, PartialEq, Eq, Error)]
 pub enum CheckFault {
-    /// A 65th service or packet component would enter a picture.
+    /// A picture would get a 65th service or packet component.
     #[error("refused: Full")]
     Full,
-    /// The stream has 2^62 frames, skipped FIBs or damaged FIBs, which are not counted further.
+    /// The stream has 2^62 frames, skipped FIBs or damaged FIBs, and these are not counted further.
     #[error("refused: too long")]
     TooLong,
 }
 
-/// What a stream was, as a whole.
+/// The totals of a stream.
 #[derive(Clone, Copy, Debug, PartialEq, Eq)]
 pub struct Summary {
-    /// How many frames it has.
+    /// The number of frames.
     pub frames: u64,
-    /// How many FIBs come before the first that holds a FIG 0/0.
+    /// The number of FIBs before the first that contains a FIG 0/0.
     pub skipped: u64,
-    /// How many FIBs at the end make no frame.
+    /// The number of FIBs at the end that do not form a frame.
     pub left_over: u64,
-    /// How many FIBs of the frames are damaged.
+    /// The number of damaged FIBs in the frames.
     pub damaged: u64,
 }
 
-/// The check of a stream of FIBs, which are given one after the other. It takes no memory beyond its own size.
+/// Checks a stream of FIBs, which it receives one after the other. It does not allocate.
 #[derive(Drop)]
 pub struct Checker {
     size: usize,
@@ -79,8 +79,8 @@ impl Checker {
     ghost use Rattle.stream_check.specs.Hearing.{HearsFrame};
     ghost use Rattle.stream_check.specs.Following.{Follows, EndsFull, IsAtLimit, IsSummary, is_begun, is_empty, with_skip, with_fib};
 
-    /// The check of a stream in this mode, of which no FIB was given yet. Each entry of the current configuration has
-    /// to come in any `period` successive frames.
+    /// A checker of a stream in this mode, before its first FIB. Any `period` successive frames have to carry each
+    /// entry of the current configuration.
     pub fn new(mode: Mode, period: u16) -> Checker
         ensures { (r : Reading) (start : Option (List findings.Finding))
             → Follows r mode period [] start start result }
@@ -94,14 +94,14 @@ impl Checker {
         }
     }
 
-    /// Whether a FIG 0/0 was heard.
+    /// Whether a FIG 0/0 has been heard.
     fn has_begun(&self) -> bool
         ensures { result ≡ is_begun self.now }
     {
         self.memory.frames() > 0 || !self.held.is_empty()
     }
 
-    /// Whether a FIB is skipped: no FIG 0/0 was heard before, and it holds none.
+    /// Whether a FIB is skipped: no FIG 0/0 was heard before, and it contains none.
     fn is_skipped(&self, fib: &[u8; 32]) -> bool
         ensures { (r : Reading)
             → result ≡ (not (is_begun self.now) && not (holds_ensemble (r.read fib.now))) }
@@ -109,7 +109,7 @@ impl Checker {
         !self.has_begun() && first_of(fib).is_none()
     }
 
-    /// Whether a FIB that is seen so ends a frame that is held, as it begins with a FIG 0/0.
+    /// Whether this FIB ends a buffered frame by beginning with a FIG 0/0.
     fn is_cut(&self, sight: &Sight) -> bool
         ensures value { result ≡ (is_there sight.now.opening && not (is_empty self.now.held)) }
         ensures room { length self.now.held < self.now.size }
@@ -117,7 +117,7 @@ impl Checker {
         sight.opening.is_some() && !self.held.is_empty()
     }
 
-    /// Whether a number is at its limit.
+    /// Whether one of the counters is at its limit.
     fn is_at_limit(&self) -> bool
         ensures room { result ≡ false → (self.now.memory.frames < most)
             × (self.now.skipped < most) × (self.now.damaged < most) }
@@ -126,7 +126,7 @@ impl Checker {
         self.memory.is_full() || (self.skipped >= LIMIT || self.damaged >= LIMIT)
     }
 
-    /// Whether the frame at hand is not whole with one FIB more.
+    /// Whether the current frame is still incomplete with one more FIB.
     fn has_space(&self) -> bool
         ensures space { result ≡ true → length self.now.held + 1 < self.now.size }
         ensures last { result ≡ false → length self.now.held + 1 ≡ self.now.size }
@@ -142,7 +142,7 @@ impl Checker {
         self.skipped += 1;
     }
 
-    /// Holds a FIB of the frame at hand, which is not whole with it.
+    /// Buffers a FIB of the current frame, which is incomplete with it.
     fn hold(&mut self, fib: &[u8; 32], sight: &Sight)
         requires space { length self.old.held + 1 < self.old.size }
         requires seen { (r : Reading) → IsSeen sight.now (r.read fib.now) }
@@ -151,14 +151,14 @@ impl Checker {
         self.held.push(fib, sight);
     }
 
-    /// Hears the FIBs that are held, which are a frame, and holds this one, which begins another. The answer is false
-    /// where a picture had no room for an entry.
+    /// Hears the buffered FIBs, which are a frame, and buffers this one, which begins the next. False if a picture had
+    /// no room for an entry.
     fn hear_cut<R: Report>(&mut self, fib: &[u8; 32], sight: &Sight, report: &mut R) -> bool
         requires seen { (r : Reading) → IsSeen sight.now (r.read fib.now) }
         requires frames { self.old.memory.frames < most }
         requires damaged { self.old.damaged < most }
         ensures heard { (r : Reading) → HearsFrame self.old.size (map r.read self.old.held)
-            self.old.memory (R.told report.old) self.new.memory (R.told report.new) (not result) }
+            self.old.memory (R.reported report.old) self.new.memory (R.reported report.new) (not result) }
         ensures damaged { (r : Reading)
             → self.new.damaged ≡ self.old.damaged + damaged_in (map r.read self.old.held) }
         ensures held { self.new.held ≡ fib.now ∷ [] }
@@ -172,15 +172,15 @@ impl Checker {
         is_heard
     }
 
-    /// Hears the FIBs that are held and this one, which are a frame, and holds none. The answer is false where a
-    /// picture had no room for an entry.
+    /// Hears the buffered FIBs and this one, which are a frame, and empties the buffer. False if a picture had no
+    /// room for an entry.
     fn hear_last<R: Report>(&mut self, fib: &[u8; 32], sight: &Sight, report: &mut R) -> bool
         requires seen { (r : Reading) → IsSeen sight.now (r.read fib.now) }
         requires frames { self.old.memory.frames < most }
         requires damaged { self.old.damaged < most }
         ensures heard { (r : Reading)
             → HearsFrame self.old.size (map r.read (self.old.held ++ fib.now ∷ []))
-            self.old.memory (R.told report.old) self.new.memory (R.told report.new) (not result) }
+            self.old.memory (R.reported report.old) self.new.memory (R.reported report.new) (not result) }
         ensures damaged { (r : Reading) → self.new.damaged
             ≡ self.old.damaged + damaged_in (map r.read (self.old.held ++ fib.now ∷ [])) }
         ensures held { self.new.held ≡ [] }
@@ -194,27 +194,27 @@ impl Checker {
         is_heard
     }
 
-    /// Hears one FIB more, and reports what is found in the frame that it ends, if it ends one: a frame ends with the
-    /// last of its FIBs, or where the next one begins with a FIG 0/0. FIBs before the first that holds a FIG 0/0 are
-    /// skipped.
+    /// Hears one FIB and, if it ends a frame, reports the findings in that frame. A frame ends with the last of its
+    /// FIBs, or where the next one begins with a FIG 0/0. FIBs before the first that contains a FIG 0/0 are skipped.
     ///
-    /// - `Full`: an entry came for which a picture had no room; what was found before it was reported, and nothing that
-    ///   follows is to be heard;
-    /// - `TooLong`: 2^62 frames, skipped FIBs or damaged FIBs came before; the FIB was not heard, and nothing changes.
+    /// - `Full`: a picture had no room for an entry; the findings before it were reported, and nothing after it may be
+    ///   heard;
+    /// - `TooLong`: there were already 2^62 frames, skipped FIBs or damaged FIBs; the FIB was not heard, and nothing
+    ///   changed.
     pub fn hear<R: Report>(&mut self, fib: &[u8; 32], report: &mut R) -> Result<(), CheckFault>
         ensures heard { OnOk result ((r : Reading) (mode : modes.Mode) (period : ℕ)
             (stream : List Fib) (start : Option (List findings.Finding))
-            → Follows r mode period stream start (R.told report.old) self.old
-            → Follows r mode period (stream ++ r.read fib.now ∷ []) start (R.told report.new)
+            → Follows r mode period stream start (R.reported report.old) self.old
+            → Follows r mode period (stream ++ r.read fib.now ∷ []) start (R.reported report.new)
             self.new) }
         ensures full { IfErr result (λ fault. fault ≡ faults.Full → (r : Reading)
             (mode : modes.Mode) (period : ℕ) (stream : List Fib)
             (start : Option (List findings.Finding))
-            → Follows r mode period stream start (R.told report.old) self.old
+            → Follows r mode period stream start (R.reported report.old) self.old
             → EndsFull r mode period (stream ++ r.read fib.now ∷ []) start
-            (R.told report.new)) }
+            (R.reported report.new)) }
         ensures long { IfErr result (λ fault. fault ≡ faults.TooLong
-            → (self.new ≡ self.old) × (R.told report.new ≡ R.told report.old)) }
+            → (self.new ≡ self.old) × (R.reported report.new ≡ R.reported report.old)) }
         ensures limit { IfErr result (λ fault. fault ≡ faults.TooLong → IsAtLimit self.old) }
     {
         if self.is_at_limit() {
@@ -241,13 +241,13 @@ impl Checker {
         Ok(())
     }
 
-    /// The stream is over; None where it has no FIG 0/0.
+    /// Ends the check and returns the totals; None where the stream has no FIG 0/0.
     pub fn finish(&self) -> Option<Summary>
         ensures none { IfNone result (is_begun self.now ≡ false) }
         ensures some { IfSome result (λ s. (is_begun self.now ≡ true)
             × ((r : Reading) (mode : modes.Mode) (period : ℕ) (stream : List Fib)
-            (start told : Option (List findings.Finding))
-            (follows : Follows r mode period stream start told self.now)
+            (start reported : Option (List findings.Finding))
+            (follows : Follows r mode period stream start reported self.now)
             → IsSummary follows.skipped follows.frames (map r.read self.now.held) s)) }
     {
         if !self.has_begun() {

@@ -1,14 +1,14 @@
-//! What is found at a FIG 0/0 (EN 300 401 clauses 6.4 and 6.5).
+//! The findings at a FIG 0/0 (EN 300 401 clauses 6.4 and 6.5).
 
 ghost use Rattle.std.specs.Prelude.{◌≡◌};
 ghost use Rattle.stream_check.specs.Rules.{can_fall_at};
 
 use crate::finding::{Event, Fault, What};
 use crate::memory::Memory;
-use crate::telling::{FrameAt, Report, tell, tell_if};
+use crate::reporting::{FrameAt, Report, note, note_if};
 use mux_config::Ensemble;
 
-/// Whether a swap can fall on a count of this low part.
+/// Whether a swap can fall on a count with this low part.
 fn can_fall_at(step: u16, low: u8) -> bool
     ensures { result ≡ can_fall_at step low }
 {
@@ -17,11 +17,11 @@ fn can_fall_at(step: u16, low: u8) -> bool
 
 impl Memory {
     ghost use Rattle.std.specs.Prelude.{◌≡◌, ◌<◌, ◌≤◌, map, if◌then◌else◌};
-    ghost use Rattle.stream_check.specs.Telling.{with_more, in_frame};
+    ghost use Rattle.stream_check.specs.Reporting.{with_more, in_frame};
     ghost use Rattle.stream_check.specs.Rules.{is_placed, makes_swap, announces_another, is_other, place_faults, swap_or_another, announcement, announces_first, ensemble_findings};
     ghost use Rattle.stream_check.specs.Memory.{IsSane, known_in, most, with_swap, with_flags, with_ensemble};
 
-    /// Whether a FIG 0/0 is in place: the first FIG of its frame, at a count that the mode's step divides.
+    /// Whether a FIG 0/0 is in place: the first FIG of its frame, at a count that is a multiple of the mode's step.
     pub(crate) fn is_in_place(&self, first: bool, ensemble: &Ensemble) -> bool
         requires step { 0 < self.now.step }
         ensures { result ≡ is_placed (known_in self.now) first ensemble.now }
@@ -29,7 +29,7 @@ impl Memory {
         first && ensemble.count() % self.step == 0
     }
 
-    /// Whether the awaited swap is made here.
+    /// Whether the awaited swap is made at this FIG 0/0.
     fn is_made(&self, ensemble: &Ensemble) -> bool
         ensures { result ≡ makes_swap (known_in self.now) ensemble.now }
     {
@@ -39,7 +39,7 @@ impl Memory {
         }
     }
 
-    /// Whether another swap is announced than the one that is awaited.
+    /// Whether a swap other than the awaited one is announced.
     fn announces_another(&self, ensemble: &Ensemble) -> bool
         ensures { result ≡ announces_another (known_in self.now) ensemble.now }
     {
@@ -51,7 +51,7 @@ impl Memory {
         }
     }
 
-    /// Whether it is of another ensemble than the last one in place.
+    /// Whether the EId differs from that of the last FIG 0/0 in place.
     fn is_other_ensemble(&self, ensemble: &Ensemble) -> bool
         ensures { result ≡ is_other ensemble.now.eid self.now.eid }
     {
@@ -61,7 +61,7 @@ impl Memory {
         }
     }
 
-    /// Whether another count was due.
+    /// Whether the count differs from the one that was due.
     fn is_other_count(&self, ensemble: &Ensemble) -> bool
         ensures { result ≡ is_other ensemble.now.count self.now.due }
     {
@@ -71,44 +71,44 @@ impl Memory {
         }
     }
 
-    /// Reports where it is out of place, or has another value than is due there.
-    fn tell_place<R: Report>(&self, at: FrameAt, first: bool, ensemble: &Ensemble, report: &mut R)
+    /// Reports if it is out of place, or in place with a value that was not due.
+    fn report_place<R: Report>(&self, at: FrameAt, first: bool, ensemble: &Ensemble, report: &mut R)
         requires step { 0 < self.now.step }
-        ensures { R.told report.new ≡ with_more (R.told report.old)
+        ensures { R.reported report.new ≡ with_more (R.reported report.old)
             (map (in_frame at) (place_faults (known_in self.now) first ensemble.now)) }
     {
         let is_in_place = self.is_in_place(first, ensemble);
         let is_other_ensemble = is_in_place && self.is_other_ensemble(ensemble);
-        tell_if(
+        note_if(
             is_other_ensemble,
             at,
             Fault::OtherEnsemble(ensemble.eid()),
             report,
         );
         let is_other_count = is_in_place && self.is_other_count(ensemble);
-        tell_if(
+        note_if(
             is_other_count,
             at,
             Fault::Count(self.due.unwrap_or(0)),
             report,
         );
-        tell_if(!is_in_place, at, Fault::OutOfPlace, report);
+        note_if(!is_in_place, at, Fault::OutOfPlace, report);
     }
 
-    /// Reports what a swap shows, where it is one, or else whether it announces another one.
-    fn tell_swap_or_another<R: Report>(&self, at: FrameAt, ensemble: &Ensemble, report: &mut R)
-        ensures { R.told report.new ≡ with_more (R.told report.old)
+    /// Reports the findings at a swap or, if there is none, another announcement.
+    fn report_swap_or_another<R: Report>(&self, at: FrameAt, ensemble: &Ensemble, report: &mut R)
+        ensures { R.reported report.new ≡ with_more (R.reported report.old)
             (map (in_frame at) (swap_or_another (known_in self.now) ensemble.now)) }
     {
         if self.is_made(ensemble) {
-            self.tell_swap(at, ensemble, report);
+            self.report_swap(at, ensemble, report);
             return;
         }
         let another = Fault::AnnouncedAgain(ensemble.change(), ensemble.occurrence().unwrap_or(0));
-        tell_if(self.announces_another(ensemble), at, another, report);
+        note_if(self.announces_another(ensemble), at, another, report);
     }
 
-    /// Whether this is a first announcement: flags where nothing was awaited, or where the swap has just been made.
+    /// Whether this is a first announcement: flags where no swap was awaited, or where the swap has just been made.
     fn announces_first(&self, ensemble: &Ensemble) -> bool
         ensures { result ≡ announces_first (known_in self.now) ensemble.now }
     {
@@ -116,18 +116,18 @@ impl Memory {
     }
 
     /// Reports a first announcement.
-    fn tell_announcement<R: Report>(&self, at: FrameAt, ensemble: &Ensemble, report: &mut R)
-        ensures { R.told report.new ≡ with_more (R.told report.old)
+    fn report_announcement<R: Report>(&self, at: FrameAt, ensemble: &Ensemble, report: &mut R)
+        ensures { R.reported report.new ≡ with_more (R.reported report.old)
             (map (in_frame at) (announcement (known_in self.now) ensemble.now)) }
     {
         if self.announces_first(ensemble) {
             let low = ensemble.occurrence().unwrap_or(0);
-            tell(
+            note(
                 at,
                 What::Event(Event::Announced(ensemble.change(), low)),
                 report,
             );
-            tell_if(
+            note_if(
                 !can_fall_at(self.step, low),
                 at,
                 Fault::NoSwapAt(low),
@@ -136,8 +136,8 @@ impl Memory {
         }
     }
 
-    /// Reports what is found at a FIG 0/0.
-    fn tell_ensemble<R: Report>(
+    /// Reports the findings at a FIG 0/0.
+    fn report_ensemble<R: Report>(
         &self,
         at: FrameAt,
         first: bool,
@@ -145,14 +145,14 @@ impl Memory {
         report: &mut R,
     )
         requires step { 0 < self.now.step }
-        ensures { R.told report.new ≡ with_more (R.told report.old)
+        ensures { R.reported report.new ≡ with_more (R.reported report.old)
             (map (in_frame at) (ensemble_findings (known_in self.now) first ensemble.now)) }
     {
-        self.tell_place(at, first, ensemble, report);
-        self.tell_swap_or_another(at, ensemble, report);
-        self.tell_announcement(at, ensemble, report);
+        self.report_place(at, first, ensemble, report);
+        self.report_swap_or_another(at, ensemble, report);
+        self.report_announcement(at, ensemble, report);
         let is_bare = ensemble.change() == 0 && self.began_early;
-        tell_if(is_bare, at, Fault::NextUnannounced, report);
+        note_if(is_bare, at, Fault::NextUnannounced, report);
     }
 
     /// Applies change flags.
@@ -185,7 +185,7 @@ impl Memory {
         self.tuned = true;
     }
 
-    /// Applies a FIG 0/0, and reports what is found at it.
+    /// Applies a FIG 0/0, and reports the findings at it.
     pub(crate) fn hear_ensemble<R: Report>(
         &mut self,
         at: FrameAt,
@@ -197,12 +197,12 @@ impl Memory {
         requires times { self.old.times ≤ 3 }
         requires frames { self.old.frames < most }
         requires period { self.old.period < 65536 }
-        ensures told { R.told report.new ≡ with_more (R.told report.old)
+        ensures reported { R.reported report.new ≡ with_more (R.reported report.old)
             (map (in_frame at) (ensemble_findings (known_in self.old) first ensemble.now)) }
         ensures memory { self.new ≡ with_ensemble first ensemble.now
             (if makes_swap (known_in self.old) ensemble.now then with_swap self.old else self.old) }
     {
-        self.tell_ensemble(at, first, ensemble, report);
+        self.report_ensemble(at, first, ensemble, report);
         if self.is_made(ensemble) {
             self.swap();
         }

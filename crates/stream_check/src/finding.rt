@@ -1,4 +1,4 @@
-//! What is found in a stream: events and faults, each with its frame.
+//! Findings in a stream: events and faults, each with its frame.
 
 use std::fmt::{self, Display, Formatter, Write};
 use thiserror::Error;
@@ -27,7 +27,7 @@ impl Display for EntryName {
     }
 }
 
-/// What happens in a stream that keeps its word.
+/// What happens in a valid stream.
 #[derive(Clone, Copy, Debug, PartialEq, Eq, Error)]
 pub enum Event {
     /// The ensemble of the stream, by its EId.
@@ -41,55 +41,55 @@ pub enum Event {
     Swap,
 }
 
-/// What a stream does that it ought not to do.
+/// What a stream gets wrong.
 #[derive(Clone, Copy, Debug, PartialEq, Eq, Error)]
 pub enum Fault {
-    /// A frame has this many FIBs, fewer than the mode's.
+    /// A frame has this many FIBs, fewer than the mode requires.
     #[error("frame of {0} FIBs")]
     ShortFrame(u64),
-    /// So many of the frame's FIBs are damaged.
+    /// This many of the frame's FIBs are damaged.
     #[error("damaged {0}")]
     Damaged(u64),
     /// The frame should begin with a FIG 0/0.
     #[error("FIG 0/0 is missing")]
     NoEnsemble,
-    /// The EId is not the last one.
+    /// The EId differs from the last one.
     #[error("ensemble {0:04X}")]
     OtherEnsemble(u16),
-    /// The CIF count is not this one, which was due.
+    /// The CIF count differs from the one that was due, which is given.
     #[error("count: {0} was due")]
     Count(u16),
-    /// A FIG 0/0 is not the first FIG of its frame, or its count is no multiple of the mode's step.
+    /// A FIG 0/0 is not the first FIG of its frame, or its count is not a multiple of the mode's step.
     #[error("FIG 0/0 out of place")]
     OutOfPlace,
-    /// A swap is awaited, and other flags or another occurrence change are sent: these.
+    /// A swap is awaited, and other change flags or another occurrence change, which are given, are sent.
     #[error("announced again: {0} at low {1}")]
     AnnouncedAgain(u8, u8),
     /// An occurrence change at which no swap can fall.
     #[error("no swap can fall at low {0}")]
     NoSwapAt(u8),
-    /// Entries of the next configuration are sent, and no change flags.
+    /// Entries of the next configuration are sent without change flags.
     #[error("next without change flags")]
     NextUnannounced,
-    /// An entry of the current configuration is not as it was.
+    /// An entry of the current configuration has changed.
     #[error("changed: {0}")]
     Changed(EntryName),
-    /// An entry of the next configuration is not as it was.
+    /// An entry of the next configuration has changed.
     #[error("next changed: {0}")]
     NextChanged(EntryName),
-    /// An entry that the current configuration did not have.
+    /// An entry that was not in the current configuration.
     #[error("appeared: {0}")]
     Appeared(EntryName),
-    /// A swap was announced for this low part of the CIF count, and comes at another.
+    /// The low part of the CIF count for which a swap was announced that falls on another count.
     #[error("announced for low {0}")]
     AnnouncedFor(u8),
-    /// A swap comes after so few flagged FIG 0/0.
+    /// A swap comes after only this many flagged FIG 0/0.
     #[error("announced {0} times")]
     AnnouncedTimes(u64),
-    /// A swap comes after the next configuration could be read so few times.
+    /// A swap comes after the next configuration could be read only this many times.
     #[error("next heard {0} times")]
     NextHeard(u64),
-    /// The flags of an announcement, and those by which the configurations differ.
+    /// The change flags of an announcement, and different ones that the configurations require.
     #[error("flags {0}, but {1} changes")]
     Flags(u8, u8),
     /// Two sub-channels of the next configuration share a capacity unit.
@@ -98,7 +98,7 @@ pub enum Fault {
     /// A sub-channel of the next configuration ends past the 864 capacity units.
     #[error("past the end: {0}")]
     PastEnd(u64),
-    /// An entry of the current configuration was not heard for too long.
+    /// An entry of the current configuration has not been heard for too long.
     #[error("silent: {0}")]
     Silent(EntryName),
 }
@@ -112,14 +112,14 @@ pub enum What {
     Fault(Fault),
 }
 
-/// What was found, and in which frame.
+/// A finding and its frame.
 #[derive(Clone, Copy, Debug, PartialEq, Eq)]
 pub struct Finding {
     /// The number of the frame, from 0.
     pub frame: u64,
     /// The CIF count of the frame, 0 to 4999.
     pub count: u16,
-    /// What was found in it.
+    /// The finding.
     pub what: What,
 }
 

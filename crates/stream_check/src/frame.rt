@@ -1,4 +1,4 @@
-//! What is seen of FIBs before they are heard.
+//! Inspecting FIBs before they are heard.
 
 ghost use Rattle.std.specs.Prelude.{◌≡◌, if◌then◌else◌, map};
 ghost use Rattle.stream_check.specs.Frames.{Reading, IsSeen, first_raw, first_in, first_in_figs, opening_in_figs, first_of_frame};
@@ -42,7 +42,7 @@ fn first_of_figs(mut figs: Figs<'_>) -> Option<Ensemble>
     None
 }
 
-/// The FIG 0/0 that these FIGs begin with.
+/// The FIG 0/0 at the beginning of these FIGs.
 fn opening_of_figs(mut figs: Figs<'_>) -> Option<Ensemble>
     ensures { result ≡ opening_in_figs figs.entry }
 {
@@ -52,7 +52,7 @@ fn opening_of_figs(mut figs: Figs<'_>) -> Option<Ensemble>
     }
 }
 
-/// What is seen of one FIB.
+/// What is known of one FIB before it is heard.
 #[derive(Clone, Copy)]
 pub(crate) struct Sight {
     /// Whether it is damaged.
@@ -66,14 +66,14 @@ impl Sight {
     ghost use Rattle.stream_check.specs.Frames.{is_there};
 
     /// Whether the FIB is undamaged, and does not begin with a FIG 0/0.
-    fn is_unopened(&self) -> bool
+    fn starts_without_ensemble(&self) -> bool
         ensures { result ≡ (not self.now.is_damaged && not (is_there self.now.opening)) }
     {
         !self.is_damaged && self.opening.is_none()
     }
 }
 
-/// What is seen of a FIB.
+/// Inspects a FIB.
 pub(crate) fn sight_of(fib: &[u8; 32]) -> Sight
     ensures { (r : Reading) → IsSeen result (r.read fib.now) }
 {
@@ -113,20 +113,20 @@ fn first_of_fibs(fibs: &[[u8; 32]]) -> Option<Ensemble>
     None
 }
 
-/// One of two values.
+/// Selects one of two values.
 fn choose<T: Copy>(first: bool, one: T, other: T) -> T
     ensures { result ≡ (if first then one else other) }
 {
     if first { one } else { other }
 }
 
-/// The FIBs of a frame, with what is seen of them before they are heard. Contracts see it as the FIBs.
+/// The FIBs of a frame, with what is known of them before they are heard. In contracts it is the list of FIBs.
 #[derive(Drop)]
 pub struct FrameFibs {
     fibs: ArrayVec<[u8; 32], 4>,
     damaged: u64,
     opening: Option<Ensemble>,
-    is_unopened: bool,
+    starts_without_ensemble: bool,
 }
 
 impl Model for FrameFibs {
@@ -138,7 +138,7 @@ impl Model for FrameFibs {
     ghost view = { λ f. f.fibs.items };
 
     ghost invariant = { λ f. ((r : Reading)
-        → AreSeen f.damaged f.opening f.is_unopened (map r.read f.fibs.items))
+        → AreSeen f.damaged f.opening f.starts_without_ensemble (map r.read f.fibs.items))
         × (f.damaged ≤ length f.fibs.items) };
 }
 
@@ -147,7 +147,7 @@ impl FrameFibs {
     ghost use Rattle.stream_check.specs.Frames.{Reading, IsSeen, damaged_in, first_of_frame, first_opening, lacks_opening};
     ghost use Rattle.stream_check.specs.Following.{is_empty};
 
-    /// No FIBs.
+    /// An empty frame.
     pub(crate) fn new() -> FrameFibs
         ensures { result ≡ [] }
     {
@@ -155,11 +155,11 @@ impl FrameFibs {
             fibs: ArrayVec::new(),
             damaged: 0,
             opening: None,
-            is_unopened: false,
+            starts_without_ensemble: false,
         }
     }
 
-    /// How many there are.
+    /// The number of FIBs.
     pub(crate) fn len(&self) -> usize
         ensures value { result ≡ length self.now }
         ensures bound { result ≤ 4 }
@@ -167,21 +167,21 @@ impl FrameFibs {
         self.fibs.len()
     }
 
-    /// Whether there are none.
+    /// Whether there are no FIBs.
     pub(crate) fn is_empty(&self) -> bool
         ensures { result ≡ is_empty self.now }
     {
         self.fibs.is_empty()
     }
 
-    /// All of them, in order.
+    /// All FIBs, in order.
     pub(crate) fn as_slice(&self) -> &[[u8; 32]]
         ensures { result.now ≡ self.now }
     {
         self.fibs.as_slice()
     }
 
-    /// One FIB more, of which this is seen. There must be room for it.
+    /// Appends a FIB, given what is known of it. There must be room for it.
     pub(crate) fn push(&mut self, fib: &[u8; 32], sight: &Sight)
         requires room { length self.old < 4 }
         requires seen { (r : Reading) → IsSeen sight.now (r.read fib.now) }
@@ -189,12 +189,16 @@ impl FrameFibs {
     {
         let is_first = self.is_empty();
         self.opening = choose(is_first, sight.opening, self.opening);
-        self.is_unopened = choose(is_first, sight.is_unopened(), self.is_unopened);
+        self.starts_without_ensemble = choose(
+            is_first,
+            sight.starts_without_ensemble(),
+            self.starts_without_ensemble,
+        );
         self.damaged += choose(sight.is_damaged, 1, 0);
         self.fibs.push(*fib);
     }
 
-    /// How many of them are damaged.
+    /// The number of damaged FIBs.
     pub(crate) fn damaged(&self) -> u64
         ensures value { (r : Reading) → result ≡ damaged_in (map r.read self.now) }
         ensures bound { result ≤ length self.now }
@@ -202,24 +206,24 @@ impl FrameFibs {
         self.damaged
     }
 
-    /// The first FIG 0/0 in them.
+    /// The first FIG 0/0 in the frame.
     pub(crate) fn first(&self) -> Option<Ensemble>
         ensures { (r : Reading) → result ≡ first_of_frame (map r.read self.now) }
     {
         first_of_fibs(self.fibs.as_slice())
     }
 
-    /// The FIG 0/0 that the first of them begins with.
+    /// The FIG 0/0 that the first FIB begins with.
     pub(crate) fn opening(&self) -> Option<Ensemble>
         ensures { (r : Reading) → result ≡ first_opening (map r.read self.now) }
     {
         self.opening
     }
 
-    /// Whether the first of them is undamaged, and does not begin with a FIG 0/0.
-    pub(crate) fn is_unopened(&self) -> bool
+    /// Whether the first FIB is undamaged, and does not begin with a FIG 0/0.
+    pub(crate) fn starts_without_ensemble(&self) -> bool
         ensures { (r : Reading) → result ≡ lacks_opening (map r.read self.now) }
     {
-        self.is_unopened
+        self.starts_without_ensemble
     }
 }

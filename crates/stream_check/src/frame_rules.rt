@@ -1,4 +1,4 @@
-//! What is found in a frame (EN 300 401 clauses 5.1, 6.4 and 6.5).
+//! The findings in a frame (EN 300 401 clauses 5.1, 6.4 and 6.5).
 
 ghost use Rattle.std.specs.Prelude.{◌≡◌};
 ghost use Rattle.stream_check.specs.Memory.{later};
@@ -9,9 +9,9 @@ use crate::heard_entry::HeardEntry;
 use crate::heard_table::HeardTable;
 use crate::member_rules::name_of;
 use crate::memory::Memory;
-use crate::telling::{FrameAt, Report, tell, tell_if};
+use crate::reporting::{FrameAt, Report, note, note_if};
 
-/// The later of two numbers.
+/// The maximum of two numbers.
 fn later(one: u64, other: u64) -> u64
     ensures { result ≡ later one other }
 {
@@ -22,14 +22,14 @@ impl Memory {
     ghost use Rattle.std.specs.Prelude.{◌≡◌, ◌≢◌, ◌<◌, ◌≤◌, ◌+◌, ◌==◌, ◌&&◌, map, not, true, false};
     ghost use Rattle.std.specs.List.{AllByRecursion};
     ghost use Rattle.stream_check.specs.Pictures.{Heard};
-    ghost use Rattle.stream_check.specs.Telling.{with_more, in_frame};
+    ghost use Rattle.stream_check.specs.Reporting.{with_more, in_frame};
     ghost use Rattle.stream_check.specs.Frames.{Reading};
     ghost use Rattle.stream_check.specs.History.{frame_items};
     ghost use Rattle.stream_check.specs.Stream.{count_due, count_of_frame, first_line, frame_findings};
     ghost use Rattle.stream_check.specs.Memory.{IsSane, most, later, is_quiet, quiet_findings, silent_in};
     ghost use Rattle.stream_check.specs.Hearing.{IsLater, HearsFrame};
 
-    /// The count that is due in a frame, in the first frame that of its first FIG 0/0.
+    /// The count that is due in a frame; in the first frame that of its first FIG 0/0.
     fn count_due(&self, fibs: &FrameFibs) -> u16
         requires sane { IsSane self.now }
         ensures value { (r : Reading) → result ≡ count_due self.now.due (map r.read fibs.now) }
@@ -44,7 +44,7 @@ impl Memory {
         }
     }
 
-    /// The count of a frame: that of the FIG 0/0 in place, else the one due.
+    /// The count of a frame: that of its FIG 0/0 in place, or else the one that was due.
     fn count_of(&self, fibs: &FrameFibs) -> u16
         requires sane { IsSane self.now }
         ensures value { (r : Reading)
@@ -65,8 +65,8 @@ impl Memory {
     }
 
     /// Reports the ensemble of the first frame.
-    fn tell_first_line<R: Report>(&self, at: FrameAt, fibs: &FrameFibs, report: &mut R)
-        ensures { (r : Reading) → R.told report.new ≡ with_more (R.told report.old)
+    fn report_first_line<R: Report>(&self, at: FrameAt, fibs: &FrameFibs, report: &mut R)
+        ensures { (r : Reading) → R.reported report.new ≡ with_more (R.reported report.old)
             (map (in_frame at) (first_line self.now.due (map r.read fibs.now))) }
     {
         if self.due.is_some() {
@@ -76,27 +76,27 @@ impl Memory {
             Some(ensemble) => ensemble.eid(),
             None => 0,
         };
-        tell(at, What::Event(Event::Ensemble(eid)), report);
+        note(at, What::Event(Event::Ensemble(eid)), report);
     }
 
-    /// Reports what is found at a frame as a whole.
-    fn tell_frame<R: Report>(&self, at: FrameAt, size: usize, fibs: &FrameFibs, report: &mut R)
+    /// Reports the findings for a frame as a whole.
+    fn report_frame<R: Report>(&self, at: FrameAt, size: usize, fibs: &FrameFibs, report: &mut R)
         requires sane { IsSane self.now }
-        ensures { (r : Reading) → R.told report.new ≡ with_more (R.told report.old)
+        ensures { (r : Reading) → R.reported report.new ≡ with_more (R.reported report.old)
             (map (in_frame at)
             (frame_findings size self.now.step self.now.due (map r.read fibs.now))) }
     {
-        self.tell_first_line(at, fibs, report);
+        self.report_first_line(at, fibs, report);
         let count = fibs.len() as u64;
-        tell_if(fibs.len() < size, at, Fault::ShortFrame(count), report);
+        note_if(fibs.len() < size, at, Fault::ShortFrame(count), report);
         let damaged = fibs.damaged();
-        tell_if(damaged > 0, at, Fault::Damaged(damaged), report);
-        let is_missing = self.count_due(fibs) % self.step == 0 && fibs.is_unopened();
-        tell_if(is_missing, at, Fault::NoEnsemble, report);
+        note_if(damaged > 0, at, Fault::Damaged(damaged), report);
+        let is_missing = self.count_due(fibs) % self.step == 0 && fibs.starts_without_ensemble();
+        note_if(is_missing, at, Fault::NoEnsemble, report);
     }
 
-    /// Whether an entry of the current configuration was heard for the last time as many frames before this one as the
-    /// period has.
+    /// Whether an entry of the current configuration was last heard, or the last swap made, exactly `period` frames
+    /// before this one.
     fn is_quiet(&self, entry: &HeardEntry) -> bool
         requires frames { self.now.frames < most }
         ensures { result
@@ -110,7 +110,7 @@ impl Memory {
         now - last == self.period
     }
 
-    /// Whether it is too soon for any entry to be silent, none of which was heard for the last time before this.
+    /// Whether no entry can be silent yet, given a time before which none was last heard.
     fn is_too_soon(&self, oldest: u64) -> bool
         requires frames { self.now.frames < most }
         ensures { result ≡ true
@@ -121,11 +121,11 @@ impl Memory {
         last > now || now - last < self.period
     }
 
-    /// Reports which of these entries of the current configuration are silent.
-    fn tell_quiet<R: Report>(&self, at: FrameAt, table: &HeardTable, report: &mut R)
+    /// Reports the silent entries in this table of the current configuration.
+    fn report_quiet<R: Report>(&self, at: FrameAt, table: &HeardTable, report: &mut R)
         requires members { AllByRecursion (λ (h : Heard). h.raw.ext ≢ 0) table.now }
         requires frames { self.now.frames < most }
-        ensures { R.told report.new ≡ with_more (R.told report.old) (map (in_frame at)
+        ensures { R.reported report.new ≡ with_more (R.reported report.old) (map (in_frame at)
             (quiet_findings self.now.swapped self.now.period self.now.frames table.now)) }
     {
         if self.is_too_soon(table.oldest()) {
@@ -134,35 +134,40 @@ impl Memory {
         let mut rest = table.as_slice();
         while let Some((entry, after)) = rest.split_first() {
             let is_quiet = self.is_quiet(entry);
-            tell_if(is_quiet, at, Fault::Silent(name_of(&entry.lent())), report);
+            note_if(
+                is_quiet,
+                at,
+                Fault::Silent(name_of(&entry.as_raw_entry())),
+                report,
+            );
             rest = after;
         }
     }
 
-    /// Reports which entries of the current configuration are silent.
-    fn tell_silent<R: Report>(&self, at: FrameAt, report: &mut R)
+    /// Reports the silent entries of the current configuration.
+    fn report_silent<R: Report>(&self, at: FrameAt, report: &mut R)
         requires frames { self.now.frames < most }
-        ensures { R.told report.new ≡ with_more (R.told report.old)
+        ensures { R.reported report.new ≡ with_more (R.reported report.old)
             (map (in_frame at) (silent_in self.now)) }
     {
-        self.tell_quiet(at, self.current.subs(), report);
-        self.tell_quiet(at, self.current.services(), report);
-        self.tell_quiet(at, self.current.packets(), report);
+        self.report_quiet(at, self.current.subs(), report);
+        self.report_quiet(at, self.current.services(), report);
+        self.report_quiet(at, self.current.packets(), report);
     }
 
-    /// Looks for the oldest entries of the current configuration, now and then. What is heard of it stays the same.
-    fn look_for_oldest(&mut self)
+    /// Updates the time of the oldest entries from time to time. The contents stay the same.
+    fn find_oldest(&mut self)
         requires frames { self.old.frames < most }
         ensures { self.new ≡ self.old }
     {
         if self.frames % 8 == 0 {
             let before = (self.frames + 1).saturating_sub(self.period);
-            self.current.look_for_oldest(before);
+            self.current.find_oldest(before);
         }
     }
 
-    /// Hears a frame of FIBs, and reports what is found in it. The answer is false where a picture had no room for an
-    /// entry of it, after which nothing more is reported.
+    /// Hears the FIBs of a frame, and reports the findings in it. False if a picture had no room for an
+    /// entry; nothing is reported after it.
     pub(crate) fn hear_frame<R: Report>(
         &mut self,
         size: usize,
@@ -176,19 +181,19 @@ impl Memory {
         ensures step { self.new.step ≡ self.old.step }
         ensures period { self.new.period ≡ self.old.period }
         ensures heard { (r : Reading) → HearsFrame size (map r.read fibs.now) self.old
-            (R.told report.old) self.new (R.told report.new) (not result) }
+            (R.reported report.old) self.new (R.reported report.new) (not result) }
     {
         let count = self.count_of(fibs);
         let at = FrameAt {
             frame: self.frames,
             count,
         };
-        self.tell_frame(at, size, fibs, report);
+        self.report_frame(at, size, fibs, report);
         if !self.hear_fibs(at, fibs.as_slice(), report) {
             return false;
         }
-        self.tell_silent(at, report);
-        self.look_for_oldest();
+        self.report_silent(at, report);
+        self.find_oldest();
         self.end_frame(count);
         true
     }

@@ -1,13 +1,13 @@
-//! An entry as it was heard, and when that was.
+//! An entry with the time when it was last heard.
 
 ghost use Rattle.std.specs.Prelude.{◌≡◌};
-ghost use Rattle.stream_check.specs.Standing.{agree};
+ghost use Rattle.stream_check.specs.Lookup.{agree};
 
 use fib_reader::{OwnedEntry, RawEntry};
 use mux_config::Keyed;
 use std::marker::Model;
 
-/// An entry, and when it was last heard. Contracts see it as the entry that is sent, and this number.
+/// An entry, and the time when it was last heard. In contracts it is the entry as sent, and that number.
 #[derive(Drop)]
 pub struct HeardEntry {
     entry: OwnedEntry,
@@ -23,7 +23,7 @@ impl Model for HeardEntry {
 }
 
 impl HeardEntry {
-    /// An entry that is heard now.
+    /// An entry that was heard at this time.
     pub(crate) fn of(entry: &RawEntry<'_>, at: u64) -> HeardEntry
         ensures { result ≡ record { raw = entry.now; at = at } }
     {
@@ -33,14 +33,14 @@ impl HeardEntry {
         }
     }
 
-    /// When it was last heard.
+    /// The time when it was last heard.
     pub(crate) fn at(&self) -> u64
         ensures { result ≡ self.now.at }
     {
         self.at
     }
 
-    /// Whether it is this entry.
+    /// Whether it is the same entry.
     #[tactic(auto, using(crate::proofs::Agreeing::agree_where))]
     pub(crate) fn is(&self, entry: &RawEntry<'_>) -> bool
         ensures { result ≡ agree self.now.raw entry.now }
@@ -48,11 +48,11 @@ impl HeardEntry {
         self.entry.is(entry)
     }
 
-    /// The entry, lent.
-    pub(crate) fn lent(&self) -> RawEntry<'_>
+    /// The entry, borrowed.
+    pub(crate) fn as_raw_entry(&self) -> RawEntry<'_>
         ensures { result ≡ self.now.raw }
     {
-        self.entry.lent()
+        self.entry.as_raw_entry()
     }
 }
 

@@ -1,4 +1,4 @@
-//! The entries of one extension that were heard of a configuration, each with when it was last heard.
+//! The entries of one extension heard of a configuration, each with the time when it was last heard.
 
 ghost use Rattle.std.specs.Prelude.{◌≡◌, ◌≤◌, ℕ, nat_lt};
 ghost use Rattle.std.specs.List.{list_all, AllByRecursion};
@@ -12,22 +12,22 @@ use std::marker::Model;
 
 /// How an entry compares with those of a table.
 #[derive(Clone, Copy, Debug, PartialEq, Eq)]
-pub enum Standing {
-    /// It is there, all bytes alike.
+pub enum Lookup {
+    /// An entry with its identifier and the same bytes is there.
     Same,
-    /// One with its identifier is there, and is another.
+    /// An entry with its identifier but with other bytes is there.
     Other,
-    /// None with its identifier is there, and there is room for it.
+    /// No entry with its identifier is there, and there is room for it.
     Absent,
-    /// None with its identifier is there, and no room for it.
+    /// No entry with its identifier is there, and there is no room for it.
     Full,
 }
 
-/// At most 64 entries of one extension. Contracts see them as a list in ascending order of identifiers.
+/// At most 64 entries of one extension. In contracts they are a list in ascending order of identifiers.
 #[derive(Drop)]
 pub struct HeardTable {
     table: SortedTable<HeardEntry, 64>,
-    /// No entry was heard for the last time before this.
+    /// A time before which no entry was last heard.
     oldest: u64,
 }
 
@@ -50,10 +50,10 @@ impl HeardTable {
     ghost use Rattle.fib_reader.specs.Listening.{identifier_of};
     ghost use Rattle.stream_check.specs.Rules.{are_same};
     ghost use Rattle.stream_check.specs.Pictures.{Heard, heard_key, heard_kept, raws};
-    ghost use Rattle.stream_check.specs.Standing.{standing};
-    ghost use Rattle.stream_check.specs.declared.heard_table.Standing.TheVariants as standings;
+    ghost use Rattle.stream_check.specs.Lookup.{lookup};
+    ghost use Rattle.stream_check.specs.declared.heard_table.Lookup.TheVariants as standings;
 
-    /// No entries.
+    /// An empty table.
     pub(crate) fn new() -> Self
         ensures { result ≡ [] }
     {
@@ -71,16 +71,16 @@ impl HeardTable {
         self.table.as_slice()
     }
 
-    /// A time before which no entry was heard for the last time.
+    /// A time before which no entry was last heard.
     pub(crate) fn oldest(&self) -> u64
         ensures { AllByRecursion (λ (h : Heard). result ≤ h.at) self.now }
     {
         self.oldest
     }
 
-    /// Looks for the oldest entry, where one may have been heard for the last time before this, or then. The entries
+    /// Recomputes that time, if an entry may have been last heard at `before` or earlier. The entries
     /// stay the same.
-    pub(crate) fn look_for_oldest(&mut self, before: u64)
+    pub(crate) fn find_oldest(&mut self, before: u64)
         ensures { self.new ≡ self.old }
     {
         if self.oldest <= before {
@@ -88,26 +88,26 @@ impl HeardTable {
         }
     }
 
-    /// Takes in an entry whose identifier no other has, where there is room.
-    fn take_in(&mut self, entry: &RawEntry<'_>, at: u64) -> Standing
+    /// Inserts an entry with a new identifier, if there is room.
+    fn take_in(&mut self, entry: &RawEntry<'_>, at: u64) -> Lookup
         requires absent { None ≡ entry_at heard_key (identifier_of entry.now) self.old }
-        ensures standing { result ≡ standing entry.now (raws self.old) }
+        ensures lookup { result ≡ lookup entry.now (raws self.old) }
         ensures kept { result ≢ standings.Full
             → self.new ≡ heard_kept (record { raw = entry.now; at = at }) self.old }
         ensures full { result ≡ standings.Full → self.new ≡ self.old }
     {
         if self.table.is_full() {
-            return Standing::Full;
+            return Lookup::Full;
         }
         self.table.insert(HeardEntry::of(entry, at));
         self.oldest = earlier(self.oldest, at);
-        Standing::Absent
+        Lookup::Absent
     }
 
-    /// Puts an entry in place of the one with the same identifier, or beside the others, as heard now. Returns how
-    /// it compared with them before; where there is no room for it, nothing changes.
-    pub(crate) fn hear(&mut self, entry: &RawEntry<'_>, at: u64) -> Standing
-        ensures standing { result ≡ standing entry.now (raws self.old) }
+    /// Replaces the entry with the same identifier, or inserts a new one, as heard at this time. Returns how
+    /// it compared with the entries before; where there is no room for it, nothing changes.
+    pub(crate) fn hear(&mut self, entry: &RawEntry<'_>, at: u64) -> Lookup
+        ensures lookup { result ≡ lookup entry.now (raws self.old) }
         ensures kept { result ≢ standings.Full
             → self.new ≡ heard_kept (record { raw = entry.now; at = at }) self.old }
         ensures full { result ≡ standings.Full → self.new ≡ self.old }
@@ -118,21 +118,17 @@ impl HeardTable {
         let is_same = known.is(entry);
         self.table.replace(HeardEntry::of(entry, at));
         self.oldest = earlier(self.oldest, at);
-        if is_same {
-            Standing::Same
-        } else {
-            Standing::Other
-        }
+        if is_same { Lookup::Same } else { Lookup::Other }
     }
 
-    /// Whether each entry was heard after this number.
+    /// Whether each entry was last heard after this time.
     pub(crate) fn is_heard_since(&self, since: u64) -> bool
         ensures { result ≡ list_all (λ h. nat_lt since h.at) self.now }
     {
         are_heard_since(since, self.table.as_slice())
     }
 
-    /// Whether these are the entries of another table, whenever they were heard.
+    /// Whether the entries of another table are the same, at whatever times they were heard.
     pub(crate) fn has_same_entries(&self, other: &HeardTable) -> bool
         ensures { result ≡ are_same (raws self.now) (raws other.now) }
     {
@@ -140,7 +136,7 @@ impl HeardTable {
     }
 }
 
-/// The earlier of two times.
+/// The minimum of two times.
 fn earlier(one: u64, other: u64) -> u64
     ensures first { result ≤ one }
     ensures second { result ≤ other }
@@ -149,7 +145,7 @@ fn earlier(one: u64, other: u64) -> u64
     if one < other { one } else { other }
 }
 
-/// A time before which none of these entries was heard for the last time, the latest that is one.
+/// The latest time before which none of these entries was last heard.
 fn oldest_of(entries: &[HeardEntry]) -> u64
     ensures { AllByRecursion (λ (h : Heard). result ≤ h.at) entries.now }
 {
@@ -162,7 +158,7 @@ fn oldest_of(entries: &[HeardEntry]) -> u64
     oldest
 }
 
-/// Whether each of these entries was heard after this number.
+/// Whether each of these entries was last heard after this time.
 fn are_heard_since(since: u64, entries: &[HeardEntry]) -> bool
     ensures { result ≡ list_all (λ h. nat_lt since h.at) entries.now }
 {
@@ -186,7 +182,7 @@ fn have_same_entries(entries: &[HeardEntry], others: &[HeardEntry]) -> bool
         let Some((other, others_after)) = others_rest.split_first() else {
             return false;
         };
-        if !entry.is(&other.lent()) {
+        if !entry.is(&other.as_raw_entry()) {
             return false;
         }
         rest = after;

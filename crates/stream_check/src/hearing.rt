@@ -1,8 +1,8 @@
-//! A frame is heard, entry by entry.
+//! Hearing a frame, entry by entry.
 
 use crate::frame::read;
 use crate::memory::Memory;
-use crate::telling::{FrameAt, Report};
+use crate::reporting::{FrameAt, Report};
 use fib_reader::{Entries, Fig, Figs, RawEntry};
 
 impl Memory {
@@ -12,8 +12,8 @@ impl Memory {
     ghost use Rattle.stream_check.specs.Memory.{IsSane, most};
     ghost use Rattle.stream_check.specs.Hearing.{IsLater, Hears};
 
-    /// Applies an entry of FIG 0/1 to 0/3, and reports what is found at it. Before the first FIG 0/0 it is passed
-    /// over. The answer is false where there is no room for it.
+    /// Applies an entry of FIG 0/1 to 0/3, and reports the findings at it. Before the first FIG 0/0 it is
+    /// ignored. False if there is no room for it.
     fn hear_member<R: Report>(
         &mut self,
         at: FrameAt,
@@ -27,7 +27,7 @@ impl Memory {
         requires frames { self.old.frames < most }
         ensures later { IsLater self.old self.new }
         ensures heard { (first : Bool) → Hears at (items_of first next (entry.now ∷ []))
-            self.old (R.told report.old) self.new (R.told report.new) (not result) }
+            self.old (R.reported report.old) self.new (R.reported report.new) (not result) }
     {
         if !self.tuned {
             return true;
@@ -38,7 +38,7 @@ impl Memory {
         self.hear_current(at, entry, report)
     }
 
-    /// Applies one entry, and reports what is found at it.
+    /// Applies one entry, and reports the findings at it.
     fn hear_entry<R: Report>(
         &mut self,
         at: FrameAt,
@@ -51,7 +51,7 @@ impl Memory {
         requires frames { self.old.frames < most }
         ensures later { IsLater self.old self.new }
         ensures heard { Hears at (items_of first next (entry.now ∷ []))
-            self.old (R.told report.old) self.new (R.told report.new) (not result) }
+            self.old (R.reported report.old) self.new (R.reported report.new) (not result) }
     {
         if entry.is_ensemble() {
             self.hear_ensemble(at, first, &entry.ensemble(), report);
@@ -73,7 +73,7 @@ impl Memory {
         requires frames { self.old.frames < most }
         ensures later { IsLater self.old self.new }
         ensures heard { Hears at (items_of first next entries.entry)
-            self.old (R.told report.old) self.new (R.told report.new) (not result) }
+            self.old (R.reported report.old) self.new (R.reported report.new) (not result) }
     {
         while let Some(entry) = entries.next() {
             if !self.hear_entry(at, first, next, &entry, report) {
@@ -95,7 +95,7 @@ impl Memory {
         requires frames { self.old.frames < most }
         ensures later { IsLater self.old self.new }
         ensures heard { Hears at (fig_items first fig.now)
-            self.old (R.told report.old) self.new (R.told report.new) (not result) }
+            self.old (R.reported report.old) self.new (R.reported report.new) (not result) }
     {
         match fig.head() {
             Some(head) => self.hear_entries(at, first, head.next, fig.entries(), report),
@@ -115,7 +115,7 @@ impl Memory {
         requires frames { self.old.frames < most }
         ensures later { IsLater self.old self.new }
         ensures heard { Hears at (figs_items first figs.entry)
-            self.old (R.told report.old) self.new (R.told report.new) (not result) }
+            self.old (R.reported report.old) self.new (R.reported report.new) (not result) }
     {
         let mut is_first = first;
         while let Some(fig) = figs.next() {
@@ -127,7 +127,7 @@ impl Memory {
         true
     }
 
-    /// The same for one FIB. A damaged one says nothing.
+    /// The same for one FIB. A damaged one has no entries.
     fn hear_fib<R: Report>(
         &mut self,
         at: FrameAt,
@@ -139,7 +139,7 @@ impl Memory {
         requires frames { self.old.frames < most }
         ensures later { IsLater self.old self.new }
         ensures heard { (r : Reading) → Hears at (fib_items first (r.read fib.now))
-            self.old (R.told report.old) self.new (R.told report.new) (not result) }
+            self.old (R.reported report.old) self.new (R.reported report.new) (not result) }
     {
         match read(fib) {
             Some(figs) => self.hear_figs(at, first, figs, report),
@@ -158,7 +158,7 @@ impl Memory {
         requires frames { self.old.frames < most }
         ensures later { IsLater self.old self.new }
         ensures heard { (r : Reading) → Hears at (frame_items (map r.read fibs.now))
-            self.old (R.told report.old) self.new (R.told report.new) (not result) }
+            self.old (R.reported report.old) self.new (R.reported report.new) (not result) }
     {
         let mut is_first = true;
         let mut rest = fibs;

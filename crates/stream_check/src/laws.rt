@@ -1,11 +1,11 @@
-//! What holds of all streams. Each law is a function that does nothing; its contract is the law.
+//! Laws of all streams. Each law is a function that does nothing; its contract is the law.
 
 ghost use Rattle.stream_check.specs.Parts.{IsTheMost};
 ghost use Rattle.stream_check.specs.Frames.{Reading};
 
-/// The law of parts: of all ways to cut the frames of a notice into successive parts, each of which has all that is
-/// wanted, one that ends each part as soon as it has all gives the most parts. So the number that is reported of a
-/// notice is the number of times that the next configuration could be read.
+/// The law of parts: of all ways to cut the frames of a notice into successive parts that each contain all that is
+/// wanted, ending each part as early as possible gives the maximum number of parts. So the number that is reported for
+/// a notice is the number of times that the next configuration could be read.
 pub fn parts()
     ensures { IsTheMost }
 {}

@@ -1,5 +1,5 @@
-//! Whether a stream of FIBs announces each reconfiguration as EN 300 401 clause 6.5 asks, frame by frame: a fold
-//! over FIBs given one after another, in memory of one size.
+//! Checks frame by frame that a stream of FIBs announces each reconfiguration as EN 300 401 clause 6.5 requires.
+//! The checker is a fold over the FIBs, in a fixed amount of memory.
 #![tactic(auto)]
 
 pub mod checker;
@@ -14,10 +14,10 @@ pub mod laws;
 mod member_rules;
 mod memory;
 mod picture;
+pub mod reporting;
 mod subs;
 mod swap_rules;
-pub mod telling;
 
 pub use checker::{CheckFault, Checker, Summary};
 pub use finding::{EntryName, Event, Fault, Finding, What};
-pub use telling::Report;
+pub use reporting::Report;

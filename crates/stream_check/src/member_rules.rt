@@ -1,12 +1,12 @@
-//! What is found at an entry of FIG 0/1 to 0/3 (EN 300 401 clause 6.5).
+//! The findings at an entry of FIG 0/1 to 0/3 (EN 300 401 clause 6.5).
 
 ghost use Rattle.std.specs.Prelude.{◌≡◌, ◌≢◌};
 ghost use Rattle.stream_check.specs.Rules.{name_of};
 
 use crate::finding::{EntryName, Fault, What};
-use crate::heard_table::Standing;
+use crate::heard_table::Lookup;
 use crate::memory::Memory;
-use crate::telling::{FrameAt, Report, tell, tell_if};
+use crate::reporting::{FrameAt, Report, note, note_if};
 use fib_codec::Extension;
 use fib_reader::RawEntry;
 
@@ -32,15 +32,15 @@ pub(crate) fn name_of(entry: &RawEntry<'_>) -> EntryName
 
 impl Memory {
     ghost use Rattle.std.specs.Prelude.{◌≡◌, ◌≢◌, ◌<◌, ◌+◌, map, true, false};
-    ghost use Rattle.stream_check.specs.declared.heard_table.Standing.TheVariants as standings;
-    ghost use Rattle.stream_check.specs.Telling.{with_more, in_frame};
+    ghost use Rattle.stream_check.specs.declared.heard_table.Lookup.TheVariants as standings;
+    ghost use Rattle.stream_check.specs.Reporting.{with_more, in_frame};
     ghost use Rattle.stream_check.specs.Pictures.{shown};
-    ghost use Rattle.stream_check.specs.Standing.{standing_in};
+    ghost use Rattle.stream_check.specs.Lookup.{lookup_in};
     ghost use Rattle.stream_check.specs.Rules.{finds_no_room, current_findings, next_findings};
     ghost use Rattle.stream_check.specs.Memory.{known_in, most, with_current, with_begun, with_next};
 
-    /// Takes an entry into the current configuration, and reports what is found at it. The answer is whether there
-    /// was room for it; where there was none, nothing changes.
+    /// Hears an entry of the current configuration, and reports the findings at it. False if there
+    /// was no room for it; then nothing changes.
     pub(crate) fn hear_current<R: Report>(
         &mut self,
         at: FrameAt,
@@ -50,31 +50,31 @@ impl Memory {
         requires member { entry.now.ext ≢ 0 }
         requires frames { self.old.frames < most }
         ensures room { result ≡ true →
-            finds_no_room (standing_in entry.now (shown self.old.current)) ≡ false }
-        ensures told { result ≡ true → R.told report.new ≡ with_more (R.told report.old)
+            finds_no_room (lookup_in entry.now (shown self.old.current)) ≡ false }
+        ensures reported { result ≡ true → R.reported report.new ≡ with_more (R.reported report.old)
             (map (in_frame at) (current_findings (known_in self.old) entry.now)) }
         ensures memory { result ≡ true → self.new ≡ with_current entry.now self.old }
         ensures full { result ≡ false →
-            finds_no_room (standing_in entry.now (shown self.old.current)) ≡ true }
-        ensures nothing { result ≡ false → R.told report.new ≡ R.told report.old }
+            finds_no_room (lookup_in entry.now (shown self.old.current)) ≡ true }
+        ensures nothing { result ≡ false → R.reported report.new ≡ R.reported report.old }
         ensures unchanged { result ≡ false → self.new ≡ self.old }
     {
         match self.current.hear(entry, self.frames + 1) {
-            Standing::Full => return false,
-            Standing::Same => {}
-            Standing::Other => {
-                tell(at, What::Fault(Fault::Changed(name_of(entry))), report);
+            Lookup::Full => return false,
+            Lookup::Same => {}
+            Lookup::Other => {
+                note(at, What::Fault(Fault::Changed(name_of(entry))), report);
             }
-            Standing::Absent => {
+            Lookup::Absent => {
                 let is_settled = self.settles_at <= self.frames;
-                tell_if(is_settled, at, Fault::Appeared(name_of(entry)), report);
+                note_if(is_settled, at, Fault::Appeared(name_of(entry)), report);
             }
         }
         true
     }
 
-    /// Notes that an entry of the next configuration came, which may begin the notice, and of one that it did not
-    /// have before.
+    /// Notes that an entry of the next configuration was heard, which may begin the notice, and whether its identifier
+    /// is new.
     fn note_next(&mut self, is_absent: bool)
         ensures { self.new ≡ with_begun is_absent self.old }
     {
@@ -88,8 +88,8 @@ impl Memory {
         }
     }
 
-    /// Takes an entry into the next configuration, and reports what is found at it. The answer is whether there
-    /// was room for it; where there was none, nothing changes.
+    /// Hears an entry of the next configuration, and reports the findings at it. False if there
+    /// was no room for it; then nothing changes.
     pub(crate) fn hear_next<R: Report>(
         &mut self,
         at: FrameAt,
@@ -99,25 +99,25 @@ impl Memory {
         requires member { entry.now.ext ≢ 0 }
         requires rows { self.old.rows < most }
         ensures room { result ≡ true →
-            finds_no_room (standing_in entry.now (shown self.old.next)) ≡ false }
-        ensures told { result ≡ true → R.told report.new ≡ with_more (R.told report.old)
+            finds_no_room (lookup_in entry.now (shown self.old.next)) ≡ false }
+        ensures reported { result ≡ true → R.reported report.new ≡ with_more (R.reported report.old)
             (map (in_frame at) (next_findings (known_in self.old) entry.now)) }
         ensures memory { result ≡ true → self.new ≡ with_next entry.now self.old }
         ensures full { result ≡ false →
-            finds_no_room (standing_in entry.now (shown self.old.next)) ≡ true }
-        ensures nothing { result ≡ false → R.told report.new ≡ R.told report.old }
+            finds_no_room (lookup_in entry.now (shown self.old.next)) ≡ true }
+        ensures nothing { result ≡ false → R.reported report.new ≡ R.reported report.old }
         ensures unchanged { result ≡ false → self.new ≡ self.old }
     {
-        let standing = self.next.hear(entry, self.rows + 1);
-        if standing == Standing::Full {
+        let lookup = self.next.hear(entry, self.rows + 1);
+        if lookup == Lookup::Full {
             return false;
         }
         let is_bare = !self.has_begun && self.has_ensemble;
-        tell_if(is_bare, at, Fault::NextUnannounced, report);
-        if standing == Standing::Other {
-            tell(at, What::Fault(Fault::NextChanged(name_of(entry))), report);
+        note_if(is_bare, at, Fault::NextUnannounced, report);
+        if lookup == Lookup::Other {
+            note(at, What::Fault(Fault::NextChanged(name_of(entry))), report);
         }
-        self.note_next(standing == Standing::Absent);
+        self.note_next(lookup == Lookup::Absent);
         true
     }
 }

@@ -1,4 +1,4 @@
-//! What is kept of what a stream said before.
+//! The checker's state: what it keeps of the stream so far.
 
 ghost use Rattle.std.specs.Prelude.{◌≡◌};
 
@@ -11,17 +11,17 @@ use std::mem;
 pub struct Memory {
     /// The mode's step of counts.
     pub(crate) step: u16,
-    /// The number of successive frames in any of which each entry of the current configuration has to come.
+    /// The number of successive frames within which each entry of the current configuration has to be sent.
     pub(crate) period: u64,
-    /// How many frames have ended.
+    /// The number of frames that have ended.
     pub(crate) frames: u64,
     /// The count that is due.
     pub(crate) due: Option<u16>,
     /// The EId of the last FIG 0/0 in place.
     pub(crate) eid: Option<u16>,
-    /// Whether the frame at hand had a FIG 0/0.
+    /// Whether the current frame has had a FIG 0/0.
     pub(crate) has_ensemble: bool,
-    /// Whether a FIG 0/0 was heard, and entries are kept.
+    /// Whether a FIG 0/0 has been heard, so that entries are kept.
     pub(crate) tuned: bool,
     /// The current configuration. Each entry has the number of the frame, from 1, in which it was last heard.
     pub(crate) current: Picture,
@@ -31,23 +31,23 @@ pub struct Memory {
     pub(crate) awaited: Option<u8>,
     /// The flags of the last flagged FIG 0/0.
     pub(crate) flags: u8,
-    /// How many flagged FIG 0/0 the notice has, up to three.
+    /// The number of flagged FIG 0/0 in the notice, at most three.
     pub(crate) times: u64,
-    /// Whether the notice's beginning was not heard.
+    /// Whether the beginning of the notice was not heard.
     pub(crate) is_cut_off: bool,
     /// The number of the frame, from 1, in which the last swap was made.
     pub(crate) swapped: u64,
-    /// The frame from which on the entries of the current configuration ought to be known.
+    /// The frame from which on all entries of the current configuration should be known.
     pub(crate) settles_at: u64,
     /// Whether the notice has begun.
     pub(crate) has_begun: bool,
-    /// Whether an entry began it, since the last FIG 0/0, in a frame that had none yet.
+    /// Whether an entry began it, since the last FIG 0/0, in a frame that had no FIG 0/0 yet.
     pub(crate) began_early: bool,
-    /// How many of the notice's frames have ended.
+    /// The number of frames of the notice that have ended.
     pub(crate) rows: u64,
-    /// How many of them are in parts that are whole.
+    /// The number of these that are in complete parts.
     pub(crate) since: u64,
-    /// How many parts are whole.
+    /// The number of complete parts.
     pub(crate) parts: u64,
 }
 
@@ -56,7 +56,7 @@ impl Memory {
     ghost use Rattle.fib_codec.specs.Modes.{count_step};
     ghost use Rattle.stream_check.specs.Memory.{IsSane, Knows, most, with_swap, with_row, with_frame};
 
-    /// Nothing heard so far.
+    /// The state before the first FIB.
     pub(crate) fn new(mode: Mode, period: u16) -> Self
         ensures knows { Knows (count_step mode) period [] result }
         ensures sane { IsSane result }
@@ -86,14 +86,14 @@ impl Memory {
         }
     }
 
-    /// How many frames have ended.
+    /// The number of frames that have ended.
     pub(crate) fn frames(&self) -> u64
         ensures { result ≡ self.now.frames }
     {
         self.frames
     }
 
-    /// Whether as many frames have ended as are counted.
+    /// Whether the number of frames is at the limit.
     pub(crate) fn is_full(&self) -> bool
         ensures room { result ≡ false → self.now.frames < most }
         ensures full { result ≡ true → most ≤ self.now.frames }
@@ -101,7 +101,7 @@ impl Memory {
         self.frames >= 1u64 << 62
     }
 
-    /// A frame of the notice is over.
+    /// Ends a frame of the notice.
     fn end_row(&mut self)
         requires rows { self.old.rows < most }
         requires parts { self.old.parts < most }
@@ -114,7 +114,7 @@ impl Memory {
         }
     }
 
-    /// The frame at hand is over, which had this count.
+    /// Ends the current frame, which had this count.
     pub(crate) fn end_frame(&mut self, count: u16)
         requires count { count < 5000 }
         requires frames { self.old.frames < most }
@@ -130,7 +130,7 @@ impl Memory {
         self.due = Some((count + 1) % 5000);
     }
 
-    /// The next configuration becomes the current one.
+    /// Makes the next configuration the current one.
     #[inline(never)]
     pub(crate) fn swap(&mut self)
         requires frames { self.old.frames < most }

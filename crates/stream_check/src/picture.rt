@@ -2,13 +2,13 @@
 
 ghost use Rattle.std.specs.Prelude.{◌≡◌, ◌≢◌};
 
-use crate::heard_table::{HeardTable, Standing};
+use crate::heard_table::{HeardTable, Lookup};
 use fib_codec::Extension;
 use fib_reader::RawEntry;
 use std::marker::Model;
 
-/// The entries of FIG 0/1 to 0/3 that were heard of one configuration, each with when it was last heard. None is of
-/// FIG 0/0.
+/// The entries of FIG 0/1 to 0/3 heard of one configuration, each with the time when it was last heard. There is no
+/// FIG 0/0 among them.
 #[derive(Drop)]
 pub struct Picture {
     subs: HeardTable,
@@ -33,10 +33,10 @@ impl Picture {
     ghost use Rattle.std.specs.List.{AllByRecursion};
     ghost use Rattle.stream_check.specs.Pictures.{Heard, empty_picture, shown, picture_kept, heard_since};
     ghost use Rattle.stream_check.specs.Rules.{change_between};
-    ghost use Rattle.stream_check.specs.Standing.{standing_in};
-    ghost use Rattle.stream_check.specs.declared.heard_table.Standing.TheVariants as standings;
+    ghost use Rattle.stream_check.specs.Lookup.{lookup_in};
+    ghost use Rattle.stream_check.specs.declared.heard_table.Lookup.TheVariants as standings;
 
-    /// No entries.
+    /// An empty picture.
     pub(crate) fn new() -> Self
         ensures { result ≡ empty_picture }
     {
@@ -71,11 +71,11 @@ impl Picture {
         &self.packets
     }
 
-    /// Puts an entry of FIG 0/1 to 0/3 in place of the one with the same identifier, or beside the others, as heard
-    /// now. Returns how it compared with them before; where there is no room for it, nothing changes.
-    pub(crate) fn hear(&mut self, entry: &RawEntry<'_>, at: u64) -> Standing
+    /// Replaces the entry of FIG 0/1 to 0/3 with the same identifier, or inserts a new one, as heard at this time.
+    /// Returns how it compared with the entries before; where there is no room for it, nothing changes.
+    pub(crate) fn hear(&mut self, entry: &RawEntry<'_>, at: u64) -> Lookup
         requires { entry.now.ext ≢ 0 }
-        ensures standing { result ≡ standing_in entry.now (shown self.old) }
+        ensures lookup { result ≡ lookup_in entry.now (shown self.old) }
         ensures kept { result ≢ standings.Full
             → self.new ≡ picture_kept (record { raw = entry.now; at = at }) self.old }
         ensures full { result ≡ standings.Full → self.new ≡ self.old }
@@ -88,17 +88,17 @@ impl Picture {
         }
     }
 
-    /// Looks for the oldest entries, where one may have been heard for the last time before this, or then. The entries
+    /// Updates the times of the oldest entries, if one may have been last heard at `before` or earlier. The entries
     /// stay the same.
-    pub(crate) fn look_for_oldest(&mut self, before: u64)
+    pub(crate) fn find_oldest(&mut self, before: u64)
         ensures { self.new ≡ self.old }
     {
-        self.subs.look_for_oldest(before);
-        self.services.look_for_oldest(before);
-        self.packets.look_for_oldest(before);
+        self.subs.find_oldest(before);
+        self.services.find_oldest(before);
+        self.packets.find_oldest(before);
     }
 
-    /// Whether each entry was heard after this number.
+    /// Whether each entry was last heard after this time.
     pub(crate) fn is_heard_since(&self, since: u64) -> bool
         ensures { result ≡ heard_since since self.now }
     {
@@ -106,8 +106,8 @@ impl Picture {
             && (self.services.is_heard_since(since) && self.packets.is_heard_since(since))
     }
 
-    /// The flags of the change to another picture: 1 where sub-channels differ, 2 where services or packet components
-    /// do, 3 where both do.
+    /// The change flags from this picture to another: 1 where sub-channels differ, 2 where services or packet
+    /// components differ, 3 where both do.
     pub(crate) fn change_to(&self, other: &Picture) -> u8
         ensures { result ≡ change_between (shown self.now) (shown other.now) }
     {

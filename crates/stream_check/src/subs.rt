@@ -1,7 +1,7 @@
-//! Sub-channels as they are sent: their capacity units, and whether two share one.
+//! Sub-channels as sent: their capacity units, and whether two overlap.
 
 ghost use Rattle.std.specs.Prelude.{◌≡◌, ◌<◌, ◌%◌};
-ghost use Rattle.fib_reader.specs.Raw.{word_at};
+ghost use Rattle.fib_reader.specs.Raw.{u16_at_offset};
 ghost use Rattle.stream_check.specs.Pictures.{raws};
 ghost use Rattle.stream_check.specs.Rules.{is_long_form, first_unit, end_unit, share_unit, partner, overlap, ends_past, past_end};
 
@@ -11,23 +11,23 @@ use fib_codec::bytes::byte_at;
 use fib_reader::RawEntry;
 use mux_config::Keyed;
 
-/// The last ten bits of two bytes.
+/// The last ten bits of the two bytes at this offset.
 fn ten_bits_at(bytes: &[u8], offset: usize) -> u16
     requires { offset < 8 }
-    ensures value { result ≡ word_at offset bytes.now % 1024 }
+    ensures value { result ≡ u16_at_offset offset bytes.now % 1024 }
     ensures in_range { result < 1024 }
 {
     (u16::from(byte_at(bytes, offset)) * 256 + u16::from(byte_at(bytes, offset + 1))) % 1024
 }
 
-/// Whether it is in the long form, which says its size.
+/// Whether the entry is in the long form, which has its size.
 fn is_long_form(sub: &RawEntry<'_>) -> bool
     ensures { result ≡ is_long_form sub.now }
 {
     byte_at(sub.bytes(), 2) / 128 == 1
 }
 
-/// Its first capacity unit.
+/// The first capacity unit.
 fn first_unit(sub: &RawEntry<'_>) -> u16
     ensures value { result ≡ first_unit sub.now }
     ensures in_range { result < 1024 }
@@ -35,14 +35,14 @@ fn first_unit(sub: &RawEntry<'_>) -> u16
     ten_bits_at(sub.bytes(), 0)
 }
 
-/// The capacity unit that follows its last one.
+/// The capacity unit after the last one.
 fn end_unit(sub: &RawEntry<'_>) -> u16
     ensures { result ≡ end_unit sub.now }
 {
     first_unit(sub) + ten_bits_at(sub.bytes(), 2)
 }
 
-/// Whether two in the long form have a capacity unit in common.
+/// Whether both are in the long form and have a capacity unit in common.
 fn share_unit(one: &RawEntry<'_>, other: &RawEntry<'_>) -> bool
     ensures { result ≡ share_unit one.now other.now }
 {
@@ -54,13 +54,13 @@ fn share_unit(one: &RawEntry<'_>, other: &RawEntry<'_>) -> bool
         && (first < end && (other_first < other_end && (first < other_end && other_first < end)))
 }
 
-/// The identifier of the first that shares a capacity unit with this one.
+/// The identifier of the first one that shares a capacity unit with this one.
 fn partner(one: &RawEntry<'_>, others: &[HeardEntry]) -> Option<u64>
     ensures { result ≡ partner one.now (raws others.now) }
 {
     let mut rest = others;
     while let Some((other, after)) = rest.split_first() {
-        if share_unit(one, &other.lent()) {
+        if share_unit(one, &other.as_raw_entry()) {
             return Some(other.key());
         }
         rest = after;
@@ -74,7 +74,7 @@ pub(crate) fn overlap(subs: &[HeardEntry]) -> Option<Fault>
 {
     let mut rest = subs;
     while let Some((sub, after)) = rest.split_first() {
-        if let Some(other) = partner(&sub.lent(), after) {
+        if let Some(other) = partner(&sub.as_raw_entry(), after) {
             return Some(Fault::Overlap(sub.key(), other));
         }
         rest = after;
@@ -82,20 +82,20 @@ pub(crate) fn overlap(subs: &[HeardEntry]) -> Option<Fault>
     None
 }
 
-/// Whether one in the long form ends past the last capacity unit.
+/// Whether it is in the long form and ends past the last capacity unit.
 fn ends_past(sub: &RawEntry<'_>) -> bool
     ensures { result ≡ ends_past sub.now }
 {
     is_long_form(sub) && end_unit(sub) > 864
 }
 
-/// The first that ends past the last capacity unit.
+/// The first one that ends past the last capacity unit.
 pub(crate) fn past_end(subs: &[HeardEntry]) -> Option<Fault>
     ensures { result ≡ past_end (raws subs.now) }
 {
     let mut rest = subs;
     while let Some((sub, after)) = rest.split_first() {
-        if ends_past(&sub.lent()) {
+        if ends_past(&sub.as_raw_entry()) {
             return Some(Fault::PastEnd(sub.key()));
         }
         rest = after;

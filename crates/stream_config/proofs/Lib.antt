@@ -1,3 +1,3 @@
 mod Named
-mod Said
+mod Scriptable
 mod Vectors

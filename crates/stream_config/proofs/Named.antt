@@ -1,4 +1,4 @@
--- The ensemble that FIBs name, FIB by FIB.
+-- The EId that FIBs signal, FIB by FIB.
 use Rattle.std.proofs.Common.{◌≡◌, ℕ, ◌+◌, ◌<◌, ◌≤◌, List, [], ◌∷◌, length, drop, drop-cons, add-one, get_or, Option, inl, inr, refl, sym, subst}
 use Rattle.std.proofs.lemmas.List.{drop_all}
 use Rattle.fib_codec.specs.Grammar.{Fig, IsFib}
@@ -9,7 +9,7 @@ use Rattle.stream_config.specs.Ensembles.{NamesAfter, named_by_figs}
 fib_by_fib : (fibs : List (List ℕ)) (i : ℕ) → i < length fibs → drop i fibs ≡ get_or fibs i [] ∷ drop (i + 1) fibs
 fib_by_fib fibs i lt = rw (add-one, drop-cons fibs i [] lt) refl
 
--- what was named up to here leads to what is named after all
+-- the EId after the rest of the FIBs, given the one so far, is that after all of them
 abbrev pub LeadsOn : List (List ℕ) → Option ℕ → List (List ℕ) → Option ℕ → Type 0
 LeadsOn rest now fibs before = (after : Option ℕ) → NamesAfter rest now after → NamesAfter fibs before after
 

@@ -1,4 +1,4 @@
--- Small streams: each definition where it holds, and where it fails.
+-- Test vectors: small streams for which each definition holds, and for which it fails.
 use Rattle.std.proofs.Common.{◌≡◌, ◌≢◌, ℕ, false, List, [], ◌∷◌, Some, None, refl, arith, sym, ap, inl, inr}
 use Rattle.fib_reader.specs.Raw.{Raw}
 use Rattle.stream_config.specs.Ensembles.{named_by_entries, NamesAfter}

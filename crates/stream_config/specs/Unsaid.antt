@@ -1,10 +1,10 @@
--- Entries of no configuration.
+-- Entries that no configuration has.
 use Rattle.std.specs.Prelude.{◌≡◌, ◌++◌, ◌⊎◌, List, [], ◌∷◌, map, Contains}
 use Rattle.mux_config.specs.Configuration.{Configuration, IsConfiguration}
 use Rattle.mux_entries.specs.Facts.{sub_entries, service_entries}
 use Rattle.fib_reader.specs.Raw.{Raw, raw_entry}
 
--- a configuration of this profile has the entry among its own
+-- some configuration of this profile has the entry
 abbrev pub IsSaid : Raw → Type 0
 IsSaid raw = (c : Configuration) × IsConfiguration c × Contains (map raw_entry (sub_entries c ++ service_entries c)) raw
 

@@ -1,4 +1,4 @@
-//! The configuration that a picture shows, or the first entry that no configuration has.
+//! Reads the configuration that a picture shows, or the first entry that no configuration has.
 
 ghost use Rattle.std.specs.Prelude.{◌≡◌, true, false, IfSome, IfNone, IfOk, IfErr};
 ghost use Rattle.fib_codec.specs.Ranges.{IsWithin};
@@ -11,9 +11,9 @@ use fib_reader::from_entry::{packet_from_entry, service_from_entry, sub_from_ent
 use fib_reader::{OwnedEntry, Picture};
 use mux_config::{Config, Entry};
 
-/// Whether some configuration has this entry: whether it describes a sub-channel, a service or a packet component of
-/// this profile.
-fn is_said(entry: &Entry) -> bool
+/// Whether some configuration has this entry: whether it describes a sub-channel, service or packet component of this
+/// profile.
+fn is_scriptable(entry: &Entry) -> bool
     requires { IsWithin entry.now }
     ensures said { result ≡ true → IsSaid (raw_entry entry.now) }
     ensures unsaid { result ≡ false → IsSaid (raw_entry entry.now) → ⊥ }
@@ -37,29 +37,29 @@ fn is_said(entry: &Entry) -> bool
 }
 
 /// The first entry of a picture, in ascending order of extension and identifier, that no configuration has.
-fn first_unsaid(picture: &Picture) -> Option<OwnedEntry>
+fn first_unscriptable(picture: &Picture) -> Option<OwnedEntry>
     ensures first { IfSome result (IsFirstUnsaid (all_entries picture.now)) }
     ensures none { IfNone result (AreSaid (all_entries picture.now)) }
     ensures kept { IsKept picture.now }
 {
     let mut entries = picture.entries();
     while let Some(entry) = entries.next() {
-        if !is_said(&entry.value()) {
+        if !is_scriptable(&entry.value()) {
             return Some(OwnedEntry::of(&entry));
         }
     }
     None
 }
 
-/// The configuration that a picture shows, sound or not; or the first entry of it, in ascending order of extension and
-/// identifier, that no configuration has: a sub-channel in the short form, of an option above 1 or of a size that no
-/// rate has, an entry in which a field is set that a configuration sends as 0, a service with a component of another
-/// TMId.
+/// The configuration that a picture shows, which may be unsound; or the first entry in it, in ascending order of
+/// extension and identifier, that no configuration has: a sub-channel in the short form, with an option above 1 or with
+/// a size that no rate has; a service with a component of another TMId; or an entry with a non-zero field that
+/// configurations always send as 0.
 pub fn config_heard(picture: &Picture) -> Result<Config, OwnedEntry>
     ensures shown { IfOk result (Shows picture.now) }
     ensures unsaid { IfErr result (IsFirstUnsaid (all_entries picture.now)) }
 {
-    match first_unsaid(picture) {
+    match first_unscriptable(picture) {
         Some(entry) => Err(entry),
         None => Ok(picture.config().unwrap()),
     }

@@ -1,9 +1,10 @@
-//! The configuration in a stream of FIBs, as a script (EN 300 401 clauses 6.1 to 6.4): the ensemble that the stream
-//! names last ([`eid_after`]), the configuration that a picture shows, or the first entry that none has
-//! ([`config_heard`]), and the text of the script that begins with it ([`config_text`]).
+//! Writes the configuration that a stream of FIBs carries as a script (EN 300 401 clauses 6.1 to 6.4).
 //!
-//! What a stream names is defined in `specs/Ensembles.antt`, which entries no configuration has in `specs/Unsaid.antt`,
-//! and which text is a configuration's in `specs/Texts.antt`.
+//! [`eid_after`] returns the EId that the stream signals last, [`config_heard`] the configuration that a picture shows,
+//! or the first entry that no configuration has, and [`config_text`] the text of the script.
+//!
+//! The EId of a stream is defined in `specs/Ensembles.antt`, the entries that no configuration has in
+//! `specs/Unsaid.antt`, and the text of a configuration in `specs/Texts.antt`.
 #![tactic(auto)]
 
 pub mod ensembles;

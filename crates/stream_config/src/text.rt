@@ -1,4 +1,4 @@
-//! The text of a configuration.
+//! The text of a configuration, as a script, and its default period.
 
 ghost use Rattle.std.specs.Prelude.{◌≡◌, ◌≤◌, None, IfOk, string_bytes};
 ghost use Rattle.fib_carousel.specs.Pages.{page_set, rounds};
@@ -11,8 +11,8 @@ use script_front::{Header, Mode, print};
 use script_opening::script_of;
 use std::alloc::{AllocError, Global};
 
-/// The period that a script of a configuration has unless another is asked for, in frames: room for the pages of the
-/// configuration and as many of the next one, and one frame more, but at least 4 and at most 60.
+/// The default period for the script of a configuration, in frames: room for its pages, as many for the next one, and
+/// one frame more, but at least 4 and at most 60.
 pub fn usual_period(mode: Mode, config: &Config) -> u8
     ensures value { result ≡ usual_period (rounds mode (page_set config.now None)) }
     ensures from { 4 ≤ result }
@@ -27,8 +27,8 @@ pub fn usual_period(mode: Mode, config: &Config) -> u8
     if period < 4 { 4 } else { period }
 }
 
-/// The text of the script of this header whose items make exactly this configuration, sound or not, without statements
-/// after `begin`. It is laid out as [`print`] lays out scripts.
+/// The text of the script with this header whose items make exactly this configuration, which may be unsound, without
+/// statements after `begin`. It is formatted as by [`print`].
 pub fn config_text(alloc: Global, header: Header, config: &Config) -> Result<String, AllocError>
     requires { IsHeader header }
     ensures { IfOk result (λ text. IsTextOf header config.now (string_bytes text)) }

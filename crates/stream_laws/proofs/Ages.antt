@@ -43,15 +43,15 @@ use Rattle.stream_laws.proofs.Timely.{tuned_by}
 use Rattle.stream_laws.proofs.NoticeFrames.{due_left}
 use Rattle.stream_laws.proofs.LastHeard.{said_ended, last_grows, last_stays, some_before, at_tuned, last_member, IsSaidOf, row_said}
 
--- ---- how many frames before a page comes
+-- ---- how many frames later a page is in turn
 
 abbrev pub ComesIn : ℕ → ℕ → ℕ → ℕ → Type 0
-ComesIn pages turn page d = (d < pages) × ((turn + d ≡ page) ⊎ (turn + d ≡ page + pages))
+ComesIn pages page_index page d = (d < pages) × ((page_index + d ≡ page) ⊎ (page_index + d ≡ page + pages))
 
-pub comes_in : (pages turn page : ℕ) → turn < pages → page < pages → (d : ℕ) × ComesIn pages turn page d
-comes_in pages turn page below last = elim (split_le turn page) [
-  | inl up ↦ (page - turn, (omega (arith, last), inl (omega (arith, up))))
-  | inr down ↦ (page + pages - turn, (omega (arith, below, down), inr (omega (arith, below, down))))
+pub comes_in : (pages page_index page : ℕ) → page_index < pages → page < pages → (d : ℕ) × ComesIn pages page_index page d
+comes_in pages page_index page below last = elim (split_le page_index page) [
+  | inl up ↦ (page - page_index, (omega (arith, last), inl (omega (arith, up))))
+  | inr down ↦ (page + pages - page_index, (omega (arith, below, down), inr (omega (arith, below, down))))
 ]
 
 same_or_not : (a b : ℕ) → (a ≡ b) ⊎ (a ≢ b)
@@ -61,21 +61,21 @@ same_or_not a b = by (a == b) refl
     by true e = inl (eqb-true a b e)
     by false e = inr (eqb-false a b e)
 
-comes_up : (pages turn page d : ℕ) → turn + 1 < pages → page < pages → page ≢ turn → ComesIn pages (turn + 1) page d → ComesIn pages turn page (d + 1)
-comes_up pages turn page d up last apart (below, inl at) = (omega (arith, up, last, below, at), inl (omega (arith, at)))
-comes_up pages turn page d up last apart (below, inr at) = (omega (arith, up, last, below, at, apart), inr (omega (arith, at)))
+comes_up : (pages page_index page d : ℕ) → page_index + 1 < pages → page < pages → page ≢ page_index → ComesIn pages (page_index + 1) page d → ComesIn pages page_index page (d + 1)
+comes_up pages page_index page d up last apart (below, inl at) = (omega (arith, up, last, below, at), inl (omega (arith, at)))
+comes_up pages page_index page d up last apart (below, inr at) = (omega (arith, up, last, below, at, apart), inr (omega (arith, at)))
 
-comes_round : (pages turn page d : ℕ) → turn < pages → pages ≤ turn + 1 → page < pages → page ≢ turn → ComesIn pages 0 page d → ComesIn pages turn page (d + 1)
-comes_round pages turn page d within top last apart (below, inl at) = (omega (arith, within, top, last, apart, at), inr (omega (arith, within, top, at)))
-comes_round pages turn page d within top last apart (below, inr at) = absurd (omega (arith, below, at))
+comes_round : (pages page_index page d : ℕ) → page_index < pages → pages ≤ page_index + 1 → page < pages → page ≢ page_index → ComesIn pages 0 page d → ComesIn pages page_index page (d + 1)
+comes_round pages page_index page d within top last apart (below, inl at) = (omega (arith, within, top, last, apart, at), inr (omega (arith, within, top, at)))
+comes_round pages page_index page d within top last apart (below, inr at) = absurd (omega (arith, below, at))
 
--- a frame before, it was the page in turn or one frame further off
-pub comes_before : (pages turn page d : ℕ) → turn < pages → page < pages → ComesIn pages (page_after pages turn) page d → (page ≡ turn) ⊎ ComesIn pages turn page (d + 1)
-comes_before pages turn page d within last to = elim (same_or_not page turn) [
+-- a frame earlier, it was the page in turn or one frame further away
+pub comes_before : (pages page_index page d : ℕ) → page_index < pages → page < pages → ComesIn pages (page_after pages page_index) page d → (page ≡ page_index) ⊎ ComesIn pages page_index page (d + 1)
+comes_before pages page_index page d within last to = elim (same_or_not page page_index) [
   | inl same ↦ inl same
-  | inr apart ↦ elim (cases_lt (turn + 1) pages) [
-    | inl lt ↦ inr (comes_up pages turn page d lt last apart (subst (λ (t : ℕ). ComesIn pages t page d) (ap (λ (b : Bool). cond b (turn + 1) 0) (lt-ltb (turn + 1) pages lt)) to))
-    | inr ge ↦ inr (comes_round pages turn page d within ge last apart (subst (λ (t : ℕ). ComesIn pages t page d) (ap (λ (b : Bool). cond b (turn + 1) 0) (le-ltb (turn + 1) pages ge)) to))
+  | inr apart ↦ elim (cases_lt (page_index + 1) pages) [
+    | inl lt ↦ inr (comes_up pages page_index page d lt last apart (subst (λ (t : ℕ). ComesIn pages t page d) (ap (λ (b : Bool). cond b (page_index + 1) 0) (lt-ltb (page_index + 1) pages lt)) to))
+    | inr ge ↦ inr (comes_round pages page_index page d within ge last apart (subst (λ (t : ℕ). ComesIn pages t page d) (ap (λ (b : Bool). cond b (page_index + 1) 0) (le-ltb (page_index + 1) pages ge)) to))
   ]
 ]
 
@@ -92,7 +92,7 @@ some_ext n some = ne_eqb n 0 (λ e. omega (arith, some, e))
 -- an entry with C/N 0 of the page in turn
 pub heard_now : FrameLaws → (r : Reading) (p : Program) (ts : List Known) → IsCode p ts → (s : State) → Holds p ts s → (past : List Moment) → IsBefore p.plan past s → (after : Listening)
     → listening (said (frame_items (read_frame r p.plan.mode (frame_bytes p s))) past) ≡ Some after → (m : Marked) → m.next ≡ false
-    → Contains (page_entries p.plan.mode (shown p s).turn (sent_entries p.plan (shown p s))) m
+    → Contains (page_entries p.plan.mode (shown p s).page_index (sent_entries p.plan (shown p s))) m
     → last_heard (key_of (raw_entry m.entry)) (said (frame_items (read_frame r p.plan.mode (frame_bytes p s))) past) ≡ frames_ended past + 1
 heard_now laws r p ts c s holds past before after all m current inside =
     let plan : Plan = p.plan in
@@ -101,8 +101,8 @@ heard_now laws r p ts c s holds past before after all m current inside =
     let frame : List Fib = read_frame r plan.mode (frame_bytes p s) in
     let key : ℕ = key_of (raw_entry m.entry) in
     let able = pageable laws.heard.pages plan u a in
-    let row : IsHeardInRow (shown_bytes plan u) m = (laws.heard.pages.heard plan.mode (ensemble_sent plan u) u.turn (sent_entries plan u) able m).1 inside in
-    let long = (laws.heard.pages.valid plan.mode (ensemble_sent plan u) u.turn (sent_entries plan u) able).1 in
+    let row : IsHeardInRow (shown_bytes plan u) m = (laws.heard.pages.heard plan.mode (ensemble_sent plan u) u.page_index (sent_entries plan u) able m).1 inside in
+    let long = (laws.heard.pages.valid plan.mode (ensemble_sent plan u) u.page_index (sent_entries plan u) able).1 in
     let it : IsSaidOf (frame_items frame) m = row_said laws.one laws.size r plan.mode (shown_bytes plan u) m long row in
     let none : is_ensemble it.item ≡ false = ap (λ (x : Raw). x.ext == 0) it.raw ∙ some_ext _ row.1.organization in
     let next : it.item.next ≡ false = it.next ∙ current in
@@ -135,7 +135,7 @@ heard_now laws r p ts c s holds past before after all m current inside =
     tuned_off (inl (none, on)) off = absurd (off (ap (λ n. n % count_step p.plan.mode) (links p ts c s holds).count ∙ on))
     tuned_off (inr b) off = (b.heard, b.is, tuned_by p.plan s.left s.current s.next s.count b.heard b.knows)
 
--- in the frame of a swap all entries count as heard
+-- in the frame of a swap, all entries count as heard
 swap_now : FrameLaws → (r : Reading) (p : Program) (ts : List Known) → IsCode p ts → (s : State) → Holds p ts s → (past : List Moment) → IsBetween p.plan past s → is_due s.left ≡ true → (key : ℕ)
     → last_heard key (said (frame_items (read_frame r p.plan.mode (frame_bytes p s))) past) ≡ frames_ended past + 1
 swap_now laws r p ts c s holds past b due key =
@@ -161,29 +161,29 @@ swap_now laws r p ts c s holds past b due key =
 
 pub record AreAged (plan : Plan) (past : List Moment) (s : State) : Type 0 where
   pub ms : List Marked
-  pub turn : ℕ
+  pub page_index : ℕ
   pub bound : ℕ
-  pub goes : Goes plan s ms turn
+  pub goes : Goes plan s ms page_index
   pub few : rounds plan.mode ms ≤ plan.period
-  pub below : turn < rounds plan.mode ms
+  pub below : page_index < rounds plan.mode ms
   pub has : (m : Marked) → Contains (facts_of s.current false) m → Contains ms m
   pub from : plan.period ≤ bound + 1
   pub to : bound + 2 ≤ 2 * plan.period
   pub outside : ((k : ℕ) → s.left ≡ Some k → k < plan.notice → ⊥) → bound + 1 ≤ plan.period
-  pub aged : (m : Marked) → Contains (facts_of s.current false) m → (page : ℕ) → page < rounds plan.mode ms → Contains (page_entries plan.mode page ms) m → (d : ℕ) → ComesIn (rounds plan.mode ms) turn page d
+  pub aged : (m : Marked) → Contains (facts_of s.current false) m → (page : ℕ) → page < rounds plan.mode ms → Contains (page_entries plan.mode page ms) m → (d : ℕ) → ComesIn (rounds plan.mode ms) page_index page d
       → frames_ended past + d ≤ last_heard (key_of (raw_entry m.entry)) past + bound
 
 pub current_inside : (c n : Configuration) (b : Bool) (m : Marked) → Contains (facts_of c false) m → Contains (page_set c (cond b (Some n) None)) m
 current_inside c n false m h = h
 current_inside c n true m h = Contains-append_left (facts_of c false) (facts_of n true) m h
 
--- a frame later, by what was heard before it
+-- one frame later, given what was heard before it
 aged_after : FrameLaws → (r : Reading) (p : Program) (ts : List Known) → IsCode p ts → (s : State) → Holds p ts s → (past : List Moment) → IsBefore p.plan past s → (after : Listening)
     → listening (said (frame_items (read_frame r p.plan.mode (frame_bytes p s))) past) ≡ Some after
     → (bound : ℕ) → p.plan.period ≤ bound + 1 → bound + 2 ≤ 2 * p.plan.period
     → (((k : ℕ) → left_after_frame (shown p s).left ≡ Some k → k < p.plan.notice → ⊥) → bound + 1 ≤ p.plan.period)
     → ((m : Marked) → Contains (facts_of (shown p s).current false) m → (page : ℕ) → page < sent_rounds p.plan (shown p s) → Contains (page_entries p.plan.mode page (sent_entries p.plan (shown p s))) m → (d : ℕ)
-    → ComesIn (sent_rounds p.plan (shown p s)) (shown p s).turn page d
+    → ComesIn (sent_rounds p.plan (shown p s)) (shown p s).page_index page d
     → (last_heard (key_of (raw_entry m.entry)) (said (frame_items (read_frame r p.plan.mode (frame_bytes p s))) past) ≡ frames_ended past + 1)
     ⊎ (frames_ended past + d ≤ last_heard (key_of (raw_entry m.entry)) past + bound))
     → AreAged p.plan (after_read (count_step p.plan.mode) past (read_frame r p.plan.mode (frame_bytes p s))) (after_frame p s)
@@ -195,14 +195,14 @@ aged_after laws r p ts c s holds past before after all bound from to outside old
     let ms : List Marked = sent_entries plan u in
     let pages : ℕ = sent_rounds plan u in
     let few : pages ≤ plan.period = sent_period plan u a in
-    let within : u.turn < pages = turn_is_page plan u a in
+    let within : u.page_index < pages = turn_is_page plan u a in
     record {
       ms = ms;
-      turn = page_after pages u.turn;
+      page_index = page_after pages u.page_index;
       bound = bound;
       goes = after_goes plan u a ms refl;
       few = few;
-      below = page_after_below pages u.turn (some_rounds plan.mode ms);
+      below = page_after_below pages u.page_index (some_rounds plan.mode ms);
       has = λ m inside. current_inside u.current u.next (is_noticed plan.notice u.left) m inside;
       from = from;
       to = to;
@@ -213,7 +213,7 @@ aged_after laws r p ts c s holds past before after all bound from to outside old
           let short : d < pages = comes.0 in
           let now : last_heard key (said items past) ≡ frames_ended past + 1 → frames_ended (said items past) + 1 + d ≤ last_heard key (said items past) + bound =
           λ is. omega (arith, is, ended, short, few, from) in
-          elim (comes_before pages u.turn page d within last comes) [
+          elim (comes_before pages u.page_index page d within last comes) [
             | inl same ↦ now (heard_now laws r p ts c s holds past before after all m (sym (fact_in false (entries_of u.current) m (contains_in (facts_of u.current false) m inside)).0)
                 (subst (λ (k : ℕ). Contains (page_entries plan.mode k ms) m) same page_in))
             | inr further ↦ elim (old m inside page last page_in (d + 1) further) [
@@ -243,7 +243,7 @@ no_left k e = absurd cc
 inner : (a b : ℕ) → Some a ≡ Some b → a ≡ b
 inner a b e = cc
 
--- a notice begins: none was there before
+-- no notice had begun before one begins
 pub none_before : (plan : Plan) (count : ℕ) (before left : Option ℕ) (n m : Configuration) → LeftBy plan count before n left m → left ≡ Some plan.notice → (k : ℕ) → before ≡ Some k → k < plan.notice → ⊥
 none_before plan count None left n m g is k e below = no_left k e
 none_before plan count (Some j) left n m g is k e below =
@@ -280,7 +280,7 @@ ages laws r period p ts c s holds past aging =
         (λ m inside page last page_in d comes.
         let mine : Contains (facts_of s.current false) m = subst (λ (x : Configuration). Contains (facts_of x false) m) (link.current due) inside in
         let there = laws.heard.pages.each plan.mode g.ms m (g.has m mine) in
-        let way = comes_in (rounds plan.mode g.ms) g.turn there.0 g.below there.1 in
+        let way = comes_in (rounds plan.mode g.ms) g.page_index there.0 g.below there.1 in
         let aged = g.aged m mine there.0 there.1 there.2 way.0 way.1 in
         inr (omega (arith, aged, small, few, comes.0)))
     goes_on g b after all due false first =
@@ -288,7 +288,7 @@ ages laws r period p ts c s holds past aging =
         let u : State = shown p s in
         let link = links p ts c s holds in
         let quiet : begins_phase p s ≡ false = ap (λ t. t || is_first_noticed plan.notice u.left) due ∙ first in
-        let sent = sends p ts c s holds quiet g.ms g.turn g.goes in
+        let sent = sends p ts c s holds quiet g.ms g.page_index g.goes in
         aged_after laws r p ts c s holds past (inr b) after all g.bound g.from g.to
         (λ none. g.outside (λ k is below.
         let more : 1 ≤ k = not_due k (sym (ap is_due is) ∙ due) in
@@ -298,7 +298,7 @@ ages laws r period p ts c s holds past aging =
         let mine : Contains (facts_of s.current false) m = subst (λ (x : Configuration). Contains (facts_of x false) m) (link.current due) inside in
         let page_last : page < rounds plan.mode g.ms = subst (λ (ms : List Marked). page < rounds plan.mode ms) sent.entries last in
         let page_mine : Contains (page_entries plan.mode page g.ms) m = subst (λ (ms : List Marked). Contains (page_entries plan.mode page ms) m) sent.entries page_in in
-        let to : ComesIn (rounds plan.mode g.ms) u.turn page d = subst (λ (ms : List Marked). ComesIn (rounds plan.mode ms) u.turn page d) sent.entries comes in
+        let to : ComesIn (rounds plan.mode g.ms) u.page_index page d = subst (λ (ms : List Marked). ComesIn (rounds plan.mode ms) u.page_index page d) sent.entries comes in
         inr (g.aged m mine page page_last page_mine d (subst (λ (t : ℕ). ComesIn (rounds plan.mode g.ms) t page d) sent.turn_is to)))
 
     by_due : AreAged p.plan past s → IsBetween p.plan past s → (after : Listening) → listening (said (frame_items (read_frame r p.plan.mode (frame_bytes p s))) past) ≡ Some after

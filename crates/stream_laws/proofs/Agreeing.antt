@@ -1,4 +1,4 @@
--- The entries and the announcements of a run are as the check of a stream asks.
+-- The entries and the announcements of a run are as the checker requires.
 use Rattle.std.proofs.Common.{◌≡◌, ℕ, ◌%◌, ◌==◌, ◌&&◌, ◌||◌, Bool, true, false, cond, not, nat_lt, List, [], ◌∷◌, ◌++◌, length, Option, Some, None, refl, sym, ap, ◌∙◌, subst, inl, inr, ◌⊎◌}
 use Rattle.std.specs.Prelude.{map, unwrap_or}
 use Rattle.std.specs.List.{AllByRecursion}
@@ -14,9 +14,9 @@ use Rattle.stream_check.specs.declared.finding.Fault.TheVariants as faults
 use Rattle.stream_check.specs.declared.finding.What.{What}
 use Rattle.stream_check.specs.declared.finding.What.TheVariants as whats
 use Rattle.stream_check.specs.declared.finding.Event.TheVariants as events
-use Rattle.stream_check.specs.Telling.{when, as_list}
+use Rattle.stream_check.specs.Reporting.{when, as_list}
 use Rattle.stream_check.specs.Frames.{Fib, damaged_in, lacks_opening}
-use Rattle.stream_check.specs.Standing.{standing_in}
+use Rattle.stream_check.specs.Lookup.{lookup_in}
 use Rattle.stream_check.specs.History.{Item, Moment, Said, said, is_ensemble, listening, listener_after, has_ensemble, has_begun, began_early, last_flags}
 use Rattle.stream_check.specs.Rules.{Known as Knowledge, known_of, name_of, overlap, past_end, place_faults, is_of_other_ensemble, has_other_count, is_placed, makes_swap, notice_faults, unit_faults, swap_findings, swap_or_another, announces_another, occurrence_of, announces_first, announcement, can_fall_at, has_flags, ensemble_findings, current_findings, next_findings, is_other_one, is_absent, is_settled, finds_no_room, has_no_room, findings_at, silence, awaited_low, changes}
 use Rattle.stream_check.specs.Stream.{count_due, first_line, frame_findings, findings_at_items, runs_full}
@@ -32,7 +32,7 @@ use Rattle.stream_laws.specs.Agreeing.{is_of_word, KeepsWord}
 use Rattle.stream_laws.proofs.Kept.{first_holds, second_holds, member_found, member_room}
 use Rattle.stream_laws.proofs.Framing.{all_append}
 use Rattle.stream_laws.proofs.Sending.{IsSentItem}
-use Rattle.stream_laws.proofs.StandingBy.{fine_in}
+use Rattle.stream_laws.proofs.LookedUp.{fine_in}
 
 -- ---- other faults
 
@@ -80,7 +80,7 @@ frame_other size step last frame =
     first_event None = (tt, tt)
     first_event (Some count) = tt
 
--- ---- a FIG 0/0, by what is known
+-- ---- a FIG 0/0, given what is known
 
 pub record IsHeadFine (k : Knowledge) (e : EnsembleInformation) : Type 0 where
   pub made : makes_swap k e ≡ true → (e.count % 250 == awaited_low k) ≡ true
@@ -119,7 +119,7 @@ head_fine k first e h =
 
 -- ---- within a frame
 
--- what is known after FIG 0/0, where it is sent, and some of the entries
+-- what is known after FIG 0/0, if it is sent, and some of the entries
 pub record IsInside (plan : Plan) (u : State) (awaited : Option ℕ) (past : List Moment) : Type 0 where
   pub heard : Listening
   pub is : listening past ≡ Some heard
@@ -155,7 +155,7 @@ pub none_or_some : (o : Option ℕ) → (o ≡ None) ⊎ ((low : ℕ) × (o ≡ 
 none_or_some None = inl refl
 none_or_some (Some low) = inr (low, refl)
 
--- an entry is found as it was, and there is room for it
+-- an entry is unchanged, and there is room for it
 entry_fine : (step period : ℕ) (plan : Plan) (u : State) (awaited : Option ℕ) (past : List Moment) (i : Item) (in_is : IsInside plan u awaited past) (s : IsSentItem (is_noticed plan.notice u.left) u.current u.next i)
     → IsConfiguration u.current → IsConfiguration u.next → is_ensemble i ≡ false → IsSentOf (is_noticed plan.notice u.left) u.current u.next s.m
     → IsFine (findings_at (known_of step period past) i) × (has_no_room (known_of step period past) i ≡ false)
@@ -166,14 +166,14 @@ entry_fine step period plan u awaited past i h s is_c is_n e (inl (flag, inside)
     let next : i.next ≡ false = s.next ∙ flag in
     let of : IsOf i.raw (whole_of u.current) = subst (λ (x : Raw). IsOf x (whole_of u.current)) (sym s.raw) (entry_is_of u.current s.m.entry inside) in
     let fine = fine_in u.current Nothing i.raw l.current is_c of h.knows.current in
-    let agrees : is_other_one (standing_in i.raw (listener_after past).current) ≡ false = ap (λ (x : Listening). is_other_one (standing_in i.raw x.current)) same ∙ fine.same in
-    let room : finds_no_room (standing_in i.raw (listener_after past).current) ≡ false = ap (λ (x : Listening). finds_no_room (standing_in i.raw x.current)) same ∙ fine.room in
+    let agrees : is_other_one (lookup_in i.raw (listener_after past).current) ≡ false = ap (λ (x : Listening). is_other_one (lookup_in i.raw x.current)) same ∙ fine.same in
+    let room : finds_no_room (lookup_in i.raw (listener_after past).current) ≡ false = ap (λ (x : Listening). finds_no_room (lookup_in i.raw x.current)) same ∙ fine.room in
     let k : Knowledge = known_of step period past in
     let found : IsFine (current_findings k i.raw) =
-    all_append KeepsWord (when (is_other_one (standing_in i.raw k.listener.current)) (faults.Changed (name_of i.raw))) _
-    (when_not _ (faults.Changed (name_of i.raw)) agrees) (when_other (is_absent (standing_in i.raw k.listener.current) && is_settled k) (faults.Appeared (name_of i.raw)) refl) in (
+    all_append KeepsWord (when (is_other_one (lookup_in i.raw k.listener.current)) (faults.Changed (name_of i.raw))) _
+    (when_not _ (faults.Changed (name_of i.raw)) agrees) (when_other (is_absent (lookup_in i.raw k.listener.current) && is_settled k) (faults.Appeared (name_of i.raw)) refl) in (
       subst IsFine (sym (member_found step period past i e tuned ∙ ap (λ b. cond b (next_findings k i.raw) (current_findings k i.raw)) next)) found,
-      member_room step period past i e tuned ∙ ap (λ b. finds_no_room (standing_in i.raw (cond b (listener_after past).next (listener_after past).current))) next ∙ room,
+      member_room step period past i e tuned ∙ ap (λ b. finds_no_room (lookup_in i.raw (cond b (listener_after past).next (listener_after past).current))) next ∙ room,
     )
 entry_fine step period plan u awaited past i h s is_c is_n e (inr (on, flag, inside)) =
     let l : Listening = h.heard in
@@ -183,15 +183,15 @@ entry_fine step period plan u awaited past i h s is_c is_n e (inr (on, flag, ins
     let of : IsOf i.raw (whole_of u.next) = subst (λ (x : Raw). IsOf x (whole_of u.next)) (sym s.raw) (entry_is_of u.next s.m.entry inside) in
     let part : IsPartial (whole_of u.next) Nothing l.next = subst (λ (b : Bool). NextBy b u.next Nothing l.next) on h.knows.next in
     let fine = fine_in u.next Nothing i.raw l.next is_n of part in
-    let agrees : is_other_one (standing_in i.raw (listener_after past).next) ≡ false = ap (λ (x : Listening). is_other_one (standing_in i.raw x.next)) same ∙ fine.same in
-    let room : finds_no_room (standing_in i.raw (listener_after past).next) ≡ false = ap (λ (x : Listening). finds_no_room (standing_in i.raw x.next)) same ∙ fine.room in
+    let agrees : is_other_one (lookup_in i.raw (listener_after past).next) ≡ false = ap (λ (x : Listening). is_other_one (lookup_in i.raw x.next)) same ∙ fine.same in
+    let room : finds_no_room (lookup_in i.raw (listener_after past).next) ≡ false = ap (λ (x : Listening). finds_no_room (lookup_in i.raw x.next)) same ∙ fine.room in
     let k : Knowledge = known_of step period past in
     let flagged : (not (has_begun past) && has_ensemble past) ≡ false = quiet_early (has_begun past) (has_ensemble past) (λ has. h.begun has on) in
     let found : IsFine (next_findings k i.raw) =
     all_append KeepsWord (when (not (has_begun past) && has_ensemble past) faults.NextUnannounced) _
-    (when_not _ faults.NextUnannounced flagged) (when_not (is_other_one (standing_in i.raw k.listener.next)) (faults.NextChanged (name_of i.raw)) agrees) in (
+    (when_not _ faults.NextUnannounced flagged) (when_not (is_other_one (lookup_in i.raw k.listener.next)) (faults.NextChanged (name_of i.raw)) agrees) in (
       subst IsFine (sym (member_found step period past i e tuned ∙ ap (λ b. cond b (next_findings k i.raw) (current_findings k i.raw)) next)) found,
-      member_room step period past i e tuned ∙ ap (λ b. finds_no_room (standing_in i.raw (cond b (listener_after past).next (listener_after past).current))) next ∙ room,
+      member_room step period past i e tuned ∙ ap (λ b. finds_no_room (lookup_in i.raw (cond b (listener_after past).next (listener_after past).current))) next ∙ room,
     )
 
 sent_next : (on : Bool) (c n : Configuration) (m : Marked) → IsSentOf on c n m → m.next ≡ true → on ≡ true

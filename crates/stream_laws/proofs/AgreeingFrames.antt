@@ -1,4 +1,4 @@
--- The frames of a run, one after another, agree with what was said before.
+-- The frames of a run, one after another, agree with the past of the stream.
 use Rattle.std.proofs.Common.{◌≡◌, ◌≢◌, ℕ, ◌+◌, ◌-◌, ◌≤◌, ◌%◌, ◌==◌, ◌&&◌, ◌||◌, Bool, true, false, cond, not, List, [], ◌∷◌, ◌++◌, Option, Some, None, refl, sym, ap, ◌∙◌, subst, arith, inl, inr, ◌⊎◌}
 use Rattle.std.specs.Prelude.{map, unwrap_or}
 use Rattle.std.specs.List.{AllByRecursion}
@@ -10,10 +10,10 @@ use Rattle.fib_codec.specs.Modes.{fib_count, count_step}
 use Rattle.fib_reader.specs.Listening.{Listening, untuned, is_made, at_ensemble}
 use Rattle.stream_check.specs.declared.finding.What.{What}
 use Rattle.stream_check.specs.declared.finding.Finding.{Finding}
-use Rattle.stream_check.specs.declared.telling.FrameAt.{FrameAt}
-use Rattle.stream_check.specs.Telling.{in_frame}
+use Rattle.stream_check.specs.declared.reporting.FrameAt.{FrameAt}
+use Rattle.stream_check.specs.Reporting.{in_frame}
 use Rattle.stream_check.specs.Frames.{Fib, Reading}
-use Rattle.stream_check.specs.Standing.{standing_in}
+use Rattle.stream_check.specs.Lookup.{lookup_in}
 use Rattle.stream_check.specs.History.{Item, Moment, Said, Ended, said, frame_items, is_ensemble, ensemble_of as said_ensemble, is_flagged, is_swap, listening, listener_after, due, has_ensemble, has_begun, began_early, begins_notice, last_flags}
 use Rattle.stream_check.specs.Rules.{Known as Knowledge, known_of, overlap, past_end, occurrence_of, has_low, has_flags, ensemble_findings, member_findings, has_no_room, finds_no_room, findings_at}
 use Rattle.stream_check.specs.Stream.{frame_findings, findings_at_items, runs_full, frame_at, findings_in, after_frame as after_read, findings_of, frames_full}
@@ -51,7 +51,7 @@ record HeadFine (period : ℕ) (plan : Plan) (u : State) (awaited : Option ℕ) 
   room : has_no_room (known_of (count_step plan.mode) period past) i ≡ false
   after : IsInside plan u awaited (Said i ∷ past)
 
--- its rules, by what the listener knows
+-- its rules, given what the listener knows
 rules_by : (period : ℕ) (plan : Plan) (u : State) → Airs plan u → (past : List Moment) (l : Listening) (e : EnsembleInformation) → e ≡ ensemble_of plan u → listener_after past ≡ l
     → IsHeadOk plan u l (last_flags past) (began_early past) → IsHeadFine (known_of (count_step plan.mode) period past) e
 rules_by period plan u a past l e same is h =
@@ -76,7 +76,7 @@ head_step period plan u a past l i is ens says h f =
     let found = head_fine k i.first (said_ensemble i) (rules_by period plan u a past l (said_ensemble i) says same h) in
     record {
       found = subst IsFine (sym (ap (λ t. cond t (ensemble_findings k i.first (said_ensemble i)) (member_findings k i.next i.raw)) ens)) found;
-      room = ap (λ t. cond t false (k.listener.tuned && finds_no_room (standing_in i.raw (cond i.next k.listener.next k.listener.current)))) ens;
+      room = ap (λ t. cond t false (k.listener.tuned && finds_no_room (lookup_in i.raw (cond i.next k.listener.next k.listener.current)))) ens;
       after = record {
         heard = at_ensemble (ensemble_of plan u) l;
         is = ensemble_heard past i l ens is ∙ ap (λ x. Some (at_ensemble x l)) says;
@@ -105,7 +105,7 @@ head_step period plan u a past l i is ens says h f =
     on_awaited low some true on = on
     on_awaited low some false off = no_some low f.awaited (none_by plan u.left u.count f.awaited a.ahead off f.waits) some
 
--- ---- where none is sent
+-- ---- without FIG 0/0
 
 no_header : (plan : Plan) (s u : State) (past : List Moment) → (h : IsBetween plan past s) → Airs plan u → Links plan s u → SwapsOn plan s.count s.left → s.count % count_step plan.mode ≢ 0
     → (f : InFrame plan u Nothing Nothing h.heard) → IsInside plan u f.awaited past
@@ -186,7 +186,7 @@ headed_agrees period p s past frame a fs on l is ok f =
       after = ends p s (said (frame_items frame) past) _ a (at_ensemble (ensemble_of plan u) l) f (subst (λ (is : List Item). IsInside plan u f.awaited (said is past)) (sym items) rest.after);
     }
 
--- and without it
+-- without it
 bare_agrees : (period : ℕ) (p : Program) (s : State) (past : List Moment) (frame : List Fib) → Airs p.plan (shown p s) → IsFrameSaid p.plan (shown p s) frame → (shown p s).count % count_step p.plan.mode ≢ 0
     → (l : Listening) (f : InFrame p.plan (shown p s) Nothing Nothing l) → IsInside p.plan (shown p s) f.awaited past → FrameAgrees period p s past frame
 bare_agrees period p s past frame a fs off l f h =

@@ -1,4 +1,4 @@
--- The entries and the announcements of a run are as the check of a stream asks, frame by frame.
+-- The entries and the announcements of a run are as the checker requires, frame by frame.
 use Rattle.std.proofs.Common.{◌≡◌, ℕ, zero, suc, ◌+◌, ◌-◌, ◌<◌, ◌≤◌, ◌%◌, ◌==◌, ◌&&◌, ◌||◌, Bool, true, false, not, List, Option, Some, None, is_some, refl, sym, ap, ◌∙◌, subst, arith, inl, inr, ◌⊎◌, lt-ltb}
 use Rattle.std.specs.Prelude.{unwrap_or}
 use Rattle.std.proofs.lemmas.Bool.{false≢true, eq-eqb, ne_eqb}
@@ -44,7 +44,7 @@ pub record IsBetween (plan : Plan) (past : List Moment) (s : State) : Type 0 whe
 pub no_some : {X : Type 0} (low : ℕ) (o : Option ℕ) → o ≡ None → o ≡ Some low → X
 no_some low o none some = absurd cc
 
--- where a swap is awaited
+-- a swap is awaited
 pub record Awaits (plan : Plan) (left : Option ℕ) (n : Configuration) (count low : ℕ) (l : Listening) : Type 0 where
   pub k : ℕ
   pub is : left ≡ Some k
@@ -69,7 +69,7 @@ long_notice II notice count long h = omega (arith, long, h)
 long_notice III notice count long h = omega (arith, long, h)
 long_notice IV notice count long h = omega (arith, long, h)
 
--- where a swap is due, it is awaited
+-- a swap that is due is awaited
 pub due_awaits : (plan : Plan) (left : Option ℕ) (c n : Configuration) (count : ℕ) (l : Listening) → 12 ≤ plan.notice → left ≡ Some 0 → KnowsBy plan left c n count Nothing Nothing l → l.awaited ≡ None → ⊥
 due_awaits plan None c n count l long is h none = absurd cc
 due_awaits plan (Some k) c n count l long is h none =
@@ -79,7 +79,7 @@ due_awaits plan (Some k) c n count l long is h none =
     let waits : Waits plan 0 count None = subst (λ (o : Option ℕ). Waits plan 0 count o) same (subst (λ (j : ℕ). Waits plan j count at.awaited) zero_left at.waits) in
     long_notice plan.mode plan.notice count long waits
 
--- ---- the frame's state
+-- ---- the state of the frame
 
 abbrev pub on_air : Plan → State → Bool
 on_air plan u = is_noticed plan.notice u.left
@@ -113,7 +113,7 @@ none_by plan (Some k) count awaited ahead e w = elim (split_le k plan.notice) [
   | inr past ↦ w.outside past
 ]
 
--- a count at which a swap comes
+-- a count on which a swap falls
 falls_by : (m : Mode) (x : ℕ) → x % count_step m ≡ 0 → can_fall_at (count_step m) (x % 5000 % 250) ≡ true
 falls_by I x e =
     let below : x % 5000 % 250 < 250 = omega arith in
@@ -156,7 +156,7 @@ head_falls plan u a flags = by (on_air plan u) refl
         let none : (ensemble_of plan u).change ≡ 0 = ((ensemble_right plan u).unflagged off).0 in
         absurd (false≢true (sym (ap not (eq-eqb (ensemble_of plan u).change 0 none)) ∙ flags))
 
--- ---- a FIG 0/0 of the frame, by what was heard before
+-- ---- a FIG 0/0 of the frame, given what was heard before
 
 pub record IsHeadOk (plan : Plan) (u : State) (l : Listening) (flags : ℕ) (early : Bool) : Type 0 where
   pub made : is_made l.awaited (ensemble_of plan u) ≡ true → ((ensemble_of plan u).count % 250 == unwrap_or l.awaited 0) ≡ true

@@ -7,13 +7,13 @@ use Rattle.std.proofs.lemmas.List.{map-append, length-map, length-append, take-m
 use Rattle.std.proofs.Math.Seq.{take-append_seam, drop-append_seam}
 use Rattle.mux_types.proofs.Elements.{contains_first, contains_later, each_contains}
 use Rattle.mux_config.specs.Configuration.{Configuration, IsConfiguration}
-use Rattle.mux_config.specs.Change.{ChangeTells, change_of, bits_of}
+use Rattle.mux_config.specs.Change.{ChangeIsUnique, change_of, bits_of}
 use Rattle.mux_config.specs.Tables.{entry_at}
 use Rattle.mux_entries.specs.Entries.{EnsembleInformation}
 use Rattle.mux_entries.specs.declared.entry.Entry.{Entry}
 use Rattle.mux_entries.specs.Facts.{marked, sub_entries, service_entries}
 use Rattle.fib_codec.specs.Heard.{IsHeardInRow, IsEnsembleHeardInRow}
-use Rattle.fib_codec.specs.Spelling.{SpellingTells}
+use Rattle.fib_codec.specs.Spelling.{SpellingIdentifies}
 use Rattle.fib_reader.specs.Raw.{Raw, raw_entry}
 use Rattle.fib_reader.specs.Listening.{Pictured, identifier_of, all_entries}
 use Rattle.fib_reader.specs.Picture.{Shows}
@@ -44,8 +44,8 @@ use Rattle.stream_laws.proofs.Shown.{shows_kinds, entry_shown, flags_of_change}
 -- the laws that are used
 pub record Laws : Type 0 where
   pub fibs : FibLaws
-  pub tells : SpellingTells
-  pub change : ChangeTells
+  pub tells : SpellingIdentifies
+  pub change : ChangeIsUnique
   pub most : IsTheMost
 
 -- the entries of a frame
@@ -54,7 +54,7 @@ items_in r fibs = frame_items (map r.read fibs)
 
 -- ---- an entry of the next configuration
 
--- two entries of one key have one look-up
+-- two entries with the same key have the same lookup
 pub one_found : (x y : Raw) (p : Pictured) → x.ext < 4 → y.ext < 4 → key_of x ≡ key_of y → entry_like x p ≡ Some x → entry_like y p ≡ Some y → x ≡ y
 one_found x y p few small keys one two =
     let ext : x.ext ≡ y.ext = omega (arith, few, small, keys) in
@@ -185,7 +185,7 @@ three_headers laws r notice all three =
       in_third = headed laws r notice (suc one.place + (suc two.place + last.place)) last.frame all third last.has;
     }
 
--- ---- all together
+-- ---- the whole notice
 
 pub three_parts : (notice xs ys zs : List (List (List ℕ))) → notice ≡ (xs ++ ys) ++ zs → map row_of notice ≡ (map row_of xs ++ map row_of ys) ++ map row_of zs
 three_parts notice xs ys zs e =

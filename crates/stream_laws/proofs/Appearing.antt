@@ -46,8 +46,8 @@ use Rattle.stream_laws.proofs.Settling.{narrow, Enters, frame_settled, headed_se
 
 -- ---- which entries are known
 
--- this entry of the current configuration ought to be known, by the frames that ended and those until its page comes
-pub record Due (plan : Plan) (period : ℕ) (past : List Moment) (s : State) (ms : List Marked) (turn bound : ℕ) (x : Raw) : Type 0 where
+-- an entry of the current configuration that is known, or will be when its page is in turn
+pub record Due (plan : Plan) (period : ℕ) (past : List Moment) (s : State) (ms : List Marked) (page_index bound : ℕ) (x : Raw) : Type 0 where
   pub m : Marked
   pub is : raw_entry m.entry ≡ x
   pub fact : Contains (facts_of s.current false) m
@@ -55,34 +55,34 @@ pub record Due (plan : Plan) (period : ℕ) (past : List Moment) (s : State) (ms
   pub below : page < rounds plan.mode ms
   pub inside : Contains (page_entries plan.mode page ms) m
   pub d : ℕ
-  pub comes : ComesIn (rounds plan.mode ms) turn page d
+  pub comes : ComesIn (rounds plan.mode ms) page_index page d
   pub late : settles_at period past + bound < frames_ended past + d + period
 
 pub record Settles (plan : Plan) (period : ℕ) (past : List Moment) (s : State) : Type 0 where
   pub ms : List Marked
-  pub turn : ℕ
+  pub page_index : ℕ
   pub bound : ℕ
-  pub goes : Goes plan s ms turn
-  pub below : turn < rounds plan.mode ms
+  pub goes : Goes plan s ms page_index
+  pub below : page_index < rounds plan.mode ms
   pub has : (m : Marked) → Contains (facts_of s.current false) m → Contains ms m
   pub to : bound + 2 ≤ 2 * plan.period
   pub outside : ((k : ℕ) → s.left ≡ Some k → k < plan.notice → ⊥) → bound + 1 ≤ plan.period
   pub heard : Listening
   pub is : listening past ≡ Some heard
-  pub knows : KnowsAt plan s (Due plan period past s ms turn bound) Nothing heard
+  pub knows : KnowsAt plan s (Due plan period past s ms page_index bound) Nothing heard
 
 -- ---- when the current configuration is settled
 
 at_most : (a b : ℕ) → nat_le a b ≡ true → a ≤ b
 at_most a b e = leb-true a b e
 
--- ---- a frame later
+-- ---- one frame later
 
 settles_after : FrameLaws → (r : Reading) (period : ℕ) (p : Program) (ts : List Known) → IsCode p ts → (s : State) → Holds p ts s → (past : List Moment) (C N : Raw → Type 0) → Enters period r p s past C N
     → (bound : ℕ) → bound + 2 ≤ 2 * p.plan.period
     → (((k : ℕ) → left_after_frame (shown p s).left ≡ Some k → k < p.plan.notice → ⊥) → bound + 1 ≤ p.plan.period)
     → ((m : Marked) → Contains (facts_of (shown p s).current false) m → (page : ℕ) → page < sent_rounds p.plan (shown p s) → Contains (page_entries p.plan.mode page (sent_entries p.plan (shown p s))) m → (d : ℕ)
-    → ComesIn (sent_rounds p.plan (shown p s)) (shown p s).turn page d
+    → ComesIn (sent_rounds p.plan (shown p s)) (shown p s).page_index page d
     → settles_at period (said (frame_items (read_frame r p.plan.mode (frame_bytes p s))) past) + bound < frames_ended past + d + period → C (raw_entry m.entry))
     → Settles p.plan period (after_read (count_step p.plan.mode) past (read_frame r p.plan.mode (frame_bytes p s))) (after_frame p s)
 settles_after laws r period p ts c s holds past C N en bound to outside old =
@@ -94,16 +94,16 @@ settles_after laws r period p ts c s holds past C N en bound to outside old =
     let later : List Moment = after_read (count_step plan.mode) past (read_frame r plan.mode (frame_bytes p s)) in
     let ms : List Marked = sent_entries plan u in
     let pages : ℕ = sent_rounds plan u in
-    let within : u.turn < pages = turn_is_page plan u a in
+    let within : u.page_index < pages = turn_is_page plan u a in
     let h = frame_heard laws.heard plan u a C N en.heard en.entered in
     let D : Raw → Type 0 = Or C (RowSaid (shown_bytes plan u) false) in
     let M : Raw → Type 0 = Or N (RowSaid (shown_bytes plan u) true) in
     let next : KnowsAt plan t D M h.after = knows_after plan u D M h.after a h.knows in
-    let had : (x : Raw) → Due plan period later t ms (page_after pages u.turn) bound x → D x = λ x due.
-    elim (comes_before pages u.turn due.page due.d within due.below due.comes) [
+    let had : (x : Raw) → Due plan period later t ms (page_after pages u.page_index) bound x → D x = λ x due.
+    elim (comes_before pages u.page_index due.page due.d within due.below due.comes) [
       | inl same ↦ (
-          let now : Contains (page_entries plan.mode u.turn ms) due.m = subst (λ (k : ℕ). Contains (page_entries plan.mode k ms) due.m) same due.inside in
-          let row : IsHeardInRow (shown_bytes plan u) due.m = (laws.heard.pages.heard plan.mode (ensemble_sent plan u) u.turn ms (pageable laws.heard.pages plan u a) due.m).1 now in
+          let now : Contains (page_entries plan.mode u.page_index ms) due.m = subst (λ (k : ℕ). Contains (page_entries plan.mode k ms) due.m) same due.inside in
+          let row : IsHeardInRow (shown_bytes plan u) due.m = (laws.heard.pages.heard plan.mode (ensemble_sent plan u) u.page_index ms (pageable laws.heard.pages plan u a) due.m).1 now in
           let flag : due.m.next ≡ false = sym (fact_in false (entries_of u.current) due.m (contains_in (facts_of u.current false) due.m due.fact)).0 in
           inr (due.m.entry, due.is, subst (λ (b : Bool). IsHeardInRow (shown_bytes plan u) (record { next = b; entry = due.m.entry })) flag row)
           )
@@ -116,19 +116,19 @@ settles_after laws r period p ts c s holds past C N en bound to outside old =
     ] in
     record {
       ms = ms;
-      turn = page_after pages u.turn;
+      page_index = page_after pages u.page_index;
       bound = bound;
       goes = after_goes plan u a ms refl;
-      below = page_after_below pages u.turn (some_rounds plan.mode ms);
+      below = page_after_below pages u.page_index (some_rounds plan.mode ms);
       has = λ m inside. current_inside u.current u.next (is_noticed plan.notice u.left) m inside;
       to = to;
       outside = outside;
       heard = h.after;
       is = fibs_heard laws.one r true (fibs_in plan u) past en.heard h.after h.hears en.is;
-      knows = knows_weaker plan t.left t.current t.next t.count D (Due plan period later t ms (page_after pages u.turn) bound) M Nothing h.after had (λ x no_entry. absurd no_entry) next;
+      knows = knows_weaker plan t.left t.current t.next t.count D (Due plan period later t ms (page_after pages u.page_index) bound) M Nothing h.after had (λ x no_entry. absurd no_entry) next;
     }
 
--- what is found in a frame, and what is known after it
+-- the findings in a frame, and what is known after it
 record Step (r : Reading) (period : ℕ) (p : Program) (s : State) (past : List Moment) : Type 0 where
   found : AreFreeOf is_of_appearance (findings_at_items (count_step p.plan.mode) period past (frame_items (read_frame r p.plan.mode (frame_bytes p s))))
   after : Settles p.plan period (after_read (count_step p.plan.mode) past (read_frame r p.plan.mode (frame_bytes p s))) (after_frame p s)
@@ -136,7 +136,7 @@ record Step (r : Reading) (period : ℕ) (p : Program) (s : State) (past : List 
 some_period : (p : Program) (ts : List Known) → IsCode p ts → 1 ≤ p.plan.period
 some_period p ts c = omega (arith, c.program.planned.period_from)
 
--- the first frame of all
+-- the first frame of the stream
 first_step : FrameLaws → (r : Reading) (period : ℕ) (p : Program) (ts : List Known) → IsCode p ts → (s : State) → Holds p ts s → s.count % count_step p.plan.mode ≡ 0 → 2 * p.plan.period ≤ period + 1 → Step r period p s []
 first_step laws r period p ts c s holds on long =
     let plan : Plan = p.plan in
@@ -206,7 +206,7 @@ swap_step laws r period p ts c s holds past between g due long b cut =
 
 -- what is known after a frame without a swap
 plain_after : FrameLaws → (r : Reading) (period : ℕ) (p : Program) (ts : List Known) → IsCode p ts → (s : State) → Holds p ts s → (past : List Moment) → IsBetween p.plan past s → (g : Settles p.plan period past s) → is_due s.left ≡ false
-    → Enters period r p s past (Due p.plan period past s g.ms g.turn g.bound) (Still p.plan (shown p s).left Nothing) → (b : Bool) → is_first_noticed p.plan.notice (shown p s).left ≡ b
+    → Enters period r p s past (Due p.plan period past s g.ms g.page_index g.bound) (Still p.plan (shown p s).left Nothing) → (b : Bool) → is_first_noticed p.plan.notice (shown p s).left ≡ b
     → Settles p.plan period (after_read (count_step p.plan.mode) past (read_frame r p.plan.mode (frame_bytes p s))) (after_frame p s)
 plain_after laws r period p ts c s holds past between g due en true first =
     let plan : Plan = p.plan in
@@ -217,12 +217,12 @@ plain_after laws r period p ts c s holds past between g due en true first =
     let settles = still_settles laws r period p ts c s holds past between due in
     let begun : u.left ≡ Some plan.notice = begun_left plan.notice u.left first in
     let small = g.outside (none_before plan s.count s.left u.left s.next u.next (link.left due) begun) in
-    settles_after laws r period p ts c s holds past (Due plan period past s g.ms g.turn g.bound) (Still plan u.left Nothing) en (2 * plan.period - 2) (omega (arith, some))
+    settles_after laws r period p ts c s holds past (Due plan period past s g.ms g.page_index g.bound) (Still plan u.left Nothing) en (2 * plan.period - 2) (omega (arith, some))
     (λ none. absurd (none (plan.notice - 1) (ap left_after_frame begun) (omega (arith, c.program.planned.notice_from))))
     (λ m fact page below inside d comes late.
     let mine : Contains (facts_of s.current false) m = subst (λ (x : Configuration). Contains (facts_of x false) m) (link.current due) fact in
     let there = laws.heard.pages.each plan.mode g.ms m (g.has m mine) in
-    let way = comes_in (rounds plan.mode g.ms) g.turn there.0 g.below there.1 in
+    let way = comes_in (rounds plan.mode g.ms) g.page_index there.0 g.below there.1 in
     let short = comes.0 in
     record {
       m = m;
@@ -241,8 +241,8 @@ plain_after laws r period p ts c s holds past between g due en false first =
     let link = links p ts c s holds in
     let settles = still_settles laws r period p ts c s holds past between due in
     let quiet : begins_phase p s ≡ false = ap (λ t. t || is_first_noticed plan.notice u.left) due ∙ first in
-    let sent = sends p ts c s holds quiet g.ms g.turn g.goes in
-    settles_after laws r period p ts c s holds past (Due plan period past s g.ms g.turn g.bound) (Still plan u.left Nothing) en g.bound g.to
+    let sent = sends p ts c s holds quiet g.ms g.page_index g.goes in
+    settles_after laws r period p ts c s holds past (Due plan period past s g.ms g.page_index g.bound) (Still plan u.left Nothing) en g.bound g.to
     (λ none. g.outside (λ k is below.
     let more : 1 ≤ k = not_due k (sym (ap is_due is) ∙ due) in
     let left : u.left ≡ Some k = left_on plan s.count k s.left u.left s.next u.next is (link.left due) in
@@ -251,7 +251,7 @@ plain_after laws r period p ts c s holds past between g due en false first =
     let mine : Contains (facts_of s.current false) m = subst (λ (x : Configuration). Contains (facts_of x false) m) (link.current due) fact in
     let page_below : page < rounds plan.mode g.ms = subst (λ (ms : List Marked). page < rounds plan.mode ms) sent.entries below in
     let page_in : Contains (page_entries plan.mode page g.ms) m = subst (λ (ms : List Marked). Contains (page_entries plan.mode page ms) m) sent.entries inside in
-    let to : ComesIn (rounds plan.mode g.ms) u.turn page d = subst (λ (ms : List Marked). ComesIn (rounds plan.mode ms) u.turn page d) sent.entries comes in
+    let to : ComesIn (rounds plan.mode g.ms) u.page_index page d = subst (λ (ms : List Marked). ComesIn (rounds plan.mode ms) u.page_index page d) sent.entries comes in
     record {
       m = m;
       is = refl;
@@ -274,7 +274,7 @@ plain_step laws r period p ts c s holds past between g due long b first =
     let link = links p ts c s holds in
     let settles = still_settles laws r period p ts c s holds past between due in
     let ended = said_ended items past in
-    let C : Raw → Type 0 = Due plan period past s g.ms g.turn g.bound in
+    let C : Raw → Type 0 = Due plan period past s g.ms g.page_index g.bound in
     let N : Raw → Type 0 = Still plan u.left Nothing in
     let to = g.to in
     let en : Enters period r p s past C N = record {
@@ -286,7 +286,7 @@ plain_step laws r period p ts c s holds past between g due long b first =
           let there : In e (entries_of s.current) = subst (λ (x : Configuration). In e (entries_of x)) (link.current due) inside in
           let fact : Contains (facts_of s.current false) (marked false e) = in_contains (facts_of s.current false) (marked false e) (in_fact false (entries_of s.current) e there) in
           let page = laws.heard.pages.each plan.mode g.ms (marked false e) (g.has (marked false e) fact) in
-          let way = comes_in (rounds plan.mode g.ms) g.turn page.0 g.below page.1 in
+          let way = comes_in (rounds plan.mode g.ms) g.page_index page.0 g.below page.1 in
           record {
             m = marked false e;
             is = refl;
@@ -323,7 +323,7 @@ settles_contact period p past s d closed g =
     let plan : Plan = p.plan in
     record {
       ms = g.ms;
-      turn = g.turn;
+      page_index = g.page_index;
       bound = g.bound;
       goes = record { sent = g.goes.sent; turn_is = g.goes.turn_is };
       below = g.below;
@@ -332,7 +332,7 @@ settles_contact period p past s d closed g =
       outside = g.outside;
       heard = g.heard;
       is = g.is;
-      knows = knows_weaker plan t.left t.current t.next t.count (Due plan period past s g.ms g.turn g.bound) (Due plan period past t g.ms g.turn g.bound) Nothing Nothing g.heard
+      knows = knows_weaker plan t.left t.current t.next t.count (Due plan period past s g.ms g.page_index g.bound) (Due plan period past t g.ms g.page_index g.bound) Nothing Nothing g.heard
           (λ x due. record { m = due.m; is = due.is; fact = due.fact; page = due.page; below = due.below; inside = due.inside; d = due.d; comes = due.comes; late = due.late }) (λ x no_entry. no_entry) g.knows;
     }
 

@@ -63,7 +63,7 @@ map_contains f (x ∷ xs) y h = elim (contains_cases (f x) (map f xs) y h) [
   | inr more ↦ (let there = map_contains f xs y more in (there.0, contains_later x xs there.0 there.1, there.2))
 ]
 
--- ---- an entry, in the FIB that says it
+-- ---- an entry, and the FIB that has it
 
 pub record IsFrom (r : Reading) (fibs : List (List ℕ)) (i : Item) : Type 0 where
   pub fib : List ℕ
@@ -137,7 +137,7 @@ item_from r fibs i h = from_fibs r true fibs i h
 pub read_fib : (r : Reading) (fib : List ℕ) (figs : List Fig) → r.read fib ≡ Some figs → IsFib fib figs
 read_fib r fib figs e = subst (Reads fib) e (r.right fib)
 
--- ---- an entry of a FIB is said
+-- ---- an entry of a FIB is an entry of the frame
 
 fig_said : (first next : Bool) (raw : Raw) (raws : List Raw) → Contains raws raw → Contains (items_of first next raws) (item_of first next raw)
 fig_said first next raw raws h = contains_map (item_of first next) raws raw h
@@ -175,7 +175,7 @@ same_figs : OneList → (r : Reading) (fib : List ℕ) (figs : List Fig) → IsF
 same_figs one r fib figs is None e h = absurd (h figs is)
 same_figs one r fib figs is (Some found) e h = e ∙ ap Some (one fib found figs h is)
 
--- an entry that stands in a FIB of the row
+-- an entry in a FIB of the row
 pub said_in : FibHas32Bytes → OneList → (r : Reading) (fibs : List (List ℕ)) (place : ℕ) (figs : List Fig) (second : ℕ) (es : List (List ℕ)) (bytes : List ℕ) → AreFibBytes fibs
     → IsFib (fib_at (row_of fibs) place) figs → Contains figs (Open second es) → Contains es bytes
     → (b : Bool) × Contains (frame_items (map r.read fibs)) (item_of b (is_next second) (raw_of (second % 32) (is_long second) bytes))

@@ -4,8 +4,8 @@ use Rattle.std.specs.List.{AllByRecursion}
 use Rattle.std.proofs.lemmas.Bool.{false≢true}
 use Rattle.stream_check.specs.declared.finding.What.{What}
 use Rattle.stream_check.specs.declared.finding.Finding.{Finding}
-use Rattle.stream_check.specs.declared.telling.FrameAt.{FrameAt}
-use Rattle.stream_check.specs.Telling.{in_frame}
+use Rattle.stream_check.specs.declared.reporting.FrameAt.{FrameAt}
+use Rattle.stream_check.specs.Reporting.{in_frame}
 use Rattle.stream_check.specs.Frames.{Fib}
 use Rattle.stream_check.specs.History.{Item, Moment, Said, Ended, said, frame_items, due}
 use Rattle.stream_check.specs.Rules.{known_of, findings_at, has_no_room}
@@ -22,7 +22,7 @@ all_right P (x ∷ xs) ys all = all_right P xs ys all.1
 
 -- ---- each entry
 
--- no entry that was said is a fault, and there was room for each
+-- no entry that was sent is a fault, and there was room for each
 abbrev pub IsClean : ℕ → ℕ → List Moment → Type 0
 IsClean step period [] = Unit {0}
 IsClean step period (Said i ∷ past) =
@@ -64,7 +64,7 @@ frames_clean size step period (frame ∷ frames) past room plain clean =
 pub all_clean : (size step period : ℕ) (frames : List (List Fib)) → IsFaultless size step period frames → IsClean step period (after_frames step [] frames)
 all_clean size step period frames f = frames_clean size step period frames [] f.room f.plain tt
 
--- ---- what holds of all that was said held before
+-- ---- properties of the past that also held before
 
 pub record IsHanded (P : List Moment → Type 0) : Type 0 where
   pub by_entry : (i : Item) (past : List Moment) → P (Said i ∷ past) → P past
@@ -87,7 +87,7 @@ pub said_twice : (xs ys : List Item) (past : List Moment) → said (xs ++ ys) pa
 said_twice [] ys past = refl
 said_twice (x ∷ xs) ys past = said_twice xs ys (Said x ∷ past)
 
--- so it holds after each entry
+-- such a property holds after each entry
 pub after_entry : (P : List Moment → Type 0) → IsHanded P → (step : ℕ) (frames : List (List Fib)) (past : List Moment) (i : Item) → IsSaidIn step frames past i
     → P (after_frames step [] frames) → P (Said i ∷ past)
 after_entry P h step frames past i s p =

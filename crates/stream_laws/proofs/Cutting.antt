@@ -1,4 +1,4 @@
--- The frames into which a stream is cut, as its bytes.
+-- The frames into which a stream is cut, as bytes.
 use Rattle.std.proofs.Common.{◌≡◌, ℕ, List, [], ◌∷◌, ◌++◌, flat_map, refl, sym, ap, ◌∙◌}
 use Rattle.std.specs.Prelude.{map}
 use Rattle.std.proofs.lemmas.List.{append_assoc}

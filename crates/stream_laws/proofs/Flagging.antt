@@ -3,12 +3,12 @@ use Rattle.std.proofs.Common.{◌≡◌, ℕ, ◌%◌, ◌==◌, ◌&&◌, Bool,
 use Rattle.std.specs.Prelude.{map}
 use Rattle.std.proofs.lemmas.Bool.{false≢true, eq-eqb}
 use Rattle.mux_config.specs.Configuration.{Configuration}
-use Rattle.mux_config.specs.Change.{ChangeTells, change_of, bits_of}
+use Rattle.mux_config.specs.Change.{ChangeIsUnique, change_of, bits_of}
 use Rattle.mux_entries.specs.Entries.{EnsembleInformation}
 use Rattle.mux_entries.specs.declared.entry.Entry.{Entry}
 use Rattle.mux_entries.specs.Facts.{sub_entry, sub_entries, service_entry, service_entries, packet_entry}
 use Rattle.fib_codec.specs.Grammar.{OneList}
-use Rattle.fib_codec.specs.Spelling.{SpellingTells}
+use Rattle.fib_codec.specs.Spelling.{SpellingIdentifies}
 use Rattle.fib_codec.specs.Modes.{count_step}
 use Rattle.fib_reader.specs.Raw.{Raw, raw_entry}
 use Rattle.fib_reader.specs.Listening.{Pictured, Listening, is_made}
@@ -55,8 +55,8 @@ use Rattle.stream_laws.proofs.Following.{Had, Follows, IsFollowing, follows}
 pub record SwapLaws : Type 0 where
   pub one : OneList
   pub heard : Laws
-  pub tells : SpellingTells
-  pub change : ChangeTells
+  pub tells : SpellingIdentifies
+  pub change : ChangeIsUnique
 
 -- ---- whole pictures
 
@@ -119,7 +119,7 @@ with_head sort n appeared step period past i items ens none h =
     (subst (AreFreeOf sort) (sym (ap (λ t. cond t (ensemble_findings k i.first (said_ensemble i)) (member_findings k i.next i.raw)) ens)) (head_free sort n k i.first (said_ensemble i) h))
     (members_free sort n appeared step period items (Said i ∷ past) none))
 
--- the entries of a frame, by what is spared at a swap
+-- the entries of a frame, given that none of these faults is found at a swap
 pub items_free : (sort : Fault → Bool) → IsNarrow sort → ((name : EntryName) → sort (faults.Appeared name) ≡ false) → OneList → Laws → (r : Reading) (period : ℕ) (p : Program) (ts : List Known) → IsCode p ts → (s : State) → Holds p ts s
     → (past : List Moment)
     → ((e : EnsembleInformation) → e ≡ ensemble_of p.plan (shown p s) → makes_swap (known_of (count_step p.plan.mode) period past) e ≡ true → IsSwapSpared sort (known_of (count_step p.plan.mode) period past))
@@ -143,14 +143,14 @@ items_free sort n appeared one laws r period p ts c s holds past h =
           subst (λ (is : List Item). AreFreeOf sort (findings_at_items step period past is)) (sym items) (members_free sort n appeared step period fs.members past none)
     ]
 
--- a swap that is made: it is due
+-- a swap that is made was due
 pub made_due : (p : Program) (ts : List Known) → IsCode p ts → (s : State) → Holds p ts s → (past : List Moment) → IsBetween p.plan past s → (e : EnsembleInformation) → e ≡ ensemble_of p.plan (shown p s)
     → is_made (listener_after past).awaited e ≡ true → is_due s.left ≡ true
 made_due p ts c s holds past h e says made =
     let same : listener_after past ≡ h.heard = after_is past h.heard h.is in
     sym (made_where_due p ts c s holds past h) ∙ sym (ap (is_made h.heard.awaited) says) ∙ sym (ap (λ (x : Listening). is_made x.awaited e) same) ∙ made
 
--- ---- what is kept up along a run
+-- ---- the invariant along a run
 
 pub follows_contact : (p : Program) (past : List Moment) (s : State) (d : ℕ) (closed : Bool) → IsFollowing p.plan past s → IsFollowing p.plan past (happens p s (Contact d closed))
 follows_contact p past s d closed (inl first) = inl first

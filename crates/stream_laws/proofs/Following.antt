@@ -1,4 +1,4 @@
--- What the check of a stream has heard of the notice at hand, along a run.
+-- What the checker has heard of the current notice, along a run.
 use Rattle.std.proofs.Common.{◌≡◌, ℕ, zero, suc, ◌-◌, ◌%◌, Bool, true, false, cond, not, List, [], ◌∷◌, ◌++◌, Option, Some, None, refl, sym, ap, ◌∙◌, subst, arith, inl, inr, ◌⊎◌}
 use Rattle.std.specs.Prelude.{map}
 use Rattle.std.proofs.lemmas.Bool.{false≢true, eqb-true}
@@ -43,7 +43,7 @@ use Rattle.stream_laws.proofs.AgreeingFrames.{is_sent, not_sent}
 use Rattle.stream_laws.proofs.Named.{none_of, made_where_due}
 use Rattle.stream_laws.proofs.Timely.{said_cut, cut_is, flagged_where, tuned_by}
 
--- ---- the entries of FIBs, heard one after another
+-- ---- hearing the entries of FIBs one after another
 
 nothing_more : (o : Option Listening) (f : Listening → Option Listening) → ((l : Listening) → f l ≡ Some l) → o ≡ where_heard o f
 nothing_more None f h = refl
@@ -85,7 +85,7 @@ fibs_heard one r first (f ∷ fs) past l after (between, here, rest) is =
     ap listening (said_twice (fib_items first (r.read f)) (fibs_items false (map r.read fs)) past)
     ∙ fibs_heard one r false fs (said (fib_items first (r.read f)) past) between after rest now
 
--- ---- what was heard of the notice, a frame later
+-- ---- what was heard of the notice, one frame later
 
 said_append : (xs ys : List (List ℕ)) (flag : Bool) (x : Raw) → SomeSaid (xs ++ ys) flag x → SomeSaid xs flag x ⊎ SomeSaid ys flag x
 said_append xs ys flag x (e, is, (f, inside, heard)) =
@@ -116,7 +116,7 @@ more_heard on due heard frame = cond on (cond due [] heard ++ frame ∷ []) (con
 pub heard_then : (p : Program) (ts : List Known) → IsCode p ts → (s : State) → Holds p ts s → heard_of p.plan (after_frame p s) ≡ more_heard (on_air p.plan (shown p s)) (is_due s.left) (heard_of p.plan s) (frame_bytes p s)
 heard_then p ts c s holds = sym (heard_frame p ts c s holds)
 
--- where a swap was due, only the frame
+-- where a swap was due, only this frame
 swap_heard : (on : Bool) (heard : List (List ℕ)) (frame : List ℕ) (flag : Bool) (x : Raw) → SomeSaid (more_heard on true heard frame) flag x → RowSaid frame flag x
 swap_heard true heard frame flag x h = said_one frame flag x h
 swap_heard false heard frame flag x h = absurd (none_said flag x h)
@@ -125,7 +125,7 @@ still_heard : (on : Bool) (heard : List (List ℕ)) (frame : List ℕ) (flag : B
 still_heard true heard frame flag x h = elim (said_append heard (frame ∷ []) flag x h) [ inl old ↦ inl old | inr now ↦ inr (said_one frame flag x now) ]
 still_heard false heard frame flag x h = inl h
 
--- what was heard before is of a notice that goes on
+-- what was heard before belongs to a notice that continues
 goes_on : (p : Program) (ts : List Known) → IsCode p ts → (s : State) → Holds p ts s → is_due s.left ≡ false → (flag : Bool) (x : Raw) → SomeSaid (heard_of p.plan s) flag x → (b : Bool) → is_first_noticed p.plan.notice (shown p s).left ≡ b
     → is_first_noticed p.plan.notice (shown p s).left ≡ false
 goes_on p ts c s holds due flag x h false e = e
@@ -134,7 +134,7 @@ goes_on p ts c s holds due flag x h true e =
     let none = none_heard p.plan s s.left (shown p s).left s.next (shown p s).next refl (link.left due) (begun_left p.plan.notice (shown p s).left e) in
     absurd (none_said flag x (subst (λ (xs : List (List ℕ)). SomeSaid xs flag x) none h))
 
--- nothing was heard of a notice outside of one
+-- outside of a notice, nothing was heard of one
 pub quiet_heard : (plan : Plan) (u : State) (left : Option ℕ) → u.left ≡ left → IsAhead left → is_noticed plan.notice left ≡ false → heard_of plan (with_next_counts plan u) ≡ []
 quiet_heard plan u None is ahead off = ap (λ o. heard_left plan (with_next_counts plan u) (left_after_frame o)) is
 quiet_heard plan u (Some k) is ahead off = elim (split_le k plan.notice) [
@@ -145,9 +145,9 @@ quiet_heard plan u (Some k) is ahead off = elim (split_le k plan.notice) [
       )
 ]
 
--- ---- what the check knows between two frames
+-- ---- what the checker knows between two frames
 
--- heard in the notice at hand, which was heard from its beginning
+-- heard in the current notice, which was heard from its beginning
 abbrev pub Had : Plan → List Moment → State → Bool → Raw → Type 0
 Had plan past s flag x = (is_cut_off past ≡ false) × SomeSaid (heard_of plan s) flag x
 
@@ -160,9 +160,9 @@ pub record Follows (plan : Plan) (past : List Moment) (s : State) : Type 0 where
 abbrev pub IsFollowing : Plan → List Moment → State → Type 0
 IsFollowing plan past s = ((past ≡ []) × (s.count % count_step plan.mode ≡ 0)) ⊎ (IsBetween plan past s × Follows plan past s)
 
--- ---- whether the notice was cut off
+-- ---- whether the beginning of the notice was not heard
 
--- a frame that makes no swap changes nothing in it
+-- a frame without a swap does not change this
 pub cut_still : OneList → Laws → (r : Reading) (p : Program) (ts : List Known) → IsCode p ts → (s : State) → Holds p ts s → (past : List Moment) → IsBetween p.plan past s → is_due s.left ≡ false
     → is_cut_off (said (frame_items (read_frame r p.plan.mode (frame_bytes p s))) past) ≡ is_cut_off past
 cut_still one laws r p ts c s holds past h due =
@@ -187,7 +187,7 @@ cut_still one laws r p ts c s holds past h due =
           ap (λ is. is_cut_off (said is past)) (fs.are ∙ ap (λ hs. hs ++ fs.members) bare) ∙ said_cut fs.members past none
     ]
 
--- the first FIG 0/0 of all cuts a notice off
+-- where the first FIG 0/0 of the stream is flagged, the beginning was not heard
 pub cut_first : OneList → Laws → (r : Reading) (p : Program) (ts : List Known) → IsCode p ts → (s : State) → Holds p ts s → (shown p s).count % count_step p.plan.mode ≡ 0 → on_air p.plan (shown p s) ≡ true
     → is_cut_off (said (frame_items (read_frame r p.plan.mode (frame_bytes p s))) []) ≡ true
 cut_first one laws r p ts c s holds on air =
@@ -201,7 +201,7 @@ cut_first one laws r p ts c s holds on air =
     let items : frame_items (read_frame r plan.mode (frame_bytes p s)) ≡ i ∷ fs.members = fs.are ∙ ap (λ hs. hs ++ fs.members) head.1 in
     ap (λ is. is_cut_off (said is [])) items ∙ said_cut fs.members (Said i ∷ []) none ∙ cut_is [] i false head.2 (ensemble_made [] i head.2) ∙ flagged_where plan u a i head.2 head.3 air
 
--- ---- a frame more
+-- ---- one more frame
 
 first_follows : OneList → Laws → (r : Reading) (p : Program) (ts : List Known) → IsCode p ts → (s : State) → Holds p ts s → s.count % count_step p.plan.mode ≡ 0
     → Follows p.plan (after_read (count_step p.plan.mode) [] (read_frame r p.plan.mode (frame_bytes p s))) (after_frame p s)

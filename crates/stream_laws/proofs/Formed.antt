@@ -1,4 +1,4 @@
--- Entries as they are in FIBs.
+-- The form of entries in FIBs.
 use Rattle.std.proofs.Common.{◌≡◌, ℕ, ◌<◌, ◌%◌, ◌/◌, ◌==◌, ◌&&◌, Bool, true, false, nat_lt, List, [], ◌∷◌, ◌++◌, Some, None, refl, sym, ◌∙◌, subst, inl, inr}
 use Rattle.std.specs.Prelude.{map}
 use Rattle.std.specs.List.{AllByRecursion}
@@ -12,7 +12,7 @@ use Rattle.stream_check.specs.Stream.{after_frame, after_frames}
 use Rattle.stream_laws.proofs.Rows.{at_hand}
 use Rattle.stream_laws.proofs.Tracking.{IsFormed}
 
--- an entry that is none of the first FIG, or no FIG 0/0
+-- an entry outside of the first FIG, or other than FIG 0/0
 abbrev IsLater : Item → Type 0
 IsLater i = (i.raw.ext < 4) × ((i.first && is_ensemble i) ≡ false)
 
@@ -82,7 +82,7 @@ figs_ordered bytes (f ∷ fs) h = ordered_more (fig_items true f) (figs_items fa
 
 -- ---- of a frame
 
--- what is read of a FIB
+-- what was read from the bytes of a FIB
 abbrev pub IsRead : Fib → Type 0
 IsRead None = Unit {0}
 IsRead (Some figs) = (bytes : List ℕ) × AreFigs bytes figs

@@ -1,4 +1,4 @@
--- The frames of a run, as the check of a stream cuts them.
+-- The frames of a run, as the checker cuts them.
 use Rattle.std.proofs.Common.{◌≡◌, ◌≢◌, ℕ, zero, suc, ◌+◌, ◌-◌, ◌<◌, ◌≤◌, ◌%◌, Bool, false, cond, List, [], ◌∷◌, ◌++◌, length, flat_map, Contains, Some, None, refl, sym, ap, ◌∙◌, subst, arith, inl, inr}
 use Rattle.std.specs.Prelude.{map}
 use Rattle.std.specs.List.{AllByRecursion}
@@ -96,7 +96,7 @@ quiet_fib one r bytes h =
       none = λ first. subst (λ (fib : Fib). HasNone (fib_items first fib)) (sym is) (figs_none first h.0 h.2);
     }
 
--- and one that begins with it
+-- a FIB that begins with a FIG 0/0
 pub record IsHeading (fib : Fib) (e : EnsembleInformation) : Type 0 where
   pub whole : is_damaged fib ≡ false
   pub opens : opening fib ≡ Some e
@@ -184,7 +184,7 @@ none_held : (fibs : List Fib) → AllByRecursion IsQuiet fibs → AllByRecursion
 none_held [] all = tt
 none_held (f ∷ fs) all = (ap is_there all.0.holds, none_held fs all.1)
 
--- the frame of a state, as it is read
+-- the frame of a state, as read
 abbrev pub read_frame : Reading → Mode → List ℕ → List Fib
 read_frame r mode frame = map r.read (fibs_from (fib_count mode) 0 frame)
 
@@ -194,7 +194,7 @@ one_frame one r plan u frame h = subst (λ (fs : List (List ℕ)). IsOneFrame (m
 pub frame_size : (r : Reading) (mode : Mode) (frame : List ℕ) → length (read_frame r mode frame) ≡ fib_count mode
 frame_size r mode frame = length-map (fibs_from (fib_count mode) 0 frame) r.read ∙ fibs_length (fib_count mode) 0 frame
 
--- a frame at a count that the step doesn't divide
+-- a frame at a count that is not a multiple of the step
 pub all_quiet : OneList → (r : Reading) (plan : Plan) (u : State) (frame : List ℕ) → IsRight plan u frame → u.count % count_step plan.mode ≢ 0 → AllByRecursion IsQuiet (read_frame r plan.mode frame)
 all_quiet one r plan u frame h off =
     subst (λ (fs : List (List ℕ)). AllByRecursion IsQuiet (map r.read fs)) (sym (first_of_fibs plan.mode frame))
@@ -240,7 +240,7 @@ are_quiet one r p s (Frame ∷ es) all off =
     (all_quiet one r p.plan (shown p s) (frame_bytes p s) all.0 not_now)
     (are_quiet one r p (after_frame p s) es all.1 (λ h. off (inr h))))
 
--- and from it on
+-- from the first FIG 0/0 on
 holds_more : (xs ys : List Fib) → 1 ≤ length xs → HoldsFirst xs → HoldsFirst (xs ++ ys)
 holds_more [] ys some h = absurd (omega (arith, some))
 holds_more (x ∷ xs) ys some h = h

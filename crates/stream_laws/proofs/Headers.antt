@@ -1,4 +1,4 @@
--- FIG 0/0 and other entries, in the bytes of a frame and as they are said.
+-- FIG 0/0 and other entries, in the bytes of a frame and among its entries.
 use Rattle.std.proofs.Common.{◌≡◌, ℕ, ◌≤◌, ◌%◌, ◌==◌, ◌&&◌, Bool, true, false, List, Contains, sym, ap, ◌∙◌, subst, arith}
 use Rattle.std.specs.Prelude.{map}
 use Rattle.std.proofs.lemmas.Bool.{eqb-true, eq-eqb}
@@ -47,7 +47,7 @@ of_spelled bytes (ShortOf s) under within is = absurd (omega (arith, under))
 of_spelled bytes (ServiceOf s) under within is = (let wrong : 0 ≡ 2 = under.0 in absurd (omega (arith, wrong)))
 of_spelled bytes (PacketOf p) under within is = absurd (omega (arith, under))
 
--- the bytes of a FIG 0/0 are those of what it says
+-- the bytes of a FIG 0/0 are those of its content
 pub record IsInformation (bytes : List ℕ) : Type 0 where
   pub within : IsEnsembleInformation (ensemble_in (record { ext = 0; long = false; bytes = bytes }))
   pub spelled : bytes ≡ ensemble_bytes (ensemble_in (record { ext = 0; long = false; bytes = bytes }))
@@ -62,7 +62,7 @@ information laws bytes h =
       spelled = sym one.spelled ∙ ap ensemble_bytes (sym heard);
     }
 
--- ---- from what is said to what is heard
+-- ---- from the entries to the bytes
 
 pub header_heard : FibLaws → (r : Reading) (fibs : List (List ℕ)) (i : Item) → AreFibBytes fibs → is_ensemble i ≡ true → Contains (frame_items (map r.read fibs)) i
     → IsEnsembleHeardInRow (row_of fibs) i.next (ensemble_of i)
@@ -126,7 +126,7 @@ entry_heard r fibs i m all h is next some within =
       },
     )
 
--- ---- from what is heard to what is said
+-- ---- from the bytes to the entries
 
 pub record IsHeaderSaid (r : Reading) (fibs : List (List ℕ)) (e : EnsembleInformation) : Type 0 where
   pub item : Item

@@ -1,4 +1,4 @@
--- The frames of a run and the FIG 0/0 in them are as the check of a stream asks.
+-- The frames of a run and the FIG 0/0 in them are as the checker requires.
 use Rattle.std.proofs.Common.{◌≡◌, ◌≢◌, ℕ, zero, suc, ◌+◌, ◌%◌, ◌==◌, ◌&&◌, Bool, true, false, cond, not, nat_lt, List, [], ◌∷◌, ◌++◌, length, Option, Some, None, refl, sym, ap, ◌∙◌, subst, arith, inl, inr, ◌⊎◌}
 use Rattle.std.specs.Prelude.{map, unwrap_or}
 use Rattle.std.specs.List.{AllByRecursion}
@@ -15,11 +15,11 @@ use Rattle.stream_check.specs.declared.finding.Fault.{Fault}
 use Rattle.stream_check.specs.declared.finding.Fault.TheVariants as faults
 use Rattle.stream_check.specs.declared.finding.What.{What}
 use Rattle.stream_check.specs.declared.finding.Finding.{Finding}
-use Rattle.stream_check.specs.declared.telling.FrameAt.{FrameAt}
-use Rattle.stream_check.specs.Telling.{when, as_list, in_frame}
+use Rattle.stream_check.specs.declared.reporting.FrameAt.{FrameAt}
+use Rattle.stream_check.specs.Reporting.{when, as_list, in_frame}
 use Rattle.stream_check.specs.Frames.{Fib, Reading, damaged_in, first_opening, is_there, begins_with_ensemble, lacks_opening}
 use Rattle.stream_check.specs.History.{Item, Moment, Said, said, fibs_items, frame_items, is_ensemble, ensemble_of, due, eid_of, last_eid, is_in_place}
-use Rattle.stream_check.specs.Standing.{standing_in}
+use Rattle.stream_check.specs.Lookup.{lookup_in}
 use Rattle.stream_check.specs.Rules.{Known, known_of, name_of, partner, overlap_or, overlap, ends_past, past_end, is_other, is_placed, is_of_other_ensemble, has_other_count, place_faults, makes_swap, notice_faults, unit_faults, swap_findings, swap_or_another, announces_another, occurrence_of, announces_first, announcement, ensemble_findings, current_findings, next_findings, member_findings, is_other_one, has_no_room, findings_at, silence, silent_findings, awaited_low, changes}
 use Rattle.stream_check.specs.Stream.{count_due, placed_count, count_of_frame, first_line, frame_findings, findings_at_items, runs_full, frame_at, last_findings, findings_in, after_frame as after_read, findings_of}
 use Rattle.stream_check.proofs.Members.{member_eid}
@@ -41,7 +41,7 @@ use Rattle.stream_laws.specs.InPlace.{is_of_frame, IsInPlace, RunsAreInPlace}
 use Rattle.stream_laws.proofs.Rows.{HasNone}
 use Rattle.stream_laws.proofs.Framing.{is_read, IsQuiet, header_of, heading_fib, figs_none, fibs_none, later_fibs, first_of_fibs, later_quiet, read_frame, frame_size, all_quiet, all_append, right_after}
 
--- ---- the EId of a run stays
+-- ---- the EId of a run does not change
 
 either_eid : (test : Bool) (s t : State) (x : ℕ) → s.eid ≡ x → t.eid ≡ x → (cond test s t).eid ≡ x
 either_eid true s t x here there = here
@@ -150,7 +150,7 @@ next_other : (k : Known) (raw : Raw) → IsOther (next_findings k raw)
 next_other k raw = all_append IsInPlace (when (not k.has_begun && k.has_ensemble) faults.NextUnannounced) _ (when_other _ faults.NextUnannounced refl) (when_other _ (faults.NextChanged (name_of raw)) refl)
 
 current_other : (k : Known) (raw : Raw) → IsOther (current_findings k raw)
-current_other k raw = all_append IsInPlace (when (is_other_one (standing_in raw k.listener.current)) (faults.Changed (name_of raw))) _ (when_other _ (faults.Changed (name_of raw)) refl) (when_other _ (faults.Appeared (name_of raw)) refl)
+current_other k raw = all_append IsInPlace (when (is_other_one (lookup_in raw k.listener.current)) (faults.Changed (name_of raw))) _ (when_other _ (faults.Changed (name_of raw)) refl) (when_other _ (faults.Appeared (name_of raw)) refl)
 
 member_other : (k : Known) (next : Bool) (raw : Raw) → IsOther (member_findings k next raw)
 member_other k next raw = either_other k.listener.tuned _ [] (either_other next (next_findings k raw) (current_findings k raw) (next_other k raw) (current_other k raw)) tt
@@ -213,7 +213,7 @@ headed_frame one heard r plan u frame right h =
 
 -- ---- what is known before a frame
 
--- nothing, or the count and the EId that the state has
+-- nothing, or the count and the EId of the state
 abbrev IsDue : ℕ → List Moment → State → Type 0
 IsDue step past s = ((due past ≡ None) × (last_eid step past ≡ None)) ⊎ ((due past ≡ Some s.count) × (last_eid step past ≡ Some s.eid))
 
@@ -225,7 +225,7 @@ and_not : (a b : Bool) → b ≡ false → (a && b) ≡ false
 and_not true b e = e
 and_not false b e = refl
 
--- the FIG 0/0 in place
+-- FIG 0/0 in place
 placed : (step period : ℕ) (past : List Moment) (s : State) (first : Bool) (e : EnsembleInformation) → IsDue step past s → first ≡ true → e.count ≡ s.count → e.eid ≡ s.eid → s.count % step ≡ 0
     → IsOther (place_faults (known_of step period past) first e)
 placed step period past s first e known one count eid on =
@@ -240,7 +240,7 @@ placed step period past s first e known one count eid on =
     (when_not (has_other_count k first e) (faults.Count (unwrap_or k.due 0)) (and_not (is_placed k first e) _ (not_other e.count s.count (due past) last count)))
     (when_not (not (is_placed k first e)) faults.OutOfPlace (ap not is)))
 
--- of a frame as a whole
+-- the frame as a whole
 whole_frame : (size step : ℕ) (last : Option ℕ) (frame : List Fib) → length frame ≡ size → damaged_in frame ≡ 0 → (count_due last frame % step == 0 && lacks_opening frame) ≡ false → IsOther (frame_findings size step last frame)
 whole_frame size step last frame same whole there =
     all_append IsInPlace (first_line last frame) _ (first_event last)
@@ -269,7 +269,7 @@ said_eid : (step : ℕ) (items : List Item) (past : List Moment) → HasNone ite
 said_eid step [] past none = refl
 said_eid step (i ∷ is) past none = said_eid step is (Said i ∷ past) none.1 ∙ sym (member_eid step past i none.0)
 
--- what is found in a frame, and what is known after it
+-- the findings in a frame, and what is known after it
 record IsRightFrame (size step period : ℕ) (past : List Moment) (frame : List Fib) (count eid : ℕ) : Type 0 where
   found : AllByRecursion (λ (f : Finding). IsInPlace f.what) (findings_in size step period past frame)
   counted : count_of_frame step (due past) frame ≡ count

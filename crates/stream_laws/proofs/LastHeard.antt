@@ -24,7 +24,7 @@ use Rattle.plan_runs.specs.Listening.{fibs_from}
 use Rattle.stream_laws.proofs.Framing.{is_read, read_frame}
 use Rattle.stream_laws.proofs.Bytes.{fibs_said}
 
--- ---- it never goes back, and is never later than the frame at hand
+-- ---- the time never decreases, and is at most the current frame
 
 pub last_at_most : (key : ℕ) (past : List Moment) → last_heard key past ≤ frames_ended past + 1
 last_at_most key [] = omega arith
@@ -51,7 +51,7 @@ last_grows key (i ∷ is) past =
     ] in
     omega (arith, rest, one)
 
--- heard in the frame at hand, it stays so
+-- once heard in the current frame, it stays so
 pub last_stays : (key : ℕ) (items : List Item) (past : List Moment) → last_heard key past ≡ frames_ended past + 1 → last_heard key (said items past) ≡ frames_ended past + 1
 last_stays key items past now =
     let grows = last_grows key items past in
@@ -59,7 +59,7 @@ last_stays key items past now =
     let ended = said_ended items past in
     omega (arith, now, grows, most, ended)
 
--- ---- a listener that is tuned stays so
+-- ---- a tuned listener stays tuned
 
 heard_some : (o : Option Listening) (f : Listening → Option Listening) (m : Listening) → where_heard o f ≡ Some m → (l : Listening) × (o ≡ Some l)
 heard_some None f m e = absurd cc
@@ -103,7 +103,7 @@ stays_by false false next raw l m is e = sym (ap (λ (x : Listening). x.tuned) (
 pub stays_tuned : (next : Bool) (raw : Raw) (l m : Listening) → l.tuned ≡ true → hear_entry next raw l ≡ Some m → m.tuned ≡ true
 stays_tuned next raw l m is e = stays_by (raw.ext == 0) l.tuned next raw l m is e
 
--- an entry of the current configuration that is among these is heard
+-- an entry of the current configuration among these is heard
 pub last_member : (key : ℕ) (items : List Item) (past : List Moment) (l after : Listening) → listening past ≡ Some l → l.tuned ≡ true → listening (said items past) ≡ Some after
     → (i : Item) → Contains items i → is_ensemble i ≡ false → i.next ≡ false → key_of i.raw ≡ key → last_heard key (said items past) ≡ frames_ended past + 1
 last_member key [] past l after is t all i inside e n k = absurd (contains_none i inside)
@@ -127,7 +127,7 @@ last_member key (j ∷ js) past l after is t all i inside e n k = elim (contains
       )
 ]
 
--- ---- an entry that is heard in the bytes of a frame is said in it
+-- ---- an entry that is heard in the bytes of a frame is among its entries
 
 pub record IsSaidOf (items : List Item) (m : Marked) : Type 0 where
   pub item : Item

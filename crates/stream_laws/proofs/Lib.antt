@@ -12,12 +12,12 @@ pub mod Swapping
 pub mod PictureKinds
 pub mod Shown
 pub mod Announced
-pub mod Told
+pub mod AnnouncedChange
 pub mod Cutting
 pub mod Framing
 pub mod InPlace
 pub mod Sending
-pub mod StandingBy
+pub mod LookedUp
 pub mod Units
 pub mod Agreeing
 pub mod AgreeingRuns

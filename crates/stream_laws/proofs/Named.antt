@@ -1,4 +1,4 @@
--- The swaps that are named in the frames of a run are those of the run.
+-- The swaps that are reported in the frames of a run are those of the run.
 use Rattle.std.proofs.Common.{◌≡◌, ◌≢◌, ℕ, zero, suc, ◌+◌, ◌<◌, ◌≤◌, ◌%◌, ◌==◌, ◌&&◌, ◌||◌, Bool, true, false, cond, not, nat_lt, List, [], ◌∷◌, ◌++◌, length, Option, Some, None, refl, sym, ap, ◌∙◌, subst, arith, inl, inr, ◌⊎◌}
 use Rattle.std.specs.Prelude.{map, unwrap_or}
 use Rattle.std.specs.List.{AllByRecursion}
@@ -13,10 +13,10 @@ use Rattle.stream_check.specs.declared.finding.Fault.{Fault}
 use Rattle.stream_check.specs.declared.finding.Fault.TheVariants as faults
 use Rattle.stream_check.specs.declared.finding.What.{What}
 use Rattle.stream_check.specs.declared.finding.Finding.{Finding}
-use Rattle.stream_check.specs.declared.telling.FrameAt.{FrameAt}
-use Rattle.stream_check.specs.Telling.{when, as_list, in_frame}
+use Rattle.stream_check.specs.declared.reporting.FrameAt.{FrameAt}
+use Rattle.stream_check.specs.Reporting.{when, as_list, in_frame}
 use Rattle.stream_check.specs.Frames.{Fib, Reading, damaged_in, lacks_opening}
-use Rattle.stream_check.specs.Standing.{standing_in}
+use Rattle.stream_check.specs.Lookup.{lookup_in}
 use Rattle.stream_check.specs.History.{Item, Moment, Said, said, frame_items, is_ensemble, ensemble_of as said_ensemble, frames_ended, listener_after, due}
 use Rattle.stream_check.specs.Rules.{Known as Knowledge, known_of, name_of, overlap, past_end, place_faults, is_of_other_ensemble, has_other_count, is_placed, makes_swap, notice_faults, unit_faults, swap_findings, swap_or_another, announces_another, occurrence_of, announces_first, announcement, ensemble_findings, current_findings, next_findings, member_findings, is_other_one, finds_no_room, has_no_room, findings_at, silence, silent_findings, awaited_low, changes}
 use Rattle.stream_check.specs.Stream.{count_due, first_line, frame_findings, findings_at_items, runs_full, frame_at, last_findings, findings_in, after_frame as after_read, findings_of}
@@ -45,7 +45,7 @@ use Rattle.stream_laws.proofs.Agreeing.{sent_ext, none_or_some}
 use Rattle.stream_laws.proofs.AgreeingRuns.{IsBetween, on_air, flags_on, still, on_by, zero_or_some, awaits_by, due_awaits, due_low}
 use Rattle.stream_laws.proofs.AgreeingFrames.{agrees_by, is_sent, not_sent}
 
--- ---- findings that name no swap
+-- ---- findings other than a swap
 
 abbrev IsQuietly : List What → Type 0
 IsQuietly ws = AllByRecursion (λ w. names_swap w ≡ false) ws
@@ -86,7 +86,7 @@ member_quiet k next raw =
     either_quiet k.listener.tuned _ []
     (either_quiet next (next_findings k raw) (current_findings k raw)
     (both (when (not k.has_begun && k.has_ensemble) faults.NextUnannounced) _ (when_quiet _ faults.NextUnannounced) (when_quiet _ (faults.NextChanged (name_of raw))))
-    (both (when (is_other_one (standing_in raw k.listener.current)) (faults.Changed (name_of raw))) _ (when_quiet _ (faults.Changed (name_of raw))) (when_quiet _ (faults.Appeared (name_of raw)))))
+    (both (when (is_other_one (lookup_in raw k.listener.current)) (faults.Changed (name_of raw))) _ (when_quiet _ (faults.Changed (name_of raw))) (when_quiet _ (faults.Appeared (name_of raw)))))
     tt
 
 silence_quiet : (rs : List Raw) → IsQuietly (map silence rs)
@@ -112,9 +112,9 @@ items_quiet step period (i ∷ is) past none =
     (subst IsQuietly (sym (ap (λ t. cond t (ensemble_findings (known_of step period past) i.first (said_ensemble i)) (member_findings (known_of step period past) i.next i.raw)) none.0)) (member_quiet (known_of step period past) i.next i.raw))
     (items_quiet step period is (Said i ∷ past) none.1))
 
--- ---- the names among findings
+-- ---- the swaps among findings
 
--- the number of a frame, as often as a swap is named in it
+-- the number of a frame, once for each swap that is reported in it
 abbrev named : ℕ → List What → List ℕ
 named n [] = []
 named n (w ∷ ws) = cond (names_swap w) (n ∷ named n ws) (named n ws)
@@ -165,7 +165,7 @@ frames_both (x ∷ xs) ys = elim (names_swap x.what) as (λ t. cond t (x.frame �
 last_quiet : (full : Bool) (period : ℕ) (past : List Moment) → IsQuietly (last_findings full period past)
 last_quiet full period past = either_quiet full [] (silent_findings period past) tt (silence_quiet _)
 
--- in a frame, by its entries
+-- in a frame, from its entries
 frame_named : (size step period : ℕ) (past : List Moment) (frame : List Fib) → swap_frames (findings_in size step period past frame) ≡ named (frames_ended past) (findings_at_items step period past (frame_items frame))
 frame_named size step period past frame =
     let items : List What = findings_at_items step period past (frame_items frame) in
@@ -185,7 +185,7 @@ with_head : (n step period : ℕ) (past : List Moment) (h : Item) (items : List 
     → named n (findings_at_items step period past (h ∷ items)) ≡ cond (is_made (listener_after past).awaited (said_ensemble h)) (n ∷ []) []
 with_head n step period past h items ens none =
     let k : Knowledge = known_of step period past in
-    let room : has_no_room k h ≡ false = ap (λ t. cond t false (k.listener.tuned && finds_no_room (standing_in h.raw (cond h.next k.listener.next k.listener.current)))) ens in
+    let room : has_no_room k h ≡ false = ap (λ t. cond t false (k.listener.tuned && finds_no_room (lookup_in h.raw (cond h.next k.listener.next k.listener.current)))) ens in
     let found : findings_at k h ≡ ensemble_findings k h.first (said_ensemble h) = ap (λ t. cond t (ensemble_findings k h.first (said_ensemble h)) (member_findings k h.next h.raw)) ens in
     ap (λ t. named n (cond t [] (findings_at k h ++ findings_at_items step period (Said h ∷ past) items))) room
     ∙ named_first n (findings_at k h) _ (items_quiet step period items (Said h ∷ past) none)
@@ -240,7 +240,7 @@ made_where_due p ts c s holds past h = by (none_or_some h.heard.awaited) (due_or
         let other : s.count % 250 ≢ low = not_now s.count low w.k holds.tracked.count more short w.low_is in
         made_low low some ∙ both_false ((ensemble_of p.plan (shown p s)).change == 0) _ flags (ne_eqb ((ensemble_of p.plan (shown p s)).count % 250) low (λ e. other (sym (ap (λ n. n % 250) count) ∙ e))) ∙ sym apart
 
--- what is named in a frame
+-- the swaps reported in a frame
 items_named : OneList → Laws → (r : Reading) (n period : ℕ) (p : Program) (ts : List Known) → IsCode p ts → (s : State) → Holds p ts s → (past : List Moment) → IsBetween p.plan past s
     → named n (findings_at_items (count_step p.plan.mode) period past (frame_items (read_frame r p.plan.mode (frame_bytes p s)))) ≡ cond (is_due s.left) (n ∷ []) []
 items_named one laws r n period p ts c s holds past h =
@@ -309,7 +309,7 @@ along one laws r period p ts c s (Frame ∷ es) holds past h =
     joined true = refl
     joined false = refl
 
--- in the first frame nothing was awaited
+-- in the first frame no swap is awaited
 first_named : OneList → Laws → (r : Reading) (period : ℕ) (p : Program) (ts : List Known) → IsCode p ts → (s : State) → Holds p ts s → s.count % count_step p.plan.mode ≡ 0
     → named 0 (findings_at_items (count_step p.plan.mode) period [] (frame_items (read_frame r p.plan.mode (frame_bytes p s)))) ≡ []
 first_named one laws r period p ts c s holds on =

@@ -1,4 +1,4 @@
--- What a frame of a run leaves of the next configuration in the check of a stream.
+-- What the checker knows of the next configuration after a frame of a run.
 use Rattle.std.proofs.Common.{◌≡◌, ◌≢◌, ℕ, ◌+◌, ◌≤◌, ◌%◌, ◌==◌, ◌||◌, Bool, true, false, cond, not, List, [], ◌∷◌, ◌++◌, Contains, Option, Some, None, refl, sym, ap, ◌∙◌, subst, arith, inl, inr}
 use Rattle.std.specs.List.{AllByRecursion}
 use Rattle.std.proofs.lemmas.Bool.{false≢true, eq-eqb, ne_eqb}
@@ -41,9 +41,9 @@ use Rattle.stream_laws.proofs.Ages.{FrameLaws}
 use Rattle.stream_laws.proofs.NextHeard.{rows_stay, begun_stays, none_begins, IsNoted, next_member}
 use Rattle.stream_laws.proofs.NoticeRows.{SaysNothing, HasNext}
 
--- ---- the entries of a frame behind its FIG 0/0
+-- ---- the entries of a frame after its FIG 0/0
 
--- after FIG 0/0, where the frame has one, a listener is tuned. A swap ends the notice, and change flags begin one.
+-- after FIG 0/0, if the frame has one, a listener is tuned. A swap ends the notice, and change flags begin one.
 pub record IsOpened (plan : Plan) (u : State) (due : Bool) (past : List Moment) (items : List Item) : Type 0 where
   pub opening : List Moment
   pub members : List Item
@@ -117,7 +117,7 @@ bare_opens plan u past members off sent l is tuned = record {
   unflagged = λ no_air. refl;
 }
 
--- a swap that is due comes with FIG 0/0
+-- a due swap comes with FIG 0/0
 due_on : (p : Program) (ts : List Known) → IsCode p ts → (s : State) → Holds p ts s → is_due s.left ≡ true → (shown p s).count % count_step p.plan.mode ≡ 0
 due_on p ts c s holds due =
     let step : (s.count + 0) % count_step p.plan.mode ≡ 0 = subst (λ (o : Option ℕ). SwapsOn p.plan s.count o) (due_left s.left due) holds.tracked.swaps in
@@ -160,7 +160,7 @@ first_opened laws r p ts c s holds whole =
     let items : frame_items (read_frame r plan.mode (frame_bytes p s)) ≡ head.0 ∷ fs.members = fs.are ∙ ap (λ hs. hs ++ fs.members) head.1 in
     subst (IsOpened plan u false []) (sym items) (headed_opens plan u a false [] head.0 fs.members head.2 head.3 fs.sent untuned refl refl)
 
--- ---- what the frame leaves
+-- ---- after the frame
 
 -- outside of a notice all entries have C/N 0
 all_current : (c n : Configuration) (on : Bool) (items : List Item) → on ≡ false → AllByRecursion (IsSentItem on c n) items → AllByRecursion (λ i. i.next ≡ false) items
@@ -191,7 +191,7 @@ next_noted laws r plan u a due past o after all m next row =
     let frame : List Fib = read_frame r plan.mode (shown_bytes plan u) in
     let key : ℕ = key_of (raw_entry m.entry) in
     let able = pageable laws.heard.pages plan u a in
-    let long = (laws.heard.pages.valid plan.mode (ensemble_sent plan u) u.turn (sent_entries plan u) able).1 in
+    let long = (laws.heard.pages.valid plan.mode (ensemble_sent plan u) u.page_index (sent_entries plan u) able).1 in
     let it : IsSaidOf (frame_items frame) m = row_said laws.one laws.size r plan.mode (shown_bytes plan u) m long row in
     let other : is_ensemble it.item ≡ false = ap (λ (x : Raw). x.ext == 0) it.raw ∙ some_ext row.1.organization in
     let whole : listening (said o.members o.opening) ≡ Some after = sym (ap listening o.are) ∙ all in
@@ -206,7 +206,7 @@ pub frame_next : FrameLaws → (r : Reading) (plan : Plan) (u : State) → Airs 
     → HasNext (shown_bytes plan u) (row_at_hand (said (frame_items (read_frame r plan.mode (shown_bytes plan u))) past))
 frame_next laws r plan u a due past o after all m next row = (next_noted laws r plan u a due past o after all m next row).row
 
--- where no notice has begun after a frame on the air, the frame said nothing of it
+-- if no notice has begun after a frame on the air, nothing in the frame belongs to one
 pub frame_silent : FrameLaws → (r : Reading) (plan : Plan) (u : State) → Airs plan u → (due : Bool) (past : List Moment) → IsOpened plan u due past (frame_items (read_frame r plan.mode (shown_bytes plan u))) → (after : Listening)
     → listening (said (frame_items (read_frame r plan.mode (shown_bytes plan u))) past) ≡ Some after → on_air plan u ≡ true
     → has_begun (said (frame_items (read_frame r plan.mode (shown_bytes plan u))) past) ≡ false → SaysNothing (shown_bytes plan u)
@@ -224,5 +224,5 @@ frame_silent laws r plan u a due past o after all on quiet = record {
     not_headed : HasHeader (shown_bytes plan u) → u.count % count_step plan.mode ≢ 0 → ⊥
     not_headed (marked, e, heard) off =
         let able = pageable laws.heard.pages plan u a in
-        let sent = (laws.heard.pages.ensemble plan.mode (ensemble_sent plan u) u.turn (sent_entries plan u) able marked e).0 heard in
+        let sent = (laws.heard.pages.ensemble plan.mode (ensemble_sent plan u) u.page_index (sent_entries plan u) able marked e).0 heard in
         none_some e (sym (not_sent plan u off) ∙ sent.1)

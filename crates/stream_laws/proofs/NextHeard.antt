@@ -27,7 +27,7 @@ begun_rows (Said i ∷ past) e =
     ] e
 begun_rows (Ended count ∷ past) e = ap (λ t. cond t (rows past ++ row_at_hand past ∷ []) []) e
 
--- ---- entries, none of which is a FIG 0/0
+-- ---- entries other than FIG 0/0
 
 pub rows_stay : (items : List Item) (past : List Moment) → HasNone items → rows (said items past) ≡ rows past
 rows_stay [] past none = refl
@@ -44,7 +44,7 @@ row_stays key (i ∷ is) past none h =
     let more : List ℕ = cond ((listener_after past).tuned && i.next) (key_of i.raw ∷ []) [] in
     row_stays key is (Said i ∷ past) none.1 (subst (λ (r : List ℕ). Contains r key) (sym (member_row past i none.0)) (Contains-append_left (row_at_hand past) more key h))
 
--- with C/N 0 they begin no notice
+-- entries with C/N 0 begin no notice
 pub none_begins : (items : List Item) (past : List Moment) → HasNone items → AllByRecursion (λ i. i.next ≡ false) items → has_begun (said items past) ≡ has_begun past
 none_begins [] past none all = refl
 none_begins (i ∷ is) past none all =
@@ -54,12 +54,12 @@ none_begins (i ∷ is) past none all =
     ∙ ap (λ t. has_begun past || t) (and_false (listener_after past).tuned)
     ∙ or_false (has_begun past)
 
--- the entry of this key was heard with C/N 1 in the frame at hand, and the notice has begun
+-- the entry with this key was heard with C/N 1 in the current frame, and the notice has begun
 pub record IsNoted (key : ℕ) (past : List Moment) : Type 0 where
   pub row : Contains (row_at_hand past) key
   pub begun : has_begun past ≡ true
 
--- an entry of the next configuration that is among these is heard
+-- an entry of the next configuration among these is heard
 pub next_member : (key : ℕ) (items : List Item) (past : List Moment) (l after : Listening) → listening past ≡ Some l → l.tuned ≡ true → listening (said items past) ≡ Some after → HasNone items
     → (i : Item) → Contains items i → i.next ≡ true → key_of i.raw ≡ key → IsNoted key (said items past)
 next_member key [] past l after is t all none i inside n k = absurd (contains_none i inside)

@@ -1,4 +1,4 @@
--- Frames of a notice, and rows of the identifiers that were heard in them with C/N 1, cut into three parts.
+-- Frames of a notice, and the rows of identifiers heard in them with C/N 1, cut into three parts.
 use Rattle.std.proofs.Common.{◌≡◌, ℕ, zero, suc, ◌<◌, ◌≤◌, true, List, [], ◌∷◌, ◌++◌, length, Contains, Some, refl, sym, ap, ◌∙◌, subst, arith, inl, inr, ◌⊎◌}
 use Rattle.std.specs.Prelude.{slice_get}
 use Rattle.std.specs.List.{AllByRecursion, concat}
@@ -25,7 +25,7 @@ rows_more [] (r1 ∷ rs) f r all one = absurd all
 rows_more (f1 ∷ fs) [] f r all one = absurd all
 rows_more (f1 ∷ fs) (r1 ∷ rs) f r all one = (all.0, rows_more fs rs f r all.1 one)
 
--- a frame more, and its row
+-- one more frame, and its row
 pub rowed_more : (heard rows : List (List ℕ)) (frame row : List ℕ) → IsRowed heard rows → HasNext frame row → IsRowed (heard ++ frame ∷ []) (rows ++ row ∷ [])
 rowed_more heard rows frame row h one = record {
   missing = h.missing;
@@ -43,7 +43,7 @@ silent_more : (fs : List (List ℕ)) (f : List ℕ) → AllByRecursion SaysNothi
 silent_more [] f all one = (one, tt)
 silent_more (x ∷ xs) f all one = (all.0, silent_more xs f all.1 one)
 
--- a frame more that says nothing, where there are no rows yet
+-- one more frame without a part in the notice, where there are no rows yet
 pub rowed_silent : (heard rows : List (List ℕ)) (frame : List ℕ) → IsRowed heard rows → rows ≡ [] → SaysNothing frame → IsRowed (heard ++ frame ∷ []) []
 rowed_silent heard rows frame h none one =
     let last : h.later ≡ [] = none_later h.later (subst (AreRows h.later) none h.are) in
@@ -67,7 +67,7 @@ head_is x y xs ys e = cc e
 tail_is : {X : Type 0} (x y : X) (xs ys : List X) → x ∷ xs ≡ y ∷ ys → xs ≡ ys
 tail_is x y xs ys e = cc e
 
--- of two cuts of a list one comes first
+-- of two cuts of a list, one comes first
 cut_first : {X : Type 0} (missing later first rest : List X) → missing ++ later ≡ first ++ rest
     → ((extra : List X) × (missing ≡ first ++ extra)) ⊎ ((more : List X) × (first ≡ missing ++ more) × (later ≡ more ++ rest))
 cut_first [] later first rest e = inr (first, refl, e)
@@ -116,7 +116,7 @@ part_is n wanted x some keys fs rs all whole = (
         let it = keys y inside in
         subst (λ (k : ℕ). Contains (concat rs) k) it.3 (row_has fs rs it.0 all it.2 (whole it.0 it.1))
 
--- what is heard in frames, the first of which say nothing, is heard in the others
+-- what is heard in all frames is heard in the later ones, as nothing in the first ones belongs to the notice
 heard_later : (missing more : List (List ℕ)) (m : Marked) → AllByRecursion SaysNothing missing → m.next ≡ true → IsHeardInSome (missing ++ more) m → IsHeardInSome more m
 heard_later missing more m silent next (f, inside, heard) = elim (Contains-append_cases missing more f inside) [
   | inl early ↦ absurd ((each_contains SaysNothing missing f silent early).none m next heard)
@@ -151,7 +151,7 @@ three_parts n wanted x some keys marks missing first second third rows later cut
           )
     ]
 
--- ---- a configuration without entries: three rows do
+-- ---- a configuration without entries: any three rows are enough
 
 below_length : {X : Type 0} (xs : List X) (place : ℕ) (x : X) → slice_get xs place ≡ Some x → place < length xs
 below_length [] place x e = absurd cc
@@ -199,7 +199,7 @@ cut_rows (a ∷ b ∷ c ∷ rows) long = record {
   whole_in_third = none_wanted c rows;
 }
 
--- ---- the rows of frames that announce a swap are three parts, each of which has the next configuration
+-- ---- the rows of frames that announce a swap have three parts, each with the next configuration
 
 pub announced_thrice : (now next : Configuration) (count : ℕ) (heard rows : List (List ℕ)) (wanted : List ℕ) → IsAnnounced now next count heard → IsRowed heard rows → AreKeysOf next wanted
     → ((m : Marked) → Contains (facts_of next true) m → m.next ≡ true) → IsCutInThree wanted rows

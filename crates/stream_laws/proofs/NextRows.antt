@@ -1,4 +1,4 @@
--- The rows of a notice, along a run: of each frame that was heard of it, the entries with C/N 1.
+-- The rows of a notice along a run: for each frame heard of it, the entries with C/N 1.
 use Rattle.std.proofs.Common.{◌≡◌, ℕ, ◌%◌, Bool, true, false, cond, List, [], ◌∷◌, ◌++◌, Some, refl, sym, ap, ◌∙◌, subst, inl, inr}
 use Rattle.std.proofs.lemmas.Bool.{false≢true}
 use Rattle.fib_codec.specs.Modes.{count_step}
@@ -32,7 +32,7 @@ some_frames : (frames : List (List ℕ)) (frame : List ℕ) → frames ++ frame 
 some_frames [] frame e = cc e
 some_frames (f ∷ fs) frame e = cc e
 
--- a frame more, by what it has behind its FIG 0/0
+-- one more frame, given its entries after FIG 0/0
 after_opened : FrameLaws → (r : Reading) (p : Program) (s : State) → Airs p.plan (shown p s) → (due : Bool) (past : List Moment) (count : ℕ) (heard : List (List ℕ))
     → IsOpened p.plan (shown p s) due past (frame_items (read_frame r p.plan.mode (frame_bytes p s)))
     → (after : Listening) → listening (said (frame_items (read_frame r p.plan.mode (frame_bytes p s))) past) ≡ Some after

@@ -1,4 +1,4 @@
--- In the frames of a run no fault is found: the laws of the sorts of faults, put together.
+-- No fault is found in the frames of a run: the laws of all sorts of faults together.
 use Rattle.std.proofs.Common.{◌≡◌, true, false, List, [], ◌∷◌, sym}
 use Rattle.std.specs.List.{AllByRecursion}
 use Rattle.std.proofs.lemmas.Bool.{false≢true}
@@ -24,7 +24,7 @@ use Rattle.stream_laws.proofs.Silence.{runs_are_never_silent}
 use Rattle.stream_laws.proofs.Appearing.{runs_are_known}
 use Rattle.stream_laws.proofs.Repeating.{runs_repeat_the_next}
 
--- each law of one finding
+-- what each law says about one finding
 pub record IsOfNone (w : What) : Type 0 where
   pub place : IsInPlace w
   pub word : KeepsWord w

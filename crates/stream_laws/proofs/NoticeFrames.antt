@@ -1,4 +1,4 @@
--- In the frames of a notice each entry of the current configuration and of the next one is heard.
+-- Each entry of the current and the next configuration is heard in the frames of a notice.
 use Rattle.std.proofs.Common.{◌≡◌, ℕ, zero, suc, ◌+◌, ◌-◌, ◌%◌, ◌<◌, ◌≤◌, Bool, true, false, cond, List, Contains, Option, Some, None, refl, sym, ap, ◌∙◌, subst, arith}
 use Rattle.std.proofs.lemmas.Bool.{lt-ltb}
 use Rattle.std.proofs.lemmas.List.Elements.{Contains-append_left, Contains-append_right}
@@ -25,7 +25,7 @@ use Rattle.plan_runs.proofs.Announcing.{IsDue}
 use Rattle.plan_listeners.proofs.Pictures.{HasAll, entries_of, in_contains, in_fact}
 use Rattle.plan_listeners.proofs.Windows.{SomeSaid}
 
--- the pages come in order
+-- pages are in turn in ascending order
 page_up : (pages k : ℕ) → k < pages → page_of pages k ≡ k
 page_up pages zero below = page_of_first pages
 page_up pages (suc k) below =
@@ -57,7 +57,7 @@ notice_airs plan c n eid count i d below =
       on_air = d.on_air;
       committed = d.committed;
       swaps = swap_base plan.mode plan.notice count i below d.notice_to d.count_low d.on_step;
-      turn = record {
+      page_index = record {
         within = λ inside. sym (ap (page_of (both_rounds plan c n)) back);
         before = λ past. absurd (omega (arith, past));
       };
@@ -72,9 +72,9 @@ notice_hears laws plan c n eid count i d below m inside =
     let a = notice_airs plan c n eid count i d below in
     let yes = noticed plan.notice (plan.notice - i) (omega (arith, below)) (omega arith) in
     let entries : sent_entries plan st ≡ page_set c (Some n) = ap (λ (b : Bool). page_set c (cond b (Some n) None)) yes in
-    let there : Contains (page_entries plan.mode st.turn (sent_entries plan st)) m =
+    let there : Contains (page_entries plan.mode st.page_index (sent_entries plan st)) m =
     subst (λ (es : List Marked). Contains (page_entries plan.mode (page_of (both_rounds plan c n) i) es) m) (sym entries) inside in
-    let heard : IsHeardInRow (shown_bytes plan st) m = (laws.heard plan.mode (ensemble_sent plan st) st.turn (sent_entries plan st) (pageable laws plan st a) m).1 there in
+    let heard : IsHeardInRow (shown_bytes plan st) m = (laws.heard plan.mode (ensemble_sent plan st) st.page_index (sent_entries plan st) (pageable laws plan st a) m).1 there in
     subst (λ (b : List ℕ). IsHeardInRow b m) (sym (notice_at_is plan c n eid base i)) heard
 
 pub due_left : (left : Option ℕ) → is_due left ≡ true → left ≡ Some 0
@@ -111,7 +111,7 @@ notice_has laws p ts c s h due m inside =
     subst (λ (xs : List (List ℕ)). IsHeardInSome xs m) (sym heard)
     (f j, contains_frame f 0 plan.notice j (omega arith) (omega (arith, below)), notice_hears laws plan s.current s.next s.eid s.count j d below m here)
 
--- where a swap is due, both configurations were heard whole
+-- where a swap is due, both configurations were heard in full
 pub current_whole : PageLaws → (p : Program) (ts : List Known) → IsCode p ts → (s : State) → Holds p ts s → is_due s.left ≡ true → HasAll s.current (SomeSaid (heard_of p.plan s) false)
 current_whole laws p ts c s h due e inside =
     let fact : Contains (facts_of s.current false) (marked false e) = in_contains (facts_of s.current false) (marked false e) (in_fact false (entries_of s.current) e inside) in

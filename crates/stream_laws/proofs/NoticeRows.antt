@@ -1,4 +1,4 @@
--- What the rows of a notice have of its frames.
+-- The rows of a notice and its frames.
 use Rattle.std.proofs.Common.{◌≡◌, ℕ, ◌%◌, true, false, List, [], ◌∷◌, ◌++◌, Contains, ◌⊎◌}
 use Rattle.std.specs.List.{AllByRecursion}
 use Rattle.mux_entries.specs.Facts.{Marked}
@@ -12,7 +12,7 @@ use Rattle.plan_code.specs.Machine.{State}
 use Rattle.plan_runs.specs.Announced.{heard_of, HasHeader}
 use Rattle.stream_laws.proofs.AgreeingRuns.{IsBetween}
 
--- nothing in the frame is of a notice: no entry with C/N 1, and no FIG 0/0
+-- nothing in the frame belongs to a notice: no entry with C/N 1, and no FIG 0/0
 pub record SaysNothing (frame : List ℕ) : Type 0 where
   pub none : (m : Marked) → m.next ≡ true → IsHeardInRow frame m → ⊥
   pub bare : HasHeader frame → ⊥
@@ -28,7 +28,7 @@ AreRows [] (r ∷ rs) = ⊥
 AreRows (f ∷ fs) [] = ⊥
 AreRows (f ∷ fs) (r ∷ rs) = HasNext f r × AreRows fs rs
 
--- the rows are those of the frames that were heard, but for the first ones, which say nothing of the notice
+-- the rows are those of the frames heard, except for the first ones, where nothing belongs to the notice
 pub record IsRowed (heard rows : List (List ℕ)) : Type 0 where
   pub missing : List (List ℕ)
   pub later : List (List ℕ)
@@ -38,8 +38,8 @@ pub record IsRowed (heard rows : List (List ℕ)) : Type 0 where
 
 -- ---- along a run
 
--- outside of a notice none has begun; and one that was heard from its beginning has a row for each of its frames, but for
--- the first ones, which say nothing of it
+-- outside of a notice none has begun; and a notice that was heard from its beginning has a row for each of its frames,
+-- except for the first ones, where nothing belongs to it
 pub record IsNoticing (plan : Plan) (past : List Moment) (s : State) : Type 0 where
   pub fresh : heard_of plan s ≡ [] → has_begun past ≡ false
   pub rowed : is_cut_off past ≡ false → IsRowed (heard_of plan s) (rows past)

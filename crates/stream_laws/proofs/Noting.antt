@@ -1,4 +1,4 @@
--- What an entry leaves of what was said before, where nothing is at fault.
+-- The past of a stream with one more entry, where nothing is at fault.
 use Rattle.std.proofs.Common.{◌≡◌, ℕ, zero, suc, ◌+◌, ◌%◌, ◌<◌, ◌==◌, ◌&&◌, ◌||◌, Bool, true, false, cond, not, List, [], ◌∷◌, ◌++◌, Option, Some, None, refl, sym, ap, ◌∙◌, subst, arith}
 use Rattle.std.specs.Prelude.{unwrap_or, get_or}
 use Rattle.std.specs.List.{AllByRecursion}
@@ -8,9 +8,9 @@ use Rattle.mux_entries.specs.Entries.{EnsembleInformation}
 use Rattle.fib_reader.specs.Raw.{Raw}
 use Rattle.fib_reader.specs.Listening.{Listening, untuned, is_made, swapped, awaiting, at_ensemble, into, pictured, picture_of}
 use Rattle.stream_check.specs.declared.finding.Fault.TheVariants as faults
-use Rattle.stream_check.specs.Telling.{when}
+use Rattle.stream_check.specs.Reporting.{when}
 use Rattle.stream_check.specs.Pictures.{key_of}
-use Rattle.stream_check.specs.Standing.{standing_in}
+use Rattle.stream_check.specs.Lookup.{lookup_in}
 use Rattle.stream_check.specs.History.{Item, Moment, Said, Ended, is_ensemble, ensemble_of, is_flagged, is_swap, is_member, listening, listener_after, begins_notice, has_begun, flag_count, times_announced, last_flags, next_key, row_at_hand, rows}
 use Rattle.stream_check.specs.Rules.{Known, known_of, finds_no_room, has_no_room, ensemble_findings, member_findings, place_faults, is_placed, is_of_other_ensemble, has_other_count, swap_or_another, announces_another, announcement, swap_findings, occurrence_of, has_low, has_flags, makes_swap}
 use Rattle.stream_check.proofs.Members.{or_false, ensemble_no_member, ensemble_heard, member_heard, member_entry, after_is}
@@ -19,7 +19,7 @@ use Rattle.stream_laws.proofs.Clean.{all_left, all_right, IsClean}
 use Rattle.stream_laws.proofs.Kept.{no_fault, first_holds, is_not, member_room}
 use Rattle.stream_laws.proofs.Pictures.{picture_with, taken_in}
 
--- ---- what a listener makes of it
+-- ---- what a listener knows after it
 
 abbrev pub with_member : Bool → Raw → Listening → Listening
 with_member true raw l = record l { next = picture_with raw l.next }
@@ -28,7 +28,7 @@ with_member false raw l = record l { current = picture_with raw l.current }
 abbrev pub listened : Item → Listening → Listening
 listened i l = cond (is_ensemble i) (at_ensemble (ensemble_of i) l) (cond l.tuned (with_member i.next i.raw l) l)
 
-taken : (next : Bool) (raw : Raw) (l : Listening) → finds_no_room (standing_in raw (cond next l.next l.current)) ≡ false → into next l (pictured raw (picture_of next l)) ≡ Some (with_member next raw l)
+taken : (next : Bool) (raw : Raw) (l : Listening) → finds_no_room (lookup_in raw (cond next l.next l.current)) ≡ false → into next l (pictured raw (picture_of next l)) ≡ Some (with_member next raw l)
 taken true raw l room = ap (into true l) (taken_in raw l.next room)
 taken false raw l room = ap (into false l) (taken_in raw l.current room)
 
@@ -41,8 +41,8 @@ heard_by step period past i l false e h room =
     ∙ elim l.tuned as (λ t. l.tuned ≡ t → cond t (into i.next l (pictured i.raw (picture_of i.next l))) (Some l) ≡ Some (cond t (with_member i.next i.raw l) l)) [
       | true ↦ λ t.
           let tuned : (listener_after past).tuned ≡ true = ap (λ (x : Listening). x.tuned) same ∙ t in
-          let free : finds_no_room (standing_in i.raw (cond i.next l.next l.current)) ≡ false =
-          sym (ap (λ (x : Listening). finds_no_room (standing_in i.raw (cond i.next x.next x.current))) same) ∙ sym (member_room step period past i e tuned) ∙ room in
+          let free : finds_no_room (lookup_in i.raw (cond i.next l.next l.current)) ≡ false =
+          sym (ap (λ (x : Listening). finds_no_room (lookup_in i.raw (cond i.next x.next x.current))) same) ∙ sym (member_room step period past i e tuned) ∙ room in
           taken i.next i.raw l free
       | false ↦ λ t. refl
     ] refl
@@ -122,7 +122,7 @@ not_is : (a b : Bool) → not a ≡ b → a ≡ not b
 not_is true b e = ap not e
 not_is false b e = ap not e
 
--- what a listener makes of it
+-- what a listener knows after it
 abbrev pub heard_as : Bool → Bool → EnsembleInformation → Listening → Listening
 heard_as b f e l = cond f (record (record (cond b (swapped l) l) { tuned = true }) { awaited = e.occurrence }) (record (cond b (swapped l) l) { tuned = true })
 
@@ -182,12 +182,12 @@ plain_ensemble step period past i c e =
     plain_rules (known_of step period past) i.first (ensemble_of i)
     (subst (λ (b : Bool). AllByRecursion IsNoFault (cond b (ensemble_findings (known_of step period past) i.first (ensemble_of i)) (member_findings (known_of step period past) i.next i.raw))) e c.0)
 
--- flags are some
+-- flags are not 0
 pub some_flags : (n : ℕ) → not (n == 0) ≡ true → 0 < n
 some_flags zero h = absurd (false≢true h)
 some_flags (suc n) h = omega arith
 
--- flags give an occurrence
+-- flags come with an occurrence change
 pub occurrence_is : (i : Item) → has_flags (ensemble_of i) ≡ true → (ensemble_of i).occurrence ≡ Some (get_or i.raw.bytes 4 0)
 occurrence_is i f = ap (λ t. cond t None (Some (get_or i.raw.bytes 4 0))) (is_not ((ensemble_of i).change == 0) f)
 
@@ -195,7 +195,7 @@ neither : (a b : Bool) → (a || b) ≡ false → (a ≡ false) × (b ≡ false)
 neither true b h = absurd (false≢true (sym h))
 neither false b h = (refl, h)
 
--- where a swap is awaited, it is announced again as before
+-- an awaited swap is announced again with the same values
 pub not_another : (aw : Option ℕ) (low change flags occurrence : ℕ) → aw ≡ Some low
     → (has_low aw && (not (change == flags) || not (occurrence == unwrap_or aw 0))) ≡ false → (change ≡ flags) × (occurrence ≡ low)
 not_another None low change flags occurrence e h = absurd cc
@@ -204,7 +204,7 @@ not_another (Some a) low change flags occurrence e h =
     let both = neither (not (change == flags)) (not (occurrence == a)) h in
     (eqb-true change flags (not_false (change == flags) both.0), eqb-true occurrence a (not_false (occurrence == a) both.1) ∙ same)
 
--- nothing is awaited where a FIG 0/0 without flags makes no swap
+-- no swap is awaited where a FIG 0/0 without flags makes none
 pub nothing_awaited : (aw : Option ℕ) (e : EnsembleInformation) → is_made aw e ≡ false → has_flags e ≡ false → aw ≡ None
 nothing_awaited None e made none = refl
 nothing_awaited (Some low) e made none =

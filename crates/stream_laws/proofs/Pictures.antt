@@ -1,12 +1,12 @@
--- Look-ups in a picture that keeps one entry more.
+-- Lookup in a picture with one more entry.
 use Rattle.std.proofs.Common.{◌≡◌, ℕ, ◌==◌, ◌||◌, Bool, true, false, cond, nat_lt, List, [], ◌∷◌, length, Option, Some, None, refl, sym, ap, ◌∙◌}
 use Rattle.std.proofs.lemmas.Bool.{false≢true, eq-eqb, eqb-true}
 use Rattle.mux_config.specs.Tables.{entry_at, with_entry, with_entry_changed, has_entry}
 use Rattle.mux_config.proofs.Keeping.{present}
 use Rattle.fib_reader.specs.Raw.{Raw}
 use Rattle.fib_reader.specs.Listening.{Pictured, identifier_of, is_known, kept, has_room, pictured}
-use Rattle.stream_check.specs.declared.heard_table.Standing.TheVariants as standings
-use Rattle.stream_check.specs.Standing.{standing_to, standing, standing_in}
+use Rattle.stream_check.specs.declared.heard_table.Lookup.TheVariants as standings
+use Rattle.stream_check.specs.Lookup.{lookup_among, lookup, lookup_in}
 use Rattle.stream_check.specs.Rules.{finds_no_room}
 use Rattle.stream_laws.specs.Keeping.{entry_like}
 
@@ -62,7 +62,7 @@ kept_other raw k rs other = elim (is_known raw rs) as (λ t. entry_at identifier
   | false ↦ added_other raw k rs other
 ]
 
--- an entry that agrees with the one that is kept, or has another identifier, stays
+-- an entry with another identifier, or that agrees with the new one, is still there
 pub kept_stays : (raw y : Raw) (rs : List Raw) → ((known : Raw) → entry_at identifier_of (identifier_of raw) rs ≡ Some known → known ≡ raw)
     → entry_at identifier_of (identifier_of y) rs ≡ Some y → entry_at identifier_of (identifier_of y) (kept raw rs) ≡ Some y
 kept_stays raw y rs agrees found = elim (identifier_of raw == identifier_of y) as (λ t. (identifier_of raw == identifier_of y) ≡ t → entry_at identifier_of (identifier_of y) (kept raw rs) ≡ Some y) [
@@ -75,7 +75,7 @@ kept_stays raw y rs agrees found = elim (identifier_of raw == identifier_of y) a
 
 -- ---- a picture
 
--- the picture with one entry more
+-- the picture with one more entry
 abbrev pub picture_with : Raw → Pictured → Pictured
 picture_with raw p = cond (raw.ext == 1) (record p { subs = kept raw p.subs }) (cond (raw.ext == 2) (record p { services = kept raw p.services }) (record p { packets = kept raw p.packets }))
 
@@ -83,22 +83,22 @@ or_right : (a b : Bool) → b ≡ true → (a || b) ≡ true
 or_right true b h = refl
 or_right false b h = h
 
-room_by : (raw : Raw) (rs : List Raw) (found : Option Raw) → entry_at identifier_of (identifier_of raw) rs ≡ found → finds_no_room (standing_to raw (length rs) found) ≡ false → has_room raw rs ≡ true
+room_by : (raw : Raw) (rs : List Raw) (found : Option Raw) → entry_at identifier_of (identifier_of raw) rs ≡ found → finds_no_room (lookup_among raw (length rs) found) ≡ false → has_room raw rs ≡ true
 room_by raw rs None e free = elim (nat_lt (length rs) 64) as (λ t. nat_lt (length rs) 64 ≡ t → finds_no_room (cond t standings.Absent standings.Full) ≡ false → has_room raw rs ≡ true) [
   | true ↦ λ few n. or_right (is_known raw rs) (nat_lt (length rs) 64) few
   | false ↦ λ many n. absurd (false≢true (sym n))
 ] refl free
 room_by raw rs (Some r) e free = ap (λ t. t || nat_lt (length rs) 64) (present identifier_of (identifier_of raw) rs r e)
 
-room_where : (raw : Raw) (rs : List Raw) → finds_no_room (standing raw rs) ≡ false → has_room raw rs ≡ true
+room_where : (raw : Raw) (rs : List Raw) → finds_no_room (lookup raw rs) ≡ false → has_room raw rs ≡ true
 room_where raw rs free = room_by raw rs (entry_at identifier_of (identifier_of raw) rs) refl free
 
-pub taken_in : (raw : Raw) (p : Pictured) → finds_no_room (standing_in raw p) ≡ false → pictured raw p ≡ Some (picture_with raw p)
-taken_in raw p room = elim (raw.ext == 1) as (λ t. finds_no_room (standing raw (cond t p.subs (cond (raw.ext == 2) p.services p.packets))) ≡ false
+pub taken_in : (raw : Raw) (p : Pictured) → finds_no_room (lookup_in raw p) ≡ false → pictured raw p ≡ Some (picture_with raw p)
+taken_in raw p room = elim (raw.ext == 1) as (λ t. finds_no_room (lookup raw (cond t p.subs (cond (raw.ext == 2) p.services p.packets))) ≡ false
     → cond t (Some (record p { subs = kept raw p.subs })) (cond (raw.ext == 2) (cond (has_room raw p.services) (Some (record p { services = kept raw p.services })) None) (cond (has_room raw p.packets) (Some (record p { packets = kept raw p.packets })) None))
     ≡ Some (cond t (record p { subs = kept raw p.subs }) (cond (raw.ext == 2) (record p { services = kept raw p.services }) (record p { packets = kept raw p.packets })))) [
       | true ↦ λ r. refl
-      | false ↦ elim (raw.ext == 2) as (λ t. finds_no_room (standing raw (cond t p.services p.packets)) ≡ false
+      | false ↦ elim (raw.ext == 2) as (λ t. finds_no_room (lookup raw (cond t p.services p.packets)) ≡ false
           → cond t (cond (has_room raw p.services) (Some (record p { services = kept raw p.services })) None) (cond (has_room raw p.packets) (Some (record p { packets = kept raw p.packets })) None)
           ≡ Some (cond t (record p { services = kept raw p.services }) (record p { packets = kept raw p.packets }))) [
             | true ↦ λ r. ap (λ t. cond t (Some (record p { services = kept raw p.services })) None) (room_where raw p.services r)
@@ -106,14 +106,14 @@ taken_in raw p room = elim (raw.ext == 1) as (λ t. finds_no_room (standing raw 
           ]
     ] room
 
--- the list that an extension names
+-- the list for an extension
 abbrev by_ext : ℕ → Pictured → List Raw
 by_ext n p = cond (n == 1) p.subs (cond (n == 2) p.services p.packets)
 
 kind_of : ℕ → ℕ
 kind_of n = cond (n == 1) 1 (cond (n == 2) 2 3)
 
--- the entry that is kept is found
+-- the new entry is found
 pub found_kept : (raw : Raw) (p : Pictured) → entry_like raw (picture_with raw p) ≡ Some raw
 found_kept raw p = elim (raw.ext == 1) as (λ t. entry_at identifier_of (identifier_of raw) (cond t (cond t (record p { subs = kept raw p.subs }) (cond (raw.ext == 2) (record p { services = kept raw p.services }) (record p { packets = kept raw p.packets }))).subs
     (cond (raw.ext == 2) (cond t (record p { subs = kept raw p.subs }) (cond (raw.ext == 2) (record p { services = kept raw p.services }) (record p { packets = kept raw p.packets }))).services (cond t (record p { subs = kept raw p.subs }) (cond (raw.ext == 2) (record p { services = kept raw p.services }) (record p { packets = kept raw p.packets }))).packets)) ≡ Some raw) [
@@ -124,7 +124,7 @@ found_kept raw p = elim (raw.ext == 1) as (λ t. entry_at identifier_of (identif
       ]
     ]
 
--- and each entry that was found before is found again, where the one that is kept agrees with what it replaces
+-- each entry that was found before is found again, if the new one agrees with what it replaces
 pub found_again : (raw y : Raw) (p : Pictured) → ((known : Raw) → entry_like raw p ≡ Some known → known ≡ raw) → entry_like y p ≡ Some y → entry_like y (picture_with raw p) ≡ Some y
 found_again raw y p agrees found =
     elim (raw.ext == 1) as (λ t. ((known : Raw) → entry_at identifier_of (identifier_of raw) (cond t p.subs (cond (raw.ext == 2) p.services p.packets)) ≡ Some known → known ≡ raw)

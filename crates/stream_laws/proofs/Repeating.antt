@@ -55,12 +55,12 @@ narrow = record {
   past = λ a. refl;
 }
 
--- ---- what is wanted of the frames of a notice
+-- ---- what is wanted in the frames of a notice
 
 facts_marked : (n : Configuration) (m : Marked) → Contains (facts_of n true) m → m.next ≡ true
 facts_marked n m inside = sym (fact_in true (entries_of n) m (contains_in (facts_of n true) m inside)).0
 
--- where a swap is due, the listener's next picture has entries of the next configuration alone
+-- where a swap is due, the listener's next picture has only entries of the next configuration
 next_part : (p : Program) (ts : List Known) → IsCode p ts → (s : State) → (past : List Moment) → (b : IsBetween p.plan past s) → is_due s.left ≡ true → IsPartial (whole_of s.next) Nothing b.heard.next
 next_part p ts c s past b due =
     let pending : KnowsPending p.plan 0 s.current s.next s.count Nothing Nothing b.heard = subst (λ (o : Option ℕ). KnowsBy p.plan o s.current s.next s.count Nothing Nothing b.heard) (due_left s.left due) b.knows in

@@ -1,4 +1,4 @@
--- The entries of the notice's frames.
+-- The entries of the frames of a notice.
 use Rattle.std.proofs.Common.{◌≡◌, ℕ, ◌+◌, Bool, true, false, cond, List, [], ◌∷◌, ◌++◌, length, refl, sym, ap, ◌∙◌, subst, inl, inr, ◌⊎◌, ◌||◌}
 use Rattle.std.specs.Prelude.{map}
 use Rattle.std.specs.List.{AllByRecursion}
@@ -8,13 +8,13 @@ use Rattle.stream_check.specs.Frames.{Fib}
 use Rattle.stream_check.specs.History.{Item, Moment, Said, Ended, said, frame_items, is_ensemble, is_swap, has_ensemble, has_begun, rows, row_at_hand}
 use Rattle.stream_check.specs.Stream.{after_frame, after_frames}
 
--- the entries of the frame at hand
+-- the entries of the current frame
 abbrev pub at_hand : List Moment → List Item
 at_hand [] = []
 at_hand (Said i ∷ past) = at_hand past ++ i ∷ []
 at_hand (Ended count ∷ past) = []
 
--- and of each frame of the notice that has ended
+-- the entries of each frame of the notice that has ended
 abbrev pub notice_rows : List Moment → List (List Item)
 notice_rows [] = []
 notice_rows (Said i ∷ past) = cond (is_swap past i) [] (notice_rows past)
@@ -24,7 +24,7 @@ pub hand_after : (items : List Item) (past : List Moment) → at_hand (said item
 hand_after [] past = sym (append-nil (at_hand past))
 hand_after (i ∷ is) past = hand_after is (Said i ∷ past) ∙ append_assoc (at_hand past) (i ∷ []) is
 
--- as many as rows of identifiers
+-- there are as many as rows of identifiers
 pub as_many : (past : List Moment) → length (notice_rows past) ≡ length (rows past)
 as_many [] = refl
 as_many (Said i ∷ past) = elim (is_swap past i) as (λ t. length (cond t [] (notice_rows past)) ≡ length (cond t [] (rows past))) [ true ↦ refl | false ↦ as_many past ]
@@ -33,7 +33,7 @@ as_many (Ended count ∷ past) = elim (has_begun past) as (λ t. length (cond t 
   | false ↦ refl
 ]
 
--- no FIG 0/0 so far
+-- no FIG 0/0 among these entries
 abbrev pub HasNone : List Item → Type 0
 HasNone items = AllByRecursion (λ i. is_ensemble i ≡ false) items
 

@@ -17,7 +17,7 @@ use Rattle.stream_laws.proofs.Noting.{with_member, after_member, after_heard, he
 use Rattle.stream_laws.proofs.Rows.{at_hand, notice_rows}
 use Rattle.stream_laws.proofs.Tracking.{IsFormed}
 
--- the entry with this key is among these, with C/N 1, as the picture has it
+-- the entry with this key is among these, with C/N 1 and as in the picture
 pub record IsSaidAmong (next : Pictured) (items : List Item) (x : ℕ) : Type 0 where
   pub item : Item
   pub inside : Contains items item
@@ -36,7 +36,7 @@ RowsAreSaid next [] (r ∷ rs) = ⊥
 RowsAreSaid next (is ∷ iss) [] = ⊥
 RowsAreSaid next (is ∷ iss) (r ∷ rs) = RowIsSaid next is r × RowsAreSaid next iss rs
 
--- a picture that has all that another one has
+-- the second picture has every entry of the first
 abbrev Grows : Pictured → Pictured → Type 0
 Grows p q = (y : Raw) → entry_like y p ≡ Some y → entry_like y q ≡ Some y
 
@@ -62,7 +62,7 @@ pub record AreSaid (past : List Moment) : Type 0 where
   pub rows : RowsAreSaid (listener_after past).next (notice_rows past) (rows past)
   pub hand : RowIsSaid (listener_after past).next (at_hand past) (row_at_hand past)
 
--- the same rows, and a picture that has all that it had
+-- with the same rows, and a picture that has every entry as before
 said_further : (past now : List Moment) (more : List Item) → Grows (listener_after past).next (listener_after now).next → notice_rows now ≡ notice_rows past → rows now ≡ rows past
     → at_hand now ≡ at_hand past ++ more → row_at_hand now ≡ row_at_hand past → AreSaid past → AreSaid now
 said_further past now more g iss rs hand row s = record {

@@ -1,4 +1,4 @@
--- The entries of a frame of a run, as the check of a stream hears them.
+-- The entries of a frame of a run, as the checker hears them.
 use Rattle.std.proofs.Common.{◌≡◌, ℕ, ◌+◌, ◌-◌, ◌*◌, ◌/◌, ◌%◌, ◌≤◌, ◌==◌, Bool, true, false, cond, List, [], ◌∷◌, ◌++◌, length, drop, Option, Some, None, refl, sym, ap, ◌∙◌, subst, arith, inl, inr}
 use Rattle.std.specs.Prelude.{map, IfSome}
 use Rattle.std.specs.List.{AllByRecursion}
@@ -19,7 +19,7 @@ use Rattle.fib_codec.specs.Modes.{fib_count}
 use Rattle.fib_carousel.specs.Packing.{same_head, entries_where}
 use Rattle.fib_carousel.specs.Greedy.{packing}
 use Rattle.fib_carousel.specs.Pages.{page_set, fib_entries, first_fib, later_fibs}
-use Rattle.fib_carousel.specs.Bytes.{AreFibs, joined, figs_of, ensemble_figs}
+use Rattle.fib_carousel.specs.Bytes.{AreFibs, with_entry_first, figs_of, ensemble_figs}
 use Rattle.fib_carousel.proofs.Sharing.{same_head_is}
 use Rattle.fib_reader.specs.Raw.{Raw, raw_of, raw_entry, ensemble_in}
 use Rattle.fib_reader.specs.Laws.{EnsembleIsHeard}
@@ -92,7 +92,7 @@ raw_is m =
 abbrev under : Head → List Entry → Written
 under head es = record { head = head; entries = es }
 
--- each entry of the FIG is sent, whichever FIG of its frame it is
+-- each entry of the FIG is sent, wherever the FIG is in its frame
 abbrev FigIsSent : Bool → Configuration → Configuration → Written → Type 0
 FigIsSent on c n w = (first : Bool) → AllByRecursion (IsSentItem on c n) (fig_items first (fig_of w))
 
@@ -110,7 +110,7 @@ joined_by on c n m f fs true e sent one rest =
     (moved one, rest)
 joined_by on c n m f fs false e sent one rest = ((λ first. (item_sent on c n m first sent, tt)), (one, rest))
 
-joined_sent : (on : Bool) (c n : Configuration) (m : Marked) (fs : List Written) → IsSentOf on c n m → AllByRecursion (FigIsSent on c n) fs → AllByRecursion (FigIsSent on c n) (joined m fs)
+joined_sent : (on : Bool) (c n : Configuration) (m : Marked) (fs : List Written) → IsSentOf on c n m → AllByRecursion (FigIsSent on c n) fs → AllByRecursion (FigIsSent on c n) (with_entry_first m fs)
 joined_sent on c n m [] sent all = ((λ first. (item_sent on c n m first sent, tt)), tt)
 joined_sent on c n m (f ∷ fs) sent all = joined_by on c n m f fs (same_head (head_of m) f.head) refl sent all.0 all.1
 
@@ -124,7 +124,7 @@ items_sent on c n (w ∷ ws) first all = all_append (IsSentItem on c n) (fig_ite
 
 -- ---- a frame
 
--- FIG 0/0, where it is sent
+-- FIG 0/0, if it is sent
 abbrev pub IsHeadOf : Option EnsembleInformation → List Item → Type 0
 IsHeadOf None heads = heads ≡ []
 IsHeadOf (Some e) heads = (h : Item) × (heads ≡ h ∷ []) × (is_ensemble h ≡ true) × (said_ensemble h ≡ e)
@@ -157,7 +157,7 @@ fibs_later one r on c n mode es (k ∷ ks) place frame are sent =
     (subst (λ (fib : Fib). AllByRecursion (IsSentItem on c n) (fib_items false fib)) (sym read) (items_sent on c n (figs_of (fib_entries mode k es)) false (figs_sent on c n (fib_entries mode k es) sent.0)))
     (fibs_later one r on c n mode es ks (place + 1) frame rest sent.1)
 
--- what is sent
+-- the entries that are sent
 
 each_from : {T : Type 0} (P : T → Type 0) (xs : List T) → ((x : T) → In x xs → P x) → AllByRecursion P xs
 each_from P [] f = tt
@@ -202,14 +202,14 @@ frame_said one laws r plan u a =
     let es : List Marked = sent_entries plan u in
     let o : Option EnsembleInformation = ensemble_sent plan u in
     let frame : List ℕ = shown_bytes plan u in
-    let ns : List ℕ = later_fibs mode u.turn in
-    let first : List Marked = fib_entries mode (first_fib mode u.turn) es in
-    let are = (laws.pages.valid mode o u.turn es (pageable laws.pages plan u a)).0 in
+    let ns : List ℕ = later_fibs mode u.page_index in
+    let first : List Marked = fib_entries mode (first_fib mode u.page_index) es in
+    let are = (laws.pages.valid mode o u.page_index es (pageable laws.pages plan u a)).0 in
     let read : r.read (fib_at frame 0) ≡ Some (map fig_of (ensemble_figs o ++ figs_of first)) = is_read one r (fib_at frame 0) (map fig_of (ensemble_figs o ++ figs_of first)) are.0.fib in
     let head = head_items laws.ensemble o (sent_within plan u a) (figs_of first) in
     let later : List Item = fibs_items false (map r.read (fibs_from (length ns) 1 frame)) in
     let fibs : read_frame r mode frame ≡ r.read (fib_at frame 0) ∷ map r.read (fibs_from (length ns) 1 frame) =
-    ap (map r.read) (first_of_fibs mode frame) ∙ ap (λ k. r.read (fib_at frame 0) ∷ map r.read (fibs_from k 1 frame)) (later_count mode u.turn) in
+    ap (map r.read) (first_of_fibs mode frame) ∙ ap (λ k. r.read (fib_at frame 0) ∷ map r.read (fibs_from k 1 frame)) (later_count mode u.page_index) in
     record {
       heads = head.0;
       members = figs_items head.1 (map fig_of (figs_of first)) ++ later;
@@ -217,6 +217,6 @@ frame_said one laws r plan u a =
           ∙ append_assoc head.0 (figs_items head.1 (map fig_of (figs_of first))) later;
       header = head.3;
       sent = all_append (IsSentItem on u.current u.next) (figs_items head.1 (map fig_of (figs_of first))) later
-          (items_sent on u.current u.next (figs_of first) head.1 (figs_sent on u.current u.next first (fib_sent plan u (first_fib mode u.turn))))
+          (items_sent on u.current u.next (figs_of first) head.1 (figs_sent on u.current u.next first (fib_sent plan u (first_fib mode u.page_index))))
           (fibs_later one r on u.current u.next mode es ns 1 frame are.1 (fibs_sent plan u ns));
     }

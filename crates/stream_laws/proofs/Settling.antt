@@ -9,9 +9,9 @@ use Rattle.fib_codec.specs.Modes.{count_step}
 use Rattle.fib_reader.specs.Raw.{Raw, raw_entry}
 use Rattle.fib_reader.specs.Listening.{Pictured, Listening, identifier_of, hear_entry, at_ensemble, is_made}
 use Rattle.stream_check.specs.declared.finding.Fault.TheVariants as faults
-use Rattle.stream_check.specs.declared.heard_table.Standing.TheVariants as standings
+use Rattle.stream_check.specs.declared.heard_table.Lookup.TheVariants as standings
 use Rattle.stream_check.specs.Frames.{Reading}
-use Rattle.stream_check.specs.Standing.{agree, standing_to, standing, standing_in}
+use Rattle.stream_check.specs.Lookup.{agree, lookup_among, lookup, lookup_in}
 use Rattle.stream_check.specs.History.{Item, Moment, Said, said, frame_items, is_ensemble, ensemble_of as said_ensemble, frames_ended, listening, listener_after, settles_at, is_swap, is_cut_off}
 use Rattle.stream_check.specs.Rules.{Known as Knowledge, known_of, name_of, is_absent, is_settled, ensemble_findings, member_findings, has_no_room, findings_at}
 use Rattle.stream_check.specs.Stream.{findings_at_items}
@@ -40,7 +40,7 @@ use Rattle.stream_laws.proofs.AgreeingFrames.{is_sent, not_sent}
 use Rattle.stream_laws.proofs.Sorting.{AreFreeOf, IsNarrow, IsSpared, free_both, free_either, head_free, member_free}
 use Rattle.stream_laws.proofs.Ages.{FrameLaws}
 
--- ---- an entry that is known is not absent
+-- ---- a known entry is not absent
 
 in_chosen : (b : Bool) (x y : Raw) (rest : List Raw) → In x rest → In x (cond b (y ∷ rest) rest)
 in_chosen true x y rest h = inr h
@@ -65,22 +65,22 @@ not_none (y ∷ ys) x (inr more) e = elim (identifier_of y == identifier_of x) a
   | false ↦ λ f. not_none ys x more f
 ] e
 
-present_by : (raw : Raw) (part : List Raw) → In raw part → (found : Option Raw) → entry_at identifier_of (identifier_of raw) part ≡ found → is_absent (standing_to raw (length part) found) ≡ false
+present_by : (raw : Raw) (part : List Raw) → In raw part → (found : Option Raw) → entry_at identifier_of (identifier_of raw) part ≡ found → is_absent (lookup_among raw (length part) found) ≡ false
 present_by raw part h None e = absurd (not_none part raw h e)
 present_by raw part h (Some k) e = elim (agree k raw) as (λ b. is_absent (cond b standings.Same standings.Other) ≡ false) [ true ↦ refl | false ↦ refl ]
 
-present : (full : List Raw) (C : Raw → Type 0) (raw : Raw) (part : List Raw) → In raw full → IsPart full C part → C raw → is_absent (standing raw part) ≡ false
+present : (full : List Raw) (C : Raw → Type 0) (raw : Raw) (part : List Raw) → In raw full → IsPart full C part → C raw → is_absent (lookup raw part) ≡ false
 present full C raw part inside h c =
     let there : In raw part = subst (λ (xs : List Raw). In raw xs) (sym h.is) (in_known h.known full raw inside (h.has raw inside c)) in
     present_by raw part there (entry_at identifier_of (identifier_of raw) part) refl
 
-pub present_in : (full : Pictured) (C : Raw → Type 0) (raw : Raw) (p : Pictured) → IsOf raw full → IsPartial full C p → C raw → is_absent (standing_in raw p) ≡ false
+pub present_in : (full : Pictured) (C : Raw → Type 0) (raw : Raw) (p : Pictured) → IsOf raw full → IsPartial full C p → C raw → is_absent (lookup_in raw p) ≡ false
 present_in full C raw p (inl (ext, inside)) h c =
-    ap is_absent (ap (λ k. standing raw (cond (k == 1) p.subs (cond (k == 2) p.services p.packets))) ext) ∙ present full.subs C raw p.subs inside h.subs c
+    ap is_absent (ap (λ k. lookup raw (cond (k == 1) p.subs (cond (k == 2) p.services p.packets))) ext) ∙ present full.subs C raw p.subs inside h.subs c
 present_in full C raw p (inr (inl (ext, inside))) h c =
-    ap is_absent (ap (λ k. standing raw (cond (k == 1) p.subs (cond (k == 2) p.services p.packets))) ext) ∙ present full.services C raw p.services inside h.services c
+    ap is_absent (ap (λ k. lookup raw (cond (k == 1) p.subs (cond (k == 2) p.services p.packets))) ext) ∙ present full.services C raw p.services inside h.services c
 present_in full C raw p (inr (inr (ext, inside))) h c =
-    ap is_absent (ap (λ k. standing raw (cond (k == 1) p.subs (cond (k == 2) p.services p.packets))) ext) ∙ present full.packets C raw p.packets inside h.packets c
+    ap is_absent (ap (λ k. lookup raw (cond (k == 1) p.subs (cond (k == 2) p.services p.packets))) ext) ∙ present full.packets C raw p.packets inside h.packets c
 
 -- ---- the entries of a frame
 
@@ -125,12 +125,12 @@ members_settled step period on c n is_c is_n C awaited (i ∷ items) past l is h
     let knows = tuned_weaker on c n (Or C (SaidIn false (s.m ∷ []))) C (Or Nothing (SaidIn true (s.m ∷ []))) Nothing awaited hears.after (λ x had. inl had) (λ x no_entry. absurd no_entry) hears.knows in
     let rest = members_settled step period on c n is_c is_n C awaited items (Said i ∷ past) hears.after later knows all.1
     (λ settled. whole (ap (λ t. nat_le t (frames_ended past)) (member_settles period past i e) ∙ settled)) in
-    let known : IsSettledAt period past → i.next ≡ false → is_absent (standing_in i.raw (listener_after past).current) ≡ false = λ settled current.
+    let known : IsSettledAt period past → i.next ≡ false → is_absent (lookup_in i.raw (listener_after past).current) ≡ false = λ settled current.
     elim s.sent [
       | inl sent ↦ (
           let inside : IsOf i.raw (whole_of c) = subst (λ (x : Raw). IsOf x (whole_of c)) (sym s.raw) (entry_is_of c s.m.entry sent.1) in
           let had : C i.raw = subst C (sym s.raw) (whole settled s.m.entry sent.1) in
-          ap (λ (x : Listening). is_absent (standing_in i.raw x.current)) same ∙ present_in (whole_of c) C i.raw l.current inside h.current had
+          ap (λ (x : Listening). is_absent (lookup_in i.raw x.current)) same ∙ present_in (whole_of c) C i.raw l.current inside h.current had
           )
       | inr sent ↦ absurd (false≢true (sym current ∙ s.next ∙ sent.1))
     ] in
@@ -140,12 +140,12 @@ members_settled step period on c n is_c is_n C awaited (i ∷ items) past l is h
     (member_free is_of_appearance narrow k i.next i.raw (λ current. spared known current (is_settled k) refl)))
     rest)
   where
-    spared : (IsSettledAt period past → i.next ≡ false → is_absent (standing_in i.raw (listener_after past).current) ≡ false) → i.next ≡ false → (b : Bool) → is_settled (known_of step period past) ≡ b
-        → IsSpared is_of_appearance (is_absent (standing_in i.raw (listener_after past).current) && is_settled (known_of step period past)) (faults.Appeared (name_of i.raw))
+    spared : (IsSettledAt period past → i.next ≡ false → is_absent (lookup_in i.raw (listener_after past).current) ≡ false) → i.next ≡ false → (b : Bool) → is_settled (known_of step period past) ≡ b
+        → IsSpared is_of_appearance (is_absent (lookup_in i.raw (listener_after past).current) && is_settled (known_of step period past)) (faults.Appeared (name_of i.raw))
     spared known current true settled = inl (ap (λ t. t && is_settled (known_of step period past)) (known settled current))
-    spared known current false settled = inl (and_false (is_absent (standing_in i.raw (listener_after past).current)) _ settled)
+    spared known current false settled = inl (and_false (is_absent (lookup_in i.raw (listener_after past).current)) _ settled)
 
--- what a listener knows in the frame at hand: once settled, all
+-- what a listener knows in the current frame: if settled, all entries
 pub record Enters (period : ℕ) (r : Reading) (p : Program) (s : State) (past : List Moment) (C N : Raw → Type 0) : Type 0 where
   pub heard : Listening
   pub is : listening past ≡ Some heard
@@ -201,7 +201,7 @@ frame_settled laws r period p ts c s holds past C N en =
           (λ settled. en.whole (ap (λ t. nat_le t (frames_ended (said frame past))) settles ∙ ap (nat_le (settles_at period past)) (ended_same frame past) ∙ settled)))
     ]
 
--- ---- when the current configuration is settled, a frame later
+-- ---- when the current configuration is settled, one frame later
 
 pub headed_settles : FrameLaws → (r : Reading) (period : ℕ) (p : Program) (ts : List Known) → IsCode p ts → (s : State) → Holds p ts s → (past : List Moment) → (shown p s).count % count_step p.plan.mode ≡ 0 → (b : Bool)
     → ((h : Item) → is_ensemble h ≡ true → said_ensemble h ≡ ensemble_of p.plan (shown p s) → is_swap past h ≡ b)

@@ -12,19 +12,19 @@ use Rattle.mux_types.specs.declared.parts.Packet.{Packet}
 use Rattle.mux_types.specs.Sameness.{is_same_list, is_same_sub, is_same_service, is_same_packet}
 use Rattle.mux_config.specs.Tables.{entry_at}
 use Rattle.mux_config.specs.Configuration.{Configuration, IsConfiguration, IsAscending, IsPlaced, IsService, IsAddressed, sub_key, service_key, packet_key}
-use Rattle.mux_config.specs.Change.{ChangeTells, IsChange, change_of, bits_of, has_same_subs, has_same_services}
+use Rattle.mux_config.specs.Change.{ChangeIsUnique, IsChange, change_of, bits_of, has_same_subs, has_same_services}
 use Rattle.mux_config.proofs.Same.{list_same, sub_same, service_same, packet_same}
 use Rattle.mux_config.proofs.FactSets.{same_members}
 use Rattle.mux_entries.specs.declared.entry.Entry.{Entry}
 use Rattle.mux_entries.specs.Facts.{sub_entry, service_entry, packet_entry, sub_entries, service_entries, HaveSameMembers}
 use Rattle.fib_codec.specs.Ranges.{IsWithin}
-use Rattle.fib_codec.specs.Spelling.{SpellingTells, ext_of}
+use Rattle.fib_codec.specs.Spelling.{SpellingIdentifies, ext_of}
 use Rattle.fib_reader.specs.Raw.{Raw, raw_entry}
 use Rattle.fib_reader.specs.Listening.{Pictured, identifier_of}
 use Rattle.fib_reader.specs.Picture.{IsPictured, IsSubOf, Shows}
 use Rattle.fib_reader.proofs.FromEntries.{sub_within, service_within, packet_within, sub_identified, service_identified, packet_identified}
 use Rattle.fib_reader.proofs.Shown.{ShowsEach, shows_each}
-use Rattle.stream_check.specs.Standing.{agree}
+use Rattle.stream_check.specs.Lookup.{agree}
 use Rattle.stream_check.specs.Rules.{are_same, change_between}
 use Rattle.stream_check.proofs.Agreeing.{agree_self, agree_same}
 use Rattle.stream_laws.specs.Keeping.{entry_like}
@@ -32,7 +32,7 @@ use Rattle.stream_laws.proofs.Clean.{all_left}
 use Rattle.stream_laws.proofs.Bytes.{map_contains}
 use Rattle.stream_laws.proofs.PictureKinds.{HasKinds}
 
--- ---- each kind of its own
+-- ---- the entries of each kind
 
 -- a sub-channel of a configuration has one of 64 identifiers
 abbrev IsSmall : Raw → Type 0
@@ -159,8 +159,8 @@ bools_equal true false f g = sym (f refl)
 bools_equal false true f g = g refl
 bools_equal false false f g = refl
 
--- what its entries say is told by their bytes
-entries_told : {T : Type 0} (f : T → Entry) (P : T → Type 0) (xs ys : List T) → SpellingTells → ((x : T) → P x → IsWithin (f x)) → AllByRecursion P xs → AllByRecursion P ys
+-- the bytes of entries determine their contents
+entries_told : {T : Type 0} (f : T → Entry) (P : T → Type 0) (xs ys : List T) → SpellingIdentifies → ((x : T) → P x → IsWithin (f x)) → AllByRecursion P xs → AllByRecursion P ys
     → map (λ x. raw_entry (f x)) xs ≡ map (λ x. raw_entry (f x)) ys → map f xs ≡ map f ys
 entries_told f P [] [] tells within all other e = refl
 entries_told f P [] (y ∷ ys) tells within all other e = absurd cc
@@ -192,7 +192,7 @@ flipped : (b : Bool) (n : ℕ) → cond b 0 n ≡ cond (not b) n 0
 flipped true n = refl
 flipped false n = refl
 
-subs_same : SpellingTells → ChangeTells → (p q : Pictured) (c d : Configuration) → IsConfiguration c → IsConfiguration d → ShowsEach p c → ShowsEach q d → are_same p.subs q.subs ≡ has_same_subs c d
+subs_same : SpellingIdentifies → ChangeIsUnique → (p q : Pictured) (c d : Configuration) → IsConfiguration c → IsConfiguration d → ShowsEach p c → ShowsEach q d → are_same p.subs q.subs ≡ has_same_subs c d
 subs_same tells change p q c d is_c is_d h k =
     let right : IsChange c d (change_of c d) = (change c d (change_of c d) is_c is_d).1 refl in
     bools_equal (are_same p.subs q.subs) (has_same_subs c d)
@@ -200,7 +200,7 @@ subs_same tells change p q c d is_c is_d h k =
     (entries_told sub_entry IsPlaced c.subs d.subs tells sub_within is_c.subs_placed is_d.subs_placed (h.subs ∙ same_lists p.subs q.subs e ∙ sym k.subs)))
     (λ e. same_equal p.subs q.subs (sym h.subs ∙ ap (map (λ s. raw_entry (sub_entry s))) (list_same is_same_sub sub_same c.subs d.subs e) ∙ k.subs))
 
-services_same : SpellingTells → ChangeTells → (p q : Pictured) (c d : Configuration) → IsConfiguration c → IsConfiguration d → ShowsEach p c → ShowsEach q d
+services_same : SpellingIdentifies → ChangeIsUnique → (p q : Pictured) (c d : Configuration) → IsConfiguration c → IsConfiguration d → ShowsEach p c → ShowsEach q d
     → (are_same p.services q.services && are_same p.packets q.packets) ≡ has_same_services c d
 services_same tells change p q c d is_c is_d h k =
     let right : IsChange c d (change_of c d) = (change c d (change_of c d) is_c is_d).1 refl in
@@ -216,7 +216,7 @@ services_same tells change p q c d is_c is_d h k =
     (same_equal p.services q.services (sym h.services ∙ ap (map (λ s. raw_entry (service_entry s))) (list_same is_same_service service_same c.services d.services (first_true (is_same_list is_same_service c.services d.services) _ e)) ∙ k.services))
     (same_equal p.packets q.packets (sym h.packets ∙ ap (map (λ s. raw_entry (packet_entry s))) (list_same is_same_packet packet_same c.packets d.packets (second_true (is_same_list is_same_service c.services d.services) _ e)) ∙ k.packets)))
 
-pub flags_of_change : SpellingTells → ChangeTells → (p q : Pictured) (c d : Configuration) → IsConfiguration c → IsConfiguration d → ShowsEach p c → ShowsEach q d → change_between p q ≡ bits_of (change_of c d)
+pub flags_of_change : SpellingIdentifies → ChangeIsUnique → (p q : Pictured) (c d : Configuration) → IsConfiguration c → IsConfiguration d → ShowsEach p c → ShowsEach q d → change_between p q ≡ bits_of (change_of c d)
 flags_of_change tells change p q c d is_c is_d h k =
     ap (λ b. cond b 0 1 + cond (are_same p.services q.services && are_same p.packets q.packets) 0 2) (subs_same tells change p q c d is_c is_d h k)
     ∙ ap (λ b. cond (has_same_subs c d) 0 1 + cond b 0 2) (services_same tells change p q c d is_c is_d h k)

@@ -1,4 +1,4 @@
--- In the frames of a run no entry of the current configuration stays away.
+-- In the frames of a run no entry of the current configuration is silent.
 use Rattle.std.proofs.Common.{◌≡◌, ℕ, ◌+◌, ◌*◌, ◌≤◌, Bool, true, false, cond, List, [], ◌∷◌, ◌++◌, Contains, refl, sym, ap, subst, arith, inl, inr}
 use Rattle.std.specs.Prelude.{map}
 use Rattle.std.specs.List.{filter}
@@ -33,7 +33,7 @@ use Rattle.stream_laws.proofs.Sorting.{AreFreeOf, IsNarrow, runs_free}
 use Rattle.stream_laws.proofs.Flagging.{in_first, in_second, said_by, items_free}
 use Rattle.stream_laws.proofs.Ages.{comes_in, FrameLaws, IsAging, before_of, ages}
 
--- ---- the entries of a picture are of the configuration
+-- ---- the entries of a picture are those of the configuration
 
 in_chosen : (b : Bool) (x y : Raw) (ys more : List Raw) → (In x more → In x ys) → In x (cond b (y ∷ more) more) → In x (y ∷ ys)
 in_chosen true x y ys more f (inl same) = inl same
@@ -66,7 +66,7 @@ none_silent sort test [] h = tt
 none_silent sort test (r ∷ rs) h =
     subst (λ (b : Bool). AreFreeOf sort (map silence (cond b (r ∷ filter test rs) (filter test rs)))) (sym (h r (inl refl))) (none_silent sort test rs (λ x more. h x (inr more)))
 
--- at the end of a frame, by the ages after it
+-- at the end of a frame, given the ages after it
 pub silent_free : (sort : Fault → Bool) → FrameLaws → (r : Reading) (period : ℕ) (p : Program) (ts : List Known) → IsCode p ts → (s : State) → Holds p ts s → (past : List Moment) → IsAging p.plan past s → 2 * p.plan.period ≤ period + 1
     → AreFreeOf sort (silent_findings period (said (frame_items (read_frame r p.plan.mode (frame_bytes p s))) past))
 silent_free sort laws r period p ts c s holds past aging long =
@@ -83,7 +83,7 @@ silent_free sort laws r period p ts c s holds past aging long =
     let m : Marked = marked false it.0 in
     let mine : Contains (facts_of t.current false) m = in_contains (facts_of t.current false) m (in_fact false (entries_of t.current) it.0 it.2) in
     let there = laws.heard.pages.each plan.mode g.ms m (g.has m mine) in
-    let way = comes_in (rounds plan.mode g.ms) g.turn there.0 g.below there.1 in
+    let way = comes_in (rounds plan.mode g.ms) g.page_index there.0 g.below there.1 in
     let aged : frames_ended later + 1 + way.0 ≤ last_heard (key_of (raw_entry it.0)) later + g.bound = g.aged m mine there.0 there.1 there.2 way.0 way.1 in
     let bound = g.to in
     let keys : last_heard (key_of (raw_entry it.0)) later ≡ last_heard (key_of x) later = ap (λ (y : Raw). last_heard (key_of y) later) it.1 in
@@ -115,7 +115,7 @@ ages_contact p past s d closed (inr (b, g)) =
       record { heard = b.heard; is = b.is; knows = b.knows; fresh = b.fresh; pending = b.pending; early = b.early; flags = b.flags },
       record {
         ms = g.ms;
-        turn = g.turn;
+        page_index = g.page_index;
         bound = g.bound;
         goes = record { sent = g.goes.sent; turn_is = g.goes.turn_is };
         few = g.few;

@@ -1,4 +1,4 @@
--- Which findings are free of a sort of faults, by what is known.
+-- When findings are free of a sort of faults, given what is known.
 use Rattle.std.proofs.Common.{◌≡◌, ℕ, ◌%◌, ◌==◌, ◌&&◌, Bool, true, false, cond, not, nat_lt, List, [], ◌∷◌, ◌++◌, length, Option, Some, None, refl, sym, ap, subst, inl, inr, ◌⊎◌}
 use Rattle.std.specs.Prelude.{map, unwrap_or}
 use Rattle.std.specs.List.{AllByRecursion}
@@ -12,10 +12,10 @@ use Rattle.stream_check.specs.declared.finding.Fault.{Fault}
 use Rattle.stream_check.specs.declared.finding.Fault.TheVariants as faults
 use Rattle.stream_check.specs.declared.finding.What.{What}
 use Rattle.stream_check.specs.declared.finding.Finding.{Finding}
-use Rattle.stream_check.specs.declared.telling.FrameAt.{FrameAt}
-use Rattle.stream_check.specs.Telling.{when, as_list, in_frame}
+use Rattle.stream_check.specs.declared.reporting.FrameAt.{FrameAt}
+use Rattle.stream_check.specs.Reporting.{when, as_list, in_frame}
 use Rattle.stream_check.specs.Frames.{Fib, Reading, damaged_in, lacks_opening}
-use Rattle.stream_check.specs.Standing.{standing_in}
+use Rattle.stream_check.specs.Lookup.{lookup_in}
 use Rattle.stream_check.specs.History.{Item, Moment, Said, said, frame_items, due, ensemble_of as said_ensemble}
 use Rattle.stream_check.specs.Rules.{Known as Knowledge, known_of, name_of, partner, overlap_or, overlap, ends_past, past_end, place_faults, is_of_other_ensemble, has_other_count, is_placed, makes_swap, notice_faults, unit_faults, swap_findings, swap_or_another, announces_another, occurrence_of, announces_first, announcement, can_fall_at, has_flags, ensemble_findings, is_settled, current_findings, next_findings, member_findings, is_other_one, is_absent, has_no_room, findings_at, silence, silent_findings, awaited_low, changes}
 use Rattle.stream_check.specs.Stream.{count_due, first_line, frame_findings, findings_at_items, runs_full, frame_at, findings_in, after_frame as after_read, findings_of}
@@ -40,7 +40,7 @@ use Rattle.stream_laws.proofs.AgreeingFrames.{IsBefore, agrees_by}
 abbrev pub AreFreeOf : (Fault → Bool) → List What → Type 0
 AreFreeOf sort ws = AllByRecursion (IsFreeOf sort) ws
 
--- the sort has none of the faults that other laws are about
+-- the sort has none of the faults of other laws
 pub record IsNarrow (sort : Fault → Bool) : Type 0 where
   pub short : (fibs : ℕ) → sort (faults.ShortFrame fibs) ≡ false
   pub damaged : (fibs : ℕ) → sort (faults.Damaged fibs) ≡ false
@@ -117,7 +117,7 @@ unit_free : (sort : Fault → Bool) → IsNarrow sort → (k : Knowledge) → Ar
 unit_free sort n k =
     free_both sort (as_list (overlap k.listener.next.subs)) (as_list (past_end k.listener.next.subs)) (listed sort (overlap k.listener.next.subs) (overlap_other sort n k.listener.next.subs)) (listed sort (past_end k.listener.next.subs) (past_other sort n k.listener.next.subs))
 
--- what is heard of the notice of a swap, and its flags
+-- the faults of a swap, for what was heard of its notice and for its flags
 abbrev pub IsSwapSpared : (Fault → Bool) → Knowledge → Type 0
 IsSwapSpared sort k =
     IsSpared sort (not k.is_cut_off && nat_lt k.heard 3) (faults.NextHeard k.heard)
@@ -150,19 +150,19 @@ head_free sort n k first e h =
 -- ---- an entry
 
 pub member_free : (sort : Fault → Bool) → IsNarrow sort → (k : Knowledge) (next : Bool) (raw : Raw)
-    → (next ≡ false → IsSpared sort (is_absent (standing_in raw k.listener.current) && is_settled k) (faults.Appeared (name_of raw)))
+    → (next ≡ false → IsSpared sort (is_absent (lookup_in raw k.listener.current) && is_settled k) (faults.Appeared (name_of raw)))
     → AreFreeOf sort (member_findings k next raw)
 member_free sort n k next raw h = free_either sort k.listener.tuned _ [] (by next h) tt
   where
-    by : (b : Bool) → (b ≡ false → IsSpared sort (is_absent (standing_in raw k.listener.current) && is_settled k) (faults.Appeared (name_of raw))) → AreFreeOf sort (cond b (next_findings k raw) (current_findings k raw))
+    by : (b : Bool) → (b ≡ false → IsSpared sort (is_absent (lookup_in raw k.listener.current) && is_settled k) (faults.Appeared (name_of raw))) → AreFreeOf sort (cond b (next_findings k raw) (current_findings k raw))
     by true g =
         free_both sort (when (not k.has_begun && k.has_ensemble) faults.NextUnannounced) _ (when_other sort _ faults.NextUnannounced n.unannounced)
-        (when_other sort (is_other_one (standing_in raw k.listener.next)) (faults.NextChanged (name_of raw)) (n.next_changed (name_of raw)))
+        (when_other sort (is_other_one (lookup_in raw k.listener.next)) (faults.NextChanged (name_of raw)) (n.next_changed (name_of raw)))
     by false g =
-        free_both sort (when (is_other_one (standing_in raw k.listener.current)) (faults.Changed (name_of raw))) _ (when_other sort _ (faults.Changed (name_of raw)) (n.changed (name_of raw)))
-        (when_spared sort (is_absent (standing_in raw k.listener.current) && is_settled k) (faults.Appeared (name_of raw)) (g refl))
+        free_both sort (when (is_other_one (lookup_in raw k.listener.current)) (faults.Changed (name_of raw))) _ (when_other sort _ (faults.Changed (name_of raw)) (n.changed (name_of raw)))
+        (when_spared sort (is_absent (lookup_in raw k.listener.current) && is_settled k) (faults.Appeared (name_of raw)) (g refl))
 
--- entries, none of which is a FIG 0/0, of a sort without entries that appear
+-- entries other than FIG 0/0, for a sort without appearing entries
 pub members_free : (sort : Fault → Bool) → IsNarrow sort → ((name : EntryName) → sort (faults.Appeared name) ≡ false) → (step period : ℕ) (items : List Item) (past : List Moment) → HasNone items
     → AreFreeOf sort (findings_at_items step period past items)
 members_free sort n appeared step period [] past none = tt
@@ -181,13 +181,13 @@ silences_free sort silent (r ∷ rs) = (silent (name_of r), silences_free sort s
 
 -- ---- along a run
 
--- what is known before a frame, and what is found in it
+-- what is known before a frame, and the findings in it
 pub record IsFrameFree (sort : Fault → Bool) (period : ℕ) (p : Program) (Inv : List Moment → State → Type 0) (s : State) (past : List Moment) (frame : List Fib) : Type 0 where
   pub items : AreFreeOf sort (findings_at_items (count_step p.plan.mode) period past (frame_items frame))
   pub last : AreFreeOf sort (silent_findings period (said (frame_items frame) past))
   pub after : Inv (after_read (count_step p.plan.mode) past frame) (after_frame p s)
 
--- what is known of each frame
+-- the invariant is kept by each event
 pub record IsKeptUp (sort : Fault → Bool) (r : Reading) (period : ℕ) (p : Program) (ts : List Known) (Inv : List Moment → State → Type 0) : Type 0 where
   pub contact : (past : List Moment) (s : State) (d : ℕ) (closed : Bool) → Holds p ts s → Inv past s → Inv past (happens p s (Contact d closed))
   pub frame : (past : List Moment) (s : State) → Holds p ts s → IsBefore p.plan past s → Inv past s → IsFrameFree sort period p Inv s past (read_frame r p.plan.mode (frame_bytes p s))

@@ -1,4 +1,4 @@
--- What a swap without a fault says of the notice before it.
+-- What a swap without a fault implies about the notice before it.
 use Rattle.std.proofs.Common.{◌≡◌, ℕ, zero, suc, ◌+◌, ◌≤◌, ◌%◌, ◌==◌, ◌&&◌, Bool, true, false, cond, not, nat_lt, List, [], ◌∷◌, ◌++◌, drop, Contains, Option, Some, None, refl, sym, ap, ◌∙◌, arith, inl, inr}
 use Rattle.std.specs.Prelude.{map, slice_get, unwrap_or}
 use Rattle.std.specs.List.{AllByRecursion, list_any, concat}
@@ -8,7 +8,7 @@ use Rattle.mux_types.proofs.Elements.{contains_first, contains_later, contains_n
 use Rattle.mux_entries.specs.Entries.{EnsembleInformation}
 use Rattle.fib_reader.specs.Listening.{Pictured, is_made}
 use Rattle.stream_check.specs.declared.finding.Fault.TheVariants as faults
-use Rattle.stream_check.specs.Telling.{when}
+use Rattle.stream_check.specs.Reporting.{when}
 use Rattle.stream_check.specs.Cutting.{IsCutInThree}
 use Rattle.stream_check.specs.Parts.{IsTheMost}
 use Rattle.stream_check.specs.History.{Item, Moment, Said, is_ensemble, ensemble_of, is_flagged, is_swap, listener_after, times_announced, last_flags, is_cut_off, rows}
@@ -43,7 +43,7 @@ awaited_is : (aw : Option ℕ) (e : EnsembleInformation) (low : ℕ) → is_made
 awaited_is None e low made is = absurd (false≢true made)
 awaited_is (Some a) e low made is = ap Some (sym is)
 
--- what holds of the notice at hand where its swap comes
+-- the notice at the time of its swap
 pub record IsMadeRight (past : List Moment) (count : ℕ) : Type 0 where
   pub awaited : (listener_after past).awaited ≡ Some (count % 250)
   pub times : 3 ≤ times_announced past
@@ -71,7 +71,7 @@ swap_rules most step period past e all whole made =
       flags = eqb-true (last_flags past) (changes k) flags;
     }
 
--- and of its frames
+-- and the frames of that notice
 pub record IsNoticed (past : List Moment) (count : ℕ) : Type 0 where
   pub right : IsMadeRight past count
   pub alone : at_hand past ≡ []
@@ -98,7 +98,7 @@ swap_noticed most step period past i c w sw whole =
       said = (all_said step period past c.2 w.2).rows;
     }
 
--- ---- three places
+-- ---- three frames
 
 pub record IsFlaggedAt {X : Type 0} (g : X → List Item) (n : ℕ) (fs : List X) : Type 0 where
   pub place : ℕ

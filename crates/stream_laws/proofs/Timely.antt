@@ -1,4 +1,4 @@
--- The swaps of a run come after three announcements or more.
+-- The swaps of a run come after at least three announcements.
 use Rattle.std.proofs.Common.{◌≡◌, ◌≢◌, ℕ, ◌+◌, ◌-◌, ◌/◌, ◌<◌, ◌≤◌, ◌%◌, ◌&&◌, Bool, true, false, cond, not, nat_lt, List, [], ◌∷◌, ◌++◌, Option, Some, None, refl, sym, ap, ◌∙◌, subst, arith, inl, inr, le-ltb}
 use Rattle.std.specs.Prelude.{map}
 use Rattle.std.specs.List.{AllByRecursion}
@@ -11,8 +11,8 @@ use Rattle.fib_codec.specs.Modes.{fib_count, count_step}
 use Rattle.fib_reader.specs.Listening.{Listening, is_made}
 use Rattle.stream_check.specs.declared.finding.What.{What}
 use Rattle.stream_check.specs.declared.finding.Finding.{Finding}
-use Rattle.stream_check.specs.declared.telling.FrameAt.{FrameAt}
-use Rattle.stream_check.specs.Telling.{in_frame}
+use Rattle.stream_check.specs.declared.reporting.FrameAt.{FrameAt}
+use Rattle.stream_check.specs.Reporting.{in_frame}
 use Rattle.stream_check.specs.Frames.{Fib, Reading}
 use Rattle.stream_check.specs.History.{Item, Moment, Said, said, frame_items, is_ensemble, ensemble_of as said_ensemble, is_flagged, is_swap, listener_after, due, times_announced, is_cut_off}
 use Rattle.stream_check.specs.Rules.{Known as Knowledge, known_of, at_most, makes_swap, has_flags, ensemble_findings, member_findings, has_no_room, findings_at}
@@ -48,14 +48,14 @@ use Rattle.stream_laws.proofs.AgreeingFrames.{agrees_by, is_sent, not_sent}
 use Rattle.stream_laws.proofs.TimelyFaults.{AreTimely, both, either, last_other, frame_other, items_other, head_timely}
 use Rattle.stream_laws.proofs.Named.{none_of, made_where_due}
 
--- ---- how often it was announced
+-- ---- the number of announcements
 
--- of a notice that was heard from its beginning, as often as its frames so far ask
+-- a notice that was heard from its beginning has been announced as often as its frames so far require
 abbrev IsCounted : Plan → List Moment → Option ℕ → Type 0
 IsCounted plan past left =
     is_cut_off past ≡ false → (k : ℕ) → left ≡ Some k → k < plan.notice → plan.notice / count_step plan.mode ≤ times_announced past + k / count_step plan.mode
 
--- the same in a frame, before FIG 0/0 and after it
+-- the same in a frame, before and after FIG 0/0
 abbrev IsCountedAt : Plan → List Moment → ℕ → Type 0
 IsCountedAt plan past k = plan.notice / count_step plan.mode ≤ times_announced past + k / count_step plan.mode
 
@@ -67,7 +67,7 @@ pub said_cut : (items : List Item) (past : List Moment) → HasNone items → is
 said_cut [] past none = refl
 said_cut (i ∷ is) past none = said_cut is (Said i ∷ past) none.1 ∙ sym (member_cut_off past i none.0)
 
--- a frame fewer: one announcement less is to come where FIG 0/0 was sent
+-- one frame later, one announcement less remains if FIG 0/0 was sent
 with_one : (m : Mode) (w t k : ℕ) → 1 ≤ k → w / count_step m ≤ t + k / count_step m → w / count_step m ≤ (t + 1) + (k - 1) / count_step m
 with_one I w t k some h = omega (arith, some, h)
 with_one II w t k some h = omega (arith, some, h)
@@ -138,7 +138,7 @@ cut_is past i b e sw =
 pub flagged_where : (plan : Plan) (u : State) → Airs plan u → (i : Item) → is_ensemble i ≡ true → said_ensemble i ≡ ensemble_of plan u → on_air plan u ≡ true → is_flagged i ≡ true
 flagged_where plan u a i ens says on = ensemble_flags i ens ∙ ap has_flags says ∙ flags_on plan u a on
 
--- of a frame by its entries
+-- the frame, from its entries
 with_head : (period : ℕ) (plan : Plan) (past : List Moment) (i : Item) (items : List Item) → is_ensemble i ≡ true → HasNone items
     → (makes_swap (known_of (count_step plan.mode) period past) (said_ensemble i) ≡ true → (not (is_cut_off past) && nat_lt (at_most 3 (times_announced past)) 3) ≡ false)
     → AreTimely (findings_at_items (count_step plan.mode) period past (i ∷ items))

@@ -1,4 +1,4 @@
--- What the check of a stream finds besides swaps that come too soon.
+-- The checker's findings other than swaps that come too soon.
 use Rattle.std.proofs.Common.{◌≡◌, ℕ, ◌%◌, ◌==◌, ◌&&◌, Bool, true, false, cond, not, nat_lt, List, [], ◌∷◌, ◌++◌, length, Option, Some, None, refl, sym, ap, subst}
 use Rattle.std.specs.Prelude.{map, unwrap_or}
 use Rattle.std.specs.List.{AllByRecursion}
@@ -9,9 +9,9 @@ use Rattle.fib_reader.specs.Listening.{identifier_of}
 use Rattle.stream_check.specs.declared.finding.Fault.{Fault}
 use Rattle.stream_check.specs.declared.finding.Fault.TheVariants as faults
 use Rattle.stream_check.specs.declared.finding.What.{What}
-use Rattle.stream_check.specs.Telling.{when, as_list}
+use Rattle.stream_check.specs.Reporting.{when, as_list}
 use Rattle.stream_check.specs.Frames.{Fib, damaged_in, lacks_opening}
-use Rattle.stream_check.specs.Standing.{standing_in}
+use Rattle.stream_check.specs.Lookup.{lookup_in}
 use Rattle.stream_check.specs.History.{Item, Moment, Said, ensemble_of as said_ensemble}
 use Rattle.stream_check.specs.Rules.{Known as Knowledge, known_of, name_of, partner, overlap_or, overlap, ends_past, past_end, place_faults, is_of_other_ensemble, has_other_count, is_placed, makes_swap, notice_faults, unit_faults, swap_findings, swap_or_another, announces_another, occurrence_of, announces_first, announcement, ensemble_findings, current_findings, next_findings, member_findings, is_other_one, has_no_room, findings_at, silence, silent_findings, awaited_low, changes}
 use Rattle.stream_check.specs.Stream.{count_due, first_line, frame_findings, findings_at_items, last_findings}
@@ -67,7 +67,7 @@ member_other k next raw =
     either k.listener.tuned _ []
     (either next (next_findings k raw) (current_findings k raw)
     (both (when (not k.has_begun && k.has_ensemble) faults.NextUnannounced) _ (when_other _ faults.NextUnannounced refl) (when_other _ (faults.NextChanged (name_of raw)) refl))
-    (both (when (is_other_one (standing_in raw k.listener.current)) (faults.Changed (name_of raw))) _ (when_other _ (faults.Changed (name_of raw)) refl) (when_other _ (faults.Appeared (name_of raw)) refl)))
+    (both (when (is_other_one (lookup_in raw k.listener.current)) (faults.Changed (name_of raw))) _ (when_other _ (faults.Changed (name_of raw)) refl) (when_other _ (faults.Appeared (name_of raw)) refl)))
     tt
 
 silence_other : (rs : List Raw) → AreTimely (map silence rs)

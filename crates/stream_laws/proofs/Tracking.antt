@@ -13,13 +13,13 @@ use Rattle.stream_laws.proofs.Kept.{first_holds, second_holds, next_kept}
 use Rattle.stream_laws.proofs.Noting.{awaited_member, after_heard, ensemble_made, ensemble_flags, begun_is, times_are, flags_are, IsPlainEnsemble, plain_ensemble, some_flags, occurrence_is, not_another, nothing_awaited}
 use Rattle.stream_laws.proofs.Rows.{at_hand, notice_rows, HasNone, all_more, none_at_hand}
 
--- entries as they are in FIBs: FIG 0/0 to 0/3, and a FIG 0/0 in the first FIG is the first of its frame
+-- the form of entries in FIBs: FIG 0/0 to 0/3, and a FIG 0/0 in the first FIG is the first entry of its frame
 abbrev pub IsFormed : List Moment → Type 0
 IsFormed [] = Unit {0}
 IsFormed (Said i ∷ past) = (i.raw.ext < 4) × ((i.first && is_ensemble i) ≡ true → at_hand past ≡ []) × IsFormed past
 IsFormed (Ended count ∷ past) = IsFormed past
 
--- the FIG 0/0 among these announce this
+-- if the entry is a FIG 0/0, it announces this
 abbrev pub Announces : ℕ → ℕ → Item → Type 0
 Announces flags low i = is_ensemble i ≡ true → ((ensemble_of i).change ≡ flags) × ((ensemble_of i).occurrence ≡ Some low)
 
@@ -42,7 +42,7 @@ pub record IsAnnouncing (past : List Moment) (low : ℕ) : Type 0 where
   pub rows : AllByRecursion (AllAnnounce (last_flags past) low) (notice_rows past)
   pub hand : AllAnnounce (last_flags past) low (at_hand past)
 
--- a notice has not begun, or began by an entry and awaits its first FIG 0/0, or each FIG 0/0 of it announces the same
+-- a notice has not begun, or began with an entry and awaits its first FIG 0/0, or all its FIG 0/0 announce the same
 pub record IsTracked (past : List Moment) : Type 0 where
   pub before : has_begun past ≡ false → HasNotBegun past
   pub alone : has_begun past ≡ true → (listener_after past).awaited ≡ None → HasBegunAlone past
@@ -124,7 +124,7 @@ rows_announce : (flags low : ℕ) (rs : List (List Item)) → AllByRecursion Has
 rows_announce flags low [] none = tt
 rows_announce flags low (r ∷ rs) none = (none_announce flags low r none.0, rows_announce flags low rs none.1)
 
--- those before it, where it makes no swap
+-- those before it, if it makes no swap
 rows_before : (step period : ℕ) (past : List Moment) (i : Item) → is_ensemble i ≡ true → is_swap past i ≡ false → has_flags (ensemble_of i) ≡ true → IsPlainEnsemble (known_of step period past) i.first (ensemble_of i) → IsTracked past
     → (b : Bool) → has_begun past ≡ b → (aw : Option ℕ) → (listener_after past).awaited ≡ aw → AllByRecursion (AllAnnounce (ensemble_of i).change (get_or i.raw.bytes 4 0)) (notice_rows past)
 rows_before step period past i e sw f rules t false was aw is = subst (AllByRecursion (AllAnnounce (ensemble_of i).change (get_or i.raw.bytes 4 0))) (sym (t.before was).rows) tt
@@ -140,7 +140,7 @@ rows_before step period past i e sw f rules t true was (Some low) is =
 swap_rows : (past : List Moment) (i : Item) (b : Bool) → is_swap past i ≡ b → notice_rows (Said i ∷ past) ≡ cond b [] (notice_rows past)
 swap_rows past i b sw = ap (λ t. cond t [] (notice_rows past)) sw
 
--- flagged
+-- with flags
 flagged_tracked : (step period : ℕ) (past : List Moment) (i : Item) (b : Bool) → IsClean step period (Said i ∷ past) → is_ensemble i ≡ true → at_hand past ≡ [] → is_swap past i ≡ b → is_flagged i ≡ true
     → IsTracked past → IsTracked (Said i ∷ past)
 flagged_tracked step period past i b c e hand sw fl t =
@@ -191,7 +191,7 @@ swap_tracked step period past i c e sw fl =
       announcing = λ low is. no_some low (listener_after (Said i ∷ past)).awaited awaits is;
     }
 
--- and where it makes none
+-- without flags, where it makes no swap
 quiet_tracked : (step period : ℕ) (past : List Moment) (i : Item) → IsClean step period (Said i ∷ past) → is_ensemble i ≡ true → is_swap past i ≡ false → is_flagged i ≡ false → IsTracked past → IsTracked (Said i ∷ past)
 quiet_tracked step period past i c e sw fl t =
     let f : has_flags (ensemble_of i) ≡ false = sym (ensemble_flags i e) ∙ fl in
@@ -224,7 +224,7 @@ alone_first step period past i c w e = w.1 (both i.first (is_ensemble i) (plain_
     both true b x y = y
     both false b x y = absurd (false≢true x)
 
--- ---- along all that was said
+-- ---- along the past
 
 entry_tracked : (step period : ℕ) (past : List Moment) (i : Item) (b : Bool) → is_ensemble i ≡ b → IsClean step period (Said i ∷ past) → IsFormed (Said i ∷ past) → IsTracked past → IsTracked (Said i ∷ past)
 entry_tracked step period past i true e c w t = ensemble_tracked step period past i (is_swap past i) (is_flagged i) c e (alone_first step period past i c w e) refl refl t
@@ -257,7 +257,7 @@ all_tracked step period (Ended count ∷ past) c w =
           };
     }
 
--- ---- how many of its frames have a flagged one
+-- ---- the number of its frames with a flagged one
 
 abbrev pub has_flagged : List Item → ℕ
 has_flagged items = cond (list_any is_flagged items) 1 0

@@ -1,4 +1,4 @@
--- Small streams, computed by the checker from the definitions: what is said of them holds in one and fails in another.
+-- Small streams, computed by the checker from the definitions: for each, examples that hold and examples that fail.
 use Rattle.std.proofs.Common.{◌≡◌, ℕ, true, false, List, [], ◌∷◌, length, get_or, Some, refl, ap, arith}
 use Rattle.fib_codec.specs.Grammar.{Fig, Open}
 use Rattle.fib_reader.specs.Raw.{Raw}
@@ -23,7 +23,7 @@ fault_is_one h = h
 abbrev header : ℕ → Fig
 header count = Open 0 ((225 ∷ 197 ∷ 0 ∷ count ∷ []) ∷ [])
 
--- change flag 1, for low 4
+-- change flags 1, for low 4
 abbrev flagged : ℕ → Fig
 flagged count = Open 0 ((225 ∷ 197 ∷ 64 ∷ count ∷ 4 ∷ []) ∷ [])
 
@@ -52,14 +52,14 @@ stream = first ∷ noticed 1 ∷ noticed 2 ∷ noticed 3 ∷ swapped ∷ []
 faultless : IsFaultless 3 1 250 stream
 faultless = record { room = refl; plain = (tt, (tt, (tt, tt))) }
 
--- a frame that misses a FIB, and an entry that changes without a notice
+-- a frame with a missing FIB, and an entry that changes without a notice
 short_frame : IsFaultless 3 1 250 ((Some (header 0 ∷ []) ∷ Some [] ∷ []) ∷ []) → ⊥
 short_frame h = h.plain.1.0
 
 silent_change : IsFaultless 3 1 250 (first ∷ frame_of (header 1 ∷ Open 1 (after ∷ []) ∷ []) ∷ []) → ⊥
 silent_change h = h.plain.1.0
 
--- a notice of three frames, one of which has not the entry of the next configuration
+-- a notice of three frames, one of which lacks the entry of the next configuration
 abbrev announced : ℕ → List Fib
 announced count = frame_of (flagged count ∷ Open 1 (before ∷ []) ∷ [])
 
@@ -119,7 +119,7 @@ otherwise h =
     let wrong : 96 ≡ 72 = same in
     omega (arith, wrong)
 
--- sub-channel 2 is not there: that is right until the current configuration is settled
+-- sub-channel 2 is not there, which is allowed until the current configuration is settled
 abbrev new : List ℕ
 new = 8 ∷ 96 ∷ 136 ∷ 72 ∷ []
 

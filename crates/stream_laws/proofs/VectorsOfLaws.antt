@@ -1,5 +1,4 @@
--- The words of the laws in small cases, computed by the checker from the definitions: each holds in one and fails in
--- another.
+-- The terms of the laws in small cases, computed by the checker from the definitions: examples that hold and that fail.
 use Rattle.std.proofs.Common.{◌≡◌, ℕ, zero, suc, ◌<◌, true, false, List, [], ◌∷◌, ◌++◌, length, replicate, flat_map, Some, refl, sym, ap, ◌∙◌, arith}
 use Rattle.std.specs.Prelude.{map, slice_get, take, drop, cond, ◌*◌, ◌==◌}
 use Rattle.mux_config.specs.Tables.{entry_at}
@@ -82,7 +81,7 @@ sent_nowhere size raw s =
     empty : (place : ℕ) → fib_at [] place ≡ []
     empty place = ap (λ (bs : List ℕ). take 32 bs) (none (32 * place))
 
--- a picture without entries is sent by no frames
+-- an empty picture is sent even by no frames
 blank_sent : IsSentWhole blank []
 blank_sent raw known = absurd (nothing raw known)
   where
@@ -92,7 +91,7 @@ blank_sent raw known = absurd (nothing raw known)
       | false ↦ elim (raw.ext == 2) as (λ t. entry_at identifier_of (identifier_of raw) (cond t [] []) ≡ Some raw → ⊥) [ true ↦ λ k. absurd cc | false ↦ λ k. absurd cc ]
     ] known
 
--- and no frames announce a change
+-- but without frames no change is announced
 not_announced : AnnouncesChange blank blank 0 [] → ⊥
 not_announced a = none a.headers.first a.headers.in_first.1
   where
@@ -100,7 +99,7 @@ not_announced a = none a.headers.first a.headers.in_first.1
     none zero e = absurd cc
     none (suc n) e = absurd cc
 
--- rows of no frames are none
+-- without frames there are no rows
 rows_of_none : AreRows [] []
 rows_of_none = tt
 

@@ -1,4 +1,4 @@
--- The entries and the announcements of a run, as the check of a stream judges them (EN 300 401 clause 6.5).
+-- The entries and the announcements of a run, as the checker judges them (EN 300 401 clause 6.5).
 use Rattle.std.specs.Prelude.{◌≡◌, ℕ, ◌%◌, Bool, true, false, List, []}
 use Rattle.std.specs.List.{AllByRecursion}
 use Rattle.fib_codec.specs.Modes.{fib_count, count_step}
@@ -16,8 +16,8 @@ use Rattle.plan_runs.specs.TypedRuns.{IsPlayed}
 use Rattle.stream_laws.specs.Notices.{read_frames}
 use Rattle.stream_laws.specs.Framing.{frames_of}
 
--- an entry that is not as it was, entries of the next configuration without change flags, an announcement that is not as
--- it was or of a count at which no swap can fall, a swap at another count than was announced, and one to sub-channels
+-- an entry that has changed, entries of the next configuration without change flags, an announcement that has changed
+-- or has a count on which no swap can fall, a swap on a count other than the announced one, and one to sub-channels
 -- that share a capacity unit or end past the last one
 abbrev pub is_of_word : Fault → Bool
 is_of_word (faults.ShortFrame fibs) = false
@@ -44,7 +44,7 @@ abbrev pub KeepsWord : What → Type 0
 KeepsWord (whats.Event e) = Unit {0}
 KeepsWord (whats.Fault f) = is_of_word f ≡ false
 
--- the frames of a run from a frame with a FIG 0/0 on: each picture has room for its entries, and none of these faults
+-- the frames of a run from one with a FIG 0/0 on: each picture has room for its entries, and none of these faults
 -- is found
 pub record RunAgrees (r : Reading) (p : Program) (s : State) (period : ℕ) (events : List Event) : Type 0 where
   pub room : frames_full (count_step p.plan.mode) period [] (read_frames r (frames_of p.plan.mode (run_frames p s events))) ≡ false

@@ -1,4 +1,4 @@
--- What a stream without a fault says before each swap (EN 300 401 clause 6.5).
+-- What a stream without a fault announces before each swap (EN 300 401 clause 6.5).
 use Rattle.std.specs.Prelude.{◌≡◌, ℕ, true, false, List}
 use Rattle.std.specs.List.{AllByRecursion}
 use Rattle.mux_config.specs.Configuration.{Configuration, IsConfiguration}
@@ -9,8 +9,9 @@ use Rattle.plan_runs.specs.Announced.{IsAnnounced}
 use Rattle.stream_laws.specs.Faultless.{IsFaultless, IsSaidIn}
 use Rattle.stream_laws.specs.Notices.{AreFibBytes, read_frames, notice_frames}
 
--- the law of swaps: at each swap but that of a notice whose beginning was not heard, where the pictures before it show
--- two configurations, the bytes of the notice's frames announce the change from one to the other at the swap's count
+-- the law of swaps: at each swap, unless the beginning of its notice was not heard, if the pictures before it show
+-- two configurations, then the bytes of the notice's frames announce the change from one to the other at the swap's
+-- count
 abbrev pub SwapsAreAnnounced : Type 0
 SwapsAreAnnounced =
     (r : Reading) (size step period : ℕ) (frames : List (List (List ℕ))) (past : List Moment) (i : Item) (now next : Configuration)

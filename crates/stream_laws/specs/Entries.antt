@@ -1,4 +1,4 @@
--- What a stream without a fault says before each swap, entry by entry, whatever its pictures show
+-- What a stream without a fault sends before each swap, entry by entry, for any pictures
 -- (EN 300 401 clauses 5.2.2.1, 6.4 and 6.5).
 use Rattle.std.specs.Prelude.{◌≡◌, ℕ, ◌%◌, Bool, true, false, List, ◌++◌, Contains, Some}
 use Rattle.std.specs.List.{AllByRecursion}
@@ -15,7 +15,7 @@ use Rattle.stream_laws.specs.Faultless.{IsFaultless, IsSaidIn}
 use Rattle.stream_laws.specs.Keeping.{entry_like}
 use Rattle.stream_laws.specs.Notices.{AreFibBytes, read_frames, notice_frames}
 
--- the entry stands with C/N 1 in a FIB of this row of FIBs
+-- the entry is in a FIB of this row of FIBs, with C/N 1
 pub record IsSentNext (row : List ℕ) (raw : Raw) : Type 0 where
   pub place : ℕ
   pub figs : List Fig
@@ -44,7 +44,7 @@ pub record AnnouncesChange (now next : Pictured) (count : ℕ) (heard : List (Li
       → Contains heard frame → IsEnsembleHeardInRow frame marked e
       → (e.change ≡ change_between now next) × (e.occurrence ≡ Some (count % 250))
 
--- the law of notices: at each swap but that of a notice whose beginning was not heard, the bytes of the notice's frames
+-- the law of notices: at each swap, unless the beginning of its notice was not heard, the bytes of the notice's frames
 -- announce the change from the current picture before it to the next one
 abbrev pub ChangesAreAnnounced : Type 0
 ChangesAreAnnounced =

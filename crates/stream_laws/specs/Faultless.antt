@@ -1,4 +1,4 @@
--- Streams without a fault, and entries where they are said.
+-- Streams without a fault, and the entries in them.
 use Rattle.std.specs.Prelude.{◌≡◌, ℕ, false, List, [], ◌∷◌, ◌++◌}
 use Rattle.std.specs.List.{AllByRecursion}
 use Rattle.stream_check.specs.declared.finding.What.{What}
@@ -11,12 +11,12 @@ abbrev pub IsNoFault : What → Type 0
 IsNoFault (whats.Event e) = Unit {0}
 IsNoFault (whats.Fault f) = ⊥
 
--- all that is found in these frames are events, and each picture has room for its entries
+-- all findings in these frames are events, and each picture has room for its entries
 pub record IsFaultless (size step period : ℕ) (frames : List (List Fib)) : Type 0 where
   pub room : frames_full step period [] frames ≡ false
   pub plain : AllByRecursion (λ found. IsNoFault found.what) (findings_of size step period [] frames)
 
--- this entry is said in one of the frames, and all that was said before it
+-- this entry is sent in one of the frames, after all that is in `past`
 pub record IsSaidIn (step : ℕ) (frames : List (List Fib)) (past : List Moment) (i : Item) : Type 0 where
   pub before : List (List Fib)
   pub frame : List Fib

@@ -1,4 +1,4 @@
--- The check of a stream gives no false alarm: it finds no fault in the frames of a run.
+-- The checker gives no false alarm: it finds no fault in the frames of a run.
 use Rattle.std.specs.Prelude.{◌≡◌, ℕ, ◌+◌, ◌*◌, ◌%◌, ◌≤◌, List}
 use Rattle.fib_codec.specs.Modes.{fib_count, count_step}
 use Rattle.stream_check.specs.Frames.{Reading}
@@ -11,8 +11,8 @@ use Rattle.stream_laws.specs.Faultless.{IsFaultless}
 use Rattle.stream_laws.specs.Notices.{read_frames}
 use Rattle.stream_laws.specs.Framing.{frames_of}
 
--- the law of faults: the frames of a run, from one with a FIG 0/0 on, are without a fault, where a period is at least
--- twice the plan's period less one
+-- the law of faults: the frames of a run, from one with a FIG 0/0 on, are without a fault, if the checker's period is
+-- at least 2P - 1 for the plan's period P
 abbrev pub RunsAreFaultless : Type 0
 RunsAreFaultless =
     (r : Reading) (p : Program) (s : State) (period : ℕ) (waiting events : List Event) → IsPlayed p s

@@ -1,4 +1,4 @@
--- The frames of a run, as the check of a stream cuts them.
+-- The frames of a run, as the checker cuts them.
 use Rattle.std.specs.Prelude.{◌≡◌, ℕ, ◌%◌, List, [], ◌++◌, map}
 use Rattle.fib_codec.specs.declared.modes.Mode.{Mode}
 use Rattle.fib_codec.specs.Modes.{fib_count, count_step}
@@ -11,12 +11,12 @@ use Rattle.plan_runs.specs.TypedRuns.{IsPlayed}
 use Rattle.plan_runs.specs.Listening.{fibs_from, fibs_of, HasCount}
 use Rattle.stream_laws.specs.Notices.{read_frames}
 
--- frames of bytes, each as its FIBs
+-- cuts the bytes of each frame into its FIBs
 abbrev pub frames_of : Mode → List (List ℕ) → List (List (List ℕ))
 frames_of mode frames = map (fibs_from (fib_count mode) 0) frames
 
--- the law of frames: of the FIBs of a run those before the first FIG 0/0 are skipped, the others are cut into just the
--- frames of the run, and none is left over
+-- the law of frames: of the FIBs of a run, those before the first FIG 0/0 are skipped, the others are cut into exactly
+-- the frames of the run, and none is left over
 abbrev pub RunsAreFramed : Type 0
 RunsAreFramed =
     (r : Reading) (p : Program) (s : State) (waiting events : List Event) → IsPlayed p s

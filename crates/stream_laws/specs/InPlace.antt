@@ -1,4 +1,4 @@
--- The frames of a run and the FIG 0/0 in them, as the check of a stream judges them (EN 300 401 clauses 5.1 and 6.4).
+-- The frames of a run and the FIG 0/0 in them, as the checker judges them (EN 300 401 clauses 5.1 and 6.4).
 use Rattle.std.specs.Prelude.{◌≡◌, ℕ, ◌%◌, Bool, true, false, List, []}
 use Rattle.std.specs.List.{AllByRecursion}
 use Rattle.fib_codec.specs.Modes.{fib_count, count_step}
@@ -16,7 +16,7 @@ use Rattle.plan_runs.specs.TypedRuns.{IsPlayed}
 use Rattle.stream_laws.specs.Notices.{read_frames}
 use Rattle.stream_laws.specs.Framing.{frames_of}
 
--- a frame that is not whole, or whose FIG 0/0 is missing, out of place, of another ensemble or at another count
+-- a frame that is short or damaged, or whose FIG 0/0 is missing, out of place, of another ensemble or at another count
 abbrev pub is_of_frame : Fault → Bool
 is_of_frame (faults.ShortFrame fibs) = true
 is_of_frame (faults.Damaged fibs) = true
@@ -42,7 +42,7 @@ abbrev pub IsInPlace : What → Type 0
 IsInPlace (whats.Event e) = Unit {0}
 IsInPlace (whats.Fault f) = is_of_frame f ≡ false
 
--- the law of places: in the frames of a run, from one with a FIG 0/0 on, none of these faults is found
+-- the law of places: none of these faults is found in the frames of a run, from one with a FIG 0/0 on
 abbrev pub RunsAreInPlace : Type 0
 RunsAreInPlace =
     (r : Reading) (p : Program) (s : State) (period : ℕ) (waiting events : List Event) → IsPlayed p s

@@ -1,4 +1,4 @@
--- The swaps that the check of a stream names, and those of a run.
+-- The swaps that the checker reports, and those of a run.
 use Rattle.std.specs.Prelude.{◌≡◌, ℕ, ◌+◌, ◌%◌, Bool, true, false, if◌then◌else◌, List, [], ◌∷◌}
 use Rattle.fib_codec.specs.Modes.{fib_count, count_step}
 use Rattle.stream_check.specs.declared.finding.Finding.{Finding}
@@ -27,26 +27,26 @@ abbrev pub names_swap : What → Bool
 names_swap (whats.Event e) = is_swap_event e
 names_swap (whats.Fault f) = false
 
--- the frames in which a swap is named
+-- the frames in which a swap is reported
 abbrev pub swap_frames : List Finding → List ℕ
 swap_frames [] = []
 swap_frames (found ∷ more) = if names_swap found.what then found.frame ∷ swap_frames more else swap_frames more
 
--- the frames of a run in which a swap is due, where the first one has this number
+-- the frames of a run in which a swap is due; the first one has this number
 abbrev pub due_frames : Program → ℕ → State → List Event → List ℕ
 due_frames p number s [] = []
 due_frames p number s (Contact c closed ∷ es) = due_frames p number (happens p s (Contact c closed)) es
 due_frames p number s (Frame ∷ es) =
     if is_due s.left then number ∷ due_frames p (number + 1) (after_frame p s) es else due_frames p (number + 1) (after_frame p s) es
 
--- those after the first frame, which is frame 0
+-- those after the first frame, which has number 0
 abbrev pub due_after_first : Program → State → List Event → List ℕ
 due_after_first p s [] = []
 due_after_first p s (Contact c closed ∷ es) = due_after_first p (happens p s (Contact c closed)) es
 due_after_first p s (Frame ∷ es) = due_frames p 1 (after_frame p s) es
 
--- the law of named swaps: in the frames of a run, from one with a FIG 0/0 on, the swaps that are named are those of the
--- run after that frame, each in its frame
+-- the law of named swaps: in the frames of a run, from one with a FIG 0/0 on, the swaps that are reported are those of
+-- the run after that frame, each in its frame
 abbrev pub SwapsAreNamed : Type 0
 SwapsAreNamed =
     (r : Reading) (p : Program) (s : State) (period : ℕ) (waiting events : List Event) → IsPlayed p s

@@ -12,19 +12,19 @@ IsFibBytes fib = (length fib ≡ 32) × AllByRecursion IsByte fib
 abbrev pub AreFibBytes : List (List ℕ) → Type 0
 AreFibBytes fibs = AllByRecursion IsFibBytes fibs
 
--- frames, each as its FIBs, and what is read of them
+-- what is read of frames, each given by its FIBs
 abbrev pub read_frames : Reading → List (List (List ℕ)) → List (List Fib)
 read_frames r frames = map (map r.read) frames
 
--- the bytes of a frame's FIBs in a row
+-- the bytes of a frame's FIBs, one after the other
 abbrev pub row_of : List (List ℕ) → List ℕ
 row_of fibs = flat_map (λ fib. fib) fibs
 
--- the last frames of these
+-- the last n of these
 abbrev pub last_of : {X : Type 0} → ℕ → List X → List X
 last_of n frames = drop (length frames - n) frames
 
--- the frames of the notice at hand, which ended before: the last ones of all that ended, as many as the notice has
+-- the frames of the current notice that have ended: the last ones of all that have ended, as many as the notice has
 abbrev pub notice_frames : List Moment → List (List (List ℕ)) → List (List ℕ)
 notice_frames past frames = map row_of (last_of (length (rows past)) (take (frames_ended past) frames))
 

@@ -1,4 +1,4 @@
--- Findings that are free of faults of a sort.
+-- Findings that are free of one sort of faults.
 use Rattle.std.specs.Prelude.{◌≡◌, ℕ, ◌+◌, ◌*◌, ◌%◌, ◌≤◌, Bool, true, false, List, []}
 use Rattle.std.specs.List.{AllByRecursion}
 use Rattle.fib_codec.specs.Modes.{fib_count, count_step}
@@ -16,7 +16,7 @@ use Rattle.plan_runs.specs.TypedRuns.{IsPlayed}
 use Rattle.stream_laws.specs.Notices.{read_frames}
 use Rattle.stream_laws.specs.Framing.{frames_of}
 
--- it is no fault of this sort
+-- it is not a fault of this sort
 abbrev pub IsFreeOf : (Fault → Bool) → What → Type 0
 IsFreeOf sort (whats.Event e) = Unit {0}
 IsFreeOf sort (whats.Fault f) = sort f ≡ false
@@ -27,7 +27,7 @@ RunIsFreeOf sort r p s period events =
     AllByRecursion (λ found. IsFreeOf sort found.what)
     (findings_of (fib_count p.plan.mode) (count_step p.plan.mode) period [] (read_frames r (frames_of p.plan.mode (run_frames p s events))))
 
--- flags that are not those of the change that is made
+-- flags other than those of the change that is made
 abbrev pub is_of_flags : Fault → Bool
 is_of_flags (faults.ShortFrame fibs) = false
 is_of_flags (faults.Damaged fibs) = false
@@ -50,13 +50,13 @@ is_of_flags (faults.PastEnd a) = false
 is_of_flags (faults.Silent name) = false
 
 -- the law of flags: in the frames of a run, from one with a FIG 0/0 on, the flags before each swap are those of the
--- change that it makes, unless the first of these frames is one of its notice
+-- change that it makes, unless the first of these frames is in its notice
 abbrev pub RunsFlagTheChange : Type 0
 RunsFlagTheChange =
     (r : Reading) (p : Program) (s : State) (period : ℕ) (waiting events : List Event) → IsPlayed p s
     → (run p s waiting).count % count_step p.plan.mode ≡ 0 → RunIsFreeOf is_of_flags r p (run p s waiting) period events
 
--- an entry of the current configuration that did not come in a period
+-- an entry of the current configuration that was not sent for a period
 abbrev pub is_of_silence : Fault → Bool
 is_of_silence (faults.ShortFrame fibs) = false
 is_of_silence (faults.Damaged fibs) = false
@@ -78,14 +78,14 @@ is_of_silence (faults.Overlap a b) = false
 is_of_silence (faults.PastEnd a) = false
 is_of_silence (faults.Silent name) = true
 
--- the law of silence: in the frames of a run, from one with a FIG 0/0 on, each entry of the current configuration comes
--- in any frames that are at least twice the plan's period less one
+-- the law of silence: in the frames of a run, from one with a FIG 0/0 on, each entry of the current configuration is
+-- sent in any N frames, for N at least 2P - 1 and the plan's period P
 abbrev pub RunsAreNeverSilent : Type 0
 RunsAreNeverSilent =
     (r : Reading) (p : Program) (s : State) (period : ℕ) (waiting events : List Event) → IsPlayed p s
     → (run p s waiting).count % count_step p.plan.mode ≡ 0 → 2 * p.plan.period ≤ period + 1 → RunIsFreeOf is_of_silence r p (run p s waiting) period events
 
--- an entry of the current configuration that was not known where all ought to be
+-- an entry of the current configuration that was not known although all should be known
 abbrev pub is_of_appearance : Fault → Bool
 is_of_appearance (faults.ShortFrame fibs) = false
 is_of_appearance (faults.Damaged fibs) = false
@@ -107,8 +107,8 @@ is_of_appearance (faults.Overlap a b) = false
 is_of_appearance (faults.PastEnd a) = false
 is_of_appearance (faults.Silent name) = false
 
--- the law of appearances: in the frames of a run, from one with a FIG 0/0 on, each entry of the current configuration is
--- known once it is settled, where a period is at least twice the plan's period less one
+-- the law of appearances: in the frames of a run, from one with a FIG 0/0 on, each entry of the current configuration
+-- is known once it is settled, if the checker's period is at least 2P - 1 for the plan's period P
 abbrev pub RunsAreKnown : Type 0
 RunsAreKnown =
     (r : Reading) (p : Program) (s : State) (period : ℕ) (waiting events : List Event) → IsPlayed p s
@@ -137,7 +137,7 @@ is_of_repetition (faults.PastEnd a) = false
 is_of_repetition (faults.Silent name) = false
 
 -- the law of repetition: in the frames of a run, from one with a FIG 0/0 on, the next configuration can be read three
--- times before each swap, unless the first of these frames is one of its notice
+-- times before each swap, unless the first of these frames is in its notice
 abbrev pub RunsRepeatTheNext : Type 0
 RunsRepeatTheNext =
     (r : Reading) (p : Program) (s : State) (period : ℕ) (waiting events : List Event) → IsPlayed p s

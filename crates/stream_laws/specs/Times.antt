@@ -1,4 +1,4 @@
--- How often a run announces a swap, as the check of a stream counts it (EN 300 401 clause 6.5).
+-- How often a run announces a swap, as the checker counts it (EN 300 401 clause 6.5).
 use Rattle.std.specs.Prelude.{◌≡◌, ℕ, ◌%◌, Bool, true, false, List, []}
 use Rattle.std.specs.List.{AllByRecursion}
 use Rattle.fib_codec.specs.Modes.{fib_count, count_step}
@@ -37,13 +37,13 @@ is_of_times (faults.Overlap a b) = false
 is_of_times (faults.PastEnd a) = false
 is_of_times (faults.Silent name) = false
 
--- it is no swap after fewer than three announcements
+-- it is not a swap after fewer than three announcements
 abbrev pub IsTimely : What → Type 0
 IsTimely (whats.Event e) = Unit {0}
 IsTimely (whats.Fault f) = is_of_times f ≡ false
 
--- the law of announcements: in the frames of a run, from one with a FIG 0/0 on, each swap comes after three flagged
--- FIG 0/0 or more, unless the first of these frames is one of its notice
+-- the law of announcements: in the frames of a run, from one with a FIG 0/0 on, each swap comes after at least three
+-- flagged FIG 0/0, unless the first of these frames is in its notice
 abbrev pub RunsAreTimely : Type 0
 RunsAreTimely =
     (r : Reading) (p : Program) (s : State) (period : ℕ) (waiting events : List Event) → IsPlayed p s

@@ -1,5 +1,5 @@
-//! What holds of all streams without a fault, and of the streams of typed codes. Each law is a
-//! function that does nothing; its contract is the law.
+//! Laws of streams without a fault, and of the streams of typed codes.
+//! Each law is a function that does nothing; its contract is the law.
 
 ghost use Rattle.stream_laws.specs.Agreeing.{RunsAgree};
 ghost use Rattle.stream_laws.specs.Announcing.{SwapsAreAnnounced};
@@ -14,18 +14,18 @@ ghost use Rattle.stream_laws.specs.Sorts.{RunsAreKnown, RunsAreNeverSilent, Runs
 ghost use Rattle.stream_laws.specs.Sorts.{RunsRepeatTheNext};
 ghost use Rattle.stream_laws.specs.Times.{RunsAreTimely};
 
-/// The law of the current configuration: in a stream without a fault each entry with C/N 0 agrees
-/// with the one of its identifier in the picture of the current configuration before it, and is in
-/// that picture from the frame on from which the current configuration is settled.
+/// The law of the current configuration: in a stream without a fault, each entry with C/N 0 agrees
+/// with the entry with its identifier in the picture of the current configuration before it, and is
+/// in that picture from the frame on in which the current configuration is settled.
 pub fn current()
     ensures { CurrentIsKept }
 {}
 
-/// The law of swaps: in a stream without a fault, at each swap but that of a notice whose beginning
-/// was not heard, where the pictures before it show two configurations, the bytes of the notice's
-/// frames announce the change from one to the other for the low part of the swap's count. They are
-/// three successive parts, each of which has the whole next configuration, and FIG 0/0 is in three
-/// of them or more and always gives the flags of the change and that low part.
+/// The law of swaps: in a stream without a fault, at each swap, unless the beginning of its notice
+/// was not heard, if the pictures before it show two configurations, then the bytes of the notice's
+/// frames announce the change from one to the other for the low part of the swap's count. They
+/// consist of three successive parts, each with the whole next configuration; three or more of the
+/// frames have FIG 0/0, always with the flags of the change and that low part.
 pub fn swaps()
     ensures { SwapsAreAnnounced }
 {
@@ -37,10 +37,10 @@ pub fn swaps()
     stream_check::laws::parts();
 }
 
-/// The law of notices: the same of any pictures, entry by entry. Each entry of the next picture is
+/// The law of notices: the same for any pictures, entry by entry. Each entry of the next picture is
 /// sent with C/N 1 in each of three successive parts of the notice's frames, and each FIG 0/0 in
-/// them, of which there are three or more, gives the flags by which the two pictures differ and the
-/// low part of the swap's count.
+/// them, of which there are three or more, has the flags of the change from one picture to the
+/// other and the low part of the swap's count.
 pub fn notices()
     ensures { ChangesAreAnnounced }
 {
@@ -51,15 +51,14 @@ pub fn notices()
     stream_check::laws::parts();
 }
 
-/// The law of cutting: the frames into which the check of a stream cuts FIBs are frames of their
-/// bytes.
+/// The law of cutting: the frames into which the checker cuts FIBs are frames of their bytes.
 pub fn cutting()
     ensures { FramesAreOfBytes }
 {}
 
-/// The law of frames: of the FIBs of a run of a typed code those before the first FIG 0/0 are
-/// skipped, and the check of a stream cuts the others into just the frames of the run, with none
-/// left over.
+/// The law of frames: of the FIBs of a run of a typed code, those before the first FIG 0/0 are
+/// skipped, and the checker cuts the others into exactly the frames of the run, with none left
+/// over.
 pub fn frames()
     ensures { RunsAreFramed }
 {
@@ -69,9 +68,9 @@ pub fn frames()
     plan_runs::laws::runs();
 }
 
-/// The law of places: in the frames of a run of a typed code, from one with a FIG 0/0 on, the check
-/// of a stream finds no frame that is short or damaged, and no FIG 0/0 that is missing, out of
-/// place, of another ensemble or at another count than is due.
+/// The law of places: in the frames of a run of a typed code, from one with a FIG 0/0 on, the
+/// checker finds no frame that is short or damaged, and no FIG 0/0 that is missing, out of place,
+/// of another ensemble or at a count that was not due.
 pub fn places()
     ensures { RunsAreInPlace }
 {
@@ -81,10 +80,10 @@ pub fn places()
 }
 
 /// The law of entries and announcements: in the frames of a run of a typed code, from one with a
-/// FIG 0/0 on, the check of a stream always has room, and finds no entry that is not as it was, no
-/// entry of the next configuration without change flags, no announcement that is not as it was or
-/// is for a count at which no swap can fall, no swap at another count than was announced, and none
-/// to sub-channels that share a capacity unit or end past the last one.
+/// FIG 0/0 on, the checker always has room, and finds no entry that has changed, no entry of the
+/// next configuration without change flags, no announcement that has changed or has a count on
+/// which no swap can fall, no swap on a count other than the announced one, and none to
+/// sub-channels that share a capacity unit or end past the last one.
 pub fn agreement()
     ensures { RunsAgree }
 {
@@ -95,8 +94,7 @@ pub fn agreement()
 }
 
 /// The law of named swaps: in the frames of a run of a typed code, from one with a FIG 0/0 on, the
-/// check of a stream names exactly the swaps that the run makes after that frame, each in its
-/// frame.
+/// checker reports exactly the swaps that the run makes after that frame, each in its frame.
 pub fn named_swaps()
     ensures { SwapsAreNamed }
 {
@@ -107,7 +105,7 @@ pub fn named_swaps()
 }
 
 /// The law of announcements: in the frames of a run of a typed code, from one with a FIG 0/0 on,
-/// the check of a stream finds no swap after fewer than three announcements.
+/// the checker finds no swap after fewer than three announcements.
 pub fn announcements()
     ensures { RunsAreTimely }
 {
@@ -117,8 +115,8 @@ pub fn announcements()
     fib_carousel::laws::carried();
 }
 
-/// The law of flags: in the frames of a run of a typed code, from one with a FIG 0/0 on, the check
-/// of a stream finds at no swap flags that are not those of the change that it makes.
+/// The law of flags: in the frames of a run of a typed code, from one with a FIG 0/0 on, the
+/// checker finds no swap with flags other than those of its change.
 pub fn flags()
     ensures { RunsFlagTheChange }
 {
@@ -130,9 +128,9 @@ pub fn flags()
     mux_config::laws::changes();
 }
 
-/// The law of silence: in the frames of a run of a typed code, from one with a FIG 0/0 on, where
-/// the check of a stream asks for each entry of the current configuration in any N frames, and N is
-/// at least twice the period of the plan less one, it finds none that stayed away.
+/// The law of silence: in the frames of a run of a typed code, from one with a FIG 0/0 on, if the
+/// checker requires each entry of the current configuration in any N frames, with N at least 2P - 1
+/// for the plan's period P, it finds no silent entry.
 pub fn silence()
     ensures { RunsAreNeverSilent }
 {
@@ -143,9 +141,9 @@ pub fn silence()
     fib_carousel::laws::carried();
 }
 
-/// The law of appearances: in the frames of a run of a typed code, from one with a FIG 0/0 on,
-/// where N is at least twice the period of the plan less one, the check of a stream finds no entry
-/// of the current configuration that appears once that configuration is settled.
+/// The law of appearances: in the frames of a run of a typed code, from one with a FIG 0/0 on, with
+/// N at least 2P - 1 for the plan's period P, the checker finds no entry of the current
+/// configuration that appears once that configuration is settled.
 pub fn appearances()
     ensures { RunsAreKnown }
 {
@@ -157,8 +155,8 @@ pub fn appearances()
 }
 
 /// The law of repetition: in the frames of a run of a typed code, from one with a FIG 0/0 on, the
-/// check of a stream finds no swap before which the next configuration could be read fewer than
-/// three times in the frames of the notice.
+/// checker finds no swap before which the next configuration could be read fewer than three times
+/// in the frames of the notice.
 pub fn repetition()
     ensures { RunsRepeatTheNext }
 {
@@ -171,8 +169,8 @@ pub fn repetition()
 }
 
 /// The law of faults, no false alarm: the frames of a run of a typed code, from one with a FIG 0/0
-/// on, are a stream without a fault, where N is at least twice the period of the plan less one.
-/// That is so from every state that a typed code comes to.
+/// on, are a stream without a fault, with N at least 2P - 1 for the plan's period P. This holds
+/// from every state that a typed code reaches.
 pub fn no_false_alarm()
     ensures { RunsAreFaultless }
 {

@@ -1,6 +1,6 @@
-//! The calls that take memory, each as a trial over one script.
+//! The calls that allocate, each as a trial over one script.
 
-use crate::trial::{Ended, Trial, tell_bytes, try_call};
+use crate::trial::{Ended, Trial, show_bytes, try_call};
 use crate::{code_in, unfit};
 use mux_config::{Config, write_config};
 use mux_tables::Tables;
@@ -21,10 +21,10 @@ const EVENTS: &str =
 /// A text of commands, of each kind.
 const COMMANDS: &str = "break 9 run 100 contact 3 closed run 2 next clear show";
 
-/// The most bytes that the frames of `EVENTS` have.
+/// The most bytes in the frames of `EVENTS`.
 const MOST_BYTES: usize = 70 * 128;
 
-/// Tries the call of this name over a script; false where no call has it.
+/// Tries the call of this name over a script; false if there is no such call.
 pub fn try_named<W: Write>(alloc: Global, name: &str, text: &str, out: &mut W) -> io::Result<bool> {
     match name {
         "lex" => try_call(alloc, &mut Lex { text }, out)?,
@@ -38,7 +38,7 @@ pub fn try_named<W: Write>(alloc: Global, name: &str, text: &str, out: &mut W) -
     Ok(true)
 }
 
-/// Tries the call of this name over the code of a script; false where no call has it.
+/// Tries the call of this name over the code of a script; false if there is no such call.
 fn try_over_code<W: Write>(alloc: Global, name: &str, text: &str, out: &mut W) -> io::Result<bool> {
     let code = compiled(alloc, text)?;
     let file = encode(alloc, &code)?;
@@ -53,7 +53,7 @@ fn try_over_code<W: Write>(alloc: Global, name: &str, text: &str, out: &mut W) -
     Ok(true)
 }
 
-/// The script that a text is.
+/// Parses a script.
 fn script_of(alloc: Global, text: &str) -> io::Result<Script> {
     match parse(alloc, text) {
         Ok(script) => Ok(script),
@@ -61,7 +61,7 @@ fn script_of(alloc: Global, text: &str) -> io::Result<Script> {
     }
 }
 
-/// The code of the script that a text is.
+/// Compiles a script.
 fn compiled(alloc: Global, text: &str) -> io::Result<Code> {
     let script = script_of(alloc, text)?;
     match compile(alloc, &script) {
@@ -103,8 +103,8 @@ impl Trial for WriteConfig<'_> {
         }
     }
 
-    fn tell<W: Write>(&mut self, _alloc: Global, answer: Vec<u8>, out: &mut W) -> io::Result<()> {
-        tell_bytes(&answer, out)
+    fn show<W: Write>(&mut self, _alloc: Global, answer: Vec<u8>, out: &mut W) -> io::Result<()> {
+        show_bytes(&answer, out)
     }
 }
 
@@ -124,9 +124,9 @@ impl Trial for Decode<'_> {
         }
     }
 
-    fn tell<W: Write>(&mut self, alloc: Global, answer: Code, out: &mut W) -> io::Result<()> {
+    fn show<W: Write>(&mut self, alloc: Global, answer: Code, out: &mut W) -> io::Result<()> {
         let file = encode(alloc, &answer)?;
-        tell_bytes(&file, out)
+        show_bytes(&file, out)
     }
 }
 
@@ -145,8 +145,8 @@ impl Trial for Encode<'_> {
         }
     }
 
-    fn tell<W: Write>(&mut self, _alloc: Global, answer: Vec<u8>, out: &mut W) -> io::Result<()> {
-        tell_bytes(&answer, out)
+    fn show<W: Write>(&mut self, _alloc: Global, answer: Vec<u8>, out: &mut W) -> io::Result<()> {
+        show_bytes(&answer, out)
     }
 }
 
@@ -166,7 +166,7 @@ impl Trial for Lex<'_> {
         }
     }
 
-    fn tell<W: Write>(
+    fn show<W: Write>(
         &mut self,
         _alloc: Global,
         answer: Vec<Token>,
@@ -195,7 +195,7 @@ impl Trial for Parse<'_> {
         }
     }
 
-    fn tell<W: Write>(&mut self, alloc: Global, answer: Script, out: &mut W) -> io::Result<()> {
+    fn show<W: Write>(&mut self, alloc: Global, answer: Script, out: &mut W) -> io::Result<()> {
         let text = print(alloc, &answer)?;
         write!(out, "{text}")
     }
@@ -216,7 +216,7 @@ impl Trial for Print<'_> {
         }
     }
 
-    fn tell<W: Write>(&mut self, _alloc: Global, answer: String, out: &mut W) -> io::Result<()> {
+    fn show<W: Write>(&mut self, _alloc: Global, answer: String, out: &mut W) -> io::Result<()> {
         write!(out, "{answer}")
     }
 }
@@ -237,9 +237,9 @@ impl Trial for Compile<'_> {
         }
     }
 
-    fn tell<W: Write>(&mut self, alloc: Global, answer: Code, out: &mut W) -> io::Result<()> {
+    fn show<W: Write>(&mut self, alloc: Global, answer: Code, out: &mut W) -> io::Result<()> {
         let file = encode(alloc, &answer)?;
-        tell_bytes(&file, out)
+        show_bytes(&file, out)
     }
 }
 
@@ -257,7 +257,7 @@ impl Trial for ReadEvents {
         }
     }
 
-    fn tell<W: Write>(&mut self, _alloc: Global, answer: Vec<Step>, out: &mut W) -> io::Result<()> {
+    fn show<W: Write>(&mut self, _alloc: Global, answer: Vec<Step>, out: &mut W) -> io::Result<()> {
         for step in &answer {
             match *step {
                 Step::Contact(contact, closed) => {
@@ -285,7 +285,7 @@ impl Trial for ReadCommands {
         }
     }
 
-    fn tell<W: Write>(
+    fn show<W: Write>(
         &mut self,
         _alloc: Global,
         answer: Vec<Command>,
@@ -317,7 +317,7 @@ struct Run<'a> {
 impl Trial for Run<'_> {
     type Answer = u128;
 
-    /// Want of memory counts only where nothing was written.
+    /// Out of memory counts only if nothing was written.
     fn call(&mut self, alloc: Global) -> Ended<u128> {
         if self.sink.failed() {
             return Ended::Otherwise;
@@ -332,13 +332,13 @@ impl Trial for Run<'_> {
         }
     }
 
-    fn tell<W: Write>(&mut self, _alloc: Global, answer: u128, out: &mut W) -> io::Result<()> {
+    fn show<W: Write>(&mut self, _alloc: Global, answer: u128, out: &mut W) -> io::Result<()> {
         writeln!(out, "{answer}")?;
-        tell_bytes(self.sink.inner(), out)
+        show_bytes(self.sink.inner(), out)
     }
 }
 
-/// Tries `run` of a code file, into a sink that has room for all its frames.
+/// Tries `run` of a code file, with a sink that has room for all its frames.
 fn try_run<W: Write>(alloc: Global, file: &[u8], out: &mut W) -> io::Result<()> {
     let room = Vec::with_capacity(alloc, MOST_BYTES)?;
     let mut trial = Run {
@@ -356,7 +356,7 @@ struct MakeDebugger<'a> {
 impl<'a> Trial for MakeDebugger<'a> {
     type Answer = Debugger<'a, Tables>;
 
-    /// Keeps the player that is handed back.
+    /// Keeps the player returned on failure.
     fn call(&mut self, alloc: Global) -> Ended<Debugger<'a, Tables>> {
         let Some(player) = self.player.take() else {
             return Ended::Otherwise;
@@ -370,19 +370,19 @@ impl<'a> Trial for MakeDebugger<'a> {
         }
     }
 
-    fn tell<W: Write>(
+    fn show<W: Write>(
         &mut self,
         _alloc: Global,
         answer: Debugger<'a, Tables>,
         out: &mut W,
     ) -> io::Result<()> {
         let mut debugger = answer;
-        tell_report(&debugger.command(Command::Show), out)?;
-        tell_report(&debugger.command(Command::Run(30)), out)
+        show_report(&debugger.command(Command::Show), out)?;
+        show_report(&debugger.command(Command::Run(30)), out)
     }
 }
 
-fn tell_report<W: Write>(report: &Report, out: &mut W) -> io::Result<()> {
+fn show_report<W: Write>(report: &Report, out: &mut W) -> io::Result<()> {
     writeln!(
         out,
         "frames {} steps {} pc {} line {} count {}",
@@ -390,7 +390,7 @@ fn tell_report<W: Write>(report: &Report, out: &mut W) -> io::Result<()> {
     )
 }
 
-/// The code in a file as it can be played.
+/// Decodes and verifies a code file.
 fn typed(alloc: Global, file: &[u8]) -> io::Result<Verified> {
     let code = code_in(alloc, file)?;
     verify::<Tables>(code).map_err(|_| unfit())

@@ -1,4 +1,4 @@
-//! Damaged code files: each cut, and each byte with each other value.
+//! Damaged code files: each truncation, and each byte with each other value.
 
 use fib_reader::check;
 use mux_tables::Tables;
@@ -8,10 +8,10 @@ use plan_verifier::{Verified, verify};
 use std::alloc::Global;
 use std::io::{self, Write};
 
-/// The frames that each accepted code is played for.
+/// The number of frames for which each accepted code is played.
 const FRAMES: u8 = 100;
 
-/// What became of damaged files.
+/// The results for damaged files.
 #[derive(Clone, Copy)]
 struct Counts {
     magic: u32,
@@ -48,7 +48,7 @@ impl Counts {
         }
     }
 
-    fn tell<W: Write>(&self, out: &mut W) -> io::Result<()> {
+    fn show<W: Write>(&self, out: &mut W) -> io::Result<()> {
         writeln!(
             out,
             "Magic {} Version {} Truncated {} Field {} Limit {} Trailing {} Memory {}",
@@ -119,7 +119,7 @@ fn play_it(code: &Verified, counts: &mut Counts) {
     }
 }
 
-/// Reads a damaged file, judges it, and plays what is accepted.
+/// Decodes and verifies a damaged file, and plays it if it is accepted.
 fn try_file(alloc: Global, file: &[u8], counts: &mut Counts) {
     let code = match decode(alloc, file) {
         Ok(code) => code,
@@ -137,15 +137,15 @@ fn try_file(alloc: Global, file: &[u8], counts: &mut Counts) {
     }
 }
 
-/// Tries a code file cut at each length, and with each byte changed to each other value, and prints what became of
-/// them.
+/// Tries a code file truncated to each length, and with each byte changed to each other value, and prints the
+/// results.
 pub fn try_damaged<W: Write>(alloc: Global, file: &mut [u8], out: &mut W) -> io::Result<()> {
     let mut cuts = Counts::none();
     for length in 0..file.len() {
         try_file(alloc, &file[..length], &mut cuts);
     }
     writeln!(out, "cut at {} lengths", file.len())?;
-    cuts.tell(out)?;
+    cuts.show(out)?;
     let mut changes = Counts::none();
     for place in 0..file.len() {
         let was = file[place];
@@ -156,9 +156,9 @@ pub fn try_damaged<W: Write>(alloc: Global, file: &mut [u8], out: &mut W) -> io:
         file[place] = was;
     }
     writeln!(out, "each of {} bytes changed to 255 values", file.len())?;
-    changes.tell(out)?;
+    changes.show(out)?;
     let mut whole = Counts::none();
     try_file(alloc, file, &mut whole);
     writeln!(out, "whole")?;
-    whole.tell(out)
+    whole.show(out)
 }

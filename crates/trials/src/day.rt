@@ -1,4 +1,4 @@
-//! A day of frames, heard by a listener.
+//! A day of frames, received by a listener.
 
 use crate::{code_in, unfit};
 use fib_reader::Listener;
@@ -12,7 +12,7 @@ use std::io::{self, Write};
 /// The frames of a day.
 const FRAMES: u32 = 3_600_000;
 
-/// What was met in a day.
+/// The results of a day.
 #[derive(Clone, Copy)]
 struct Met {
     fibs: u32,
@@ -30,8 +30,8 @@ fn is_right(listener: &Listener, current: &Config) -> bool {
 }
 
 /// Plays a day from count 0 on. A listener that is new before the first frame hears each FIB; from the frame on that
-/// completes the first period it has to know the configuration of each frame. A swap is counted where the frames left
-/// end.
+/// completes the first period, its configuration must be that of each frame. A swap is counted when no frames
+/// are left before it.
 fn hear_day(player: &mut Player<'_, Config>, period: u8) -> Met {
     let mut met = Met {
         fibs: 0,
@@ -61,13 +61,13 @@ fn hear_day(player: &mut Player<'_, Config>, period: u8) -> Met {
     met
 }
 
-/// The code in a file as it can be played.
+/// Decodes and verifies a code file.
 fn typed(alloc: Global, file: &[u8]) -> io::Result<Verified> {
     let code = code_in(alloc, file)?;
     verify::<Config>(code).map_err(|_| unfit())
 }
 
-/// Plays a code file for a day, and prints what a listener met.
+/// Plays a code file for a day, and prints the results.
 pub fn try_day<W: Write>(alloc: Global, file: &[u8], out: &mut W) -> io::Result<bool> {
     let code = typed(alloc, file)?;
     let plan = code.code().plan();

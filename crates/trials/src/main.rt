@@ -1,7 +1,7 @@
-//! Trials of the libraries under faults: calls that take memory while it is refused, damaged code files, and a day of
-//! frames that a listener hears.
+//! Runs the libraries under faults: allocation failures, damaged code files, and a day of frames with a
+//! listener.
 //!
-//! `tests/faults/` has the scripts that run it. `trials call NAME` makes one call twice over the script on standard input,
+//! The scripts in `tests/faults/` run it. `trials call NAME` makes one call twice over the script on standard input,
 //! the first time between the lines `ready` and `called`; `trials damaged` tries each damaged version of the code file
 //! on standard input; `trials day` plays the code file on standard input for a day.
 #![tactic(auto)]
@@ -45,17 +45,17 @@ fn main(rt: HostRuntime) -> io::Result<ExitCode> {
     Ok(ExitCode::from(1))
 }
 
-/// An input that a trial can't begin with.
+/// The error for an input that a trial can't use.
 fn unfit() -> Error {
     Error::from(ErrorKind::InvalidData)
 }
 
-/// The text that an input is.
+/// The text of an input.
 fn text_of(input: &[u8]) -> io::Result<&str> {
     str::from_utf8(input).map_err(|_| unfit())
 }
 
-/// The code in a file.
+/// Decodes a code file.
 fn code_in(alloc: Global, file: &[u8]) -> io::Result<Code> {
     decode(alloc, file).map_err(|_| unfit())
 }

@@ -1,4 +1,4 @@
-//! A call that takes memory, tried while memory may be refused, and then again.
+//! A call that allocates, tried while allocations may fail, and then again.
 
 use std::alloc::Global;
 use std::io::{self, Write};
@@ -6,24 +6,24 @@ use std::io::{self, Write};
 /// How a call ended.
 #[derive(Drop)]
 pub enum Ended<T> {
-    /// With an answer.
+    /// With a result.
     Answered(T),
-    /// With want of memory, by its own name; all that the call was given is still there.
+    /// Out of memory, reported as such; everything that was passed to the call is unchanged.
     NoMemory,
-    /// Otherwise, which no trial expects.
+    /// With another fault, which no trial expects.
     Otherwise,
 }
 
-/// A call that takes memory.
+/// A call that allocates.
 pub trait Trial {
-    /// What it answers.
+    /// Its result.
     type Answer: Drop;
 
     /// Makes the call.
     fn call(&mut self, alloc: Global) -> Ended<Self::Answer>;
 
-    /// Prints an answer.
-    fn tell<W: Write>(
+    /// Prints a result.
+    fn show<W: Write>(
         &mut self,
         alloc: Global,
         answer: Self::Answer,
@@ -32,7 +32,7 @@ pub trait Trial {
 }
 
 /// Makes a call between the lines `ready` and `called`, each of which is one write; prints how it ended; makes it
-/// again where memory was wanted; and prints the answer.
+/// again if it was out of memory; and prints the result.
 pub fn try_call<T: Trial, W: Write>(alloc: Global, trial: &mut T, out: &mut W) -> io::Result<()> {
     out.write_all(b"ready\n")?;
     let first = trial.call(alloc);
@@ -40,13 +40,13 @@ pub fn try_call<T: Trial, W: Write>(alloc: Global, trial: &mut T, out: &mut W) -
     match first {
         Ended::Answered(answer) => {
             out.write_all(b"answered\n")?;
-            trial.tell(alloc, answer, out)
+            trial.show(alloc, answer, out)
         }
         Ended::Otherwise => out.write_all(b"another fault\n"),
         Ended::NoMemory => {
             out.write_all(b"no memory\n")?;
             match trial.call(alloc) {
-                Ended::Answered(answer) => trial.tell(alloc, answer, out),
+                Ended::Answered(answer) => trial.show(alloc, answer, out),
                 Ended::NoMemory => out.write_all(b"no memory again\n"),
                 Ended::Otherwise => out.write_all(b"another fault then\n"),
             }
@@ -55,7 +55,7 @@ pub fn try_call<T: Trial, W: Write>(alloc: Global, trial: &mut T, out: &mut W) -
 }
 
 /// Prints bytes as hexadecimal digits on a line.
-pub fn tell_bytes<W: Write>(bytes: &[u8], out: &mut W) -> io::Result<()> {
+pub fn show_bytes<W: Write>(bytes: &[u8], out: &mut W) -> io::Result<()> {
     for byte in bytes {
         write!(out, "{byte:02X}")?;
     }

@@ -6,14 +6,14 @@ use crate::args::{Request, UsageError};
 use fib_codec::Mode;
 use std::alloc::{AllocError, Global};
 
-/// What `check` is asked for.
+/// The arguments of `check`.
 #[derive(Clone, Copy)]
 pub struct CheckRequest<'a> {
     /// The path of the file of FIBs, or `-` for standard input.
     pub file: &'a str,
     /// The transmission mode.
     pub mode: Mode,
-    /// The number of successive frames in any of which each entry of the current configuration has to come.
+    /// Each entry of the current configuration must occur in any window of this many frames.
     pub period: u16,
 }
 
@@ -69,14 +69,14 @@ pub(crate) fn grammar<'a>(alloc: Global) -> Result<Grammar<'a>, AllocError> {
         .argument(period())
 }
 
-/// The period in which entries have to come.
+/// The option for the period.
 fn period() -> Argument {
     let help =
         "In how many successive frames each entry of the current configuration has to come, 1 to 60000";
     number("period", "N", 1, 60000, Some("250"), help)
 }
 
-/// What `check` is asked for.
+/// Reads the arguments of `check`.
 pub(crate) fn request<'a>(values: &Values<'_, 'a>) -> Result<Request<'a>, UsageError<'a>> {
     let file = values.some_text("file")?;
     let mode = mode_of(values.some_number("mode")?).ok_or(UsageError::Nothing)?;

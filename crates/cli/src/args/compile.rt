@@ -5,12 +5,12 @@ use crate::args::shared::{explain, file};
 use crate::args::{Request, UsageError};
 use std::alloc::{AllocError, Global};
 
-/// What `compile` is asked for.
+/// The arguments of `compile`.
 #[derive(Clone, Copy)]
 pub struct CompileRequest<'a> {
     /// The path of the script.
     pub script: &'a str,
-    /// The path of the code file that is made.
+    /// The path of the code file to write.
     pub out: &'a str,
     /// Whether a refusal is explained.
     pub explain: bool,
@@ -85,7 +85,7 @@ pub(crate) fn grammar<'a>(alloc: Global) -> Result<Grammar<'a>, AllocError> {
         .argument(explain())
 }
 
-/// What `compile` is asked for.
+/// Reads the arguments of `compile`.
 pub(crate) fn request<'a>(values: &Values<'_, 'a>) -> Result<Request<'a>, UsageError<'a>> {
     Ok(Request::Compile(CompileRequest {
         script: values.some_text("script")?,

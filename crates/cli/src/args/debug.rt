@@ -6,14 +6,14 @@ use crate::args::start::{StartOptions, contacts, count, day, start_options, time
 use crate::args::{Request, UsageError};
 use std::alloc::{AllocError, Global};
 
-/// What `debug` is asked for.
+/// The arguments of `debug`.
 #[derive(Clone, Copy)]
 pub struct DebugRequest<'a> {
     /// The path of the code file.
     pub code: &'a str,
     /// The path of the command file.
     pub commands: &'a str,
-    /// How it starts.
+    /// The start options.
     pub start: StartOptions,
 }
 
@@ -44,7 +44,7 @@ The commands, in order, with blanks, line ends and comments ('#' to the end of t
   break LINE           sets the one break line, 1 to 65535; a line of the script
   clear                takes the break line away
   contact C closed     contact C, 0 to 15, is closed
-  contact C open       it is opened
+  contact C open       it is read_opening
   show                 lists the last 64 announcements
 
 The lines:
@@ -64,7 +64,7 @@ The lines:
   commands 1:5: Number line 1, column 5 of COMMANDS has no number in range; 'Expected': another
                        word is expected there; 'Byte': no such byte may be there
 
-Example: a plan that lowers and raises a rate as contact 3 is closed and opened
+Example: a plan that lowers and raises a rate as contact 3 is closed and read_opening
   printf 'break 9 run 100 contact 3 closed run 2 next show' > day.commands
   dabplan debug examples/contact_lowers_a_rate.code day.commands
 
@@ -84,7 +84,7 @@ pub(crate) fn grammar<'a>(alloc: Global) -> Result<Grammar<'a>, AllocError> {
         .argument(contacts())
 }
 
-/// What `debug` is asked for.
+/// Reads the arguments of `debug`.
 pub(crate) fn request<'a>(values: &Values<'_, 'a>) -> Result<Request<'a>, UsageError<'a>> {
     let start = start_options(values)?;
     Ok(Request::Debug(DebugRequest {

@@ -5,25 +5,25 @@ use crate::args::shared::file;
 use crate::args::{Request, UsageError};
 use std::alloc::{AllocError, Global};
 
-/// What `diff` is asked for.
+/// The arguments of `diff`.
 #[derive(Clone, Copy)]
 pub struct DiffRequest<'a> {
-    /// The path of the script that is led from.
+    /// The path of the script with the configuration to start from.
     pub from: &'a str,
-    /// The path of the script that is led to.
+    /// The path of the script with the configuration to reach.
     pub to: &'a str,
 }
 
 const PAGE: Page = Page {
     name: "diff",
-    about: "Writes the plan that leads from one configuration to another",
+    about: "Writes the plan that changes one configuration into another",
     long_about: LONG,
     usage: USAGE,
     after: AFTER,
 };
 
 const LONG: &str = "\
-Writes the plan that leads from one configuration to another.
+Writes the plan that changes one configuration into another.
 
 In go two scripts, of which the configurations count that they begin with. Out comes the script of
 a plan that begins with the first and leads to the second by one reconfiguration: the edits between
@@ -63,10 +63,10 @@ pub(crate) fn grammar<'a>(alloc: Global) -> Result<Grammar<'a>, AllocError> {
             "FROM",
             "The script whose opening the plan begins with",
         ))?
-        .argument(file("to", "TO", "The script whose opening the plan leads to"))
+        .argument(file("to", "TO", "The script whose opening the plan ends with"))
 }
 
-/// What `diff` is asked for.
+/// Reads the arguments of `diff`.
 pub(crate) fn request<'a>(values: &Values<'_, 'a>) -> Result<Request<'a>, UsageError<'a>> {
     let from = values.some_text("from")?;
     let to = values.some_text("to")?;

@@ -1,14 +1,14 @@
-//! The command line of `frame`, over a record or a script.
+//! The command line of `frame`, for a record or a script.
 
 use crate::args::parser::{Argument, Grammar, Kind, Page, Rule, Values};
-use crate::args::shared::{file, flag, mode, mode_of, number, ruled};
+use crate::args::shared::{file, flag, mode, mode_of, number, with_rule};
 use crate::args::{Request, UsageError};
-use console::hexadecimal::word_of;
+use console::hexadecimal::u16_of;
 use fib_codec::Mode;
 use mux_config::Ensemble;
 use std::alloc::{AllocError, Global};
 
-/// What `frame` is asked for.
+/// The arguments of `frame`.
 #[derive(Clone, Copy)]
 pub struct FrameRequest<'a> {
     /// The path of the configuration record, or `-` for standard input.
@@ -17,22 +17,22 @@ pub struct FrameRequest<'a> {
     pub mode: Mode,
     /// The identifier of the ensemble and the CIF count, without change flags.
     pub ensemble: Ensemble,
-    /// Which page of the configuration, from 0.
+    /// The page number, from 0.
     pub page: u16,
-    /// Whether the FIBs are written as bytes, in place of digits.
+    /// Whether the FIBs are written as bytes rather than as digits.
     pub raw: bool,
 }
 
-/// What `frame --script` is asked for.
+/// The arguments of `frame --script`.
 #[derive(Clone, Copy)]
 pub struct FrameScriptRequest<'a> {
     /// The path of the script, or `-` for standard input.
     pub script: &'a str,
     /// The CIF count, 0 to 4999.
     pub count: u16,
-    /// Which page of the configuration, from 0.
+    /// The page number, from 0.
     pub page: u16,
-    /// Whether the FIBs are written as bytes, in place of digits.
+    /// Whether the FIBs are written as bytes rather than as digits.
     pub raw: bool,
 }
 
@@ -94,10 +94,10 @@ pub(crate) fn grammar<'a>(alloc: Global) -> Result<Grammar<'a>, AllocError> {
         .argument(number("page", "K", 0, 65535, Some("0"), page_help))?
         .argument(mode())?
         .argument(script())?
-        .argument(flag("raw", "Writes the FIBs as bytes in place of digits"))
+        .argument(flag("raw", "Writes the FIBs as bytes, not as hexadecimal digits"))
 }
 
-/// The identifier of the ensemble, which a script has in itself.
+/// The ensemble identifier; a script has its own.
 fn ensemble() -> Argument {
     Argument {
         name: "ensemble",
@@ -112,22 +112,22 @@ fn ensemble() -> Argument {
 fn count() -> Argument {
     let help =
         "The CIF count of the frame, 0 to 4999; FIG 0/0 is sent where the mode's 4, 1, 1 or 2 divides it";
-    ruled(number("count", "N", 0, 4999, None, help), Rule::Required)
+    with_rule(number("count", "N", 0, 4999, None, help), Rule::Required)
 }
 
-/// The option that reads a script in place of a record.
+/// The option that reads a script rather than a record.
 fn script() -> Argument {
     let help = "CONFIG is a script: a frame of its opening, of its ensemble and in its mode";
-    ruled(flag("script", help), Rule::ExcludesBoth("ensemble", "mode"))
+    with_rule(flag("script", help), Rule::ExcludesBoth("ensemble", "mode"))
 }
 
-/// What `frame` is asked for.
+/// Reads the arguments of `frame`.
 pub(crate) fn request<'a>(values: &Values<'_, 'a>) -> Result<Request<'a>, UsageError<'a>> {
     if values.flag("script") {
         return script_request(values);
     }
     let digits = values.text("ensemble").unwrap_or("");
-    let Some(eid) = word_of(digits) else {
+    let Some(eid) = u16_of(digits) else {
         return Err(UsageError::Digits {
             option: "--ensemble <HHHH>",
             value: digits,
@@ -147,7 +147,7 @@ pub(crate) fn request<'a>(values: &Values<'_, 'a>) -> Result<Request<'a>, UsageE
     }))
 }
 
-/// What `frame --script` is asked for.
+/// Reads the arguments of `frame --script`.
 fn script_request<'a>(values: &Values<'_, 'a>) -> Result<Request<'a>, UsageError<'a>> {
     Ok(Request::FrameScript(FrameScriptRequest {
         script: values.some_text("config")?,

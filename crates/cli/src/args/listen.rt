@@ -1,19 +1,19 @@
-//! The command line of `listen`, with a listing or a script for its answer.
+//! The command line of `listen`, whose result is a listing or a script.
 
 use crate::args::parser::{Argument, Grammar, Page, Rule, Values};
-use crate::args::shared::{file, flag, mode_of, number, ruled};
+use crate::args::shared::{file, flag, mode_of, number, with_rule};
 use crate::args::{Request, UsageError};
 use fib_codec::Mode;
 use std::alloc::{AllocError, Global};
 
-/// What `listen --script` is asked for.
+/// The arguments of `listen --script`.
 #[derive(Clone, Copy)]
 pub struct ListenScriptRequest<'a> {
     /// The path of the file of FIBs, or `-` for standard input.
     pub file: &'a str,
     /// The transmission mode, which FIBs do not carry.
     pub mode: Mode,
-    /// The period, in frames, 1 to 60; None for the usual one.
+    /// The period, in frames, 1 to 60; `None` for the default.
     pub period: Option<u8>,
     /// The notice, in frames, 12 to 248.
     pub notice: u8,
@@ -82,44 +82,44 @@ pub(crate) fn grammar<'a>(alloc: Global) -> Result<Grammar<'a>, AllocError> {
         .argument(budget())
 }
 
-/// The transmission mode of the script that is printed.
+/// The transmission mode of the printed script.
 fn mode() -> Argument {
     let help = "The transmission mode of the script, 1 to 4, which FIBs do not carry";
-    ruled(
+    with_rule(
         number("mode", "M", 1, 4, Some("1"), help),
         Rule::Needs("script"),
     )
 }
 
-/// Its period.
+/// The period of the printed script.
 fn period() -> Argument {
     let help =
         "The period of the script in frames, 1 to 60 [default: room for two such configurations]";
-    ruled(
+    with_rule(
         number("period", "P", 1, 60, None, help),
         Rule::Needs("script"),
     )
 }
 
-/// Its notice.
+/// The notice of the printed script.
 fn notice() -> Argument {
     let help = "The notice of the script in frames, 12 to 248";
-    ruled(
+    with_rule(
         number("notice", "W", 12, 248, Some("240"), help),
         Rule::Needs("script"),
     )
 }
 
-/// Its budget.
+/// The budget of the printed script.
 fn budget() -> Argument {
     let help = "The budget of the script in instructions per frame, 1 to 255";
-    ruled(
+    with_rule(
         number("budget", "B", 1, 255, Some("20"), help),
         Rule::Needs("script"),
     )
 }
 
-/// What `listen` is asked for.
+/// Reads the arguments of `listen`.
 pub(crate) fn request<'a>(values: &Values<'_, 'a>) -> Result<Request<'a>, UsageError<'a>> {
     if values.flag("script") {
         return script_request(values);
@@ -127,7 +127,7 @@ pub(crate) fn request<'a>(values: &Values<'_, 'a>) -> Result<Request<'a>, UsageE
     Ok(Request::Listen(values.some_text("file")?))
 }
 
-/// What `listen --script` is asked for.
+/// Reads the arguments of `listen --script`.
 fn script_request<'a>(values: &Values<'_, 'a>) -> Result<Request<'a>, UsageError<'a>> {
     let file = values.some_text("file")?;
     let mode = mode_of(values.some_number("mode")?).ok_or(UsageError::Nothing)?;

@@ -6,16 +6,16 @@ use crate::args::shared::{file, flag, number};
 use crate::args::start::{StartOptions, contacts, count, day, start_options, time};
 use std::alloc::{AllocError, Global};
 
-/// What `live` is asked for.
+/// The arguments of `live`.
 #[derive(Clone, Copy)]
 pub struct LiveRequest<'a> {
     /// The path of the code file.
     pub code: &'a str,
-    /// How it starts.
+    /// The start options.
     pub start: StartOptions,
-    /// How many frames, at the beginning, are made and not written.
+    /// The number of frames at the beginning that are generated but not written.
     pub skip: u32,
-    /// Whether swaps, notices that begin and the end of the plan are reported on standard error.
+    /// Whether swaps, the start of each notice and the end of the plan are reported on standard error.
     pub status: bool,
 }
 
@@ -31,7 +31,7 @@ const LONG: &str = "\
 Plays a plan of reconfigurations over standard input, line by line, as the lines come.
 
 In go a code file, the binary form of a plan, and lines as those of an event file: frames of 24 ms,
-and contacts that are closed or opened between them. The FIBs of a line's frames go to standard
+and contacts that are closed or read_opening between them. The FIBs of a line's frames go to standard
 output before the next line is read: three FIBs of 32 bytes a frame, in transmission mode 3 four.
 All messages go to standard error.";
 
@@ -42,7 +42,7 @@ dabplan live <CODE> [--count <N>] [--day <N> | --time <HH:MM:SS>] [--contacts <H
 const AFTER: &str = "\
 A line holds whole steps, with blanks between, or none:
   frames 1                     one frame is made; up to 3600000 at a time
-  contact 3 closed             contact 3, of 0 to 15, is closed; 'open': it is opened
+  contact 3 closed             contact 3, of 0 to 15, is closed; 'open': it is read_opening
   contact 3 open frames 2      one step after another
   # 06:00 studio on air        a comment; nothing is done
 
@@ -89,13 +89,13 @@ pub(crate) fn grammar<'a>(alloc: Global) -> Result<Grammar<'a>, AllocError> {
         .argument(flag("status", status_help))
 }
 
-/// The frames that are not written.
+/// The option for the number of frames to skip.
 fn skip() -> Argument {
     let help = "How many frames, at the beginning, are made and not written, 0 to 4294967295";
     number("skip", "N", 0, 4294967295, Some("0"), help)
 }
 
-/// What `live` is asked for.
+/// Reads the arguments of `live`.
 pub(crate) fn request<'a>(values: &Values<'_, 'a>) -> Result<LiveRequest<'a>, UsageError<'a>> {
     let start = start_options(values)?;
     Ok(LiveRequest {

@@ -5,12 +5,12 @@ use crate::args::shared::file;
 use crate::args::{Request, UsageError};
 use std::alloc::{AllocError, Global};
 
-/// What `map` is asked for.
+/// The arguments of `map`.
 #[derive(Clone, Copy)]
 pub struct MapRequest<'a> {
     /// The path of the script.
     pub script: &'a str,
-    /// The path of the drawing that is made, if one is asked for.
+    /// The path of the drawing to write, if any.
     pub drawing: Option<&'a str>,
 }
 
@@ -62,7 +62,7 @@ pub(crate) fn grammar<'a>(alloc: Global) -> Result<Grammar<'a>, AllocError> {
         .argument(drawing())
 }
 
-/// The drawing.
+/// The option for the drawing.
 fn drawing() -> Argument {
     Argument {
         name: "svg",
@@ -73,7 +73,7 @@ fn drawing() -> Argument {
     }
 }
 
-/// What `map` is asked for.
+/// Reads the arguments of `map`.
 pub(crate) fn request<'a>(values: &Values<'_, 'a>) -> Result<Request<'a>, UsageError<'a>> {
     Ok(Request::Map(MapRequest {
         script: values.some_text("script")?,

@@ -1,4 +1,4 @@
-//! The grammar of a command line, and what one asks for: the one place at which the parser of the kit, `clap`, is named.
+//! The command-line grammar and its parsed values. Only this file names the kit's parser, `clap`.
 
 use crate::args::UsageError;
 use clap::error::ErrorKind;
@@ -12,58 +12,58 @@ use std::fmt;
 pub(crate) struct Page {
     /// The command's name.
     pub name: &'static str,
-    /// What it does, in a line.
+    /// Its one-line description.
     pub about: &'static str,
-    /// The same at length.
+    /// Its long description.
     pub long_about: &'static str,
-    /// Its command lines.
+    /// Its usage lines.
     pub usage: &'static str,
-    /// What comes after its options: inputs, printed lines, an example, exit statuses.
+    /// The text after its options: inputs, printed lines, an example, exit statuses.
     pub after: &'static str,
 }
 
-/// What an argument takes.
+/// The kind of an argument.
 #[derive(Clone, Copy)]
 pub(crate) enum Kind {
-    /// A value without an option, which is required.
+    /// A required value without an option.
     Operand,
     /// An option without a value.
     Flag,
-    /// An option with a text, or with this one where it is left out.
+    /// An option with a text, and its default.
     Text(Option<&'static str>),
-    /// An option with a number from the first to the second of these, or with this one where it is left out.
+    /// An option with a number: its lowest and highest value, and its default.
     Number(i64, i64, Option<&'static str>),
 }
 
-/// What an argument says of other arguments.
+/// How an argument depends on other arguments.
 #[derive(Clone, Copy)]
 pub(crate) enum Rule {
-    /// Nothing; it may be left out.
+    /// It is optional.
     Free,
     /// It is required.
     Required,
-    /// It is required, but where this one is there.
+    /// It is required unless this one is present.
     RequiredUnless(&'static str),
-    /// This one has to be there too.
+    /// It requires this one.
     Needs(&'static str),
-    /// This one may not be there too.
+    /// It conflicts with this one.
     Excludes(&'static str),
-    /// Neither of these may be there too.
+    /// It conflicts with both of these.
     ExcludesBoth(&'static str, &'static str),
 }
 
 /// An argument of a command.
 #[derive(Clone, Copy)]
 pub(crate) struct Argument {
-    /// Its name, which is that of its option too.
+    /// Its name, which is also that of its option.
     pub name: &'static str,
-    /// What help calls its value.
+    /// The name of its value in the help.
     pub value_name: &'static str,
     /// Its line of help.
     pub help: &'static str,
-    /// What it takes.
+    /// Its kind.
     pub kind: Kind,
-    /// What it says of others.
+    /// How it depends on others.
     pub rule: Rule,
 }
 
@@ -75,7 +75,7 @@ pub(crate) struct Grammar<'a> {
 }
 
 impl<'a> Grammar<'a> {
-    /// That of a program without commands so far.
+    /// The grammar of a program, before its commands are added.
     pub fn of_program(
         alloc: Global,
         name: &'static str,
@@ -93,7 +93,7 @@ impl<'a> Grammar<'a> {
         Grammar { alloc, command }
     }
 
-    /// That of a command without arguments so far.
+    /// The grammar of a command, before its arguments are added.
     pub fn of_command(alloc: Global, page: Page) -> Self {
         let command = Command::new(alloc, page.name)
             .about(page.about)
@@ -103,29 +103,29 @@ impl<'a> Grammar<'a> {
         Grammar { alloc, command }
     }
 
-    /// The same with one command more.
+    /// Adds a command.
     pub fn command(self, other: Grammar<'a>) -> Result<Self, AllocError> {
         let alloc = self.alloc;
         let command = self.command.subcommand(other.command)?;
         Ok(Grammar { alloc, command })
     }
 
-    /// The same with one argument more.
+    /// Adds an argument.
     pub fn argument(self, argument: Argument) -> Result<Self, AllocError> {
         let alloc = self.alloc;
-        let arg = ruled(arg_of(alloc, argument), argument.rule)?;
+        let arg = with_rule(arg_of(alloc, argument), argument.rule)?;
         let command = self.command.arg(arg)?;
         Ok(Grammar { alloc, command })
     }
 
-    /// What a command line asks for.
+    /// Parses a command line.
     pub fn parsed<S: AsStr>(self, args: &'a [S]) -> Result<Parsed<'a>, UsageError<'a>> {
         let matches = self.command.try_get_matches_from(args)?;
         Ok(Parsed { matches })
     }
 }
 
-/// An argument but for what it says of others.
+/// An argument, without its dependence on others.
 fn arg_of<'a>(alloc: Global, argument: Argument) -> Arg<'a> {
     let arg = Arg::new(alloc, argument.name).help(argument.help);
     match argument.kind {
@@ -146,7 +146,7 @@ fn arg_of<'a>(alloc: Global, argument: Argument) -> Arg<'a> {
     }
 }
 
-/// An argument with what its value is where it is left out.
+/// Adds a default value.
 fn with_default<'a>(arg: Arg<'a>, default: Option<&'static str>) -> Arg<'a> {
     match default {
         Some(default) => arg.default_value(default),
@@ -154,8 +154,8 @@ fn with_default<'a>(arg: Arg<'a>, default: Option<&'static str>) -> Arg<'a> {
     }
 }
 
-/// An argument with what it says of others.
-fn ruled<'a>(arg: Arg<'a>, rule: Rule) -> Result<Arg<'a>, AllocError> {
+/// Adds the dependence on other arguments.
+fn with_rule<'a>(arg: Arg<'a>, rule: Rule) -> Result<Arg<'a>, AllocError> {
     match rule {
         Rule::Free => Ok(arg),
         Rule::Required => Ok(arg.required(true)),
@@ -166,14 +166,14 @@ fn ruled<'a>(arg: Arg<'a>, rule: Rule) -> Result<Arg<'a>, AllocError> {
     }
 }
 
-/// A command line that the grammar has.
+/// A command line that matches the grammar.
 #[derive(Drop)]
 pub(crate) struct Parsed<'a> {
     matches: ArgMatches<'a>,
 }
 
 impl<'a> Parsed<'a> {
-    /// Its command, with the values of its arguments; None where it names none.
+    /// Its command, with the values of the arguments; `None` if it names none.
     pub fn command(&self) -> Option<(&'a str, Values<'_, 'a>)> {
         let (name, matches) = self.matches.subcommand()?;
         Some((name, Values { matches }))
@@ -187,45 +187,45 @@ pub(crate) struct Values<'m, 'a> {
 }
 
 impl<'m, 'a> Values<'m, 'a> {
-    /// The text of an argument; None where it has none.
+    /// The text of an argument; `None` if it has none.
     pub fn text(&self, name: &'static str) -> Option<&'a str> {
         self.matches.get_str(name)
     }
 
-    /// The text of an argument that has one.
+    /// The text of an argument that is required or has a default.
     pub fn some_text(&self, name: &'static str) -> Result<&'a str, UsageError<'a>> {
         self.matches.get_str(name).ok_or(UsageError::Nothing)
     }
 
-    /// The number of an argument; None where it has none.
+    /// The number of an argument; `None` if it has none.
     pub fn number(&self, name: &'static str) -> Option<u32> {
         self.matches.get_one::<u32>(name)
     }
 
-    /// The number of an argument that has one.
+    /// The number of an argument that is required or has a default.
     pub fn some_number(&self, name: &'static str) -> Result<u32, UsageError<'a>> {
         self.number(name).ok_or(UsageError::Nothing)
     }
 
-    /// The same, below 65,536.
+    /// [`some_number`](Self::some_number), below 65,536.
     pub fn some_u16(&self, name: &'static str) -> Result<u16, UsageError<'a>> {
         let number = self.some_number(name)?;
         u16::try_from(number).map_err(|_| UsageError::Nothing)
     }
 
-    /// The same, below 256.
+    /// [`some_number`](Self::some_number), below 256.
     pub fn some_u8(&self, name: &'static str) -> Result<u8, UsageError<'a>> {
         let number = self.some_number(name)?;
         u8::try_from(number).map_err(|_| UsageError::Nothing)
     }
 
-    /// Whether a flag is there.
+    /// Whether a flag is present.
     pub fn flag(&self, name: &'static str) -> bool {
         self.matches.get_flag(name)
     }
 }
 
-/// A text that the parser has for the user.
+/// A text of the parser for the user.
 #[derive(Debug, Drop)]
 pub struct Message {
     error: clap::Error,

@@ -6,7 +6,7 @@ use crate::args::start::{StartOptions, contacts, count, day, start_options, time
 use crate::args::{Request, UsageError};
 use std::alloc::{AllocError, Global};
 
-/// What `play` is asked for.
+/// The arguments of `play`.
 #[derive(Clone, Copy)]
 pub struct PlayRequest<'a> {
     /// The path of the code file.
@@ -15,7 +15,7 @@ pub struct PlayRequest<'a> {
     pub events: &'a str,
     /// The path of the file that the frames are written to.
     pub out: &'a str,
-    /// How it starts.
+    /// The start options.
     pub start: StartOptions,
 }
 
@@ -31,7 +31,7 @@ const LONG: &str = "\
 Plays a plan of reconfigurations, frame by frame.
 
 In go a code file, the binary form of a plan, and a text of events: frames of 24 ms, and contacts
-that are closed or opened between them. The FIBs of the frames go to OUT, one frame after
+that are closed or read_opening between them. The FIBs of the frames go to OUT, one frame after
 another: three FIBs of 32 bytes, in transmission mode 3 four. One line says how many frames.";
 
 const USAGE: &str = "\
@@ -42,7 +42,7 @@ const AFTER: &str = "\
 The events, in order, with blanks, line ends and comments ('#' to the end of the line) between:
   frames N             N frames are made, 1 to 3600000
   contact C closed     contact C, 0 to 15, is closed
-  contact C open       it is opened
+  contact C open       it is read_opening
 
 The line:
   played 70 frames
@@ -56,7 +56,7 @@ The line:
 
 CODE and EVENTS are read before OUT is made. Where the plan or the events are refused OUT is empty.
 
-Example: a plan that lowers and raises a rate as contact 3 is closed and opened
+Example: a plan that lowers and raises a rate as contact 3 is closed and read_opening
   printf 'frames 1 contact 3 closed frames 40 contact 3 open frames 30' > day.events
   dabplan play examples/contact_lowers_a_rate.code day.events day.fib
   dabplan listen day.fib
@@ -78,7 +78,7 @@ pub(crate) fn grammar<'a>(alloc: Global) -> Result<Grammar<'a>, AllocError> {
         .argument(contacts())
 }
 
-/// What `play` is asked for.
+/// Reads the arguments of `play`.
 pub(crate) fn request<'a>(values: &Values<'_, 'a>) -> Result<Request<'a>, UsageError<'a>> {
     let start = start_options(values)?;
     Ok(Request::Play(PlayRequest {

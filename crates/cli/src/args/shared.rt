@@ -1,4 +1,4 @@
-//! Arguments that several commands have.
+//! Arguments that several commands share.
 
 ghost use Rattle.std.specs.Prelude.{◌≡◌};
 ghost use Rattle.cli.specs.Numbers.{mode_of_number};
@@ -17,7 +17,7 @@ pub(crate) fn file(name: &'static str, value_name: &'static str, help: &'static 
     }
 }
 
-/// An option without a value, which may be left out.
+/// An optional flag.
 pub(crate) fn flag(name: &'static str, help: &'static str) -> Argument {
     Argument {
         name,
@@ -28,7 +28,7 @@ pub(crate) fn flag(name: &'static str, help: &'static str) -> Argument {
     }
 }
 
-/// An option with a number from `lowest` to `highest`, which may be left out.
+/// An optional number from `lowest` to `highest`.
 pub(crate) fn number(
     name: &'static str,
     value_name: &'static str,
@@ -46,8 +46,8 @@ pub(crate) fn number(
     }
 }
 
-/// The same argument, which says this of others.
-pub(crate) fn ruled(argument: Argument, rule: Rule) -> Argument {
+/// The argument with this rule.
+pub(crate) fn with_rule(argument: Argument, rule: Rule) -> Argument {
     Argument { rule, ..argument }
 }
 
@@ -65,7 +65,7 @@ pub(crate) fn explain() -> Argument {
     )
 }
 
-/// The mode of this number; None where it is not 1 to 4.
+/// The mode of this number; `None` if it is not 1 to 4.
 pub(crate) fn mode_of(number: u32) -> Option<Mode>
     ensures { result ≡ mode_of_number number }
 {

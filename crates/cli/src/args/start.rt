@@ -1,24 +1,24 @@
-//! How a code is asked to start: the options of `play`, `debug` and `live` for its first frame.
+//! The start options of `play`, `debug` and `live`: CIF count, time of day and contacts of the first frame.
 
 ghost use Rattle.std.specs.Prelude.{◌≡◌, ◌≢◌, ◌<◌, ℕ, None, IfSome};
-ghost use Rattle.script_tokens.specs.Spelling.{time_word};
+ghost use Rattle.script_tokens.specs.Spelling.{time_text};
 ghost use Rattle.script_tokens.specs.Times.{frame_at};
 
 use crate::args::UsageError;
 use crate::args::parser::{Argument, Kind, Rule, Values};
 use crate::args::shared::number;
-use console::hexadecimal::word_of;
+use console::hexadecimal::u16_of;
 use plan_code::Contacts;
 use script_tokens::number as numbers;
 
-/// How a code starts to be played, which the code does not say.
+/// The start of a playback, which the code does not define.
 #[derive(Clone, Copy)]
 pub struct StartOptions {
     /// The CIF count of the first frame.
     pub count: u16,
-    /// The frame of the day of the first frame.
+    /// The first frame's index in the day.
     pub day: u32,
-    /// The contacts that are closed at first.
+    /// The contacts that are closed at the start.
     pub contacts: Contacts,
 }
 
@@ -28,24 +28,24 @@ pub(crate) fn count() -> Argument {
     number("count", "N", 0, 65535, Some("0"), help)
 }
 
-/// The frame of the day of the first frame.
+/// The first frame's index in the day.
 pub(crate) fn day() -> Argument {
     let help = "The frame of the day of the first frame, 0 to 3599999, in frames of 24 ms";
     number("day", "N", 0, 4294967295, Some("0"), help)
 }
 
-/// The time of the day at the first frame.
+/// The time of day at the first frame.
 pub(crate) fn time() -> Argument {
     Argument {
         name: "time",
         value_name: "HH:MM:SS",
-        help: "The time of the day at the first frame, 00:00:00 to 23:59:59, in place of --day",
+        help: "The time of the day at the first frame, 00:00:00 to 23:59:59, instead of --day",
         kind: Kind::Text(None),
         rule: Rule::Excludes("day"),
     }
 }
 
-/// The contacts that are closed at first.
+/// The contacts that are closed at the start.
 pub(crate) fn contacts() -> Argument {
     Argument {
         name: "contacts",
@@ -56,10 +56,10 @@ pub(crate) fn contacts() -> Argument {
     }
 }
 
-/// How a code is asked to start.
+/// Reads the start options.
 pub(crate) fn start_options<'a>(values: &Values<'_, 'a>) -> Result<StartOptions, UsageError<'a>> {
     let digits = values.text("contacts").unwrap_or("");
-    let Some(contacts) = word_of(digits) else {
+    let Some(contacts) = u16_of(digits) else {
         return Err(UsageError::Digits {
             option: "--contacts <HHHH>",
             value: digits,
@@ -74,7 +74,7 @@ pub(crate) fn start_options<'a>(values: &Values<'_, 'a>) -> Result<StartOptions,
     })
 }
 
-/// The frame of the day at which a code is asked to start, by `--time` or else by `--day`.
+/// The first frame's index in the day, from `--time` or else from `--day`.
 fn day_option<'a>(values: &Values<'_, 'a>) -> Result<u32, UsageError<'a>> {
     match values.text("time") {
         Some(text) => day_at(text).ok_or(UsageError::Time(text)),
@@ -82,12 +82,12 @@ fn day_option<'a>(values: &Values<'_, 'a>) -> Result<u32, UsageError<'a>> {
     }
 }
 
-/// The first frame of the day, in frames of 24 ms, that begins at the time `HH:MM:SS` of a text or after it, as a script's
-/// times count it; None where the text is no time from 00:00:00 to 23:59:59.
+/// The first frame of the day, in frames of 24 ms, that begins at or after the time `HH:MM:SS`, as a script's
+/// times are counted; `None` if the text is not a time from 00:00:00 to 23:59:59.
 pub fn day_at(text: &str) -> Option<u32>
     ensures found { IfSome result (λ day. (second : ℕ) × (second < 86400)
-        × (text.now ≡ time_word second) × (day ≡ frame_at second)) }
-    ensures none { result ≡ None → (second : ℕ) → second < 86400 → text.now ≢ time_word second }
+        × (text.now ≡ time_text second) × (day ≡ frame_at second)) }
+    ensures none { result ≡ None → (second : ℕ) → second < 86400 → text.now ≢ time_text second }
 {
     match numbers::time(text.as_bytes()) {
         Some(time) => Some(time.frame().get()),

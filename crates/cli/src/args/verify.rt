@@ -5,7 +5,7 @@ use crate::args::shared::{explain, file};
 use crate::args::{Request, UsageError};
 use std::alloc::{AllocError, Global};
 
-/// What `verify` is asked for.
+/// The arguments of `verify`.
 #[derive(Clone, Copy)]
 pub struct VerifyRequest<'a> {
     /// The path of the code file.
@@ -65,7 +65,7 @@ The causes of a refusal:
                  times within the notice
   FallsOff       the plan does not end with an instruction that ends it
 
-Example: a plan that lowers and raises a rate as contact 3 is closed and opened
+Example: a plan that lowers and raises a rate as contact 3 is closed and read_opening
   dabplan verify examples/contact_lowers_a_rate.code
 
 Exit status:
@@ -80,7 +80,7 @@ pub(crate) fn grammar<'a>(alloc: Global) -> Result<Grammar<'a>, AllocError> {
         .argument(explain())
 }
 
-/// What `verify` is asked for.
+/// Reads the arguments of `verify`.
 pub(crate) fn request<'a>(values: &Values<'_, 'a>) -> Result<Request<'a>, UsageError<'a>> {
     Ok(Request::Verify(VerifyRequest {
         code: values.some_text("code")?,

@@ -1,4 +1,4 @@
-//! `dabplan compile`: a script compiled into a code file.
+//! `dabplan compile`: compiles a script into a code file.
 
 ghost use Rattle.std.specs.Prelude.{IfOk, IfErr, OnOk};
 ghost use Rattle.std.specs.Io.KnownBytes.{Appends};
@@ -17,29 +17,29 @@ use std::alloc::{AllocError, Global};
 use std::io::{self, Write};
 use thiserror::Error;
 
-/// The file of a compiled script, and how many instructions, labels and configurations the code has.
+/// A compiled script: its code file, and the numbers of instructions, labels and configurations.
 #[derive(Drop)]
 pub struct Compiled {
     /// The bytes of the code file.
     pub file: Vec<u8>,
-    /// The instructions of the code.
+    /// The number of instructions.
     pub instructions: usize,
-    /// Its labels.
+    /// The number of labels.
     pub labels: usize,
-    /// Its configurations.
+    /// The number of configurations.
     pub configurations: usize,
 }
 
-/// Why a script is not compiled: it is no script, or its plan is refused; or memory was refused.
+/// Why a script is not compiled.
 #[derive(Clone, Copy, Debug, PartialEq, Eq, Error)]
 pub enum ScriptRefusal {
-    /// The text is no script.
+    /// The text is not a script.
     #[error("{0}")]
     Script(ScriptFault),
     /// The plan is refused.
     #[error("{0}")]
     Plan(CompileFault),
-    /// There was no memory.
+    /// Out of memory.
     #[error("no memory")]
     Memory,
 }
@@ -50,9 +50,9 @@ impl From<AllocError> for ScriptRefusal {
     }
 }
 
-/// Does what `compile` is asked for: writes the code file of the script, and prints how many instructions, labels and
-/// configurations it has; or why the script is refused, with what explains it where that is asked for. The file is made last,
-/// so that it stays as it was where anything before it fails.
+/// Runs `compile`: writes the code file of the script, and prints the numbers of instructions, labels and
+/// configurations; or prints why the script is refused, with an explanation if requested. The file is created last,
+/// so that an earlier failure leaves it as it was.
 pub fn show_compile<'a, F: Files, W: Write>(
     alloc: Global,
     request: &CompileRequest<'a>,
@@ -78,9 +78,9 @@ pub fn show_compile<'a, F: Files, W: Write>(
     Ok(Status::Done)
 }
 
-/// The code file of the script that a text is.
+/// Compiles the text of a script into a code file.
 ///
-/// `Script` where the text is no script, with the first fault from the front; `Plan` where the plan is refused.
+/// `Script` if the text is not a script, with its first fault; `Plan` if the plan is refused.
 pub fn compile_text(alloc: Global, text: &str) -> Result<Compiled, ScriptRefusal>
     ensures compiled { IfOk result (IsCompiled text.now) }
     ensures refused { IfErr result (IsUncompiled text.now) }
@@ -101,9 +101,9 @@ pub fn compile_text(alloc: Global, text: &str) -> Result<Compiled, ScriptRefusal
     })
 }
 
-/// The script that a text is, and its code.
+/// Parses and compiles the text of a script.
 ///
-/// The refusals of [`compile_text`].
+/// The refusals are those of [`compile_text`].
 pub(crate) fn made_of(alloc: Global, text: &str) -> Result<(Script, Code), ScriptRefusal>
     ensures made { IfOk result (λ made. IsMadeOf text.now made.0 made.1) }
     ensures refused { IfErr result (IsUncompiled text.now) }
@@ -121,7 +121,7 @@ pub(crate) fn made_of(alloc: Global, text: &str) -> Result<(Script, Code), Scrip
     Ok((script, code))
 }
 
-/// Prints the numbers of a code's parts.
+/// Prints the numbers of instructions, labels and configurations.
 fn print_counts<W: Write>(compiled: &Compiled, out: &mut W) -> io::Result<()>
     ensures { OnOk result (Appends (W.contents out.old) (W.contents out.new)
         (counts_line compiled.now)) }

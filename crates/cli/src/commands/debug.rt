@@ -1,4 +1,4 @@
-//! `dabplan debug`: a plan code led by the commands of a file.
+//! `dabplan debug`: steps through a plan code by the commands of a file.
 
 ghost use Rattle.std.specs.Prelude.{ℕ, List, OnOk, IfErr};
 ghost use Rattle.std.specs.List.{flat_map};
@@ -22,16 +22,16 @@ use std::alloc::Global;
 use std::io::{self, Write};
 use thiserror::Error;
 
-/// Why a code is not led to the end of the commands: the first of these that holds.
+/// Why the commands are not run to the end: the first of these that holds.
 #[derive(Clone, Copy, Debug, PartialEq, Eq, Error)]
 pub enum DebugFault {
-    /// The code can't be played from the start, as `play` would say: `Code`, `Refused` or `Start`.
+    /// The code can't be played from the start, as in `play`: `Code`, `Refused` or `Start`.
     #[error("{0}")]
     Playback(RunFault),
-    /// The text holds no commands; or there was no memory for them.
+    /// The text holds no commands; or out of memory.
     #[error("commands {0}")]
     Commands(EventFault),
-    /// There was no memory for the debugger.
+    /// Out of memory for the debugger.
     #[error("no memory")]
     Memory,
     /// The writer failed.
@@ -39,8 +39,8 @@ pub enum DebugFault {
     Output,
 }
 
-/// Does what `debug` is asked for: leads the code by the commands, and prints a line for each of them, with what
-/// belongs to it; or why the code isn't led.
+/// Runs `debug`: executes the commands and prints the lines of each; or prints why the code can't be
+/// debugged.
 pub fn show_debug<'a, F: Files, W: Write>(
     alloc: Global,
     request: &DebugRequest<'a>,
@@ -68,10 +68,10 @@ pub fn show_debug<'a, F: Files, W: Write>(
     }
 }
 
-/// Leads the code in a file by the commands of a text: the player starts at this CIF count and frame of the day, with
-/// these contacts closed. The lines of each command are printed.
+/// Runs the debugger commands of a text on the code in a file: the player starts at this CIF count and frame of the
+/// day, with these contacts closed. The lines of each command are printed.
 ///
-/// The first fault in the order of [`DebugFault`]. At every fault but `Output` nothing was printed.
+/// The first fault in the order of [`DebugFault`]. With every fault but `Output` nothing was printed.
 pub fn debug<W: Write>(
     alloc: Global,
     code: &[u8],
@@ -111,14 +111,14 @@ pub fn debug<W: Write>(
         Ok(debugger) => debugger,
         Err(_player) => return Err(DebugFault::Memory),
     };
-    match lead(&mut debugger, commands.as_slice(), out) {
+    match drive(&mut debugger, commands.as_slice(), out) {
         Ok(()) => Ok(()),
         Err(_) => Err(DebugFault::Output),
     }
 }
 
-/// Gives the commands one after another, and prints the lines of each.
-fn lead<W: Write>(
+/// Executes the commands in order, and prints the lines of each.
+fn drive<W: Write>(
     debugger: &mut Debugger<'_, Tables>,
     commands: &[Command],
     out: &mut W,
@@ -135,18 +135,18 @@ fn lead<W: Write>(
     Ok(())
 }
 
-/// Prints the line of a report, and `break` where the break line was met.
+/// Prints the line of a report, and `break` if the break line was reached.
 fn print_report<W: Write>(report: &Report, out: &mut W) -> io::Result<()>
     ensures { OnOk result (Appends (W.contents out.old) (W.contents out.new)
         (report_lines report.now)) }
 {
-    print_place(report, out)?;
+    print_position(report, out)?;
     print_swap(report, out)?;
     print_break(report.broke, out)
 }
 
-/// What was played, and where the player stands.
-fn print_place<W: Write>(report: &Report, out: &mut W) -> io::Result<()>
+/// Prints the frames and steps played, the pc and the source line.
+fn print_position<W: Write>(report: &Report, out: &mut W) -> io::Result<()>
     ensures { OnOk result (Appends (W.contents out.old) (W.contents out.new)
         (place_text report.now)) }
 {
@@ -157,7 +157,7 @@ fn print_place<W: Write>(report: &Report, out: &mut W) -> io::Result<()>
     write!(out, "frames {frames} steps {steps} pc {pc} line {line}")
 }
 
-/// The count, and the frames until the swap, to the end of the line.
+/// Prints the count and the frames until the swap, to the end of the line.
 fn print_swap<W: Write>(report: &Report, out: &mut W) -> io::Result<()>
     ensures { OnOk result (Appends (W.contents out.old) (W.contents out.new)
         (swap_text report.now)) }
@@ -169,7 +169,7 @@ fn print_swap<W: Write>(report: &Report, out: &mut W) -> io::Result<()>
     }
 }
 
-/// The line that says that the break line was met.
+/// Prints `break` if the break line was reached.
 fn print_break<W: Write>(broke: bool, out: &mut W) -> io::Result<()>
     ensures { OnOk result (Appends (W.contents out.old) (W.contents out.new) (break_line broke)) }
 {
@@ -179,7 +179,7 @@ fn print_break<W: Write>(broke: bool, out: &mut W) -> io::Result<()>
     Ok(())
 }
 
-/// Prints the announcements that are kept, after `show`; after another command nothing.
+/// Prints the recorded announcements after `show`; nothing after another command.
 fn print_shown<W: Write>(
     command: Command,
     debugger: &Debugger<'_, Tables>,
@@ -198,7 +198,7 @@ fn print_shown<W: Write>(
     }
 }
 
-/// Prints the announcements that are kept, oldest first.
+/// Prints the recorded announcements, oldest first.
 fn print_announcements<W: Write>(debugger: &Debugger<'_, Tables>, out: &mut W) -> io::Result<()>
     ensures { OnOk result (Appends (W.contents out.old) (W.contents out.new)
         (flat_map announcement_line debugger.now.announcements)) }
@@ -211,7 +211,7 @@ fn print_announcements<W: Write>(debugger: &Debugger<'_, Tables>, out: &mut W) -
     Ok(())
 }
 
-/// An announcement.
+/// Prints an announcement.
 fn print_announcement<W: Write>(announcement: Announcement, out: &mut W) -> io::Result<()>
     ensures { OnOk result (Appends (W.contents out.old) (W.contents out.new)
         (announcement_line announcement)) }

@@ -1,8 +1,8 @@
-//! `dabplan diff`: the plan that leads from one configuration to another.
+//! `dabplan diff`: prints a plan that changes one configuration into another.
 
 ghost use Rattle.std.specs.Prelude.{IfOk, IfErr, IfSome, string_bytes};
 ghost use Rattle.script_diff.specs.Openings.{IsOpening};
-ghost use Rattle.script_diff.specs.Refusals.{CanLead};
+ghost use Rattle.script_diff.specs.Refusals.{CanBePlanned};
 ghost use Rattle.cli.specs.Planned.{IsPlanText, IsPlanFault};
 
 use crate::args::DiffRequest;
@@ -11,24 +11,24 @@ use console::exit::{Failure, Status};
 use console::files::Files;
 use script_compiler::{CompileFault, compile};
 use script_diff::{
-    DiffFault, Opening, OpeningFault, fault_between, fits_period, opened, plan_between,
+    DiffFault, Opening, OpeningFault, fault_between, fits_period, plan_between, read_opening,
 };
 use script_front::print;
 use std::alloc::{AllocError, Global};
 use std::io::Write;
 use thiserror::Error;
 
-/// Why no plan is printed: nothing leads from one opening to the other; or memory was refused. That the plan is refused
+/// Why no plan is printed. `Refused` is only a safeguard.
 /// is no more than a safeguard.
 #[derive(Clone, Copy, Debug, PartialEq, Eq, Error)]
 pub enum PlanFault {
-    /// No plan leads from one opening to the other.
+    /// No plan changes one opening into the other.
     #[error("{0}")]
     Between(DiffFault),
     /// The plan is refused.
     #[error("{0}")]
     Refused(CompileFault),
-    /// There was no memory.
+    /// Out of memory.
     #[error("no memory")]
     Memory,
 }
@@ -44,7 +44,7 @@ impl From<AllocError> for PlanFault {
     }
 }
 
-/// Does what `diff` is asked for: prints the plan, or why there is none.
+/// Runs `diff`: prints the plan, or why there is none.
 pub fn show_diff<'a, F: Files, W: Write>(
     alloc: Global,
     request: &DiffRequest<'a>,
@@ -75,7 +75,7 @@ pub fn show_diff<'a, F: Files, W: Write>(
     }
 }
 
-/// The opening of the script in a file; None where there is none, after why was printed.
+/// The opening of the script in a file; `None` after printing why there is none.
 fn opening_in<'a, F: Files, W: Write>(
     alloc: Global,
     files: &mut F,
@@ -86,7 +86,7 @@ fn opening_in<'a, F: Files, W: Write>(
 {
     let bytes = read_script(alloc, files, path)?;
     let text = text_of(whole_characters(bytes.as_slice()), path)?;
-    match opened(alloc, text) {
+    match read_opening(alloc, text) {
         Ok(opening) => Ok(Some(opening)),
         Err(OpeningFault::Memory) => Err(Failure::Memory),
         Err(OpeningFault::Script(fault)) => {
@@ -100,14 +100,14 @@ fn opening_in<'a, F: Files, W: Write>(
     }
 }
 
-/// The text of the plan that leads from one opening to another by one reconfiguration (EN 300 401 clauses 6.4 and 6.5). It
-/// is compiled, so that what is printed is accepted.
+/// The text of the plan from one opening to another by one reconfiguration (EN 300 401 clauses 6.4 and 6.5). It
+/// is compiled, so that a printed plan is accepted.
 ///
-/// `Between` where no plan leads from one to the other.
+/// `Between` if there is no such plan.
 pub fn plan_text(alloc: Global, from: &Opening, to: &Opening) -> Result<String, PlanFault>
     requires { IsOpening to.now }
     ensures plan { IfOk result (λ text. IsPlanText from.now to.now (string_bytes text)) }
-    ensures leads { IfOk result (λ text. CanLead from.now to.now) }
+    ensures leads { IfOk result (λ text. CanBePlanned from.now to.now) }
     ensures fault { IfErr result (IsPlanFault from.now to.now) }
 {
     if let Some(fault) = fault_between(from, to) {

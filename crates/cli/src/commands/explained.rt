@@ -1,4 +1,4 @@
-//! Refusals with their explanations.
+//! Refusals with their explanation.
 
 ghost use Rattle.std.specs.Prelude.{◌++◌, OnOk, IfSome, codes};
 ghost use Rattle.std.specs.Io.KnownBytes.{Appends};
@@ -13,7 +13,7 @@ use std::alloc::Global;
 use std::fmt::Display;
 use std::io::{self, ErrorKind, Write};
 
-/// Prints a refusal as a line, which is the same whether it is explained or not, and behind it what explains it.
+/// Prints a refusal as a line, which is the same whether it is explained or not, and after it the explanation.
 pub fn print_refusal<D: Display, W: Write>(refusal: &D, notes: &[u8], out: &mut W) -> io::Result<()>
     ensures { OnOk result (IfSome (D.output refusal.now) (λ line.
         Appends (W.contents out.old) (W.contents out.new) (line ++ codes "\n" ++ notes.now))) }
@@ -22,9 +22,9 @@ pub fn print_refusal<D: Display, W: Write>(refusal: &D, notes: &[u8], out: &mut 
     out.write_all(notes)
 }
 
-/// Prints why a script of this path and text is refused, and where it is asked for what explains it.
+/// Prints why a script of this path and text is refused, and the explanation if requested.
 ///
-/// Where there is no memory for the explanation the line is printed alone, and `Memory` is the answer.
+/// If out of memory for the explanation, the line alone is printed and `Memory` is returned.
 pub(crate) fn show_script_refusal<'a, W: Write>(
     alloc: Global,
     path: &'a str,
@@ -45,7 +45,7 @@ pub(crate) fn show_script_refusal<'a, W: Write>(
     }
 }
 
-/// What explains why a script is refused, where that is asked for. The error is want of memory.
+/// Explains why a script is refused, if requested. The error is out of memory.
 #[inline(never)]
 fn script_notes(
     alloc: Global,
@@ -61,7 +61,7 @@ fn script_notes(
     Ok(notes)
 }
 
-/// Writes what explains why a script is refused.
+/// Writes the explanation of a refused script.
 fn note_script(
     alloc: Global,
     path: &str,
@@ -80,9 +80,9 @@ fn note_script(
     }
 }
 
-/// Prints why the code in a file of this path is refused, and where it is asked for what explains it.
+/// Prints why the code in a file of this path is refused, and the explanation if requested.
 ///
-/// Where there is no memory for the explanation the line is printed alone, and `Memory` is the answer.
+/// If out of memory for the explanation, the line alone is printed and `Memory` is returned.
 pub(crate) fn show_code_refusal<'a, W: Write>(
     alloc: Global,
     path: &'a str,
@@ -103,7 +103,7 @@ pub(crate) fn show_code_refusal<'a, W: Write>(
     }
 }
 
-/// What explains why a code is refused, where that is asked for. The error is want of memory.
+/// Explains why a code is refused, if requested. The error is out of memory.
 #[inline(never)]
 fn code_notes(
     alloc: Global,
@@ -119,7 +119,7 @@ fn code_notes(
     Ok(notes)
 }
 
-/// Writes what explains why a code is refused; nothing where the file holds no code.
+/// Writes the explanation of a refused code; nothing if the file holds no code.
 fn note_code(
     alloc: Global,
     path: &str,

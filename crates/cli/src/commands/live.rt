@@ -1,4 +1,4 @@
-//! `dabplan live`: a plan code played over standard input, line by line as the lines come.
+//! `dabplan live`: plays a plan code over standard input, line by line as the lines arrive.
 
 ghost use Rattle.std.specs.Prelude.{◌≡◌, ◌≢◌, ◌↔◌, true, take, OnOk, IfErr, IfSome};
 ghost use Rattle.plan_code.specs.declared.fault.CodeFault.TheVariants.{Memory as NoMemoryForCode};
@@ -26,15 +26,15 @@ use thiserror::Error;
 /// Why a plan is not played to the end of standard input. Each is one line on standard error, and `Status::Refused`.
 #[derive(Debug, Drop, Error)]
 pub enum LiveEnding<'a> {
-    /// There was no memory, or the code file or standard input can't be read.
+    /// Out of memory, or the code file or standard input can't be read.
     #[error("{0}")]
     Failed(Failure<'a>),
-    /// The code can't be played from the start, as `play` says; or the run stopped.
+    /// The code can't be played from the start, as in `play`; or the run stopped.
     #[error("{0}")]
     Live(LiveFault),
 }
 
-/// Standard error as what takes messages. It tells none of them, and one that can't be written is lost.
+/// Standard error as a message sink. Its model records no message, and one that can't be written is lost.
 #[derive(Drop)]
 struct StandardError<'a, F> {
     files: &'a mut F,
@@ -43,14 +43,14 @@ struct StandardError<'a, F> {
 impl<F: Files> Messages for StandardError<'_, F> {
     ghost use Rattle.std.specs.Prelude.{None};
 
-    ghost told = { λ _. None };
+    ghost reported = { λ _. None };
 
-    fn tell(&mut self, message: Message) {
-        self.files.tell(message);
+    fn report(&mut self, message: Message) {
+        self.files.report(message);
     }
 }
 
-/// Whether the arguments after the program's name ask for `live`.
+/// Whether the first argument is `live`.
 pub(crate) fn is_live<S: AsStr>(args: &[S]) -> bool {
     match args.first() {
         Some(first) => first.as_str() == "live",
@@ -58,8 +58,7 @@ pub(crate) fn is_live<S: AsStr>(args: &[S]) -> bool {
     }
 }
 
-/// Does what the arguments of `live` ask for, and answers its exit status. The frames go to `out`, and help that is asked for;
-/// all else goes to standard error.
+/// Runs `live` and returns its exit status. Frames and help go to `out`; everything else goes to standard error.
 #[inline(never)]
 pub(crate) fn answer_live<S: AsStr, F: Files, W: Write>(
     alloc: Global,
@@ -71,16 +70,16 @@ pub(crate) fn answer_live<S: AsStr, F: Files, W: Write>(
         Ok(request) => match play_live(alloc, &request, files, out) {
             Ok(()) => Status::Done,
             Err(ending) => {
-                files.tell(ending);
+                files.report(ending);
                 Status::Refused
             }
         },
         Err(UsageError::Help(help)) => show_help(alloc, UsageError::Help(help), out),
-        Err(unasked) => tell_mistake(alloc, unasked, files),
+        Err(unasked) => report_mistake(alloc, unasked, files),
     }
 }
 
-/// Prints the help that was asked for.
+/// Prints the help text.
 fn show_help<W: Write>(alloc: Global, unasked: UsageError<'_>, out: &mut W) -> Status {
     let mut output = Output::new(out);
     let Ok(status) = explain(alloc, unasked, &mut output) else {
@@ -92,30 +91,30 @@ fn show_help<W: Write>(alloc: Global, unasked: UsageError<'_>, out: &mut W) -> S
     }
 }
 
-/// Reports on standard error what is wrong with the arguments.
-pub(crate) fn tell_mistake<F: Files>(
+/// Reports an invalid command line on standard error.
+pub(crate) fn report_mistake<F: Files>(
     alloc: Global,
     unasked: UsageError<'_>,
     files: &mut F,
 ) -> Status {
     let mut text: Vec<u8> = Vec::new(alloc);
     let Ok(status) = explain(alloc, unasked, &mut text) else {
-        files.tell(Failure::Memory);
+        files.report(Failure::Memory);
         return Status::Refused;
     };
     if let Ok(line) = str::from_utf8(text.as_slice()) {
-        files.tell(line.trim());
+        files.report(line.trim());
     }
     status
 }
 
-/// Plays the code over standard input, line by line, to its end. The frames are written to `out` and flushed before the next
-/// line is read, as [`live`](plan_live::live) says; messages go to standard error.
+/// Plays the code over standard input, line by line, to its end. The frames are written to `out` and flushed before
+/// the next line is read, as in [`live`](plan_live::live); messages go to standard error.
 ///
 /// # Errors
 ///
-/// `Failed` where the code file or standard input can't be had, or there was no memory for the code. `Live` with the fault
-/// with which `play` refuses the code or the start, before a line is read; or with why the run stopped.
+/// `Failed` if the code file or standard input can't be read, or if out of memory for the code. `Live` with the
+/// fault with which `play` refuses the code or the start, before a line is read; or with why the run stopped.
 pub fn play_live<'a, F: Files, W: Write>(
     alloc: Global,
     request: &LiveRequest<'a>,
@@ -140,7 +139,7 @@ pub fn play_live<'a, F: Files, W: Write>(
     };
     let mut messages = StandardError { files };
     let mut ends = Streams::new(reader, out, &mut messages);
-    match lead_code(alloc, code.as_slice(), request, &mut ends) {
+    match drive_code(alloc, code.as_slice(), request, &mut ends) {
         Ok(()) => Ok(()),
         Err(fault) => {
             if has_no_code_memory(&fault) {
@@ -151,29 +150,29 @@ pub fn play_live<'a, F: Files, W: Write>(
     }
 }
 
-/// Plays a code's file over the lines of an input as they come, from the start of the request, with what it skips and whether
-/// it wants a status.
+/// Plays a code file over the lines of an input as they arrive, with the start, skip and status options of the
+/// request.
 ///
 /// # Errors
 ///
-/// Those of [`live`](plan_live::live): the fault with which `play` refuses the code or the start, with nothing read, written or
-/// told; or why the run stopped.
-pub fn lead_code<E: Ends>(
+/// Those of [`live`](plan_live::live): the fault with which `play` refuses the code or the start, with nothing read,
+/// written or reported; or why the run stopped.
+pub fn drive_code<E: Ends>(
     alloc: Global,
     code: &[u8],
     request: &LiveRequest<'_>,
     ends: &mut E,
 ) -> Result<(), LiveFault>
     requires flushed { E.is_flushed ends.old ≡ true }
-    // A typed code and a start in range are played: the frames of the lines, but for those skipped, and the messages.
+    // A typed code and a start in range are played: the frames of the lines, except those skipped, and the messages.
     ensures played { (p : Playing) → BeginsWith code.now request.now.start p
         → Lives request.now.skip request.now.status p
-        (streamed (E.left ends.old) (E.written ends.old) (E.told ends.old))
-        (streamed (E.left ends.new) (E.written ends.new) (E.told ends.new)) result }
-    // Each time that a line is asked for, all lines before it are done.
+        (streamed (E.left ends.old) (E.written ends.old) (E.reported ends.old))
+        (streamed (E.left ends.new) (E.written ends.new) (E.reported ends.new)) result }
+    // When a line is read, all lines before it have been played.
     ensures prompt { (p : Playing) → BeginsWith code.now request.now.start p
         → IsPrompt request.now.skip request.now.status p
-        (streamed (E.left ends.old) (E.written ends.old) (E.told ends.old))
+        (streamed (E.left ends.old) (E.written ends.old) (E.reported ends.old))
         (E.moments ends.old) (E.moments ends.new) }
     ensures only { OnOk result ((p : Playing) × BeginsWith code.now request.now.start p) }
     ensures refused { IfErr result (λ fault. fault ≢ OfPlayback (OfCode NoMemoryForCode)
@@ -195,7 +194,7 @@ pub fn lead_code<E: Ends>(
     )
 }
 
-/// Whether there was no memory for the code.
+/// Whether the fault is out of memory for the code.
 fn has_no_code_memory(fault: &LiveFault) -> bool
     ensures { result ≡ true ↔ fault.now ≡ OfPlayback (OfCode NoMemoryForCode) }
 {

@@ -1,4 +1,4 @@
-//! `dabplan map`: which capacity units each sub-channel has in a plan.
+//! `dabplan map`: shows which capacity units each sub-channel has in a plan.
 
 use crate::args::MapRequest;
 use crate::commands::compile::{ScriptRefusal, made_of};
@@ -10,7 +10,7 @@ use plan_map::{Row, Use, draw_map, key_of, print_map, rows_of};
 use std::alloc::Global;
 use std::io::{self, Write};
 
-/// What a map shows of a script.
+/// The map of a script in text and drawing.
 #[derive(Drop)]
 struct Map {
     eid: u16,
@@ -18,8 +18,8 @@ struct Map {
     key: Vec<Use>,
 }
 
-/// Does what `map` is asked for: writes the drawing, where one is asked for, and prints the map of the script; or why the
-/// script is refused, as `compile` does. The drawing is made after all that can refuse the script.
+/// Runs `map`: writes the drawing, if requested, and prints the map of the script; or prints why the
+/// script is refused, as `compile` does. The drawing is created after every check that can refuse the script.
 pub fn show_map<'a, F: Files, W: Write>(
     alloc: Global,
     request: &MapRequest<'a>,
@@ -46,7 +46,7 @@ pub fn show_map<'a, F: Files, W: Write>(
     Ok(Status::Done)
 }
 
-/// The map of the script that a text is, or why it is refused.
+/// The map of a script's text, or why it is refused.
 fn map_of(alloc: Global, text: &str) -> Result<Map, ScriptRefusal> {
     let (script, code) = made_of(alloc, text)?;
     let rows = rows_of(alloc, script.begin_line(), &code)?;

@@ -1,4 +1,4 @@
-//! `dabplan play`: a plan code played over events, its frames written to a file.
+//! `dabplan play`: plays a plan code over events, and writes its frames to a file.
 
 use crate::args::PlayRequest;
 use crate::inputs::code::read_code;
@@ -11,11 +11,11 @@ use plan_session::{EventFault, RunFault, run_into};
 use std::alloc::Global;
 use std::io::Write;
 
-/// Does what `play` is asked for: plays the code over the events, writes the FIBs of each frame to the file, and prints
-/// how many frames were written, or why none were or no more.
+/// Runs `play`: plays the code over the events, writes the FIBs of each frame to the file, and prints
+/// the number of frames written, or why playback failed.
 ///
-/// The code and the events are read first, and then the file is made, so that it stays as it was where one of them can't
-/// be read. A code or events that are refused leave it empty.
+/// The code and the events are read before the file is created, so that a file that can't be read leaves it as it
+/// was. A refused code or refused events leave it empty.
 pub fn show_play<'a, F: Files, W: Write>(
     alloc: Global,
     request: &PlayRequest<'a>,

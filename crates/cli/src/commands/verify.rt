@@ -1,4 +1,4 @@
-//! `dabplan verify`: whether the plan code in a file is accepted.
+//! `dabplan verify`: reports whether the plan code in a file is accepted.
 
 ghost use Rattle.std.specs.Prelude.{◌≢◌, take, IfOk, OnOk, IfErr, IfSome};
 ghost use Rattle.console.specs.declared.exit.Status.TheVariants.{Done, Refused};
@@ -15,8 +15,8 @@ use plan_session::{RunFault, typed_code};
 use std::alloc::Global;
 use std::io::Write;
 
-/// Does what `verify` is asked for: prints `accepted`, or why the code in the file is not, with what explains it where that is
-/// asked for.
+/// Runs `verify`: prints `accepted`, or why the code in the file is not accepted, with an explanation if
+/// requested.
 pub fn show_verdict<'a, F: Files, W: Write>(
     alloc: Global,
     request: &VerifyRequest<'a>,
@@ -43,7 +43,7 @@ pub fn show_verdict<'a, F: Files, W: Write>(
     }
 }
 
-/// Whether a file holds a code that is accepted; else why not.
+/// Whether a file holds an accepted code; else why not.
 fn verdict_on(alloc: Global, file: &[u8]) -> Result<(), RunFault>
     ensures accepted { OnOk result (IsVerdict file.now Done) }
     ensures refused { IfErr result (λ e. e ≢ OfCode NoMemoryForCode → IsVerdict file.now Refused) }

@@ -1,4 +1,4 @@
-//! Code files, which are read no further than any code file is long.
+//! Reads code files, up to a bound that no code file exceeds.
 
 ghost use Rattle.std.specs.Prelude.{◌≡◌, ◌↔◌, true, take, IfOk, IfSome};
 ghost use Rattle.plan_code.specs.declared.fault.CodeFault.TheVariants.{Memory as NoMemoryForCode};
@@ -10,12 +10,12 @@ use plan_code::CodeFault;
 use plan_session::RunFault;
 use std::alloc::Global;
 
-/// More bytes than any code file has: 256 configurations, 1,024 labels and 4,096 instructions, each as long as it may be,
-/// take 943,889.
+/// More bytes than any code file has: 256 configurations, 1,024 labels and 4,096 instructions, each of the greatest
+/// length, take 943,889.
 const MOST_BYTES: usize = 1_048_576;
 
-/// The bytes of a code file, or why the command ends without them. A file that is longer than any code file is read so
-/// far that its first fault is among the bytes, and no further.
+/// Reads a code file, or returns why it can't be read. A file longer than any code file is read only as far as
+/// its first fault needs.
 pub fn read_code<'a, F: Files>(
     alloc: Global,
     files: &mut F,
@@ -27,7 +27,7 @@ pub fn read_code<'a, F: Files>(
     read_file(alloc, files, path, MOST_BYTES + 1)
 }
 
-/// Whether a code was not read because there was no memory for it.
+/// Whether a code was not read because it is out of memory.
 pub(crate) fn is_no_memory(fault: &RunFault) -> bool
     ensures { result ≡ true ↔ fault.now ≡ OfCode NoMemoryForCode }
 {

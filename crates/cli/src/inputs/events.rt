@@ -1,4 +1,4 @@
-//! Texts of events and of commands, which are kept no further than their answer depends on them.
+//! Reads event and command files, and keeps only the text that the result depends on.
 
 ghost use Rattle.std.specs.Prelude.{IfOk, IfSome, string_bytes};
 ghost use Rattle.plan_session.specs.Kept.{IsKeptOf};
@@ -8,8 +8,8 @@ use console::files::Files;
 use plan_session::{TextFault, read_text};
 use std::alloc::Global;
 
-/// The text of an event file or of a command file, or why the command ends without it. The file is read to its end; behind
-/// a character that has no place in such a text nothing is kept. A file that is not UTF-8 can't be read.
+/// The text of an event or command file, or why it can't be read. The file is read to its end; after
+/// a character that is invalid in such a text nothing is kept. A file that is not UTF-8 can't be read.
 pub fn read_event_text<'a, F: Files>(
     alloc: Global,
     files: &mut F,

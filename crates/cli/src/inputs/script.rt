@@ -1,4 +1,4 @@
-//! Scripts, which are read no further than any script is long.
+//! Reads scripts, up to a bound that no script exceeds.
 
 ghost use Rattle.std.specs.Prelude.{◌≡◌, ◌≢◌, codes, ◌<◌, ◌≤◌, take, length, IfOk, IfSome};
 
@@ -8,11 +8,11 @@ use script_tokens::token::MOST_BYTES;
 use std::alloc::Global;
 use std::str;
 
-/// How many bytes of a file are read: more than any script has, and behind these a whole character.
+/// The most bytes read of a file: more than any script has, and one whole character after them.
 const READ: usize = MOST_BYTES + 5;
 
-/// The first bytes of a script's file, or why the command ends without them: all bytes of a file that is no longer than
-/// scripts are, and of a longer one so many that it is known to be longer, and no further.
+/// The first bytes of a script's file, or why it can't be read: all bytes of a file within the size limit of
+/// scripts, and of a longer one just enough to detect that it is longer.
 pub fn read_script<'a, F: Files>(
     alloc: Global,
     files: &mut F,
@@ -24,7 +24,7 @@ pub fn read_script<'a, F: Files>(
     read_file(alloc, files, path, READ)
 }
 
-/// The same of standard input where the path is `-`.
+/// Like [`read_script`], with standard input for the path `-`.
 pub fn read_script_input<'a, F: Files>(
     alloc: Global,
     files: &mut F,
@@ -38,8 +38,8 @@ pub fn read_script_input<'a, F: Files>(
     read_input(alloc, files, path, READ)
 }
 
-/// The bytes of a text without the character that was cut at their end: all bytes, but where so many were read, those
-/// before a character that begins behind the longest script. In UTF-8 one of four successive bytes begins a character.
+/// Drops a character that was cut at the end of the bytes: of a file read to the limit, keeps the bytes before a
+/// character that begins after the longest script. In UTF-8 one of four successive bytes begins a character.
 pub fn whole_characters(bytes: &[u8]) -> &[u8]
     ensures short { length bytes.now < 1048581 → result.now ≡ bytes.now }
     ensures long { 1048581 ≤ length bytes.now → 1048576 < length result.now }
@@ -56,7 +56,7 @@ pub fn whole_characters(bytes: &[u8]) -> &[u8]
     bytes
 }
 
-/// The text that the bytes of a file are; one that is not UTF-8 can't be read.
+/// The bytes of a file as text; a file that is not UTF-8 can't be read.
 pub fn text_of<'b, 'a>(bytes: &'b [u8], path: &'a str) -> Result<&'b str, Failure<'a>> {
     match str::from_utf8(bytes) {
         Ok(text) => Ok(text),

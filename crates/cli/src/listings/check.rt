@@ -1,4 +1,4 @@
-//! `dabplan check`: whether a stream of FIBs announces each reconfiguration as EN 300 401 clause 6.5 asks.
+//! `dabplan check`: checks that a stream of FIBs announces each reconfiguration as EN 300 401 clause 6.5 requires.
 
 use crate::args::CheckRequest;
 use console::exit::{Failure, Status, pieces_of};
@@ -15,19 +15,19 @@ const MOST_PIECES: u64 = 1 << 50;
 /// Why a stream has no summary.
 #[derive(Clone, Copy, Debug, PartialEq, Eq, Error)]
 pub enum CheckRefusal {
-    /// Its check ended before it did.
+    /// The check ended before the stream did.
     #[error("{0}")]
     Ended(CheckFault),
-    /// Its length is no multiple of 32 bytes.
+    /// The length is not a multiple of 32 bytes.
     #[error("refused: not whole FIBs")]
     NotWhole,
-    /// It has no FIG 0/0.
+    /// The stream has no FIG 0/0.
     #[error("refused: no ensemble")]
     NoEnsemble,
 }
 
-/// Prints findings as they come, a line each, and counts swaps and faults. After a write that failed nothing more is
-/// printed.
+/// Prints findings as they are reported, a line each, and counts swaps and faults. After a failed write nothing more
+/// is printed.
 #[derive(Drop)]
 struct Lines<'a, W> {
     out: &'a mut W,
@@ -39,9 +39,9 @@ struct Lines<'a, W> {
 impl<W: Write> Report for Lines<'_, W> {
     ghost use Rattle.std.specs.Prelude.{None};
 
-    ghost told = { λ l. None };
+    ghost reported = { λ l. None };
 
-    fn tell(&mut self, finding: Finding) {
+    fn note(&mut self, finding: Finding) {
         match finding.what {
             What::Event(Event::Swap) => self.swaps = self.swaps.saturating_add(1),
             What::Event(Event::Ensemble(_) | Event::Announced(_, _)) => {}
@@ -53,8 +53,8 @@ impl<W: Write> Report for Lines<'_, W> {
     }
 }
 
-/// Does what `check` is asked for: prints what is found in the file, or in standard input where the path is `-`. It is
-/// checked piece by piece, so the memory is the same for a minute and a week.
+/// Runs `check`: prints the findings in the file, or in standard input if the path is `-`. The stream is
+/// checked piece by piece, so that memory use does not depend on its length.
 pub fn show_check<'a, F: Files, W: Write>(
     alloc: Global,
     request: &CheckRequest<'a>,
@@ -78,7 +78,7 @@ pub fn show_check<'a, F: Files, W: Write>(
     Ok(print_end(refusal, &checker, lines.swaps, lines.faults, lines.out)?)
 }
 
-/// Checks pieces to their end, or up to the fault that ends the check.
+/// Checks all pieces, or up to the fault that ends the check.
 fn check_pieces<R: Read + Drop, P: Report>(
     pieces: &mut Pieces<R>,
     checker: &mut Checker,
@@ -99,7 +99,7 @@ fn check_pieces<R: Read + Drop, P: Report>(
     Ok(None)
 }
 
-/// Checks FIBs one after the other.
+/// Checks FIBs in order.
 fn check_fibs<P: Report>(
     fibs: &[[u8; 32]],
     checker: &mut Checker,
@@ -111,7 +111,7 @@ fn check_fibs<P: Report>(
     Ok(())
 }
 
-/// Prints the summary, or the refusal that stands in its place.
+/// Prints the summary, or the refusal.
 fn print_end<W: Write>(
     refusal: Option<CheckRefusal>,
     checker: &Checker,

@@ -1,14 +1,14 @@
-//! The lines that show entries of FIG 0/1 to 0/3.
+//! Prints the entries of FIG 0/1 to 0/3.
 //!
-//! Each contract says the very bytes that go out, where the writer tells its bytes: those of `specs/Lines.antt`.
+//! Each contract gives the exact bytes printed, defined in `specs/Lines.antt`, if the writer reports its bytes.
 
 ghost use Rattle.std.specs.Prelude.{◌≡◌, ◌++◌, OnOk, codes};
 ghost use Rattle.std.specs.Fmt.{decimal};
 ghost use Rattle.std.specs.Io.KnownBytes.{Appends};
-ghost use Rattle.console.specs.Digits.{digits_of_word};
-ghost use Rattle.cli.specs.Lines.{entry_lines, head_line, service_head, sub_line, short_line, place_word, component_line, sid_digits, service_lines, transport_word, groups_text, address_text, packet_line};
+ghost use Rattle.console.specs.Digits.{hex_of_u16};
+ghost use Rattle.cli.specs.Lines.{entry_lines, head_line, service_head, sub_line, short_line, primary_text, component_line, sid_digits, service_lines, transport_text, groups_text, address_text, packet_line};
 
-use console::hexadecimal::digits_of_word;
+use console::hexadecimal::hex_of_u16;
 use mux_config::{
     ComponentEntry, Entry, PacketEntry, ScTy, ServiceEntry, ShortEntry, Sid, SubEntry, SubId,
 };
@@ -28,8 +28,8 @@ pub fn print_entry<W: Write>(entry: &Entry, out: &mut W) -> io::Result<()>
     }
 }
 
-/// A sub-channel in the long form: its protection as `eep 3-A` at options 0 and 1, which are the sets A and
-/// B, and as its numbers at the others.
+/// A sub-channel in the long form: its protection as `eep 3-A` for options 0 and 1, which are the sets A and
+/// B, and as numbers for the other options.
 fn print_sub<W: Write>(sub: &SubEntry, out: &mut W) -> io::Result<()>
     ensures { OnOk result (Appends (W.contents out.old) (W.contents out.new) (sub_line sub.now)) }
 {
@@ -100,15 +100,15 @@ fn print_service<W: Write>(service: &ServiceEntry, out: &mut W) -> io::Result<()
     Ok(())
 }
 
-/// The four or eight digits of an SId.
+/// An SId as four or eight digits.
 fn print_sid<W: Write>(sid: Sid, out: &mut W) -> io::Result<()>
     ensures { OnOk result (Appends (W.contents out.old) (W.contents out.new) (sid_digits sid)) }
 {
     match sid {
-        Sid::Short(number) => out.write_all(&digits_of_word(number)),
+        Sid::Short(number) => out.write_all(&hex_of_u16(number)),
         Sid::Long(number) => {
-            out.write_all(&digits_of_word((number / 65536) as u16))?;
-            out.write_all(&digits_of_word((number % 65536) as u16))
+            out.write_all(&hex_of_u16((number / 65536) as u16))?;
+            out.write_all(&hex_of_u16((number % 65536) as u16))
         }
     }
 }
@@ -134,7 +134,7 @@ fn print_component<W: Write>(component: ComponentEntry, out: &mut W) -> io::Resu
         ComponentEntry::Other { bits } => print_other(0x8000 + bits.get(), out),
         ComponentEntry::Packet { scid, primary, .. } => {
             let scid = scid.get();
-            let place = place_word(primary);
+            let place = primary_text(primary);
             writeln!(out, "  packet {scid} {place}")
         }
     }
@@ -150,34 +150,34 @@ fn print_stream<W: Write>(
 ) -> io::Result<()>
     ensures { OnOk result (Appends (W.contents out.old) (W.contents out.new)
         (codes "  " ++ kind.now ++ codes " " ++ decimal ty ++ codes " sub " ++ decimal sub
-        ++ codes " " ++ place_word primary ++ codes "\n")) }
+        ++ codes " " ++ primary_text primary ++ codes "\n")) }
 {
     let ty = ty.get();
     let sub = sub.get();
-    let place = place_word(primary);
+    let place = primary_text(primary);
     writeln!(out, "  {kind} {ty} sub {sub} {place}")
 }
 
 /// A component of TMId 10: its 16 bits.
 fn print_other<W: Write>(whole: u16, out: &mut W) -> io::Result<()>
     ensures { OnOk result (Appends (W.contents out.old) (W.contents out.new)
-        (codes "  other " ++ digits_of_word whole ++ codes "\n")) }
+        (codes "  other " ++ hex_of_u16 whole ++ codes "\n")) }
 {
     out.write_all(b"  other ")?;
-    out.write_all(&digits_of_word(whole))?;
+    out.write_all(&hex_of_u16(whole))?;
     out.write_all(b"\n")
 }
 
-/// The word for a P/S flag.
-fn place_word(primary: bool) -> &'static str
-    ensures { result.now ≡ place_word primary }
+/// The text for a P/S flag.
+fn primary_text(primary: bool) -> &'static str
+    ensures { result.now ≡ primary_text primary }
 {
     if primary { "primary" } else { "secondary" }
 }
 
-/// The word for a DG flag.
-fn groups_word(dg: bool) -> &'static str
-    ensures { result.now ≡ transport_word dg }
+/// The text for a DG flag.
+fn groups_name(dg: bool) -> &'static str
+    ensures { result.now ≡ transport_text dg }
 {
     if dg { "raw" } else { "groups" }
 }
@@ -191,18 +191,18 @@ fn print_packet<W: Write>(packet: &PacketEntry, out: &mut W) -> io::Result<()>
     print_address(packet, out)
 }
 
-/// What a packet component is.
+/// A packet component's SCId, transport and type.
 fn print_groups<W: Write>(packet: &PacketEntry, out: &mut W) -> io::Result<()>
     ensures { OnOk result (Appends (W.contents out.old) (W.contents out.new)
         (groups_text packet.now)) }
 {
     let scid = packet.scid.get();
-    let groups = groups_word(packet.dg);
+    let groups = groups_name(packet.dg);
     let ty = packet.ty.get();
     write!(out, "packet {scid} {groups} type {ty}")
 }
 
-/// Where its packets are, to the end of the line.
+/// Its sub-channel and packet address, to the end of the line.
 fn print_address<W: Write>(packet: &PacketEntry, out: &mut W) -> io::Result<()>
     ensures { OnOk result (Appends (W.contents out.old) (W.contents out.new)
         (address_text packet.now)) }

@@ -1,4 +1,4 @@
-//! `dabplan frame`: one frame of the configuration that a record holds.
+//! `dabplan frame`: prints one frame of the configuration in a record.
 
 ghost use Rattle.std.specs.Prelude.{◌≡◌, ◌≢◌, IfOk, IfSome, OnOk, codes, take};
 ghost use Rattle.std.specs.Io.KnownBytes.{Appends};
@@ -15,29 +15,29 @@ use std::alloc::Global;
 use std::io::{self, Write};
 use thiserror::Error;
 
-/// The most bytes of a configuration record: the three numbers, 64 sub-channels and 64 packet components of 7 bytes each, and
-/// 64 services of 4 bytes with 12 components of 3 bytes each. Of a longer file one more byte is read, which stands after
-/// the record if it has one.
+/// The most bytes of a configuration record: the three numbers, 64 sub-channels and 64 packet components of 7 bytes
+/// each, and 64 services of 4 bytes with 12 components of 3 bytes each. One byte more is read, to detect bytes after
+/// the record.
 const MOST_BYTES: usize = 3 + 64 * 7 + 64 * (4 + 12 * 3) + 64 * 7;
 
-/// Why the bytes of a record give no frame, in the order in which [`frame_of`] tests.
+/// Why a record gives no frame, in the order in which [`frame_of`] tests.
 #[derive(Clone, Copy, Debug, PartialEq, Eq, Error)]
 pub enum FrameFault {
-    /// They are no configuration record.
+    /// The bytes are not a configuration record.
     #[error("record: {0}")]
     Record(RecordFault),
-    /// Bytes stand after the record.
+    /// Bytes follow the record.
     #[error("record: trailing")]
     Trailing,
-    /// Its configuration is not sound.
+    /// The configuration is not sound.
     #[error("refused: {0}")]
     Unsound(ConfigFault),
-    /// Its configuration has no page of this number.
+    /// The configuration has no page of this number.
     #[error("refused: no such page")]
     NoSuchPage,
 }
 
-/// Does what `frame` is asked for: prints the FIBs of the frame, three or in mode III four, a line each.
+/// Runs `frame`: prints the FIBs of the frame, three or in mode III four, a line each.
 pub fn show_frame<'a, F: Files, W: Write>(
     alloc: Global,
     request: &FrameRequest<'a>,
@@ -69,10 +69,10 @@ pub fn show_frame<'a, F: Files, W: Write>(
     }
 }
 
-/// The FIBs of page `index` of the configuration in a record, with FIG 0/0 of `ensemble` where its count is a
+/// The FIBs of page `index` of the configuration in a record, with FIG 0/0 of `ensemble` if its count is a
 /// multiple of the mode's step: 4, 1, 1 or 2 (EN 300 401 clauses 5.1 and 6.4).
 ///
-/// The first fault is answered: `Record`, `Trailing`, `Unsound`, `NoSuchPage`.
+/// Returns the first fault: `Record`, `Trailing`, `Unsound`, `NoSuchPage`.
 pub fn frame_of(
     bytes: &[u8],
     mode: Mode,
@@ -94,7 +94,7 @@ pub fn frame_of(
     page_of(&config, mode, ensemble, index)
 }
 
-/// The FIBs of page `index` of a configuration alone; `NoSuchPage` where there is no such page.
+/// The FIBs of page `index` of a configuration; `NoSuchPage` if there is no such page.
 pub fn page_of<'a>(
     config: &'a Config,
     mode: Mode,
@@ -111,7 +111,7 @@ pub fn page_of<'a>(
     Ok(page(mode, config, alone, index, sent(mode, ensemble)))
 }
 
-/// The ensemble information that goes out: in the frames whose count is a multiple of the mode's step.
+/// The ensemble information of this frame, which is sent if the count is a multiple of the mode's step.
 fn sent(mode: Mode, ensemble: Ensemble) -> Option<Ensemble>
     ensures { result ≡ sent mode ensemble }
 {
@@ -122,7 +122,7 @@ fn sent(mode: Mode, ensemble: Ensemble) -> Option<Ensemble>
     }
 }
 
-/// Prints the FIBs of a frame, as bytes where these are asked for, and else as digits.
+/// Prints the FIBs of a frame as bytes or as digits.
 pub fn print_frame<W: Write>(frame: &FibFrame, raw: bool, out: &mut W) -> io::Result<()>
     ensures { OnOk result (Appends (W.contents out.old) (W.contents out.new)
         (frame_text raw frame.now)) }

@@ -1,4 +1,4 @@
-//! `dabplan frame --script`: one frame of the configuration that a script begins with.
+//! `dabplan frame --script`: prints one frame of the initial configuration of a script.
 
 ghost use Rattle.std.specs.Prelude.{◌<◌};
 ghost use Rattle.mux_entries.specs.declared.limits.TheConstants.{COUNTS};
@@ -20,24 +20,24 @@ use thiserror::Error;
 /// The last CIF count; the command line refuses a higher one.
 const LAST_COUNT: u16 = 4999;
 
-/// Why a text gives no frame, in the order in which [`frame_of_script`] tests.
+/// Why a script gives no frame, in the order in which [`frame_of_script`] tests.
 #[derive(Clone, Copy, Debug, PartialEq, Eq, Error)]
 pub enum ScriptFrameFault {
-    /// It is no script.
+    /// The text is not a script.
     #[error("{0}")]
     Script(ScriptFault),
     /// An item of the script has a fault.
     #[error("{0}")]
     Item(ItemFault),
-    /// The configuration that it begins with is not sound, or has no page of this number.
+    /// The initial configuration is not sound, or has no page of this number.
     #[error("{0}")]
     Frame(FrameFault),
-    /// There was no memory.
+    /// Out of memory.
     #[error("no memory")]
     Memory,
 }
 
-/// Does what `frame --script` is asked for: prints the FIBs of the frame.
+/// Runs `frame --script`: prints the FIBs of the frame.
 pub fn show_script_frame<'a, F: Files, W: Write>(
     alloc: Global,
     request: &FrameScriptRequest<'a>,
@@ -60,11 +60,11 @@ pub fn show_script_frame<'a, F: Files, W: Write>(
     }
 }
 
-/// The FIBs of page `index` of the configuration that a script begins with, in its mode, with FIG 0/0 of its ensemble where
-/// the count is a multiple of the mode's step: 4, 1, 1 or 2 (EN 300 401 clauses 5.1 and 6.4). Its blocks and statements are
-/// parsed and go no further.
+/// The FIBs of page `index` of a script's initial configuration, in its mode, with FIG 0/0 of its ensemble if
+/// the count is a multiple of the mode's step: 4, 1, 1 or 2 (EN 300 401 clauses 5.1 and 6.4). Its blocks and
+/// statements are only parsed.
 ///
-/// The first fault is answered, in the order of [`ScriptFrameFault`].
+/// Returns the first fault in the order of [`ScriptFrameFault`].
 pub fn frame_of_script(
     alloc: Global,
     text: &str,

@@ -1,4 +1,4 @@
-//! `dabplan listen`: what a receiver makes of a stream of FIBs.
+//! `dabplan listen`: decodes a stream of FIBs as a receiver would, and prints the resulting configuration.
 
 ghost use Rattle.std.specs.Prelude.{◌≡◌, ◌≢◌, ℕ, List, Result, Err, Ok, IfOk, IfSome, OnOk, codes};
 ghost use Rattle.std.specs.Io.KnownBytes.{Appends, Consumes, IsAtEnd};
@@ -20,10 +20,10 @@ use thiserror::Error;
 /// Why a stream is refused.
 #[derive(Clone, Copy, Debug, PartialEq, Eq, Error)]
 pub enum StreamFault {
-    /// Its length is no multiple of 32 bytes.
+    /// The length is not a multiple of 32 bytes.
     #[error("refused: not whole FIBs")]
     NotWhole,
-    /// A 65th service or packet component would enter a picture.
+    /// A configuration would get a 65th service or packet component.
     #[error("refused: Full")]
     Full,
 }
@@ -31,12 +31,12 @@ pub enum StreamFault {
 /// More pieces than any stream has: 2^50 of 256 KB.
 pub(crate) const MOST_PIECES: u64 = 1 << 50;
 
-/// What was heard of a stream.
+/// A decoded stream.
 #[derive(Drop)]
 pub struct Heard {
-    /// How many FIBs it had.
+    /// The number of FIBs.
     pub fibs: u64,
-    /// How many of them were damaged.
+    /// The number of damaged FIBs.
     pub damaged: u64,
     /// The listener after the last of them.
     pub listener: Listener,
@@ -47,7 +47,7 @@ impl Heard {
     ghost use Rattle.cli.specs.Stream.{unheard, HearsTheStream};
     ghost use Rattle.cli.specs.declared.listings.listen.StreamFault.TheVariants.{Full as NoRoom};
 
-    /// Nothing heard so far.
+    /// Before the first FIB.
     pub(crate) fn new() -> Heard
         ensures { result ≡ unheard }
     {
@@ -58,8 +58,8 @@ impl Heard {
         }
     }
 
-    /// Hears FIBs one after the other. A damaged one tells nothing; the first one at which a picture has no room ends all,
-    /// and the answer is false then.
+    /// Decodes FIBs in order. A damaged one is only counted; the first one that exceeds a configuration's capacity ends
+    /// the decoding, and the result is false.
     pub(crate) fn hear(&mut self, fibs: &[[u8; 32]]) -> bool
         requires few { self.old.fibs + length fibs.now ≤ 2 ^ 63 }
         requires damaged { self.old.damaged ≤ self.old.fibs }
@@ -80,8 +80,8 @@ impl Heard {
     }
 }
 
-/// Does what `listen` is asked for: prints what was heard of the file, or of standard input where the path is `-`. It is
-/// heard piece by piece, so the memory is the same for a minute and a week.
+/// Runs `listen`: prints what was decoded from the file, or from standard input if the path is `-`. The stream is
+/// decoded piece by piece, so that memory use does not depend on its length.
 pub fn show_heard<'a, F: Files, W: Write>(
     alloc: Global,
     path: &'a str,
@@ -104,7 +104,7 @@ pub fn show_heard<'a, F: Files, W: Write>(
     }
 }
 
-/// Prints the listing of what was heard, or the line of a refusal.
+/// Prints the listing, or the line of a refusal.
 fn print_answer<W: Write>(heard: &Result<Heard, StreamFault>, out: &mut W) -> io::Result<Status>
     ensures { IfOk result (λ status. (text : List ℕ) × IsShown heard.now status text
         × Appends (W.contents out.old) (W.contents out.new) text) }
@@ -131,11 +131,11 @@ fn print_refusal<W: Write>(fault: StreamFault, out: &mut W) -> io::Result<()>
     }
 }
 
-/// Hears a stream of FIBs with a new listener (EN 300 401 clauses 5.2.1 and 6.5), to the end of its pieces. A damaged FIB
-/// tells nothing; the first one at which a picture has no room ends all. A length that is no multiple of 32 bytes is told
-/// before that.
+/// Decodes a stream of FIBs with a new listener (EN 300 401 clauses 5.2.1 and 6.5), to the end of its pieces. A
+/// damaged FIB is only counted; the first one that exceeds a configuration's capacity ends the decoding. A length
+/// that is not a multiple of 32 bytes takes precedence.
 ///
-/// `Failed` where the source of the pieces fails.
+/// `Failed` if the source of the pieces fails.
 pub fn listen_to<R: Read + Drop>(
     pieces: &mut Pieces<R>,
 ) -> Result<Result<Heard, StreamFault>, FileFault>
@@ -160,7 +160,7 @@ pub fn listen_to<R: Read + Drop>(
     Err(FileFault::Failed)
 }
 
-/// What comes of whole FIBs, where each picture had room for all of them, and where not.
+/// The result for whole FIBs.
 fn ended(has_room: bool, heard: Heard) -> Result<Heard, StreamFault>
     ensures { result ≡ ended has_room heard }
 {
@@ -171,7 +171,7 @@ fn ended(has_room: bool, heard: Heard) -> Result<Heard, StreamFault>
     }
 }
 
-/// Prints what was heard.
+/// Prints the listing of a decoded stream.
 fn print_heard<W: Write>(heard: &Heard, out: &mut W) -> io::Result<()>
     ensures { OnOk result ((text : List ℕ) × IsListing heard.now text
         × Appends (W.contents out.old) (W.contents out.new) text) }
@@ -186,7 +186,7 @@ fn print_heard<W: Write>(heard: &Heard, out: &mut W) -> io::Result<()>
     print_swap(heard.listener.swap_at(), out)
 }
 
-/// Prints how many FIBs were heard, and how many of them were damaged.
+/// Prints the number of FIBs, and how many of them were damaged.
 fn print_counts<W: Write>(heard: &Heard, out: &mut W) -> io::Result<()>
     ensures { OnOk result (Appends (W.contents out.old) (W.contents out.new)
         (counts_line heard.now)) }
@@ -196,7 +196,7 @@ fn print_counts<W: Write>(heard: &Heard, out: &mut W) -> io::Result<()>
     writeln!(out, "fibs {fibs} damaged {damaged}")
 }
 
-/// Prints the low part of the CIF count at which a swap is awaited.
+/// Prints the low part of the CIF count of the awaited swap.
 fn print_swap<W: Write>(swap_at: Option<u8>, out: &mut W) -> io::Result<()>
     ensures { OnOk result (Appends (W.contents out.old) (W.contents out.new)
         (swap_line swap_at)) }

@@ -1,4 +1,4 @@
-//! `dabplan listen --script`: the current configuration of a stream of FIBs as a script.
+//! `dabplan listen --script`: prints the current configuration of a stream of FIBs as a script.
 
 ghost use Rattle.std.specs.Prelude.{◌≡◌, ℕ, ◌≤◌, List, IfOk};
 ghost use Rattle.std.specs.Io.KnownBytes.{Consumes, IsAtEnd};
@@ -18,17 +18,17 @@ use std::alloc::Global;
 use std::io::{Read, Write};
 use stream_config::{config_heard, config_text, eid_after, usual_period};
 
-/// What was heard of a stream, and the ensemble that it names last.
+/// A decoded stream, and the ensemble of its last FIG 0/0.
 #[derive(Drop)]
 pub struct Named {
-    /// What was heard.
+    /// The decoded stream.
     pub heard: Heard,
-    /// The EId of the last FIG 0/0; None where the stream has none.
+    /// The EId of the last FIG 0/0; `None` if there is none.
     pub eid: Option<u16>,
 }
 
-/// Does what `listen --script` is asked for: prints the script of the current configuration at the end of the file, or of
-/// standard input where the path is `-`.
+/// Runs `listen --script`: prints the script of the current configuration at the end of the file, or of
+/// standard input if the path is `-`.
 pub fn show_script<'a, F: Files, W: Write>(
     alloc: Global,
     request: &ListenScriptRequest<'a>,
@@ -46,10 +46,10 @@ pub fn show_script<'a, F: Files, W: Write>(
     }
 }
 
-/// Hears a stream of FIBs as [`listen_to`](crate::listings::listen::listen_to) does, and the ensemble of the last FIG 0/0 (OE 0) in
-/// FIBs that are not damaged (EN 300 401 clause 6.4).
+/// Decodes a stream of FIBs as [`listen_to`](crate::listings::listen::listen_to) does, and the ensemble of the last
+/// FIG 0/0 (OE 0) in FIBs that are not damaged (EN 300 401 clause 6.4).
 ///
-/// `Failed` where the source of the pieces fails.
+/// `Failed` if the source of the pieces fails.
 #[tactic(auto, using(crate::proofs::Naming::ends_named))]
 pub fn name_of<R: Read + Drop>(
     pieces: &mut Pieces<R>,
@@ -77,7 +77,7 @@ pub fn name_of<R: Read + Drop>(
     Err(FileFault::Failed)
 }
 
-/// What comes of whole FIBs, where each picture had room for all of them, and where not.
+/// The result for whole FIBs.
 fn ended(has_room: bool, heard: Heard, eid: Option<u16>) -> Result<Named, StreamFault>
     ensures { result ≡ ended_named has_room heard eid }
 {
@@ -88,7 +88,7 @@ fn ended(has_room: bool, heard: Heard, eid: Option<u16>) -> Result<Named, Stream
     }
 }
 
-/// Prints the script of what was heard, or why there is none.
+/// Prints the script of a decoded stream, or why there is none.
 fn print_named<'a, W: Write>(
     alloc: Global,
     request: &ListenScriptRequest<'a>,
@@ -101,7 +101,7 @@ fn print_named<'a, W: Write>(
     };
     match config_heard(named.heard.listener.current()) {
         Ok(config) => print_config(alloc, request, eid, &config, out),
-        Err(entry) => print_unsaid(&entry, out),
+        Err(entry) => print_unscriptable(&entry, out),
     }
 }
 
@@ -121,8 +121,8 @@ fn print_config<'a, W: Write>(
     Ok(Status::Done)
 }
 
-/// The header that is asked for, of a script of this configuration. A number out of its range, which the command line
-/// refuses, counts as the nearest in it.
+/// The header of the script, from the request and the stream. An out-of-range number, which the command line
+/// refuses, is clamped.
 fn header_for(request: &ListenScriptRequest<'_>, eid: u16, config: &Config) -> Header
     ensures { IsHeader result }
 {
@@ -139,9 +139,12 @@ fn header_for(request: &ListenScriptRequest<'_>, eid: u16, config: &Config) -> H
     }
 }
 
-/// Prints that no configuration has an entry.
-fn print_unsaid<'a, W: Write>(entry: &OwnedEntry, out: &mut W) -> Result<Status, Failure<'a>> {
+/// Prints that an entry is part of no configuration.
+fn print_unscriptable<'a, W: Write>(
+    entry: &OwnedEntry,
+    out: &mut W,
+) -> Result<Status, Failure<'a>> {
     out.write_all(b"refused: cannot be written: ")?;
-    print_head(&entry.lent().value(), out)?;
+    print_head(&entry.as_raw_entry().value(), out)?;
     Ok(Status::Refused)
 }

@@ -1,4 +1,4 @@
-//! Each kind of entry at its least and greatest field values, as the standard lays it out.
+//! Each kind of entry with the lowest and highest values of its fields, in the layout of the standard.
 
 use super::begins;
 use fib_codec::{
@@ -25,8 +25,7 @@ fn sc_id(id: u16) -> Result<ScId, &'static str> {
     ScId::new(id).ok_or("an SCId")
 }
 
-/// Whether an entry takes this many bytes, and a FIB with one FIG of it for the next configuration begins
-/// with these.
+/// Whether an entry has this length, and a FIB with one FIG of it for the next configuration begins with these bytes.
 fn goes_as(entry: Made, head: Head, len: usize, front: &[u8]) -> Result<bool, &'static str> {
     let entries = [entry?];
     let mut fib = Fib::new();
@@ -150,7 +149,7 @@ fn services_without_components(rt: HostRuntime) -> Result<(), Fail> {
     Ok(())
 }
 
-/// This many components, of the four kinds in turn.
+/// This many components, cycling through the four kinds.
 fn components(count: usize, kinds: &[ComponentEntry; 4]) -> BoundedVec<ComponentEntry, 15> {
     let mut components = BoundedVec::new();
     for _ in 0..4 {
@@ -163,7 +162,7 @@ fn components(count: usize, kinds: &[ComponentEntry; 4]) -> BoundedVec<Component
     components
 }
 
-/// The four kinds of components, with all flags alike.
+/// The four kinds of components, all with the same flags.
 fn kinds(
     number: u8,
     other: u16,

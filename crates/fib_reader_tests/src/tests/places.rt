@@ -1,10 +1,10 @@
-//! The places of faults, which no command shows.
+//! The offsets of faults, which no command shows.
 
 use super::fib_of;
 use fib_reader::{FibFault, check};
 use std::test::Fail;
 
-/// The first fault of the FIB of these data bytes.
+/// The first fault of the FIB with these data bytes.
 fn fault_in(data: &[u8]) -> Option<FibFault> {
     fault_of(&fib_of(data))
 }
@@ -38,7 +38,7 @@ fn a_fault_is_placed_at_its_header_or_its_entry(rt: HostRuntime) -> Result<(), F
     Ok(())
 }
 
-/// Puts this byte at this place of the data bytes.
+/// Puts this byte at an index of the data bytes.
 fn put(data: &mut [u8; 30], place: usize, byte: u8) {
     if let Some(there) = data.get_mut(place) {
         *there = byte;

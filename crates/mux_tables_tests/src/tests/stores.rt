@@ -1,4 +1,4 @@
-//! `Config` and `Tables` pass what every store has to pass.
+//! `Config` and `Tables` pass the tests of every store.
 
 use mux_config::Config;
 use mux_tables::Tables;

@@ -1,4 +1,4 @@
-//! The instructions of one frame.
+//! Executing the instructions of one frame.
 
 ghost use Rattle.std.specs.Prelude.{◌≡◌};
 ghost use Rattle.plan_code.specs.Machine.{StepIsAllowed, step};
@@ -10,7 +10,7 @@ use super::instruction::carry_out;
 use mux_config::Store;
 use plan_code::{Code, Hold, Plan};
 
-/// Whether nothing holds the machine: instructions are carried out.
+/// Whether the machine is not suspended, so that instructions are executed.
 fn is_running(hold: Hold) -> bool
     ensures { result ≡ is_running hold }
 {
@@ -23,7 +23,7 @@ fn is_running(hold: Hold) -> bool
     }
 }
 
-/// Carries out the instruction at the machine's place, where it doesn't trap.
+/// Executes the instruction at the machine's pc, which doesn't trap.
 fn step<S: Store>(code: &Code, plan: &Plan, machine: &mut Machine<S>)
     requires plan { plan.now ≡ code.now.plan }
     requires allowed { StepIsAllowed code.now (state_of S.content machine.old) }
@@ -33,8 +33,8 @@ fn step<S: Store>(code: &Code, plan: &Plan, machine: &mut Machine<S>)
     carry_out(plan, instr, machine);
 }
 
-/// Carries out instructions until one suspends, where none of them traps and they are within the budget; how many
-/// they are is the result. Neither a trap nor the budget is tested for.
+/// Executes instructions until one suspends, and returns their number; none of them traps, and they are within the
+/// budget. Neither traps nor the budget are tested for.
 #[tactic(auto, using(crate::proofs::Remaining::remains_all, crate::proofs::Remaining::stops))]
 pub(crate) fn run<S: Store>(code: &Code, machine: &mut Machine<S>) -> u8
     requires { CanRun code.now (state_of S.content machine.old) }

@@ -1,4 +1,4 @@
-//! What comes last in a frame: the counts are taken forward.
+//! The last step of a frame: advancing the counts.
 
 ghost use Rattle.std.specs.Prelude.{◌≡◌, ◌≤◌, ◌<◌, ◌+◌, ◌%◌};
 ghost use Rattle.fib_carousel.specs.Pages.{page_after};
@@ -13,7 +13,7 @@ use mux_config::Store;
 use plan_code::Hold;
 use plan_code::limits::{COUNTS, FRAMES_A_DAY};
 
-/// The frames until the swap, one frame later.
+/// The number of frames until the swap, one frame later.
 fn left_after_frame(left: Option<u16>) -> Option<u16>
     ensures { result ≡ left_after_frame left }
 {
@@ -23,7 +23,7 @@ fn left_after_frame(left: Option<u16>) -> Option<u16>
     }
 }
 
-/// What is waited for, one frame later.
+/// The wait condition, one frame later.
 fn hold_after_frame(hold: Hold) -> Hold
     ensures { result ≡ hold_after_frame hold }
 {
@@ -70,7 +70,7 @@ fn day_after(day: u32) -> u32
     ((u64::from(day) + 1) % u64::from(FRAMES_A_DAY)) as u32
 }
 
-/// The page after page k, where there are this many pages, at most 256: page 0 again after the last.
+/// The page index after this one, with this many pages, at most 256; it wraps to 0 after the last.
 pub(crate) fn page_after(pages: usize, page: u8) -> u8
     requires { pages ≤ 256 }
     ensures { result ≡ page_after pages page }
@@ -82,20 +82,20 @@ pub(crate) fn page_after(pages: usize, page: u8) -> u8
     }
 }
 
-/// Ends a frame: the next CIF count and the next frame of the day, one frame fewer until a pending swap and of a wait,
-/// and this page in turn.
-pub(crate) fn pass<S: Store>(turn: u8, machine: &mut Machine<S>)
+/// Ends a frame: advances the CIF count and the frame of the day, counts down a pending swap and a wait, and sets the
+/// page in turn.
+pub(crate) fn pass<S: Store>(page_index: u8, machine: &mut Machine<S>)
     ensures { (plan : Plan) → state_of S.content machine.new ≡
-        record (with_next_counts plan (state_of S.content machine.old)) { turn = turn } }
+        record (with_next_counts plan (state_of S.content machine.old)) { page_index = page_index } }
 {
     machine.left = left_after_frame(machine.left);
     machine.hold = hold_after_frame(machine.hold);
     machine.count = count_after(machine.count);
     machine.day = day_after(machine.day);
-    machine.turn = turn;
+    machine.page_index = page_index;
 }
 
-/// The frames until the swap, this many frames later.
+/// The number of frames until the swap, this many frames later.
 fn left_later(left: Option<u16>, frames: u16) -> Option<u16>
     ensures { result ≡ left_later frames left }
 {
@@ -105,7 +105,7 @@ fn left_later(left: Option<u16>, frames: u16) -> Option<u16>
     }
 }
 
-/// What is waited for, this many frames later.
+/// The wait condition, this many frames later.
 fn hold_later(hold: Hold, frames: u16) -> Hold
     ensures { result ≡ hold_later frames hold }
 {
@@ -118,7 +118,7 @@ fn hold_later(hold: Hold, frames: u16) -> Hold
     }
 }
 
-/// The page in turn this many frames after page k, where there are this many pages.
+/// The page in turn this many frames after `page`, with this many pages.
 fn page_later(pages: u8, page: u8, frames: u16) -> u8
     requires { page < pages }
     ensures { result ≡ (page + frames) % pages }
@@ -126,10 +126,10 @@ fn page_later(pages: u8, page: u8, frames: u16) -> u8
     ((u32::from(page) + u32::from(frames)) % u32::from(pages)) as u8
 }
 
-/// Ends this many frames at once, at least one, where what is sent takes this many pages in each of them.
+/// Ends this many frames at once, at least one, in each of which what is sent takes this many pages.
 pub(crate) fn pass_many<S: Store>(pages: u8, frames: u16, machine: &mut Machine<S>)
     requires some { 1 ≤ frames }
-    requires within { machine.old.turn < pages }
+    requires within { machine.old.page_index < pages }
     ensures { (plan : Plan) → HasRounds plan frames (state_of S.content machine.old) pages
         → state_of S.content machine.new ≡
         counted_on plan frames (state_of S.content machine.old) }
@@ -140,5 +140,5 @@ pub(crate) fn pass_many<S: Store>(pages: u8, frames: u16, machine: &mut Machine<
     machine.hold = hold_later(machine.hold, frames);
     machine.count = (count % u32::from(COUNTS)) as u16;
     machine.day = (day % u64::from(FRAMES_A_DAY)) as u32;
-    machine.turn = page_later(pages, machine.turn, frames);
+    machine.page_index = page_later(pages, machine.page_index, frames);
 }

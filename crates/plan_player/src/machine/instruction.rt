@@ -1,4 +1,4 @@
-//! One instruction, where it doesn't trap.
+//! Executing one instruction that doesn't trap.
 
 ghost use Rattle.std.specs.Prelude.{◌≡◌, ◌<◌};
 ghost use Rattle.plan_code.specs.Machine.{IsAllowed, effect, suspend};
@@ -11,7 +11,7 @@ use mux_config::{Edit, Store};
 use plan_code::limits::COUNTS;
 use plan_code::{ContactId, CounterId, Delay, Hold, Instr, Plan, Times};
 
-/// Suspends; the next instruction runs when the hold has ended.
+/// Suspends; the next instruction runs when the wait has ended.
 fn suspend<S: Store>(hold: Hold, machine: &mut Machine<S>)
     requires { machine.old.pc < 65535 }
     ensures { state_of S.content machine.new ≡ suspend hold (state_of S.content machine.old) }
@@ -41,12 +41,13 @@ fn commit_at<S: Store>(plan: &Plan, count: u16, machine: &mut Machine<S>)
     machine.pc += 1;
 }
 
-/// Waits for the swap where one is pending; else continues.
+/// Waits for the swap if one is pending, and otherwise continues.
 fn settle<S: Store>(plan: &Plan, machine: &mut Machine<S>)
     requires { machine.old.pc < 65535 }
     ensures { state_of S.content machine.new ≡ effect plan.now Settle
         (state_of S.content machine.old) }
 {
+    // Read for the proof: a value's invariant is known where the value is read.
     let _notice = plan.notice;
     match machine.left {
         None => machine.pc += 1,
@@ -54,11 +55,12 @@ fn settle<S: Store>(plan: &Plan, machine: &mut Machine<S>)
     }
 }
 
-/// Ends: nothing is waited for that ever comes.
+/// Ends the code: the machine never resumes.
 fn end<S: Store>(plan: &Plan, machine: &mut Machine<S>)
     ensures { state_of S.content machine.new ≡ effect plan.now End
         (state_of S.content machine.old) }
 {
+    // Read for the proof: a value's invariant is known where the value is read.
     let _notice = plan.notice;
     machine.hold = Hold::Ended;
 }
@@ -70,17 +72,19 @@ fn edit<S: Store>(plan: &Plan, edit: Edit, machine: &mut Machine<S>)
     ensures { state_of S.content machine.new ≡ effect plan.now (Edits edit)
         (state_of S.content machine.old) }
 {
+    // Read for the proof: a value's invariant is known where the value is read.
     let _notice = plan.notice;
     edit.apply_known(&mut machine.next);
     machine.pc += 1;
 }
 
-/// Continues where the contact is closed; else jumps to the target.
+/// Continues if the contact is closed, and otherwise jumps to the target.
 fn test<S: Store>(plan: &Plan, contact: ContactId, target: u16, machine: &mut Machine<S>)
     requires { machine.old.pc < 65535 }
     ensures { state_of S.content machine.new ≡ effect plan.now (Test contact target)
         (state_of S.content machine.old) }
 {
+    // Read for the proof: a value's invariant is known where the value is read.
     let _notice = plan.notice;
     if machine.contacts.is_closed(contact) {
         machine.pc += 1;
@@ -94,6 +98,7 @@ fn jump<S: Store>(plan: &Plan, target: u16, machine: &mut Machine<S>)
     ensures { state_of S.content machine.new ≡ effect plan.now (Jump target)
         (state_of S.content machine.old) }
 {
+    // Read for the proof: a value's invariant is known where the value is read.
     let _notice = plan.notice;
     machine.pc = target;
 }
@@ -104,18 +109,20 @@ fn set<S: Store>(plan: &Plan, counter: CounterId, times: Times, machine: &mut Ma
     ensures { state_of S.content machine.new ≡ effect plan.now (Set counter times)
         (state_of S.content machine.old) }
 {
+    // Read for the proof: a value's invariant is known where the value is read.
     let _notice = plan.notice;
     machine.counters[usize::from(counter.get())] = times.get();
     machine.pc += 1;
 }
 
-/// Lowers a counter by one, and jumps to the target if something is left of it.
+/// Decrements a counter, and jumps to the target if the result is not 0.
 fn repeat<S: Store>(plan: &Plan, counter: CounterId, target: u16, machine: &mut Machine<S>)
     requires within { machine.old.pc < 65535 }
     requires allowed { IsAllowed plan.now (Loop counter target) (state_of S.content machine.old) }
     ensures { state_of S.content machine.new ≡ effect plan.now (Loop counter target)
         (state_of S.content machine.old) }
 {
+    // Read for the proof: a value's invariant is known where the value is read.
     let _notice = plan.notice;
     let place = usize::from(counter.get());
     let times = machine.counters[place];
@@ -127,8 +134,8 @@ fn repeat<S: Store>(plan: &Plan, counter: CounterId, target: u16, machine: &mut 
     }
 }
 
-/// Carries an instruction out, where it doesn't trap: no trap is tested for. Its place in the code leaves room for
-/// the place after it.
+/// Executes an instruction that doesn't trap, without testing for traps. Its pc is not the largest `u16`, so that the
+/// next one exists.
 pub(crate) fn carry_out<S: Store>(plan: &Plan, instr: Instr, machine: &mut Machine<S>)
     requires within { machine.old.pc < 65535 }
     requires allowed { IsAllowed plan.now instr (state_of S.content machine.old) }

@@ -1,4 +1,4 @@
-//! What comes first in a frame: a swap that is due, and the end of what was waited for.
+//! The first step of a frame: a due swap, and the end of a wait.
 
 ghost use Rattle.std.specs.Prelude.{◌≡◌};
 ghost use Rattle.plan_runs.specs.Frames.{is_due, is_here, hold_after_swap, with_swap, with_hold_ended, ready};
@@ -18,7 +18,7 @@ pub(crate) fn is_due(left: Option<u16>) -> bool
     }
 }
 
-/// What is waited for after a swap: what waited for it resumes.
+/// The wait condition after a swap: a wait for the swap ends.
 fn hold_after_swap(hold: Hold) -> Hold
     ensures { result ≡ hold_after_swap hold }
 {
@@ -31,17 +31,17 @@ fn hold_after_swap(hold: Hold) -> Hold
     }
 }
 
-/// Makes the swap: the next configuration becomes the current one, what waits for it resumes, and page 0 is in turn.
+/// Makes the swap: the next configuration becomes the current one, a wait for the swap ends, and page 0 is in turn.
 fn swap<S: Store>(machine: &mut Machine<S>)
     ensures { state_of S.content machine.new ≡ with_swap (state_of S.content machine.old) }
 {
     machine.current.copy_from(&machine.next);
     machine.left = None;
     machine.hold = hold_after_swap(machine.hold);
-    machine.turn = 0;
+    machine.page_index = 0;
 }
 
-/// Whether what the machine waits for is here.
+/// Whether the wait condition is met.
 fn is_here<S: Store>(machine: &Machine<S>) -> bool
     ensures { result ≡ is_here (state_of S.content machine.now) machine.now.hold }
 {
@@ -54,7 +54,7 @@ fn is_here<S: Store>(machine: &Machine<S>) -> bool
     }
 }
 
-/// Lets instructions be carried out where what the machine waits for is here.
+/// Resumes the machine if its wait condition is met.
 fn end_hold<S: Store>(machine: &mut Machine<S>)
     ensures { state_of S.content machine.new ≡ with_hold_ended (state_of S.content machine.old) }
 {
@@ -63,8 +63,8 @@ fn end_hold<S: Store>(machine: &mut Machine<S>)
     }
 }
 
-/// Begins a frame: makes the swap where one is due, and then ends the hold where what the machine waits for is
-/// here. Whether a swap was made is the result.
+/// Begins a frame: makes a due swap, and then resumes the machine if its wait condition is met. Returns whether a swap
+/// was made.
 pub(crate) fn begin<S: Store>(machine: &mut Machine<S>) -> bool
     ensures state { state_of S.content machine.new ≡ ready (state_of S.content machine.old) }
     ensures swapped { result ≡ is_due machine.old.left }

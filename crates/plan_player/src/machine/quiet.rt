@@ -1,4 +1,4 @@
-//! How many frames are quiet: they make no swap, carry out no instruction and begin no phase.
+//! Counting quiet frames, which make no swap, execute no instruction and begin no phase.
 
 ghost use Rattle.std.specs.Prelude.{◌≡◌, ◌≤◌, ◌<◌, ◌+◌};
 ghost use Rattle.plan_player.specs.Positions.{state_of};
@@ -9,7 +9,7 @@ use mux_config::Store;
 use plan_code::limits::FRAMES_A_DAY;
 use plan_code::{Code, Hold};
 
-/// How many frames come before the swap and before the first frame of its notice.
+/// The number of frames before the swap and before the first frame of its notice.
 fn before_swap(notice: u8, left: Option<u16>) -> u32
     ensures { SwapIsAway notice left result }
 {
@@ -26,7 +26,7 @@ fn before_swap(notice: u8, left: Option<u16>) -> u32
     }
 }
 
-/// How many frames come before this frame of the day and before the end of the day.
+/// The number of frames before this frame of the day and before the end of the day.
 fn before_day(day: u32, frame: u32) -> u32
     requires { frame < FRAMES_A_DAY }
     ensures within { 1 ≤ result → day + result ≤ FRAMES_A_DAY }
@@ -39,7 +39,7 @@ fn before_day(day: u32, frame: u32) -> u32
     }
 }
 
-/// How many frames come before what the machine waits for.
+/// The number of frames before the machine can resume.
 fn before_resuming<S: Store>(machine: &Machine<S>) -> u32
     ensures { HoldIsAway (state_of S.content machine.now) machine.now.hold result }
 {
@@ -58,8 +58,8 @@ fn before_resuming<S: Store>(machine: &Machine<S>) -> u32
     }
 }
 
-/// How many frames from this one on are quiet, of at most this many: where frames are not looked at one by one, some
-/// that are quiet may not be counted.
+/// A number of frames, at most `most`, that are quiet from this one on. It may be smaller than possible, since frames
+/// are not tested one by one.
 pub(crate) fn quiet_frames<S: Store>(code: &Code, machine: &Machine<S>, most: u32) -> u32
     ensures quiet { AreQuiet code.now result (state_of S.content machine.now) }
     ensures bound { result ≤ most }

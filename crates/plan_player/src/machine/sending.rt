@@ -1,4 +1,4 @@
-//! What a frame says of its notice, and its FIG 0/0.
+//! What a frame sends in a notice, and its FIG 0/0.
 
 ghost use Rattle.std.specs.Prelude.{◌≡◌, ◌+◌, ◌*◌, ◌/◌, ◌<◌, ◌≤◌, ◌%◌, ◌==◌, IfSome, true};
 ghost use Rattle.std.specs.Option.{option_map, option_copied};
@@ -14,7 +14,7 @@ use mux_config::{Ensemble, Store};
 use plan_code::limits::COUNTS;
 use plan_code::{Mode, Plan};
 
-/// Whether a frame is one of the notice: from this many frames before the swap to the last one before it.
+/// Whether a frame is in the notice: from this many frames before the swap to the last one before it.
 pub(crate) fn is_noticed(notice: u8, left: Option<u16>) -> bool
     ensures { result ≡ is_noticed notice left }
 {
@@ -34,8 +34,8 @@ pub(crate) fn is_first_noticed(notice: u8, left: Option<u16>) -> bool
     }
 }
 
-/// Begins a notice: in its first frame page 0 is in turn. Whether the frame is the first of a notice is the result.
-/// This comes after the frame's instructions.
+/// Begins a notice: page 0 is in turn in its first frame. Returns whether the frame is the first of a notice.
+/// To be called after the frame's instructions.
 pub(crate) fn begin_notice<S: Store>(plan: &Plan, machine: &mut Machine<S>) -> bool
     ensures state { state_of S.content machine.new ≡
         with_notice_begun plan.now (state_of S.content machine.old) }
@@ -43,12 +43,12 @@ pub(crate) fn begin_notice<S: Store>(plan: &Plan, machine: &mut Machine<S>) -> b
 {
     let first = is_first_noticed(plan.notice, machine.left);
     if first {
-        machine.turn = 0;
+        machine.page_index = 0;
     }
     first
 }
 
-/// The next configuration, where the frame sends it beside the current one: in a notice.
+/// The next configuration if the frame sends it with the current one, that is, in a notice.
 pub(crate) fn next_sent<'a, S: Store>(plan: &Plan, machine: &'a Machine<S>) -> Option<&'a S>
     ensures { option_map S.content (option_copied result) ≡
         announced_next plan.now (state_of S.content machine.now) }
@@ -60,7 +60,7 @@ pub(crate) fn next_sent<'a, S: Store>(plan: &Plan, machine: &'a Machine<S>) -> O
     }
 }
 
-/// The low part of the CIF count of a swap that comes after this many frames: the count modulo 250.
+/// The low part of the CIF count, modulo 250, of a swap that falls this many frames later.
 fn low_of_swap(count: u16, left: Option<u16>) -> u8
     ensures { result ≡ low_of_swap count left }
 {
@@ -70,7 +70,7 @@ fn low_of_swap(count: u16, left: Option<u16>) -> u8
     }
 }
 
-/// Whether FIG 0/0 is sent in a frame of this CIF count: the mode's step divides it.
+/// Whether FIG 0/0 is sent in a frame with this CIF count: it is a multiple of the mode's step.
 pub(crate) fn is_on_step(mode: Mode, count: u16) -> bool
     ensures { result ≡ (count % count_step mode == 0) }
 {
@@ -82,8 +82,8 @@ pub(crate) fn is_on_step(mode: Mode, count: u16) -> bool
     }
 }
 
-/// What FIG 0/0 says in a frame of a notice and in the frames after it up to the swap, or in frames outside a notice: all
-/// but the CIF count (EN 300 401 clause 6.4).
+/// The content of FIG 0/0 except for the CIF count (EN 300 401 clause 6.4): the same throughout a notice, and
+/// throughout the frames outside of a notice.
 #[derive(Clone, Copy, Debug, PartialEq, Eq)]
 pub(crate) struct Header {
     eid: u16,
@@ -92,7 +92,7 @@ pub(crate) struct Header {
 }
 
 impl Header {
-    /// The FIG 0/0 of a frame of this CIF count. Its fields must be within their bits.
+    /// The FIG 0/0 of a frame with this CIF count. Its fields must fit in their bits.
     pub(crate) fn at(self, count: u16) -> Ensemble
         requires { IsEnsembleInformation (ensemble_at self count) }
         ensures { result ≡ ensemble_at self count }
@@ -100,20 +100,21 @@ impl Header {
         Ensemble::new(self.eid, self.change, false, count, self.swap).unwrap()
     }
 
-    /// The third byte of that FIG 0/0: the change flags, and the high part of the count, 0 to 4999.
+    /// The third byte of that FIG 0/0: the change flags and the high part of the count, 0 to 4999.
     pub(crate) fn high(self, count: u16) -> u8
         requires change { self.change < 4 }
         requires count { count < COUNTS }
         ensures { result ≡ self.change * 64 + count / 250 }
     {
+        // Read for the proof: a value's invariant is known where the value is read.
         let _eid = self.eid;
         let _swap = self.swap;
         self.change * 64 + (count / 250) as u8
     }
 }
 
-/// What FIG 0/0 says but for the count: the change flags and the low part of the count of the swap in a notice, neither
-/// elsewhere. In a notice `change` has to be the flags of what the swap changes.
+/// The content of FIG 0/0 except for the count: in a notice the change flags and the low part of the swap's count,
+/// otherwise neither. In a notice `change` has to be the flags of the pending change.
 pub(crate) fn make_header<S: Store>(plan: &Plan, machine: &Machine<S>, change: u8) -> Header
     requires { is_noticed plan.now.notice machine.now.left ≡ true →
         change ≡ bits_of (change_of (S.content machine.now.current)
@@ -134,9 +135,9 @@ pub(crate) fn make_header<S: Store>(plan: &Plan, machine: &Machine<S>, change: u
     }
 }
 
-/// The FIG 0/0 of the frame (EN 300 401 clause 6.4): the change flags and the low part of the count of the swap in a
-/// notice, neither elsewhere. In a notice `change` has to be the flags of what the swap changes. None where the CIF
-/// count is no multiple of the mode's step. Its fields must be within their bits.
+/// The FIG 0/0 of the frame (EN 300 401 clause 6.4): in a notice with the change flags and the low part of the swap's
+/// count, otherwise with neither. In a notice `change` has to be the flags of the pending change. None where the CIF
+/// count is not a multiple of the mode's step. Its fields must fit in their bits.
 pub(crate) fn ensemble<S: Store>(plan: &Plan, machine: &Machine<S>, change: u8) -> Option<Ensemble>
     requires within { IfSome (ensemble_sent plan.now (state_of S.content machine.now))
         IsEnsembleInformation }

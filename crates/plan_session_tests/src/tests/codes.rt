@@ -1,4 +1,4 @@
-//! Code files, and what is played of them.
+//! Code files, and their playback.
 
 use mux_config::Config;
 use plan_code::{Contacts, decode};
@@ -15,7 +15,7 @@ pub const ENDED: [u8; 35] = [
     0x00, 0x01, 0x07,
 ];
 
-/// A code that lowers the rate of one programme with a swap 24 frames later, and ends.
+/// A code that lowers the rate of a sub-channel with a swap 24 frames later, and ends.
 pub const LOWERED: [u8; 63] = [
     // the header
     0x44, 0x41, 0x42, 0x50, 0x01, 0xE1, 0xC5, 0x04, 0x18, 0x14, 0x00, 0x01, 0x00, 0x01, 0x00, 0x04,
@@ -29,7 +29,7 @@ pub const LOWERED: [u8; 63] = [
     0x07,
 ];
 
-/// A start at CIF count 0 in the day's first frame, with all contacts open.
+/// A start at CIF count 0 in the first frame of the day, with all contacts open.
 pub const START: Start = Start {
     eid: 0xE1C5,
     count: 0,
@@ -37,13 +37,13 @@ pub const START: Start = Start {
     contacts: Contacts(0),
 };
 
-/// The typed code of a file.
+/// The typed code of a code file.
 pub fn typed(alloc: Global, file: &[u8]) -> Result<Verified, Fail> {
     let code = decode(alloc, file).ok().ok_or("a code")?;
     Ok(verify::<Config>(code).ok().ok_or("a typed code")?)
 }
 
-/// What that start makes of a file and the text of an event file: the answer, and the bytes.
+/// Plays a code file from that start over the text of an event file. Returns the result and the bytes written.
 pub fn played(
     alloc: Global,
     file: &[u8],

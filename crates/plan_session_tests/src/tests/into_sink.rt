@@ -1,4 +1,4 @@
-//! Playback through a buffer, into sinks that take less than all.
+//! Playback through a buffer into writers that take only part of the bytes.
 
 use super::codes::{ENDED, LOWERED, played};
 use plan_code::Contacts;
@@ -8,7 +8,7 @@ use std::alloc::Global;
 use std::io::{self, Error, ErrorKind, Write};
 use std::test::Fail;
 
-/// How a writer ends that has no room left.
+/// What a full writer returns.
 #[derive(Clone, Copy)]
 enum End {
     Nothing,
@@ -16,7 +16,7 @@ enum End {
     Interrupted,
 }
 
-/// A writer that takes this many bytes at a call and this many in all, and then ends.
+/// A writer that takes at most `at_once` bytes per call and `room` bytes in all.
 #[derive(Drop)]
 struct Narrow {
     at_once: usize,
@@ -49,7 +49,7 @@ impl Write for Narrow {
     }
 }
 
-/// What is answered, and the sink then.
+/// Plays a code file into this writer. Returns the result and the sink.
 fn into(
     alloc: Global,
     file: &[u8],
@@ -59,7 +59,7 @@ fn into(
     run_into(alloc, file, text, 0, 0, Contacts(0), Writer::new(writer))
 }
 
-/// A writer of this room, that ends so.
+/// An empty writer.
 fn writer_of(alloc: Global, room: usize, at_once: usize, end: End) -> Narrow {
     Narrow {
         at_once,
@@ -71,7 +71,7 @@ fn writer_of(alloc: Global, room: usize, at_once: usize, end: End) -> Narrow {
 }
 
 #[test]
-fn a_full_writer_is_told_with_what_went_out_and_never_called_again(
+fn a_full_writer_is_reported_with_what_went_out_and_never_called_again(
     rt: HostRuntime,
 ) -> Result<(), Fail> {
     let alloc = rt.alloc();

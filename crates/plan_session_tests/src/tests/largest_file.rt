@@ -1,16 +1,16 @@
-//! The largest file: the most configurations, labels and instructions, each as long as it may be.
+//! The largest code file: as many configurations, labels and instructions as possible, each as long as possible.
 
 use plan_code::{Code, decode, encode};
 use std::alloc::{AllocError, Global};
 use std::test::Fail;
 
-/// The header of a file in mode IV, of 256 configurations, 1,024 labels and 4,096 instructions.
+/// The header of a file in mode IV with 256 configurations, 1,024 labels and 4,096 instructions.
 const HEADER: [u8; 17] = [
     0x44, 0x41, 0x42, 0x50, 0x02, 0x04, 0xE1, 0xC5, 0x04, 0x18, 0x14, 0x01, 0x00, 0x04, 0x00, 0x10,
     0x00,
 ];
 
-/// Appends 64 services with SIds of 16 bits, each with 12 components.
+/// Appends 64 services with 16-bit SIds, each with 12 components.
 fn append_services(bytes: &mut Vec<u8>) -> Result<(), AllocError> {
     for id in 0..64 {
         bytes.extend_from_slice(&[0x00, 0xC2, id, 12])?;
@@ -53,7 +53,7 @@ fn append_labels(bytes: &mut Vec<u8>) -> Result<(), AllocError> {
     Ok(())
 }
 
-/// Appends 4,096 of the longest instructions: a component is added to a service with an SId of 32 bits.
+/// Appends 4,096 of the longest instructions: each adds a component to a service with a 32-bit SId.
 fn append_lines(bytes: &mut Vec<u8>) -> Result<(), AllocError> {
     for number in 0..4096u16 {
         bytes.extend_from_slice(&number.to_be_bytes())?;
@@ -72,7 +72,7 @@ fn largest_file(alloc: Global) -> Result<Vec<u8>, AllocError> {
     Ok(file)
 }
 
-/// How many configurations, labels and instructions a code has.
+/// The numbers of configurations, labels and instructions of a code.
 fn sizes(code: &Code) -> (usize, usize, usize) {
     (
         code.configs().len(),

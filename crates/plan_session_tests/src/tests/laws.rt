@@ -1,18 +1,18 @@
-//! The laws of the crates below that `plan_player` passes on.
+//! Laws of other crates that `plan_player` passes on.
 
 ghost use Rattle.plan_player.specs.Listening.{ListenersAreRight};
 ghost use Rattle.plan_player.specs.Settings.{LastLevelsCount};
 
 use plan_player::laws;
 
-/// A listener that is new before any frame of a run comes to know the configuration.
+/// A listener that starts before any frame of a run learns the configuration.
 fn listener()
     ensures { ListenersAreRight }
 {
     laws::listener();
 }
 
-/// Only the last setting of each contact between two frames counts.
+/// Between two frames, only the last setting of each contact has an effect.
 fn contacts()
     ensures { LastLevelsCount }
 {

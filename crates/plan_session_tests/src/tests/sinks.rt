@@ -1,4 +1,4 @@
-//! A sink that takes a byte at a call.
+//! A sink that takes one byte per call.
 
 ghost use Rattle.std.specs.Prelude.{◌≡◌, false, Some};
 
@@ -10,7 +10,7 @@ use std::alloc::Global;
 use std::process::Abort;
 use std::test::Fail;
 
-/// Takes one byte a call, as long as there is memory for it.
+/// Takes one byte per call until memory runs out.
 #[derive(Drop)]
 struct Single {
     bytes: Vec<u8>,
@@ -47,10 +47,10 @@ impl Sink for Single {
     }
 }
 
-/// How many frames a player makes here.
+/// The number of frames played.
 const FRAMES: u32 = 70;
 
-/// The bytes of these frames, as `frame` gives them.
+/// The bytes of these frames, as `frame` returns them.
 fn frame_by_frame(alloc: Global, player: &mut Player<Config>) -> Result<Vec<u8>, Fail> {
     let mut bytes = Vec::new(alloc);
     for _ in 0..FRAMES {
@@ -59,7 +59,8 @@ fn frame_by_frame(alloc: Global, player: &mut Player<Config>) -> Result<Vec<u8>,
     Ok(bytes)
 }
 
-/// What `play_frames` answers, and whether the sink then has these bytes and has not failed.
+/// Plays the frames into a sink that takes single bytes. Returns the result of `play_frames`, and whether the sink has
+/// these bytes and has not failed.
 fn put_singly(
     alloc: Global,
     player: &mut Player<Config>,
@@ -70,7 +71,7 @@ fn put_singly(
     (frames, sink.bytes.as_slice() == bytes && !sink.failed())
 }
 
-/// What is taken of a code's frames, a byte a call, is what `frame` gives.
+/// A sink that takes single bytes receives the bytes that `frame` returns.
 fn takes_frames(rt: &impl Abort, alloc: Global, code: &Verified) -> Result<(), Fail> {
     let mut player: Player<Config> = Player::new(code, START)?;
     let bytes = frame_by_frame(alloc, &mut player)?;

@@ -1,11 +1,11 @@
-//! Texts that are read from a reader that is interrupted, and fails.
+//! Reading texts from a reader that is interrupted and then fails.
 
 use plan_session::{TextFault, read_text};
 use std::io::{self, Error, ErrorKind, Read};
 use std::process::Abort;
 use std::test::Fail;
 
-/// A reader that gives a few bytes at a time, is interrupted after each read, and fails after the last byte.
+/// A reader that returns up to three bytes at a time, is interrupted before each read, and fails after the last byte.
 #[derive(Drop)]
 struct Failing<'a> {
     bytes: &'a [u8],
@@ -26,7 +26,7 @@ impl Read for Failing<'_> {
     }
 }
 
-/// Why these bytes are no text.
+/// Reading this text fails with this fault.
 fn refuses<R: Read + Drop>(
     rt: &(impl Abort + AllocGlobal),
     source: R,
@@ -40,7 +40,7 @@ fn refuses<R: Read + Drop>(
 }
 
 #[test]
-fn a_reader_that_fails_is_told_once_it_fails(rt: HostRuntime) -> Result<(), Fail> {
+fn a_reader_that_fails_is_reported_once_it_fails(rt: HostRuntime) -> Result<(), Fail> {
     let rows: [(&[u8], TextFault); 6] = [
         (b"", TextFault::Failed),
         (b"frames 1", TextFault::Failed),

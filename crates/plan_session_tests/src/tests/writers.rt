@@ -1,4 +1,4 @@
-//! Writers that fail, as sinks.
+//! Sinks over writers that fail.
 
 use super::codes::{ENDED, START, typed};
 use mux_config::Config;
@@ -8,7 +8,7 @@ use std::io::{self, Error, ErrorKind, Write};
 use std::process::Abort;
 use std::test::Fail;
 
-/// A writer that takes up to 48 bytes at a call for this many calls, and then nothing, or fails so.
+/// A writer that takes up to 48 bytes per call for this many calls, and then returns 0, or this error.
 #[derive(Drop)]
 struct Failing {
     calls: u32,
@@ -37,7 +37,7 @@ impl Write for Failing {
     }
 }
 
-/// A writer that fails so after this many calls.
+/// A writer that fails in this way after this many calls.
 fn writer(calls: u32, fault: Option<ErrorKind>) -> Failing {
     Failing {
         calls,
@@ -47,31 +47,31 @@ fn writer(calls: u32, fault: Option<ErrorKind>) -> Failing {
     }
 }
 
-/// What `play` answers of three frames into this writer, and the sink that wrote to it.
+/// Plays three frames into this writer. Returns the fault of `play`, and the sink.
 fn written(player: &mut Player<Config>, inner: Failing) -> (Option<PlayFault>, Writer<Failing>) {
     let mut sink = Writer::new(inner);
     let frames = play(player, &[Event::Frame; 3], &mut sink);
     (frames.err(), sink)
 }
 
-/// What stopped three frames into a writer, whether its sink has failed, how many bytes were taken, and the calls that
-/// were made.
+/// The fault of playing three frames, whether the sink has failed, the number of bytes taken, and the number of calls
+/// made.
 type Outcome = (Option<PlayFault>, bool, usize, u32);
 
-/// What comes of three frames into this writer.
+/// The outcome of playing three frames into this writer.
 fn three_into(player: &mut Player<Config>, inner: Failing) -> Outcome {
     let (fault, sink) = written(player, inner);
     (fault, sink.failed(), sink.inner().taken, sink.inner().tried)
 }
 
-/// What comes of a code's first three frames into this writer.
+/// The outcome of playing a code's first three frames into this writer.
 fn three_frames(code: &Verified, inner: Failing) -> Result<Outcome, Fail> {
     let mut player: Player<Config> = Player::new(code, START)?;
     Ok(three_into(&mut player, inner))
 }
 
-/// A number of calls, and what then stops three frames: the frames that were taken whole, the bytes of the next one,
-/// all bytes that were taken, and the calls that were made.
+/// A number of calls, and the outcome after them: the whole frames taken, the bytes of the next one, all bytes taken,
+/// and the calls made.
 type Row = (u32, u64, usize, usize, u32);
 
 const ROWS: [Row; 6] = [
@@ -83,7 +83,7 @@ const ROWS: [Row; 6] = [
     (5, 2, 48, 240, 6),
 ];
 
-/// Three frames were stopped as this row says.
+/// The outcome is that of this row.
 fn is_stopped(rt: &impl Abort, outcome: Outcome, row: Row) {
     let (_, frames, bytes, taken, tried) = row;
     assert!(rt; outcome.1);
@@ -92,7 +92,7 @@ fn is_stopped(rt: &impl Abort, outcome: Outcome, row: Row) {
     assert_eq!(rt; outcome.3, tried);
 }
 
-/// So it is for each number of calls.
+/// Every row holds for this way of failing.
 fn fails_so(rt: &impl Abort, code: &Verified, fault: Option<ErrorKind>) -> Result<(), Fail> {
     for row in ROWS {
         let outcome = three_frames(code, writer(row.0, fault))?;

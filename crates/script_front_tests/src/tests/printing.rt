@@ -1,21 +1,21 @@
-//! Scripts that are printed: the layout of every item and statement.
+//! The printed layout of every item and statement.
 
 use script_front::{parse, print};
 use std::alloc::Global;
 use std::test::Fail;
 
-/// What is printed of the script that a text holds.
+/// Parses a text and prints the script.
 fn printed_of(alloc: Global, text: &str) -> Result<String, Fail> {
     let script = parse(alloc, text)?;
     Ok(print(alloc, &script)?)
 }
 
-/// Whether a text is printed so.
+/// Whether a text is printed in this way.
 fn is_printed(alloc: Global, text: &str, wanted: &str) -> Result<bool, Fail> {
     Ok(printed_of(alloc, text)?.as_str() == wanted)
 }
 
-/// A printed text, with every item and statement, braces inside braces, and `else`.
+/// A printed text with every item and statement, nested braces, and `else`.
 const EVERY: &str = "ensemble E1C5
 period 4 notice 24 budget 20
 sub 63 at 1023 eep 2-B 65535

@@ -1,4 +1,4 @@
--- None of the files that were passed has the path.
+-- None of the files before this index has the path.
 use Rattle.std.proofs.Common.{◌≡◌, drop}
 use Rattle.console.specs.Reading.{bytes_at}
 use Rattle.console.proofs.known.bytes_of.Given as goal

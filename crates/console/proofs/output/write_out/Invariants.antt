@@ -1,4 +1,4 @@
--- `write_out` ends, since each turn writes some bytes, and what was taken is in the writer.
+-- `write_out` terminates, since each iteration writes some bytes, and the writer contains what was taken.
 use Rattle.std.proofs.Common.{◌-◌, ◌≤◌, length, take}
 use Rattle.std.specs.Io.KnownBytes.{Appends}
 use Rattle.console.proofs.output.write_out.Given as goal

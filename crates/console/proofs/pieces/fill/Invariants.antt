@@ -1,4 +1,4 @@
--- `fill` ends with its counter, and what is filled is what was read so far.
+-- `fill` terminates by its counter, and the filled part is what was read so far.
 use Rattle.std.proofs.Common.{◌≡◌, ◌≤◌, length, take}
 use Rattle.std.specs.Io.KnownBytes.{Consumes}
 use Rattle.console.proofs.pieces.fill.Given as goal

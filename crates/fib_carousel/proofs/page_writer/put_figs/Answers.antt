@@ -2,7 +2,7 @@ use Rattle.std.proofs.Common.{◌≡◌, ◌+◌, ◌-◌, ◌*◌, ◌<◌, ◌
 use Rattle.fib_carousel.specs.declared.pack_state.Position.{Position}
 use Rattle.fib_carousel.specs.declared.pack_state.PackState.{PackState}
 use Rattle.fib_carousel.specs.Packing.{room}
-use Rattle.fib_carousel.specs.Walk.{IsShapeAt, GoesPast}
+use Rattle.fib_carousel.specs.Walk.{IsShapeAt, NextIsAfter}
 use Rattle.fib_carousel.proofs.Least.{room_high}
 use Rattle.fib_carousel.proofs.Walk.{passed, passed_entry, walked_over, walked_end, passed_by}
 use Rattle.fib_carousel.proofs.Filling.{FilledTo, Entered, filled_start, filled_all, filled_fits, filled_before}
@@ -298,7 +298,7 @@ returns-then-left-more-lt-SHORTEST-clause-bytes g c =
     let known : c.args.place.room ≡ room c.args.mode c.args.place.number = c.requires.known in
     let tight : room c.args.mode c.args.place.number < q.used + (c.put_run-count.result - 1) * shape.size + 3 =
     omega (arith, many.fits, known, c.if-left-more-lt-SHORTEST.true) in
-    let past : GoesPast c.args.mode (g.L.EntryList.entries c.args.list.now) c.args.place.number p =
+    let past : NextIsAfter c.args.mode (g.L.EntryList.entries c.args.list.now) c.args.place.number p =
     past_full c.args.mode _ c.args.place.number p c.requires.sendable c.if-state-number.true tight in
     c.lengthen_fig.ensures ∙ filled_all _ _ _ _ _ p _ filled (walked_past _ _ _ _ p past filled.walked)
 
@@ -377,7 +377,7 @@ returns-then-left-more-lt-SHORTEST-clause-passed g c =
     let known : c.args.place.room ≡ room c.args.mode c.args.place.number = c.requires.known in
     let tight : room c.args.mode c.args.place.number < q.used + (c.put_run-count.result - 1) * shape.size + 3 =
     omega (arith, many.fits, known, c.if-left-more-lt-SHORTEST.true) in
-    let past : GoesPast c.args.mode (g.L.EntryList.entries c.args.list.now) c.args.place.number p =
+    let past : NextIsAfter c.args.mode (g.L.EntryList.entries c.args.list.now) c.args.place.number p =
     past_full c.args.mode _ c.args.place.number p c.requires.sendable c.if-state-number.true tight in
     passed_past _ _ _ _ p past filled.walked
 
@@ -402,6 +402,6 @@ returns-then-left-more-lt-SHORTEST-clause-past g c =
     let known : c.args.place.room ≡ room c.args.mode c.args.place.number = c.requires.known in
     let tight : room c.args.mode c.args.place.number < q.used + (c.put_run-count.result - 1) * shape.size + 3 =
     omega (arith, many.fits, known, c.if-left-more-lt-SHORTEST.true) in
-    let past : GoesPast c.args.mode (g.L.EntryList.entries c.args.list.now) c.args.place.number p =
+    let past : NextIsAfter c.args.mode (g.L.EntryList.entries c.args.list.now) c.args.place.number p =
     past_full c.args.mode _ c.args.place.number p c.requires.sendable c.if-state-number.true tight in
     past

@@ -3,7 +3,7 @@ use Rattle.fib_codec.specs.Modes.{fib_count}
 use Rattle.fib_codec.specs.Spelling.{Written, fib_bytes}
 use Rattle.fib_carousel.specs.Bytes.{figs_of}
 use Rattle.fib_carousel.specs.Pages.{fib_entries, first_fib}
-use Rattle.fib_carousel.specs.Walk.{StandsBefore, HasPassed}
+use Rattle.fib_carousel.specs.Walk.{IsAtFib, HasPassed}
 use Rattle.fib_carousel.proofs.Walk.{rounds_bound}
 use Rattle.fib_carousel.proofs.Widths.{few_fibs}
 use Rattle.fib_carousel.proofs.Rows.{fib_written}
@@ -28,7 +28,7 @@ loop-slot-preserved g c =
     record {
       some = omega arith;
       size = c.write_fib-in-loop-slot.ensures.size ∙ c.loop-slot.invariant.size;
-      before = subst (λ n. StandsBefore c.args.mode (g.L.EntryList.entries c.args.list.now) n c.write_fib-in-loop-slot.new.position) next c.write_fib-in-loop-slot.ensures.next;
+      before = subst (λ n. IsAtFib c.args.mode (g.L.EntryList.entries c.args.list.now) n c.write_fib-in-loop-slot.new.position) next c.write_fib-in-loop-slot.ensures.next;
       passed = subst (λ n. HasPassed c.args.mode (g.L.EntryList.entries c.args.list.now) n c.write_fib-in-loop-slot.new.position) last c.write_fib-in-loop-slot.ensures.passed;
       bytes =
           fib_written (fib_count c.args.mode) (first_fib c.args.mode c.args.page) c.loop-slot.slot figs _ _

@@ -1,5 +1,5 @@
 use Rattle.std.proofs.Common.{sym, arith, length-take-le}
-use Rattle.fib_codec.proofs.Words.{sealed_row}
+use Rattle.fib_codec.proofs.U16.{sealed_row}
 use Rattle.fib_codec.proofs.data.with_crc.Goals as goal
 
 pub returns : goal.returns

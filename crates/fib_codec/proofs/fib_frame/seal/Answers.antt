@@ -1,5 +1,5 @@
 use Rattle.std.proofs.Common.{arith, length-take-le}
-use Rattle.fib_codec.proofs.Words.{sealed_end}
+use Rattle.fib_codec.proofs.U16.{sealed_end}
 use Rattle.fib_codec.proofs.fib_frame.seal.Goals as goal
 
 pub slice_bounds-crc16-end-2 : goal.slice_bounds-crc16-end-2

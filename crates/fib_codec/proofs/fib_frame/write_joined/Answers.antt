@@ -1,5 +1,5 @@
 use Rattle.std.proofs.Common.{arith}
-use Rattle.fib_codec.proofs.Words.{joined_into}
+use Rattle.fib_codec.proofs.U16.{joined_into}
 use Rattle.fib_codec.proofs.fib_frame.write_joined.Goals as goal
 
 pub returns : goal.returns

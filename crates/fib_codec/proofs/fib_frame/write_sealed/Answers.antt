@@ -1,4 +1,4 @@
-use Rattle.fib_codec.proofs.Words.{sealed_into}
+use Rattle.fib_codec.proofs.U16.{sealed_into}
 use Rattle.fib_codec.proofs.fib_frame.write_sealed.Goals as goal
 
 pub returns : goal.returns

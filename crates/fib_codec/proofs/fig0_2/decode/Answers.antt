@@ -1,6 +1,6 @@
 use Rattle.std.proofs.Common.{rules, sym, ◌∙◌, arith}
 use Rattle.std.proofs.lemmas.Grind.{common_steps}
-use Rattle.fib_codec.proofs.Told.{service_told}
+use Rattle.fib_codec.proofs.Determined.{service_told}
 use Rattle.fib_codec.proofs.fig0_2.decode.Goals as goal
 
 pub returns-clause-spelled : goal.returns-clause-spelled

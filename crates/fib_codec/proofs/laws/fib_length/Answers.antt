@@ -1,4 +1,4 @@
-use Rattle.fib_codec.proofs.Words.{fib_len}
+use Rattle.fib_codec.proofs.U16.{fib_len}
 use Rattle.fib_codec.proofs.laws.fib_length.Goals as goal
 
 pub returns : goal.returns

@@ -1,6 +1,6 @@
 use Rattle.fib_codec.proofs.Finished.{entry_is}
 use Rattle.fib_codec.proofs.Spelled.{entry_spelled}
-use Rattle.fib_codec.proofs.Told.{entry_told}
+use Rattle.fib_codec.proofs.Determined.{entry_told}
 use Rattle.fib_codec.proofs.laws.spelling.Goals as goal
 
 pub returns-clause-is_entry : goal.returns-clause-is_entry

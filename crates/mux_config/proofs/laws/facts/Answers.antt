@@ -1,4 +1,4 @@
-use Rattle.mux_config.proofs.Telling.{facts_told}
+use Rattle.mux_config.proofs.Distinguishing.{facts_told}
 use Rattle.mux_config.proofs.laws.facts.Goals as goal
 
 pub returns : goal.returns

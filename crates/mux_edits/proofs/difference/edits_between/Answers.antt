@@ -1,7 +1,7 @@
 use Rattle.std.proofs.Common.{◌≡◌, ◌≤◌, List, length, sym, subst}
 use Rattle.mux_config.specs.declared.edit.Edit.{Edit}
 use Rattle.mux_edits.specs.Differences.{edits_between}
-use Rattle.mux_edits.specs.Sequences.{Lead}
+use Rattle.mux_edits.specs.Sequences.{Transform}
 use Rattle.mux_edits.proofs.Counting.{between_few}
 use Rattle.mux_edits.proofs.Loops.{eight_joined}
 use Rattle.mux_edits.proofs.difference.edits_between.Goals as goal
@@ -16,8 +16,8 @@ returns-clause-value c =
 pub returns-clause-leads : goal.returns-clause-leads
 returns-clause-leads c =
     let value : c.grow_services.new.edits.items ≡ edits_between c.args.from.now c.args.to.now = returns-clause-value c in
-    subst (λ (es : List Edit). Lead es c.args.from.now c.args.to.now) (sym value)
-    (c.leading.ensures.between c.args.from.now c.args.to.now c.services.ensures.configuration c.subs-3.ensures.configuration)
+    subst (λ (es : List Edit). Transform es c.args.from.now c.args.to.now) (sym value)
+    (c.transforming.ensures.between c.args.from.now c.args.to.now c.services.ensures.configuration c.subs-3.ensures.configuration)
 
 pub returns-clause-few : goal.returns-clause-few
 returns-clause-few c =

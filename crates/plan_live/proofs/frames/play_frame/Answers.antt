@@ -9,22 +9,22 @@ pub returns-in-Ok-clause-done : goal.returns-in-Ok-clause-done
 returns-in-Ok-clause-done g c =
     let left = g.E.Ends.left in
     let written = g.E.Ends.written in
-    let told = g.E.Ends.told in
+    let reported = g.E.Ends.reported in
     let p : Playing = c.args.player.now in
-    let a : Streamed = streamed (left c.args.ends.now) (written c.args.ends.now) (told c.args.ends.now) in
-    let b : Streamed = streamed (left c.write_frame.new.ends) (written c.write_frame.new.ends) (told c.write_frame.new.ends) in
-    let d : Streamed = streamed (left c.tell_frame.new.ends) (written c.tell_frame.new.ends) (told c.tell_frame.new.ends) in
+    let a : Streamed = streamed (left c.args.ends.now) (written c.args.ends.now) (reported c.args.ends.now) in
+    let b : Streamed = streamed (left c.write_frame.new.ends) (written c.write_frame.new.ends) (reported c.write_frame.new.ends) in
+    let d : Streamed = streamed (left c.report_frame.new.ends) (written c.report_frame.new.ends) (reported c.report_frame.new.ends) in
     let bytes : c.bytes.result.now ≡ next_frame p = c.bytes.ensures.value ∙ c.make_frame-frame.ensures.bytes in
     frame_went c.args.options.skip c.args.options.status p c.make_frame-frame.new.player c.args.made.now c.write_frame.new.made a b d c.bytes.result.now bytes c.make_frame-frame.ensures.state c.in-Ok.ensures.done
-    c.tell_frame.ensures.left c.tell_frame.ensures.written (c.tell_frame.ensures.told p c.make_frame-frame.ensures.state c.look_at-before.ensures)
+    c.report_frame.ensures.left c.report_frame.ensures.written (c.report_frame.ensures.reported p c.make_frame-frame.ensures.state c.look_at-before.ensures)
 
 pub returns-in-Err-clause-stopped : goal.returns-in-Err-clause-stopped
 returns-in-Err-clause-stopped g c =
     let left = g.E.Ends.left in
     let written = g.E.Ends.written in
-    let told = g.E.Ends.told in
+    let reported = g.E.Ends.reported in
     let p : Playing = c.args.player.now in
-    let a : Streamed = streamed (left c.args.ends.now) (written c.args.ends.now) (told c.args.ends.now) in
-    let b : Streamed = streamed (left c.write_frame.new.ends) (written c.write_frame.new.ends) (told c.write_frame.new.ends) in
+    let a : Streamed = streamed (left c.args.ends.now) (written c.args.ends.now) (reported c.args.ends.now) in
+    let b : Streamed = streamed (left c.write_frame.new.ends) (written c.write_frame.new.ends) (reported c.write_frame.new.ends) in
     let bytes : c.bytes.result.now ≡ next_frame p = c.bytes.ensures.value ∙ c.make_frame-frame.ensures.bytes in
     frame_stops c.args.options.skip c.args.options.status p c.args.made.now a b c.bytes.result.now c.in-Err.stop bytes c.in-Err.ensures.stopped

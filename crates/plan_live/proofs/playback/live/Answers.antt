@@ -9,13 +9,13 @@ use Rattle.plan_live.specs.Living.{Streamed, streamed, Reached, StoppedBy, IsPro
 use Rattle.plan_live.proofs.Starts.{one_player}
 use Rattle.plan_live.proofs.playback.live.Goals as goal
 
-pub returns-in-Ok-lead-clause-played : goal.returns-in-Ok-lead-clause-played
-returns-in-Ok-lead-clause-played g c = λ p h.
+pub returns-in-Ok-drive-clause-played : goal.returns-in-Ok-drive-clause-played
+returns-in-Ok-drive-clause-played g c = λ p h.
     let left = g.E.Ends.left in
     let written = g.E.Ends.written in
-    let told = g.E.Ends.told in
-    let old : Streamed = streamed (left c.args.ends.now) (written c.args.ends.now) (told c.args.ends.now) in
-    let new : Streamed = streamed (left c.lead.new.ends) (written c.lead.new.ends) (told c.lead.new.ends) in
+    let reported = g.E.Ends.reported in
+    let old : Streamed = streamed (left c.args.ends.now) (written c.args.ends.now) (reported c.args.ends.now) in
+    let new : Streamed = streamed (left c.drive.new.ends) (written c.drive.new.ends) (reported c.drive.new.ends) in
     let r : Request = asked c.args.code.now [] c.args.count c.args.day c.args.contacts in
     let verified : Program = c.in-Ok.verified in
     let start : Start = record { eid = c.plan.result.eid; count = c.args.count; day = c.args.day; contacts = c.args.contacts } in
@@ -23,15 +23,15 @@ returns-in-Ok-lead-clause-played g c = λ p h.
     let starts : start ≡ start_of verified r = ap (λ (l : Plan). let s : Start = record { eid = l.eid; count = c.args.count; day = c.args.day; contacts = c.args.contacts } in s) plan in
     let codes : verified ≡ p.code = c.in-Ok.ensures.only p.code h.ready.file in
     let same : c.in-Ok-new.player ≡ p = one_player r verified start p c.in-Ok-new.player h codes starts c.in-Ok-new.ensures.begins in
-    subst (λ (x : Playing). (lines : List (List ℕ)) × Reached c.args.options.skip c.args.options.status x old new lines × IsAtEnd (left c.lead.new.ends)) same c.in-Ok-lead.ensures.whole
+    subst (λ (x : Playing). (lines : List (List ℕ)) × Reached c.args.options.skip c.args.options.status x old new lines × IsAtEnd (left c.drive.new.ends)) same c.in-Ok-drive.ensures.whole
 
 pub returns-clause-played : goal.returns-clause-played
 returns-clause-played g c = λ p h.
     let left = g.E.Ends.left in
     let written = g.E.Ends.written in
-    let told = g.E.Ends.told in
-    let old : Streamed = streamed (left c.args.ends.now) (written c.args.ends.now) (told c.args.ends.now) in
-    let new : Streamed = streamed (left c.lead.new.ends) (written c.lead.new.ends) (told c.lead.new.ends) in
+    let reported = g.E.Ends.reported in
+    let old : Streamed = streamed (left c.args.ends.now) (written c.args.ends.now) (reported c.args.ends.now) in
+    let new : Streamed = streamed (left c.drive.new.ends) (written c.drive.new.ends) (reported c.drive.new.ends) in
     let r : Request = asked c.args.code.now [] c.args.count c.args.day c.args.contacts in
     let verified : Program = c.in-Ok.verified in
     let start : Start = record { eid = c.plan.result.eid; count = c.args.count; day = c.args.day; contacts = c.args.contacts } in
@@ -39,15 +39,15 @@ returns-clause-played g c = λ p h.
     let starts : start ≡ start_of verified r = ap (λ (l : Plan). let s : Start = record { eid = l.eid; count = c.args.count; day = c.args.day; contacts = c.args.contacts } in s) plan in
     let codes : verified ≡ p.code = c.in-Ok.ensures.only p.code h.ready.file in
     let same : c.in-Ok-new.player ≡ p = one_player r verified start p c.in-Ok-new.player h codes starts c.in-Ok-new.ensures.begins in
-    subst (λ (x : Playing). StoppedBy c.args.options.skip c.args.options.status x old new c.in-Err-lead.stop) same c.in-Err-lead.ensures.stopped
+    subst (λ (x : Playing). StoppedBy c.args.options.skip c.args.options.status x old new c.in-Err-drive.stop) same c.in-Err-drive.ensures.stopped
 
 pub returns-clause-prompt : goal.returns-clause-prompt
 returns-clause-prompt g c = λ p h.
     let left = g.E.Ends.left in
     let written = g.E.Ends.written in
-    let told = g.E.Ends.told in
+    let reported = g.E.Ends.reported in
     let moments = g.E.Ends.moments in
-    let old : Streamed = streamed (left c.args.ends.now) (written c.args.ends.now) (told c.args.ends.now) in
+    let old : Streamed = streamed (left c.args.ends.now) (written c.args.ends.now) (reported c.args.ends.now) in
     let r : Request = asked c.args.code.now [] c.args.count c.args.day c.args.contacts in
     let verified : Program = c.in-Ok.verified in
     let start : Start = record { eid = c.plan.result.eid; count = c.args.count; day = c.args.day; contacts = c.args.contacts } in
@@ -55,4 +55,4 @@ returns-clause-prompt g c = λ p h.
     let starts : start ≡ start_of verified r = ap (λ (l : Plan). let s : Start = record { eid = l.eid; count = c.args.count; day = c.args.day; contacts = c.args.contacts } in s) plan in
     let codes : verified ≡ p.code = c.in-Ok.ensures.only p.code h.ready.file in
     let same : c.in-Ok-new.player ≡ p = one_player r verified start p c.in-Ok-new.player h codes starts c.in-Ok-new.ensures.begins in
-    subst (λ (x : Playing). IsPrompt c.args.options.skip c.args.options.status x old (moments c.args.ends.now) (moments c.lead.new.ends)) same c.lead.ensures.prompt
+    subst (λ (x : Playing). IsPrompt c.args.options.skip c.args.options.status x old (moments c.args.ends.now) (moments c.drive.new.ends)) same c.drive.ensures.prompt

@@ -2,7 +2,7 @@ use Rattle.std.proofs.Common.{ℕ, subst}
 use Rattle.std.specs.Option.{option_copied}
 use Rattle.fib_carousel.specs.Pages.{page_set_of, page_after, rounds}
 use Rattle.fib_carousel.specs.Kept.{IsKept}
-use Rattle.fib_carousel.specs.Walk.{StandsAt}
+use Rattle.fib_carousel.specs.Walk.{IsAtPage}
 use Rattle.plan_player.proofs.Keeping.{one_more}
 use Rattle.plan_player.proofs.phase_pages.make.Goals as goal
 
@@ -15,5 +15,5 @@ returns-clause-keeps g c =
     let cursor = c.kept_page-page.new.self in
     one_more mode ms c.args.pages.now c.from-place.result page c.number.result cursor c.requires.keeps c.from-place.ensures c.requires.few c.requires.within
     (subst (λ (k : ℕ). IsKept mode ms k page) at c.kept_page-page.ensures.kept)
-    (subst (λ (k : ℕ). StandsAt mode ms (page_after (rounds mode ms) k) cursor) at c.kept_page-page.ensures.next)
+    (subst (λ (k : ℕ). IsAtPage mode ms (page_after (rounds mode ms) k) cursor) at c.kept_page-page.ensures.next)
     c.number.ensures

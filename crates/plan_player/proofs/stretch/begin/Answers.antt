@@ -19,7 +19,7 @@ held-page-requires g c =
     let t : State = counted_on plan k s in
     let pages = c.args.pages.now in
     let has = stretch_page plan c.args.count k s pages c.requires.stretch c.loop-done-test.true in
-    let here = subst (λ (x : ℕ). HasPage plan.mode (sent_entries plan t) x pages.pages) (sym c.loop-done.invariant.turn) has in
+    let here = subst (λ (x : ℕ). HasPage plan.mode (sent_entries plan t) x pages.pages) (sym c.loop-done.invariant.page_index) has in
     (here.page, here.held)
 
 pub push-requires-clause-within : goal.push-requires-clause-within
@@ -40,16 +40,16 @@ loop-done-preserved g c =
     let lt = c.loop-done-test.true in
     let before = c.loop-done.invariant in
     let next : suc k ≡ k + 1 = omega arith in
-    let kept = page_kept plan n k s pages c.loop-done.turn c.held-page.result.now h lt before.turn c.held-page.ensures in
+    let kept = page_kept plan n k s pages c.loop-done.page_index c.held-page.result.now h lt before.page_index c.held-page.ensures in
     let more = batch_more plan n k s pages c.args.header c.loop-done.number c.loop-done.batch c.push.new.batch h lt c.requires.header before.number before.bytes
-    (c.push.ensures.bytes (sent_entries plan t) t.turn kept) in
-    let turn : c.page_after-turn.result ≡ (counted_on plan (suc k) s).turn =
-    c.page_after-turn.ensures ∙ ap (λ (r : ℕ). page_after r c.loop-done.turn) c.from-rounds.ensures ∙ ap (λ (x : ℕ). page_after pages.made x) before.turn ∙ sym (turn_more plan n k s pages h lt) in
+    (c.push.ensures.bytes (sent_entries plan t) t.page_index kept) in
+    let page_index : c.page_after-page_index.result ≡ (counted_on plan (suc k) s).page_index =
+    c.page_after-page_index.ensures ∙ ap (λ (r : ℕ). page_after r c.loop-done.page_index) c.from-rounds.ensures ∙ ap (λ (x : ℕ). page_after pages.made x) before.page_index ∙ sym (turn_more plan n k s pages h lt) in
     let number : c.count_after-number.result ≡ (counted_on plan (suc k) s).count =
     c.count_after-number.ensures ∙ ap (λ (x : ℕ). (x + 1) % COUNTS) before.number ∙ sym (count_more plan k s) in
     record {
       within = omega (arith, lt);
-      turn = subst (λ (j : ℕ). c.page_after-turn.result ≡ (counted_on plan j s).turn) next turn;
+      page_index = subst (λ (j : ℕ). c.page_after-page_index.result ≡ (counted_on plan j s).page_index) next page_index;
       number = subst (λ (j : ℕ). c.count_after-number.result ≡ (counted_on plan j s).count) next number;
       bytes = subst (λ (j : ℕ). c.push.new.batch ≡ concat (notice_frames plan j s)) next more;
       room = omega (arith, before.room, c.push.ensures.size);

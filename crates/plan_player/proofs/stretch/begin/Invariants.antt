@@ -12,7 +12,7 @@ invariant-loop-done g l =
     let t : State = counted_on l.plan l.done s in
     record {
       within : l.done ≤ l.count;
-      turn : l.turn ≡ t.turn;
+      page_index : l.page_index ≡ t.page_index;
       number : l.number ≡ t.count;
       bytes : l.batch ≡ concat (notice_frames l.plan l.done s);
       room : length l.batch ≤ 128 * l.done;

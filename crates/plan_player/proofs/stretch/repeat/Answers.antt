@@ -4,7 +4,7 @@ use Rattle.mux_entries.specs.declared.limits.TheConstants.{COUNTS}
 use Rattle.fib_codec.specs.Modes.{fib_count, count_step}
 use Rattle.plan_code.specs.Machine.{State}
 use Rattle.plan_player.specs.Positions.{state_of}
-use Rattle.plan_player.proofs.Turns.{bytes_long, turn_on_turn, twice_whole, room}
+use Rattle.plan_player.proofs.Cycles.{bytes_long, turn_on_turn, twice_whole, room}
 use Rattle.plan_player.proofs.stretch.repeat.Goals as goal
 
 pub repeat-requires-clause-there : goal.repeat-requires-clause-there

@@ -1,7 +1,7 @@
-use Rattle.plan_session.specs.Commands.{IsCommand, command_words}
+use Rattle.plan_session.specs.Commands.{IsCommand, command_lexemes}
 use Rattle.plan_session.proofs.ItemTexts.{holds_one_list}
-use Rattle.plan_session.proofs.CommandWords.{one_command, some_words}
+use Rattle.plan_session.proofs.CommandLexemes.{one_command, some_words}
 use Rattle.plan_session.proofs.laws.one_list_of_commands.Goals as goal
 
 pub returns : goal.returns
-returns c = holds_one_list command_words IsCommand one_command some_words
+returns c = holds_one_list command_lexemes IsCommand one_command some_words

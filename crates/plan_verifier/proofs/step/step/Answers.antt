@@ -7,14 +7,14 @@ use Rattle.plan_verifier.specs.Typing.{Known, leaves}
 use Rattle.plan_verifier.proofs.Placed.{placed_same}
 use Rattle.plan_verifier.proofs.step.step.Goals as goal
 
--- what is left of what was known when the jump had been tested
+-- what holds after the instruction, given what was known after the jump was tested
 left_is : (g : _) (c : goal.After-account g) → known_of g.S.Store.content c.account.new.state ≡ leaves c.plan-plan.result c.args.instr.now (known_of g.S.Store.content c.test_target.new.state)
 left_is g c =
     let plan = c.plan-plan.result in
     let i = c.args.instr.now in
     let known : Known = known_of g.S.Store.content c.test_target.new.state in
     c.account.ensures.value
-    ∙ ap (λ (t : Known). known_with (flow_of t) (set_after i t.counters) (left_over plan i t.allowance)) (c.note_places.ensures.kept ∙ c.in_ok-advance.ensures.left)
+    ∙ ap (λ (t : Known). known_with (flow_of t) (set_after i t.counters) (left_over plan i t.allowance)) (c.note_indices.ensures.kept ∙ c.in_ok-advance.ensures.left)
     ∙ sym (leaves_known plan i (flow_of known) known.counters known.allowance)
 
 pub returns-clause-left : goal.returns-clause-left
@@ -31,6 +31,6 @@ returns-clause-placed g c =
     let table = c.args.code.now.configurations in
     let known : Known = known_of g.S.Store.content c.test_target.new.state in
     let pending = ap (λ (t : Known). t.pending) c.in_ok-advance.ensures.left ∙ sym (ap (λ (t : Known). t.pending) (leaves_known plan i (flow_of known) known.counters known.allowance)) in
-    let placed = placed_same table c.test_target.new.state.places c.advance.new.state.places known known c.advance.ensures.places refl c.test_target.ensures.placed in
-    placed_same table c.note_places.new.state.places c.account.new.state.places (leaves plan i known) (known_of g.S.Store.content c.account.new.state)
-    c.account.ensures.places (left_is g c) (c.note_places.ensures.placed plan table known refl pending placed)
+    let placed = placed_same table c.test_target.new.state.indices c.advance.new.state.indices known known c.advance.ensures.indices refl c.test_target.ensures.placed in
+    placed_same table c.note_indices.new.state.indices c.account.new.state.indices (leaves plan i known) (known_of g.S.Store.content c.account.new.state)
+    c.account.ensures.indices (left_is g c) (c.note_indices.ensures.placed plan table known refl pending placed)

@@ -1,7 +1,7 @@
 use Rattle.std.proofs.Common.{ap, ◌∙◌, take}
 use Rattle.script_front.specs.Block.{block_of}
 use Rattle.script_meaning.specs.Scheme.{falls_out}
-use Rattle.script_compiler.specs.Laying.{tables, lays_nothing}
+use Rattle.script_compiler.specs.Emission.{tables, has_no_instr}
 use Rattle.script_compiler.proofs.Blocks.{facts_more}
 use Rattle.script_compiler.proofs.compiler.facts_of.Goals as goal
 
@@ -12,5 +12,5 @@ loop-block-preserved c =
     let f = c.all_fall-reaches_end.ensures (tables before) (c.deref.ensures.value ∙ c.loop-block.invariant) in
     let e = f ∙ ap (λ xs. falls_out (block_of (tables before) xs)) c.deref-in-loop-block.ensures.value in
     let g = c.all_silent-emits_nothing.ensures (tables before) (c.deref-in-loop-block-2.ensures.value ∙ c.loop-block.invariant) in
-    let h = g ∙ ap (λ xs. lays_nothing (block_of (tables before) xs)) c.deref-in-loop-block-3.ensures.value in
+    let h = g ∙ ap (λ xs. has_no_instr (block_of (tables before) xs)) c.deref-in-loop-block-3.ensures.value in
     c.in_ok-push.ensures.items ∙ facts_more c.args.blocks.now k c.block-item.result c.loop-block.facts.items c.all_fall-reaches_end.result c.all_silent-emits_nothing.result c.block-item.is c.loop-block-test.true c.loop-block.invariant e h

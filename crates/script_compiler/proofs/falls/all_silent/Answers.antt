@@ -1,6 +1,6 @@
 use Rattle.std.proofs.Common.{◌+◌, sym, ap, ◌∙◌, ◌&&◌, drop}
 use Rattle.script_front.specs.Block.{block_of}
-use Rattle.script_compiler.specs.Laying.{lays_nothing}
+use Rattle.script_compiler.specs.Emission.{has_no_instr}
 use Rattle.script_compiler.proofs.Trees.{silent_cut, none_left}
 use Rattle.script_compiler.proofs.falls.all_silent.Goals as goal
 
@@ -8,7 +8,7 @@ pub returns-then-not-is_silent : goal.returns-then-not-is_silent
 returns-then-not-is_silent c = λ table h.
     let k = c.loop-statement.statement-index in
     let ss = c.args.statements.now in
-    let rest = lays_nothing (block_of table (drop (k + 1) ss)) in
+    let rest = has_no_instr (block_of table (drop (k + 1) ss)) in
     sym (c.loop-statement.invariant table h
     ∙ silent_cut table ss k c.statement-item.result c.statement-item.is c.loop-statement-test.true
     ∙ ap (λ b. b && rest) (sym (c.is_silent.ensures table h) ∙ c.if-not-is_silent.true))
@@ -17,11 +17,11 @@ pub loop-statement-preserved : goal.loop-statement-preserved
 loop-statement-preserved c = λ table h.
     let k = c.loop-statement.statement-index in
     let ss = c.args.statements.now in
-    let rest = lays_nothing (block_of table (drop (k + 1) ss)) in
+    let rest = has_no_instr (block_of table (drop (k + 1) ss)) in
     c.loop-statement.invariant table h
     ∙ silent_cut table ss k c.statement-item.result c.statement-item.is c.loop-statement-test.true
     ∙ ap (λ b. b && rest) (sym (c.is_silent.ensures table h) ∙ c.if-not-is_silent.false)
 
 pub returns : goal.returns
 returns c = λ table h.
-    sym (c.loop-statement.invariant table h ∙ ap lays_nothing (none_left table c.args.statements.now c.loop-statement.statement-index c.loop-statement-test.false))
+    sym (c.loop-statement.invariant table h ∙ ap has_no_instr (none_left table c.args.statements.now c.loop-statement.statement-index c.loop-statement-test.false))

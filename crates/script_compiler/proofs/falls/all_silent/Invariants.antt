@@ -1,7 +1,7 @@
 use Rattle.std.proofs.Common.{◌≡◌, map, List, drop}
 use Rattle.script_front.specs.Block.{Block, block_of}
-use Rattle.script_compiler.specs.Laying.{lays_nothing, facts_of}
+use Rattle.script_compiler.specs.Emission.{has_no_instr, facts_of}
 use Rattle.script_compiler.proofs.falls.all_silent.Given as goal
 
 abbrev pub invariant-loop-statement : goal.invariant-loop-statement
-invariant-loop-statement l = (table : List Block) → l.facts ≡ map facts_of table → lays_nothing (block_of table l.statements) ≡ lays_nothing (block_of table (drop l.statement-index l.statements))
+invariant-loop-statement l = (table : List Block) → l.facts ≡ map facts_of table → has_no_instr (block_of table l.statements) ≡ has_no_instr (block_of table (drop l.statement-index l.statements))

@@ -1,13 +1,13 @@
 use Rattle.std.proofs.Common.{◌∙◌, ◌+◌, sym, ap, drop, arith}
-use Rattle.script_compiler.specs.Fingerprint.{mixed, mixed_all, sub_word}
+use Rattle.script_compiler.specs.Fingerprint.{mix, mix_all, sub_bits}
 use Rattle.script_compiler.proofs.Printing.{mixed_more, mixed_end}
 use Rattle.script_compiler.proofs.fingerprint.mixed_subs.Goals as goal
 
 pub loop-place-preserved : goal.loop-place-preserved
 loop-place-preserved c =
     let xs = c.args.tables.now.subs in
-    ap (λ p. mixed_all sub_word p (drop (c.loop-place.place + 1) xs)) (c.mixed-print.ensures ∙ ap (λ w. mixed c.loop-place.print w) c.sub_word.ensures)
-    ∙ mixed_more sub_word c.loop-place.print xs c.loop-place.place c.sub_at.result c.sub_at.ensures.value ∙ c.loop-place.invariant
+    ap (λ p. mix_all sub_bits p (drop (c.loop-place.place + 1) xs)) (c.mix-print.ensures ∙ ap (λ w. mix c.loop-place.print w) c.sub_bits.ensures)
+    ∙ mixed_more sub_bits c.loop-place.print xs c.loop-place.place c.sub_at.result c.sub_at.ensures.value ∙ c.loop-place.invariant
 
 pub returns : goal.returns
-returns c = sym (mixed_end sub_word c.loop-place.print c.args.tables.now.subs c.loop-place.place (omega (arith, c.loop-place-test.false, c.loop-place.auto.place-end))) ∙ c.loop-place.invariant
+returns c = sym (mixed_end sub_bits c.loop-place.print c.args.tables.now.subs c.loop-place.place (omega (arith, c.loop-place-test.false, c.loop-place.auto.place-end))) ∙ c.loop-place.invariant

@@ -1,6 +1,6 @@
 use Rattle.std.proofs.Common.{◌≡◌, drop}
-use Rattle.script_compiler.specs.Fingerprint.{mixed_all, sub_word}
+use Rattle.script_compiler.specs.Fingerprint.{mix_all, sub_bits}
 use Rattle.script_compiler.proofs.fingerprint.mixed_subs.Given as goal
 
 abbrev pub invariant-loop-place : goal.invariant-loop-place
-invariant-loop-place l = mixed_all sub_word l.print (drop l.place l.tables.subs) ≡ mixed_all sub_word l.before l.tables.subs
+invariant-loop-place l = mix_all sub_bits l.print (drop l.place l.tables.subs) ≡ mix_all sub_bits l.before l.tables.subs

@@ -1,6 +1,6 @@
 use Rattle.std.proofs.Common.{◌≡◌, map, take}
-use Rattle.script_compiler.specs.Marked.{label_of_mark}
+use Rattle.script_compiler.specs.Unpriced.{priced_label}
 use Rattle.script_compiler.proofs.labels.labels_of.Given as goal
 
-abbrev pub invariant-loop-mark : goal.invariant-loop-mark
-invariant-loop-mark l = l.labels.items ≡ map (label_of_mark l.needs) (take l.mark-index l.marks)
+abbrev pub invariant-loop-unpriced_label : goal.invariant-loop-unpriced_label
+invariant-loop-unpriced_label l = l.labels.items ≡ map (priced_label l.needs) (take l.unpriced_label-index l.unpriced)

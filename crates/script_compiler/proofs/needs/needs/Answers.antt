@@ -6,17 +6,17 @@ use Rattle.script_compiler.proofs.needs.needs.Goals as goal
 pub round-requires-clause-bound : goal.round-requires-clause-bound
 round-requires-clause-bound c = λ to.
     let e = ap (λ xs. get_or xs to 0) c.deref.ensures.value in
-    let i = c.loop-turn.invariant to in
-    let b = longest_bound (instrs_of c.args.lines.now) c.loop-turn._turn to in
-    omega (arith, e, i, b, c.loop-turn-test.true, c.from-turn-end.ensures, c.ranges.budget)
+    let i = c.loop-iteration.invariant to in
+    let b = longest_bound (instrs_of c.args.lines.now) c.loop-iteration._iteration to in
+    omega (arith, e, i, b, c.loop-iteration-test.true, c.from-iteration-end.ensures, c.ranges.budget)
 
-pub loop-turn-preserved : goal.loop-turn-preserved
-loop-turn-preserved c =
-    next_round (instrs_of c.args.lines.now) c.deref.result.now c.in_ok-next.next.items c.loop-turn._turn (λ to. ap (λ xs. get_or xs to 0) c.deref.ensures.value ∙ c.loop-turn.invariant to) c.in_ok-next.ensures
+pub loop-iteration-preserved : goal.loop-iteration-preserved
+loop-iteration-preserved c =
+    next_round (instrs_of c.args.lines.now) c.deref.result.now c.in_ok-next.next.items c.loop-iteration._iteration (λ to. ap (λ xs. get_or xs to 0) c.deref.ensures.value ∙ c.loop-iteration.invariant to) c.in_ok-next.ensures
 
 pub returns-then-are_same : goal.returns-then-are_same
 returns-then-are_same c =
     let code = instrs_of c.args.lines.now in
-    let after = next_round code c.deref.result.now c.in_ok-next.next.items c.loop-turn._turn (λ to. ap (λ xs. get_or xs to 0) c.deref.ensures.value ∙ c.loop-turn.invariant to) c.in_ok-next.ensures in
-    let same = sym c.deref-in-loop-turn.ensures.value ∙ c.are_same.ensures c.if-are_same.true ∙ c.deref-in-loop-turn-2.ensures.value in
-    round_last code c.loop-turn.further.items c.in_ok-next.next.items c.loop-turn._turn (c.args.budget + 1) (omega (arith, c.loop-turn-test.true, c.from-turn-end.ensures)) c.loop-turn.invariant after same
+    let after = next_round code c.deref.result.now c.in_ok-next.next.items c.loop-iteration._iteration (λ to. ap (λ xs. get_or xs to 0) c.deref.ensures.value ∙ c.loop-iteration.invariant to) c.in_ok-next.ensures in
+    let same = sym c.deref-in-loop-iteration.ensures.value ∙ c.are_same.ensures c.if-are_same.true ∙ c.deref-in-loop-iteration-2.ensures.value in
+    round_last code c.loop-iteration.further.items c.in_ok-next.next.items c.loop-iteration._iteration (c.args.budget + 1) (omega (arith, c.loop-iteration-test.true, c.from-iteration-end.ensures)) c.loop-iteration.invariant after same

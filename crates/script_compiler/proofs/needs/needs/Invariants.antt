@@ -3,5 +3,5 @@ use Rattle.script_meaning.specs.Compiled.{instrs_of}
 use Rattle.script_compiler.specs.Longest.{longest}
 use Rattle.script_compiler.proofs.needs.needs.Given as goal
 
-abbrev pub invariant-loop-turn : goal.invariant-loop-turn
-invariant-loop-turn l = (pc : ℕ) → get_or l.further.items pc 0 ≡ longest (instrs_of l.lines) l._turn pc
+abbrev pub invariant-loop-iteration : goal.invariant-loop-iteration
+invariant-loop-iteration l = (pc : ℕ) → get_or l.further.items pc 0 ≡ longest (instrs_of l.lines) l._iteration pc

@@ -1,6 +1,6 @@
 use Rattle.std.proofs.lemmas.Result.{err_from_is_err_and}
 use Rattle.script_tokens.specs.declared.keyword.Keyword.TheVariants as the
-use Rattle.script_tokens.specs.Words.{letters}
+use Rattle.script_tokens.specs.Keywords.{letters}
 use Rattle.script_front.proofs.Unread.{refused, passes_two}
 use Rattle.script_front.proofs.Undefined.{no_name_here, no_body_here}
 use Rattle.script_front.proofs.parser.definition.Goals as goal

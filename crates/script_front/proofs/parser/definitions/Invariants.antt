@@ -6,4 +6,4 @@ abbrev pub invariant-loop-alloc : goal.invariant-loop-alloc
 invariant-loop-alloc l = AreDefined l.names l.fn.left l.left l.fn.reader l.reader l.blocks.items
 
 abbrev pub decreases-loop-alloc : goal.decreases-loop-alloc
-decreases-loop-alloc l = length l.reader.words
+decreases-loop-alloc l = length l.reader.lexemes

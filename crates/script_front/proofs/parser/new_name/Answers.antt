@@ -6,4 +6,4 @@ pub returns-in_err-name-clause-none : goal.returns-in_err-name-clause-none
 returns-in_err-name-clause-none c = told c.from_residual.result (λ name rest is new e. c.in_err-name.ensures.none name rest is e)
 
 pub returns-in-Some-clause-none : goal.returns-in-Some-clause-none
-returns-in-Some-clause-none c = λ name rest is new e. known_name c.args.names.now c.args.reader.now.words c.in_ok-name.name.now c.in-Some._index c.in_ok-name.ensures.begins c.in-Some.ensures.within c.in-Some.ensures.found name rest is new e
+returns-in-Some-clause-none c = λ name rest is new e. known_name c.args.names.now c.args.reader.now.lexemes c.in_ok-name.name.now c.in-Some._index c.in_ok-name.ensures.begins c.in-Some.ensures.within c.in-Some.ensures.found name rest is new e

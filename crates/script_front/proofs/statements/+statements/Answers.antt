@@ -1,13 +1,13 @@
-use Rattle.std.proofs.Common.{[], ◌+◌, refl, not, sym, ap, ◌∙◌, subst, arith}
+use Rattle.std.proofs.Common.{[], ◌+◌, refl, not, ap, ◌∙◌, subst, arith}
 use Rattle.std.proofs.ResultArms.{chosen}
 use Rattle.std.proofs.lemmas.Result.{err_from_is_err_and}
 use Rattle.std.specs.Fmt.{decimal}
 use Rattle.script_tokens.specs.declared.keyword.Keyword.TheVariants as the
-use Rattle.script_tokens.specs.Words.{letters}
+use Rattle.script_tokens.specs.Keywords.{letters}
 use Rattle.script_tokens.specs.First.{act_keyword, statement_keyword}
 use Rattle.script_front.specs.Block.{before, block_of}
 use Rattle.script_tokens.specs.Reading.{BeginsWith}
-use Rattle.script_front.specs.Spelled.{act_words}
+use Rattle.script_front.specs.Spelled.{act_lexemes}
 use Rattle.script_front.proofs.Parsing.{more_read, body_read, when_read, either_read, repeat_read, forever_read, stop_read, act_read, apply_read}
 use Rattle.script_front.proofs.Unread.{refused, passes_two, no_start, no_more, no_act_block, no_apply_block, no_times, no_repeated, no_looped, no_test, no_contact, no_first_block, no_second_block, passes_behind}
 use Rattle.script_front.proofs.statements.+statements.Goals as goal
@@ -47,7 +47,7 @@ repetition-returns-clause-read t c =
     c.in_ok-times.ensures.range.0 c.in_ok-times.ensures.range.1 c.in_ok-times.ensures.spells c.in_ok-body.ensures.read c.requires.line
 
 pub choice-returns-in_err-expect-clause-none : goal.choice-returns-in_err-expect-clause-none
-choice-returns-in_err-expect-clause-none t c = refused c.from_residual.result (no_test c.args.names.now c.args.depth (c.args.left.now + 1) c.args.reader.now.words c.in_err-expect.ensures.none)
+choice-returns-in_err-expect-clause-none t c = refused c.from_residual.result (no_test c.args.names.now c.args.depth (c.args.left.now + 1) c.args.reader.now.lexemes c.in_err-expect.ensures.none)
 
 pub choice-returns-in_err-contact-clause-none : goal.choice-returns-in_err-contact-clause-none
 choice-returns-in_err-contact-clause-none t c =
@@ -69,10 +69,10 @@ choice-returns-in_err-second-clause-none t c =
 pub endless-returns-in_err-body-clause-none : goal.endless-returns-in_err-body-clause-none
 endless-returns-in_err-body-clause-none t c =
     let r = err_from_is_err_and c.from_residual.result c.from_residual.ensures.1 in
-    rw (r.1, r.2) (λ ne. no_looped c.args.names.now c.args.depth c.args.left.now c.args.reader.now.words (c.in_err-body.ensures.none ne))
+    rw (r.1, r.2) (λ ne. no_looped c.args.names.now c.args.depth c.args.left.now c.args.reader.now.lexemes (c.in_err-body.ensures.none ne))
 
 pub repetition-returns-in_err-times-clause-none : goal.repetition-returns-in_err-times-clause-none
-repetition-returns-in_err-times-clause-none t c = refused c.from_residual.result (no_times c.args.names.now c.args.depth (c.args.left.now + 1) c.args.reader.now.words c.in_err-times.ensures.none)
+repetition-returns-in_err-times-clause-none t c = refused c.from_residual.result (no_times c.args.names.now c.args.depth (c.args.left.now + 1) c.args.reader.now.lexemes c.in_err-times.ensures.none)
 
 pub repetition-returns-in_err-body-clause-none : goal.repetition-returns-in_err-body-clause-none
 repetition-returns-in_err-body-clause-none t c =
@@ -80,33 +80,33 @@ repetition-returns-in_err-body-clause-none t c =
     rw (r.1, r.2) (λ ne. no_repeated c.args.names.now c.args.depth c.args.left.now c.in_ok-times.times c.args.reader.now c.times.new.reader c.in_ok-times.ensures.spells (c.in_err-body.ensures.none ne))
 
 pub statement-returns-in_default-clause-none : goal.statement-returns-in_default-clause-none
-statement-returns-in_default-clause-none t c = λ ne. no_start c.args.names.now c.args.depth c.args.left.now c.args.reader.now.words c.requires.goes_on (c.statement_keyword.ensures.none c.in_default.is)
+statement-returns-in_default-clause-none t c = λ ne. no_start c.args.names.now c.args.depth c.args.left.now c.args.reader.now.lexemes c.requires.not_stopped (c.statement_keyword.ensures.none c.in_default.is)
 
 pub statement-returns-then-left-eq0-clause-none : goal.statement-returns-then-left-eq0-clause-none
-statement-returns-then-left-eq0-clause-none t c = λ ne. no_more c.args.names.now c.args.depth c.args.left.now c.args.reader.now.words c.requires.goes_on c.if-left-eq0.true
+statement-returns-then-left-eq0-clause-none t c = λ ne. no_more c.args.names.now c.args.depth c.args.left.now c.args.reader.now.lexemes c.requires.not_stopped c.if-left-eq0.true
 
 pub statement-returns-in_err-applied-in-Apply-clause-none : goal.statement-returns-in_err-applied-in-Apply-clause-none
 statement-returns-in_err-applied-in-Apply-clause-none t c =
-    let p = c.advance.ensures.passes (letters the.Apply) (subst (λ k. BeginsWith c.args.reader.now.words (letters (statement_keyword k))) c.in-Apply.is c.in-Some.ensures.begins) in
-    refused c.from_residual-in_err-applied-in-Apply.result (no_apply_block c.args.names.now c.args.depth c.args.left.now c.args.reader.now.words c.advance.new.self.words p.0 c.in_err-applied-in-Apply.ensures.none)
+    let p = c.advance.ensures.passes (letters the.Apply) (subst (λ k. BeginsWith c.args.reader.now.lexemes (letters (statement_keyword k))) c.in-Apply.is c.in-Some.ensures.begins) in
+    refused c.from_residual-in_err-applied-in-Apply.result (no_apply_block c.args.names.now c.args.depth c.args.left.now c.args.reader.now.lexemes c.advance.new.self.lexemes p.0 c.in_err-applied-in-Apply.ensures.none)
 
 pub statement-returns-in_err-act-in-Act-clause-none : goal.statement-returns-in_err-act-in-Act-clause-none
 statement-returns-in_err-act-in-Act-clause-none t c =
-    let p = c.advance.ensures.passes (letters (act_keyword c.in-Act.keyword)) (subst (λ k. BeginsWith c.args.reader.now.words (letters (statement_keyword k))) c.in-Act.is c.in-Some.ensures.begins) in
-    refused c.from_residual-in_err-act-in-Act.result (no_act_block c.args.names.now c.args.depth c.args.left.now c.in-Act.keyword c.args.reader.now.words c.advance.new.self.words c.requires.goes_on p.0 c.in_err-act-in-Act.ensures.none)
+    let p = c.advance.ensures.passes (letters (act_keyword c.in-Act.keyword)) (subst (λ k. BeginsWith c.args.reader.now.lexemes (letters (statement_keyword k))) c.in-Act.is c.in-Some.ensures.begins) in
+    refused c.from_residual-in_err-act-in-Act.result (no_act_block c.args.names.now c.args.depth c.args.left.now c.in-Act.keyword c.args.reader.now.lexemes c.advance.new.self.lexemes c.requires.not_stopped p.0 c.in_err-act-in-Act.ensures.none)
 
 pub statement-returns-in-End-clause-read : goal.statement-returns-in-End-clause-read
 statement-returns-in-End-clause-read t c =
-    let p = c.advance.ensures.passes (letters the.End) (subst (λ k. BeginsWith c.args.reader.now.words (letters (statement_keyword k))) c.in-End.is c.in-Some.ensures.begins) in
+    let p = c.advance.ensures.passes (letters the.End) (subst (λ k. BeginsWith c.args.reader.now.lexemes (letters (statement_keyword k))) c.in-End.is c.in-Some.ensures.begins) in
     stop_read c.args.names.now c.args.depth c.args.left.now c.line-line.result c.args.reader.now c.advance.new.self (before [] c.ending.result) c.ending.ensures (let some = c.if-left-eq0.false in omega (arith, some)) p (c.line-line.ensures (c.in-Some.ensures.some refl))
 
 pub statement-returns-in_ok-applied-in-Apply-clause-read : goal.statement-returns-in_ok-applied-in-Apply-clause-read
 statement-returns-in_ok-applied-in-Apply-clause-read t c =
-    let p = c.advance.ensures.passes (letters the.Apply) (subst (λ k. BeginsWith c.args.reader.now.words (letters (statement_keyword k))) c.in-Apply.is c.in-Some.ensures.begins) in
+    let p = c.advance.ensures.passes (letters the.Apply) (subst (λ k. BeginsWith c.args.reader.now.lexemes (letters (statement_keyword k))) c.in-Apply.is c.in-Some.ensures.begins) in
     apply_read c.args.names.now c.args.depth c.args.left.now c.line-line.result c.args.reader.now c.advance.new.self c.application.new.reader (before [] c.in_ok-applied-in-Apply.applied) (let some = c.if-left-eq0.false in omega (arith, some)) p c.in_ok-applied-in-Apply.ensures.read (c.line-line.ensures (c.in-Some.ensures.some refl))
 
 pub statement-returns-in_ok-act-in-Act-clause-read : goal.statement-returns-in_ok-act-in-Act-clause-read
 statement-returns-in_ok-act-in-Act-clause-read t c =
-    let p = c.advance.ensures.passes (letters (act_keyword c.in-Act.keyword)) (subst (λ k. BeginsWith c.args.reader.now.words (letters (statement_keyword k))) c.in-Act.is c.in-Some.ensures.begins) in
-    let q = passes_behind (act_keyword c.in-Act.keyword) (act_words c.in_ok-act-in-Act.act) c.args.reader.now c.advance.new.self c.act.new.reader p c.in_ok-act-in-Act.ensures.spells in
+    let p = c.advance.ensures.passes (letters (act_keyword c.in-Act.keyword)) (subst (λ k. BeginsWith c.args.reader.now.lexemes (letters (statement_keyword k))) c.in-Act.is c.in-Some.ensures.begins) in
+    let q = passes_behind (act_keyword c.in-Act.keyword) (act_lexemes c.in_ok-act-in-Act.act) c.args.reader.now c.advance.new.self c.act.new.reader p c.in_ok-act-in-Act.ensures.spells in
     act_read c.args.names.now c.args.depth c.args.left.now c.line-line.result c.in_ok-act-in-Act.act c.args.reader.now c.act.new.reader (before [] c.acting.result) c.acting.ensures (let some = c.if-left-eq0.false in omega (arith, some)) c.in_ok-act-in-Act.ensures.range q (c.line-line.ensures (c.in-Some.ensures.some refl))

@@ -24,8 +24,8 @@ decreases-statements l = 5 * l.depth + 4
 abbrev pub invariant-statements-statements : goal.invariant-statements-statements
 invariant-statements-statements l = record {
   read : IsRead l.names l.depth l.fn.left l.left l.fn.reader l.reader (and_then [] l.list.items);
-  shorter : length l.reader.words ≤ length l.fn.reader.words;
+  shorter : length l.reader.lexemes ≤ length l.fn.reader.lexemes;
 }
 
 abbrev pub decreases-statements-statements : goal.decreases-statements-statements
-decreases-statements-statements l = length l.reader.words
+decreases-statements-statements l = length l.reader.lexemes

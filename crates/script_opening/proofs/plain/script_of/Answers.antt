@@ -3,7 +3,7 @@ use Rattle.std.specs.List.{AllByRecursion}
 use Rattle.mux_config.specs.declared.edit.Edit.{Edit}
 use Rattle.mux_types.specs.Configuration.{nothing}
 use Rattle.mux_edits.specs.Making.{edits_that_make}
-use Rattle.mux_edits.specs.Sequences.{Lead}
+use Rattle.mux_edits.specs.Sequences.{Transform}
 use Rattle.script_front.specs.Alike.{added_by}
 use Rattle.script_front.specs.Block.{nothing as no_block}
 use Rattle.script_opening.specs.Plain.{items_from, acts_from}
@@ -22,7 +22,7 @@ pub returns-clause-makes : goal.returns-clause-makes
 returns-clause-makes c =
     let items : c.in_ok-items.items.items ≡ items_from 3 c.in_ok-edits.edits.items = rw c.as_slice.ensures.value at c.in_ok-items.ensures in
     let same : added_by c.in_ok-items.items.items ≡ c.in_ok-edits.edits.items = ap added_by items ∙ added_again 3 c.in_ok-edits.edits.items in
-    rw c.new.ensures (subst (λ (es : List Edit). Lead es nothing c.args.config.now) (sym same) c.in_ok-edits.ensures.leads)
+    rw c.new.ensures (subst (λ (es : List Edit). Transform es nothing c.args.config.now) (sym same) c.in_ok-edits.ensures.leads)
 
 pub returns-clause-plain : goal.returns-clause-plain
 returns-clause-plain c =

@@ -6,10 +6,10 @@ pub returns-then-value-low-clause-none : goal.returns-then-value-low-clause-none
 returns-then-value-low-clause-none c = λ n rest from to small e.
     let b = c.in_ok-atom.ensures.begins in
     let found = c.in-Some.ensures.found in
-    decimal_below c.args.reader.now.words c.in-Some.value n c.args.low b.rest rest found.1 small c.if-value-low.true from (b.begins ∙ ap (λ (w : List ℕ). w ∷ b.rest) found.0) e
+    decimal_below c.args.reader.now.lexemes c.in-Some.value n c.args.low b.rest rest found.1 small c.if-value-low.true from (b.begins ∙ ap (λ (w : List ℕ). w ∷ b.rest) found.0) e
 
 pub returns-then-value-high-clause-none : goal.returns-then-value-high-clause-none
 returns-then-value-high-clause-none c = λ n rest from to small e.
     let b = c.in_ok-atom.ensures.begins in
     let found = c.in-Some.ensures.found in
-    decimal_above c.args.reader.now.words c.in-Some.value n c.args.high b.rest rest found.1 small c.if-value-high.true to (b.begins ∙ ap (λ (w : List ℕ). w ∷ b.rest) found.0) e
+    decimal_above c.args.reader.now.lexemes c.in-Some.value n c.args.high b.rest rest found.1 small c.if-value-high.true to (b.begins ∙ ap (λ (w : List ℕ). w ∷ b.rest) found.0) e

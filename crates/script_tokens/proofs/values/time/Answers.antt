@@ -1,7 +1,7 @@
-use Rattle.script_tokens.specs.Spelling.{time_word}
+use Rattle.script_tokens.specs.Spelling.{time_text}
 use Rattle.script_tokens.proofs.Atoms.{told}
 use Rattle.script_tokens.proofs.Wording.{time_letters}
 use Rattle.script_tokens.proofs.values.time.Goals as goal
 
 pub returns-in_err-atom-clause-none : goal.returns-in_err-atom-clause-none
-returns-in_err-atom-clause-none c = told c.from_residual.result (λ n rest small e. c.in_err-atom.ensures.none (time_word n) rest (time_letters n small) e)
+returns-in_err-atom-clause-none c = told c.from_residual.result (λ n rest small e. c.in_err-atom.ensures.none (time_text n) rest (time_letters n small) e)

@@ -3,7 +3,7 @@ use Rattle.std.specs.List.{AllByRecursion}
 use Rattle.stream_check.specs.Pictures.{Heard}
 use Rattle.stream_check.proofs.heard_table.oldest_of.Given as goal
 
--- a time before which none of the rest was heard, nor of those that were seen, is one for all
+-- a time before which none of the rest and none of those seen was last heard is one for all entries
 abbrev pub invariant-loop-entry : goal.invariant-loop-entry
 invariant-loop-entry l = (n : ℕ) → n ≤ l.oldest → AllByRecursion (λ (h : Heard). n ≤ h.at) l.rest → AllByRecursion (λ (h : Heard). n ≤ h.at) l.entries
 

@@ -2,7 +2,7 @@ use Rattle.std.proofs.Common.{sym, subst}
 use Rattle.std.specs.Io.KnownBytes.{Appends}
 use Rattle.std.proofs.KnownBytes.{Appends-trans}
 use Rattle.cli.specs.Transcript.{announcement_line}
-use Rattle.cli.proofs.Leading.{lines_more}
+use Rattle.cli.proofs.Transcripts.{lines_more}
 use Rattle.cli.proofs.commands.debug.print_announcements.Goals as goal
 
 pub loop-announcement-preserved : goal.loop-announcement-preserved

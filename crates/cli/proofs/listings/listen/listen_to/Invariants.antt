@@ -1,4 +1,4 @@
--- What was heard of the pieces so far is what is heard of a stream of their bytes.
+-- The pieces so far, decoded, give the result of a stream of their bytes.
 use Rattle.std.proofs.Common.{◌≡◌, ℕ, ◌*◌, ◌%◌, ◌≤◌, Bool, List, length, Option}
 use Rattle.std.specs.Io.KnownBytes.{Consumes}
 use Rattle.cli.specs.declared.listings.listen.Heard.{Heard}

@@ -3,7 +3,7 @@ use Rattle.std.specs.Io.KnownBytes.{Appends}
 use Rattle.cli.specs.Listing.{AreLinesOf}
 use Rattle.cli.proofs.listings.listen.print_picture.Given as goal
 
--- what was printed stands before the lines of the entries that are left
+-- the printed text precedes the lines of the remaining entries
 abbrev pub invariant-loop-entry : goal.invariant-loop-entry
 invariant-loop-entry g l =
     (text : List ℕ) × Appends (g.W.Write.contents l.fn.out) (g.W.Write.contents l.out) text

@@ -1,4 +1,4 @@
--- What was heard of the pieces so far is what is heard of a stream of their bytes, and names what that stream names.
+-- The pieces so far, decoded, give the result and the ensemble of a stream of their bytes.
 use Rattle.std.proofs.Common.{◌≡◌, ℕ, ◌*◌, ◌%◌, ◌≤◌, Bool, List, length, Option, None}
 use Rattle.std.specs.Io.KnownBytes.{Consumes}
 use Rattle.stream_config.specs.Ensembles.{NamesAfter}

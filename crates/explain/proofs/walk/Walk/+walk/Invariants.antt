@@ -13,5 +13,5 @@ decreases-when l = 3 * l.depth + 2
 abbrev pub decreases-either : goal.decreases-either
 decreases-either l = 3 * l.depth + 2
 
-abbrev pub decreases-turns : goal.decreases-turns
-decreases-turns l = 3 * l.depth + 2
+abbrev pub decreases-iterations : goal.decreases-iterations
+decreases-iterations l = 3 * l.depth + 2

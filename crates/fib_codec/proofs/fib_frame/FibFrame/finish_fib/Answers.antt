@@ -1,7 +1,7 @@
 use Rattle.std.proofs.Common.{◌≡◌, ◌*◌, List, ℕ, length, take, arith, sym, subst, ap, ◌∙◌, length-take-le}
 use Rattle.fib_codec.specs.Modes.{IsInFrame, with_fib}
 use Rattle.fib_codec.specs.Spelling.{checked, filled}
-use Rattle.fib_codec.proofs.Words.{checked_len}
+use Rattle.fib_codec.proofs.U16.{checked_len}
 use Rattle.fib_codec.proofs.Frames.{written_over, written_fib, front_of}
 use Rattle.fib_codec.proofs.fib_frame.FibFrame.finish_fib.Goals as goal
 

@@ -1,6 +1,6 @@
 use Rattle.std.proofs.Common.{◌≡◌, ℕ, List, ◌+◌, ◌-◌, ◌*◌, ◌≤◌, ◌++◌, sym, ap, ap₂, ◌∙◌, arith, length, take, drop, length-take-le}
 use Rattle.fib_codec.specs.Modes.{fib_count}
-use Rattle.plan_player.proofs.Turns.{copied, appended}
+use Rattle.plan_player.proofs.Cycles.{copied, appended}
 use Rattle.plan_player.proofs.batch.Batch.repeat.Goals as goal
 
 pub returns : goal.returns

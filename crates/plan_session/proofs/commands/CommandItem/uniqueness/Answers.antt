@@ -1,4 +1,4 @@
-use Rattle.plan_session.proofs.CommandWords.{one_command}
+use Rattle.plan_session.proofs.CommandLexemes.{one_command}
 use Rattle.plan_session.proofs.commands.CommandItem.uniqueness.Goals as goal
 
 pub returns-clause-unique : goal.returns-clause-unique

@@ -1,6 +1,6 @@
 use Rattle.std.proofs.Common.{◌≡◌, ◌+◌, inl, inr, true, false, Some, sym, ◌∙◌}
 use Rattle.plan_flow.specs.Rules.{continues, suspends, target_of}
-use Rattle.script_meaning.specs.Need.{GoesTo}
+use Rattle.script_meaning.specs.Need.{StepsTo}
 use Rattle.script_compiler.proofs.Cycles.{grows_both}
 use Rattle.script_compiler.proofs.Putting.{on_ok_map}
 use Rattle.script_compiler.proofs.cost.Reached.add_following.Goals as goal
@@ -15,6 +15,6 @@ returns c =
     let new = c.add_next.new.self in
     on_ok_map c.add_next.result (λ h.
     grows_both old.places.items mid.places.items new.places.items old.waiting.items mid.waiting.items new.waiting.items
-    (λ k. target_of i ≡ Some k) (λ k. (continues i ≡ true) × (k ≡ pc + 1)) (GoesTo i pc)
+    (λ k. target_of i ≡ Some k) (λ k. (continues i ≡ true) × (k ≡ pc + 1)) (StepsTo i pc)
     (λ k x. (s, inr x)) (λ k x. (s, inl x)) (λ k x. elim x.1 [ inl y ↦ inr y | inr y ↦ inl y ])
     c.in_ok-add_target.ensures h) c.add_next.ensures

@@ -2,7 +2,7 @@ use Rattle.std.proofs.Common.{◌≡◌, ◌++◌, ◌∷◌, [], ℕ, Option, a
 use Rattle.std.specs.Option.{option_to_list}
 use Rattle.std.proofs.lemmas.Option.{slice_get_past}
 use Rattle.plan_code.specs.declared.instr.Line.{Line}
-use Rattle.script_meaning.specs.Need.{GoesTo}
+use Rattle.script_meaning.specs.Need.{StepsTo}
 use Rattle.script_compiler.specs.Reaching.{GrowsBy}
 use Rattle.script_meaning.specs.Compiled.{instrs_of}
 use Rattle.script_compiler.proofs.Cycles.{instrs_long, step_by, step_past}
@@ -18,7 +18,7 @@ returns-in_ok-add_following-clause-onward c = λ _ pc n s.
     let line = c.index-lines-place.result in
     let e : old.waiting.items ≡ ws ++ place ∷ [] = c.pop.ensures.items ∙ ap (λ (r : Option ℕ). ws ++ option_to_list r) c.in-Some.is in
     let there = instr_at lines place line c.index-lines-place.is c.if-place-lines.true in
-    let grows = subst (λ (l : Line). GrowsBy old.places.items c.add_following.new.self.places.items ws c.add_following.new.self.waiting.items (GoesTo l.instr place)) (sym c.index-lines-place.is) c.in_ok-add_following.ensures in
+    let grows = subst (λ (l : Line). GrowsBy old.places.items c.add_following.new.self.places.items ws c.add_following.new.self.waiting.items (StepsTo l.instr place)) (sym c.index-lines-place.is) c.in_ok-add_following.ensures in
     step_by (instrs_of lines) pc n old.places.items c.add_following.new.self.places.items old.waiting.items ws c.add_following.new.self.waiting.items place line.instr there e s grows
 
 pub returns-else-place-lines-clause-onward : goal.returns-else-place-lines-clause-onward
@@ -29,5 +29,5 @@ returns-else-place-lines-clause-onward c = λ _ pc n s.
     let place = c.in-Some.place in
     let e : old.waiting.items ≡ ws ++ place ∷ [] = c.pop.ensures.items ∙ ap (λ (r : Option ℕ). ws ++ option_to_list r) c.in-Some.is in
     let long = instrs_long lines in
-    let past = slice_get_past (instrs_of lines) place (omega (arith, c.if-place-lines.false, long)) in
-    step_past (instrs_of lines) pc n old.places.items old.waiting.items ws place past e s
+    let without_label = slice_get_past (instrs_of lines) place (omega (arith, c.if-place-lines.false, long)) in
+    step_past (instrs_of lines) pc n old.places.items old.waiting.items ws place without_label e s

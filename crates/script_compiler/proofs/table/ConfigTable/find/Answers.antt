@@ -1,6 +1,6 @@
 use Rattle.std.proofs.Common.{◌≡◌, ◌<◌, ℕ, List, Some, length, sym, subst}
 use Rattle.std.specs.Prelude.{slice_get}
-use Rattle.script_compiler.specs.Marked.{configuration_at}
+use Rattle.script_compiler.specs.Unpriced.{configuration_at}
 use Rattle.script_compiler.specs.Pool.{PooledTable}
 use Rattle.script_compiler.proofs.Pooled.{none_in_table}
 use Rattle.script_compiler.proofs.table.ConfigTable.find.Goals as goal

@@ -1,6 +1,6 @@
 use Rattle.std.proofs.Common.{◌≡◌, Some, ap, sym, ◌∙◌, arith}
-use Rattle.script_compiler.specs.Marked.{configuration_at}
-use Rattle.script_compiler.proofs.Marking.{at_within}
+use Rattle.script_compiler.specs.Unpriced.{configuration_at}
+use Rattle.script_compiler.proofs.Labelling.{at_within}
 use Rattle.script_compiler.proofs.Rooms.{room_two}
 use Rattle.script_compiler.proofs.Spaces.{none_of, room_left, room_right}
 use Rattle.script_compiler.proofs.table.ConfigTable.has_room_for_both.Goals as goal

@@ -1,5 +1,5 @@
 use Rattle.std.proofs.Common.{◌≤◌, length, refl, arith}
-use Rattle.script_compiler.specs.Marked.{configuration_at}
+use Rattle.script_compiler.specs.Unpriced.{configuration_at}
 use Rattle.script_compiler.proofs.Rooms.{full_table}
 use Rattle.script_compiler.proofs.Tabling.{last_new}
 use Rattle.script_compiler.proofs.table.ConfigTable.index_of.Goals as goal

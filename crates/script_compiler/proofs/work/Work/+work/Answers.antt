@@ -3,14 +3,14 @@ use Rattle.std.proofs.lemmas.List.{length-take}
 use Rattle.script_front.specs.declared.tree.Statement.{Statement}
 use Rattle.script_front.specs.Block.{nothing, basic, when, either, repeat, forever, apply, named_at, before, block_of}
 use Rattle.script_meaning.specs.Scheme.{alone}
-use Rattle.script_compiler.specs.Laying.{Lays, tables}
-use Rattle.script_compiler.specs.Space.{CanLay}
+use Rattle.script_compiler.specs.Emission.{Emits, tables}
+use Rattle.script_compiler.specs.Space.{CanEmit}
 use Rattle.plan_code.specs.declared.instr.Instr.TheVariants.{Set}
 use Rattle.script_compiler.proofs.Weight.{weight, weight_each, tables_at}
 use Rattle.script_compiler.proofs.Arms.{is_act, is_if, is_if_else, is_repeat, is_forever, is_apply}
 use Rattle.script_compiler.proofs.Steps.{ok_map, left_as, act_step, when_step, either_step, repeat_step, forever_step, block_step, facts_length, facts_take, silent_step, unnamed_step, apply_left}
 use Rattle.script_compiler.proofs.Refusing.{block_refused, block_unreached, refused_as, apply_refused}
-use Rattle.script_compiler.proofs.Laid.{left_start}
+use Rattle.script_compiler.proofs.Emitted.{left_start}
 use Rattle.script_compiler.proofs.Reasons.{err_two, no_refusal, why_as, act_why, apply_why, when_body_why, when_why, either_first_why, either_second_why, either_why, repeat_body_why, repeat_why, forever_body_why, forever_why, block_why, block_unreached_why}
 use Rattle.script_compiler.proofs.Arms.{is_end}
 use Rattle.script_compiler.proofs.Spaces.{limit_map, limits_map}
@@ -24,7 +24,7 @@ block-statement-requires t c =
 
 pub block-loop-statement-preserved : goal.block-loop-statement-preserved
 block-loop-statement-preserved t c = record {
-  left = block_step c.args.context.plan.now c.args.context.counters (tables c.args.context.blocks.now) c.args.statements.now c.loop-statement.statement-index c.statement-item.result c.args.self.now c.loop-statement.self c.statement.new.self c.loop-statement.goes_on c.in-Ok.falls c.statement-item.is c.loop-statement-test.true c.if-not-goes_on.false c.loop-statement.invariant.left c.in-Ok.ensures.left;
+  left = block_step c.args.context.plan.now c.args.context.counters (tables c.args.context.blocks.now) c.args.statements.now c.loop-statement.statement-index c.statement-item.result c.args.self.now c.loop-statement.self c.statement.new.self c.loop-statement.is_reached c.in-Ok.falls c.statement-item.is c.loop-statement-test.true c.if-not-is_reached.false c.loop-statement.invariant.left c.in-Ok.ensures.left;
   room = c.in-Ok.ensures.room;
   table = c.in-Ok.ensures.table;
 }
@@ -33,20 +33,20 @@ pub either-returns-clause-left : goal.either-returns-clause-left
 either-returns-clause-left t c =
     let first = block_of (tables c.args.context.blocks.now) c.args.first.now in
     let second = block_of (tables c.args.context.blocks.now) c.args.second.now in
-    ok_map c.close_else.result (λ f h. either_step c.args.context.plan.now c.args.context.counters c.args.line c.args.contact c.len-at.result c.len-jump.result first second c.args.self.now c.fork.new.self c.block.new.self c.turn.new.self c.block-2.new.self c.close_else.new.self c.in-Ok.falls c.in-Ok-block.falls f
-    c.requires.counters (c.len-at.ensures) (c.len-jump.ensures) c.in_default.ensures.forks c.in-Ok.ensures.left c.in_default-turn.ensures.turns c.in-Ok-block.ensures.left h) c.close_else.ensures.arrives
+    ok_map c.close_else.result (λ f h. either_step c.args.context.plan.now c.args.context.counters c.args.line c.args.contact c.len-at.result c.len-jump.result first second c.args.self.now c.fork.new.self c.block.new.self c.start_else.new.self c.block-2.new.self c.close_else.new.self c.in-Ok.falls c.in-Ok-block.falls f
+    c.requires.counters (c.len-at.ensures) (c.len-jump.ensures) c.in_default.ensures.forks c.in-Ok.ensures.left c.in_default-start_else.ensures.starts_else c.in-Ok-block.ensures.left h) c.close_else.ensures.arrives
 
 pub forever-returns-clause-left : goal.forever-returns-clause-left
 forever-returns-clause-left t c =
     let body = block_of (tables c.args.context.blocks.now) c.args.body.now in
-    forever_step c.args.context.plan.now c.args.context.counters c.args.line body c.args.self.now c.enter.new.self c.block.new.self c.go_round.new.self c.in-Ok.falls c.all_fall.result c.len-target.result
-    c.requires.counters (c.len-target.ensures) (c.all_fall.ensures (tables c.args.context.blocks.now) c.requires.facts) c.in_default.ensures.lines c.in_default.ensures.marks c.in_default.ensures.now c.in_default.ensures.saved c.in-Ok.ensures.left c.in_default-go_round.ensures.round
+    forever_step c.args.context.plan.now c.args.context.counters c.args.line body c.args.self.now c.enter.new.self c.block.new.self c.close_loop.new.self c.in-Ok.falls c.all_fall.result c.len-target.result
+    c.requires.counters (c.len-target.ensures) (c.all_fall.ensures (tables c.args.context.blocks.now) c.requires.facts) c.in_default.ensures.lines c.in_default.ensures.unpriced c.in_default.ensures.now c.in_default.ensures.saved c.in-Ok.ensures.left c.in_default-close_loop.ensures.round
 
 pub repeat-returns-clause-left : goal.repeat-returns-clause-left
 repeat-returns-clause-left t c =
     let body = block_of (tables c.args.context.blocks.now) c.args.body.now in
-    repeat_step c.args.context.plan.now c.args.context.counters c.args.line c.args.times body c.args.self.now c.put.new.self c.enter.new.self c.block.new.self c.go_round.new.self c.in-Ok.falls c.all_fall.result c.len-target.result c.in-Some.counter
-    (let lt : c.args.context.counters < 8 = c.in-Some.ensures.in_range.0 refl in omega (arith, lt)) c.in-Some.ensures.value c.in_default-put.ensures.lays c.in_default-put.ensures.now (c.len-target.ensures) (c.all_fall.ensures (tables c.args.context.blocks.now) c.requires.facts) c.in_default-enter.ensures.lines c.in_default-enter.ensures.marks c.in_default-enter.ensures.now c.in_default-enter.ensures.saved c.in-Ok.ensures.left c.in_default-go_round.ensures.round
+    repeat_step c.args.context.plan.now c.args.context.counters c.args.line c.args.times body c.args.self.now c.put.new.self c.enter.new.self c.block.new.self c.close_loop.new.self c.in-Ok.falls c.all_fall.result c.len-target.result c.in-Some.counter
+    (let lt : c.args.context.counters < 8 = c.in-Some.ensures.in_range.0 refl in omega (arith, lt)) c.in-Some.ensures.value c.in_default-put.ensures.emits c.in_default-put.ensures.now (c.len-target.ensures) (c.all_fall.ensures (tables c.args.context.blocks.now) c.requires.facts) c.in_default-enter.ensures.lines c.in_default-enter.ensures.unpriced c.in_default-enter.ensures.now c.in_default-enter.ensures.saved c.in-Ok.ensures.left c.in_default-close_loop.ensures.round
 
 pub statement-returns-then-number-context-clause-left : goal.statement-returns-then-number-context-clause-left
 statement-returns-then-number-context-clause-left t c =
@@ -84,7 +84,7 @@ pub statement-returns-in-Act-clause-left : goal.statement-returns-in-Act-clause-
 statement-returns-in-Act-clause-left t c =
     let table = tables c.args.context.blocks.now in
     left_as c.args.context.plan.now c.args.context.counters c.args.self.now c.act.new.self c.act.result (λ rest. before table c.args.statement.now rest) (λ rest. basic c.in-Act.line c.in-Act.act rest) (λ rest. is_act table c.args.statement.now c.in-Act.line c.in-Act.act c.in-Act.is rest)
-    (act_step c.args.context.plan.now c.args.context.counters c.in-Act.line c.in-Act.act c.args.self.now c.act.new.self c.act.result c.act.ensures.goes_on c.act.ensures.lays c.act.ensures.now c.act.ensures.fine)
+    (act_step c.args.context.plan.now c.args.context.counters c.in-Act.line c.in-Act.act c.args.self.now c.act.new.self c.act.result c.act.ensures.is_reached c.act.ensures.emits c.act.ensures.now c.act.ensures.fine)
 
 pub statement-returns-in-If-clause-left : goal.statement-returns-in-If-clause-left
 statement-returns-in-If-clause-left t c =
@@ -124,11 +124,11 @@ pub when-returns-clause-left : goal.when-returns-clause-left
 when-returns-clause-left t c =
     let first = block_of (tables c.args.context.blocks.now) c.args.first.now in
     when_step c.args.context.plan.now c.args.context.counters c.args.line c.args.contact c.len-at.result first c.args.self.now c.fork.new.self c.block.new.self c.close_if.new.self c.in-Ok.falls c.close_if.result
-    c.requires.counters (c.len-at.ensures) c.in_default.ensures.forks c.in-Ok.ensures.left c.close_if.ensures.goes_on c.close_if.ensures.closes
+    c.requires.counters (c.len-at.ensures) c.in_default.ensures.forks c.in-Ok.ensures.left c.close_if.ensures.is_reached c.close_if.ensures.closes
 
 pub block-returns-in-Err-clause-refused : goal.block-returns-in-Err-clause-refused
 block-returns-in-Err-clause-refused t c = λ is judged.
-    block_refused c.args.context.plan.now c.args.context.counters (tables c.args.context.blocks.now) c.args.statements.now c.loop-statement.statement-index c.statement-item.result c.args.self.now c.loop-statement.self c.loop-statement.goes_on c.statement-item.is c.loop-statement-test.true c.if-not-goes_on.false c.loop-statement.invariant.left (c.in-Err.ensures.refused is) judged
+    block_refused c.args.context.plan.now c.args.context.counters (tables c.args.context.blocks.now) c.args.statements.now c.loop-statement.statement-index c.statement-item.result c.args.self.now c.loop-statement.self c.loop-statement.is_reached c.statement-item.is c.loop-statement-test.true c.if-not-is_reached.false c.loop-statement.invariant.left (c.in-Err.ensures.refused is) judged
 
 pub statement-returns-in-Repeat-clause-refused : goal.statement-returns-in-Repeat-clause-refused
 statement-returns-in-Repeat-clause-refused t c =
@@ -149,18 +149,18 @@ statement-returns-else-context-number-clause-refused t c =
     (apply_refused c.args.context.plan.now c.args.self.now.now c.block.result c.in-Apply.line c.in-Apply.block inner c.block.ensures.refused)
 
 pub block-returns-in-Err-clause-limited : goal.block-returns-in-Err-clause-limited
-block-returns-in-Err-clause-limited t c = limit_map c.in-Err.fault (λ at k past can.
-    block_limited k c.args.context.plan.now c.args.context.counters (tables c.args.context.blocks.now) c.args.statements.now c.loop-statement.statement-index c.statement-item.result c.args.self.now c.loop-statement.self c.loop-statement.goes_on c.statement-item.is c.loop-statement-test.true c.if-not-goes_on.false c.loop-statement.invariant.left past can) c.in-Err.ensures.limited
+block-returns-in-Err-clause-limited t c = limit_map c.in-Err.fault (λ at k without_label can.
+    block_limited k c.args.context.plan.now c.args.context.counters (tables c.args.context.blocks.now) c.args.statements.now c.loop-statement.statement-index c.statement-item.result c.args.self.now c.loop-statement.self c.loop-statement.is_reached c.statement-item.is c.loop-statement-test.true c.if-not-is_reached.false c.loop-statement.invariant.left without_label can) c.in-Err.ensures.limited
 
 pub statement-returns-in-Act-clause-limited : goal.statement-returns-in-Act-clause-limited
 statement-returns-in-Act-clause-limited t c =
     let table = tables c.args.context.blocks.now in
     limited_as c.args.context.plan.now c.args.context.counters c.args.self.now c.act.result (λ rest. before table c.args.statement.now rest) (λ rest. basic c.in-Act.line c.in-Act.act rest) (λ rest. is_act table c.args.statement.now c.in-Act.line c.in-Act.act c.in-Act.is rest)
-    (limits_map c.act.result (λ at k past rest can. act_limited k c.args.context.plan.now c.args.context.counters c.in-Act.line c.in-Act.act c.args.self.now past rest can) c.act.ensures.limited)
+    (limits_map c.act.result (λ at k without_label rest can. act_limited k c.args.context.plan.now c.args.context.counters c.in-Act.line c.in-Act.act c.args.self.now without_label rest can) c.act.ensures.limited)
 
 pub statement-returns-in-Err-clause-limited : goal.statement-returns-in-Err-clause-limited
-statement-returns-in-Err-clause-limited t c = limit_map c.in-Err.fault (λ at k past rest can.
-    stop_limited k c.args.context.plan.now c.args.context.counters c.in-End.line c.args.self.now past rest (subst (λ b. CanLay k c.args.context.plan.now c.args.context.counters b c.args.self.now) (is_end (tables c.args.context.blocks.now) c.args.statement.now c.in-End.line c.in-End.is rest) can)) c.in-Err.ensures.limited
+statement-returns-in-Err-clause-limited t c = limit_map c.in-Err.fault (λ at k without_label rest can.
+    stop_limited k c.args.context.plan.now c.args.context.counters c.in-End.line c.args.self.now without_label rest (subst (λ b. CanEmit k c.args.context.plan.now c.args.context.counters b c.args.self.now) (is_end (tables c.args.context.blocks.now) c.args.statement.now c.in-End.line c.in-End.is rest) can)) c.in-Err.ensures.limited
 
 pub statement-returns-in-If-clause-limited : goal.statement-returns-in-If-clause-limited
 statement-returns-in-If-clause-limited t c =
@@ -197,97 +197,97 @@ statement-returns-else-context-number-clause-limited t c =
     (apply_limited c.args.context.plan.now c.args.context.counters c.args.self.now c.block.result c.in-Apply.line c.in-Apply.block inner c.block.ensures.limited)
 
 pub when-returns-in-Err-clause-limited : goal.when-returns-in-Err-clause-limited
-when-returns-in-Err-clause-limited t c = limit_map c.in-Err.fault (λ at k past rest can.
+when-returns-in-Err-clause-limited t c = limit_map c.in-Err.fault (λ at k without_label rest can.
     let first = block_of (tables c.args.context.blocks.now) c.args.first.now in
-    when_limited k c.args.context.plan.now c.args.context.counters c.args.line c.args.contact first c.args.self.now past rest can) c.in-Err.ensures.limited
+    when_limited k c.args.context.plan.now c.args.context.counters c.args.line c.args.contact first c.args.self.now without_label rest can) c.in-Err.ensures.limited
 
 pub when-returns-in-Err-block-clause-limited : goal.when-returns-in-Err-block-clause-limited
-when-returns-in-Err-block-clause-limited t c = limit_map c.in-Err-block.fault (λ at k past rest can.
+when-returns-in-Err-block-clause-limited t c = limit_map c.in-Err-block.fault (λ at k without_label rest can.
     let first = block_of (tables c.args.context.blocks.now) c.args.first.now in
-    past (can_when_first k c.args.context.plan.now c.args.context.counters c.args.line c.args.contact first rest c.args.self.now c.fork.new.self c.block.new.self true c.in_default.ensures.forks can)) c.in-Err-block.ensures.limited
+    without_label (can_when_first k c.args.context.plan.now c.args.context.counters c.args.line c.args.contact first rest c.args.self.now c.fork.new.self c.block.new.self true c.in_default.ensures.forks can)) c.in-Err-block.ensures.limited
 
 pub when-returns-clause-limited : goal.when-returns-clause-limited
 when-returns-clause-limited t c =
     let first = block_of (tables c.args.context.blocks.now) c.args.first.now in
-    limits_map c.close_if.result (λ at k past rest can. can_when_closed k c.args.context.plan.now c.args.context.counters c.args.line c.args.contact first rest c.args.self.now c.fork.new.self c.block.new.self c.in-Ok.falls c.in_default.ensures.forks c.in-Ok.ensures.left past can) c.close_if.ensures.limited
+    limits_map c.close_if.result (λ at k without_label rest can. can_when_closed k c.args.context.plan.now c.args.context.counters c.args.line c.args.contact first rest c.args.self.now c.fork.new.self c.block.new.self c.in-Ok.falls c.in_default.ensures.forks c.in-Ok.ensures.left without_label can) c.close_if.ensures.limited
 
 pub either-returns-in-Err-clause-limited : goal.either-returns-in-Err-clause-limited
-either-returns-in-Err-clause-limited t c = limit_map c.in-Err.fault (λ at k past rest can.
+either-returns-in-Err-clause-limited t c = limit_map c.in-Err.fault (λ at k without_label rest can.
     let first = block_of (tables c.args.context.blocks.now) c.args.first.now in
     let second = block_of (tables c.args.context.blocks.now) c.args.second.now in
-    either_limited k c.args.context.plan.now c.args.context.counters c.args.line c.args.contact first second c.args.self.now past rest can) c.in-Err.ensures.limited
+    either_limited k c.args.context.plan.now c.args.context.counters c.args.line c.args.contact first second c.args.self.now without_label rest can) c.in-Err.ensures.limited
 
 pub either-returns-in-Err-block-clause-limited : goal.either-returns-in-Err-block-clause-limited
-either-returns-in-Err-block-clause-limited t c = limit_map c.in-Err-block.fault (λ at k past rest can.
+either-returns-in-Err-block-clause-limited t c = limit_map c.in-Err-block.fault (λ at k without_label rest can.
     let first = block_of (tables c.args.context.blocks.now) c.args.first.now in
     let second = block_of (tables c.args.context.blocks.now) c.args.second.now in
-    past (can_either_first k c.args.context.plan.now c.args.context.counters c.args.line c.args.contact first second rest c.args.self.now c.fork.new.self c.block.new.self c.block.new.self c.block.new.self true true c.in_default.ensures.forks can)) c.in-Err-block.ensures.limited
+    without_label (can_either_first k c.args.context.plan.now c.args.context.counters c.args.line c.args.contact first second rest c.args.self.now c.fork.new.self c.block.new.self c.block.new.self c.block.new.self true true c.in_default.ensures.forks can)) c.in-Err-block.ensures.limited
 
-pub either-returns-in-Err-turn-clause-limited : goal.either-returns-in-Err-turn-clause-limited
-either-returns-in-Err-turn-clause-limited t c = limit_map c.in-Err-turn.fault (λ at k past rest can.
+pub either-returns-in-Err-start_else-clause-limited : goal.either-returns-in-Err-start_else-clause-limited
+either-returns-in-Err-start_else-clause-limited t c = limit_map c.in-Err-start_else.fault (λ at k without_label rest can.
     let first = block_of (tables c.args.context.blocks.now) c.args.first.now in
     let second = block_of (tables c.args.context.blocks.now) c.args.second.now in
-    can_either_turned k c.args.context.plan.now c.args.context.counters c.args.line c.args.contact first second rest c.args.self.now c.fork.new.self c.block.new.self c.turn.new.self c.turn.new.self c.in-Ok.falls true c.in_default.ensures.forks c.in-Ok.ensures.left past can) c.in-Err-turn.ensures.limited
+    can_either_turned k c.args.context.plan.now c.args.context.counters c.args.line c.args.contact first second rest c.args.self.now c.fork.new.self c.block.new.self c.start_else.new.self c.start_else.new.self c.in-Ok.falls true c.in_default.ensures.forks c.in-Ok.ensures.left without_label can) c.in-Err-start_else.ensures.limited
 
 pub either-returns-in-Err-block-2-clause-limited : goal.either-returns-in-Err-block-2-clause-limited
-either-returns-in-Err-block-2-clause-limited t c = limit_map c.in-Err-block-2.fault (λ at k past rest can.
+either-returns-in-Err-block-2-clause-limited t c = limit_map c.in-Err-block-2.fault (λ at k without_label rest can.
     let first = block_of (tables c.args.context.blocks.now) c.args.first.now in
     let second = block_of (tables c.args.context.blocks.now) c.args.second.now in
-    past (can_either_second k c.args.context.plan.now c.args.context.counters c.args.line c.args.contact first second rest c.args.self.now c.fork.new.self c.block.new.self c.turn.new.self c.turn.new.self c.in-Ok.falls true c.len-at.result c.in_default.ensures.forks c.in-Ok.ensures.left c.in_default-turn.ensures.turns can)) c.in-Err-block-2.ensures.limited
+    without_label (can_either_second k c.args.context.plan.now c.args.context.counters c.args.line c.args.contact first second rest c.args.self.now c.fork.new.self c.block.new.self c.start_else.new.self c.start_else.new.self c.in-Ok.falls true c.len-at.result c.in_default.ensures.forks c.in-Ok.ensures.left c.in_default-start_else.ensures.starts_else can)) c.in-Err-block-2.ensures.limited
 
 pub either-returns-clause-limited : goal.either-returns-clause-limited
 either-returns-clause-limited t c =
     let first = block_of (tables c.args.context.blocks.now) c.args.first.now in
     let second = block_of (tables c.args.context.blocks.now) c.args.second.now in
-    limits_map c.close_else.result (λ at k past rest can. can_either_closed k c.args.context.plan.now c.args.context.counters c.args.line c.args.contact first second rest c.args.self.now c.fork.new.self c.block.new.self c.turn.new.self c.block-2.new.self c.in-Ok.falls c.in-Ok-block.falls c.len-at.result c.in_default.ensures.forks c.in-Ok.ensures.left c.in_default-turn.ensures.turns c.in-Ok-block.ensures.left past can) c.close_else.ensures.limited
+    limits_map c.close_else.result (λ at k without_label rest can. can_either_closed k c.args.context.plan.now c.args.context.counters c.args.line c.args.contact first second rest c.args.self.now c.fork.new.self c.block.new.self c.start_else.new.self c.block-2.new.self c.in-Ok.falls c.in-Ok-block.falls c.len-at.result c.in_default.ensures.forks c.in-Ok.ensures.left c.in_default-start_else.ensures.starts_else c.in-Ok-block.ensures.left without_label can) c.close_else.ensures.limited
 
 pub repeat-returns-in-Err-clause-limited : goal.repeat-returns-in-Err-clause-limited
-repeat-returns-in-Err-clause-limited t c = limit_map c.in-Err.fault (λ at k past rest can.
+repeat-returns-in-Err-clause-limited t c = limit_map c.in-Err.fault (λ at k without_label rest can.
     let body = block_of (tables c.args.context.blocks.now) c.args.body.now in
-    repeat_limited k c.args.context.plan.now c.args.context.counters c.args.line c.args.times body c.args.self.now past rest can) c.in-Err.ensures.limited
+    repeat_limited k c.args.context.plan.now c.args.context.counters c.args.line c.args.times body c.args.self.now without_label rest can) c.in-Err.ensures.limited
 
 pub repeat-returns-in-Err-enter-clause-limited : goal.repeat-returns-in-Err-enter-clause-limited
-repeat-returns-in-Err-enter-clause-limited t c = limit_map c.in-Err-enter.fault (λ at k past rest can.
+repeat-returns-in-Err-enter-clause-limited t c = limit_map c.in-Err-enter.fault (λ at k without_label rest can.
     let body = block_of (tables c.args.context.blocks.now) c.args.body.now in
     can_repeat_entered k c.args.context.plan.now c.args.context.counters c.args.line c.args.times body rest c.args.self.now c.put.new.self c.enter.new.self c.enter.new.self true c.all_fall.result
-    (let k : c.in-Some.counter ≡ c.args.context.counters = c.in-Some.ensures.value in subst (λ m. Lays c.args.self.now c.put.new.self (alone c.args.line (Set m c.args.times) c.args.context.counters c.args.self.now.now)) k c.in_default-put.ensures.lays) c.in_default-put.ensures.now (c.all_fall.ensures (tables c.args.context.blocks.now) c.requires.facts) past can) c.in-Err-enter.ensures.limited
+    (let k : c.in-Some.counter ≡ c.args.context.counters = c.in-Some.ensures.value in subst (λ m. Emits c.args.self.now c.put.new.self (alone c.args.line (Set m c.args.times) c.args.context.counters c.args.self.now.now)) k c.in_default-put.ensures.emits) c.in_default-put.ensures.now (c.all_fall.ensures (tables c.args.context.blocks.now) c.requires.facts) without_label can) c.in-Err-enter.ensures.limited
 
 pub repeat-returns-in-Err-block-clause-limited : goal.repeat-returns-in-Err-block-clause-limited
-repeat-returns-in-Err-block-clause-limited t c = limit_map c.in-Err-block.fault (λ at k past rest can.
+repeat-returns-in-Err-block-clause-limited t c = limit_map c.in-Err-block.fault (λ at k without_label rest can.
     let body = block_of (tables c.args.context.blocks.now) c.args.body.now in
-    past (can_repeat_body k c.args.context.plan.now c.args.context.counters c.args.line c.args.times body rest c.args.self.now c.put.new.self c.enter.new.self c.enter.new.self true c.all_fall.result
-    (let k : c.in-Some.counter ≡ c.args.context.counters = c.in-Some.ensures.value in subst (λ m. Lays c.args.self.now c.put.new.self (alone c.args.line (Set m c.args.times) c.args.context.counters c.args.self.now.now)) k c.in_default-put.ensures.lays) c.in_default-put.ensures.now (c.all_fall.ensures (tables c.args.context.blocks.now) c.requires.facts) c.in_default-enter.ensures.lines c.in_default-enter.ensures.marks c.in_default-enter.ensures.now can)) c.in-Err-block.ensures.limited
+    without_label (can_repeat_body k c.args.context.plan.now c.args.context.counters c.args.line c.args.times body rest c.args.self.now c.put.new.self c.enter.new.self c.enter.new.self true c.all_fall.result
+    (let k : c.in-Some.counter ≡ c.args.context.counters = c.in-Some.ensures.value in subst (λ m. Emits c.args.self.now c.put.new.self (alone c.args.line (Set m c.args.times) c.args.context.counters c.args.self.now.now)) k c.in_default-put.ensures.emits) c.in_default-put.ensures.now (c.all_fall.ensures (tables c.args.context.blocks.now) c.requires.facts) c.in_default-enter.ensures.lines c.in_default-enter.ensures.unpriced c.in_default-enter.ensures.now can)) c.in-Err-block.ensures.limited
 
-pub repeat-returns-in-Err-go_round-clause-limited : goal.repeat-returns-in-Err-go_round-clause-limited
-repeat-returns-in-Err-go_round-clause-limited t c = limit_map c.in-Err-go_round.fault (λ at k past rest can.
+pub repeat-returns-in-Err-close_loop-clause-limited : goal.repeat-returns-in-Err-close_loop-clause-limited
+repeat-returns-in-Err-close_loop-clause-limited t c = limit_map c.in-Err-close_loop.fault (λ at k without_label rest can.
     let body = block_of (tables c.args.context.blocks.now) c.args.body.now in
     can_repeat_closed k c.args.context.plan.now c.args.context.counters c.args.line c.args.times body rest c.args.self.now c.put.new.self c.enter.new.self c.block.new.self c.in-Ok.falls c.all_fall.result
-    (let k : c.in-Some.counter ≡ c.args.context.counters = c.in-Some.ensures.value in subst (λ m. Lays c.args.self.now c.put.new.self (alone c.args.line (Set m c.args.times) c.args.context.counters c.args.self.now.now)) k c.in_default-put.ensures.lays) c.in_default-put.ensures.now (c.all_fall.ensures (tables c.args.context.blocks.now) c.requires.facts) c.in_default-enter.ensures.lines c.in_default-enter.ensures.marks c.in_default-enter.ensures.now c.in-Ok.ensures.left past can) c.in-Err-go_round.ensures.limited
+    (let k : c.in-Some.counter ≡ c.args.context.counters = c.in-Some.ensures.value in subst (λ m. Emits c.args.self.now c.put.new.self (alone c.args.line (Set m c.args.times) c.args.context.counters c.args.self.now.now)) k c.in_default-put.ensures.emits) c.in_default-put.ensures.now (c.all_fall.ensures (tables c.args.context.blocks.now) c.requires.facts) c.in_default-enter.ensures.lines c.in_default-enter.ensures.unpriced c.in_default-enter.ensures.now c.in-Ok.ensures.left without_label can) c.in-Err-close_loop.ensures.limited
 
 pub forever-returns-in-Err-clause-limited : goal.forever-returns-in-Err-clause-limited
-forever-returns-in-Err-clause-limited t c = limit_map c.in-Err.fault (λ at k past rest can.
+forever-returns-in-Err-clause-limited t c = limit_map c.in-Err.fault (λ at k without_label rest can.
     let body = block_of (tables c.args.context.blocks.now) c.args.body.now in
-    can_forever_entered k c.args.context.plan.now c.args.context.counters c.args.line body rest c.args.self.now c.enter.new.self c.enter.new.self true c.all_fall.result (c.all_fall.ensures (tables c.args.context.blocks.now) c.requires.facts) past can) c.in-Err.ensures.limited
+    can_forever_entered k c.args.context.plan.now c.args.context.counters c.args.line body rest c.args.self.now c.enter.new.self c.enter.new.self true c.all_fall.result (c.all_fall.ensures (tables c.args.context.blocks.now) c.requires.facts) without_label can) c.in-Err.ensures.limited
 
 pub forever-returns-in-Err-block-clause-limited : goal.forever-returns-in-Err-block-clause-limited
-forever-returns-in-Err-block-clause-limited t c = limit_map c.in-Err-block.fault (λ at k past rest can.
+forever-returns-in-Err-block-clause-limited t c = limit_map c.in-Err-block.fault (λ at k without_label rest can.
     let body = block_of (tables c.args.context.blocks.now) c.args.body.now in
-    past (can_forever_body k c.args.context.plan.now c.args.context.counters c.args.line body rest c.args.self.now c.enter.new.self c.enter.new.self true c.all_fall.result (c.all_fall.ensures (tables c.args.context.blocks.now) c.requires.facts) c.in_default.ensures.lines c.in_default.ensures.marks c.in_default.ensures.now can)) c.in-Err-block.ensures.limited
+    without_label (can_forever_body k c.args.context.plan.now c.args.context.counters c.args.line body rest c.args.self.now c.enter.new.self c.enter.new.self true c.all_fall.result (c.all_fall.ensures (tables c.args.context.blocks.now) c.requires.facts) c.in_default.ensures.lines c.in_default.ensures.unpriced c.in_default.ensures.now can)) c.in-Err-block.ensures.limited
 
-pub forever-returns-in-Err-go_round-clause-limited : goal.forever-returns-in-Err-go_round-clause-limited
-forever-returns-in-Err-go_round-clause-limited t c = limit_map c.in-Err-go_round.fault (λ at k past rest can.
+pub forever-returns-in-Err-close_loop-clause-limited : goal.forever-returns-in-Err-close_loop-clause-limited
+forever-returns-in-Err-close_loop-clause-limited t c = limit_map c.in-Err-close_loop.fault (λ at k without_label rest can.
     let body = block_of (tables c.args.context.blocks.now) c.args.body.now in
-    can_forever_closed k c.args.context.plan.now c.args.context.counters c.args.line body rest c.args.self.now c.enter.new.self c.block.new.self c.in-Ok.falls c.all_fall.result (c.all_fall.ensures (tables c.args.context.blocks.now) c.requires.facts) c.in_default.ensures.lines c.in_default.ensures.marks c.in_default.ensures.now c.in-Ok.ensures.left past can) c.in-Err-go_round.ensures.limited
+    can_forever_closed k c.args.context.plan.now c.args.context.counters c.args.line body rest c.args.self.now c.enter.new.self c.block.new.self c.in-Ok.falls c.all_fall.result (c.all_fall.ensures (tables c.args.context.blocks.now) c.requires.facts) c.in_default.ensures.lines c.in_default.ensures.unpriced c.in_default.ensures.now c.in-Ok.ensures.left without_label can) c.in-Err-close_loop.ensures.limited
 
 -- ---- why, and at which line
 
 pub block-returns-in-Err-clause-why : goal.block-returns-in-Err-clause-why
 block-returns-in-Err-clause-why t c =
-    block_why c.args.context.plan.now c.args.context.counters (tables c.args.context.blocks.now) c.args.statements.now c.loop-statement.statement-index c.statement-item.result c.args.self.now c.loop-statement.self c.loop-statement.goes_on c.in-Err.fault c.statement-item.is c.loop-statement-test.true c.if-not-goes_on.false c.loop-statement.invariant.left c.in-Err.ensures.why
+    block_why c.args.context.plan.now c.args.context.counters (tables c.args.context.blocks.now) c.args.statements.now c.loop-statement.statement-index c.statement-item.result c.args.self.now c.loop-statement.self c.loop-statement.is_reached c.in-Err.fault c.statement-item.is c.loop-statement-test.true c.if-not-is_reached.false c.loop-statement.invariant.left c.in-Err.ensures.why
 
-pub block-returns-then-not-goes_on-clause-why : goal.block-returns-then-not-goes_on-clause-why
-block-returns-then-not-goes_on-clause-why t c =
-    block_unreached_why c.args.context.plan.now c.args.context.counters (tables c.args.context.blocks.now) c.args.statements.now c.loop-statement.statement-index c.statement-item.result c.args.self.now c.loop-statement.self c.loop-statement.goes_on c.line_of.result c.refused.result c.refused.ensures c.statement-item.is c.loop-statement-test.true c.if-not-goes_on.true c.loop-statement.invariant.left (λ rest. c.line_of.ensures (tables c.args.context.blocks.now) rest)
+pub block-returns-then-not-is_reached-clause-why : goal.block-returns-then-not-is_reached-clause-why
+block-returns-then-not-is_reached-clause-why t c =
+    block_unreached_why c.args.context.plan.now c.args.context.counters (tables c.args.context.blocks.now) c.args.statements.now c.loop-statement.statement-index c.statement-item.result c.args.self.now c.loop-statement.self c.loop-statement.is_reached c.line_of.result c.refused.result c.refused.ensures c.statement-item.is c.loop-statement-test.true c.if-not-is_reached.true c.loop-statement.invariant.left (λ rest. c.line_of.ensures (tables c.args.context.blocks.now) rest)
 
 pub statement-returns-in-Act-clause-why : goal.statement-returns-in-Act-clause-why
 statement-returns-in-Act-clause-why t c =
@@ -356,21 +356,21 @@ either-returns-in-Err-block-clause-why t c = λ rest.
     let w = c.fork.new.self in
     either_first_why c.args.context.plan.now c.args.context.counters c.args.line c.args.contact 0 first second rest c.args.self.now w w w w true true c.in-Err-block.fault c.in_default.ensures.forks c.in-Err-block.ensures.why
 
-pub either-returns-in-Err-turn-clause-why : goal.either-returns-in-Err-turn-clause-why
-either-returns-in-Err-turn-clause-why t c = λ rest. no_refusal c.in-Err-turn.fault _ c.in-Err-turn.ensures.refused
+pub either-returns-in-Err-start_else-clause-why : goal.either-returns-in-Err-start_else-clause-why
+either-returns-in-Err-start_else-clause-why t c = λ rest. no_refusal c.in-Err-start_else.fault _ c.in-Err-start_else.ensures.refused
 
 pub either-returns-in-Err-block-2-clause-why : goal.either-returns-in-Err-block-2-clause-why
 either-returns-in-Err-block-2-clause-why t c = λ rest.
     let first = block_of (tables c.args.context.blocks.now) c.args.first.now in
     let second = block_of (tables c.args.context.blocks.now) c.args.second.now in
-    let w = c.turn.new.self in
-    either_second_why c.args.context.plan.now c.args.context.counters c.args.line c.args.contact c.len-at.result first second rest c.args.self.now c.fork.new.self c.block.new.self w w c.in-Ok.falls true c.in-Err-block-2.fault c.in_default.ensures.forks c.in-Ok.ensures.left c.in_default-turn.ensures.turns c.in-Err-block-2.ensures.why
+    let w = c.start_else.new.self in
+    either_second_why c.args.context.plan.now c.args.context.counters c.args.line c.args.contact c.len-at.result first second rest c.args.self.now c.fork.new.self c.block.new.self w w c.in-Ok.falls true c.in-Err-block-2.fault c.in_default.ensures.forks c.in-Ok.ensures.left c.in_default-start_else.ensures.starts_else c.in-Err-block-2.ensures.why
 
 pub either-returns-clause-why : goal.either-returns-clause-why
 either-returns-clause-why t c =
     let first = block_of (tables c.args.context.blocks.now) c.args.first.now in
     let second = block_of (tables c.args.context.blocks.now) c.args.second.now in
-    err_two c.close_else.result (λ y h k rest. either_why c.args.context.plan.now c.args.context.counters c.args.line c.args.contact c.len-at.result first second rest c.args.self.now c.fork.new.self c.block.new.self c.turn.new.self c.block-2.new.self c.in-Ok.falls c.in-Ok-block.falls y c.in_default.ensures.forks c.in-Ok.ensures.left c.in_default-turn.ensures.turns c.in-Ok-block.ensures.left h k) c.close_else.ensures.why c.close_else.ensures.refused
+    err_two c.close_else.result (λ y h k rest. either_why c.args.context.plan.now c.args.context.counters c.args.line c.args.contact c.len-at.result first second rest c.args.self.now c.fork.new.self c.block.new.self c.start_else.new.self c.block-2.new.self c.in-Ok.falls c.in-Ok-block.falls y c.in_default.ensures.forks c.in-Ok.ensures.left c.in_default-start_else.ensures.starts_else c.in-Ok-block.ensures.left h k) c.close_else.ensures.why c.close_else.ensures.refused
 
 pub repeat-returns-in-Err-clause-why : goal.repeat-returns-in-Err-clause-why
 repeat-returns-in-Err-clause-why t c = λ rest. no_refusal c.in-Err.fault _ c.in-Err.ensures.refused
@@ -383,11 +383,11 @@ repeat-returns-in-Err-block-clause-why t c = λ rest.
     let body = block_of (tables c.args.context.blocks.now) c.args.body.now in
     repeat_body_why c.args.context.plan.now c.args.context.counters c.args.line c.args.times body rest c.args.self.now c.put.new.self c.enter.new.self c.enter.new.self true c.all_fall.result c.in-Err-block.fault c.in_default-put.ensures.now (c.all_fall.ensures (tables c.args.context.blocks.now) c.requires.facts) c.in_default-enter.ensures.now c.in-Err-block.ensures.why
 
-pub repeat-returns-in-Err-go_round-clause-why : goal.repeat-returns-in-Err-go_round-clause-why
-repeat-returns-in-Err-go_round-clause-why t c = λ rest.
+pub repeat-returns-in-Err-close_loop-clause-why : goal.repeat-returns-in-Err-close_loop-clause-why
+repeat-returns-in-Err-close_loop-clause-why t c = λ rest.
     let body = block_of (tables c.args.context.blocks.now) c.args.body.now in
     let deep : c.args.context.counters + 1 ≤ 8 = (let lt : c.args.context.counters < 8 = c.in-Some.ensures.in_range.0 refl in omega (arith, lt)) in
-    repeat_why c.args.context.plan.now c.args.context.counters c.args.line c.args.times body rest c.args.self.now c.put.new.self c.enter.new.self c.block.new.self c.in-Ok.falls c.all_fall.result c.in-Err-go_round.fault c.in_default-put.ensures.now (c.all_fall.ensures (tables c.args.context.blocks.now) c.requires.facts) c.in_default-enter.ensures.now c.in_default-enter.ensures.saved deep c.in-Ok.ensures.left c.in-Err-go_round.ensures.why c.in-Err-go_round.ensures.refused
+    repeat_why c.args.context.plan.now c.args.context.counters c.args.line c.args.times body rest c.args.self.now c.put.new.self c.enter.new.self c.block.new.self c.in-Ok.falls c.all_fall.result c.in-Err-close_loop.fault c.in_default-put.ensures.now (c.all_fall.ensures (tables c.args.context.blocks.now) c.requires.facts) c.in_default-enter.ensures.now c.in_default-enter.ensures.saved deep c.in-Ok.ensures.left c.in-Err-close_loop.ensures.why c.in-Err-close_loop.ensures.refused
 
 pub forever-returns-in-Err-clause-why : goal.forever-returns-in-Err-clause-why
 forever-returns-in-Err-clause-why t c = λ rest. no_refusal c.in-Err.fault _ c.in-Err.ensures.refused
@@ -397,10 +397,10 @@ forever-returns-in-Err-block-clause-why t c = λ rest.
     let body = block_of (tables c.args.context.blocks.now) c.args.body.now in
     forever_body_why c.args.context.plan.now c.args.context.counters c.args.line body rest c.args.self.now c.enter.new.self c.enter.new.self true c.all_fall.result c.in-Err-block.fault (c.all_fall.ensures (tables c.args.context.blocks.now) c.requires.facts) c.in_default.ensures.now c.in-Err-block.ensures.why
 
-pub forever-returns-in-Err-go_round-clause-why : goal.forever-returns-in-Err-go_round-clause-why
-forever-returns-in-Err-go_round-clause-why t c = λ rest.
+pub forever-returns-in-Err-close_loop-clause-why : goal.forever-returns-in-Err-close_loop-clause-why
+forever-returns-in-Err-close_loop-clause-why t c = λ rest.
     let body = block_of (tables c.args.context.blocks.now) c.args.body.now in
-    forever_why c.args.context.plan.now c.args.context.counters c.args.line body rest c.args.self.now c.enter.new.self c.block.new.self c.in-Ok.falls c.all_fall.result c.in-Err-go_round.fault (c.all_fall.ensures (tables c.args.context.blocks.now) c.requires.facts) c.in_default.ensures.now c.in_default.ensures.saved c.in-Ok.ensures.left c.in-Err-go_round.ensures.why c.in-Err-go_round.ensures.refused
+    forever_why c.args.context.plan.now c.args.context.counters c.args.line body rest c.args.self.now c.enter.new.self c.block.new.self c.in-Ok.falls c.all_fall.result c.in-Err-close_loop.fault (c.all_fall.ensures (tables c.args.context.blocks.now) c.requires.facts) c.in_default.ensures.now c.in_default.ensures.saved c.in-Ok.ensures.left c.in-Err-close_loop.ensures.why c.in-Err-close_loop.ensures.refused
 
 pub block-loop-statement-init : goal.block-loop-statement-init
 block-loop-statement-init t c = record {
@@ -409,6 +409,6 @@ block-loop-statement-init t c = record {
   table = c.requires.table;
 }
 
-pub block-returns-then-not-goes_on-clause-refused : goal.block-returns-then-not-goes_on-clause-refused
-block-returns-then-not-goes_on-clause-refused t c = λ is judged.
-    block_unreached c.args.context.plan.now c.args.context.counters (tables c.args.context.blocks.now) c.args.statements.now c.loop-statement.statement-index c.statement-item.result c.args.self.now c.loop-statement.self c.loop-statement.goes_on c.statement-item.is c.loop-statement-test.true c.if-not-goes_on.true c.loop-statement.invariant.left judged
+pub block-returns-then-not-is_reached-clause-refused : goal.block-returns-then-not-is_reached-clause-refused
+block-returns-then-not-is_reached-clause-refused t c = λ is judged.
+    block_unreached c.args.context.plan.now c.args.context.counters (tables c.args.context.blocks.now) c.args.statements.now c.loop-statement.statement-index c.statement-item.result c.args.self.now c.loop-statement.self c.loop-statement.is_reached c.statement-item.is c.loop-statement-test.true c.if-not-is_reached.true c.loop-statement.invariant.left judged

@@ -2,7 +2,7 @@ use Rattle.std.proofs.Common.{ℕ, Bool, ◌+◌, ◌*◌, ◌≤◌, length, dr
 use Rattle.script_front.specs.Block.{Block, nothing, when, either, repeat, forever, block_of, before}
 use Rattle.plan_code.specs.declared.plan.Plan.{Plan}
 use Rattle.script_compiler.specs.Working.{Work}
-use Rattle.script_compiler.specs.Laying.{Left, tables}
+use Rattle.script_compiler.specs.Emission.{Left, tables}
 use Rattle.script_compiler.specs.Space.{HasTable}
 use Rattle.script_compiler.proofs.Weight.{weight}
 use Rattle.script_compiler.proofs.work.Work.+work.Given as goal
@@ -26,11 +26,11 @@ decreases-repeat l = 4 * weight (repeat l.line l.times (block_of (tables l.conte
 abbrev pub decreases-forever : goal.decreases-forever
 decreases-forever l = 4 * weight (forever l.line (block_of (tables l.context.blocks.now) l.body.now) nothing) + 1
 
-pub record Laid (plan : Plan) (r : ℕ) (b : Block) (old new : Work) (goes_on : Bool) (rest : Block) : Type 0 where
-  pub left : Left plan r b old new goes_on rest
+pub record Emitted (plan : Plan) (r : ℕ) (b : Block) (old new : Work) (is_reached : Bool) (rest : Block) : Type 0 where
+  pub left : Left plan r b old new is_reached rest
   pub room : length new.lines.items ≤ 4096
   pub table : HasTable new
 
 abbrev pub invariant-block-loop-statement : goal.invariant-block-loop-statement
 invariant-block-loop-statement l =
-    Laid l.context.plan.now l.context.counters (block_of (tables l.context.blocks.now) l.statements) l.initial.self l.self l.goes_on (block_of (tables l.context.blocks.now) (drop l.statement-index l.statements))
+    Emitted l.context.plan.now l.context.counters (block_of (tables l.context.blocks.now) l.statements) l.initial.self l.self l.is_reached (block_of (tables l.context.blocks.now) (drop l.statement-index l.statements))

@@ -6,5 +6,5 @@ pub returns-clause-limited : goal.returns-clause-limited
 returns-clause-limited c =
     let w = c.args.self.now in
     let v = c.save.new.self in
-    limits_map c.put.result (λ at k past p ps e space.
-    past p ps (e ∙ sym c.save.ensures.now) (space_as k w v (p ∷ ps) (ap (λ x. length x.items) c.save.ensures.lines) (ap (λ x. x.items) c.save.ensures.marks) space)) c.put.ensures.limited
+    limits_map c.put.result (λ at k without_label p ps e space.
+    without_label p ps (e ∙ sym c.save.ensures.now) (space_as k w v (p ∷ ps) (ap (λ x. length x.items) c.save.ensures.lines) (ap (λ x. x.items) c.save.ensures.unpriced) space)) c.put.ensures.limited

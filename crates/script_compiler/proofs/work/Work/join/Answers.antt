@@ -2,8 +2,8 @@ use Rattle.std.proofs.Common.{◌≡◌, Some, length, sym, ap, subst}
 use Rattle.plan_flow.specs.Flows.{Flow, merged}
 use Rattle.script_meaning.specs.declared.flow.ProgramPoint.{ProgramPoint}
 use Rattle.script_meaning.specs.Scheme.{at_label, meet}
-use Rattle.script_compiler.specs.Laying.{way}
-use Rattle.script_compiler.specs.Pool.{spot_in}
+use Rattle.script_compiler.specs.Emission.{way}
+use Rattle.script_compiler.specs.Pool.{point_in}
 use Rattle.script_compiler.specs.Space.{IsCovered}
 use Rattle.script_compiler.proofs.Spaces.{limits_map, space_as}
 use Rattle.script_compiler.proofs.work.Work.join.Goals as goal
@@ -12,18 +12,18 @@ pub returns-then-not-falls-clause-limited : goal.returns-then-not-falls-clause-l
 returns-then-not-falls-clause-limited c =
     let w = c.args.self.now in
     let v = c.take.new.self in
-    let t = spot_in w.pool c.args.other.now in
-    limits_map c.mark.result (λ at k past ps cover space.
+    let t = point_in w.pool c.args.other.now in
+    limits_map c.unpriced_label.result (λ at k without_label ps cover space.
     let met : meet (way c.args.falls w) (Some t) ≡ Some (at_label t.flow) = ap (λ f. meet (way f w) (Some t)) c.if-not-falls.true in
-    let there = space_as k w v ps (ap (λ x. length x.items) c.take.ensures.lines) (ap (λ x. x.items) c.take.ensures.marks) space in
-    past ps (subst (λ (s : ProgramPoint). IsCovered s.flow ps) (sym c.take.ensures.now) (cover (at_label t.flow) met)) there) c.mark.ensures.limited
+    let there = space_as k w v ps (ap (λ x. length x.items) c.take.ensures.lines) (ap (λ x. x.items) c.take.ensures.unpriced) space in
+    without_label ps (subst (λ (s : ProgramPoint). IsCovered s.flow ps) (sym c.take.ensures.now) (cover (at_label t.flow) met)) there) c.unpriced_label.ensures.limited
 
 pub returns-clause-limited : goal.returns-clause-limited
 returns-clause-limited c =
     let w = c.args.self.now in
     let v = c.meet.new.self in
-    let t = spot_in w.pool c.args.other.now in
-    limits_map c.mark-2.result (λ at k past ps cover space.
+    let t = point_in w.pool c.args.other.now in
+    limits_map c.unpriced_label-2.result (λ at k without_label ps cover space.
     let met : meet (way c.args.falls w) (Some t) ≡ Some (at_label (merged w.now.flow t.flow)) = ap (λ f. meet (way f w) (Some t)) c.if-not-falls.false in
-    let there = space_as k w v ps (ap (λ x. length x.items) c.meet.ensures.lines) (ap (λ x. x.items) c.meet.ensures.marks) space in
-    past ps (subst (λ (x : Flow). IsCovered x ps) (sym (c.meet.ensures.met c.if-not-meet.false)) (cover (at_label (merged w.now.flow t.flow)) met)) there) c.mark-2.ensures.limited
+    let there = space_as k w v ps (ap (λ x. length x.items) c.meet.ensures.lines) (ap (λ x. x.items) c.meet.ensures.unpriced) space in
+    without_label ps (subst (λ (x : Flow). IsCovered x ps) (sym (c.meet.ensures.met c.if-not-meet.false)) (cover (at_label (merged w.now.flow t.flow)) met)) there) c.unpriced_label-2.ensures.limited

@@ -1,20 +1,20 @@
 use Rattle.std.proofs.Common.{◌≡◌, ◌++◌, ◌∷◌, [], List, Option, length, ap, ◌∙◌, subst}
 use Rattle.std.specs.Option.{option_to_list}
 use Rattle.script_compiler.specs.Pool.{AreInPool}
-use Rattle.script_compiler.specs.declared.short.ShortSpot.{ShortSpot}
+use Rattle.script_compiler.specs.declared.short.IndexedPoint.{IndexedPoint}
 use Rattle.script_compiler.proofs.Pooled.{popped_in_pool}
 use Rattle.script_compiler.proofs.work.Work.restore.Goals as goal
 
 pub invariant_of-self : goal.invariant_of-self
 invariant_of-self c =
-    let n = length c.self.inside.marks.pool in
+    let n = length c.self.inside.unpriced.pool in
     let left = c.pop.new.self.items in
-    let e : c.self.inside.saved.items ≡ left ++ c.in-Some.spot ∷ [] = c.pop.ensures.items ∙ ap (λ (r : Option ShortSpot). left ++ option_to_list r) c.in-Some.is in
-    (c.self.invariant.0, (popped_in_pool n left c.in-Some.spot (subst (λ (l : List ShortSpot). AreInPool n l) e c.self.invariant.1)).1)
+    let e : c.self.inside.saved.items ≡ left ++ c.in-Some.point ∷ [] = c.pop.ensures.items ∙ ap (λ (r : Option IndexedPoint). left ++ option_to_list r) c.in-Some.is in
+    (c.self.invariant.0, (popped_in_pool n left c.in-Some.point (subst (λ (l : List IndexedPoint). AreInPool n l) e c.self.invariant.1)).1)
 
 pub returns-clause-within : goal.returns-clause-within
 returns-clause-within c =
-    let n = length c.self.inside.marks.pool in
+    let n = length c.self.inside.unpriced.pool in
     let left = c.pop.new.self.items in
-    let e : c.self.inside.saved.items ≡ left ++ c.in-Some.spot ∷ [] = c.pop.ensures.items ∙ ap (λ (r : Option ShortSpot). left ++ option_to_list r) c.in-Some.is in
-    (popped_in_pool n left c.in-Some.spot (subst (λ (l : List ShortSpot). AreInPool n l) e c.self.invariant.1)).0
+    let e : c.self.inside.saved.items ≡ left ++ c.in-Some.point ∷ [] = c.pop.ensures.items ∙ ap (λ (r : Option IndexedPoint). left ++ option_to_list r) c.in-Some.is in
+    (popped_in_pool n left c.in-Some.point (subst (λ (l : List IndexedPoint). AreInPool n l) e c.self.invariant.1)).0

@@ -1,15 +1,15 @@
 use Rattle.std.proofs.Common.{◌≡◌, ◌++◌, ◌∷◌, [], List, length, rules, sym, subst}
 use Rattle.script_compiler.specs.Pool.{AreInPool, IsInPool}
 use Rattle.script_compiler.specs.Working.{Work}
-use Rattle.script_compiler.specs.declared.short.ShortSpot.{ShortSpot}
+use Rattle.script_compiler.specs.declared.short.IndexedPoint.{IndexedPoint}
 use Rattle.script_compiler.proofs.Pooled.{pushed_in_pool}
 use Rattle.script_compiler.proofs.work.Work.save.Goals as goal
 
 pub invariant_of-self-2 : goal.invariant_of-self-2
 invariant_of-self-2 c =
-    let n = length c.self.inside.marks.pool in
+    let n = length c.self.inside.unpriced.pool in
     let saved = c.self.inside.saved.items in
-    let here = c.in-Ok.here in
-    let e : c.push.new.self.items ≡ saved ++ here ∷ [] = search (rules, c.push.ensures.items, c.if-is_err.false, c.is_err.ensures.value) in
-    let within = subst (λ (v : Work). IsInPool (length v.pool) here) (sym c.self.view_is) c.in-Ok.ensures.within in
-    (c.self.invariant.0, subst (λ (l : List ShortSpot). AreInPool n l) (sym e) (pushed_in_pool n saved here within c.self.invariant.1))
+    let point_here = c.in-Ok.point_here in
+    let e : c.push.new.self.items ≡ saved ++ point_here ∷ [] = search (rules, c.push.ensures.items, c.if-is_err.false, c.is_err.ensures.value) in
+    let within = subst (λ (v : Work). IsInPool (length v.pool) point_here) (sym c.self.view_is) c.in-Ok.ensures.within in
+    (c.self.invariant.0, subst (λ (l : List IndexedPoint). AreInPool n l) (sym e) (pushed_in_pool n saved point_here within c.self.invariant.1))

@@ -9,4 +9,4 @@ invariant_of-self c =
     let cut = c.in-Some.ensures.cases.0 in
     let within = subst (λ (ts : List Token). AreWithin (length c.self.inside.text.now) ts) cut c.self.invariant.0 in
     let last = subst (λ (ts : List Token). AreLastOf c.self.inside.all.now ts) cut c.self.invariant.2 in
-    (within.3, c.self.invariant.1, passed_last c.self.inside.all.now c.in-Some.rest.now c.in-Some._first.now last)
+    (within.2, c.self.invariant.1, passed_last c.self.inside.all.now c.in-Some.rest.now c.in-Some._first.now last)

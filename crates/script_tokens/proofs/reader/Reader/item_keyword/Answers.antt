@@ -1,6 +1,6 @@
 use Rattle.std.proofs.Common.{sym, ap, ◌∙◌}
 use Rattle.std.proofs.lemmas.Bool.{false≢true}
-use Rattle.script_tokens.specs.Words.{begins_item}
+use Rattle.script_tokens.specs.Keywords.{begins_item}
 use Rattle.script_tokens.specs.First.{statement_keyword}
 use Rattle.script_tokens.proofs.First.{item_is_statement}
 use Rattle.script_tokens.proofs.Keys.{same_key}

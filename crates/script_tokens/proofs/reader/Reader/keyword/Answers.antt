@@ -1,5 +1,5 @@
 use Rattle.std.proofs.Common.{sym, ◌∙◌}
-use Rattle.script_tokens.specs.Words.{letters}
+use Rattle.script_tokens.specs.Keywords.{letters}
 use Rattle.script_tokens.proofs.Keys.{found_of, first_is}
 use Rattle.script_tokens.proofs.reader.Reader.keyword.Goals as goal
 

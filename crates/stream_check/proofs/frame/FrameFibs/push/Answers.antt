@@ -16,8 +16,8 @@ invariant_of-self c =
     let one = at_most_one c.args.sight.now.is_damaged in
     let few : c.self.inside.damaged ≤ length c.self.inside.fibs.items = c.self.invariant.1 in
     let many : length c.push.new.self.items ≡ length c.self.inside.fibs.items + 1 = ap length c.push.ensures.items ∙ length-append c.self.inside.fibs.items (c.args.fib.now ∷ []) in (
-      λ r. seen_after r c.self.inside.fibs.items c.push.new.self.items c.args.fib.now c.args.sight.now c.self.inside.damaged c.choose.result c.self.inside.opening c.choose-self-inside.result c.self.inside.is_unopened c.choose-self-inside-2.result
-          c.is_empty-is_first.result c.is_unopened.result c.push.ensures.items c.choose.ensures (c.is_empty-is_first.ensures ∙ ap is_empty (sym c.self.view_is)) c.choose-self-inside.ensures c.is_unopened.ensures c.choose-self-inside-2.ensures
+      λ r. seen_after r c.self.inside.fibs.items c.push.new.self.items c.args.fib.now c.args.sight.now c.self.inside.damaged c.choose.result c.self.inside.opening c.choose-self-inside.result c.self.inside.starts_without_ensemble c.choose-self-inside-2.result
+          c.is_empty-is_first.result c.starts_without_ensemble.result c.push.ensures.items c.choose.ensures (c.is_empty-is_first.ensures ∙ ap is_empty (sym c.self.view_is)) c.choose-self-inside.ensures c.starts_without_ensemble.ensures c.choose-self-inside-2.ensures
           (c.self.invariant.0 r) (c.requires.seen r),
       omega (arith, one, c.choose.ensures, few, many),
     )

@@ -22,8 +22,8 @@ invariant_of-self c =
     (kept_since c.earlier-self-inside.result c.self.inside.oldest (record { raw = c.args.entry.now; at = c.args.at }) c.args.self.now c.earlier-self-inside.ensures.first c.earlier-self-inside.ensures.second
     (subst (λ (hs : List Heard). AllByRecursion (λ (h : Heard). c.self.inside.oldest ≤ h.at) hs) c.self.view_is c.self.invariant))
 
-pub returns-clause-standing : goal.returns-clause-standing
-returns-clause-standing c =
+pub returns-clause-lookup : goal.returns-clause-lookup
+returns-clause-lookup c =
     let found : Some c.in-Some.known.now ≡ entry_at heard_key (identifier_of c.args.entry.now) c.args.self.now =
     ap option_copied (sym c.in-Some.is) ∙ c.get.ensures.value ∙ ap (λ k. entry_at heard_key k c.self.inside.table) c.identifier.ensures.value
     ∙ ap (λ hs. entry_at heard_key (identifier_of c.args.entry.now) hs) c.self.view_is in

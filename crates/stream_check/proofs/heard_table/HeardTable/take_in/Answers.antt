@@ -7,8 +7,8 @@ use Rattle.stream_check.proofs.Tables.{kept_new, standing_new, standing_full}
 use Rattle.stream_check.proofs.Waiting.{kept_since}
 use Rattle.stream_check.proofs.heard_table.HeardTable.take_in.Goals as goal
 
-pub returns-then-is_full-clause-standing : goal.returns-then-is_full-clause-standing
-returns-then-is_full-clause-standing c =
+pub returns-then-is_full-clause-lookup : goal.returns-then-is_full-clause-lookup
+returns-then-is_full-clause-lookup c =
     let many : 64 ≤ length c.self.inside.table = c.is_full.ensures.0 c.if-is_full.true in
     standing_full c.args.entry.now c.args.self.now c.requires.absent (subst (λ (hs : List Heard). 64 ≤ length hs) c.self.view_is many)
 
@@ -22,8 +22,8 @@ invariant_of-self c =
     (kept_since c.earlier-self-inside.result c.self.inside.oldest (record { raw = c.args.entry.now; at = c.args.at }) c.args.self.now c.earlier-self-inside.ensures.first c.earlier-self-inside.ensures.second
     (subst (λ (hs : List Heard). AllByRecursion (λ (h : Heard). c.self.inside.oldest ≤ h.at) hs) c.self.view_is c.self.invariant))
 
-pub returns-clause-standing : goal.returns-clause-standing
-returns-clause-standing c =
+pub returns-clause-lookup : goal.returns-clause-lookup
+returns-clause-lookup c =
     let few : length c.self.inside.table < 64 = elim (cases_lt (length c.self.inside.table) 64) [
       | inl some ↦ some
       | inr many ↦ absurd (false≢true (sym c.if-is_full.false ∙ c.is_full.ensures.1 many))

@@ -8,7 +8,7 @@ use Rattle.stream_check.proofs.memory.Memory.hear_fibs.Given as goal
 abbrev pub invariant-loop-fib : goal.invariant-loop-fib
 invariant-loop-fib g l =
     IsLater l.initial.self l.self
-    × ((r : Reading) → IsOnItsWay l.at (frame_items (map r.read l.fibs)) (fibs_items l.is_first (map r.read l.rest)) l.initial.self (g.R.Report.told l.initial.report) l.self (g.R.Report.told l.report))
+    × ((r : Reading) → IsOnItsWay l.at (frame_items (map r.read l.fibs)) (fibs_items l.is_first (map r.read l.rest)) l.initial.self (g.R.Report.reported l.initial.report) l.self (g.R.Report.reported l.report))
 
 abbrev pub decreases-loop-fib : goal.decreases-loop-fib
 decreases-loop-fib g l = length l.rest

@@ -4,7 +4,7 @@ use Rattle.cli.specs.declared.listings.listen.Heard.{Heard}
 use Rattle.cli.specs.Stream.{HearsTheStream}
 use Rattle.cli.proofs.listings.listen.Heard.hear.Given as goal
 
--- what is heard from here on is what is heard from the start
+-- decoding the remaining FIBs from here gives the result of decoding all from the start
 pub record GoesOn (goes : Result Heard StreamFault → Type 0) (whole : Result Heard StreamFault → Type 0) (now : Heard) (before heard : ℕ) : Type 0 where
   pub on : (given : Result Heard StreamFault) → goes given → whole given
   pub counted : now.fibs ≡ before + heard

@@ -1,0 +1,230 @@
+-- Numbers of sixteen bits as two bytes, and as bits.
+use Rattle.std.proofs.Common.{◌≡◌, ℕ, zero, suc, ◌+◌, ◌-◌, ◌*◌, ◌/◌, ◌%◌, ◌^◌, ◌<◌, ◌≤◌, map, refl, replicate, List, [], ◌∷◌, ◌++◌, length, get_or, drop, take, sym, ◌∙◌, ap, ap₂, arith, subst, take_at, drop_at, length-append, pow-suc, length-take, length-take-le, append-nil, drop-cons, ◌↔◌, length-drop}
+use Rattle.std.proofs.lemmas.List.{drop_all, drop-drop, length-map}
+use Rattle.std.proofs.lemmas.Nat.Bits.{bit_at_cat_high, bit_at_lowest}
+use Rattle.std.specs.Int.{bit_at}
+use Rattle.std.proofs.lemmas.Nat.{mod-pow-add}
+use Rattle.byteorder.specs.Endian.{big_bytes}
+use Rattle.fib_codec.specs.Spelling.{checked}
+use borrow.Rule.Slice.PartMut.{put_mid}
+use Rattle.fib_codec.specs.Crc.{low_bits, bits_of_bytes, check_bits, number_of_bits, crc_value, IsChecked, AreBits, divided, dividend, without_leading}
+use Rattle.fib_codec.proofs.Division.{bits_of-suc, bits_of-zero, length-bits_of, bits_of-below, divided-zero, divided-suc}
+use Rattle.fib_codec.proofs.Linear.{one_word, split, length-plus, divided-nil, without_bits, length-without}
+
+-- two bytes have the bits of the u16 that they encode
+pub sent_bits : (a b : ℕ) → b < 256 → bits_of_bytes (a ∷ b ∷ []) ≡ low_bits 16 (a * 256 + b)
+sent_bits a b h =
+    let high : (a * 256 + b) / 256 ≡ a = omega arith in
+    ap (λ t. low_bits 8 a ++ t) (append-nil (low_bits 8 b))
+    ∙ ap (λ t. low_bits 8 a ++ t) (sym (bits_of-below 8 a 8 b (omega arith)))
+    ∙ ap (λ n. low_bits 8 n ++ low_bits 8 (a * 256 + b)) (sym high)
+    ∙ sym (split (a * 256 + b))
+
+last_two : (bytes : List ℕ) → length bytes ≡ 32 → drop 30 bytes ≡ get_or bytes 30 0 ∷ get_or bytes 31 0 ∷ []
+last_two bytes h =
+    let more : drop 30 bytes ≡ get_or bytes 30 0 ∷ drop 31 bytes = drop-cons bytes 30 0 (omega arith) in
+    let last : drop 31 bytes ≡ get_or bytes 31 0 ∷ drop 32 bytes = drop-cons bytes 31 0 (omega arith) in
+    let end : drop 32 bytes ≡ [] = drop_all 32 bytes (omega arith) in
+    more ∙ ap (λ t. get_or bytes 30 0 ∷ t) (last ∙ ap (λ t. get_or bytes 31 0 ∷ t) end)
+
+pub checked_by_word : (bytes : List ℕ) (word : ℕ) → length bytes ≡ 32 → get_or bytes 30 0 < 256 → get_or bytes 31 0 < 256
+    → word < 65536 → low_bits 16 word ≡ check_bits (take 30 bytes)
+    → (word ≡ get_or bytes 30 0 * 256 + get_or bytes 31 0) ↔ IsChecked bytes
+checked_by_word bytes word long high low fits h =
+    let sent : bits_of_bytes (drop 30 bytes) ≡ low_bits 16 (get_or bytes 30 0 * 256 + get_or bytes 31 0) =
+    ap bits_of_bytes (last_two bytes long) ∙ sent_bits (get_or bytes 30 0) (get_or bytes 31 0) low in (
+      λ same. sent ∙ ap (low_bits 16) (sym same) ∙ h,
+      λ checked. one_word word (get_or bytes 30 0 * 256 + get_or bytes 31 0) fits (omega arith) (h ∙ sym checked ∙ sent),
+    )
+
+-- the lowest bits of a number form the number modulo a power of two
+word_spelled : (w x : ℕ) → number_of_bits (low_bits w x) ≡ x % 2 ^ w
+word_spelled zero x =
+    let none : low_bits 0 x ≡ [] = bits_of-zero x in
+    let rest : x % 2 ^ 0 ≡ 0 = omega arith in
+    ap number_of_bits none ∙ sym rest
+word_spelled (suc w) x =
+    let count : 1 + w ≡ suc w = omega arith in
+    let one : x / 2 ^ w % 2 ^ 1 ≡ bit_at x w = refl in
+    ap number_of_bits (bits_of-suc w x)
+    ∙ ap₂ (λ k n. bit_at x w * 2 ^ k + n) (length-bits_of w x) (word_spelled w x)
+    ∙ sym (ap (λ n. x % 2 ^ n) (sym count) ∙ mod-pow-add x 1 w)
+
+pub word_checked : (bytes : List ℕ) (word : ℕ) → word < 65536 → low_bits 16 word ≡ check_bits bytes → word ≡ crc_value bytes
+word_checked bytes word fits h =
+    let small : word % 2 ^ 16 ≡ word = omega arith in
+    sym small ∙ sym (word_spelled 16 word) ∙ ap number_of_bits h
+
+-- two bytes written after thirty
+pub word_behind : (bytes word : List ℕ) → length bytes ≡ 30 → put_mid 30 2 (bytes ++ 0 ∷ 0 ∷ []) word ≡ bytes ++ word
+word_behind bytes word h =
+    let front : take 30 (bytes ++ 0 ∷ 0 ∷ []) ≡ bytes = take_at bytes (0 ∷ 0 ∷ []) 30 h in
+    let behind : drop 2 (drop 30 (bytes ++ 0 ∷ 0 ∷ [])) ≡ [] = ap (drop 2) (drop_at bytes (0 ∷ 0 ∷ []) 30 h) in
+    ap₂ (λ xs ys. xs ++ (word ++ ys)) front behind ∙ ap (λ t. bytes ++ t) (append-nil word)
+
+-- ---- the CRC is a u16
+length-divided : (n : ℕ) (xs : List ℕ) → length (divided n xs) ≡ length xs - n
+length-divided zero xs =
+    let all : length xs ≡ length xs - 0 = omega arith in
+    ap length (divided-zero xs) ∙ all
+length-divided (suc n) [] =
+    let none : 0 ≡ 0 - suc n = omega arith in
+    ap length (divided-nil (suc n)) ∙ none
+length-divided (suc n) (b ∷ bits) =
+    let less : length bits - n ≡ suc (length bits) - suc n = omega arith in
+    ap length (divided-suc n b bits) ∙ length-divided n (without_leading b bits) ∙ ap (λ k. k - n) (length-without b bits) ∙ less
+
+divided_bits : (n : ℕ) (xs : List ℕ) → AreBits xs → AreBits (divided n xs)
+divided_bits zero xs are = subst (λ (ys : List ℕ). AreBits ys) (sym (divided-zero xs)) are
+divided_bits (suc n) [] are = subst (λ (ys : List ℕ). AreBits ys) (sym (divided-nil (suc n))) tt
+divided_bits (suc n) (b ∷ bits) are =
+    subst (λ (ys : List ℕ). AreBits ys) (sym (divided-suc n b bits))
+    (divided_bits n (without_leading b bits) (without_bits b bits are.1))
+
+turned_bits : (xs : List ℕ) → AreBits (map (λ b. 1 - b) xs)
+turned_bits [] = tt
+turned_bits (x ∷ xs) = (omega arith, turned_bits xs)
+
+length-bits_of_bytes : (bytes : List ℕ) → length (bits_of_bytes bytes) ≡ 8 * length bytes
+length-bits_of_bytes [] = refl
+length-bits_of_bytes (b ∷ bs) =
+    length-append (low_bits 8 b) (bits_of_bytes bs)
+    ∙ ap₂ (λ m n. m + n) (length-bits_of 8 b) (length-bits_of_bytes bs) ∙ omega arith
+
+check_len : (bytes : List ℕ) → length (check_bits bytes) ≡ 16
+check_len bytes =
+    let bits = bits_of_bytes bytes ++ replicate 16 0 in
+    let whole : length (dividend bytes) ≡ 8 * length bytes + 16 =
+    length-plus bits (replicate 16 1) ∙ length-append (bits_of_bytes bytes) (replicate 16 0)
+    ∙ ap (λ n. n + 16) (length-bits_of_bytes bytes) in
+    let left : 8 * length bytes + 16 - 8 * length bytes ≡ 16 = omega arith in
+    length-map (divided (8 * length bytes) (dividend bytes)) (λ (b : ℕ). 1 - b)
+    ∙ length-divided (8 * length bytes) (dividend bytes) ∙ ap (λ n. n - 8 * length bytes) whole ∙ left
+
+-- so bytes with a CRC at their end are 32
+pub fib_len : (bytes : List ℕ) → IsChecked bytes → length bytes ≡ 32
+fib_len bytes checked =
+    let sixteen : 8 * length (drop 30 bytes) ≡ 16 =
+    sym (length-bits_of_bytes (drop 30 bytes)) ∙ ap length checked ∙ check_len (take 30 bytes) in
+    let rest : length (drop 30 bytes) ≡ length bytes - 30 = length-drop 30 bytes in
+    omega (arith, sixteen, rest)
+
+-- bits form a number that has these bits
+number_below : (bits : List ℕ) → AreBits bits → number_of_bits bits < 2 ^ length bits
+number_below [] are = omega arith
+number_below (zero ∷ bits) are =
+    let more : 2 ^ suc (length bits) ≡ 2 ^ length bits * 2 = pow-suc 2 (length bits) in
+    omega (arith, more, number_below bits are.1)
+number_below (suc zero ∷ bits) are =
+    let more : 2 ^ suc (length bits) ≡ 2 ^ length bits * 2 = pow-suc 2 (length bits) in
+    omega (arith, more, number_below bits are.1)
+number_below (suc (suc b) ∷ bits) are = absurd (omega (arith, are.0))
+
+spelled_bits : (bits : List ℕ) → AreBits bits → low_bits (length bits) (number_of_bits bits) ≡ bits
+spelled_bits [] are = bits_of-zero 0
+spelled_bits (b ∷ bits) are =
+    let n = number_of_bits bits in
+    let w = length bits in
+    let place : w - w ≡ 0 = omega arith in
+    let bit : b % 2 ≡ b = omega (arith, are.0) in
+    let high : bit_at (b * 2 ^ w + n) w ≡ b =
+    bit_at_cat_high b w n w (number_below bits are.1) (omega arith) ∙ ap (bit_at b) place ∙ bit_at_lowest b ∙ bit in
+    bits_of-suc w (b * 2 ^ w + n)
+    ∙ ap₂ (λ x xs. x ∷ xs) high (bits_of-below w b w n (omega arith) ∙ spelled_bits bits are.1)
+
+pub check_word_bits : (bytes : List ℕ) → low_bits 16 (crc_value bytes) ≡ check_bits bytes
+check_word_bits bytes =
+    ap (λ w. low_bits w (crc_value bytes)) (sym (check_len bytes))
+    ∙ spelled_bits (check_bits bytes) (turned_bits (divided (8 * length bytes) (dividend bytes)))
+
+pub check_word_below : (bytes : List ℕ) → crc_value bytes < 65536
+check_word_below bytes =
+    let below : crc_value bytes < 2 ^ length (check_bits bytes) =
+    number_below (check_bits bytes) (turned_bits (divided (8 * length bytes) (dividend bytes))) in
+    subst (λ (k : ℕ). crc_value bytes < 2 ^ k) (check_len bytes) below
+
+-- thirty bytes and their CRC are checked
+pub checked_is : (bytes : List ℕ) → length bytes ≡ 30 → IsChecked (checked bytes)
+checked_is bytes h =
+    let word = crc_value bytes in
+    let high : word / 256 % 256 ≡ word / 256 = omega (arith, check_word_below bytes) in
+    let whole : word / 256 % 256 * 256 + word % 256 ≡ word = omega (arith, check_word_below bytes) in
+    ap bits_of_bytes (drop_at bytes (big_bytes 2 word) 30 h)
+    ∙ sent_bits (word / 256 % 256) (word % 256) (omega arith)
+    ∙ ap (low_bits 16) whole ∙ check_word_bits bytes ∙ ap check_bits (sym (take_at bytes (big_bytes 2 word) 30 h))
+
+-- the same bytes, as written into a buffer of zeros
+pub sealed_bytes : (bytes moved buf : List ℕ) (word : ℕ) → length bytes ≡ 30 → moved ≡ bytes → word < 65536
+    → low_bits 16 word ≡ check_bits bytes
+    → buf ≡ word / 256 % 256 ∷ word % 256 ∷ drop 2 (take 2 (drop 30 (moved ++ 0 ∷ 0 ∷ [])))
+    → put_mid 30 2 (moved ++ 0 ∷ 0 ∷ []) buf ≡ checked bytes
+sealed_bytes bytes moved buf word h same fits bits written =
+    let tail = take 2 (drop 30 (moved ++ 0 ∷ 0 ∷ [])) in
+    let none : drop 2 tail ≡ [] = drop_all 2 tail (omega (arith, length-take 2 (drop 30 (moved ++ 0 ∷ 0 ∷ [])))) in
+    let two : buf ≡ big_bytes 2 word = written ∙ ap (λ t. word / 256 % 256 ∷ word % 256 ∷ t) none in
+    ap₂ (λ xs ys. put_mid 30 2 (xs ++ 0 ∷ 0 ∷ []) ys) same two
+    ∙ word_behind bytes (big_bytes 2 word) h
+    ∙ ap (λ w. bytes ++ big_bytes 2 w) (word_checked bytes word fits bits)
+
+-- the CRC written over the last two of thirty-two bytes
+pub sealed_row : (row buf : List ℕ) (word : ℕ) → length row ≡ 32 → word < 65536
+    → low_bits 16 word ≡ check_bits (take 30 row)
+    → buf ≡ word / 256 % 256 ∷ word % 256 ∷ drop 2 (take 2 (drop 30 row))
+    → put_mid 30 2 row buf ≡ checked (take 30 row)
+sealed_row row buf word whole fits bits written =
+    let tail = take 2 (drop 30 row) in
+    let none : drop 2 tail ≡ [] = drop_all 2 tail (omega (arith, length-take 2 (drop 30 row))) in
+    let two : buf ≡ big_bytes 2 word = written ∙ ap (λ t. word / 256 % 256 ∷ word % 256 ∷ t) none in
+    let short : length (drop 30 row) ≤ 2 = omega (arith, length-drop 30 row, whole) in
+    let behind : drop 2 (drop 30 row) ≡ [] = drop_all 2 (drop 30 row) short in
+    ap₂ (λ xs ys. take 30 row ++ (xs ++ ys)) two behind
+    ∙ ap (λ t. take 30 row ++ t) (append-nil (big_bytes 2 word))
+    ∙ ap (λ w. take 30 row ++ big_bytes 2 w) (word_checked (take 30 row) word fits bits)
+
+-- the same over all bytes after thirty
+pub sealed_end : (row buf : List ℕ) (word : ℕ) → length row ≡ 32 → word < 65536
+    → low_bits 16 word ≡ check_bits (take 30 row)
+    → buf ≡ word / 256 % 256 ∷ word % 256 ∷ drop 2 (take (length row - 30) (drop 30 row))
+    → put_mid 30 (length row - 30) row buf ≡ checked (take 30 row)
+sealed_end row buf word whole fits bits written =
+    let two : length row - 30 ≡ 2 = omega (arith, whole) in
+    let put : buf ≡ word / 256 % 256 ∷ word % 256 ∷ drop 2 (take 2 (drop 30 row)) =
+    written ∙ ap (λ n. word / 256 % 256 ∷ word % 256 ∷ drop 2 (take n (drop 30 row))) two in
+    ap (λ n. put_mid 30 n row buf) two ∙ sealed_row row buf word whole fits bits put
+
+-- thirty-two bytes written over a piece of a longer list
+pub piece_into : (offset : ℕ) (bytes piece is : List ℕ) → piece ≡ is
+    → put_mid offset (offset + 32 - offset) bytes piece ≡ take offset bytes ++ (is ++ drop (offset + 32) bytes)
+piece_into offset bytes piece is same =
+    let count : offset + 32 - offset ≡ 32 = omega arith in
+    let behind : drop (offset + 32 - offset) (drop offset bytes) ≡ drop (offset + 32) bytes =
+    ap (λ n. drop n (drop offset bytes)) count ∙ drop-drop 32 offset bytes in
+    ap₂ (λ xs ys. take offset bytes ++ (xs ++ ys)) same behind
+
+-- the same if they get their CRC there
+pub sealed_into : (offset word : ℕ) (bytes row copied buf : List ℕ) → length row ≡ 32 → copied ≡ row → word < 65536
+    → low_bits 16 word ≡ check_bits (take 30 row)
+    → buf ≡ word / 256 % 256 ∷ word % 256 ∷ drop 2 (take (length copied - 30) (drop 30 copied))
+    → put_mid offset (offset + 32 - offset) bytes (put_mid 30 (length copied - 30) copied buf)
+    ≡ take offset bytes ++ (checked (take 30 row) ++ drop (offset + 32) bytes)
+sealed_into offset word bytes row copied buf whole same fits bits written =
+    let long : length copied ≡ 32 = ap length same ∙ whole in
+    let own : low_bits 16 word ≡ check_bits (take 30 copied) = bits ∙ ap (λ xs. check_bits (take 30 xs)) (sym same) in
+    piece_into offset bytes _ (checked (take 30 row)) (sealed_end copied buf word long fits own written ∙ ap (λ xs. checked (take 30 xs)) same)
+
+-- a FIG and the front of other bytes, thirty in all
+pub joined_len : (fig plain : List ℕ) → length fig ≤ 30 → length plain ≡ 32 → length (fig ++ take (30 - length fig) plain) ≡ 30
+joined_len fig plain few whole =
+    let cut : length (take (30 - length fig) plain) ≡ 30 - length fig = length-take-le (30 - length fig) plain (omega (arith, whole)) in
+    length-append fig (take (30 - length fig) plain) ∙ omega (arith, cut, few)
+
+pub joined_into : (offset : ℕ) (bytes fig plain joined rest sealed : List ℕ) → length fig ≤ 30 → length plain ≡ 32
+    → joined ≡ (fig ++ take (30 - length fig) plain) ++ rest → sealed ≡ checked (take 30 joined)
+    → put_mid offset (offset + 32 - offset) bytes sealed ≡ take offset bytes ++ (checked (fig ++ take (30 - length fig) plain) ++ drop (offset + 32) bytes)
+joined_into offset bytes fig plain joined rest sealed few whole is seals =
+    let thirty : List ℕ = fig ++ take (30 - length fig) plain in
+    piece_into offset bytes sealed (checked thirty)
+    (seals ∙ ap (λ xs. checked (take 30 xs)) is ∙ ap checked (take_at thirty rest 30 (joined_len fig plain few whole)))
+
+pub checked_len : (bytes : List ℕ) → length bytes ≡ 30 → length (checked bytes) ≡ 32
+checked_len bytes h = length-append bytes (big_bytes 2 (crc_value bytes)) ∙ omega (arith, h)

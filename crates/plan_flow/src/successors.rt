@@ -1,0 +1,69 @@
+//! The successors of an instruction.
+
+ghost use Rattle.std.specs.Prelude.{◌≡◌};
+ghost use Rattle.plan_flow.specs.Rules.{continues, suspends, target_of};
+
+use plan_code::Instr;
+
+/// Whether an instruction can continue to the one after it.
+pub fn continues(instr: Instr) -> bool
+    ensures { result ≡ continues instr }
+{
+    match instr {
+        Instr::Jump(_) => false,
+        Instr::End => false,
+        Instr::Edit(_) => true,
+        Instr::CommitIn(_) => true,
+        Instr::CommitAt(_) => true,
+        Instr::Wait(_) => true,
+        Instr::Until(_) => true,
+        Instr::WaitContact { .. } => true,
+        Instr::Join => true,
+        Instr::Settle => true,
+        Instr::Test { .. } => true,
+        Instr::Set { .. } => true,
+        Instr::Loop { .. } => true,
+    }
+}
+
+/// Whether the next instruction, if any, runs in a later frame.
+pub fn suspends(instr: Instr) -> bool
+    ensures { result ≡ suspends instr }
+{
+    match instr {
+        Instr::Wait(_) => true,
+        Instr::Until(_) => true,
+        Instr::WaitContact { .. } => true,
+        Instr::Join => true,
+        Instr::End => true,
+        Instr::Edit(_) => false,
+        Instr::CommitIn(_) => false,
+        Instr::CommitAt(_) => false,
+        Instr::Settle => false,
+        Instr::Test { .. } => false,
+        Instr::Jump(_) => false,
+        Instr::Set { .. } => false,
+        Instr::Loop { .. } => false,
+    }
+}
+
+/// The target of an instruction that can jump, as an index from 0.
+pub fn target_of(instr: Instr) -> Option<u16>
+    ensures { result ≡ target_of instr }
+{
+    match instr {
+        Instr::Test { target, .. } => Some(target),
+        Instr::Jump(target) => Some(target),
+        Instr::Loop { target, .. } => Some(target),
+        Instr::Edit(_) => None,
+        Instr::CommitIn(_) => None,
+        Instr::CommitAt(_) => None,
+        Instr::Wait(_) => None,
+        Instr::Until(_) => None,
+        Instr::WaitContact { .. } => None,
+        Instr::Join => None,
+        Instr::Settle => None,
+        Instr::Set { .. } => None,
+        Instr::End => None,
+    }
+}

@@ -1,0 +1,52 @@
+-- Progress: a typed code can always continue.
+use Rattle.std.proofs.Common.{◌≡◌, ℕ, ◌<◌, ◌≤◌, Bool, true, false, cond, [], ◌∷◌, Option, Some, None, refl, ap, ◌∙◌, arith}
+use Rattle.mux_config.specs.Configuration.{Configuration}
+use Rattle.fib_carousel.specs.Pages.{page_set, rounds}
+use Rattle.plan_code.specs.declared.plan.Plan.{Plan}
+use Rattle.plan_code.specs.Program.{Program, IsPlan}
+use Rattle.plan_code.specs.Machine.{State}
+use Rattle.plan_runs.specs.declared.event.Event.TheVariants.{Contact, Frame}
+use Rattle.plan_runs.specs.Frames.{ready, burst, after_burst, shown, is_noticed, with_next_counts, after_frame}
+use Rattle.plan_runs.specs.Runs.{happens}
+use Rattle.plan_runs.specs.TypedRuns.{IsPlayed}
+use Rattle.plan_runs.proofs.Knowledge.{IsOnAir, CommittedBy}
+use Rattle.plan_runs.proofs.Facts.{airs, code_of, played_holds}
+use Rattle.plan_runs.proofs.Reached.{reached_is_kept}
+use Rattle.plan_runs.proofs.TypedRuns.{typed_code_runs}
+use Rattle.plan_runs.proofs.Headline.{frames_can_be_sent}
+use Rattle.plan_player.specs.Positions.{Progress, with_notice_begun}
+
+-- what is sent takes at most the period
+few_by : (plan : Plan) (left : Option ℕ) (c n : Configuration) → IsPlan plan → IsOnAir plan c → CommittedBy plan left c n
+    → (b : Bool) → is_noticed plan.notice left ≡ b → rounds plan.mode (page_set c (cond b (Some n) None)) ≤ 60
+few_by plan None c n formed air committed true e = absurd cc
+few_by plan (Some l) c n formed air committed true e = omega (arith, committed.within_period, formed.period_to)
+few_by plan left c n formed air committed false e = omega (arith, air.within_period, formed.period_to)
+
+pub typed_code_progresses : Progress
+typed_code_progresses p s h =
+    let frame = (typed_code_runs p s (Frame ∷ []) h).allowed.0 in
+    let a = airs p h.typed.0 (code_of p s h) s (played_holds p s h) in
+    let t = shown p s in
+    record {
+      runs = record { steps = frame.steps; end = after_burst p s; within = frame.within; executes = frame.executes };
+      sent = frames_can_be_sent p s h;
+      few = few_by p.plan t.left t.current t.next h.program.planned a.on_air a.committed (is_noticed p.plan.notice t.left) refl;
+    }
+
+-- the state after a frame is again one that the code reaches
+pub frame_plays : (p : Program) (s : State) → IsPlayed p s → IsPlayed p (after_frame p s)
+frame_plays p s h = record { program = h.program; typed = h.typed; reached = reached_is_kept p s (Frame ∷ []) h.reached (tt, tt) }
+
+-- and so is the state after a contact is set
+pub contact_plays : (p : Program) (s : State) (c : ℕ) (closed : Bool) → c < 16 → IsPlayed p s → IsPlayed p (happens p s (Contact c closed))
+contact_plays p s c closed below h =
+    record { program = h.program; typed = h.typed; reached = reached_is_kept p s (Contact c closed ∷ []) h.reached (below, tt) }
+
+-- the steps of a frame, in sequence, make the frame
+pub frame_is_made : (p : Program) (plan : Plan) (s opened run begun end : State) → plan ≡ p.plan → opened ≡ ready s → run ≡ burst p.plan.budget p opened
+    → begun ≡ with_notice_begun plan run → end ≡ with_next_counts plan begun → end ≡ after_frame p s
+frame_is_made p plan s opened run begun end same opens runs begins ends =
+    let ran : run ≡ after_burst p s = runs ∙ ap (λ (t : State). burst p.plan.budget p t) opens in
+    let here : begun ≡ shown p s = begins ∙ ap (λ (q : Plan). with_notice_begun q run) same ∙ ap (λ (t : State). with_notice_begun p.plan t) ran in
+    ends ∙ ap (λ (q : Plan). with_next_counts q begun) same ∙ ap (λ (t : State). with_next_counts p.plan t) here

@@ -1,9 +1,0 @@
-use Rattle.std.proofs.Common.{ℕ, ◌*◌, ◌%◌, ap, ◌∙◌}
-use Rattle.std.proofs.Math.Nat.{mul_comm, mul-mod_left}
-use Rattle.plan_player.proofs.stretch.whole_turns.Goals as goal
-
-pub returns-clause-turns : goal.returns-clause-turns
-returns-clause-turns c = ap (λ (x : ℕ). c.args.step * x % c.args.pages) c.from-pages.ensures ∙ mul-mod_left c.args.step c.args.pages
-
-pub returns-clause-steps : goal.returns-clause-steps
-returns-clause-steps c = ap (λ (x : ℕ). x % c.args.step) (mul_comm c.args.step c.from-pages.result) ∙ mul-mod_left c.from-pages.result c.args.step

@@ -1,0 +1,12 @@
+-- The first tokens of commands. No public contract depends on them.
+use Rattle.std.specs.Prelude.{ℕ, List, codes}
+use Rattle.plan_session.specs.declared.commands.Keyword.{Keyword}
+use Rattle.plan_session.specs.declared.commands.Keyword.TheVariants.{Contact, Run, Next, Break, Clear, Show}
+
+abbrev pub keyword_text : Keyword → List ℕ
+keyword_text Contact = codes "contact"
+keyword_text Run = codes "run"
+keyword_text Next = codes "next"
+keyword_text Break = codes "break"
+keyword_text Clear = codes "clear"
+keyword_text Show = codes "show"

@@ -1,6 +1,0 @@
-use Rattle.script_meaning.specs.Compiled.{instrs_of}
-use Rattle.script_compiler.specs.Reaching.{Searched}
-use Rattle.script_compiler.proofs.cost.comes_back.Given as goal
-
-abbrev pub invariant-loop-step : goal.invariant-loop-step
-invariant-loop-step l = Searched (instrs_of l.lines) l.pc l._step l.reached.places.items l.reached.waiting.items

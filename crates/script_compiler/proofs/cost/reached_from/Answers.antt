@@ -1,0 +1,19 @@
+use Rattle.std.proofs.Common.{List, ℕ, ◌∙◌, sym, subst}
+use Rattle.plan_code.specs.declared.instr.Line.{Line}
+use Rattle.script_meaning.specs.Need.{StepsTo}
+use Rattle.script_meaning.specs.Compiled.{instrs_of}
+use Rattle.script_compiler.specs.Reaching.{GrowsBy}
+use Rattle.script_compiler.proofs.Cycles.{instrs_long, search_begins}
+use Rattle.script_compiler.proofs.Paths.{instr_at}
+use Rattle.script_compiler.proofs.cost.reached_from.Goals as goal
+
+pub returns : goal.returns
+returns c =
+    let lines = c.args.lines.now in
+    let pc = c.args.pc in
+    let line = c.index-lines-pc.result in
+    let ps = c.in_ok-no_flags.field-0.items in
+    let r = c.add_following.new.self in
+    let there = instr_at lines pc line c.index-lines-pc.is c.requires.within in
+    let grows = subst (λ (ws : List ℕ). GrowsBy ps r.places.items ws r.waiting.items (StepsTo line.instr pc)) c.new.ensures.items (subst (λ (l : Line). GrowsBy ps r.places.items c.new.result.items r.waiting.items (StepsTo l.instr pc)) (sym c.index-lines-pc.is) c.in_ok-add_following.ensures) in
+    search_begins (instrs_of lines) pc ps r.places.items r.waiting.items line.instr (c.in_ok-no_flags.ensures.long ∙ sym (instrs_long lines)) c.in_ok-no_flags.ensures.count there grows

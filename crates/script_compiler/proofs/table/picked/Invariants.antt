@@ -1,6 +1,0 @@
-use Rattle.std.proofs.Common.{◌≡◌, map, take}
-use Rattle.script_compiler.specs.Marked.{configuration_at}
-use Rattle.script_compiler.proofs.table.picked.Given as goal
-
-abbrev pub invariant-loop-number : goal.invariant-loop-number
-invariant-loop-number l = l.picked.items ≡ map (configuration_at l.configs) (take l.number-index l.numbers)

@@ -1,0 +1,6 @@
+use Rattle.std.proofs.Common.{◌≡◌, map, take}
+use Rattle.script_compiler.specs.Unpriced.{configuration_at}
+use Rattle.script_compiler.proofs.table.select.Given as goal
+
+abbrev pub invariant-loop-number : goal.invariant-loop-number
+invariant-loop-number l = l.select.items ≡ map (configuration_at l.configs) (take l.number-index l.numbers)

@@ -1,9 +1,0 @@
-use Rattle.std.proofs.Common.{refl}
-use Rattle.script_meaning.specs.Scheme.{place_of_instr}
-use Rattle.script_compiler.proofs.Spaces.{limits_map, space_back}
-use Rattle.script_compiler.proofs.work.Work.leave.Goals as goal
-
-pub returns-clause-limited : goal.returns-clause-limited
-returns-clause-limited c =
-    let w = c.args.self.now in
-    limits_map c.fork.result (λ at k past m n i ps space. past (place_of_instr m i n w.now) ps refl (space_back k w c.args.falls m n i ps c.if-not-falls.false space)) c.fork.ensures.limited

@@ -1,0 +1,31 @@
+use Rattle.std.proofs.Common.{List, ap, ◌∙◌, subst}
+use Rattle.script_meaning.specs.declared.flow.ProgramPoint.{ProgramPoint}
+use Rattle.script_compiler.specs.Pool.{AreNumbered}
+use Rattle.script_compiler.specs.Working.{Points, Work}
+use Rattle.script_compiler.proofs.Pooled.{both_numbered_in, all_in_pool, all_same}
+use Rattle.script_compiler.proofs.work.Work.point_here.Goals as goal
+
+pub invariant_of-self : goal.invariant_of-self
+invariant_of-self c =
+    let old = c.self.inside.unpriced.pool in
+    let new = c.numbered.new.unpriced.pool in
+    let kept = c.numbered.ensures.kept in
+    (both_numbered_in old new c.self.inside.numbers c.self.inside.now.flow kept c.self.invariant.0, all_in_pool old new c.self.inside.saved.items kept c.self.invariant.1)
+
+pub returns-in-Err-clause-saved : goal.returns-in-Err-clause-saved
+returns-in-Err-clause-saved c =
+    ap (λ (l : List ProgramPoint). let x : Points = record { items = l } in x) (all_same c.self.inside.unpriced.pool c.numbered.new.unpriced.pool c.self.inside.saved.items c.numbered.ensures.kept c.self.invariant.1)
+    ∙ ap (λ (v : Work). v.saved) c.self.view_is
+
+pub invariant_of-self-2 : goal.invariant_of-self-2
+invariant_of-self-2 c =
+    let old = c.self.inside.unpriced.pool in
+    let new = c.numbered.new.unpriced.pool in (
+      subst (λ (s : ProgramPoint). AreNumbered new c.numbers_of-self-inside.result s.flow) c.in-Ok.ensures.same (c.numbers_of-self-inside.ensures new c.in-Ok.ensures.within),
+      all_in_pool old new c.self.inside.saved.items c.numbered.ensures.kept c.self.invariant.1,
+    )
+
+pub returns-clause-saved : goal.returns-clause-saved
+returns-clause-saved c =
+    ap (λ (l : List ProgramPoint). let x : Points = record { items = l } in x) (all_same c.self.inside.unpriced.pool c.numbered.new.unpriced.pool c.self.inside.saved.items c.numbered.ensures.kept c.self.invariant.1)
+    ∙ ap (λ (v : Work). v.saved) c.self.view_is

@@ -1,0 +1,67 @@
+use Rattle.std.proofs.Common.{◌≡◌, if◌then◌else◌, List, [], ◌++◌, Some, None, length, sym, ap, ◌∙◌, subst, length-append}
+use Rattle.std.proofs.lemmas.List.{length-set}
+use Rattle.mux_config.specs.Configuration.{Configuration}
+use Rattle.std.specs.Prelude.{slice_set}
+use Rattle.plan_code.specs.declared.instr.Instr.TheVariants.{Jump, Test}
+use Rattle.plan_code.specs.declared.instr.Line.{Line}
+use Rattle.script_meaning.specs.declared.flow.ProgramPoint.{ProgramPoint}
+use Rattle.script_meaning.specs.Scheme.{PlacedInstr, alone, at_label, unpriced_labels, onward}
+use Rattle.script_meaning.specs.Compiled.{lines_of_placed}
+use Rattle.script_compiler.specs.Emission.{jumping, line_of_instr, points_of, way}
+use Rattle.script_compiler.specs.Unpriced.{UnpricedTable}
+use Rattle.script_compiler.specs.Working.{Lines, Points}
+use Rattle.script_compiler.specs.Pool.{point_in}
+use Rattle.script_compiler.specs.Space.{IsCovered}
+use Rattle.script_compiler.proofs.Pooled.{spot_same}
+use Rattle.script_compiler.proofs.Putting.{on_ok_map, snoc_front, snoc_last}
+use Rattle.script_compiler.proofs.Spaces.{limits_map, space_left, space_restored}
+use Rattle.script_compiler.proofs.work.Work.start_else.Goals as goal
+
+pub returns-clause-limited : goal.returns-clause-limited
+returns-clause-limited c =
+    let w = c.args.self.now in
+    let v = c.restore-entry.new.self in
+    let u = c.jump_past.new.self in
+    let x = c.patch.new.self in
+    let s = c.restore-entry.result in
+    limits_map c.unpriced_label.result (λ at k without_label front entry saved m n i ps space cover.
+    let point_here : point_in x.pool s ≡ point_in v.pool s = ap (λ (p : List Configuration). point_in p s) c.patch.ensures.pool ∙ spot_same v.pool u.pool s c.jump_past.ensures.pool c.restore-entry.ensures.within in
+    let same : point_in x.pool s ≡ entry = point_here ∙ snoc_last v.saved.items front (point_in v.pool s) entry (c.restore-entry.ensures.saved ∙ saved) in
+    let lines = ap (λ z. length z.items) c.take.ensures.lines ∙ ap length c.patch.ensures.lines ∙ length-set u.lines.items c.args.at _ ∙ ap length c.in_default.ensures.lines ∙ length-append v.lines.items _ in
+    let unpriced = ap (λ z. z.items) (c.take.ensures.unpriced ∙ c.patch.ensures.unpriced) ∙ c.in_default.ensures.unpriced in
+    let there = space_left k v _ c.args.falls c.args.line c.args.counters m n i ps lines unpriced (space_restored k v w c.args.falls m n i ps c.restore-entry.ensures.lines c.restore-entry.ensures.unpriced c.restore-entry.ensures.now space) in
+    without_label ps (subst (λ (z : ProgramPoint). IsCovered z.flow ps) (sym c.take.ensures.now) (subst (λ (z : ProgramPoint). IsCovered z.flow ps) (sym same) cover)) there) c.unpriced_label.ensures.limited
+
+pub returns-clause-starts_else : goal.returns-clause-starts_else
+returns-clause-starts_else c =
+    let w = c.args.self.now in
+    let v = c.restore-entry.new.self in
+    let u = c.jump_past.new.self in
+    let x = c.patch.new.self in
+    let s = c.restore-entry.result in
+    let f = c.args.falls in
+    let line = c.args.line in
+    let r = c.args.counters in
+    on_ok_map c.unpriced_label.result (λ now front entry saved.
+    let there = c.restore-entry.ensures.saved ∙ saved in
+    let point_here : point_in x.pool s ≡ point_in v.pool s = ap (λ (p : List Configuration). point_in p s) c.patch.ensures.pool ∙ spot_same v.pool u.pool s c.jump_past.ensures.pool c.restore-entry.ensures.within in
+    let same : point_in x.pool s ≡ entry = point_here ∙ snoc_last v.saved.items front (point_in v.pool s) entry there in
+    let jumps : jumping f line r v ≡ jumping f line r w = ap (λ (z : ProgramPoint). onward (if f then Some z else None) [] (alone line (Jump 0) r)) c.restore-entry.ensures.now in
+    let lines : u.lines.items ≡ w.lines.items ++ lines_of_placed (jumping f line r w) =
+    c.in_default.ensures.lines ∙ ap (λ (l : Lines). l.items ++ lines_of_placed (jumping f line r v)) c.restore-entry.ensures.lines ∙ ap (λ (ps : List PlacedInstr). w.lines.items ++ lines_of_placed ps) jumps in
+    record {
+      lines =
+          ap (λ (l : Lines). l.items) (c.unpriced_label.ensures.lines ∙ c.take.ensures.lines) ∙ c.patch.ensures.lines
+          ∙ ap (λ n. slice_set u.lines.items c.args.at (line_of_instr line (Test c.args.contact n))) c.len-target.ensures
+          ∙ ap (λ (l : List Line). slice_set l c.args.at (line_of_instr line (Test c.args.contact (length l)))) lines;
+      unpriced =
+          ap (λ (m : UnpricedTable). m.items) (c.unpriced_label.ensures.unpriced ∙ c.take.ensures.unpriced ∙ c.patch.ensures.unpriced) ∙ c.in_default.ensures.unpriced
+          ∙ ap (λ (m : UnpricedTable). m.items ++ unpriced_labels (length v.lines.items) (jumping f line r v)) c.restore-entry.ensures.unpriced
+          ∙ ap (λ (l : Lines). w.unpriced.items ++ unpriced_labels (length l.items) (jumping f line r v)) c.restore-entry.ensures.lines
+          ∙ ap (λ (ps : List PlacedInstr). w.unpriced.items ++ unpriced_labels (length w.lines.items) ps) jumps;
+      now = now ∙ ap (λ (z : ProgramPoint). at_label z.flow) c.take.ensures.now ∙ ap (λ (z : ProgramPoint). at_label z.flow) same;
+      saved =
+          ap (λ (l : Points). l.items) (c.unpriced_label.ensures.saved ∙ c.take.ensures.saved ∙ c.patch.ensures.saved) ∙ c.in_default.ensures.saved
+          ∙ ap (λ (l : List ProgramPoint). l ++ points_of (way f v)) (snoc_front v.saved.items front (point_in v.pool s) entry there)
+          ∙ ap (λ (z : ProgramPoint). front ++ points_of (if f then Some z else None)) c.restore-entry.ensures.now;
+    }) c.unpriced_label.ensures.now
