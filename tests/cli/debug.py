@@ -17,7 +17,7 @@ def line(frames, steps, pc, line_number, count, remaining="none"):
     return f"frames {frames} steps {steps} pc {pc} line {line_number} count {count} remaining {remaining}\n"
 
 
-def a_change_of_rate_led_by_commands(rows):
+def a_change_of_rate_by_commands(rows):
     """A break line, a contact, the next line, and the announcements sent."""
     wanted = (
         line(0, 0, 0, 8, 0) + line(1, 1, 1, 9, 1) + "break\n" + line(0, 1, 1, 9, 1) + line(2, 0, 4, 12, 3, 25)
@@ -79,10 +79,10 @@ def announcements_are_kept(rows):
     for commands, first, last in (("run 4 show break 5", 0, 0), ("run 253", 0, 252), ("run 253 run 20", 20, 272),
                                   ("run 253 run 20 run 4", 24, 276)):
         ended = rows.run("debug x.code x.commands", {"x.code": file, "x.commands": f"{commands} show"})
-        told = [each for each in ended.printed.decode().splitlines()[::-1] if each.startswith("announced")]
-        told = told[:(last - first) // 4 + 1][::-1]
+        reported = [each for each in ended.printed.decode().splitlines()[::-1] if each.startswith("announced")]
+        reported = reported[:(last - first) // 4 + 1][::-1]
         wanted = [f"announced {count} swap {(count // 24 + 1) * 24 % 250} change 1" for count in range(first, last + 1, 4)]
-        rows.tally.same(commands, wanted, told)
+        rows.tally.same(commands, wanted, reported)
         rows.tally.same(f"no more after {commands}", (last - first) // 4 + 1,
                         len(ended.printed.decode().split("frames")[-1].splitlines()) - 1)
 
@@ -113,5 +113,5 @@ def files_that_cannot_be_had(rows):
 
 
 if __name__ == "__main__":
-    rows.main([a_change_of_rate_led_by_commands, few_commands, contacts, a_loop_of_three, frames_of_the_day,
+    rows.main([a_change_of_rate_by_commands, few_commands, contacts, a_loop_of_three, frames_of_the_day,
                break_lines, announcements_are_kept, faults_in_their_order, files_that_cannot_be_had])

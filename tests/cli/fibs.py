@@ -10,11 +10,11 @@ TUNED, NOTICED = "05 00 E1 C5 00 00", "06 00 E1 C5 40 04 1C"
 
 # Sub-channel 1 at 0 by 3-A with 96, 72 and 48 capacity units, and its listing lines.
 SUB_96, SUB_72, SUB_48 = "04 00 88 60", "04 00 88 48", "04 00 88 30"
-TOLD_96, TOLD_72, TOLD_48 = (f"sub 1 at 0 size {size} eep 3-A\n" for size in (96, 72, 48))
+LISTED_96, LISTED_72, LISTED_48 = (f"sub 1 at 0 size {size} eep 3-A\n" for size in (96, 72, 48))
 RADIO = "service C221\n  audio 63 sub 1 primary\n"
 
 
-def told(rows, data, current, following="", swap="no swap", damaged=0):
+def reported(rows, data, current, following="", swap="no swap", damaged=0):
     """The listing of FIBs: the current and the next lines."""
     wanted = f"fibs {len(data) // 32} damaged {damaged}\ncurrent\n{current}next\n{following}{swap}\n"
     rows.answers("listen x.fib", 0, wanted, {"x.fib": data})
@@ -49,9 +49,9 @@ def whole_and_damaged(rows):
         *((f"{front}FF", 0) for front in filled), *((f"{front}{0x3D - place:02X}", 0) for place, front in enumerate(filled)),
         *((f"{front}{0x3E - place:02X}", 1) for place, front in enumerate(filled)),
     ):
-        told(rows, stream(data), "", damaged=damaged)
+        reported(rows, stream(data), "", damaged=damaged)
     # FIG 0/0 with flags, C/N 1 and P/D 1
-    told(rows, stream("06 A0 E1 C5 D3 F2 FF FF"), "", swap="swap at low 255")
+    reported(rows, stream("06 A0 E1 C5 D3 F2 FF FF"), "", swap="swap at low 255")
 
 
 def each_turned_bit(rows):
@@ -61,10 +61,10 @@ def each_turned_bit(rows):
     good = fib(swap)
     turned = b"".join(bytes(byte ^ (1 << bit if at == place else 0) for at, byte in enumerate(good))
                       for place in range(32) for bit in range(8))
-    told(rows, known + turned, TOLD_96 + RADIO, TOLD_72, "swap at low 28", damaged=256)
+    reported(rows, known + turned, LISTED_96 + RADIO, LISTED_72, "swap at low 28", damaged=256)
     # the same before half an entry, and before an end marker
-    told(rows, known + fib(f"{swap} 02 02 C2"), TOLD_96 + RADIO, TOLD_72, "swap at low 28", damaged=1)
-    told(rows, known + fib(f"{swap} FF 02 C2"), TOLD_72 + "sub 2 at 96 size 72 eep 3-A\n", TOLD_48)
+    reported(rows, known + fib(f"{swap} 02 02 C2"), LISTED_96 + RADIO, LISTED_72, "swap at low 28", damaged=1)
+    reported(rows, known + fib(f"{swap} FF 02 C2"), LISTED_72 + "sub 2 at 96 size 72 eep 3-A\n", LISTED_48)
 
 
 def passed_over(rows):
@@ -73,12 +73,12 @@ def passed_over(rows):
              *(f"{header} 01 {SUB_96} FF" for header in ("25", "45", "65", "85", "A5", "C5", "E5")),
              *(f"05 {ext:02X} {SUB_96} FF" for ext in (*range(4, 32), *range(0x40, 0x44))))
     for data in other:
-        told(rows, stream(f"{TUNED} FF", data), "")
+        reported(rows, stream(f"{TUNED} FF", data), "")
     first, second = "sub 1 at 0 switch 0 table 5\n", "sub 2 at 96 switch 0 table 5\n"
     before = ("04 01 04 00 05 FF", f"04 01 04 00 05 {TUNED} 04 01 08 60 05 FF")
-    told(rows, stream(before[0]), "")
-    told(rows, stream(*before), second)
-    told(rows, stream(*before, before[0]), first + second)
+    reported(rows, stream(before[0]), "")
+    reported(rows, stream(*before), second)
+    reported(rows, stream(*before, before[0]), first + second)
 
 
 def each_field(rows):
@@ -86,7 +86,7 @@ def each_field(rows):
     for data, wanted in (
         ("05 01 FC DE 80 18", "sub 63 at 222 size 24 eep 1-A\n"), ("04 01 04 00 23", "sub 1 at 0 switch 0 table 35\n"),
         ("04 01 08 60 45", "sub 2 at 96 switch 1 table 5\n"), ("05 01 08 60 FC 60", "sub 2 at 96 size 96 option 7 level 4\n"),
-        ("05 01 04 00 A8 60", "sub 1 at 0 size 96 option 2 level 3\n"), (f"05 21 {SUB_96}", TOLD_96),
+        ("05 01 04 00 A8 60", "sub 1 at 0 size 96 option 2 level 3\n"), (f"05 21 {SUB_96}", LISTED_96),
         ("06 03 00 00 BC 14 07", "packet 0 raw type 60 sub 5 address 7\n"),
         ("08 03 12 3B 7C 17 FF AB CD", "packet 291 groups type 60 sub 5 address 1023\n"),
         ("06 23 12 30 3C 14 01", "packet 291 groups type 60 sub 5 address 1\n"),
@@ -94,13 +94,13 @@ def each_field(rows):
         ("0A 02 C2 22 03 3F 0A C0 00 BF FF", "service C222\n  audio 63 sub 2 primary\n  packet 0 secondary\n  other BFFF\n"),
         ("08 22 E1 C2 00 01 01 C0 06", "service E1C20001\n  packet 1 primary\n"),
     ):
-        told(rows, stream(f"{TUNED} {data} FF"), wanted)
+        reported(rows, stream(f"{TUNED} {data} FF"), wanted)
 
 
 def later_entries_replace_earlier_ones(rows):
     """A sub-channel again, in the other form and at another rate; a long identifier of the same number is another service."""
     later = f"08 01 04 00 05 {SUB_72} 06 22 00 00 C2 21 00 FF"
-    told(rows, stream(ONE_PROGRAMME[0], later), TOLD_72 + RADIO + "service 0000C221\n")
+    reported(rows, stream(ONE_PROGRAMME[0], later), LISTED_72 + RADIO + "service 0000C221\n")
 
 
 def no_configuration(rows):
@@ -121,9 +121,9 @@ def a_full_picture(rows):
     fits = f"06 02 C2 07 01 3F 06 05 01 {SUB_96} 06 03 00 10 3C 14 01 FF"
     known = wanted.replace("service C207\n", "service C207\n  audio 63 sub 1 primary\n")
     for more in (stream(fits), stream(fits, fits), stream("04 02 C2 07 00 FF", fits)):
-        told(rows, full + more, TOLD_96 + known + "packet 1 groups type 60 sub 5 address 1\n")
-    told(rows, full + stream("04 82 C2 40 00 FF"), wanted, "service C240\n")
-    told(rows, stream(f"{TUNED} FF", *services[:61], "0D 02 C2 50 00 C2 51 00 C2 52 00 C2 50 00 FF"),
+        reported(rows, full + more, LISTED_96 + known + "packet 1 groups type 60 sub 5 address 1\n")
+    reported(rows, full + stream("04 82 C2 40 00 FF"), wanted, "service C240\n")
+    reported(rows, stream(f"{TUNED} FF", *services[:61], "0D 02 C2 50 00 C2 51 00 C2 52 00 C2 50 00 FF"),
          "".join(f"service C2{number:02X}\n" for number in (*range(61), 0x50, 0x51, 0x52)))
     four = stream(f"{TUNED} FF", *services[:61], "0D 02 C2 50 00 C2 51 00 C2 52 00 C2 53 00 FF")
     for data in (full + stream(f"05 01 {SUB_96} 04 02 C2 40 00 FF"), four,
@@ -133,7 +133,7 @@ def a_full_picture(rows):
     of_next = [f"06 83 {number // 16:02X} {number % 16 * 16:02X} 3C 14 01 FF" for number in range(65)]
     notice = "06 00 E1 C5 C0 04 1C FF"
     packets = [f"packet {number} groups type 60 sub 5 address 1\n" for number in range(65)]
-    told(rows, stream(notice, *of_next[:64], "05 00 E1 C5 00 1C 06 83 04 00 3C 14 01 FF"), "".join(packets[:64]), packets[64])
+    reported(rows, stream(notice, *of_next[:64], "05 00 E1 C5 00 1C 06 83 04 00 3C 14 01 FF"), "".join(packets[:64]), packets[64])
     rows.answers("listen x.fib", 1, "refused: Full\n", {"x.fib": stream(notice, *of_next)})
 
 
@@ -141,7 +141,7 @@ def entries_ascend(rows):
     """In whatever order they are received."""
     numbers = [turn * 37 % 64 for turn in range(64)]
     data = stream(f"{TUNED} FF", *(f"04 02 {0xC0 | number // 16:02X} {number % 16 * 16:02X} 00 FF" for number in numbers))
-    told(rows, data, "".join(f"service {0xC000 + 16 * number:04X}\n" for number in range(64)))
+    reported(rows, data, "".join(f"service {0xC000 + 16 * number:04X}\n" for number in range(64)))
 
 
 def swaps(rows):
@@ -152,11 +152,11 @@ def swaps(rows):
     later = f"06 00 E1 C5 40 18 1C 05 81 {SUB_72} FF"
     swap = f"06 00 E1 C5 C0 1C 34 05 81 {SUB_48} FF"
     after = f"05 00 E1 C5 00 3C 05 01 {SUB_48} FF"
-    told(rows, stream(first, notice), TOLD_96 + RADIO, TOLD_72, "swap at low 28")
-    told(rows, stream(first, notice, later), TOLD_96 + RADIO, TOLD_72, "swap at low 28")
-    told(rows, stream(first, notice, later, swap), TOLD_72, TOLD_48, "swap at low 52")
-    told(rows, stream(first, notice, later, swap, after), TOLD_48)
-    told(rows, stream(f"{TUNED} FF", "06 00 E1 C5 80 04 08 04 82 C2 21 00 05 00 E1 C5 00 08 FF"), "service C221\n")
+    reported(rows, stream(first, notice), LISTED_96 + RADIO, LISTED_72, "swap at low 28")
+    reported(rows, stream(first, notice, later), LISTED_96 + RADIO, LISTED_72, "swap at low 28")
+    reported(rows, stream(first, notice, later, swap), LISTED_72, LISTED_48, "swap at low 52")
+    reported(rows, stream(first, notice, later, swap, after), LISTED_48)
+    reported(rows, stream(f"{TUNED} FF", "06 00 E1 C5 80 04 08 04 82 C2 21 00 05 00 E1 C5 00 08 FF"), "service C221\n")
 
 
 def another_multiplexer(rows):
@@ -170,12 +170,12 @@ def another_multiplexer(rows):
                 "service C222\n  audio 63 sub 2 primary\n  packet 0 secondary\nservice C224\n  audio 63 sub 2 primary\n"
                 "service E1C20001\n  packet 1 primary\n")
     packets = "packet 0 raw type 60 sub 5 address 7\npacket 1 groups type 60 sub 5 address 1023\n"
-    told(rows, data, "sub 1 at 0 switch 0 table 35\n" + subs + services + packets)
-    told(rows, data + stream(f"05 01 {SUB_96} FF"), TOLD_96 + subs + services + packets)
+    reported(rows, data, "sub 1 at 0 switch 0 table 35\n" + subs + services + packets)
+    reported(rows, data + stream(f"05 01 {SUB_96} FF"), LISTED_96 + subs + services + packets)
     labels = hexadecimal(
         "35 01 C2 21 4F 6E 65 20 20 20 20 20 20 20 20 20 20 20 20 20 FF 00 05 01 FC DE 80 18 FF 00 C3 92"
         "08 22 E1 C2 00 01 01 C0 06 0B 03 00 00 BC 14 07 00 10 3C 17 FF 08 28 E1 C2 00 01 00 80 01 0A BC")
-    told(rows, stream(f"{TUNED} FF") + labels, subs.splitlines(True)[-1] + "service E1C20001\n  packet 1 primary\n" + packets)
+    reported(rows, stream(f"{TUNED} FF") + labels, subs.splitlines(True)[-1] + "service E1C20001\n  packet 1 primary\n" + packets)
 
 
 if __name__ == "__main__":

@@ -33,13 +33,13 @@ class Playback:
 
     def current(self, frame):
         """The current configuration in this frame."""
-        return [told for first, told in self.swaps if first <= frame][-1]
+        return [reported for first, reported in self.swaps if first <= frame][-1]
 
-    def hears(self, first, end):
+    def decodes(self, first, end):
         """A listener of the frames from one up to another knows the current configuration in the last of them."""
-        told = self.rows.run("listen x.fib", {"x.fib": self.bytes[32 * self.fibs * first:32 * self.fibs * end]})
-        told = told.printed.decode().split("current\n")[-1].split("next\n")[0]
-        self.rows.tally.same(f"frames {first} to {end} from count {self.count}", self.current(end - 1), told)
+        reported = self.rows.run("listen x.fib", {"x.fib": self.bytes[32 * self.fibs * first:32 * self.fibs * end]})
+        reported = reported.printed.decode().split("current\n")[-1].split("next\n")[0]
+        self.rows.tally.same(f"frames {first} to {end} from count {self.count}", self.current(end - 1), reported)
 
     def is_heard(self):
         """A listener that is started at any frame knows the current configuration after each period of a phase that it was
@@ -49,10 +49,10 @@ class Playback:
             tuned = next(frame for frame in range(first, self.frames) if (self.count + frame) % 5000 % self.step == 0)
             end = tuned + self.period
             if not any(tuned < begin < end for begin in begins):
-                self.hears(first, end)
+                self.decodes(first, end)
             for notice, (swap, _) in zip(self.notices, self.swaps[1:]):
                 if tuned <= notice:
-                    self.hears(first, swap + 1)
+                    self.decodes(first, swap + 1)
 
 
 def first_swaps(rows):

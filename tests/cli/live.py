@@ -23,10 +23,10 @@ def played(rows, code, text, options=""):
     return rows.made("x.fib")
 
 
-def live(rows, code, lines, options, status, written, told):
+def live(rows, code, lines, options, status, written, reported):
     """A code driven by these bytes ends with this output."""
     ended = rows.run(f"live x.code {options}", {"x.code": hexadecimal(code)}, lines)
-    rows.tally.same(f"live {lines[:60]} {options}", (status, written, told), (*ended.lines(), ended.messages.decode()))
+    rows.tally.same(f"live {lines[:60]} {options}", (status, written, reported), (*ended.lines(), ended.messages.decode()))
 
 
 def lines_are_played(rows):
@@ -50,9 +50,9 @@ def frames_are_skipped(rows):
 
 def a_plan_ends(rows):
     """The end is reported once, in the frame that executes it."""
-    for options, told in (("", "frame 0 count 0 end\n"), ("--count 4999", "frame 0 count 4999 end\n")):
+    for options, reported in (("", "frame 0 count 0 end\n"), ("--count 4999", "frame 0 count 4999 end\n")):
         wanted = played(rows, NOTHING_FILE, "frames 3", options)
-        live(rows, NOTHING_FILE, b"frames 1\nframes 2\n", f"{options} --status", 0, wanted, told)
+        live(rows, NOTHING_FILE, b"frames 1\nframes 2\n", f"{options} --status", 0, wanted, reported)
 
 
 def bad_lines_do_nothing(rows):
@@ -71,24 +71,24 @@ def bad_lines_do_nothing(rows):
 
 def it_does_not_begin(rows):
     """The faults of `play`, in its order and with its texts; no line is read."""
-    for code, options, told in (
+    for code, options, reported in (
         ("44 41 42 50", "", "code: Truncated"), (RATES_FILE.replace("44 41", "45 41", 1), "", "code: Magic"),
         (REFUSED_FILE, "--count 5000", "refused at 0 line 1: JoinIdle"),
         (RATES_FILE, "--count 5000 --day 3600000", "start: Count"), (RATES_FILE, "--day 3600000", "start: Day"),
     ):
-        live(rows, code, b"frames 1\nframe\n", options, 1, b"", told + "\n")
+        live(rows, code, b"frames 1\nframe\n", options, 1, b"", reported + "\n")
     ended = rows.run("live absent.code", {}, b"frames 1\n")
     rows.tally.same("no code", (1, b"", b"cannot read absent.code\n"), (*ended.lines(), ended.messages))
 
 
 def the_output_fails(rows):
     """The written frames are reported, not counting those skipped; no further line is read."""
-    for options, told in (("", ""), ("--skip 3 --status", "")):
+    for options, reported in (("", ""), ("--skip 3 --status", "")):
         rows.run("", {"x.code": hexadecimal(RATES_FILE)})
         with open("/dev/full", "wb") as full:
             ended = subprocess.run([rows.program, "live", "x.code", *options.split()], cwd=rows.folder, stdout=full,
                                    input=b"frames 5\nframe\n", stderr=subprocess.PIPE, check=False)
-        rows.tally.same(f"live into /dev/full {options}", (1, f"{told}write failed after 0 frames and 0 bytes\n".encode()),
+        rows.tally.same(f"live into /dev/full {options}", (1, f"{reported}write failed after 0 frames and 0 bytes\n".encode()),
                         (ended.returncode, ended.stderr))
 
 
@@ -108,7 +108,7 @@ def each_line_comes_out(rows):
         rows.tally.same("it waits", None, job.poll())
         job.stdin.close()
         rows.tally.same("and ends", 0, job.wait())
-        rows.tally.same("and told", b"line 2: 1: Expected\n", job.stderr.read())
+        rows.tally.same("and reported", b"line 2: 1: Expected\n", job.stderr.read())
 
 
 def until(day):

@@ -168,20 +168,20 @@ def try_lines(tally, program, folder, seed, times):
     """Lines with random changes are played without those that are reported as bad, as `play` plays the others."""
     lines = b"frames 1\ncontact 3 closed # a comment\nframes 30\n\ncontact 3 open; frames 9\nframes 7 contact 4 open\n"
     chance = random.Random(seed)
-    told = 0
+    reported = 0
     for _ in range(times):
         content = mutated(chance, lines)
         ended = common.run([program, "live", "small.code"], folder, stdin=content)
         bad = [BAD_LINE.fullmatch(line) for line in ended.messages.decode().splitlines()]
         tally.hold(all(bad) and ended.status == 0, f"lines, seed {seed}: {content.hex()}: {ended.lines()} {ended.messages}")
         numbers = {int(found[1]) for found in bad if found}
-        told += len(numbers)
+        reported += len(numbers)
         good = [line for number, line in enumerate(content.split(b"\n"), 1) if number not in numbers]
         common.write(folder, "a.events", b"\n".join(good))
         played = common.run([program, "play", "small.code", "a.events", "b.fib"], folder)
         tally.hold(played.status == 0, f"lines, seed {seed}: {content.hex()}: {played.lines()}")
         tally.same(f"lines, seed {seed}: {content.hex()}", open(f"{folder}/b.fib", "rb").read(), ended.printed)
-    print(f"lines: {times} texts with random changes, {told} lines told as bad", flush=True)
+    print(f"lines: {times} texts with random changes, {reported} lines reported as bad", flush=True)
 
 
 def main():

@@ -60,13 +60,13 @@ class Failing:
         pathlib.Path(self.folder, "x.out").unlink(missing_ok=True)
         environment = dict(os.environ, LD_PRELOAD=str(self.library))
         environment.update({f"FAIL_{name.upper()}": str(value) for name, value in settings.items()})
-        with tempfile.TemporaryFile() as told:
-            environment["FAIL_TELLS"] = str(told.fileno())
+        with tempfile.TemporaryFile() as reported:
+            environment["FAIL_TELLS"] = str(reported.fileno())
             given = self.record if stdin is None else stdin
             ended = common.run([self.program, *line.split()], self.folder, given, environment=environment,
-                               pass_fds=(told.fileno(),))
-            told.seek(0)
-            return ended, told.read().decode()
+                               pass_fds=(reported.fileno(),))
+            reported.seek(0)
+            return ended, reported.read().decode()
 
     def is_made(self):
         """Whether the last command left its file."""
@@ -137,12 +137,12 @@ def try_live_writes(tally, failing):
     notes = [(int(note.split()[1]), note) for note in whole.messages.splitlines(keepends=True)]
     for number in range(90):
         frames, part = number // 3, number % 3 * 40
-        told = b"".join(note for frame, note in notes if frame < frames)
-        told += f"write failed after {frames} frames and {part} bytes\n".encode()
+        reported = b"".join(note for frame, note in notes if frame < frames)
+        reported += f"write failed after {frames} frames and {part} bytes\n".encode()
         for error in (EIO, EINTR, 0):
             ended, calls = failing.run(LIVE, LINES, takes=40, after=number, **{"as": error})
             what = f"{LIVE}: write {number + 1} fails as {error}"
-            tally.same(what, (1, whole.printed[:FRAME * frames + part], told), (*ended.lines(), ended.messages))
+            tally.same(what, (1, whole.printed[:FRAME * frames + part], reported), (*ended.lines(), ended.messages))
             tally.same(f"{what}: writes", number + 1, calls.count("w"))
 
 

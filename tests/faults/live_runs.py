@@ -97,13 +97,13 @@ def try_garbage(tally, program, folder, source):
     """A million lines of garbage change nothing, and each is reported."""
     some = [garbage(source) for _ in range(1000)]
     lines = (b"\n".join(some) + b"\nframes 1\n") * 1000
-    status, written, told, _ = measured(program, folder, lines)
+    status, written, reported, _ = measured(program, folder, lines)
     alone = measured(program, folder, b"frames 1\n" * 1000)
     memory = least_memory(program, folder, lines)
     least = least_memory(program, folder, b"frames 1\n" * 1000)
-    tally.same("a million lines of garbage", (0, alone[1], 1_000_000), (status, written, len(told)))
+    tally.same("a million lines of garbage", (0, alone[1], 1_000_000), (status, written, len(reported)))
     tally.same("the first and the last of them", [(b"line", b"1:", b"Byte"), (b"line", b"1000999:", b"Byte")],
-               [(*line.split()[:2], line.split()[-1]) for line in (told[0], told[-1])])
+               [(*line.split()[:2], line.split()[-1]) for line in (reported[0], reported[-1])])
     tally.hold(memory <= least + 256, f"garbage takes {memory} KB, without it {least} KB")
 
 
@@ -112,9 +112,9 @@ def try_memory(tally, program, folder):
     least = least_memory(program, folder, b"frames 1\n", "--skip", "4000000000")
     for what, lines in (("a million lines", b"frames 1\n" * 1_000_000), ("ten million frames", b"frames 1000000\n" * 10),
                         ("a line of 100 MB", b"x" * 100_000_000 + b"\nframes 1")):
-        status, written, told, _ = measured(program, folder, lines, "--skip", "4000000000")
+        status, written, reported, _ = measured(program, folder, lines, "--skip", "4000000000")
         wanted = [b"line 1: Limit"] if what == "a line of 100 MB" else []
-        tally.same(what, (0, b"", wanted), (status, written, told))
+        tally.same(what, (0, b"", wanted), (status, written, reported))
         memory = least_memory(program, folder, lines, "--skip", "4000000000")
         tally.hold(memory <= least + 256, f"{what}: {memory} KB, a line {least} KB")
     full = measured(program, folder, b"frames 1 " * 7281 + b"\n", "--skip", "4000000000")
@@ -147,10 +147,10 @@ def try_ends(tally, program, folder):
     for redirection in ("<&-", "<."):
         ended = common.run(["bash", "-c", f"'{program}' live '{CODE}' {redirection}"], folder)
         tally.same(f"live {redirection}", (1, b"", b"cannot read -\n"), (*ended.lines(), ended.messages))
-    line = f"trap '' PIPE; printf 'frames 9\\nframes 9999\\nframe\\n' | '{program}' live '{CODE}' 2>told | head -c 500 >live.fib"
+    line = f"trap '' PIPE; printf 'frames 9\\nframes 9999\\nframe\\n' | '{program}' live '{CODE}' 2>reported | head -c 500 >live.fib"
     common.run(["bash", "-c", line], folder)
-    told = pathlib.Path(folder, "told").read_text(encoding="utf-8")
-    tally.hold(told.startswith("write failed after ") and told.count("\n") == 1, f"a reader that goes away: {told!r}")
+    reported = pathlib.Path(folder, "reported").read_text(encoding="utf-8")
+    tally.hold(reported.startswith("write failed after ") and reported.count("\n") == 1, f"a reader that goes away: {reported!r}")
 
 
 def main():

@@ -61,10 +61,10 @@ def requests(library, words, folder, goes_on, between, stdin=b"", made=()):
             environment["REFUSE_GOES_ON"] = "1"
         if between:
             environment["REFUSE_BETWEEN"] = "1"
-        with tempfile.TemporaryFile() as told:
-            environment["REFUSE_TELLS"] = str(told.fileno())
-            ended = common.run(words, folder, stdin, environment=environment, pass_fds=(told.fileno(),))
-            is_refused = os.fstat(told.fileno()).st_size > 0
+        with tempfile.TemporaryFile() as reported:
+            environment["REFUSE_TELLS"] = str(reported.fileno())
+            ended = common.run(words, folder, stdin, environment=environment, pass_fds=(reported.fileno(),))
+            is_refused = os.fstat(reported.fileno()).st_size > 0
         yield number, ended, is_refused
 
 
@@ -185,8 +185,8 @@ def try_live(tally, library, program, folder):
                 is_whole = (*ended.lines(), ended.messages) == (*whole.lines(), whole.messages)
                 without += is_refused and is_whole
                 if is_refused and not (is_whole and not goes_on):
-                    told = ended.messages.removesuffix(b"no memory\n")
-                    holds = (ended.status == 1 and ended.messages.endswith(b"no memory\n") and whole.messages.startswith(told)
+                    reported = ended.messages.removesuffix(b"no memory\n")
+                    holds = (ended.status == 1 and ended.messages.endswith(b"no memory\n") and whole.messages.startswith(reported)
                              and whole.printed.startswith(ended.printed) and len(ended.printed) % 96 == 0)
                     tally.hold(holds, f"{shown}, request {number} refused: {ended.lines()} {ended.messages}")
                 else:
