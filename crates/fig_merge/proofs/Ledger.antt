@@ -1,0 +1,285 @@
+-- What becomes of the FIGs that are taken.
+use Rattle.std.proofs.Common.{◌≡◌, ℕ, ◌+◌, ◌-◌, ◌^◌, ◌≤◌, ◌<◌, leb, ltb, cond, Bool, true, false, ◌||◌, inl, inr, List, [], ◌∷◌, ◌++◌, length, ◌⊎◌, refl, sym, ap, subst, subst₂, ◌∙◌, arith, append_assoc, append-nil, length-append}
+use Rattle.std.proofs.lemmas.Bool.{cond-true, cond-false, lt-ltb, le-ltb, ltb-true, leb-true, leb-false, cases_lt}
+use Rattle.std.proofs.lemmas.Slice.Eq.{bytes_eq-Decides}
+use Rattle.std.specs.Prelude.{Some, None}
+use Rattle.std.specs.List.{AllByRecursion}
+use Rattle.std.specs.Str.{bytes_eq}
+use Rattle.stream_check.specs.Frames.{Fib, Reading}
+use Rattle.fig_merge.specs.Taking.{Merging, nothing_taken, most, limited, waits, with_fig, with_figs, taken_in, taken_of, after_take}
+use Rattle.fig_merge.specs.Filling.{room_of, carried_in, left_in, carried_by, after_fill}
+use Rattle.fig_merge.specs.Steps.{Step, Take, Fill, after_step, after_steps, taken_at, carried_at, repeated_of, dropped_of, all_taken, all_carried, all_repeated, all_dropped, times, AreDifferent, AllAreAccounted, Go, TheLongestWaitingGoes}
+use Rattle.fig_merge.proofs.Passing.{few_left}
+
+-- ---- a measure of lists: how long they are, or how often they have some bytes
+record IsMeasure (size : List (List ℕ) → ℕ) : Type 0 where
+  none : size [] ≡ 0
+  more : (fig : List ℕ) (figs : List (List ℕ)) → size (fig ∷ figs) ≡ size (fig ∷ []) + size figs
+
+both : (size : List (List ℕ) → ℕ) → IsMeasure size → (xs ys : List (List ℕ)) → size (xs ++ ys) ≡ size xs + size ys
+both size is [] ys = omega (arith, is.none)
+both size is (x ∷ xs) ys = omega (arith, is.more x (xs ++ ys), is.more x xs, both size is xs ys)
+
+lengths : IsMeasure length
+lengths = record { none = refl; more = λ fig figs. omega arith }
+
+how_often : (fig : List ℕ) → IsMeasure (times fig)
+how_often fig = record { none = refl; more = λ x xs. omega arith }
+
+-- ---- a FIG that is taken
+fate_by : (size : List (List ℕ) → ℕ) → IsMeasure size → (there room : Bool) (fig : List ℕ) (m one other : Merging) → one.waiting ≡ m.waiting ++ fig ∷ [] → other.waiting ≡ m.waiting
+    → size (fig ∷ []) + size m.waiting
+    ≡ size (cond there m (cond room one other)).waiting + size (cond there (fig ∷ []) []) + size (cond there [] (cond room [] (fig ∷ [])))
+fate_by size is true room fig m one other e f = omega (arith, is.none)
+fate_by size is false true fig m one other e f =
+    let all : size one.waiting ≡ size m.waiting + size (fig ∷ []) = ap size e ∙ both size is m.waiting (fig ∷ []) in
+    omega (arith, is.none, all)
+fate_by size is false false fig m one other e f =
+    let all : size other.waiting ≡ size m.waiting = ap size f in
+    omega (arith, is.none, all)
+
+fate : (size : List (List ℕ) → ℕ) → IsMeasure size → (fig : List ℕ) (m : Merging)
+    → size (fig ∷ []) + size m.waiting
+    ≡ size (with_fig fig m).waiting + size (cond (waits fig m.waiting) (fig ∷ []) []) + size (cond (waits fig m.waiting) [] (cond (ltb (length m.waiting) most) [] (fig ∷ [])))
+fate size is fig m =
+    fate_by size is (waits fig m.waiting) (ltb (length m.waiting) most) fig m (record m { waiting = m.waiting ++ fig ∷ [] }) (record m { dropped = limited (m.dropped + 1) }) refl refl
+
+fates : (size : List (List ℕ) → ℕ) → IsMeasure size → (figs : List (List ℕ)) (m : Merging)
+    → size figs + size m.waiting ≡ size (with_figs figs m).waiting + size (repeated_of figs m) + size (dropped_of figs m)
+fates size is [] m = omega (arith, is.none)
+fates size is (fig ∷ figs) m =
+    let again : List (List ℕ) = cond (waits fig m.waiting) (fig ∷ []) [] in
+    let gone : List (List ℕ) = cond (waits fig m.waiting) [] (cond (ltb (length m.waiting) most) [] (fig ∷ [])) in
+    let later = with_fig fig m in
+    omega (arith, is.more fig figs, fate size is fig m, fates size is figs later, both size is again (repeated_of figs later), both size is gone (dropped_of figs later))
+
+-- ---- FIGs that are carried, or wait on
+parts_by : (size : List (List ℕ) → ℕ) → IsMeasure size → (fits : Bool) (fig : List ℕ) (figs there left gone on : List (List ℕ)) → size there + size left ≡ size figs → size gone + size on ≡ size figs
+    → size (cond fits (fig ∷ there) gone) + size (cond fits left (fig ∷ on)) ≡ size (fig ∷ figs)
+parts_by size is true fig figs there left gone on e f = omega (arith, is.more fig figs, is.more fig there, e)
+parts_by size is false fig figs there left gone on e f = omega (arith, is.more fig figs, is.more fig on, f)
+
+parts : (size : List (List ℕ) → ℕ) → IsMeasure size → (room : ℕ) (waiting : List (List ℕ)) → size (carried_in room waiting) + size (left_in room waiting) ≡ size waiting
+parts size is room [] = omega (arith, is.none)
+parts size is room (fig ∷ figs) =
+    parts_by size is (leb (length fig) room) fig figs (carried_in (room - length fig) figs) (left_in (room - length fig) figs) (carried_in room figs) (left_in room figs)
+    (parts size is (room - length fig) figs) (parts size is room figs)
+
+-- ---- a call
+taken_fate : (size : List (List ℕ) → ℕ) → IsMeasure size → (fib : Fib) (m : Merging)
+    → size (taken_in fib) + size m.waiting ≡ size (after_take fib m).waiting + size (repeated_of (taken_in fib) m) + size (dropped_of (taken_in fib) m)
+taken_fate size is None m = omega (arith, is.none)
+taken_fate size is (Some figs) m = fates size is (taken_of figs) m
+
+filled_fate : (size : List (List ℕ) → ℕ) → IsMeasure size → (fib : Fib) (m : Merging) → size m.waiting ≡ size (carried_by fib m) + size (after_fill fib m).waiting
+filled_fate size is None m = omega (arith, is.none)
+filled_fate size is (Some figs) m = omega (arith, parts size is (room_of figs) m.waiting)
+
+step_fate : (size : List (List ℕ) → ℕ) → IsMeasure size → (r : Reading) (s : Step) (m : Merging)
+    → size (taken_at r s) + size m.waiting
+    ≡ size (carried_at r s m) + size (after_step r s m).waiting + size (repeated_of (taken_at r s) m) + size (dropped_of (taken_at r s) m)
+step_fate size is r (Take fib) m = omega (arith, is.none, taken_fate size is (r.read fib) m)
+step_fate size is r (Fill fib) m = omega (arith, is.none, filled_fate size is (r.read fib) m)
+
+steps_fate : (size : List (List ℕ) → ℕ) → IsMeasure size → (r : Reading) (steps : List Step) (m : Merging)
+    → size (all_taken r steps) + size m.waiting
+    ≡ size (all_carried r steps m) + size (after_steps r steps m).waiting + size (all_repeated r steps m) + size (all_dropped r steps m)
+steps_fate size is r [] m = omega (arith, is.none)
+steps_fate size is r (s ∷ ss) m =
+    let later = after_step r s m in
+    omega (
+      arith,
+      step_fate size is r s m,
+      steps_fate size is r ss later,
+      both size is (taken_at r s) (all_taken r ss),
+      both size is (carried_at r s m) (all_carried r ss later),
+      both size is (repeated_of (taken_at r s) m) (all_repeated r ss later),
+      both size is (dropped_of (taken_at r s) m) (all_dropped r ss later),
+    )
+
+-- ---- counts, which end at a limit
+abbrev limit_of : ℕ → ℕ → ℕ
+limit_of top n = cond (ltb n top) n (top - 1)
+
+below_limit : (top n : ℕ) → n < top → limit_of top n ≡ n
+below_limit top n lt = cond-true (ltb n top) n (top - 1) (lt-ltb n top lt)
+
+at_limit : (top n : ℕ) → top ≤ n → limit_of top n ≡ top - 1
+at_limit top n le = cond-false (ltb n top) n (top - 1) (le-ltb n top le)
+
+limit_more : (top n more : ℕ) → 0 < top → limit_of top (limit_of top n + more) ≡ limit_of top (n + more)
+limit_more top n more some = elim (cases_lt n top) [
+  | inl lt ↦ ap (λ k. limit_of top (k + more)) (below_limit top n lt)
+  | inr ge ↦ ap (λ k. limit_of top (k + more)) (at_limit top n ge) ∙ at_end (cases_lt (top - 1 + more) top) ge
+]
+  where
+    at_end : (top - 1 + more < top) ⊎ (top ≤ top - 1 + more) → top ≤ n → limit_of top (top - 1 + more) ≡ limit_of top (n + more)
+    at_end (inl lt) ge = below_limit top (top - 1 + more) lt ∙ (let e : top - 1 + more ≡ top - 1 = omega (arith, lt, some) in e) ∙ sym (at_limit top (n + more) (omega (arith, ge)))
+    at_end (inr le) ge = at_limit top (top - 1 + more) le ∙ sym (at_limit top (n + more) (omega (arith, ge)))
+
+more_limited : (n more : ℕ) → limited (limited n + more) ≡ limited (n + more)
+more_limited n more = limit_more (2 ^ 64) n more (omega arith)
+
+-- ---- no two are equal
+same_both : (a b : List ℕ) → bytes_eq a b ≡ true → bytes_eq b a ≡ true
+same_both a b e = (bytes_eq-Decides b a).1 (sym ((bytes_eq-Decides a b).0 e))
+
+other_by : (b c : Bool) → (c ≡ true → b ≡ true) → b ≡ false → c ≡ false
+other_by b true h e = absurd (let t = h refl in cc)
+other_by b false h e = refl
+
+others : (a b : List ℕ) → bytes_eq a b ≡ false → bytes_eq b a ≡ false
+others a b e = other_by (bytes_eq a b) (bytes_eq b a) (same_both b a) e
+
+or_none : (a b : Bool) → (a || b) ≡ false → (a ≡ false) × (b ≡ false)
+or_none true b e = absurd cc
+or_none false b e = (refl, e)
+
+or_both : (a b : Bool) → a ≡ false → b ≡ false → (a || b) ≡ false
+or_both true b e f = absurd cc
+or_both false b e f = f
+
+waits_last : (x fig : List ℕ) (figs : List (List ℕ)) → waits x figs ≡ false → bytes_eq x fig ≡ false → waits x (figs ++ fig ∷ []) ≡ false
+waits_last x fig [] h e = or_both (bytes_eq x fig) false e refl
+waits_last x fig (y ∷ ys) h e =
+    let parts = or_none (bytes_eq x y) (waits x ys) h in
+    or_both (bytes_eq x y) (waits x (ys ++ fig ∷ [])) parts.0 (waits_last x fig ys parts.1 e)
+
+different_last : (fig : List ℕ) (figs : List (List ℕ)) → waits fig figs ≡ false → AreDifferent figs → AreDifferent (figs ++ fig ∷ [])
+different_last fig [] h d = (refl, tt)
+different_last fig (x ∷ xs) h d =
+    let parts = or_none (bytes_eq fig x) (waits fig xs) h in
+    (waits_last x fig xs d.0 (others fig x parts.0), different_last fig xs parts.1 d.1)
+
+none_left_by : (fits : Bool) (x fig : List ℕ) (there on : List (List ℕ)) → bytes_eq x fig ≡ false → waits x there ≡ false → waits x on ≡ false → waits x (cond fits there (fig ∷ on)) ≡ false
+none_left_by true x fig there on e f g = f
+none_left_by false x fig there on e f g = or_both (bytes_eq x fig) (waits x on) e g
+
+none_left : (x : List ℕ) (room : ℕ) (waiting : List (List ℕ)) → waits x waiting ≡ false → waits x (left_in room waiting) ≡ false
+none_left x room [] h = refl
+none_left x room (fig ∷ figs) h =
+    let parts = or_none (bytes_eq x fig) (waits x figs) h in
+    none_left_by (leb (length fig) room) x fig (left_in (room - length fig) figs) (left_in room figs) parts.0
+    (none_left x (room - length fig) figs parts.1) (none_left x room figs parts.1)
+
+different_by : (fits : Bool) (fig : List ℕ) (there on : List (List ℕ)) → AreDifferent there → waits fig on ≡ false → AreDifferent on → AreDifferent (cond fits there (fig ∷ on))
+different_by true fig there on d e f = d
+different_by false fig there on d e f = (e, f)
+
+different_left : (room : ℕ) (waiting : List (List ℕ)) → AreDifferent waiting → AreDifferent (left_in room waiting)
+different_left room [] d = tt
+different_left room (fig ∷ figs) d =
+    different_by (leb (length fig) room) fig (left_in (room - length fig) figs) (left_in room figs)
+    (different_left (room - length fig) figs d.1) (none_left fig room figs d.0) (different_left room figs d.1)
+
+-- ---- what holds after each call
+record IsKept (m : Merging) (carried dropped : ℕ) : Type 0 where
+  carried_is : m.carried ≡ limited carried
+  dropped_is : m.dropped ≡ limited dropped
+  different : AreDifferent m.waiting
+  few : length m.waiting ≤ most
+
+kept_by : (there room : Bool) (fig : List ℕ) (m : Merging) (c d : ℕ) → waits fig m.waiting ≡ there → ltb (length m.waiting) most ≡ room → IsKept m c d
+    → IsKept (cond there m (cond room (record m { waiting = m.waiting ++ fig ∷ [] }) (record m { dropped = limited (m.dropped + 1) })))
+    c (d + length (cond there [] (cond room [] (fig ∷ []))))
+kept_by true room fig m c d e f k = record { carried_is = k.carried_is; dropped_is = k.dropped_is ∙ ap limited (let z : d ≡ d + 0 = omega arith in z); different = k.different; few = k.few }
+kept_by false true fig m c d e f k = record {
+  carried_is = k.carried_is;
+  dropped_is = k.dropped_is ∙ ap limited (let z : d ≡ d + 0 = omega arith in z);
+  different = different_last fig m.waiting e k.different;
+  few = omega (arith, length-append m.waiting (fig ∷ []), ltb-true (length m.waiting) most f);
+}
+kept_by false false fig m c d e f k = record {
+  carried_is = k.carried_is;
+  dropped_is = ap (λ n. limited (n + 1)) k.dropped_is ∙ more_limited d 1;
+  different = k.different;
+  few = k.few;
+}
+
+kept_figs : (figs : List (List ℕ)) (m : Merging) (c d : ℕ) → IsKept m c d → IsKept (with_figs figs m) c (d + length (dropped_of figs m))
+kept_figs [] m c d k = subst (λ (n : ℕ). IsKept m c n) (let z : d ≡ d + 0 = omega arith in z) k
+kept_figs (fig ∷ figs) m c d k =
+    let gone : List (List ℕ) = cond (waits fig m.waiting) [] (cond (ltb (length m.waiting) most) [] (fig ∷ [])) in
+    let one = kept_by (waits fig m.waiting) (ltb (length m.waiting) most) fig m c d refl refl k in
+    let all : d + length gone + length (dropped_of figs (with_fig fig m)) ≡ d + length (gone ++ dropped_of figs (with_fig fig m)) =
+    omega (arith, length-append gone (dropped_of figs (with_fig fig m))) in
+    subst (λ (n : ℕ). IsKept (with_figs figs (with_fig fig m)) c n) all (kept_figs figs (with_fig fig m) c (d + length gone) one)
+
+kept_take : (fib : Fib) (m : Merging) (c d : ℕ) → IsKept m c d → IsKept (after_take fib m) c (d + length (dropped_of (taken_in fib) m))
+kept_take None m c d k = subst (λ (n : ℕ). IsKept (after_take None m) c n) (let z : d ≡ d + 0 = omega arith in z) (record { carried_is = k.carried_is; dropped_is = k.dropped_is; different = k.different; few = k.few })
+kept_take (Some figs) m c d k = kept_figs (taken_of figs) m c d k
+
+kept_fill : (fib : Fib) (m : Merging) (c d : ℕ) → IsKept m c d → IsKept (after_fill fib m) (c + length (carried_by fib m)) d
+kept_fill None m c d k = subst (λ (n : ℕ). IsKept (after_fill None m) n d) (let z : c ≡ c + 0 = omega arith in z) (record { carried_is = k.carried_is; dropped_is = k.dropped_is; different = k.different; few = k.few })
+kept_fill (Some figs) m c d k =
+    let count = length (carried_in (room_of figs) m.waiting) in
+    record {
+      carried_is = ap (λ n. limited (n + count)) k.carried_is ∙ more_limited c count;
+      dropped_is = k.dropped_is;
+      different = different_left (room_of figs) m.waiting k.different;
+      few = omega (arith, few_left (room_of figs) m.waiting, k.few);
+    }
+
+kept_step : (r : Reading) (s : Step) (m : Merging) (c d : ℕ) → IsKept m c d → IsKept (after_step r s m) (c + length (carried_at r s m)) (d + length (dropped_of (taken_at r s) m))
+kept_step r (Take fib) m c d k = subst (λ (n : ℕ). IsKept (after_take (r.read fib) m) n (d + length (dropped_of (taken_in (r.read fib)) m))) (let z : c ≡ c + 0 = omega arith in z) (kept_take (r.read fib) m c d k)
+kept_step r (Fill fib) m c d k = subst (λ (n : ℕ). IsKept (after_fill (r.read fib) m) (c + length (carried_by (r.read fib) m)) n) (let z : d ≡ d + 0 = omega arith in z) (kept_fill (r.read fib) m c d k)
+
+kept_steps : (r : Reading) (steps : List Step) (m : Merging) (c d : ℕ) → IsKept m c d
+    → IsKept (after_steps r steps m) (c + length (all_carried r steps m)) (d + length (all_dropped r steps m))
+kept_steps r [] m c d k = subst (λ (n : ℕ). IsKept m n (d + 0)) (let z : c ≡ c + 0 = omega arith in z) (subst (λ (n : ℕ). IsKept m c n) (let z : d ≡ d + 0 = omega arith in z) k)
+kept_steps r (s ∷ ss) m c d k =
+    let later = after_step r s m in
+    let one = kept_step r s m c d k in
+    let more = kept_steps r ss later (c + length (carried_at r s m)) (d + length (dropped_of (taken_at r s) m)) one in
+    let sent : c + length (carried_at r s m) + length (all_carried r ss later) ≡ c + length (carried_at r s m ++ all_carried r ss later) =
+    omega (arith, length-append (carried_at r s m) (all_carried r ss later)) in
+    let gone : d + length (dropped_of (taken_at r s) m) + length (all_dropped r ss later) ≡ d + length (dropped_of (taken_at r s) m ++ all_dropped r ss later) =
+    omega (arith, length-append (dropped_of (taken_at r s) m) (all_dropped r ss later)) in
+    subst (λ (n : ℕ). IsKept (after_steps r ss later) n (d + length (dropped_of (taken_at r s) m ++ all_dropped r ss later))) sent
+    (subst (λ (n : ℕ). IsKept (after_steps r ss later) (c + length (carried_at r s m) + length (all_carried r ss later)) n) gone more)
+
+from_nothing : (n count : ℕ) → count ≡ limited (0 + n) → count ≡ limited n
+from_nothing n count is = let same : 0 + n ≡ n = omega arith in is ∙ ap limited same
+
+pub all_are_accounted : AllAreAccounted
+all_are_accounted r steps =
+    let start : IsKept nothing_taken 0 0 = record { carried_is = refl; dropped_is = refl; different = tt; few = omega arith } in
+    let kept = kept_steps r steps nothing_taken 0 0 start in
+    record {
+      adds_up = λ fig. omega (arith, steps_fate (times fig) (how_often fig) r steps nothing_taken);
+      numbers = omega (arith, steps_fate length lengths r steps nothing_taken);
+      carried = from_nothing _ _ kept.carried_is;
+      dropped = from_nothing _ _ kept.dropped_is;
+      different = kept.different;
+      few = kept.few;
+    }
+
+-- ---- order
+longer_all : (room less : ℕ) (figs : List (List ℕ)) → less ≤ room → AllByRecursion (λ fig. room < length fig) figs → AllByRecursion (λ fig. less < length fig) figs
+longer_all room less [] le all = tt
+longer_all room less (fig ∷ figs) le all = (omega (arith, le, all.0), longer_all room less figs le all.1)
+
+longer_more : (room : ℕ) (fig : List ℕ) (figs : List (List ℕ)) → AllByRecursion (λ fig. room < length fig) figs → room < length fig → AllByRecursion (λ fig. room < length fig) (figs ++ fig ∷ [])
+longer_more room fig [] all long = (long, tt)
+longer_more room fig (x ∷ xs) all long = (all.0, longer_more room fig xs all.1 long)
+
+go_case : (fits : Bool) (room : ℕ) (fig : List ℕ) (before figs : List (List ℕ)) → leb (length fig) room ≡ fits → AllByRecursion (λ fig. room < length fig) before
+    → Go (room - length fig) (before ++ figs) (carried_in (room - length fig) figs) (before ++ left_in (room - length fig) figs)
+    → (room < length fig → Go room ((before ++ fig ∷ []) ++ figs) (carried_in room figs) ((before ++ fig ∷ []) ++ left_in room figs))
+    → Go room (before ++ fig ∷ figs) (cond fits (fig ∷ carried_in (room - length fig) figs) (carried_in room figs))
+    (before ++ cond fits (left_in (room - length fig) figs) (fig ∷ left_in room figs))
+go_case true room fig before figs e all one two = (before, figs, refl, all, leb-true (length fig) room e, one)
+go_case false room fig before figs e all one two =
+    subst₂ (λ (xs ys : List (List ℕ)). Go room xs (carried_in room figs) ys) (append_assoc before (fig ∷ []) figs)
+    (append_assoc before (fig ∷ []) (left_in room figs)) (two (leb-false (length fig) room e))
+
+go_from : (room : ℕ) (before waiting : List (List ℕ)) → AllByRecursion (λ fig. room < length fig) before
+    → Go room (before ++ waiting) (carried_in room waiting) (before ++ left_in room waiting)
+go_from room before [] all = (refl, subst (λ (xs : List (List ℕ)). AllByRecursion (λ fig. room < length fig) xs) (sym (append-nil before)) all)
+go_from room before (fig ∷ figs) all =
+    go_case (leb (length fig) room) room fig before figs refl all
+    (go_from (room - length fig) before figs (longer_all room (room - length fig) before (omega arith) all))
+    (λ long. go_from room (before ++ fig ∷ []) figs (longer_more room fig before all long))
+
+pub the_longest_waiting_goes : TheLongestWaitingGoes
+the_longest_waiting_goes room waiting = go_from room [] waiting tt

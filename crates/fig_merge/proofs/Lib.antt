@@ -1,0 +1,6 @@
+pub mod Carrying
+pub mod Passing
+pub mod Ledger
+pub mod Carried
+pub mod Alike
+pub mod Vectors

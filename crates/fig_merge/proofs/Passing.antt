@@ -1,0 +1,135 @@
+-- A FIB of the plan with FIGs behind its own, in the grammar.
+use Rattle.std.proofs.Common.{◌≡◌, ℕ, ◌+◌, ◌-◌, ◌≤◌, leb, ltb, cond, Bool, true, false, suc, inl, inr, List, [], ◌∷◌, ◌++◌, length, take, map, replicate, refl, sym, ap, subst, ◌∙◌, arith, append_assoc, append-nil, length-append, length-take, take_at, take-take}
+use Rattle.std.proofs.lemmas.Bool.{cond-true, cond-false, lt-ltb, le-ltb, leb-true, cases_lt}
+use Rattle.std.specs.List.{AllByRecursion, concat}
+use Rattle.fib_codec.specs.Grammar.{Fig, Open, Other, AreFigs, IsFig, IsFib, fig_spelled}
+use Rattle.fib_codec.specs.Spelling.{filled}
+use Rattle.fib_codec.proofs.Finished.{length-filled}
+use Rattle.fib_codec.proofs.U16.{checked_is}
+use Rattle.fib_reader.proofs.FigLists.{spelled_fig}
+use Rattle.fib_reader.proofs.Places.{front_of_figs}
+use Rattle.fig_merge.specs.Taking.{IsPassedOver, IsSendable}
+use Rattle.fig_merge.specs.Filling.{data_of, room_of, carried_in, left_in, filled_fib}
+
+-- ---- FIGs, and then others
+figs_then : (bytes tail : List ℕ) (figs more : List Fig) → AreFigs bytes figs → AreFigs tail more → AreFigs (data_of figs ++ tail) (figs ++ more)
+figs_then bytes tail [] more h then = then
+figs_then bytes tail (f ∷ fs) more h then = (
+  fig_spelled f,
+  data_of fs ++ tail,
+  append_assoc (fig_spelled f) (data_of fs) tail,
+  subst (λ (xs : List ℕ). IsFig xs f) (spelled_fig h.0 f h.3) h.3,
+  figs_then h.1 tail fs more h.4 then,
+)
+
+others_then : (figs : List (List ℕ)) (tail : List ℕ) → AllByRecursion IsPassedOver figs → AreFigs tail [] → AreFigs (concat figs ++ tail) (map Other figs)
+others_then [] tail all ends = ends
+others_then (fig ∷ figs) tail all ends =
+    (fig, concat figs ++ tail, append_assoc fig (concat figs) tail, (refl, all.0.0), others_then figs tail all.1 ends)
+
+-- ---- those that are carried
+carried_by_case : (P : List ℕ → Type 0) (fits : Bool) (fig : List ℕ) (there gone : List (List ℕ)) → P fig → AllByRecursion P there → AllByRecursion P gone
+    → AllByRecursion P (cond fits (fig ∷ there) gone)
+carried_by_case P true fig there gone one all none = (one, all)
+carried_by_case P false fig there gone one all none = none
+
+pub all_carried : (P : List ℕ → Type 0) (room : ℕ) (waiting : List (List ℕ)) → AllByRecursion P waiting → AllByRecursion P (carried_in room waiting)
+all_carried P room [] all = tt
+all_carried P room (fig ∷ figs) all =
+    carried_by_case P (leb (length fig) room) fig (carried_in (room - length fig) figs) (carried_in room figs) all.0
+    (all_carried P (room - length fig) figs all.1) (all_carried P room figs all.1)
+
+left_by_case : (P : List ℕ → Type 0) (fits : Bool) (fig : List ℕ) (there gone : List (List ℕ)) → P fig → AllByRecursion P there → AllByRecursion P gone
+    → AllByRecursion P (cond fits there (fig ∷ gone))
+left_by_case P true fig there gone one all none = all
+left_by_case P false fig there gone one all none = (one, none)
+
+pub all_left : (P : List ℕ → Type 0) (room : ℕ) (waiting : List (List ℕ)) → AllByRecursion P waiting → AllByRecursion P (left_in room waiting)
+all_left P room [] all = tt
+all_left P room (fig ∷ figs) all =
+    left_by_case P (leb (length fig) room) fig (left_in (room - length fig) figs) (left_in room figs) all.0
+    (all_left P (room - length fig) figs all.1) (all_left P room figs all.1)
+
+few_by_case : (fits : Bool) (fig : List ℕ) (there gone : List (List ℕ)) (n : ℕ) → length there ≤ n → length gone ≤ n → length (cond fits there (fig ∷ gone)) ≤ suc n
+few_by_case true fig there gone n few more = omega (arith, few)
+few_by_case false fig there gone n few more = omega (arith, more)
+
+pub few_left : (room : ℕ) (waiting : List (List ℕ)) → length (left_in room waiting) ≤ length waiting
+few_left room [] = omega arith
+few_left room (fig ∷ figs) =
+    few_by_case (leb (length fig) room) fig (left_in (room - length fig) figs) (left_in room figs) (length figs)
+    (few_left (room - length fig) figs) (few_left room figs)
+
+fits_by_case : (fits : Bool) (room : ℕ) (fig : List ℕ) (there gone : List (List ℕ)) → leb (length fig) room ≡ fits
+    → length (concat there) ≤ room - length fig → length (concat gone) ≤ room → length (concat (cond fits (fig ∷ there) gone)) ≤ room
+fits_by_case true room fig there gone is short others = omega (arith, length-append fig (concat there), leb-true (length fig) room is, short)
+fits_by_case false room fig there gone is short others = others
+
+pub carried_fit : (room : ℕ) (waiting : List (List ℕ)) → length (concat (carried_in room waiting)) ≤ room
+carried_fit room [] = omega arith
+carried_fit room (fig ∷ figs) =
+    fits_by_case (leb (length fig) room) room fig (carried_in (room - length fig) figs) (carried_in room figs) refl
+    (carried_fit (room - length fig) figs) (carried_fit room figs)
+
+-- ---- the data bytes of a FIB
+pub data_short : (bytes : List ℕ) (figs : List Fig) → IsFib bytes figs → length (data_of figs) ≤ 30
+data_short bytes figs h =
+    let front = front_of_figs (take 30 bytes) figs h.1 in
+    let size : length (take 30 bytes) ≡ length (data_of figs) + length front.0 = ap length front.1 ∙ length-append (data_of figs) front.0 in
+    omega (arith, size, length-take 30 bytes)
+
+pub data_front : (bytes : List ℕ) (figs : List Fig) → IsFib bytes figs → take (length (data_of figs)) bytes ≡ data_of figs
+data_front bytes figs h =
+    let front = front_of_figs (take 30 bytes) figs h.1 in
+    let short = data_short bytes figs h in
+    sym (take-take (length (data_of figs)) 30 bytes short)
+    ∙ ap (take (length (data_of figs))) front.1 ∙ take_at (data_of figs) front.0 (length (data_of figs)) refl
+
+-- ---- the whole FIB
+ends_filled : (figs : List Fig) (waiting : List (List ℕ)) (all : List ℕ) → all ≡ data_of figs ++ concat (carried_in (room_of figs) waiting)
+    → (bytes : List ℕ) → AreFigs bytes figs → AllByRecursion IsPassedOver waiting
+    → AreFigs (filled all) (figs ++ map Other (carried_in (room_of figs) waiting))
+ends_filled figs waiting all is bytes h passed =
+    let more = carried_in (room_of figs) waiting in
+    let marker : List ℕ = 255 ∷ replicate (29 - length all) 0 in
+    let each = all_carried IsPassedOver (room_of figs) waiting passed in
+    let goal : (tail : List ℕ) → AreFigs tail [] → AreFigs (all ++ tail) (figs ++ map Other more) = λ tail ends.
+    subst (λ (xs : List ℕ). AreFigs xs (figs ++ map Other more))
+    (sym (append_assoc (data_of figs) (concat more) tail) ∙ ap (λ (xs : List ℕ). xs ++ tail) (sym is))
+    (figs_then bytes (concat more ++ tail) figs (map Other more) h (others_then more tail each ends)) in
+    elim (cases_lt (length all) 30) [
+      | inl lt ↦ subst (λ (xs : List ℕ). AreFigs xs (figs ++ map Other more))
+          (sym (cond-true (ltb (length all) 30) (all ++ marker) all (lt-ltb _ _ lt)))
+          (goal marker (inr (replicate (29 - length all) 0, refl)))
+      | inr ge ↦ subst (λ (xs : List ℕ). AreFigs xs (figs ++ map Other more))
+          (append-nil all ∙ sym (cond-false (ltb (length all) 30) (all ++ marker) all (le-ltb _ _ ge)))
+          (goal [] (inl refl))
+    ]
+
+pub filled_is : (bytes : List ℕ) (figs : List Fig) (waiting : List (List ℕ)) → IsFib bytes figs → AllByRecursion IsPassedOver waiting
+    → IsFib (filled_fib figs waiting) (figs ++ map Other (carried_in (room_of figs) waiting))
+filled_is bytes figs waiting h passed =
+    let more = carried_in (room_of figs) waiting in
+    let all = data_of figs ++ concat more in
+    let short : length all ≤ 30 =
+    omega (arith, length-append (data_of figs) (concat more), data_short bytes figs h, carried_fit (room_of figs) waiting) in
+    let long : length (filled all) ≡ 30 = length-filled all short in (
+      checked_is (filled all) long,
+      subst (λ (xs : List ℕ). AreFigs xs (figs ++ map Other more)) (sym (take_at (filled all) _ 30 long))
+          (ends_filled figs waiting all refl (take 30 bytes) h.1 passed),
+    )
+
+-- ---- the FIGs of a FIB are passed over, if they are not left out
+send_one : (bytes : List ℕ) (f : Fig) → IsFig bytes f → length bytes ≤ 30 → IsSendable f
+send_one bytes (Open second es) h short = λ kept. absurd cc
+send_one bytes (Other given) h short =
+    λ kept. subst (λ (xs : List ℕ). IsPassedOver xs) (sym h.0) (h.1, short)
+
+send_all : (bytes : List ℕ) (figs : List Fig) → AreFigs bytes figs → length bytes ≤ 30 → AllByRecursion IsSendable figs
+send_all bytes [] h short = tt
+send_all bytes (f ∷ fs) h short =
+    let size : length bytes ≡ length h.0 + length h.1 = ap length h.2 ∙ length-append h.0 h.1 in
+    (send_one h.0 f h.3 (omega (arith, size, short)), send_all h.1 fs h.4 (omega (arith, size, short)))
+
+pub sendable : (bytes : List ℕ) (figs : List Fig) → IsFib bytes figs → AllByRecursion IsSendable figs
+sendable bytes figs h = send_all (take 30 bytes) figs h.1 (omega (arith, length-take 30 bytes))

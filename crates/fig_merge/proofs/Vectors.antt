@@ -1,0 +1,156 @@
+-- Small cases, computed by the checker from the definitions: for each definition one that holds and one that fails.
+use Rattle.std.proofs.Common.{◌≡◌, ℕ, true, false, List, [], ◌∷◌, ◌++◌, length, replicate, Some, None, refl, arith}
+use Rattle.fib_codec.specs.Grammar.{Open, Other}
+use Rattle.fib_codec.specs.Spelling.{filled}
+use Rattle.fig_merge.specs.Taking.{Merging, nothing_taken, is_left_out, taken_of, taken_in, limited, with_fig, after_take}
+use Rattle.fig_merge.specs.Filling.{room_of, carried_in, left_in, carried_by}
+use Rattle.fig_merge.specs.Steps.{Go, times, AreDifferent, repeated_of, dropped_of}
+use Rattle.fig_merge.specs.Passing.{with_carried, AreFilled}
+
+-- ---- which FIGs are taken: the header byte, then the second byte with C/N, OE, P/D and the extension
+
+sub_channels : is_left_out (Open 1 ((4 ∷ 0 ∷ 136 ∷ 96 ∷ []) ∷ [])) ≡ true
+sub_channels = refl
+
+of_another_ensemble : is_left_out (Other (5 ∷ 65 ∷ 4 ∷ 0 ∷ 136 ∷ 96 ∷ [])) ≡ false
+of_another_ensemble = refl
+
+configuration_information : is_left_out (Other (3 ∷ 7 ∷ 32 ∷ 1 ∷ [])) ≡ true
+configuration_information = refl
+
+configuration_information_next : is_left_out (Other (3 ∷ 135 ∷ 32 ∷ 1 ∷ [])) ≡ true
+configuration_information_next = refl
+
+configuration_information_elsewhere : is_left_out (Other (3 ∷ 71 ∷ 32 ∷ 1 ∷ [])) ≡ false
+configuration_information_elsewhere = refl
+
+language : is_left_out (Other (3 ∷ 5 ∷ 1 ∷ 9 ∷ [])) ≡ false
+language = refl
+
+label_of_type_one : is_left_out (Other (35 ∷ 7 ∷ 32 ∷ 1 ∷ [])) ≡ false
+label_of_type_one = refl
+
+header_alone : is_left_out (Other (32 ∷ [])) ≡ false
+header_alone = refl
+
+taken_in_order : taken_of (Other (33 ∷ 1 ∷ []) ∷ Open 1 ((4 ∷ 0 ∷ 136 ∷ 96 ∷ []) ∷ []) ∷ Other (33 ∷ 2 ∷ []) ∷ []) ≡ (33 ∷ 1 ∷ []) ∷ (33 ∷ 2 ∷ []) ∷ []
+taken_in_order = refl
+
+none_of_a_damaged_one : taken_in None ≡ []
+none_of_a_damaged_one = refl
+
+-- ---- how they wait
+
+abbrev one : List ℕ
+one = 33 ∷ 1 ∷ []
+
+abbrev two : List ℕ
+two = 33 ∷ 2 ∷ []
+
+first_waits : with_fig one nothing_taken ≡ record { waiting = one ∷ []; carried = 0; dropped = 0; damaged = 0 }
+first_waits = refl
+
+second_behind_it : (with_fig two (with_fig one nothing_taken)).waiting ≡ one ∷ two ∷ []
+second_behind_it = refl
+
+repeat_waits_once : (with_fig one (with_fig two (with_fig one nothing_taken))).waiting ≡ one ∷ two ∷ []
+repeat_waits_once = refl
+
+repeat_is_not_dropped : (with_fig one (with_fig one nothing_taken)).dropped ≡ 0
+repeat_is_not_dropped = refl
+
+abbrev full : Merging
+full = record { waiting = replicate 256 one; carried = 0; dropped = 7; damaged = 0 }
+
+dropped_where_256_wait : (with_fig two full).dropped ≡ 8
+dropped_where_256_wait = refl
+
+none_waits_more : length (with_fig two full).waiting ≡ 256
+none_waits_more = refl
+
+repeated_or_dropped : repeated_of (one ∷ two ∷ []) full ≡ one ∷ []
+repeated_or_dropped = refl
+
+dropped_or_repeated : dropped_of (one ∷ two ∷ []) full ≡ two ∷ []
+dropped_or_repeated = refl
+
+damaged_is_counted : (after_take None nothing_taken).damaged ≡ 1
+damaged_is_counted = refl
+
+limit : limited 18446744073709551616 ≡ 18446744073709551615
+limit = refl
+
+below_the_limit : limited 3 ≡ 3
+below_the_limit = refl
+
+-- ---- which of them go
+
+abbrev long : List ℕ
+long = replicate 8 9
+
+abbrev middle : List ℕ
+middle = replicate 5 8
+
+abbrev short : List ℕ
+short = replicate 2 7
+
+short_overtakes_longer : carried_in 10 (long ∷ middle ∷ short ∷ []) ≡ long ∷ short ∷ []
+short_overtakes_longer = refl
+
+longer_waits_on : left_in 10 (long ∷ middle ∷ short ∷ []) ≡ middle ∷ []
+longer_waits_on = refl
+
+all_go : left_in 15 (long ∷ middle ∷ short ∷ []) ≡ []
+all_go = refl
+
+none_goes : carried_in 1 (long ∷ middle ∷ short ∷ []) ≡ []
+none_goes = refl
+
+room_of_nothing : room_of [] ≡ 30
+room_of_nothing = refl
+
+room_behind_a_fig : room_of (Other (35 ∷ 7 ∷ 32 ∷ 1 ∷ []) ∷ []) ≡ 26
+room_behind_a_fig = refl
+
+none_in_a_damaged_one : carried_by None full ≡ []
+none_in_a_damaged_one = refl
+
+marker_behind_29 : filled (replicate 29 1) ≡ replicate 29 1 ++ 255 ∷ []
+marker_behind_29 = refl
+
+no_marker_behind_30 : filled (replicate 30 1) ≡ replicate 30 1
+no_marker_behind_30 = refl
+
+one_goes : Go 2 (one ∷ []) (one ∷ []) []
+one_goes = ([], [], refl, tt, omega arith, (refl, tt))
+
+none_that_fits_stays : Go 2 (one ∷ []) [] (one ∷ []) → ⊥
+none_that_fits_stays h = absurd (omega (arith, h.1.0))
+
+-- ---- accounts
+
+once : times one (one ∷ two ∷ []) ≡ 1
+once = refl
+
+twice : times one (one ∷ one ∷ []) ≡ 2
+twice = refl
+
+apart : AreDifferent (one ∷ two ∷ [])
+apart = (refl, (refl, tt))
+
+alike_are_not_different : AreDifferent (one ∷ one ∷ []) → ⊥
+alike_are_not_different h = let same = h.0 in absurd cc
+
+-- ---- what is known of a filled FIB
+
+carried_behind : with_carried (Some (Other two ∷ [])) (one ∷ []) ≡ Some (Other two ∷ Other one ∷ [])
+carried_behind = refl
+
+damaged_stays : with_carried None (one ∷ []) ≡ None
+damaged_stays = refl
+
+filled_behind : AreFilled (Some [] ∷ None ∷ []) (Some (Other one ∷ []) ∷ None ∷ [])
+filled_behind = (one ∷ [], None ∷ [], refl, ([], [], refl, refl))
+
+none_left_out : AreFilled (Some [] ∷ []) [] → ⊥
+none_left_out h = let left_out = h.2 in absurd cc

@@ -1,0 +1,8 @@
+use Rattle.fig_merge.proofs.Alike.{framed_alike, checked_alike}
+use Rattle.fig_merge.proofs.laws.checked.Goals as goal
+
+pub returns-clause-framed : goal.returns-clause-framed
+returns-clause-framed c = framed_alike
+
+pub returns-clause-findings : goal.returns-clause-findings
+returns-clause-findings c = checked_alike

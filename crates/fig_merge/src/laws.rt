@@ -1,0 +1,38 @@
+//! Laws of merging. Each law is a function that does nothing; its contract is the law.
+
+ghost use Rattle.fig_merge.specs.Steps.{AllAreAccounted, AllAreCarried, TheLongestWaitingGoes};
+ghost use Rattle.fig_merge.specs.Passing.{AllAreFilled, FilledIsRead, FilledIsHeardAlike, FilledIsCheckedAlike, FilledIsFramedAlike};
+
+/// The law of filling: a filled FIB is damaged where the plan's FIB is. Otherwise its FIGs are the plan's, in order,
+/// followed by those that are carried. From every state a listener knows the same after it as after the plan's FIB.
+/// So are all FIBs that a new merger fills, in any sequence of calls.
+pub fn filled()
+    ensures read { FilledIsRead }
+    ensures heard { FilledIsHeardAlike }
+    ensures stream { AllAreFilled }
+{}
+
+/// The law of checking: a stream whose FIBs have FIGs carried behind their own is cut into frames at the same places, and
+/// the checker finds the same in these frames.
+pub fn checked()
+    ensures framed { FilledIsFramedAlike }
+    ensures findings { FilledIsCheckedAlike }
+{}
+
+/// The law of accounts: after any sequence of calls, each FIG that was taken was carried with its bytes, waits, had the
+/// bytes of one that waited, or was dropped, and only one of these. The numbers add up, and the counts are these numbers.
+pub fn accounts()
+    ensures { AllAreAccounted }
+{}
+
+/// The law of order: of the FIGs that fit into what is left of a FIB, the one that has waited longest goes first. So a FIG
+/// overtakes longer ones only.
+pub fn order()
+    ensures { TheLongestWaitingGoes }
+{}
+
+/// The law of carrying: in a frame with a FIB without FIGs the FIG that has waited longest is carried. Where each frame
+/// has such a FIB, each FIG that waits is carried within 256 frames.
+pub fn carried()
+    ensures { AllAreCarried }
+{}
