@@ -1,12 +1,1 @@
-pub mod Compiled
-pub mod Frame
-pub mod Lines
-pub mod Listing
-pub mod LiveEnding
-pub mod Naming
 pub mod Numbers
-pub mod Planned
-pub mod ScriptFrame
-pub mod Stream
-pub mod Transcript
-pub mod Verdict

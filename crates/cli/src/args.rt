@@ -9,37 +9,41 @@ mod help;
 mod listen;
 mod live;
 mod map;
+mod merge;
 mod parser;
 mod play;
 mod shared;
 pub mod start;
 mod verify;
 
-use crate::args::parser::Grammar;
-pub use check::CheckRequest;
-pub use compile::CompileRequest;
-pub use debug::DebugRequest;
-pub use diff::DiffRequest;
-pub use frame::{FrameRequest, FrameScriptRequest};
-pub use listen::ListenScriptRequest;
-pub use live::LiveRequest;
-pub use map::MapRequest;
+use crate::args::parser::{Grammar, Parsed};
+use cli_plans::debug::DebugRequest;
+use cli_plans::live::LiveRequest;
+use cli_plans::play::PlayRequest;
+use cli_scripts::compile::CompileRequest;
+use cli_scripts::diff::DiffRequest;
+use cli_scripts::frame_script::FrameScriptRequest;
+use cli_scripts::listen_script::ListenScriptRequest;
+use cli_scripts::map::MapRequest;
+use cli_scripts::verify::VerifyRequest;
+use cli_streams::check::CheckRequest;
+use cli_streams::frame::FrameRequest;
+use cli_streams::listen::ListenRequest;
+use cli_streams::merge::MergeRequest;
+use console::escaped::Escaped;
 pub use parser::Message;
-pub use play::PlayRequest;
-pub use start::StartOptions;
 use std::alloc::{AllocError, Global};
 use std::convert::AsStr;
-pub use verify::VerifyRequest;
 
-/// The parsed command line of every command but `live`, whose request is a [`LiveRequest`].
+/// The parsed command line of every command but `live` and `merge`, whose output is frames: see [`FramesRequest`].
 #[derive(Drop)]
 pub enum Request<'a> {
     /// `frame`.
     Frame(FrameRequest<'a>),
     /// `frame --script`.
     FrameScript(FrameScriptRequest<'a>),
-    /// `listen`, and the path of its file.
-    Listen(&'a str),
+    /// `listen`.
+    Listen(ListenRequest<'a>),
     /// `listen --script`.
     ListenScript(ListenScriptRequest<'a>),
     /// `diff`.
@@ -58,6 +62,15 @@ pub enum Request<'a> {
     Map(MapRequest<'a>),
 }
 
+/// The parsed command line of a command that writes frames to standard output.
+#[derive(Drop)]
+pub enum FramesRequest<'a> {
+    /// `live`.
+    Live(LiveRequest<'a>),
+    /// `merge`.
+    Merge(MergeRequest<'a>),
+}
+
 /// Why the command line is invalid, or the help that it asks for.
 #[derive(Drop)]
 pub enum UsageError<'a> {
@@ -72,6 +85,14 @@ pub enum UsageError<'a> {
     },
     /// The value of `--time` is not a time of day.
     Time(&'a str),
+    /// Both inputs are standard input.
+    TwiceInput,
+    /// Two of the paths, those of these values, are the same, and one of the files would be written over.
+    SameFile {
+        input: &'static str,
+        output: &'static str,
+        path: &'a str,
+    },
     /// No command is named, or a required value is missing.
     Nothing,
     /// The arguments are not UTF-8.
@@ -80,19 +101,26 @@ pub enum UsageError<'a> {
     Memory,
 }
 
+impl UsageError<'_> {
+    /// Whether help is asked for.
+    pub(crate) fn is_help(&self) -> bool {
+        matches!(self, UsageError::Help(_))
+    }
+}
+
 impl From<AllocError> for UsageError<'_> {
     fn from(_error: AllocError) -> Self {
         UsageError::Memory
     }
 }
 
-/// Parses the arguments after the program's name. Those of `live` are parsed by [`live_request_of`], and are
-/// refused here.
+/// Parses the arguments after the program's name. Those of `live` and `merge` are parsed by [`frames_request_of`], and
+/// are refused here.
 pub fn request_of<'a, S: AsStr>(
     alloc: Global,
     args: &'a [S],
 ) -> Result<Request<'a>, UsageError<'a>> {
-    let parsed = program(alloc)?.parsed(args)?;
+    let parsed = parse(alloc, args)?;
     match parsed.command() {
         Some(("frame", values)) => frame::request(&values),
         Some(("listen", values)) => listen::request(&values),
@@ -107,16 +135,47 @@ pub fn request_of<'a, S: AsStr>(
     }
 }
 
-/// Parses the arguments after the program's name, where the first is `live`.
-pub fn live_request_of<'a, S: AsStr>(
+/// Parses the arguments after the program's name, where the first is `live` or `merge`.
+pub fn frames_request_of<'a, S: AsStr>(
     alloc: Global,
     args: &'a [S],
-) -> Result<LiveRequest<'a>, UsageError<'a>> {
-    let parsed = program(alloc)?.parsed(args)?;
+) -> Result<FramesRequest<'a>, UsageError<'a>> {
+    let parsed = parse(alloc, args)?;
     match parsed.command() {
-        Some(("live", values)) => live::request(&values),
+        Some(("live", values)) => Ok(FramesRequest::Live(live::request(&values)?)),
+        Some(("merge", values)) => Ok(FramesRequest::Merge(merge::request(&values)?)),
         _ => Err(UsageError::Nothing),
     }
+}
+
+/// Parses a command line. A mistake shows the control bytes of arguments as `\xHH`.
+fn parse<'a, S: AsStr>(alloc: Global, args: &'a [S]) -> Result<Parsed<'a>, UsageError<'a>> {
+    match program(alloc)?.parsed(args) {
+        Ok(parsed) => Ok(parsed),
+        Err(UsageError::Mistake(message)) => Err(UsageError::Mistake(shown(alloc, args, message)?)),
+        Err(unasked) => Err(unasked),
+    }
+}
+
+/// The message about these arguments, with their control bytes as `\xHH`.
+fn shown<S: AsStr>(alloc: Global, args: &[S], message: Message) -> Result<Message, AllocError> {
+    if args.iter().all(|arg| !has_control(arg.as_str())) {
+        return Ok(message);
+    }
+    let mut escaped: Vec<String> = Vec::new(alloc);
+    for arg in args {
+        escaped.push(Escaped::in_line(arg.as_str()).to_string(alloc)?)?;
+    }
+    match program(alloc)?.parsed(escaped.as_slice()) {
+        Err(UsageError::Mistake(message)) => Ok(message),
+        Err(UsageError::Memory) => Err(AllocError),
+        _ => Ok(message),
+    }
+}
+
+/// Whether a text has a control byte.
+fn has_control(text: &str) -> bool {
+    text.as_bytes().iter().any(|byte| byte.is_ascii_control())
 }
 
 /// The program's commands.
@@ -131,12 +190,13 @@ fn program<'a>(alloc: Global) -> Result<Grammar<'a>, AllocError> {
     )
     .command(frame::grammar(alloc)?)?
     .command(listen::grammar(alloc)?)?
-    .command(diff::grammar(alloc)?)?
     .command(check::grammar(alloc)?)?
+    .command(merge::grammar(alloc)?)?
+    .command(diff::grammar(alloc)?)?
     .command(compile::grammar(alloc)?)?
     .command(verify::grammar(alloc)?)?
+    .command(map::grammar(alloc)?)?
     .command(play::grammar(alloc)?)?
     .command(debug::grammar(alloc)?)?
-    .command(live::grammar(alloc)?)?
-    .command(map::grammar(alloc)?)
+    .command(live::grammar(alloc)?)
 }

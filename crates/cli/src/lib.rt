@@ -1,9 +1,8 @@
-//! The command-line program: [`answer`](answer::answer), the parser of its arguments, and each command.
+//! The command-line program: [`answer`](answer::answer), and the parser of its arguments. Each command is in `cli_streams`,
+//! `cli_scripts` or `cli_plans`.
 #![tactic(auto)]
 
 pub mod answer;
 pub mod args;
-pub mod commands;
-pub mod inputs;
-pub mod laws;
-pub mod listings;
+mod live;
+mod streamed;

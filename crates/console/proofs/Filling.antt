@@ -1,10 +1,10 @@
 -- A buffer filled from the front: bytes read into its rest follow those before them.
-use Rattle.std.proofs.Common.{◌≡◌, ℕ, ◌+◌, ◌-◌, ◌≤◌, List, ◌++◌, Option, arith, length, take, slice_range, sym, ap, ◌∙◌, subst, le_refl, drop_at, length-take-le}
+use Rattle.std.proofs.Common.{◌≡◌, ℕ, ◌+◌, ◌-◌, ◌≤◌, List, ◌++◌, Option, None, Some, arith, length, take, drop, slice_range, refl, sym, ap, ◌∙◌, subst, le_refl, drop_at, length-take-le, append_assoc}
 use Rattle.std.proofs.lemmas.Slice.{take-put_mid_below}
-use Rattle.std.specs.Io.KnownBytes.{Consumes, Keeps}
+use Rattle.std.specs.Io.KnownBytes.{Consumes, Keeps, IsAtEnd, prepend_known}
 use Rattle.std.proofs.KnownBytes.{Consumes-trans, Consumes-kept}
 use borrow.Rule.Slice.PartMut.{put_mid, post_of}
-use lib.Seq.{take-add, take-append-le}
+use lib.Seq.{take-add, take-append-le, take-append_seam}
 
 take_split : (a b : ℕ) (old new : List ℕ) → a ≤ b → take a new ≡ take a old → take a old ++ slice_range new a b ≡ take b new
 take_split a b old new h front =
@@ -28,3 +28,33 @@ filled_more a b c at room n buffer part within fits before read =
 pub filled_as_before : (a b c : Option (List ℕ)) (at room : ℕ) (buffer part : List ℕ) → at ≤ length buffer → Consumes a b (take at buffer) → Keeps b c → Consumes a c (take at (put_mid at room buffer part))
 filled_as_before a b c at room buffer part within before kept =
     subst (Consumes a c) (sym (take-put_mid_below _ _ _ _ _ (le_refl _) within)) (Consumes-kept a b c _ before kept)
+
+-- before the first piece nothing is kept
+pub none_kept : (left : Option (List ℕ)) (buffer : List ℕ) → Keeps left (prepend_known (slice_range buffer 0 0) left)
+none_kept None buffer = tt
+none_kept (Some xs) buffer = refl
+
+-- the kept bytes are the first of those that are left
+pub kept_first : (left : Option (List ℕ)) (kept : List ℕ) → Consumes (prepend_known kept left) left kept
+kept_first None kept = tt
+kept_first (Some xs) kept = refl
+
+-- a piece, and the bytes that are kept behind it
+pub handed : (before left : Option (List ℕ)) (buffer : List ℕ) (len filled : ℕ) → len ≤ filled → Consumes before left (take filled buffer) → Consumes before (prepend_known (slice_range buffer len filled) left) (take len buffer)
+handed None left buffer len filled le h = tt
+handed (Some xs) None buffer len filled le h = absurd h
+handed (Some xs) (Some ys) buffer len filled le h =
+    let same : len + (filled - len) ≡ filled = omega (arith, le) in
+    let cut : take filled buffer ≡ take len buffer ++ slice_range buffer len filled = ap (λ n. take n buffer) (sym same) ∙ take-add len (filled - len) buffer in
+    h ∙ ap (λ l. l ++ ys) cut ∙ append_assoc (take len buffer) (slice_range buffer len filled) ys
+
+-- nothing is kept at the end
+pub none_behind : (left : Option (List ℕ)) (buffer : List ℕ) (n : ℕ) → IsAtEnd left → IsAtEnd (prepend_known (slice_range buffer n n) left)
+none_behind None buffer n h = tt
+none_behind (Some xs) buffer n h =
+    let none : n - n ≡ 0 = omega arith in
+    ap (λ k. take k (drop n buffer) ++ xs) none ∙ h
+
+-- a buffer that was written as a whole
+pub whole_again : (n : ℕ) (new old : List ℕ) → length new ≡ n → take n (new ++ drop (length new) old) ≡ new
+whole_again n new old e = ap (λ k. take k (new ++ drop (length new) old)) (sym e) ∙ take-append_seam new (drop (length new) old)

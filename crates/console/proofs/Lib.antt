@@ -1,3 +1,5 @@
+mod Escaping
 mod Filling
 mod LineLaws
 mod LineReading
+mod VectorsOfEscapes

@@ -3,11 +3,12 @@
 ghost use Rattle.std.specs.Prelude.{◌≡◌, ◌≢◌, [], take, codes, IfOk, IfSome};
 ghost use Rattle.std.specs.Io.KnownBytes.{Keeps};
 
+use crate::escaped::Escaped;
 use crate::files::{FileFault, Files};
 use crate::pieces::{Pieces, read_within};
 use std::alloc::Global;
-use std::io;
-use thiserror::Error;
+use std::fmt::{self, Display, Formatter};
+use std::{error, io};
 
 /// The exit status of the program.
 #[derive(Clone, Copy, Debug, PartialEq, Eq)]
@@ -18,23 +19,75 @@ pub enum Status {
     Refused = 1,
     /// The command line is invalid.
     Misused = 2,
+    /// A stream was checked, and faults were found in it.
+    Faulty = 3,
 }
 
 /// Why a command could not process its input. Each is one printed line, and `Status::Refused`.
-#[derive(Debug, Drop, Error)]
+#[derive(Debug, Drop)]
 pub enum Failure<'a> {
     /// Out of memory.
-    #[error("no memory")]
     Memory,
     /// The file of this path could not be read.
-    #[error("cannot read {0}")]
     Read(&'a str),
     /// The file of this path could not be created.
-    #[error("cannot write {0}")]
     Create(&'a str),
     /// Standard output failed. Nothing more is printed.
-    #[error("cannot write")]
     Output,
+}
+
+impl Display for Failure<'_> {
+    ghost use Rattle.std.specs.Prelude.{Some};
+    ghost use Rattle.console.specs.Failures.{failure_text};
+    ghost use Rattle.console.specs.declared.escaped.Form.TheVariants.{Line as InLine};
+
+    ghost output = { λ failure. Some (failure_text InLine failure) };
+
+    /// The printed line, with the control bytes of paths as `\xHH`.
+    fn fmt<W: fmt::Write>(&self, f: &mut Formatter<W>) -> fmt::Result {
+        match self {
+            Failure::Memory => f.write_str("no memory"),
+            Failure::Read(path) => write!(f, "cannot read {}", Escaped::in_line(path)),
+            Failure::Create(path) => write!(f, "cannot write {}", Escaped::in_line(path)),
+            Failure::Output => f.write_str("cannot write"),
+        }
+    }
+}
+
+impl error::Error for Failure<'_> {}
+
+/// A failure as an object of JSON, `{"kind":"refused","cause":"cannot read PATH"}`: the cause is its line, with PATH as
+/// in a string of JSON.
+#[derive(Debug, Drop)]
+pub struct JsonFailure<'f, 'a>(pub &'f Failure<'a>);
+
+impl Display for JsonFailure<'_, '_> {
+    ghost use Rattle.std.specs.Prelude.{Some};
+    ghost use Rattle.console.specs.Failures.{refused_json, failure_text};
+    ghost use Rattle.console.specs.declared.escaped.Form.TheVariants.{Json as InJson};
+
+    ghost output = { λ failure. Some (refused_json (failure_text InJson failure.0.now)) };
+
+    fn fmt<W: fmt::Write>(&self, f: &mut Formatter<W>) -> fmt::Result {
+        match self.0 {
+            Failure::Memory => f.write_str("{\"kind\":\"refused\",\"cause\":\"no memory\"}"),
+            Failure::Read(path) => {
+                let path = Escaped::in_json(path);
+                write!(
+                    f,
+                    "{{\"kind\":\"refused\",\"cause\":\"cannot read {path}\"}}"
+                )
+            }
+            Failure::Create(path) => {
+                let path = Escaped::in_json(path);
+                write!(
+                    f,
+                    "{{\"kind\":\"refused\",\"cause\":\"cannot write {path}\"}}"
+                )
+            }
+            Failure::Output => f.write_str("{\"kind\":\"refused\",\"cause\":\"cannot write\"}"),
+        }
+    }
 }
 
 impl<'a> Failure<'a> {
@@ -130,5 +183,12 @@ pub fn read_input<'a, F: Files>(
 pub fn create_file<'a, F: Files>(files: &mut F, path: &'a str) -> Result<F::Out, Failure<'a>> {
     files
         .create(path)
+        .map_err(|fault| Failure::of_output(fault, path))
+}
+
+/// Creates an empty file of this path if there is none. A file that is there keeps its bytes.
+pub fn touch_file<'a, F: Files>(files: &mut F, path: &'a str) -> Result<(), Failure<'a>> {
+    files
+        .touch(path)
         .map_err(|fault| Failure::of_output(fault, path))
 }

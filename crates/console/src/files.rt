@@ -2,7 +2,9 @@
 
 ghost use Rattle.std.specs.Prelude.{◌≡◌};
 
+use crate::waiting::{Waiting, pause};
 use std::fmt::Display;
+use std::fs::OpenOptions;
 use std::io::{self, Eprint, ErrorKind, Input, Read, Write};
 use std::rt;
 
@@ -45,11 +47,15 @@ pub trait Files {
     /// Creates the file of this path for writing, or truncates it. `Failed` on a system error.
     fn create(&mut self, path: &str) -> Result<Self::Out, FileFault>;
 
+    /// Creates an empty file of this path if there is none; a file that is there keeps its bytes. `Failed` on a system
+    /// error, as where the file can't be opened for writing.
+    fn touch(&mut self, path: &str) -> Result<(), FileFault>;
+
     /// Writes a line on standard error. One that can't be written is lost.
     fn report<D: Display + Drop>(&mut self, line: D);
 }
 
-/// The files of the system.
+/// The files of the system. Its standard streams may be in non-blocking mode: reads and messages wait for them.
 #[derive(Drop)]
 pub struct System<'a, R> {
     rt: &'a R,
@@ -84,8 +90,8 @@ impl<F: Read, I: Read> Read for Source<F, I> {
     }
 }
 
-impl<'a, R: rt::Files + Input + Eprint> Files for System<'a, R> {
-    type In = Source<R::File, R::Reader>;
+impl<'a, R: rt::Files + rt::Clock + Input + Eprint> Files for System<'a, R> {
+    type In = Source<R::File, Waiting<'a, R, R::Reader>>;
 
     type Out = R::File;
 
@@ -97,7 +103,7 @@ impl<'a, R: rt::Files + Input + Eprint> Files for System<'a, R> {
     }
 
     fn input(&mut self) -> Result<Self::In, FileFault> {
-        Ok(Source::Input(self.rt.reader()))
+        Ok(Source::Input(Waiting::new(self.rt, self.rt.reader())))
     }
 
     fn create(&mut self, path: &str) -> Result<Self::Out, FileFault> {
@@ -107,8 +113,25 @@ impl<'a, R: rt::Files + Input + Eprint> Files for System<'a, R> {
         }
     }
 
+    fn touch(&mut self, path: &str) -> Result<(), FileFault> {
+        match OpenOptions::new()
+            .append(true)
+            .create(true)
+            .open(self.rt, path)
+        {
+            Ok(_file) => Ok(()),
+            Err(error) => Err(fault_of(&error)),
+        }
+    }
+
+    /// Standard error may be in non-blocking mode: a line that would block is retried, as a whole, until it is written.
     fn report<D: Display + Drop>(&mut self, line: D) {
-        let _ = self.rt.eprintln(line);
+        for _ in 0..u64::MAX {
+            match self.rt.eprintln(&line) {
+                Err(error) if error.kind() == ErrorKind::WouldBlock => pause(self.rt),
+                Ok(()) | Err(_) => return,
+            }
+        }
     }
 }
 

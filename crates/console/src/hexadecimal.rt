@@ -6,7 +6,7 @@ ghost use Rattle.console.specs.Digits.{digit_of, hex_of_u16, digits_of_bytes};
 use arrayvec::ArrayVec;
 
 /// The digit of a value below 16: 0-9, A-F.
-fn digit_of(value: u8) -> u8
+pub(crate) fn digit_of(value: u8) -> u8
     requires { value < 16 }
     ensures { result ≡ digit_of value }
 {

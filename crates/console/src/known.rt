@@ -71,6 +71,10 @@ impl<'a> Files for KnownFiles<'a> {
         Ok(Vec::new(self.alloc))
     }
 
+    fn touch(&mut self, _path: &str) -> Result<(), FileFault> {
+        Ok(())
+    }
+
     fn report<D: Display + Drop>(&mut self, line: D) {
         let _ = writeln!(self.reported, "{line}");
     }

@@ -1,7 +1,9 @@
-//! What all commands share: files, standard output and standard error, reading line by line, exit statuses, and
-//! hexadecimal digits.
+//! What all commands share: files, standard output and standard error, reading line by line, exit statuses,
+//! hexadecimal digits, and texts of unknown origin in messages.
 #![tactic(auto)]
 
+pub mod code_file;
+pub mod escaped;
 pub mod exit;
 pub mod files;
 pub mod hexadecimal;
@@ -10,3 +12,4 @@ pub mod laws;
 pub mod lines;
 pub mod output;
 pub mod pieces;
+pub mod waiting;

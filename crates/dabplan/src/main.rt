@@ -5,36 +5,55 @@
 
 use cli::answer::{answer, answer_without_args};
 use console::files::System;
-use std::env::Env;
+use console::waiting::Waiting;
+use std::env::{Env, FillError};
 use std::process::ExitCode;
 use std::{env, io};
 
 fn main(rt: HostRuntime) -> io::Result<ExitCode> {
     let mut files = System::new(&rt);
-    let mut out = io::writer(&rt);
+    let mut out = Waiting::new(&rt, io::writer(&rt));
     let status = match args(&rt) {
         Ok(args) => answer(rt.alloc(), args.as_slice(), &mut files, &mut out),
         Err(error) => {
-            answer_without_args(rt.alloc(), &error, is_live(&rt), &mut files, &mut out)
+            answer_without_args(rt.alloc(), &error, writes_frames(&rt), &mut files, &mut out)
         }
     };
     Ok(ExitCode::from(status))
 }
 
-/// The arguments after the program's name.
-fn args(rt: &HostRuntime) -> io::Result<Vec<String>> {
-    let mut args: Vec<String> = env::args(rt)?.collect(rt.alloc())?;
-    if !args.is_empty() {
-        args.remove(0);
-    }
-    Ok(args)
+/// An environment whose arguments are those after the program's name, which need not be UTF-8.
+#[derive(Drop)]
+struct AfterName<'a, R> {
+    rt: &'a R,
 }
 
-/// Whether the first argument is `live`. Takes no memory, and later arguments need not be UTF-8.
-fn is_live(rt: &HostRuntime) -> bool {
-    let mut first = [0u8; 4];
+impl<R: Env> Env for AfterName<'_, R> {
+    fn arg(&self, i: usize, buf: &mut [u8]) -> Result<usize, FillError> {
+        self.rt.arg(i.saturating_add(1), buf)
+    }
+
+    fn var(&self, name: &str, buf: &mut [u8]) -> Result<usize, FillError> {
+        self.rt.var(name, buf)
+    }
+
+    fn var_at(&self, i: usize, buf: &mut [u8]) -> Result<usize, FillError> {
+        self.rt.var_at(i, buf)
+    }
+}
+
+/// The arguments after the program's name.
+fn args(rt: &HostRuntime) -> io::Result<Vec<String>> {
+    let args = env::args(&(AfterName { rt }, rt.alloc()))?;
+    Ok(args.collect(rt.alloc())?)
+}
+
+/// Whether the first argument is `live` or `merge`. Takes no memory, and later arguments need not be UTF-8.
+fn writes_frames(rt: &HostRuntime) -> bool {
+    let mut first = [0u8; 5];
     match rt.arg(1, &mut first) {
-        Ok(length) => length == first.len() && first == *b"live",
+        Ok(length) => (length == 5 && first == *b"merge")
+            || (length == 4 && first.starts_with(b"live")),
         Err(_) => false,
     }
 }

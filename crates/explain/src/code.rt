@@ -76,7 +76,7 @@ fn explain_known<W: Write>(
     explain_instr(
         &code.plan(),
         &reach.walk.flow,
-        reach.walk.deeds.as_slice(),
+        &reach.walk.history,
         instr,
         cause,
         out,

@@ -1,7 +1,7 @@
 //! Explains configurations that are not sound.
 
 use crate::edit::{is_there, put_since, service_of, sub_of};
-use crate::history::{Deed, dropped_in};
+use crate::history::History;
 use crate::names::{end_of, put_carrier, put_packet, put_sid, put_sub, put_units, units_of};
 use mux_config::{Carrier, Component, Config, ConfigFault, Packet, Sid, Sub, SubId};
 use std::io::{self, Write};
@@ -134,7 +134,7 @@ fn put_orphan_hint<W: Write>(
 /// Explains a component of a service that refers to a missing object.
 fn put_orphan<W: Write>(
     config: &Config,
-    deeds: &[Deed],
+    history: &History,
     sid: Sid,
     carrier: &Carrier,
     out: &mut W,
@@ -144,15 +144,15 @@ fn put_orphan<W: Write>(
     out.write_all(b" has a component on ")?;
     put_carrier(carrier, out)?;
     out.write_all(b", which is not there")?;
-    put_since(dropped_in(deeds, carrier), "dropped", out)?;
+    put_since(history.dropped(carrier), "dropped", out)?;
     put_orphan_hint(config, sid, carrier, out)
 }
 
 /// Explains a packet component whose sub-channel is missing.
-fn put_orphan_packet<W: Write>(deeds: &[Deed], packet: &Packet, out: &mut W) -> io::Result<()> {
+fn put_orphan_packet<W: Write>(history: &History, packet: &Packet, out: &mut W) -> io::Result<()> {
     put_packet(packet, out)?;
     out.write_all(b" names a sub-channel that is not there")?;
-    put_since(dropped_in(deeds, &Carrier::Sub(packet.sub)), "dropped", out)?;
+    put_since(history.dropped(&Carrier::Sub(packet.sub)), "dropped", out)?;
     let scid = packet.scid.get();
     writeln!(
         out,
@@ -161,12 +161,12 @@ fn put_orphan_packet<W: Write>(deeds: &[Deed], packet: &Packet, out: &mut W) -> 
 }
 
 /// Explains a component or a packet component that refers to a missing object.
-fn explain_orphan<W: Write>(config: &Config, deeds: &[Deed], out: &mut W) -> io::Result<()> {
+fn explain_orphan<W: Write>(config: &Config, history: &History, out: &mut W) -> io::Result<()> {
     if let Some((sid, carrier)) = orphan_component(config) {
-        return put_orphan(config, deeds, sid, &carrier, out);
+        return put_orphan(config, history, sid, &carrier, out);
     }
     if let Some(packet) = orphan_packet(config) {
-        return put_orphan_packet(deeds, &packet, out);
+        return put_orphan_packet(history, &packet, out);
     }
     writeln!(out, "a component names what is not there")
 }
@@ -213,13 +213,13 @@ fn explain_empty<W: Write>(config: &Config, out: &mut W) -> io::Result<()> {
 /// Explains why a configuration is not sound, on the lines after the position, given the instructions executed before.
 pub(crate) fn explain_config<W: Write>(
     config: &Config,
-    deeds: &[Deed],
+    history: &History,
     fault: ConfigFault,
     out: &mut W,
 ) -> io::Result<()> {
     match fault {
         ConfigFault::Overlap(first, second) => explain_overlap(config, first, second, out),
-        ConfigFault::Orphan => explain_orphan(config, deeds, out),
+        ConfigFault::Orphan => explain_orphan(config, history, out),
         ConfigFault::AddressUsed => explain_address(config, out),
         ConfigFault::EmptyService => explain_empty(config, out),
     }

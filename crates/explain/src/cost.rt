@@ -2,7 +2,7 @@
 
 use plan_flow::Cause;
 use script_compiler::{CompileFault, compile};
-use script_front::{Script, ScriptFault, Statement, lex, parse};
+use script_front::{Script, ScriptFault, Token, lex, parse};
 use std::alloc::{AllocError, Global};
 use std::io::{self, Write};
 
@@ -76,77 +76,62 @@ fn longest(alloc: Global, text: &str, budget: u8) -> Result<Option<u16>, AllocEr
     Ok(Some(high))
 }
 
-/// The last line of the loop that begins in this line, if one does.
-#[cycle(loops)]
-fn loop_end(statements: &[Statement], wanted: u16) -> Option<u16> {
-    for statement in statements {
-        let found = loop_end_in(statement, wanted);
-        if found.is_some() {
-            return found;
+/// A loop of a script.
+#[derive(Clone, Copy)]
+struct Loop {
+    /// The line of its closing brace.
+    last: u16,
+    /// Whether it ends, after a number of iterations.
+    ends: bool,
+}
+
+/// The text of a token.
+fn text_of<'a>(text: &'a str, token: &Token) -> &'a str {
+    match text.get(token.start..token.end) {
+        Some(found) => found,
+        None => "",
+    }
+}
+
+/// The line of a token, from 1.
+fn line_of(token: &Token) -> u16 {
+    match u16::try_from(token.position.line) {
+        Ok(line) => line,
+        Err(_later) => u16::MAX,
+    }
+}
+
+/// The line of the brace that closes the first block of these tokens.
+fn closing_line(text: &str, tokens: &[Token]) -> Option<u16> {
+    let mut depth = 0u32;
+    for token in tokens {
+        match text_of(text, token) {
+            "{" => depth = depth.saturating_add(1),
+            "}" if depth <= 1 => return Some(line_of(token)),
+            "}" => depth -= 1,
+            _ => {}
         }
     }
     None
 }
 
-/// [`loop_end`] for one statement.
-#[cycle(loops)]
-fn loop_end_in(statement: &Statement, wanted: u16) -> Option<u16> {
-    match statement {
-        Statement::Repeat { line, body, .. } => {
-            if *line == wanted {
-                return Some(last_line(body, *line));
-            }
-            loop_end(body, wanted)
-        }
-        Statement::Forever { line, body } => {
-            if *line == wanted {
-                return Some(last_line(body, *line));
-            }
-            loop_end(body, wanted)
-        }
-        Statement::If { first, .. } => loop_end(first, wanted),
-        Statement::IfElse { first, second, .. } => {
-            let found = loop_end(first, wanted);
-            if found.is_some() {
-                return found;
-            }
-            loop_end(second, wanted)
-        }
-        Statement::Act { .. } => None,
-        Statement::End { .. } => None,
-        Statement::Apply { .. } => None,
-    }
-}
-
-/// The line of the last of these statements; `line` if there is none.
-fn last_line(statements: &[Statement], line: u16) -> u16 {
-    match statements.last() {
-        None => line,
-        Some(statement) => match statement {
-            Statement::Act { line, .. } => *line,
-            Statement::End { line } => *line,
-            Statement::If { line, .. } => *line,
-            Statement::IfElse { line, .. } => *line,
-            Statement::Repeat { line, .. } => *line,
-            Statement::Forever { line, .. } => *line,
-            Statement::Apply { line, .. } => *line,
-        },
-    }
-}
-
-/// The last line of the loop of a script that begins in this line, after `begin` or in a block.
-fn loop_of(script: &Script, line: u16) -> Option<u16> {
-    let found = loop_end(script.statements(), line);
-    if found.is_some() {
-        return found;
-    }
-    for block in script.blocks() {
-        let found = loop_end(block.as_slice(), line);
-        if found.is_some() {
-            return found;
+/// The first loop of a script that begins in this line, if one does.
+fn loop_of(alloc: Global, text: &str, line: u16) -> Result<Option<Loop>, AllocError> {
+    let tokens = match lex(alloc, text) {
+        Ok(tokens) => tokens,
+        Err(fault) => return if_memory(fault, None),
+    };
+    for (at, token) in tokens.as_slice().iter().enumerate() {
+        let word = text_of(text, token);
+        if line_of(token) == line && (word == "repeat" || word == "forever") {
+            let last = closing_line(text, &tokens.as_slice()[at..]);
+            return Ok(last.map(|last| Loop {
+                last,
+                ends: word == "repeat",
+            }));
         }
     }
-    None
+    Ok(None)
 }
 
 /// The facts that explain a cost.
@@ -154,8 +139,8 @@ fn loop_of(script: &Script, line: u16) -> Option<u16> {
 pub(crate) struct Costs {
     /// The number of instructions on the longest path in one frame, if at most 255.
     longest: Option<u16>,
-    /// The last line of the loop that begins in the refused line, if one does.
-    loop_end: Option<u16>,
+    /// The loop that begins in the refused line, if one does.
+    found: Option<Loop>,
     /// The refused line.
     line: u16,
     /// The budget of the script.
@@ -175,7 +160,7 @@ pub(crate) fn costs_of(
     let budget = script.header().budget;
     Ok(Costs {
         longest: longest(alloc, text, budget)?,
-        loop_end: loop_of(script, line),
+        found: loop_of(alloc, text, line)?,
         line,
         budget,
         is_short,
@@ -202,12 +187,18 @@ pub(crate) fn explain_costs<W: Write>(costs: &Costs, out: &mut W) -> io::Result<
 fn explain_unbounded<W: Write>(costs: &Costs, out: &mut W) -> io::Result<()> {
     let budget = costs.budget;
     let first = costs.line;
-    let Some(last) = costs.loop_end else {
+    let Some(Loop { last, ends }) = costs.found else {
         return writeln!(
             out,
             "from here more than 255 instructions run in one frame; the budget is {budget}\nhint: a 'wait 1' between them"
         );
     };
+    if costs.is_short && ends {
+        return writeln!(
+            out,
+            "an iteration of the loop of lines {first} to {last} can run without a wait: that is refused, however few iterations it has\nhint: a 'wait 1' in the loop, on each path through it"
+        );
+    }
     if costs.is_short {
         return writeln!(
             out,

@@ -2,7 +2,8 @@
 
 ghost use Rattle.std.specs.Prelude.{◌≤◌};
 
-use crate::history::{Deed, added_in, component_dropped_in, dropped_in, service_dropped_in};
+use crate::absent::explain_absent;
+use crate::history::History;
 use crate::names::{put_carrier, put_packet, put_profile, put_service, put_sid, put_sub, units_of};
 use mux_config::{Carrier, Component, Config, Edit, EditFault, Packet, Service, Sid, Sub, SubId};
 use mux_eep::{EepFault, EepSet, Protection, size_of};
@@ -57,7 +58,7 @@ pub(crate) fn put_since<W: Write>(line: Option<u16>, word: &str, out: &mut W) ->
 /// Explains a sub-channel or a packet component that exists already.
 fn carrier_used<W: Write>(
     config: &Config,
-    deeds: &[Deed],
+    history: &History,
     carrier: &Carrier,
     out: &mut W,
 ) -> io::Result<()> {
@@ -74,7 +75,7 @@ fn carrier_used<W: Write>(
         }
     }
     out.write_all(b" is there already")?;
-    put_since(added_in(deeds, carrier), "added", out)?;
+    put_since(history.added(carrier), "added", out)?;
     out.write_all(b"hint: 'drop' it first, or take another number\n")
 }
 
@@ -107,14 +108,14 @@ fn component_used<W: Write>(
 /// Explains what exists already.
 fn explain_used<W: Write>(
     config: &Config,
-    deeds: &[Deed],
+    history: &History,
     edit: &Edit,
     out: &mut W,
 ) -> io::Result<()> {
     match edit {
-        Edit::AddSub(sub) => carrier_used(config, deeds, &Carrier::Sub(sub.get().id), out),
+        Edit::AddSub(sub) => carrier_used(config, history, &Carrier::Sub(sub.get().id), out),
         Edit::AddPacket(packet) => {
-            carrier_used(config, deeds, &Carrier::Packet(packet.scid), out)
+            carrier_used(config, history, &Carrier::Packet(packet.scid), out)
         }
         Edit::AddService(sid) => service_used(config, *sid, out),
         Edit::AddComponent { sid, component } => component_used(config, *sid, component, out),
@@ -124,94 +125,6 @@ fn explain_used<W: Write>(
         | Edit::DropService(_)
         | Edit::DropComponent { .. }
         | Edit::DropPacket(_) => writeln!(out, "what is added is there already"),
-    }
-}
-
-/// Writes the existing sub-channels.
-fn put_subs<W: Write>(config: &Config, out: &mut W) -> io::Result<()> {
-    let mut is_first = true;
-    for sub in config.subs() {
-        if is_first {
-            out.write_all(b"hint: the sub-channels there are")?;
-        }
-        let id = sub.id.get();
-        write!(out, " {id}")?;
-        is_first = false;
-    }
-    if is_first {
-        out.write_all(b"hint: there is no sub-channel")?;
-    }
-    writeln!(out)
-}
-
-/// Explains a missing sub-channel or packet component.
-fn carrier_absent<W: Write>(
-    config: &Config,
-    deeds: &[Deed],
-    carrier: &Carrier,
-    out: &mut W,
-) -> io::Result<()> {
-    put_carrier(carrier, out)?;
-    out.write_all(b" is not there")?;
-    put_since(dropped_in(deeds, carrier), "dropped", out)?;
-    match carrier {
-        Carrier::Sub(_) => put_subs(config, out),
-        Carrier::Packet(_) => out.write_all(b"hint: add it first, as 'packet' does\n"),
-    }
-}
-
-/// Explains a missing service.
-fn service_absent<W: Write>(deeds: &[Deed], sid: Sid, out: &mut W) -> io::Result<()> {
-    out.write_all(b"service ")?;
-    put_sid(sid, out)?;
-    out.write_all(b" is not there")?;
-    put_since(service_dropped_in(deeds, sid), "dropped", out)?;
-    out.write_all(b"hint: add it first, as 'service ")?;
-    put_sid(sid, out)?;
-    out.write_all(b"' does\n")
-}
-
-/// Explains a missing component, or its missing service.
-fn component_absent<W: Write>(
-    config: &Config,
-    deeds: &[Deed],
-    sid: Sid,
-    carrier: &Carrier,
-    out: &mut W,
-) -> io::Result<()> {
-    let Some(service) = service_of(config, sid) else {
-        return service_absent(deeds, sid, out);
-    };
-    put_service(service, out)?;
-    out.write_all(b" has no component on ")?;
-    put_carrier(carrier, out)?;
-    put_since(component_dropped_in(deeds, sid, carrier), "dropped", out)?;
-    if service.components.len() == 0 {
-        return out.write_all(b"hint: there is no component in it\n");
-    }
-    out.write_all(b"hint: name one that it has\n")
-}
-
-/// Explains what is missing.
-fn explain_absent<W: Write>(
-    config: &Config,
-    deeds: &[Deed],
-    edit: &Edit,
-    out: &mut W,
-) -> io::Result<()> {
-    match edit {
-        Edit::DropSub(id) => carrier_absent(config, deeds, &Carrier::Sub(*id), out),
-        Edit::MoveSub { id, .. } => carrier_absent(config, deeds, &Carrier::Sub(*id), out),
-        Edit::RateSub { id, .. } => carrier_absent(config, deeds, &Carrier::Sub(*id), out),
-        Edit::DropPacket(scid) => carrier_absent(config, deeds, &Carrier::Packet(*scid), out),
-        Edit::DropService(sid) => service_absent(deeds, *sid, out),
-        Edit::AddComponent { sid, .. } => service_absent(deeds, *sid, out),
-        Edit::DropComponent { sid, carrier } => {
-            component_absent(config, deeds, *sid, carrier, out)
-        }
-        Edit::AddSub(_) | Edit::AddService(_) | Edit::AddPacket(_) => {
-            writeln!(out, "what the edit names is not there")
-        }
     }
 }
 
@@ -371,18 +284,18 @@ fn explain_packet_address<W: Write>(edit: &Edit, out: &mut W) -> io::Result<()> 
     )
 }
 
-/// Explains a refused edit, on the lines after the position, given the configuration and the instructions executed
-/// before.
+/// Explains a refused edit, on the lines after the position, given the configuration and what was executed on the path to
+/// it.
 pub(crate) fn explain_edit<W: Write>(
     config: &Config,
-    deeds: &[Deed],
+    history: &History,
     edit: &Edit,
     fault: EditFault,
     out: &mut W,
 ) -> io::Result<()> {
     match fault {
-        EditFault::IdUsed => explain_used(config, deeds, edit, out),
-        EditFault::IdAbsent => explain_absent(config, deeds, edit, out),
+        EditFault::IdUsed => explain_used(config, history, edit, out),
+        EditFault::IdAbsent => explain_absent(config, history, edit, out),
         EditFault::TooManyComponents => explain_components(config, edit, out),
         EditFault::TableFull => explain_full(edit, out),
         EditFault::PastEnd => match edited_sub(config, edit) {

@@ -117,11 +117,27 @@ fn cost_at(code: &Code, pc: u16) -> Option<u8> {
     }
 }
 
+/// What the allowance is part of.
+fn allowance_source(reach: &Reach) -> &'static str {
+    if reach.is_of_budget {
+        "by the budget since the wait before"
+    } else {
+        "as the label before declares"
+    }
+}
+
 /// Explains a label whose cost is more than the remaining allowance.
-fn explain_allowance<W: Write>(pc: u16, left: u8, cost: u8, out: &mut W) -> io::Result<()> {
+fn explain_allowance<W: Write>(
+    reach: &Reach,
+    pc: u16,
+    left: u8,
+    cost: u8,
+    out: &mut W,
+) -> io::Result<()> {
+    let source = allowance_source(reach);
     writeln!(
         out,
-        "the label of instruction {pc} declares that {cost} instructions may run from there in one frame; {left} may still run, as the label before declares"
+        "the label of instruction {pc} declares that {cost} instructions may run from there in one frame; {left} may still run, {source}"
     )
 }
 
@@ -135,7 +151,7 @@ pub(crate) fn explain_cost<W: Write>(
     let budget = code.plan().budget;
     if let Some(cost) = cost_at(code, pc) {
         if reach.comes && reach.allowance < cost {
-            return explain_allowance(pc, reach.allowance, cost, out);
+            return explain_allowance(reach, pc, reach.allowance, cost, out);
         }
         if budget < cost {
             return writeln!(
@@ -159,12 +175,13 @@ fn explain_cost_after<W: Write>(
     if reach.allowance > 0 {
         if let Some(target) = target_at(code, pc) {
             if let Some(cost) = cost_at(code, target) {
-                return explain_allowance(target, reach.allowance - 1, cost, out);
+                return explain_allowance(reach, target, reach.allowance - 1, cost, out);
             }
         }
     }
+    let source = allowance_source(reach);
     writeln!(
         out,
-        "no more instructions may run in this frame before instruction {pc}, as the label before declares; the budget is {budget}"
+        "no more instructions may run in this frame before instruction {pc}, {source}; the budget is {budget}"
     )
 }

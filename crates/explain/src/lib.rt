@@ -2,11 +2,12 @@
 //! involved.
 //!
 //! [`explain_fault`] explains why a text is not a script, [`explain_script`] why a script is not compiled, and
-//! [`explain_code`] why a code is refused. The facts come from the functions that refuse: `parse` decides what is valid
-//! at a position, the transfer function of plans is applied up to the refused statement, and the longest path is found
-//! with `compile`.
+//! [`explain_code`] why a code is refused. Most facts come from the functions that refuse: `parse` decides what is valid
+//! at a position, `Flow::apply` is called up to the refused statement, and the longest path is found with `compile`.
+//! Counters and allowances of a code, pages and limits are looked up here.
 #![tactic(auto)]
 
+mod absent;
 mod cause;
 mod code;
 mod config;

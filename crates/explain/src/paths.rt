@@ -89,11 +89,43 @@ fn put_swaps<W: Write>(here: Swap, there: Swap, sides: Sides, out: &mut W) -> io
     out.write_all(b"\n")
 }
 
+/// Writes how to make a loop end with the swap state with which it begins in this line.
+fn put_loop_hint<W: Write>(
+    end: Swap,
+    beginning: Swap,
+    line: u16,
+    has_same_commit: bool,
+    out: &mut W,
+) -> io::Result<()> {
+    let word = match beginning {
+        Swap::Idle => {
+            return writeln!(
+                out,
+                "hint: 'join' at the end of the loop, or 'settle' where the swap may have come"
+            );
+        }
+        Swap::Within(_, _) => "'join' or 'settle'",
+        Swap::Perhaps(_) => "'settle'",
+    };
+    if is_idle(end) || has_same_commit {
+        return writeln!(
+            out,
+            "hint: {word} before line {line}: the loop would begin with no swap pending"
+        );
+    }
+    writeln!(
+        out,
+        "hint: {word} before line {line}, and 'settle' at the end of the loop: no swap would be pending at either"
+    )
+}
+
 /// Explains a loop whose body does not restore its initial state, on the lines after the position: what is known at its
-/// end, and at its beginning.
+/// end, and at its beginning in this line; and whether the last commit on the path is the same at both.
 pub(crate) fn explain_loop<W: Write>(
     end: &Flow<Config>,
     beginning: &Flow<Config>,
+    line: u16,
+    has_same_commit: bool,
     out: &mut W,
 ) -> io::Result<()> {
     let sides = Sides {
@@ -103,10 +135,7 @@ pub(crate) fn explain_loop<W: Write>(
     out.write_all(b"the loop does not come back as it began: ")?;
     if has_other_swap(end.pending, beginning.pending) {
         put_swaps(end.pending, beginning.pending, sides, out)?;
-        return writeln!(
-            out,
-            "hint: 'join' at the end of the loop, or 'settle' where the swap may have come"
-        );
+        return put_loop_hint(end.pending, beginning.pending, line, has_same_commit, out);
     }
     if !put_configs(end, beginning, sides, out)? {
         writeln!(out)?;

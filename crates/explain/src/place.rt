@@ -70,24 +70,35 @@ fn line_of(text: &[u8], number: usize) -> &[u8] {
     &text[..0]
 }
 
-/// Writes a line of the text, and a caret under a column of it. Bytes that a terminal would not show are written as `?`.
+/// A line without the carriage return at its end, if it has one.
+fn without_return(line: &[u8]) -> &[u8] {
+    if let Some((last, front)) = line.split_last() {
+        if *last == b'\r' {
+            return front;
+        }
+    }
+    line
+}
+
+/// Writes a line of the text, and a caret under a column of it. Of a long line the first bytes are shown, or those
+/// around the column. Bytes that a terminal would not show are written as `?`.
 pub(crate) fn show_position<W: Write>(
     text: &[u8],
     position: Position,
     out: &mut W,
 ) -> io::Result<()> {
-    let line = line_of(text, position.line);
-    let shown = line.len().min(SHOWN);
+    let line = without_return(line_of(text, position.line));
+    let column = position.column.saturating_sub(1);
+    let start = if column < SHOWN {
+        0
+    } else {
+        column - SHOWN / 2
+    };
+    let end = line.len().min(start.saturating_add(SHOWN));
     out.write_all(b"    ")?;
-    for byte in &line[..shown] {
-        put_byte(*byte, out)?;
-    }
-    out.write_all(b"\n")?;
-    if position.column > SHOWN {
-        return Ok(());
-    }
-    out.write_all(b"    ")?;
-    for _column in 1..position.column {
+    put_bytes(between(line, start, end), out)?;
+    out.write_all(b"\n    ")?;
+    for _column in start..column {
         out.write_all(b" ")?;
     }
     out.write_all(b"^\n")

@@ -45,6 +45,9 @@ const WORDS: [&str; 38] = [
     "apply",
 ];
 
+/// Words for a state of a contact that do not say whether it is closed or open.
+const LEVELS: [&str; 6] = ["on", "off", "high", "low", "true", "false"];
+
 /// The number of letters that two words have in common at the beginning.
 fn common_front(a: &[u8], b: &[u8]) -> usize {
     for (at, letter) in a.iter().enumerate() {
@@ -139,6 +142,14 @@ fn value_meant(alloc: Global, front: &Front, token: &[u8]) -> Result<Option<Stri
     if let Some(found) = if_passes(alloc, front, short)? {
         return Ok(Some(found));
     }
+    if token.contains(&b':') {
+        return time_meant(alloc, front, token);
+    }
+    Ok(None)
+}
+
+/// A time that may have been meant by one without seconds, or with an hour of one digit.
+fn time_meant(alloc: Global, front: &Front, token: &[u8]) -> Result<Option<String>, AllocError> {
     let token = text_of(alloc, token)?;
     let with_seconds = format!(in alloc; "{token}:00")?;
     if let Some(found) = if_passes(alloc, front, with_seconds)? {
@@ -177,6 +188,16 @@ fn token_meant(alloc: Global, front: &Front, token: &[u8]) -> Result<Option<Stri
         }
     }
     Ok(None)
+}
+
+/// Whether a token names a state that may be either of a contact's, closed or open.
+pub(crate) fn is_level(token: &[u8]) -> bool {
+    for word in LEVELS {
+        if token.eq_ignore_ascii_case(word.as_bytes()) {
+            return true;
+        }
+    }
+    false
 }
 
 /// What may have been meant by a token: another token that is valid in its position, if one is found.

@@ -4,7 +4,7 @@ use crate::cause::explain_instr;
 use crate::config::explain_config;
 use crate::cost::{Costs, costs_of, explain_costs};
 use crate::edit::explain_edit;
-use crate::history::Deed;
+use crate::history::History;
 use crate::limit::explain_code_limit;
 use crate::paths::{explain_loop, explain_paths};
 use crate::room::explain_opening;
@@ -27,7 +27,7 @@ struct BadItem {
 /// The first refusal in a script, found by a walk through it.
 #[derive(Drop)]
 struct PlanPath {
-    /// What is known there, and the executed instructions.
+    /// What is known there, and what was executed before.
     walk: Walk,
     /// The item with a fault, if one has.
     item: Option<BadItem>,
@@ -53,7 +53,7 @@ fn plan_of(script: &Script) -> Plan {
 fn add_items(
     script: &Script,
     opening: &mut Config,
-    deeds: &mut Vec<Deed>,
+    history: &mut History,
 ) -> Result<Option<BadItem>, AllocError> {
     for item in script.items() {
         if let Err(fault) = item.edit.apply(opening) {
@@ -62,13 +62,7 @@ fn add_items(
                 fault,
             }));
         }
-        let done = Deed {
-            line: item.line,
-            instr: Instr::Edit(item.edit),
-        };
-        if deeds.push(done).is_err() {
-            return Err(AllocError);
-        }
+        history.push(item.line, Instr::Edit(item.edit))?;
     }
     Ok(None)
 }
@@ -76,11 +70,11 @@ fn add_items(
 /// Walks through a script up to the first refusal.
 fn path_to(alloc: Global, script: &Script) -> Result<PlanPath, AllocError> {
     let mut opening = Config::new();
-    let mut deeds = Vec::new(alloc);
-    let item = add_items(script, &mut opening, &mut deeds)?;
+    let mut history = History::new(alloc);
+    let item = add_items(script, &mut opening, &mut history)?;
     let is_made = item.is_none();
     let mut path_taken = PlanPath {
-        walk: Walk::new(alloc, &opening, deeds),
+        walk: Walk::new(alloc, &opening, history),
         item,
         opening: None,
         stop: None,
@@ -118,9 +112,7 @@ fn extend(
 /// Explains a refused opening.
 fn explain_begin<W: Write>(plan: &Plan, walk: &Walk, cause: Cause, out: &mut W) -> io::Result<()> {
     match cause {
-        Cause::Config(fault) => {
-            explain_config(&walk.flow.next, walk.deeds.as_slice(), fault, out)
-        }
+        Cause::Config(fault) => { explain_config(&walk.flow.next, &walk.history, fault, out) }
         Cause::Round => explain_opening(plan, &walk.flow.next, out),
         Cause::Edit(_)
         | Cause::Pending
@@ -138,25 +130,26 @@ fn explain_begin<W: Write>(plan: &Plan, walk: &Walk, cause: Cause, out: &mut W) 
     }
 }
 
-/// Explains control-flow paths that can't be merged.
-fn explain_meeting<W: Write>(walk: &Walk, is_loop: bool, out: &mut W) -> io::Result<()> {
+/// Explains control-flow paths that can't be merged: of the loop that begins in this line, or else of an `if`.
+fn explain_meeting<W: Write>(walk: &Walk, loop_line: Option<u16>, out: &mut W) -> io::Result<()> {
     let Some(other) = &walk.other else {
         return writeln!(out, "two paths meet that differ");
     };
-    if is_loop {
-        return explain_loop(&walk.flow, other, out);
-    }
-    explain_paths(&walk.flow, other, out)
+    let Some(line) = loop_line else {
+        return explain_paths(&walk.flow, &other.flow, out);
+    };
+    let has_same_commit = walk.history.commit() == other.end.commit();
+    explain_loop(&walk.flow, &other.flow, line, has_same_commit, out)
 }
 
 /// Explains the refusal at which the walk stops, on the lines after its position.
 fn explain_stop<W: Write>(plan: &Plan, walk: &Walk, stop: &Stop, out: &mut W) -> io::Result<()> {
     match stop {
         Stop::Act { instr, cause, .. } => {
-            explain_instr(plan, &walk.flow, walk.deeds.as_slice(), instr, *cause, out)
+            explain_instr(plan, &walk.flow, &walk.history, instr, *cause, out)
         }
-        Stop::Loop { .. } => explain_meeting(walk, true, out),
-        Stop::Ways { .. } => explain_meeting(walk, false, out),
+        Stop::Loop { line } => explain_meeting(walk, Some(*line), out),
+        Stop::Ways { .. } => explain_meeting(walk, None, out),
         Stop::Unreached { after, .. } => writeln!(
             out,
             "it can't be reached: the statement in line {after} does not continue to it\nhint: leave it out"
@@ -188,7 +181,7 @@ fn explain_path<W: Write>(
     if let Some(item) = &path_taken.item {
         return explain_edit(
             &path_taken.walk.flow.next,
-            path_taken.walk.deeds.as_slice(),
+            &path_taken.walk.history,
             &item.edit,
             item.fault,
             out,

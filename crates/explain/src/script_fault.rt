@@ -3,8 +3,8 @@
 use crate::expected::Expected;
 use crate::place::{offset_of, put_bytes, show_position, token_at};
 use crate::probe::Front;
-use crate::repair::meant_by;
-use script_front::{Position, ScriptFault};
+use crate::repair::{is_level, meant_by};
+use script_front::{Position, ScriptFault, lex};
 use std::alloc::{AllocError, Global};
 use std::io::{self, Error, ErrorKind, Write};
 
@@ -57,20 +57,51 @@ struct Mending {
     meant: Option<String>,
     /// Whether the token is a header keyword out of order.
     is_out_of_order: bool,
+    /// Whether the token is a state of a contact that may be either of `closed` and `open`.
+    is_level: bool,
+    /// The line of the brace that is open at the end of the script, if the script ends there.
+    open_brace: Option<usize>,
 }
 
 /// Finds the corrections for a token after the front.
 fn mending_of(alloc: Global, front: &Front, token: &[u8]) -> Result<Mending, AllocError> {
     let is_out_of_order = is_out_of_order(alloc, front, token)?;
-    let meant = if is_out_of_order {
+    let is_level = is_level(token) && front.passes(alloc, "closed")?;
+    let meant = if is_out_of_order || is_level {
         None
     } else {
         meant_by(alloc, front, token)?
     };
+    let open_brace = if token.is_empty() {
+        open_brace(alloc, front.text())?
+    } else {
+        None
+    };
     Ok(Mending {
         meant,
         is_out_of_order,
+        is_level,
+        open_brace,
     })
+}
+
+/// The line of the last brace of a text that is not closed.
+fn open_brace(alloc: Global, text: &str) -> Result<Option<usize>, AllocError> {
+    let tokens = match lex(alloc, text) {
+        Ok(tokens) => tokens,
+        Err(ScriptFault::Memory) => return Err(AllocError),
+        Err(_fault) => return Ok(None),
+    };
+    let mut closed = 0u32;
+    for token in tokens.as_slice().iter().rev() {
+        match text.get(token.start..token.end) {
+            Some("}") => closed = closed.saturating_add(1),
+            Some("{") if closed == 0 => return Ok(Some(token.position.line)),
+            Some("{") => closed -= 1,
+            _ => {}
+        }
+    }
+    Ok(None)
 }
 
 /// Writes the corrections.
@@ -79,6 +110,14 @@ fn put_mending<W: Write>(mending: &Mending, out: &mut W) -> io::Result<()> {
         return out.write_all(
             b"hint: the header's order: 'ensemble', 'mode', which may be left out, 'period', 'notice', 'budget'\n",
         );
+    }
+    if mending.is_level {
+        return out.write_all(
+            b"hint: write 'closed' where the input's circuit is closed, 'open' where it is not\n",
+        );
+    }
+    if let Some(line) = mending.open_brace {
+        return writeln!(out, "hint: the brace opened in line {line} is not closed");
     }
     match &mending.meant {
         Some(token) => writeln!(out, "hint: write '{token}'"),

@@ -1,6 +1,5 @@
 //! Explains refused commits and waits.
 
-use crate::history::{Deed, committed_in};
 use plan_code::{Delay, Frames, Plan, Swap};
 use std::io::{self, Write};
 
@@ -24,14 +23,14 @@ pub(crate) fn put_swap<W: Write>(pending: Swap, out: &mut W) -> io::Result<()> {
     }
 }
 
-/// Explains an edit or a commit while a swap is or may be pending.
+/// Explains an edit or a commit while a swap is or may be pending, by the commit in this line if it is known.
 pub(crate) fn explain_pending<W: Write>(
     pending: Swap,
-    deeds: &[Deed],
+    commit: Option<u16>,
     out: &mut W,
 ) -> io::Result<()> {
     put_swap(pending, out)?;
-    match committed_in(deeds) {
+    match commit {
         Some(line) => writeln!(
             out,
             ", by the commit in line {line}; until then the next configuration stays as it is\nhint: 'join' after the commit in line {line}, or 'settle' before this line"
@@ -84,11 +83,11 @@ pub(crate) fn explain_join<W: Write>(pending: Swap, out: &mut W) -> io::Result<(
     }
 }
 
-/// Explains a wait that may end before the swap or after it.
+/// Explains a wait that may end before the swap or after it, which is pending by the commit in this line if it is known.
 pub(crate) fn explain_wait<W: Write>(
     pending: Swap,
     frames: Frames,
-    deeds: &[Deed],
+    commit: Option<u16>,
     out: &mut W,
 ) -> io::Result<()> {
     let frames = frames.get();
@@ -99,7 +98,7 @@ pub(crate) fn explain_wait<W: Write>(
         out,
         "after {frames} frames the swap has come or not, as the count allows: it comes after {low} to {high} frames"
     )?;
-    match committed_in(deeds) {
+    match commit {
         Some(line) => writeln!(out, ", by the commit in line {line}")?,
         None => writeln!(out)?,
     }

@@ -1,6 +1,6 @@
 //! Walks through a script up to the refused statement, with the transfer function of plans.
 
-use crate::history::Deed;
+use crate::history::{History, PathEnd};
 use mux_config::{Config, Store};
 use plan_code::{Instr, Plan, Swap};
 use plan_flow::{Cause, Flow};
@@ -49,18 +49,27 @@ impl From<AllocError> for Stop {
     }
 }
 
-/// What is known at a statement, and the executed instructions.
+/// What is known at a statement, and the path to it.
+#[derive(Drop)]
+pub(crate) struct Saved {
+    /// What is known of the configurations and the swap.
+    pub(crate) flow: Flow<Config>,
+    /// What was executed on the path.
+    pub(crate) end: PathEnd,
+}
+
+/// What is known at a statement, and what was executed before it.
 #[derive(Drop)]
 pub(crate) struct Walk {
     /// What is known of the configurations and the swap.
     pub(crate) flow: Flow<Config>,
-    /// The executed instructions so far, in the order of the text.
-    pub(crate) deeds: Vec<Deed>,
+    /// What was executed on the path so far.
+    pub(crate) history: History,
     /// What is known at the entry of each enclosing loop or branch, or at the end of its first branch.
-    saved: Vec<Flow<Config>>,
+    saved: Vec<Saved>,
     /// The other path, where two can't be merged: the beginning of a loop, or the path past an `if` or through its
     /// first block.
-    pub(crate) other: Option<Flow<Config>>,
+    pub(crate) other: Option<Saved>,
     /// The number of statements that may still be visited.
     left: u32,
 }
@@ -100,14 +109,14 @@ impl Walk {
     }
 
     /// The start of a walk, at this opening.
-    pub(crate) fn new(alloc: Global, opening: &Config, deeds: Vec<Deed>) -> Walk {
+    pub(crate) fn new(alloc: Global, opening: &Config, history: History) -> Walk {
         Walk {
             flow: Flow {
                 current: copied(opening),
                 next: copied(opening),
                 pending: Swap::Idle,
             },
-            deeds,
+            history,
             saved: Vec::new(alloc),
             other: None,
             left: MOST,
@@ -123,18 +132,16 @@ impl Walk {
                 cause,
             });
         }
-        match self.deeds.push(Deed {
-            line,
-            instr: *instr,
-        }) {
-            Ok(()) => Ok(()),
-            Err(_full) => Err(Stop::Memory),
-        }
+        self.history.push(line, *instr)?;
+        Ok(())
     }
 
     /// Saves what is known here.
     fn save(&mut self) -> Result<(), Stop> {
-        let kept = same_flow(&self.flow);
+        let kept = Saved {
+            flow: same_flow(&self.flow),
+            end: self.history.end(),
+        };
         match self.saved.push(kept) {
             Ok(()) => Ok(()),
             Err(_full) => Err(Stop::Memory),
@@ -142,20 +149,32 @@ impl Walk {
     }
 
     /// Removes and returns what was saved last.
-    fn restore(&mut self) -> Result<Flow<Config>, Stop> {
+    fn restore(&mut self) -> Result<Saved, Stop> {
         match self.saved.pop() {
-            Some(flow) => Ok(flow),
+            Some(saved) => Ok(saved),
             None => Err(Stop::Long),
         }
     }
 
+    /// Changes to another path.
+    fn change_to(&mut self, other: Saved) {
+        self.history.return_to(other.end);
+        self.flow = other.flow;
+    }
+
     /// Merges this path with another one; this one may be unreachable.
-    fn join(&mut self, falls: bool, line: u16, other: Flow<Config>) -> Result<(), Stop> {
+    fn join(&mut self, falls: bool, line: u16, other: Saved) -> Result<(), Stop> {
         if !falls {
-            self.flow = other;
+            self.change_to(other);
             return Ok(());
         }
-        if self.flow.meet(&other) {
+        let pending = self.flow.pending;
+        if self.flow.meet(&other.flow) {
+            let end = self
+                .history
+                .end()
+                .merged(pending, &other.end, other.flow.pending);
+            self.history.return_to(end);
             return Ok(());
         }
         self.other = Some(other);
@@ -168,7 +187,11 @@ impl Walk {
         if !falls {
             return Ok(());
         }
-        if self.flow.fits(&entry.current, &entry.next, entry.pending) {
+        let beginning = &entry.flow;
+        if self
+            .flow
+            .fits(&beginning.current, &beginning.next, beginning.pending)
+        {
             return Ok(());
         }
         self.other = Some(entry);
@@ -310,7 +333,7 @@ impl Walk {
             Ok(falls) => falls,
             Err(stop) => return Err(stop),
         };
-        if let Err(stop) = self.iteration() {
+        if let Err(stop) = self.begin_else() {
             return Err(stop);
         }
         let second_falls = match self.block(plan, blocks, depth, second) {
@@ -321,10 +344,10 @@ impl Walk {
     }
 
     /// Ends a first branch: saves what is known there, and begins the second with what was known before both.
-    fn iteration(&mut self) -> Result<(), Stop> {
+    fn begin_else(&mut self) -> Result<(), Stop> {
         let entry = self.restore()?;
         self.save()?;
-        self.flow = entry;
+        self.change_to(entry);
         Ok(())
     }
 

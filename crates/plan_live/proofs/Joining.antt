@@ -1,5 +1,5 @@
 -- Playing events, and then more of them.
-use Rattle.std.proofs.Common.{◌≡◌, ℕ, zero, suc, ◌+◌, ◌-◌, Bool, true, false, List, [], ◌∷◌, ◌++◌, length, drop, refl, sym, ap, ◌∙◌, arith, append_assoc, length-append}
+use Rattle.std.proofs.Common.{◌≡◌, ℕ, zero, suc, ◌+◌, ◌-◌, List, [], ◌∷◌, ◌++◌, length, drop, refl, sym, ap, ◌∙◌, arith, append_assoc, length-append}
 use Rattle.std.specs.List.{concat}
 use Rattle.std.proofs.lemmas.List.Folds.{concat-append}
 use Rattle.plan_code.specs.Program.{Program}
@@ -13,9 +13,10 @@ use Rattle.plan_player.specs.Playing.{Playing, last_steps, played}
 use Rattle.plan_player.specs.Delivery.{frames_of}
 use Rattle.plan_session.specs.declared.step.Step.{Step}
 use Rattle.plan_session.specs.Events.{events_of_step, events_of}
+use Rattle.plan_live.specs.declared.options.Wanted.{Wanted}
 use Rattle.plan_live.specs.declared.message.Message.{Message}
 use Rattle.plan_live.specs.Living.{kept_bytes}
-use Rattle.plan_live.specs.Notes.{frame_notes, notes, notes_if}
+use Rattle.plan_live.specs.Notes.{wanted_notes, notes}
 
 -- ---- the player and its frames
 
@@ -72,32 +73,27 @@ kept_from skip p q n m xs ys state count =
 
 -- ---- the notes
 
-notes_join : (n : ℕ) (p : Program) (s : State) (xs ys : List Event) → notes n p s (xs ++ ys) ≡ notes n p s xs ++ notes (n + length (run_frames p s xs)) p (run p s xs) ys
-notes_join n p s [] ys =
+notes_join : (wanted : Wanted) (n : ℕ) (p : Program) (s : State) (xs ys : List Event)
+    → notes wanted n p s (xs ++ ys) ≡ notes wanted n p s xs ++ notes wanted (n + length (run_frames p s xs)) p (run p s xs) ys
+notes_join wanted n p s [] ys =
     let same : n ≡ n + 0 = omega arith in
-    ap (λ (k : ℕ). notes k p s ys) same
-notes_join n p s (Contact c closed ∷ xs) ys = notes_join n p (happens p s (Contact c closed)) xs ys
-notes_join n p s (Frame ∷ xs) ys =
+    ap (λ (k : ℕ). notes wanted k p s ys) same
+notes_join wanted n p s (Contact c closed ∷ xs) ys = notes_join wanted n p (happens p s (Contact c closed)) xs ys
+notes_join wanted n p s (Frame ∷ xs) ys =
     let t : State = after_frame p s in
     let count : (n + 1) + length (run_frames p t xs) ≡ n + suc (length (run_frames p t xs)) = omega arith in
-    ap (λ (l : List Message). frame_notes n p s ++ l) (notes_join (n + 1) p t xs ys ∙ ap (λ (k : ℕ). notes (n + 1) p t xs ++ notes k p (run p t xs) ys) count)
-    ∙ sym (append_assoc (frame_notes n p s) (notes (n + 1) p t xs) (notes (n + suc (length (run_frames p t xs))) p (run p t xs) ys))
+    ap (λ (l : List Message). wanted_notes wanted n p s ++ l) (notes_join wanted (n + 1) p t xs ys ∙ ap (λ (k : ℕ). notes wanted (n + 1) p t xs ++ notes wanted k p (run p t xs) ys) count)
+    ∙ sym (append_assoc (wanted_notes wanted n p s) (notes wanted (n + 1) p t xs) (notes wanted (n + suc (length (run_frames p t xs))) p (run p t xs) ys))
 
-notes_if_join : (status : Bool) (n : ℕ) (p : Program) (s : State) (xs ys : List Event)
-    → notes_if status n p s (xs ++ ys) ≡ notes_if status n p s xs ++ notes_if status (n + length (run_frames p s xs)) p (run p s xs) ys
-notes_if_join false n p s xs ys = refl
-notes_if_join true n p s xs ys = notes_join n p s xs ys
+pub notes_none : (wanted : Wanted) (n : ℕ) (p : Program) (s : State) → notes wanted n p s [] ≡ []
+notes_none wanted n p s = refl
 
-pub notes_none : (status : Bool) (n : ℕ) (p : Program) (s : State) → notes_if status n p s [] ≡ []
-notes_none false n p s = refl
-notes_none true n p s = refl
-
-pub notes_from : (status : Bool) (p q : Playing) (n m : ℕ) (xs ys : List Event) → q ≡ played p xs → m ≡ n + length (frames_of p xs)
-    → notes_if status n p.code p.state xs ++ notes_if status m q.code q.state ys ≡ notes_if status n p.code p.state (xs ++ ys)
-notes_from status p q n m xs ys state count =
-    ap (λ (x : Playing). notes_if status n p.code p.state xs ++ notes_if status m x.code x.state ys) state
-    ∙ ap (λ (k : ℕ). notes_if status n p.code p.state xs ++ notes_if status k p.code (run p.code p.state xs) ys) count
-    ∙ sym (notes_if_join status n p.code p.state xs ys)
+pub notes_from : (wanted : Wanted) (p q : Playing) (n m : ℕ) (xs ys : List Event) → q ≡ played p xs → m ≡ n + length (frames_of p xs)
+    → notes wanted n p.code p.state xs ++ notes wanted m q.code q.state ys ≡ notes wanted n p.code p.state (xs ++ ys)
+notes_from wanted p q n m xs ys state count =
+    ap (λ (x : Playing). notes wanted n p.code p.state xs ++ notes wanted m x.code x.state ys) state
+    ∙ ap (λ (k : ℕ). notes wanted n p.code p.state xs ++ notes wanted k p.code (run p.code p.state xs) ys) count
+    ∙ sym (notes_join wanted n p.code p.state xs ys)
 
 -- ---- the events of steps
 

@@ -7,4 +7,5 @@ mod Starts
 mod Steps
 mod Vectors
 mod VectorsOfGoing
+mod VectorsOfMessages
 mod VectorsOfRuns

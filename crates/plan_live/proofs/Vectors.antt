@@ -32,9 +32,10 @@ use Rattle.plan_session.specs.Events.{HoldsOneList}
 use Rattle.plan_live.specs.declared.line.Unread.TheVariants.{Bad as IsBad, Memory}
 use Rattle.plan_live.specs.declared.message.LineFault.TheVariants.{Limit, NoText, Byte, Number, Expected}
 use Rattle.plan_live.specs.declared.message.Message.{Message}
-use Rattle.plan_live.specs.declared.message.Message.TheVariants.{Bad, Swap, Notice, End}
+use Rattle.plan_live.specs.declared.message.Message.TheVariants.{Bad, Swap, Notice, End, Passed}
+use Rattle.plan_live.specs.declared.options.Wanted.{Wanted}
 use Rattle.plan_live.specs.Growing.{Grows}
-use Rattle.plan_live.specs.Notes.{swap_note, notice_note, has_ended, end_note, frame_notes, notes, notes_if}
+use Rattle.plan_live.specs.Notes.{swap_note, notice_note, has_ended, end_note, every_note, frame_notes, notes}
 use Rattle.plan_live.specs.Lines.{LineHolds, HoldsNone, IsLineFault, LineDoes, LinesDo, unread_of, IsUnread}
 
 -- ---- values shared by these vectors: a code of an empty multiplex that waits for a frame and ends
@@ -96,11 +97,11 @@ a_frame_before_a_swap = refl
 no_swap : swap_note 7 first ≡ []
 no_swap = refl
 
-a_notice : notice_note 4 4 plan (record first { left = Some 24; next = with_packet }) ≡ Notice 4 4 2 28 ∷ []
+a_notice : notice_note 4 4 plan (record first { left = Some 24; next = with_packet }) ≡ Notice 4 4 2 28 24 ∷ []
 a_notice = refl
 
 -- the swap is at the CIF count 14, which is 4990 + 24 - 5000
-a_notice_over_the_last_count : notice_note 6 4990 plan (record first { left = Some 24; next = with_packet }) ≡ Notice 6 4990 2 14 ∷ []
+a_notice_over_the_last_count : notice_note 6 4990 plan (record first { left = Some 24; next = with_packet }) ≡ Notice 6 4990 2 14 24 ∷ []
 a_notice_over_the_last_count = refl
 
 within_a_notice : notice_note 5 5 plan (record first { left = Some 23; next = with_packet }) ≡ []
@@ -131,17 +132,46 @@ both = refl
 no_note : frame_notes 0 waits first ≡ []
 no_note = refl
 
-of_a_run : notes 5 waits first (Frame ∷ Contact 3 true ∷ Frame ∷ Frame ∷ []) ≡ End 6 1 ∷ []
+-- ---- those that are wanted
+
+abbrev pub with_status : Wanted
+with_status = record { status = true; every = 0 }
+
+abbrev pub without_status : Wanted
+without_status = record { status = false; every = 0 }
+
+-- after every second frame
+abbrev pub every_second : Wanted
+every_second = record { status = false; every = 2 }
+
+of_a_run : notes with_status 5 waits first (Frame ∷ Contact 3 true ∷ Frame ∷ Frame ∷ []) ≡ End 6 1 ∷ []
 of_a_run = refl
 
-of_one_frame : notes 5 waits first (frames 1) ≡ []
+of_one_frame : notes with_status 5 waits first (frames 1) ≡ []
 of_one_frame = refl
 
-with_status : notes_if true 0 waits first (frames 2) ≡ End 1 1 ∷ []
-with_status = refl
+status_of_two : notes with_status 0 waits first (frames 2) ≡ End 1 1 ∷ []
+status_of_two = refl
 
-without_status : notes_if false 0 waits first (frames 2) ≡ []
-without_status = refl
+no_status_of_two : notes without_status 0 waits first (frames 2) ≡ []
+no_status_of_two = refl
+
+-- frames are numbered from 0: the second one has the number 1
+passed : every_note 2 1 due ≡ Passed 1 28 ∷ []
+passed = refl
+
+not_passed : every_note 2 2 due ≡ []
+not_passed = refl
+
+never_passed : every_note 0 1 due ≡ []
+never_passed = refl
+
+passed_of_five : notes every_second 0 waits first (frames 5) ≡ Passed 1 1 ∷ Passed 3 3 ∷ []
+passed_of_five = refl
+
+-- the end is reported before the frame
+end_and_passed : notes (record with_status { every = 2 }) 0 waits first (frames 2) ≡ End 1 1 ∷ Passed 1 1 ∷ []
+end_and_passed = refl
 
 -- ---- lists that grow
 
@@ -232,29 +262,29 @@ end_told = End 1 1 ∷ []
 abbrev pub bad_told : List Message
 bad_told = Bad 1 (Byte 1) ∷ []
 
-pub two_are_played : LineDoes true fresh 0 1 two_frames (Frames 2 ∷ []) end_told
+pub two_are_played : LineDoes with_status fresh 0 1 two_frames (Frames 2 ∷ []) end_told
 two_are_played = inl (two_are_held, refl)
 
-nothing_told : LineDoes true fresh 0 1 two_frames (Frames 2 ∷ []) [] → ⊥
+nothing_told : LineDoes with_status fresh 0 1 two_frames (Frames 2 ∷ []) [] → ⊥
 nothing_told (inl h) = let n : 0 ≡ 1 = ap (λ (l : List Message). length l) h.1 in omega (arith, n)
 nothing_told (inr h) = let n : 1 ≡ 0 = ap (λ (l : List Step). length l) h.2 in omega (arith, n)
 
-pub bad_is_told : LineDoes true fresh 0 1 at_sign [] bad_told
+pub bad_is_told : LineDoes with_status fresh 0 1 at_sign [] bad_told
 bad_is_told = inr (Byte 1, no_steps, refl, refl)
 
-bad_is_not_told : LineDoes true fresh 0 1 at_sign [] [] → ⊥
+bad_is_not_told : LineDoes with_status fresh 0 1 at_sign [] [] → ⊥
 bad_is_not_told (inl h) = no_steps.none [] h.0.holds
 bad_is_not_told (inr h) = let n : 0 ≡ 1 = ap (λ (l : List Message). length l) h.3 in omega (arith, n)
 
-bad_is_played : (reported : List Message) → LineDoes true fresh 0 1 at_sign (Frames 2 ∷ []) reported → ⊥
+bad_is_played : (reported : List Message) → LineDoes with_status fresh 0 1 at_sign (Frames 2 ∷ []) reported → ⊥
 bad_is_played reported (inl h) = no_steps.none (Frames 2 ∷ []) h.0.holds
 bad_is_played reported (inr h) = let n : 1 ≡ 0 = ap (λ (l : List Step). length l) h.2 in omega (arith, n)
 
 -- frames and lines are numbered on from line to line
-two_lines : LinesDo true fresh 0 0 (at_sign ∷ two_frames ∷ []) (Frames 2 ∷ []) (Bad 1 (Byte 1) ∷ End 1 1 ∷ [])
+two_lines : LinesDo with_status fresh 0 0 (at_sign ∷ two_frames ∷ []) (Frames 2 ∷ []) (Bad 1 (Byte 1) ∷ End 1 1 ∷ [])
 two_lines = ([], Frames 2 ∷ [], bad_told, end_told, refl, refl, bad_is_told, (Frames 2 ∷ [], [], end_told, [], refl, refl, inl (two_are_held, refl), (refl, refl)))
 
-no_line : LinesDo true fresh 0 0 [] (Frames 2 ∷ []) [] → ⊥
+no_line : LinesDo with_status fresh 0 0 [] (Frames 2 ∷ []) [] → ⊥
 no_line h = let n : 1 ≡ 0 = ap (λ (l : List Step). length l) h.0 in omega (arith, n)
 
 -- ---- the fault of an event file as that of its only line

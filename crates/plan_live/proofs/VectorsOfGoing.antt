@@ -15,7 +15,7 @@ use Rattle.plan_live.specs.Lines.{LineDoes}
 use Rattle.plan_live.specs.Living.{Streamed, streamed}
 use Rattle.plan_live.specs.Looking.{look_of, notes_between}
 use Rattle.plan_live.specs.Going.{kept, FrameWent, FrameCut, FrameStops, Went, CutIn, StopsIn, LineWent, LineStops, Going}
-use Rattle.plan_live.proofs.Vectors.{plan, first, fresh, frames, two_frames, at_sign, no_steps, two_are_held, end_told, bad_told, two_are_played, bad_is_told}
+use Rattle.plan_live.proofs.Vectors.{plan, first, fresh, frames, two_frames, at_sign, no_steps, two_are_held, end_told, bad_told, two_are_played, bad_is_told, with_status}
 use Rattle.plan_live.proofs.VectorsOfRuns.{input, before, after, one, reached, reached_first, in_a_frame, four_bytes}
 
 -- ---- a frame
@@ -69,53 +69,53 @@ nothing_between = refl
 abbrev later : Playing
 later = played fresh (frames 2)
 
-went : Went 1 true fresh 0 (frames 2) later 2 before (record after { left = Some input })
+went : Went 1 with_status fresh 0 (frames 2) later 2 before (record after { left = Some input })
 went = record { state = refl; count = refl; left = refl; out = refl; reports = refl }
 
 -- a frame is counted though it is skipped
-miscounted : Went 1 true fresh 0 (frames 2) later 1 before (record after { left = Some input }) → ⊥
+miscounted : Went 1 with_status fresh 0 (frames 2) later 1 before (record after { left = Some input }) → ⊥
 miscounted h = let e : 1 ≡ 2 = h.count in omega (arith, e)
 
-cut : CutIn 1 true fresh 0 (frames 2) (record before { left = Some [] }) four_bytes 1 0 4
+cut : CutIn 1 with_status fresh 0 (frames 2) (record before { left = Some [] }) four_bytes 1 0 4
 cut = record { done = frames 1; rest = frames 1; cut = refl; count = refl; whole = refl; part = in_a_frame; left = refl; out = refl; reports = refl }
 
-skipped_is_counted : CutIn 1 true fresh 0 (frames 2) (record before { left = Some [] }) four_bytes 1 1 4 → ⊥
+skipped_is_counted : CutIn 1 with_status fresh 0 (frames 2) (record before { left = Some [] }) four_bytes 1 1 4 → ⊥
 skipped_is_counted h = let e : 1 ≡ 1 - 1 = h.whole in omega (arith, e)
 
-stops : StopsIn 1 true fresh 0 (frames 2) (record before { left = Some [] }) four_bytes (Write 0 4)
+stops : StopsIn 1 with_status fresh 0 (frames 2) (record before { left = Some [] }) four_bytes (Write 0 4)
 stops = (1, cut)
 
-stops_by_memory : StopsIn 1 true fresh 0 (frames 2) before before Memory → ⊥
+stops_by_memory : StopsIn 1 with_status fresh 0 (frames 2) before before Memory → ⊥
 stops_by_memory h = h
 
 -- ---- lines
 
-line_went : LineWent 1 true fresh 0 1 two_frames later 2 before (record after { left = Some input })
+line_went : LineWent 1 with_status fresh 0 1 two_frames later 2 before (record after { left = Some input })
 line_went = record { steps = Frames 2 ∷ []; messages = end_told; does = two_are_played; state = refl; count = refl; left = refl; out = refl; reports = refl }
 
-bad_went : LineWent 1 true fresh 0 1 at_sign fresh 0 before (record before { reported = Some bad_told })
+bad_went : LineWent 1 with_status fresh 0 1 at_sign fresh 0 before (record before { reported = Some bad_told })
 bad_went = record { steps = []; messages = bad_told; does = bad_is_told; state = refl; count = refl; left = refl; out = refl; reports = refl }
 
-at_no_frame : (steps : List Step) (reported : List Message) → LineDoes true fresh 0 1 at_sign steps reported → 1 ≡ 0 + length (frames_of fresh (events_of steps)) → ⊥
+at_no_frame : (steps : List Step) (reported : List Message) → LineDoes with_status fresh 0 1 at_sign steps reported → 1 ≡ 0 + length (frames_of fresh (events_of steps)) → ⊥
 at_no_frame steps reported (inl h) count = no_steps.none steps h.0.holds
 at_no_frame steps reported (inr h) count = let n : length (frames_of fresh (events_of steps)) ≡ 0 = ap (λ (l : List Step). length (frames_of fresh (events_of l))) h.2 in omega (arith, n, count)
 
 -- a line that lists no steps counts no frame
-bad_counted : LineWent 1 true fresh 0 1 at_sign fresh 1 before (record before { reported = Some bad_told }) → ⊥
+bad_counted : LineWent 1 with_status fresh 0 1 at_sign fresh 1 before (record before { reported = Some bad_told }) → ⊥
 bad_counted h = at_no_frame h.steps h.messages h.does h.count
 
-line_stops : LineStops 1 true fresh 0 two_frames (record before { left = Some [] }) four_bytes (Write 0 4)
+line_stops : LineStops 1 with_status fresh 0 two_frames (record before { left = Some [] }) four_bytes (Write 0 4)
 line_stops = (Frames 2 ∷ [], two_are_held, (1, cut))
 
-bad_stops : LineStops 1 true fresh 0 at_sign before before (Write 0 0) → ⊥
+bad_stops : LineStops 1 with_status fresh 0 at_sign before before (Write 0 0) → ⊥
 bad_stops h = no_steps.none h.0 h.1.holds
 
 -- ---- lines one after another
 
-starts : Going 1 true fresh before before fresh 0 0
+starts : Going 1 with_status fresh before before fresh 0 0
 starts = record { lines = []; reached = reached_first; player = refl; count = refl; numbered = refl }
 
-goes : Going 1 true fresh before after later 2 1
+goes : Going 1 with_status fresh before after later 2 1
 goes = record { lines = one; reached = reached; player = refl; count = refl; numbered = refl }
 
 no_more : (lines : List (List ℕ)) → length lines ≡ 1 → lines_of input ≡ lines ++ lines_of input → ⊥
@@ -124,5 +124,5 @@ no_more lines n given =
     omega (arith, n, m, length-append lines (lines_of input))
 
 -- no line is given, but one is counted
-line_invented : Going 1 true fresh before before fresh 0 1 → ⊥
+line_invented : Going 1 with_status fresh before before fresh 0 1 → ⊥
 line_invented h = no_more h.lines h.numbered h.reached.given

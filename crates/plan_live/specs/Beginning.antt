@@ -10,6 +10,7 @@ use Rattle.plan_session.specs.declared.run_fault.RunFault.TheVariants.{Code, Ref
 use Rattle.plan_session.specs.Playback.{Request, start_of, IsFileOf, IsTypedFileOf, CanStart, or_zero}
 use Rattle.plan_live.specs.declared.fault.LiveFault.{LiveFault}
 use Rattle.plan_live.specs.declared.fault.LiveFault.TheVariants.{Playback, Stopped}
+use Rattle.plan_live.specs.declared.options.Wanted.{Wanted}
 use Rattle.plan_live.specs.Living.{Streamed, Whole, StoppedBy, HasFailed}
 
 -- the code can be played from the start, and this is the player at the start
@@ -18,10 +19,10 @@ pub record Begins (r : Request) (p : Playing) : Type 0 where
   pub begins : IsAtStart p.code (start_of p.code r) p
 
 -- the outcome of a run that begins with this player, barring allocation failure for the code
-abbrev pub Lives : ℕ → Bool → Playing → Streamed → Streamed → Result (Unit {0}) LiveFault → Type 0
-Lives skip status p old new (Ok done) = Whole skip status p old new
-Lives skip status p old new (Err (Playback fault)) = fault ≡ Code NoMemoryForCode
-Lives skip status p old new (Err (Stopped stop)) = StoppedBy skip status p old new stop
+abbrev pub Lives : ℕ → Wanted → Playing → Streamed → Streamed → Result (Unit {0}) LiveFault → Type 0
+Lives skip wanted p old new (Ok done) = Whole skip wanted p old new
+Lives skip wanted p old new (Err (Playback fault)) = fault ≡ Code NoMemoryForCode
+Lives skip wanted p old new (Err (Stopped stop)) = StoppedBy skip wanted p old new stop
 
 -- the fault with which a run does not begin
 abbrev pub IsBeginFault : Request → RunFault → Type 0

@@ -1,5 +1,5 @@
 -- A live run from one point to the next. No public contract needs this to be believed.
-use Rattle.std.specs.Prelude.{◌≡◌, ℕ, ◌+◌, ◌-◌, ◌<◌, ◌≤◌, nat_lt, if◌then◌else◌, Bool, List, [], ◌++◌, length, take}
+use Rattle.std.specs.Prelude.{◌≡◌, ℕ, ◌+◌, ◌-◌, ◌<◌, ◌≤◌, nat_lt, if◌then◌else◌, List, [], ◌++◌, length, take}
 use Rattle.std.specs.Io.KnownBytes.{Appends}
 use Rattle.plan_runs.specs.declared.event.Event.{Event}
 use Rattle.plan_player.specs.Playing.{Playing, played}
@@ -9,9 +9,10 @@ use Rattle.plan_session.specs.Events.{events_of}
 use Rattle.plan_live.specs.declared.fault.Stop.{Stop}
 use Rattle.plan_live.specs.declared.fault.Stop.TheVariants.{Write, Read, Memory, TooMany}
 use Rattle.plan_live.specs.declared.message.Message.{Message}
+use Rattle.plan_live.specs.declared.options.Wanted.{Wanted}
 use Rattle.plan_live.specs.Lines.{LineHolds, LineDoes}
 use Rattle.plan_live.specs.Living.{Streamed, kept_bytes, IsCutAt, Reached, most}
-use Rattle.plan_live.specs.Notes.{notes_if}
+use Rattle.plan_live.specs.Notes.{notes}
 use Rattle.plan_live.specs.Growing.{Grows}
 
 -- the bytes of the frame of this number that are written
@@ -42,16 +43,16 @@ FrameStops skip bytes n before after TooMany = (after ≡ before) × (n ≡ most
 
 -- these events take a player whose next frame has number n to another, whose next frame has number m; their
 -- frames were written, except those skipped, and their notes were reported
-pub record Went (skip : ℕ) (status : Bool) (old : Playing) (n : ℕ) (events : List Event) (new : Playing) (m : ℕ) (before after : Streamed) : Type 0 where
+pub record Went (skip : ℕ) (wanted : Wanted) (old : Playing) (n : ℕ) (events : List Event) (new : Playing) (m : ℕ) (before after : Streamed) : Type 0 where
   pub state : new ≡ played old events
   pub count : m ≡ n + length (frames_of old events)
   pub left : after.left ≡ before.left
   pub out : Appends before.written after.written (kept_bytes (skip - n) old events)
-  pub reports : Grows before.reported after.reported (notes_if status n old.code old.state events)
+  pub reports : Grows before.reported after.reported (notes wanted n old.code old.state events)
 
 -- some of the events were played, up to this many frames in all, and then the output failed, or the frame count
 -- reached its maximum
-pub record CutIn (skip : ℕ) (status : Bool) (old : Playing) (n : ℕ) (events : List Event) (before after : Streamed) (made frames bytes : ℕ) : Type 0 where
+pub record CutIn (skip : ℕ) (wanted : Wanted) (old : Playing) (n : ℕ) (events : List Event) (before after : Streamed) (made frames bytes : ℕ) : Type 0 where
   pub done : List Event
   pub rest : List Event
   pub cut : events ≡ done ++ rest
@@ -60,19 +61,19 @@ pub record CutIn (skip : ℕ) (status : Bool) (old : Playing) (n : ℕ) (events 
   pub part : IsCutAt bytes (skip - made) (played old done) rest
   pub left : after.left ≡ before.left
   pub out : Appends before.written after.written (kept_bytes (skip - n) old done ++ take bytes (next_frame (played old done)))
-  pub reports : Grows before.reported after.reported (notes_if status n old.code old.state done)
+  pub reports : Grows before.reported after.reported (notes wanted n old.code old.state done)
 
-abbrev pub StopsIn : ℕ → Bool → Playing → ℕ → List Event → Streamed → Streamed → Stop → Type 0
-StopsIn skip status old n events before after (Write frames bytes) = (made : ℕ) × CutIn skip status old n events before after made frames bytes
-StopsIn skip status old n events before after Read = ⊥
-StopsIn skip status old n events before after Memory = ⊥
-StopsIn skip status old n events before after TooMany = (frames : ℕ) × CutIn skip status old n events before after most frames 0
+abbrev pub StopsIn : ℕ → Wanted → Playing → ℕ → List Event → Streamed → Streamed → Stop → Type 0
+StopsIn skip wanted old n events before after (Write frames bytes) = (made : ℕ) × CutIn skip wanted old n events before after made frames bytes
+StopsIn skip wanted old n events before after Read = ⊥
+StopsIn skip wanted old n events before after Memory = ⊥
+StopsIn skip wanted old n events before after TooMany = (frames : ℕ) × CutIn skip wanted old n events before after most frames 0
 
 -- a line was processed
-pub record LineWent (skip : ℕ) (status : Bool) (old : Playing) (n number : ℕ) (line : List ℕ) (new : Playing) (m : ℕ) (before after : Streamed) : Type 0 where
+pub record LineWent (skip : ℕ) (wanted : Wanted) (old : Playing) (n number : ℕ) (line : List ℕ) (new : Playing) (m : ℕ) (before after : Streamed) : Type 0 where
   pub steps : List Step
   pub messages : List Message
-  pub does : LineDoes status old n number line steps messages
+  pub does : LineDoes wanted old n number line steps messages
   pub state : new ≡ played old (events_of steps)
   pub count : m ≡ n + length (frames_of old (events_of steps))
   pub left : after.left ≡ before.left
@@ -80,17 +81,17 @@ pub record LineWent (skip : ℕ) (status : Bool) (old : Playing) (n number : ℕ
   pub reports : Grows before.reported after.reported messages
 
 -- a line was not processed
-abbrev pub LineStops : ℕ → Bool → Playing → ℕ → List ℕ → Streamed → Streamed → Stop → Type 0
-LineStops skip status old n line before after (Write frames bytes) = (steps : List Step) × LineHolds line steps × ((made : ℕ) × CutIn skip status old n (events_of steps) before after made frames bytes)
-LineStops skip status old n line before after Read = ⊥
-LineStops skip status old n line before after Memory = after ≡ before
-LineStops skip status old n line before after TooMany =
-    (steps : List Step) × LineHolds line steps × ((frames : ℕ) × CutIn skip status old n (events_of steps) before after most frames 0)
+abbrev pub LineStops : ℕ → Wanted → Playing → ℕ → List ℕ → Streamed → Streamed → Stop → Type 0
+LineStops skip wanted old n line before after (Write frames bytes) = (steps : List Step) × LineHolds line steps × ((made : ℕ) × CutIn skip wanted old n (events_of steps) before after made frames bytes)
+LineStops skip wanted old n line before after Read = ⊥
+LineStops skip wanted old n line before after Memory = after ≡ before
+LineStops skip wanted old n line before after TooMany =
+    (steps : List Step) × LineHolds line steps × ((frames : ℕ) × CutIn skip wanted old n (events_of steps) before after most frames 0)
 
 -- some lines are processed: this is the player, its next frame has number m, and this many lines precede the next line
-pub record Going (skip : ℕ) (status : Bool) (p : Playing) (old now : Streamed) (q : Playing) (m number : ℕ) : Type 0 where
+pub record Going (skip : ℕ) (wanted : Wanted) (p : Playing) (old now : Streamed) (q : Playing) (m number : ℕ) : Type 0 where
   pub lines : List (List ℕ)
-  pub reached : Reached skip status p old now lines
+  pub reached : Reached skip wanted p old now lines
   pub player : q ≡ played p (events_of reached.steps)
   pub count : m ≡ length (frames_of p (events_of reached.steps))
   pub numbered : length lines ≡ number

@@ -4,5 +4,6 @@ pub mod Growing
 pub mod Lines
 pub mod Living
 pub mod Looking
+pub mod Messages
 pub mod Notes
 pub mod Streaming

@@ -1,5 +1,5 @@
 -- The steps of the lines of a live run, and the messages reported for them.
-use Rattle.std.specs.Prelude.{◌≡◌, ◌⊎◌, ℕ, ◌+◌, ◌<◌, ◌≤◌, Bool, List, [], ◌∷◌, ◌++◌, length}
+use Rattle.std.specs.Prelude.{◌≡◌, ◌⊎◌, ℕ, ◌+◌, ◌<◌, ◌≤◌, List, [], ◌∷◌, ◌++◌, length}
 use Rattle.std.specs.Str.{IsUtf8}
 use Rattle.plan_player.specs.Playing.{Playing, played}
 use Rattle.plan_player.specs.Delivery.{frames_of}
@@ -11,9 +11,10 @@ use Rattle.plan_live.specs.declared.message.LineFault.{LineFault}
 use Rattle.plan_live.specs.declared.message.LineFault.TheVariants.{Limit, NoText, Byte, Number, Expected}
 use Rattle.plan_live.specs.declared.message.Message.{Message}
 use Rattle.plan_live.specs.declared.message.Message.TheVariants.{Bad}
+use Rattle.plan_live.specs.declared.options.Wanted.{Wanted}
 use Rattle.plan_live.specs.declared.line.Unread.{Unread}
 use Rattle.plan_live.specs.declared.line.Unread.TheVariants.{Bad as IsBad, Memory}
-use Rattle.plan_live.specs.Notes.{notes_if}
+use Rattle.plan_live.specs.Notes.{notes}
 
 -- ---- one line
 
@@ -41,18 +42,18 @@ IsLineFault line (Expected column) = HoldsNone line
 
 -- the line of this number has these steps, for this player, whose next frame has number n: it lists them, and
 -- the notes of their frames are reported; or it lists none, does nothing, and its fault is reported
-abbrev pub LineDoes : Bool → Playing → ℕ → ℕ → List ℕ → List Step → List Message → Type 0
-LineDoes status p n number line steps reported =
-    (LineHolds line steps × (reported ≡ notes_if status n p.code p.state (events_of steps)))
+abbrev pub LineDoes : Wanted → Playing → ℕ → ℕ → List ℕ → List Step → List Message → Type 0
+LineDoes wanted p n number line steps reported =
+    (LineHolds line steps × (reported ≡ notes wanted n p.code p.state (events_of steps)))
     ⊎ ((fault : LineFault) × IsLineFault line fault × (steps ≡ []) × (reported ≡ Bad number fault ∷ []))
 
 -- the lines, of which the first has the number after this one, have these steps and messages, one after another
-abbrev pub LinesDo : Bool → Playing → ℕ → ℕ → List (List ℕ) → List Step → List Message → Type 0
-LinesDo status p n number [] steps reported = (steps ≡ []) × (reported ≡ [])
-LinesDo status p n number (line ∷ lines) steps reported =
+abbrev pub LinesDo : Wanted → Playing → ℕ → ℕ → List (List ℕ) → List Step → List Message → Type 0
+LinesDo wanted p n number [] steps reported = (steps ≡ []) × (reported ≡ [])
+LinesDo wanted p n number (line ∷ lines) steps reported =
     (first : List Step) × (rest : List Step) × (front : List Message) × (back : List Message)
-    × (steps ≡ first ++ rest) × (reported ≡ front ++ back) × LineDoes status p n (number + 1) line first front
-    × LinesDo status (played p (events_of first)) (n + length (frames_of p (events_of first))) (number + 1) lines rest back
+    × (steps ≡ first ++ rest) × (reported ≡ front ++ back) × LineDoes wanted p n (number + 1) line first front
+    × LinesDo wanted (played p (events_of first)) (n + length (frames_of p (events_of first))) (number + 1) lines rest back
 
 -- ---- reading a line
 

@@ -12,8 +12,9 @@ use Rattle.plan_session.specs.Events.{events_of}
 use Rattle.plan_live.specs.declared.fault.Stop.{Stop}
 use Rattle.plan_live.specs.declared.fault.Stop.TheVariants.{Write, Read, Memory, TooMany}
 use Rattle.plan_live.specs.declared.message.Message.{Message}
+use Rattle.plan_live.specs.declared.options.Wanted.{Wanted}
 use Rattle.plan_live.specs.Lines.{LineHolds, LinesDo}
-use Rattle.plan_live.specs.Notes.{notes_if}
+use Rattle.plan_live.specs.Notes.{notes}
 use Rattle.plan_live.specs.Growing.{Grows}
 
 -- the bytes of the frames of these events, except the first `skip` of them
@@ -34,28 +35,28 @@ streamed left written reported = record { left = left; written = written; report
 
 -- these lines were read; the frames of the steps that they list were written, except the first `skip`; and their
 -- notes were reported
-pub record Reached (skip : ℕ) (status : Bool) (p : Playing) (old new : Streamed) (lines : List (List ℕ)) : Type 0 where
+pub record Reached (skip : ℕ) (wanted : Wanted) (p : Playing) (old new : Streamed) (lines : List (List ℕ)) : Type 0 where
   pub given : GivesLines old.left lines new.left
   pub steps : List Step
   pub messages : List Message
-  pub does : LinesDo status p 0 0 lines steps messages
+  pub does : LinesDo wanted p 0 0 lines steps messages
   pub out : Appends old.written new.written (kept_bytes skip p (events_of steps))
   pub reports : Grows old.reported new.reported messages
 
 -- some lines are processed
-abbrev pub AreDone : ℕ → Bool → Playing → Streamed → Streamed → Type 0
-AreDone skip status p old new = (lines : List (List ℕ)) × Reached skip status p old new lines
+abbrev pub AreDone : ℕ → Wanted → Playing → Streamed → Streamed → Type 0
+AreDone skip wanted p old new = (lines : List (List ℕ)) × Reached skip wanted p old new lines
 
 -- all lines are processed, and the input is at its end
-abbrev pub Whole : ℕ → Bool → Playing → Streamed → Streamed → Type 0
-Whole skip status p old new = (lines : List (List ℕ)) × Reached skip status p old new lines × IsAtEnd new.left
+abbrev pub Whole : ℕ → Wanted → Playing → Streamed → Streamed → Type 0
+Whole skip wanted p old new = (lines : List (List ℕ)) × Reached skip wanted p old new lines × IsAtEnd new.left
 
 -- each time a line was requested, all lines before it had been processed; `moments` are the states at these
 -- requests
-pub record IsPrompt (skip : ℕ) (status : Bool) (p : Playing) (old : Streamed) (before after : Option (List Streamed)) : Type 0 where
+pub record IsPrompt (skip : ℕ) (wanted : Wanted) (p : Playing) (old : Streamed) (before after : Option (List Streamed)) : Type 0 where
   pub moments : List Streamed
   pub grows : Grows before after moments
-  pub done : AllByRecursion (AreDone skip status p old) moments
+  pub done : AllByRecursion (AreDone skip wanted p old) moments
 
 -- ---- a run that stops
 
@@ -64,13 +65,13 @@ abbrev pub most : ℕ
 most = 18446744073709551615
 
 -- some lines were processed, and then reading the input failed
-abbrev pub Broken : ℕ → Bool → Playing → Streamed → Streamed → Type 0
-Broken skip status p old new = (lines : List (List ℕ)) × (rest : Option (List ℕ)) × Reached skip status p old (record new { left = rest }) lines
+abbrev pub Broken : ℕ → Wanted → Playing → Streamed → Streamed → Type 0
+Broken skip wanted p old new = (lines : List (List ℕ)) × (rest : Option (List ℕ)) × Reached skip wanted p old (record new { left = rest }) lines
 
 -- some lines were processed, and one more was read, of which nothing was played
-abbrev pub Unserved : ℕ → Bool → Playing → Streamed → Streamed → Type 0
-Unserved skip status p old new = (lines : List (List ℕ)) × (last : List ℕ) × (rest : Option (List ℕ))
-    × Reached skip status p old (record new { left = rest }) lines × GivesLines old.left (lines ++ last ∷ []) new.left
+abbrev pub Unserved : ℕ → Wanted → Playing → Streamed → Streamed → Type 0
+Unserved skip wanted p old new = (lines : List (List ℕ)) × (last : List ℕ) × (rest : Option (List ℕ))
+    × Reached skip wanted p old (record new { left = rest }) lines × GivesLines old.left (lines ++ last ∷ []) new.left
 
 -- the output fails at the next of these events, of which it took this many bytes; or between two frames
 abbrev pub IsCutAt : ℕ → ℕ → Playing → List Event → Type 0
@@ -80,13 +81,13 @@ IsCutAt bytes passed p rest =
 
 -- some lines were processed, and one more was read, of which the first events were played: this many frames were
 -- made in all, and this many were written, which are those not skipped, and this many bytes of the next frame
-pub record Cut (skip : ℕ) (status : Bool) (p : Playing) (old new : Streamed) (made frames bytes : ℕ) : Type 0 where
+pub record Cut (skip : ℕ) (wanted : Wanted) (p : Playing) (old new : Streamed) (made frames bytes : ℕ) : Type 0 where
   pub lines : List (List ℕ)
   pub last : List ℕ
   pub given : GivesLines old.left (lines ++ last ∷ []) new.left
   pub steps : List Step
   pub messages : List Message
-  pub does : LinesDo status p 0 0 lines steps messages
+  pub does : LinesDo wanted p 0 0 lines steps messages
   pub more : List Step
   pub holds : LineHolds last more
   pub done : List Event
@@ -97,16 +98,16 @@ pub record Cut (skip : ℕ) (status : Bool) (p : Playing) (old new : Streamed) (
   pub part : IsCutAt bytes (skip - made) (played p (events_of steps ++ done)) rest
   pub out : Appends old.written new.written
       (kept_bytes skip p (events_of steps ++ done) ++ take bytes (next_frame (played p (events_of steps ++ done))))
-  pub reports : Grows old.reported new.reported (messages ++ notes_if status (length (frames_of p (events_of steps)))
+  pub reports : Grows old.reported new.reported (messages ++ notes wanted (length (frames_of p (events_of steps)))
       p.code (played p (events_of steps)).state done)
 
-abbrev pub StoppedBy : ℕ → Bool → Playing → Streamed → Streamed → Stop → Type 0
-StoppedBy skip status p old new (Write frames bytes) = (made : ℕ) × Cut skip status p old new made frames bytes
-StoppedBy skip status p old new Read = Broken skip status p old new
-StoppedBy skip status p old new Memory = Unserved skip status p old new
-StoppedBy skip status p old new TooMany =
-    ((lines : List (List ℕ)) × Reached skip status p old new lines × (length lines ≡ most))
-    ⊎ ((frames : ℕ) × Cut skip status p old new most frames 0)
+abbrev pub StoppedBy : ℕ → Wanted → Playing → Streamed → Streamed → Stop → Type 0
+StoppedBy skip wanted p old new (Write frames bytes) = (made : ℕ) × Cut skip wanted p old new made frames bytes
+StoppedBy skip wanted p old new Read = Broken skip wanted p old new
+StoppedBy skip wanted p old new Memory = Unserved skip wanted p old new
+StoppedBy skip wanted p old new TooMany =
+    ((lines : List (List ℕ)) × Reached skip wanted p old new lines × (length lines ≡ most))
+    ⊎ ((frames : ℕ) × Cut skip wanted p old new most frames 0)
 
 -- the stream that the stop names has failed: the input, or the output
 abbrev pub HasFailed : Stop → Bool → Bool → Type 0

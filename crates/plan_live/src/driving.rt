@@ -28,11 +28,11 @@ fn take_line<'a, S: Store, E: Ends>(
 ) -> Result<(), Stop>
     requires short { length line.now ≤ 65536 }
     requires flushed { E.is_flushed ends.old ≡ true }
-    ensures done { OnOk result (LineWent options.skip options.status
+    ensures done { OnOk result (LineWent options.skip options.wanted
         player.old made.old number line.now player.new made.new
         (streamed (E.left ends.old) (E.written ends.old) (E.reported ends.old))
         (streamed (E.left ends.new) (E.written ends.new) (E.reported ends.new))) }
-    ensures stopped { IfErr result (λ stop. LineStops options.skip options.status
+    ensures stopped { IfErr result (λ stop. LineStops options.skip options.wanted
         player.old made.old line.now
         (streamed (E.left ends.old) (E.written ends.old) (E.reported ends.old))
         (streamed (E.left ends.new) (E.written ends.new) (E.reported ends.new)) stop) }
@@ -71,16 +71,16 @@ pub fn drive<'a, S: Store, E: Ends>(
     ends: &mut E,
 ) -> Result<(), Stop>
     requires flushed { E.is_flushed ends.old ≡ true }
-    ensures whole { OnOk result (Whole options.skip options.status player.old
+    ensures whole { OnOk result (Whole options.skip options.wanted player.old
         (streamed (E.left ends.old) (E.written ends.old) (E.reported ends.old))
         (streamed (E.left ends.new) (E.written ends.new) (E.reported ends.new))) }
-    ensures stopped { IfErr result (λ stop. StoppedBy options.skip options.status player.old
+    ensures stopped { IfErr result (λ stop. StoppedBy options.skip options.wanted player.old
         (streamed (E.left ends.old) (E.written ends.old) (E.reported ends.old))
         (streamed (E.left ends.new) (E.written ends.new) (E.reported ends.new)) stop) }
     ensures failed { IfErr result (λ stop.
         HasFailed stop (E.input_failed ends.new) (E.output_failed ends.new)) }
     // Each time a line is requested, all lines before it have been processed.
-    ensures prompt { IsPrompt options.skip options.status player.old
+    ensures prompt { IsPrompt options.skip options.wanted player.old
         (streamed (E.left ends.old) (E.written ends.old) (E.reported ends.old))
         (E.moments ends.old) (E.moments ends.new) }
 {

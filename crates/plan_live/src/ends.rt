@@ -11,17 +11,21 @@ use crate::message::Message;
 use arrayvec::ArrayVec;
 use console::lines::Heard;
 
-/// A message sink. A message that can't be delivered is lost; a call never blocks.
+/// A message sink. A message that can't be delivered is lost.
 pub trait Messages {
-    ghost use Rattle.std.specs.Prelude.{List, Option};
+    ghost use Rattle.std.specs.Prelude.{◌≡◌, List, Option};
     ghost use Rattle.plan_live.specs.declared.message.Message.{Message};
 
     /// The messages so far, if known.
     ghost reported: { Self → Option (List Message) };
 
-    /// Takes a message.
+    /// Takes a message. It may be delivered later, up to the next release.
     fn report(&mut self, message: Message)
         ensures { Grows (reported self.old) (reported self.new) (message ∷ []) };
+
+    /// Delivers all messages taken so far.
+    fn release(&mut self)
+        ensures { reported self.new ≡ reported self.old };
 }
 
 /// The three streams of a live run: an input of lines, an output of bytes, and a sink of messages. No line is read

@@ -48,6 +48,7 @@ fn put<E: Ends>(bytes: &[u8], number: u64, skip: u32, ends: &mut E) -> Result<()
 
 /// Writes the bytes of the next frame, unless it is skipped, and counts it.
 fn write_frame<E: Ends>(bytes: &[u8], made: &mut u64, skip: u32, ends: &mut E) -> Result<(), Stop>
+    ensures counted { OnOk result (made.old < 18446744073709551615) }
     ensures done { OnOk result (FrameWent skip bytes.now made.old made.new
         (streamed (E.left ends.old) (E.written ends.old) (E.reported ends.old))
         (streamed (E.left ends.new) (E.written ends.new) (E.reported ends.new))) }
@@ -89,11 +90,11 @@ fn play_frame<'a, S: Store, E: Ends>(
     options: LiveOptions,
     ends: &mut E,
 ) -> Result<(), Stop>
-    ensures done { OnOk result (Went options.skip options.status
+    ensures done { OnOk result (Went options.skip options.wanted
         player.old made.old (Frame ∷ []) player.new made.new
         (streamed (E.left ends.old) (E.written ends.old) (E.reported ends.old))
         (streamed (E.left ends.new) (E.written ends.new) (E.reported ends.new))) }
-    ensures stopped { IfErr result (λ stop. StopsIn options.skip options.status
+    ensures stopped { IfErr result (λ stop. StopsIn options.skip options.wanted
         player.old made.old (Frame ∷ [])
         (streamed (E.left ends.old) (E.written ends.old) (E.reported ends.old))
         (streamed (E.left ends.new) (E.written ends.new) (E.reported ends.new)) stop) }
@@ -106,7 +107,7 @@ fn play_frame<'a, S: Store, E: Ends>(
     let frame = make_frame(player);
     match write_frame(frame.bytes(), made, options.skip, ends) {
         Ok(()) => {
-            report_frame(player, before, number, options.status, ends);
+            report_frame(player, before, number, options.wanted, ends);
             Ok(())
         }
         Err(stop) => Err(stop),
@@ -121,11 +122,11 @@ fn play_frames<'a, S: Store, E: Ends>(
     options: LiveOptions,
     ends: &mut E,
 ) -> Result<(), Stop>
-    ensures done { OnOk result (Went options.skip options.status
+    ensures done { OnOk result (Went options.skip options.wanted
         player.old made.old (replicate count Frame) player.new made.new
         (streamed (E.left ends.old) (E.written ends.old) (E.reported ends.old))
         (streamed (E.left ends.new) (E.written ends.new) (E.reported ends.new))) }
-    ensures stopped { IfErr result (λ stop. StopsIn options.skip options.status
+    ensures stopped { IfErr result (λ stop. StopsIn options.skip options.wanted
         player.old made.old (replicate count Frame)
         (streamed (E.left ends.old) (E.written ends.old) (E.reported ends.old))
         (streamed (E.left ends.new) (E.written ends.new) (E.reported ends.new)) stop) }
@@ -151,11 +152,11 @@ fn play_step<'a, S: Store, E: Ends>(
     options: LiveOptions,
     ends: &mut E,
 ) -> Result<(), Stop>
-    ensures done { OnOk result (Went options.skip options.status
+    ensures done { OnOk result (Went options.skip options.wanted
         player.old made.old (events_of_step step) player.new made.new
         (streamed (E.left ends.old) (E.written ends.old) (E.reported ends.old))
         (streamed (E.left ends.new) (E.written ends.new) (E.reported ends.new))) }
-    ensures stopped { IfErr result (λ stop. StopsIn options.skip options.status
+    ensures stopped { IfErr result (λ stop. StopsIn options.skip options.wanted
         player.old made.old (events_of_step step)
         (streamed (E.left ends.old) (E.written ends.old) (E.reported ends.old))
         (streamed (E.left ends.new) (E.written ends.new) (E.reported ends.new)) stop) }
@@ -180,11 +181,11 @@ fn play_steps<'a, S: Store, E: Ends>(
     options: LiveOptions,
     ends: &mut E,
 ) -> Result<(), Stop>
-    ensures done { OnOk result (Went options.skip options.status
+    ensures done { OnOk result (Went options.skip options.wanted
         player.old made.old (events_of steps.now) player.new made.new
         (streamed (E.left ends.old) (E.written ends.old) (E.reported ends.old))
         (streamed (E.left ends.new) (E.written ends.new) (E.reported ends.new))) }
-    ensures stopped { IfErr result (λ stop. StopsIn options.skip options.status
+    ensures stopped { IfErr result (λ stop. StopsIn options.skip options.wanted
         player.old made.old (events_of steps.now)
         (streamed (E.left ends.old) (E.written ends.old) (E.reported ends.old))
         (streamed (E.left ends.new) (E.written ends.new) (E.reported ends.new)) stop) }
@@ -230,11 +231,11 @@ pub(crate) fn play_line<'a, S: Store, E: Ends>(
     options: LiveOptions,
     ends: &mut E,
 ) -> Result<(), Stop>
-    ensures done { OnOk result (Went options.skip options.status
+    ensures done { OnOk result (Went options.skip options.wanted
         player.old made.old (events_of steps.now) player.new made.new
         (streamed (E.left ends.old) (E.written ends.old) (E.reported ends.old))
         (streamed (E.left ends.new) (E.written ends.new) (E.reported ends.new))) }
-    ensures stopped { IfErr result (λ stop. StopsIn options.skip options.status
+    ensures stopped { IfErr result (λ stop. StopsIn options.skip options.wanted
         player.old made.old (events_of steps.now)
         (streamed (E.left ends.old) (E.written ends.old) (E.reported ends.old))
         (streamed (E.left ends.new) (E.written ends.new) (E.reported ends.new)) stop) }

@@ -3,7 +3,7 @@
 //! [`live`] plays a code file over the lines of an input as they arrive, and [`drive`] a player at its start. Both use
 //! three streams, [`Ends`]: lines in, bytes out, and messages; [`Streams`] implements them over a reader, a writer and
 //! [`Messages`]. The steps of a line are defined in `specs/Lines.antt`, the notes of frames in `specs/Notes.antt`,
-//! and the outcome of a live run in `specs/Living.antt`.
+//! how messages are shown in `specs/Messages.antt`, and the outcome of a live run in `specs/Living.antt`.
 #![tactic(auto)]
 
 pub mod driving;
@@ -20,7 +20,7 @@ pub mod streams;
 pub use driving::drive;
 pub use ends::{Ends, Messages};
 pub use fault::{LiveFault, Stop};
-pub use message::{LineFault, Message};
-pub use options::LiveOptions;
+pub use message::{JsonMessage, LineFault, Message};
+pub use options::{LiveOptions, Wanted};
 pub use playback::live;
 pub use streams::Streams;

@@ -1,16 +1,17 @@
-//! The notes of a frame: a swap, the start of a notice, the end.
+//! The notes of a frame: a swap, the start of a notice, the end, and how far the run is.
 
-ghost use Rattle.std.specs.Prelude.{◌≡◌, ◌<◌, ℕ, ◌∷◌, [], Option};
+ghost use Rattle.std.specs.Prelude.{◌≡◌, ◌<◌, ℕ, ◌∷◌, [], Option, if◌then◌else◌};
 ghost use Rattle.plan_code.specs.Machine.{State};
 ghost use Rattle.plan_runs.specs.declared.event.Event.TheVariants.{Frame};
 ghost use Rattle.plan_runs.specs.Frames.{is_first_noticed, left_after_frame, with_next_counts};
 ghost use Rattle.plan_player.specs.Playing.{Playing, played};
 ghost use Rattle.plan_live.specs.Growing.{Grows};
-ghost use Rattle.plan_live.specs.Notes.{has_ended, swap_note, notice_note, end_note, notes_if};
+ghost use Rattle.plan_live.specs.Notes.{has_ended, swap_note, notice_note, end_note, every_note, frame_notes, notes};
 ghost use Rattle.plan_live.specs.Looking.{look_of, notes_between};
 
 use crate::ends::Ends;
 use crate::message::Message;
+use crate::options::Wanted;
 use mux_config::{Store, change};
 use plan_code::Hold;
 use plan_code::limits::COUNTS;
@@ -96,6 +97,7 @@ fn report_notice<S: Store, E: Ends>(player: &Player<'_, S>, count: u16, frame: u
             count,
             change: change(player.current(), player.next()).bits(),
             low: ((u32::from(count) + u32::from(notice)) % u32::from(COUNTS) % 250) as u8,
+            left: notice,
         });
     }
 }
@@ -134,7 +136,7 @@ fn report_notes<S: Store, E: Ends>(player: &Player<'_, S>, before: Look, frame: 
 
 /// Reports the notes of the last frame of a player, if status is on; the frame had this number in the run, and
 /// `before` is the state before it.
-pub(crate) fn report_frame<S: Store, E: Ends>(
+fn report_status<S: Store, E: Ends>(
     player: &Player<'_, S>,
     before: Look,
     frame: u64,
@@ -143,7 +145,7 @@ pub(crate) fn report_frame<S: Store, E: Ends>(
 )
     ensures reported { (p : Playing) → player.now ≡ played p (Frame ∷ []) → before ≡ look_of p.state →
         Grows (E.reported ends.old) (E.reported ends.new)
-        (notes_if status frame p.code p.state (Frame ∷ [])) }
+        (if status then frame_notes frame p.code p.state else []) }
     ensures flushed { E.is_flushed ends.new ≡ E.is_flushed ends.old }
     ensures moments { E.moments ends.new ≡ E.moments ends.old }
     ensures written { E.written ends.new ≡ E.written ends.old }
@@ -152,4 +154,47 @@ pub(crate) fn report_frame<S: Store, E: Ends>(
     if status {
         report_notes(player, before, frame, ends);
     }
+}
+
+/// Reports the frame of this number, if it is the last of as many as are asked for.
+fn report_passed<E: Ends>(before: Look, frame: u64, every: u32, ends: &mut E)
+    requires { frame < 18446744073709551615 }
+    ensures reported { (s : State) → before ≡ look_of s →
+        Grows (E.reported ends.old) (E.reported ends.new) (every_note every frame s) }
+    ensures flushed { E.is_flushed ends.new ≡ E.is_flushed ends.old }
+    ensures moments { E.moments ends.new ≡ E.moments ends.old }
+    ensures written { E.written ends.new ≡ E.written ends.old }
+    ensures left { E.left ends.new ≡ E.left ends.old }
+{
+    if every == 0 {
+        return;
+    }
+    if (frame + 1) % u64::from(every) == 0 {
+        ends.report(Message::Passed {
+            frame,
+            count: before.count,
+        });
+    }
+}
+
+/// Reports the wanted notes of the last frame of a player, which had this number in the run; `before` is the state
+/// before it.
+pub(crate) fn report_frame<S: Store, E: Ends>(
+    player: &Player<'_, S>,
+    before: Look,
+    frame: u64,
+    wanted: Wanted,
+    ends: &mut E,
+)
+    requires { frame < 18446744073709551615 }
+    ensures reported { (p : Playing) → player.now ≡ played p (Frame ∷ []) → before ≡ look_of p.state →
+        Grows (E.reported ends.old) (E.reported ends.new)
+        (notes wanted frame p.code p.state (Frame ∷ [])) }
+    ensures flushed { E.is_flushed ends.new ≡ E.is_flushed ends.old }
+    ensures moments { E.moments ends.new ≡ E.moments ends.old }
+    ensures written { E.written ends.new ≡ E.written ends.old }
+    ensures left { E.left ends.new ≡ E.left ends.old }
+{
+    report_status(player, before, frame, wanted.status, ends);
+    report_passed(before, frame, wanted.every, ends);
 }

@@ -35,7 +35,7 @@ pub fn live<E: Ends>(
     requires flushed { E.is_flushed ends.old ≡ true }
     // A typed code and a start in range are played, barring allocation failure for the code.
     ensures played { (p : Playing) → Begins (asked code.now [] count day contacts) p
-        → Lives options.skip options.status p
+        → Lives options.skip options.wanted p
         (streamed (E.left ends.old) (E.written ends.old) (E.reported ends.old))
         (streamed (E.left ends.new) (E.written ends.new) (E.reported ends.new)) result }
     // Nothing else is played.
@@ -48,7 +48,7 @@ pub fn live<E: Ends>(
         HasLiveFailed e (E.input_failed ends.new) (E.output_failed ends.new)) }
     // Each time a line is requested, all lines before it have been processed.
     ensures prompt { (p : Playing) → Begins (asked code.now [] count day contacts) p
-        → IsPrompt options.skip options.status p
+        → IsPrompt options.skip options.wanted p
         (streamed (E.left ends.old) (E.written ends.old) (E.reported ends.old))
         (E.moments ends.old) (E.moments ends.new) }
 {

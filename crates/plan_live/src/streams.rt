@@ -62,7 +62,9 @@ impl<R: Read + Drop, W: Write, M: Messages> Ends for Streams<'_, R, W, M> {
 
     ghost output_failed = { λ s. s.output_failed };
 
+    /// All messages of the lines before are delivered first.
     fn next(&mut self, line: &mut ArrayVec<u8, 65536>) -> Heard {
+        self.messages.release();
         let heard = self.lines.next(line);
         match heard {
             Heard::Failed => self.input_failed = true,

@@ -1,3 +1,4 @@
 pub mod Holding
 pub mod Walking
 pub mod Printed
+pub mod Places

@@ -10,6 +10,9 @@ use Rattle.plan_code.specs.declared.label.Label.{Label}
 use Rattle.plan_code.specs.Program.{Program, label_at}
 use Rattle.plan_map.specs.declared.rows.Row.{Row}
 use Rattle.plan_map.specs.declared.rows.RowKind.TheVariants.{Begin, Commit}
+use Rattle.plan_map.specs.declared.lead.Lead.{Lead}
+use Rattle.plan_map.specs.declared.lead.Lead.TheVariants.{Begin as Beginning}
+use Rattle.plan_map.specs.Leads.{lead_after, lead_at}
 
 -- one, if present, else another
 abbrev pub or_else : Option Configuration → Configuration → Configuration
@@ -64,17 +67,19 @@ commits (Jump t) = false
 commits (Set k n) = false
 commits (Loop k t) = false
 
--- the row of an instruction that commits this configuration; none for another instruction
-abbrev pub row_at : Line → Configuration → List Row
-row_at l here = if commits l.instr then record { kind = Commit; line = l.number; config = here } ∷ [] else []
+-- the row of an instruction that commits this configuration, with what leads to it; none for another instruction
+abbrev pub row_at : Line → Option Lead → Configuration → List Row
+row_at l lead here = if commits l.instr then record { kind = Commit; line = l.number; block = []; lead = lead; config = here } ∷ [] else []
 
 -- the commits among the instructions from a pc on, each with the configuration that it commits
-abbrev pub commits_from : Program → ℕ → Configuration → List Line → List Row
-commits_from p pc next [] = []
-commits_from p pc next (l ∷ ls) =
+abbrev pub commits_from : Program → ℕ → Option Lead → Configuration → List Line → List Row
+commits_from p pc lead next [] = []
+commits_from p pc lead next (l ∷ ls) =
     let here = known_next p pc next in
-    row_at l here ++ commits_from p (pc + 1) (left_by l.instr here) ls
+    let led = lead_at p pc lead in
+    row_at l led here ++ commits_from p (pc + 1) (lead_after l.instr led) (left_by l.instr here) ls
 
 abbrev pub rows_of : ℕ → Program → List Row
 rows_of begin p =
-    record { kind = Begin; line = begin; config = opening_of p } ∷ commits_from p 0 (opening_of p) p.lines
+    record { kind = Begin; line = begin; block = []; lead = None; config = opening_of p }
+    ∷ commits_from p 0 (Some Beginning) (opening_of p) p.lines

@@ -1,11 +1,12 @@
 //! A row of a drawing: its bar, with the sub-channels and the free units in it.
 
 use crate::cells::{end_of, free_units, units_of};
+use crate::changes::has_sub;
 use crate::drawing::{BAR, LEFT, UNIT};
 use crate::key::is_carried_by;
 use crate::rows::Row;
-use crate::text::kind_text;
-use mux_config::{Config, Sid, Sub, SubId};
+use crate::text::{kind_text, print_lead};
+use mux_config::{Config, Service, Sid, Sub, SubId};
 use mux_eep::{CAPACITY_UNITS, EepSet, Protection};
 use std::io::{self, Write};
 
@@ -54,8 +55,35 @@ fn draw_services<W: Write>(config: &Config, id: SubId, out: &mut W) -> io::Resul
     Ok(())
 }
 
+/// Whether a service of a configuration has a component on a sub-channel.
+fn carries(config: &Config, sid: Sid, id: SubId) -> bool {
+    for service in config.services() {
+        if service.sid == sid && is_carried_by(config, service.components.as_slice(), id) {
+            return true;
+        }
+    }
+    false
+}
+
+/// Whether a service of these is on a sub-channel in one of two configurations alone.
+fn is_moved(services: &[Service], a: &Config, b: &Config, id: SubId) -> bool {
+    for service in services {
+        if carries(a, service.sid, id) != carries(b, service.sid, id) {
+            return true;
+        }
+    }
+    false
+}
+
+/// Whether a sub-channel differs from that of the configuration above, or carries other services than there.
+fn is_changed(sub: &Sub, above: &Config, config: &Config) -> bool {
+    !has_sub(above.subs(), sub)
+        || is_moved(config.services(), above, config, sub.id)
+        || is_moved(above.services(), above, config, sub.id)
+}
+
 /// Writes the description of a sub-channel for screen readers.
-fn draw_title<W: Write>(sub: &Sub, config: &Config, out: &mut W) -> io::Result<()> {
+fn draw_title<W: Write>(sub: &Sub, changed: bool, config: &Config, out: &mut W) -> io::Result<()> {
     let id = sub.id.get();
     let start = sub.start;
     let last = end_of(sub).saturating_sub(1);
@@ -66,6 +94,9 @@ fn draw_title<W: Write>(sub: &Sub, config: &Config, out: &mut W) -> io::Result<(
     )?;
     draw_profile(sub.protection, out)?;
     draw_services(config, sub.id, out)?;
+    if changed {
+        out.write_all(b", changed")?;
+    }
     out.write_all(b"</title>")
 }
 
@@ -73,9 +104,9 @@ fn draw_title<W: Write>(sub: &Sub, config: &Config, out: &mut W) -> io::Result<(
 fn draw_wide_label<W: Write>(sub: &Sub, x: u32, y: u32, out: &mut W) -> io::Result<()> {
     let id = sub.id.get();
     let kbits = sub.kbits;
-    let first = y.saturating_add(36);
-    let second = y.saturating_add(56);
-    let third = y.saturating_add(74);
+    let first = y.saturating_add(48);
+    let second = y.saturating_add(68);
+    let third = y.saturating_add(86);
     writeln!(
         out,
         "<text x=\"{x}\" y=\"{first}\" font-size=\"18\" font-weight=\"bold\" text-anchor=\"middle\">{id}</text>"
@@ -107,17 +138,34 @@ fn draw_narrow_label<W: Write>(sub: &Sub, x: u32, y: u32, out: &mut W) -> io::Re
     out.write_all(b"</text>\n")
 }
 
-/// Writes a sub-channel of a row whose top is at `y`.
-fn draw_sub<W: Write>(sub: &Sub, config: &Config, y: u32, out: &mut W) -> io::Result<()> {
+/// The attributes of a sub-channel's frame: a thick red one if it is changed.
+fn frame_of(changed: bool) -> &'static str {
+    if changed {
+        "stroke=\"#b00000\" stroke-width=\"4\""
+    } else {
+        "stroke=\"black\" stroke-width=\"1\""
+    }
+}
+
+/// Writes a sub-channel of a row whose top is at `y`, below a row with another configuration.
+fn draw_sub<W: Write>(
+    sub: &Sub,
+    above: &Config,
+    config: &Config,
+    y: u32,
+    out: &mut W,
+) -> io::Result<()> {
     let x = LEFT + u32::from(sub.start) * UNIT;
     let width = u32::from(units_of(sub)) * UNIT;
+    let changed = is_changed(sub, above, config);
+    let frame = frame_of(changed);
     write!(
         out,
-        "<g><rect x=\"{x}\" y=\"{y}\" width=\"{width}\" height=\"{BAR}\" stroke=\"black\" stroke-width=\"1\" fill=\""
+        "<g><rect x=\"{x}\" y=\"{y}\" width=\"{width}\" height=\"{BAR}\" {frame} fill=\""
     )?;
     draw_colour(sub.id, out)?;
     out.write_all(b"\">")?;
-    draw_title(sub, config, out)?;
+    draw_title(sub, changed, config, out)?;
     out.write_all(b"</rect>\n")?;
     if units_of(sub) < WIDE {
         draw_narrow_label(sub, x + width / 2, y, out)?;
@@ -177,22 +225,53 @@ fn draw_gap<W: Write>(subs: &[Sub], from: u32, y: u32, out: &mut W) -> io::Resul
     )
 }
 
-/// Writes a row whose top is at `y`: its label, its bar, and how many capacity units are free.
-pub(crate) fn draw_row<W: Write>(row: &Row, y: u32, out: &mut W) -> io::Result<()> {
+/// Writes the free units of a row whose top is at `y`.
+fn draw_gaps<W: Write>(subs: &[Sub], y: u32, out: &mut W) -> io::Result<()> {
+    draw_gap(subs, 0, y, out)?;
+    for sub in subs {
+        draw_gap(subs, end_of(sub), y, out)?;
+    }
+    Ok(())
+}
+
+/// Writes the label of a row: its statement and line, above it its block, and below it what leads to it.
+fn draw_label<W: Write>(row: &Row, base: u32, out: &mut W) -> io::Result<()> {
+    let word = kind_text(row.kind);
+    let line = row.line;
+    writeln!(
+        out,
+        "<text x=\"10\" y=\"{base}\" font-weight=\"bold\">{word} {line}</text>"
+    )?;
+    let block = row.block.as_slice();
+    if block.len() > 0 {
+        let above = base.saturating_sub(20);
+        write!(out, "<text x=\"10\" y=\"{above}\" font-size=\"13\">")?;
+        out.write_all(block)?;
+        out.write_all(b"</text>\n")?;
+    }
+    let Some(lead) = row.lead else {
+        return Ok(());
+    };
+    let below = base.saturating_add(20);
+    write!(out, "<text x=\"10\" y=\"{below}\" font-size=\"13\">")?;
+    print_lead(lead, out)?;
+    out.write_all(b"</text>\n")
+}
+
+/// Writes a row whose top is at `y`, below one with another configuration: its label, its bar with what is changed
+/// framed in red, and how many capacity units are free.
+pub(crate) fn draw_row<W: Write>(above: &Config, row: &Row, y: u32, out: &mut W) -> io::Result<()> {
     let subs = row.config.subs();
     let word = kind_text(row.kind);
     let line = row.line;
     let free = free_units(subs);
     let base = y.saturating_add(BAR / 2 + 5);
     let right = LEFT + u32::from(CAPACITY_UNITS) * UNIT + 12;
-    writeln!(
-        out,
-        "<g><title>{word}, line {line}: {free} CU free</title>\n<text x=\"10\" y=\"{base}\" font-weight=\"bold\">{word} {line}</text>"
-    )?;
-    draw_gap(subs, 0, y, out)?;
+    writeln!(out, "<g><title>{word}, line {line}: {free} CU free</title>")?;
+    draw_label(row, base, out)?;
+    draw_gaps(subs, y, out)?;
     for sub in subs {
-        draw_sub(sub, &row.config, y, out)?;
-        draw_gap(subs, end_of(sub), y, out)?;
+        draw_sub(sub, above, &row.config, y, out)?;
     }
     writeln!(
         out,

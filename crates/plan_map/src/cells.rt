@@ -7,8 +7,8 @@ ghost use Rattle.plan_map.specs.Cells.{units_of, end_of, units_in, most_units, f
 use mux_config::Sub;
 use mux_eep::{CAPACITY_UNITS, size_of};
 
-/// The number of cells in a bar.
-pub const CELLS: u16 = 72;
+/// The number of cells in a line: half a bar.
+pub const HALF: u16 = 36;
 
 /// The number of capacity units in a cell.
 pub const CELL_UNITS: u16 = 12;

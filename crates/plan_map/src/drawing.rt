@@ -1,7 +1,6 @@
 //! Draws a map as an SVG document, in which a capacity unit is two units wide.
 
 use crate::bars::draw_row;
-use crate::cells::CELLS;
 use crate::key::Use;
 use crate::legend::{draw_legend, legend_height};
 use crate::rows::Row;
@@ -12,19 +11,19 @@ use std::io::{self, Write};
 pub(crate) const UNIT: u32 = 2;
 
 /// The left edge of the bars.
-pub(crate) const LEFT: u32 = 120;
+pub(crate) const LEFT: u32 = 150;
 
 /// The top of the first row.
 pub(crate) const TOP: u32 = 64;
 
-/// The height of a bar.
-pub(crate) const BAR: u32 = 92;
+/// The height of a bar, which has room for an upright label.
+pub(crate) const BAR: u32 = 124;
 
 /// The distance from one row to the next.
-pub(crate) const ROW: u32 = 116;
+pub(crate) const ROW: u32 = 148;
 
 /// The width of the drawing.
-const WIDTH: u32 = 1980;
+const WIDTH: u32 = 2010;
 
 /// Writes the header of a drawing of this height: its size, its title, and the pattern of free units.
 fn draw_head<W: Write>(eid: u16, rows: usize, height: u32, out: &mut W) -> io::Result<()> {
@@ -68,19 +67,31 @@ fn draw_scale<W: Write>(bottom: u32, out: &mut W) -> io::Result<()> {
     Ok(())
 }
 
+/// Writes the rows one under another.
+fn draw_rows<W: Write>(rows: &[Row], out: &mut W) -> io::Result<()> {
+    let Some(first) = rows.first() else {
+        return Ok(());
+    };
+    let mut above = &first.config;
+    let mut y = TOP;
+    for row in rows {
+        draw_row(above, row, y, out)?;
+        above = &row.config;
+        y = y.saturating_add(ROW);
+    }
+    Ok(())
+}
+
 /// Writes a map as an SVG document: the rows one under another with the sub-channels to scale, each in a colour of its
-/// own in all rows, free units hatched, and below them the key of the services.
+/// own in all rows, what is changed from the row above framed in red, free units hatched, and below them the key of the
+/// services.
 pub fn draw_map<W: Write>(eid: u16, rows: &[Row], key: &[Use], out: &mut W) -> io::Result<()> {
     let count = rows.len().min(100_000) as u32;
     let bottom = TOP + count * ROW;
     let height = bottom + legend_height(key);
     draw_head(eid, rows.len(), height, out)?;
     draw_scale(bottom, out)?;
-    let mut y = TOP;
-    for row in rows {
-        draw_row(row, y, out)?;
-        y = y.saturating_add(ROW);
-    }
+    draw_rows(rows, out)?;
     draw_legend(key, bottom, out)?;
     out.write_all(b"</svg>\n")
 }

@@ -52,7 +52,7 @@ pub(crate) fn legend_height(key: &[Use]) -> u32
 /// Writes the sub-channels of a service.
 fn draw_subs<W: Write>(key: &[Use], sid: Sid, left: u32, y: u32, out: &mut W) -> io::Result<()> {
     let base = y.saturating_add(15);
-    let mut x = left.saturating_add(120);
+    let mut x = left.saturating_add(150);
     for entry in key {
         if entry.sid == sid {
             let id = entry.sub.get();

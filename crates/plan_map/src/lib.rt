@@ -6,13 +6,18 @@
 
 mod bars;
 pub mod cells;
+pub mod changes;
 pub mod drawing;
 pub mod key;
+pub mod layout;
+pub mod lead;
 mod legend;
 pub mod rows;
 pub mod text;
 
 pub use drawing::draw_map;
 pub use key::{Use, key_of};
+pub use layout::{Clash, Layout, layout_of, print_layout};
+pub use lead::{Lead, Ways};
 pub use rows::{Row, RowKind, rows_of};
 pub use text::print_map;

@@ -1,9 +1,12 @@
 //! The rows of a map: the configurations of a plan, in the order of its text.
 
 ghost use Rattle.std.specs.Prelude.{◌≡◌, ◌++◌, ◌∷◌, [], IfOk, OnOk};
+ghost use Rattle.plan_map.specs.Leads.{lead_at, lead_after};
 ghost use Rattle.plan_map.specs.Rows.{rows_of, row_at, known_next, left_by, commits};
 
+use crate::lead::{Lead, lead_after, lead_at};
 use mux_config::Config;
+use mux_types::BoundedVec;
 use plan_code::{Code, Instr, Line};
 use std::alloc::{AllocError, Global};
 
@@ -23,6 +26,10 @@ pub struct Row {
     pub kind: RowKind,
     /// The line of `begin`, or that of the commit.
     pub line: u16,
+    /// The name of the block that the commit is in, or its first 32 letters; empty outside of blocks.
+    pub block: BoundedVec<u8, 32>,
+    /// What leads to the commit, if that is the same on every way to it.
+    pub lead: Option<Lead>,
     /// The configuration.
     pub config: Config,
 }
@@ -49,6 +56,20 @@ fn follow(instr: Instr, next: &mut Config)
     }
 }
 
+/// What leads to the instruction at a pc, given what leads from the one before it.
+fn arrive(code: &Code, pc: u16, lead: &mut Option<Lead>)
+    ensures { lead.new ≡ lead_at code.now pc lead.old }
+{
+    *lead = lead_at(code, pc, *lead);
+}
+
+/// What leads to the instruction after this one.
+fn pass(line: &Line, lead: &mut Option<Lead>)
+    ensures { let l = line.now in lead.new ≡ lead_after l.instr lead.old }
+{
+    *lead = lead_after(line.instr, *lead);
+}
+
 /// Whether an instruction commits the next configuration.
 fn commits(instr: Instr) -> bool
     ensures { result ≡ commits instr }
@@ -71,14 +92,22 @@ fn commits(instr: Instr) -> bool
 }
 
 /// A row of this configuration.
-fn row_of(kind: RowKind, line: u16, config: &Config) -> Row
-    ensures { result ≡ record { kind = kind; line = line; config = config.now } }
+fn row_of(kind: RowKind, line: u16, lead: Option<Lead>, config: &Config) -> Row
+    ensures { result ≡ record {
+      kind = kind;
+      line = line;
+      block = [];
+      lead = lead;
+      config = config.now;
+    } }
 {
     let mut copy = Config::new();
     copy.copy_from(config);
     Row {
         kind,
         line,
+        block: BoundedVec::new(),
+        lead,
         config: copy,
     }
 }
@@ -94,18 +123,25 @@ fn push(rows: &mut Vec<Row>, row: Row) -> Result<(), AllocError>
 }
 
 /// Appends a row, if an instruction commits this configuration.
-fn push_commit(rows: &mut Vec<Row>, line: &Line, next: &Config) -> Result<(), AllocError>
-    ensures { OnOk result (rows.new.items ≡ rows.old.items ++ row_at line.now next.now) }
+fn push_commit(
+    rows: &mut Vec<Row>,
+    line: &Line,
+    lead: &Option<Lead>,
+    next: &Config,
+) -> Result<(), AllocError>
+    ensures { OnOk result (rows.new.items ≡ rows.old.items ++ row_at line.now lead.now next.now) }
 {
     if commits(line.instr) {
-        return push(rows, row_of(RowKind::Commit, line.number, next));
+        return push(rows, row_of(RowKind::Commit, line.number, *lead, next));
     }
     Ok(())
 }
 
 /// The rows of a code's map: its opening at the line of `begin`, and the configuration of each commit, in the order of
 /// the code, which is that of the script's text with each block where it is applied. At a label, the next configuration
-/// is the one that it declares, which holds there on every path.
+/// is the one that it declares, which holds there on every path. What leads to a commit is the last statement before it
+/// that suspends or tests a contact; none where different ones lead to it. In a loop it is what leads to it at first.
+/// A code has no names: the caller adds those of blocks.
 ///
 /// # Errors
 ///
@@ -117,11 +153,14 @@ pub fn rows_of(alloc: Global, begin_line: u16, code: &Code) -> Result<Vec<Row>, 
     let mut next = Config::new();
     enter(code, 0, &mut next);
     let mut rows = Vec::new(alloc);
-    push(&mut rows, row_of(RowKind::Begin, begin_line, &next))?;
+    push(&mut rows, row_of(RowKind::Begin, begin_line, None, &next))?;
+    let mut lead = Some(Lead::Begin);
     let mut pc = 0u16;
     for line in code.lines() {
         enter(code, pc, &mut next);
-        push_commit(&mut rows, line, &next)?;
+        arrive(code, pc, &mut lead);
+        push_commit(&mut rows, line, &lead, &next)?;
+        pass(line, &mut lead);
         follow(line.instr, &mut next);
         pc += 1;
     }

@@ -1,24 +1,66 @@
 -- Hearing entries one after the other.
-use Rattle.std.proofs.Common.{◌≡◌, ℕ, Bool, true, false, cond, List, [], ◌∷◌, ◌++◌, map, Option, Some, None, refl, sym, ap, ◌∙◌, subst}
-use Rattle.std.proofs.lemmas.Bool.{false≢true}
-use Rattle.std.proofs.lemmas.List.{append_assoc, append-nil, map-append}
+use Rattle.std.proofs.Common.{◌≡◌, ◌≤◌, ℕ, nat_le, length, arith, Bool, true, false, cond, List, [], ◌∷◌, ◌++◌, map, refl, sym, ap, ◌∙◌, subst}
+use Rattle.std.proofs.lemmas.Bool.{false≢true, leb-false, lt-leb}
+use Rattle.std.proofs.lemmas.List.{append_assoc, append-nil, map-append, length-append}
 use Rattle.stream_check.specs.declared.finding.Finding.{Finding}
+use Rattle.stream_check.specs.declared.finding.What.{What}
 use Rattle.stream_check.specs.declared.reporting.FrameAt.{FrameAt}
 use Rattle.stream_check.specs.declared.memory.Memory.{Memory}
-use Rattle.stream_check.specs.Reporting.{with_more, in_frame}
+use Rattle.stream_check.specs.Reporting.{in_frame}
 use Rattle.stream_check.specs.History.{Item, Moment, Said, said}
 use Rattle.stream_check.specs.Rules.{known_of, findings_at, has_no_room}
 use Rattle.stream_check.specs.Stream.{findings_at_items, runs_full}
 use Rattle.stream_check.specs.Memory.{Knows}
 use Rattle.stream_check.specs.Hearing.{Hears}
+use Rattle.stream_check.specs.Reported.{Reported, Unknown, All, AtMost, kept, with_more}
 
-pub more_twice : (reported : Option (List Finding)) (xs ys : List Finding) → with_more (with_more reported xs) ys ≡ with_more reported (xs ++ ys)
-more_twice None xs ys = refl
-more_twice (Some fs) xs ys = ap (λ l. Some l) (append_assoc fs xs ys)
+-- more findings than are kept stay more
+kept_twice : (most : ℕ) (xs ys zs : List Finding) → length xs ≤ length ys → nat_le (length xs) most ≡ false → ys ≡ zs → kept most zs ≡ Unknown
+kept_twice most xs ys zs le many e =
+    let over = leb-false (length xs) most many in
+    let same = ap (λ (l : List Finding). length l) e in
+    let few : nat_le (length zs) most ≡ false = lt-leb (length zs) most (omega (arith, le, over, same)) in
+    ap (λ b. cond b (AtMost most zs) Unknown) few
 
-pub more_none : (reported : Option (List Finding)) → reported ≡ with_more reported []
-more_none None = refl
-more_none (Some fs) = ap (λ l. Some l) (sym (append-nil fs))
+more_of : (b : Bool) (most : ℕ) (fs xs ys : List Finding) (x y : Finding) → nat_le (length (fs ++ x ∷ xs)) most ≡ b
+    → with_more (cond b (AtMost most (fs ++ x ∷ xs)) Unknown) (y ∷ ys) ≡ kept most (fs ++ (x ∷ xs ++ y ∷ ys))
+more_of true most fs xs ys x y e = ap (kept most) (append_assoc fs (x ∷ xs) (y ∷ ys))
+more_of false most fs xs ys x y e =
+    let long = length-append (fs ++ x ∷ xs) (y ∷ ys) in
+    sym (kept_twice most (fs ++ x ∷ xs) ((fs ++ x ∷ xs) ++ y ∷ ys) (fs ++ (x ∷ xs ++ y ∷ ys)) (omega (arith, long)) e (append_assoc fs (x ∷ xs) (y ∷ ys)))
+
+none_more : (o : Reported) → with_more o [] ≡ o
+none_more Unknown = refl
+none_more (All fs) = ap (λ l. All l) (append-nil fs)
+none_more (AtMost most fs) = refl
+
+pub more_twice : (reported : Reported) (xs ys : List Finding) → with_more (with_more reported xs) ys ≡ with_more reported (xs ++ ys)
+more_twice Unknown xs ys = refl
+more_twice (All fs) xs ys = ap (λ l. All l) (append_assoc fs xs ys)
+more_twice (AtMost most fs) [] ys = refl
+more_twice (AtMost most fs) (x ∷ xs) [] = none_more (kept most (fs ++ x ∷ xs)) ∙ ap (λ l. kept most (fs ++ x ∷ l)) (sym (append-nil xs))
+more_twice (AtMost most fs) (x ∷ xs) (y ∷ ys) = more_of (nat_le (length (fs ++ x ∷ xs)) most) most fs xs ys x y refl
+
+pub more_none : (reported : Reported) → reported ≡ with_more reported []
+more_none reported = sym (none_more reported)
+
+-- findings in a frame, reported in three parts
+pub more_thrice : (at : FrameAt) (r a b c : Reported) (xs ys zs : List What)
+    → a ≡ with_more r (map (in_frame at) xs) → b ≡ with_more a (map (in_frame at) ys) → c ≡ with_more b (map (in_frame at) zs)
+    → c ≡ with_more r (map (in_frame at) (xs ++ (ys ++ zs)))
+more_thrice at r a b c xs ys zs one two three =
+    three ∙ ap (λ t. with_more t (map (in_frame at) zs)) (two ∙ ap (λ t. with_more t (map (in_frame at) ys)) one)
+    ∙ more_twice (with_more r (map (in_frame at) xs)) (map (in_frame at) ys) (map (in_frame at) zs)
+    ∙ more_twice r (map (in_frame at) xs) (map (in_frame at) ys ++ map (in_frame at) zs)
+    ∙ ap (with_more r) (sym (map-append (in_frame at) xs (ys ++ zs) ∙ ap (λ fs. map (in_frame at) xs ++ fs) (map-append (in_frame at) ys zs)))
+
+-- in two parts
+pub more_pair : (at : FrameAt) (r a b : Reported) (xs ys : List What)
+    → a ≡ with_more r (map (in_frame at) xs) → b ≡ with_more a (map (in_frame at) ys) → b ≡ with_more r (map (in_frame at) (xs ++ ys))
+more_pair at r a b xs ys one two =
+    two ∙ ap (λ t. with_more t (map (in_frame at) ys)) one
+    ∙ more_twice r (map (in_frame at) xs) (map (in_frame at) ys)
+    ∙ ap (with_more r) (sym (map-append (in_frame at) xs ys))
 
 pub said_append : (xs ys : List Item) (past : List Moment) → said (xs ++ ys) past ≡ said ys (said xs past)
 said_append [] ys past = refl
@@ -58,7 +100,7 @@ findings_stay step period (x ∷ xs) ys past e = elim (has_no_room (known_of ste
     ] e
 
 -- no entries
-pub hears_nothing : (at : FrameAt) (m : Memory) (reported : Option (List Finding)) → Hears at [] m reported m reported false
+pub hears_nothing : (at : FrameAt) (m : Memory) (reported : Reported) → Hears at [] m reported m reported false
 hears_nothing at m reported past k = record {
   findings = more_none reported;
   room = refl;
@@ -66,7 +108,7 @@ hears_nothing at m reported past k = record {
 }
 
 -- some entries, and then others
-pub hears_more : (at : FrameAt) (xs ys : List Item) (old mid new : Memory) (before reported after : Option (List Finding)) (full : Bool)
+pub hears_more : (at : FrameAt) (xs ys : List Item) (old mid new : Memory) (before reported after : Reported) (full : Bool)
     → mid.step ≡ old.step → mid.period ≡ old.period → Hears at xs old before mid reported false → Hears at ys mid reported new after full → Hears at (xs ++ ys) old before new after full
 hears_more at xs ys old mid new before reported after full same page_index h g past k =
     let one = h past k in
@@ -85,7 +127,7 @@ hears_more at xs ys old mid new before reported after full same page_index h g p
     }
 
 -- entries after one for which there was no room
-pub hears_full : (at : FrameAt) (xs ys : List Item) (old new : Memory) (before after : Option (List Finding)) → Hears at xs old before new after true → Hears at (xs ++ ys) old before new after true
+pub hears_full : (at : FrameAt) (xs ys : List Item) (old new : Memory) (before after : Reported) → Hears at xs old before new after true → Hears at (xs ++ ys) old before new after true
 hears_full at xs ys old new before after h past k =
     let one = h past k in
     record {

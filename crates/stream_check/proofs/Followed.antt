@@ -8,7 +8,6 @@ use Rattle.fib_codec.specs.declared.modes.Mode.{Mode}
 use Rattle.fib_codec.specs.declared.modes.Mode.TheVariants.{I, II, III, IV}
 use Rattle.stream_check.specs.declared.finding.Finding.{Finding}
 use Rattle.stream_check.specs.declared.memory.Memory.{Memory}
-use Rattle.stream_check.specs.Reporting.{with_more}
 use Rattle.stream_check.specs.Frames.{Fib, Reading, first_in, opening, is_there, begins_with_ensemble, holds_ensemble, IsOneFrame, AreFrames, HoldsFirst, IsFramed, damaged_in}
 use Rattle.stream_check.specs.History.{Item, Moment, Said, said, frame_items, frames_ended}
 use Rattle.stream_check.specs.Stream.{findings_in, after_frame, findings_of, after_frames}
@@ -16,9 +15,10 @@ use Rattle.stream_check.specs.Memory.{Knows}
 use Rattle.stream_check.specs.Hearing.{IsFrameHeard, HearsFrame}
 use Rattle.mux_entries.specs.Entries.{EnsembleInformation}
 use Rattle.stream_check.specs.declared.checker.Summary.{Summary}
-use Rattle.stream_check.specs.Following.{Checking, Follows, EndsFull, IsSummary, is_begun, is_empty}
+use Rattle.stream_check.specs.Following.{Checking, Follows, EndsFull, Adds, FollowsFib, IsSummary, is_begun, is_empty}
 use Rattle.stream_check.proofs.Chain.{more_twice, more_none}
 use Rattle.stream_check.proofs.Framing.{flat, one_more, held_of, skips_more, goes_on, after_more, full_more, findings_more, damaged_append}
+use Rattle.stream_check.specs.Reported.{Reported, Unknown, with_more}
 
 -- ---- the number of frames
 
@@ -42,8 +42,9 @@ no_frames (f ∷ fs) e = absurd (omega (arith, e))
 
 -- ---- a skipped FIB
 
-pub follows_skip : (r : Reading) (mode : Mode) (period : ℕ) (stream : List Fib) (start reported : Option (List Finding)) (c : Checking) (fib : List ℕ) → c.memory.frames ≡ 0 → c.held ≡ [] → holds_ensemble (r.read fib) ≡ false
-    → Follows r mode period stream start reported c → Follows r mode period (stream ++ r.read fib ∷ []) start reported (record c { skipped = c.skipped + 1 })
+pub follows_skip : (r : Reading) (mode : Mode) (period : ℕ) (stream : List Fib) (start reported : Reported) (c : Checking) (fib : List ℕ) → c.memory.frames ≡ 0 → c.held ≡ [] → holds_ensemble (r.read fib) ≡ false
+    → (f : Follows r mode period stream start reported c)
+    → (g : Follows r mode period (stream ++ r.read fib ∷ []) start reported (record c { skipped = c.skipped + 1 })) × ((g.frames ≡ f.frames) × (f.frames ≡ []))
 follows_skip r mode period stream start reported c fib none empty silent f =
     let count = frame_count (count_step mode) period f.frames c.memory f.knows in
     let nothing : f.frames ≡ [] = no_frames f.frames (sym none ∙ count) in
@@ -52,7 +53,7 @@ follows_skip r mode period stream start reported c fib none empty silent f =
     let one : length (r.read fib ∷ []) ≡ 1 = refl in
     let before : IsFramed (fib_count mode) stream f.skipped [] [] =
     subst (λ (h : List Fib). IsFramed (fib_count mode) stream f.skipped [] h) held (subst (λ (fs : List (List Fib)). IsFramed (fib_count mode) stream f.skipped fs (map r.read c.held)) nothing f.framed) in
-    record {
+    let g : Follows r mode period (stream ++ r.read fib ∷ []) start reported (record c { skipped = c.skipped + 1 }) = record {
       skipped = f.skipped ++ r.read fib ∷ [];
       frames = f.frames;
       framed = subst (λ (fs : List (List Fib)). IsFramed (fib_count mode) (stream ++ r.read fib ∷ []) (f.skipped ++ r.read fib ∷ []) fs (map r.read c.held)) (sym nothing)
@@ -63,7 +64,8 @@ follows_skip r mode period stream start reported c fib none empty silent f =
       room = f.room;
       knows = f.knows;
       findings = f.findings;
-    }
+    } in
+    (g, (refl, nothing))
 
 -- ---- a FIB of a frame
 
@@ -104,8 +106,9 @@ one_frame : (size : ℕ) (xs : List Fib) → IsOneFrame xs → length xs < size 
 one_frame size [] one lt = absurd one
 one_frame size (x ∷ xs) one lt = (one, lt)
 
-pub follows_hold : (r : Reading) (mode : Mode) (period : ℕ) (stream : List Fib) (start reported : Option (List Finding)) (c : Checking) (fib : List ℕ) → IsNext r c fib → (c.held ≢ [] → begins_with_ensemble (r.read fib) ≡ false)
-    → length c.held + 1 < c.size → Follows r mode period stream start reported c → Follows r mode period (stream ++ r.read fib ∷ []) start reported (record c { held = c.held ++ fib ∷ [] })
+pub follows_hold : (r : Reading) (mode : Mode) (period : ℕ) (stream : List Fib) (start reported : Reported) (c : Checking) (fib : List ℕ) → IsNext r c fib → (c.held ≢ [] → begins_with_ensemble (r.read fib) ≡ false)
+    → length c.held + 1 < c.size → (f : Follows r mode period stream start reported c)
+    → (g : Follows r mode period (stream ++ r.read fib ∷ []) start reported (record c { held = c.held ++ fib ∷ [] })) × ((g.frames ≡ f.frames) × (g.skipped ≡ f.skipped))
 follows_hold r mode period stream start reported c fib next later short f =
     let held = map r.read c.held in
     let whole = one_more (map r.read c.held) (r.read fib) (λ some. later (held_some r c.held some)) (held_of (fib_count mode) f.frames (map r.read c.held) f.framed.cut) in
@@ -113,7 +116,7 @@ follows_hold r mode period stream start reported c fib next later short f =
     let one : length (r.read fib ∷ []) ≡ 1 = refl in
     let same = length-map c.held r.read in
     let few : length (map r.read c.held ++ r.read fib ∷ []) < fib_count mode = omega (arith, long, one, same, short, f.size) in
-    record {
+    let g : Follows r mode period (stream ++ r.read fib ∷ []) start reported (record c { held = c.held ++ fib ∷ [] }) = record {
       skipped = f.skipped;
       frames = f.frames;
       framed = subst (λ (h : List Fib). IsFramed (fib_count mode) (stream ++ r.read fib ∷ []) f.skipped f.frames h) (sym (map_one r c.held fib))
@@ -126,7 +129,8 @@ follows_hold r mode period stream start reported c fib next later short f =
       room = f.room;
       knows = f.knows;
       findings = f.findings;
-    }
+    } in
+    (g, (refl, refl))
 
 -- ---- the end of a frame
 
@@ -137,7 +141,7 @@ record Ends (r : Reading) (mode : Mode) (stream : List Fib) (c : Checking) (fib 
 flat_one : (frames : List (List Fib)) (frame : List Fib) → flat (frames ++ frame ∷ []) ≡ flat frames ++ frame
 flat_one frames frame = flat_map-append (λ g. g) frames (frame ∷ []) ∙ ap (λ l. flat frames ++ l) (append-nil frame)
 
-heard_same : (mode : Mode) (c : Checking) (frame : List Fib) (reported after : Option (List Finding)) (new : Memory) (full : Bool) (period : ℕ) (past : List Moment) → c.size ≡ fib_count mode → Knows (count_step mode) period past c.memory
+heard_same : (mode : Mode) (c : Checking) (frame : List Fib) (reported after : Reported) (new : Memory) (full : Bool) (period : ℕ) (past : List Moment) → c.size ≡ fib_count mode → Knows (count_step mode) period past c.memory
     → HearsFrame c.size frame c.memory reported new after full → IsFrameHeard (fib_count mode) (count_step mode) period past frame reported after new full
 heard_same mode c frame reported after new full period past size k h =
     subst (λ (n : ℕ). IsFrameHeard n (count_step mode) period past frame reported after new full) size
@@ -145,14 +149,15 @@ heard_same mode c frame reported after new full period past size k h =
     (subst (λ (p : ℕ). IsFrameHeard c.size c.memory.step p past frame reported after new full) k.page_index
     (h past (subst (λ (s : ℕ). Knows s c.memory.period past c.memory) (sym k.mode) (subst (λ (p : ℕ). Knows (count_step mode) p past c.memory) (sym k.page_index) k)))))
 
-pub follows_frame : (r : Reading) (mode : Mode) (period : ℕ) (stream : List Fib) (start reported after : Option (List Finding)) (c new : Checking) (frame : List Fib) (fib : List ℕ) → (f : Follows r mode period stream start reported c)
+pub follows_frame : (r : Reading) (mode : Mode) (period : ℕ) (stream : List Fib) (start reported after : Reported) (c new : Checking) (frame : List Fib) (fib : List ℕ) → (f : Follows r mode period stream start reported c)
     → IsFramed (fib_count mode) (stream ++ r.read fib ∷ []) f.skipped (f.frames ++ frame ∷ []) (map r.read new.held) → HearsFrame c.size frame c.memory reported new.memory after false
-    → new.size ≡ c.size → new.skipped ≡ c.skipped → new.damaged ≡ c.damaged + damaged_in frame → Follows r mode period (stream ++ r.read fib ∷ []) start after new
+    → new.size ≡ c.size → new.skipped ≡ c.skipped → new.damaged ≡ c.damaged + damaged_in frame
+    → (g : Follows r mode period (stream ++ r.read fib ∷ []) start after new) × ((g.frames ≡ f.frames ++ frame ∷ []) × (g.skipped ≡ f.skipped))
 follows_frame r mode period stream start reported after c new frame fib f framed h size skips damages =
     let past = after_frames (count_step mode) [] f.frames in
     let all = heard_same mode c frame reported after new.memory false period past f.size f.knows h in
     let more = damaged_append (flat f.frames) frame in
-    record {
+    let g : Follows r mode period (stream ++ r.read fib ∷ []) start after new = record {
       skipped = f.skipped;
       frames = f.frames ++ frame ∷ [];
       framed = framed;
@@ -164,14 +169,16 @@ follows_frame r mode period stream start reported after c new frame fib f framed
       findings = all.findings ∙ ap (λ t. with_more t (findings_in (fib_count mode) (count_step mode) period past frame)) f.findings
           ∙ more_twice start (findings_of (fib_count mode) (count_step mode) period [] f.frames) (findings_in (fib_count mode) (count_step mode) period past frame)
           ∙ ap (with_more start) (sym (findings_more (fib_count mode) (count_step mode) period [] f.frames frame f.room));
-    }
+    } in
+    (g, (refl, refl))
 
-pub ends_frame : (r : Reading) (mode : Mode) (period : ℕ) (stream : List Fib) (start reported after : Option (List Finding)) (c : Checking) (new : Memory) (frame rest : List Fib) (fib : List ℕ) → (f : Follows r mode period stream start reported c)
-    → IsFramed (fib_count mode) (stream ++ r.read fib ∷ []) f.skipped (f.frames ++ frame ∷ []) rest → HearsFrame c.size frame c.memory reported new after true → EndsFull r mode period (stream ++ r.read fib ∷ []) start after
+pub ends_frame : (r : Reading) (mode : Mode) (period : ℕ) (stream : List Fib) (start reported after : Reported) (c : Checking) (new : Memory) (frame rest : List Fib) (fib : List ℕ) → (f : Follows r mode period stream start reported c)
+    → IsFramed (fib_count mode) (stream ++ r.read fib ∷ []) f.skipped (f.frames ++ frame ∷ []) rest → HearsFrame c.size frame c.memory reported new after true
+    → (g : EndsFull r mode period (stream ++ r.read fib ∷ []) start after) × ((g.frames ≡ f.frames ++ frame ∷ []) × (g.skipped ≡ f.skipped))
 ends_frame r mode period stream start reported after c new frame rest fib f framed h =
     let past = after_frames (count_step mode) [] f.frames in
     let all = heard_same mode c frame reported after new true period past f.size f.knows h in
-    record {
+    let g : EndsFull r mode period (stream ++ r.read fib ∷ []) start after = record {
       skipped = f.skipped;
       frames = f.frames ++ frame ∷ [];
       rest = rest;
@@ -180,10 +187,50 @@ ends_frame r mode period stream start reported after c new frame rest fib f fram
       findings = all.findings ∙ ap (λ t. with_more t (findings_in (fib_count mode) (count_step mode) period past frame)) f.findings
           ∙ more_twice start (findings_of (fib_count mode) (count_step mode) period [] f.frames) (findings_in (fib_count mode) (count_step mode) period past frame)
           ∙ ap (with_more start) (sym (findings_more (fib_count mode) (count_step mode) period [] f.frames frame f.room));
-    }
+    } in
+    (g, (refl, refl))
+
+-- ---- what one more FIB adds, from a state that follows a stream
+
+pub adds_skip : (r : Reading) (mode : Mode) (period : ℕ) (stream : List Fib) (reported : Reported) (c : Checking) (fib : List ℕ) → c.memory.frames ≡ 0 → c.held ≡ [] → holds_ensemble (r.read fib) ≡ false
+    → FollowsFib r mode period stream (r.read fib) false reported reported c (record c { skipped = c.skipped + 1 })
+adds_skip r mode period stream reported c fib none empty silent f =
+    let t = follows_skip r mode period stream Unknown Unknown c fib none empty silent f in
+    (t.0, (t.1.0, inr t.1.1, refl))
+
+pub adds_hold : (r : Reading) (mode : Mode) (period : ℕ) (stream : List Fib) (reported : Reported) (c : Checking) (fib : List ℕ) → IsNext r c fib → (c.held ≢ [] → begins_with_ensemble (r.read fib) ≡ false)
+    → length c.held + 1 < c.size → FollowsFib r mode period stream (r.read fib) false reported reported c (record c { held = c.held ++ fib ∷ [] })
+adds_hold r mode period stream reported c fib next later short f =
+    let t = follows_hold r mode period stream Unknown Unknown c fib next later short f in
+    (t.0, (t.1.0, inl t.1.1, refl))
+
+-- the same frame, heard by a receiver that keeps nothing
+unkept : (size : ℕ) (frame : List Fib) (old new : Memory) (reported after : Reported) (full : Bool) → HearsFrame size frame old reported new after full → HearsFrame size frame old Unknown new Unknown full
+unkept size frame old new reported after full h past k =
+    let all = h past k in
+    record { findings = refl; room = all.room; knows = all.knows }
+
+pub adds_frame : (r : Reading) (mode : Mode) (period : ℕ) (stream : List Fib) (reported after : Reported) (c new : Checking) (frame : List Fib) (fib : List ℕ) (f : Follows r mode period stream Unknown Unknown c)
+    → IsFramed (fib_count mode) (stream ++ r.read fib ∷ []) f.skipped (f.frames ++ frame ∷ []) (map r.read new.held) → HearsFrame c.size frame c.memory reported new.memory after false
+    → new.size ≡ c.size → new.skipped ≡ c.skipped → new.damaged ≡ c.damaged + damaged_in frame
+    → (g : Follows r mode period (stream ++ r.read fib ∷ []) Unknown Unknown new)
+    × Adds (fib_count mode) (count_step mode) period true f.skipped g.skipped f.frames g.frames reported after
+adds_frame r mode period stream reported after c new frame fib f framed h size skips damages =
+    let t = follows_frame r mode period stream Unknown Unknown Unknown c new frame fib f framed (unkept c.size frame c.memory new.memory reported after false h) size skips damages in
+    let all = heard_same mode c frame reported after new.memory false period (after_frames (count_step mode) [] f.frames) f.size f.knows h in
+    (t.0, (frame, t.1.0, t.1.1, all.findings))
+
+pub ends_at : (r : Reading) (mode : Mode) (period : ℕ) (stream : List Fib) (reported after : Reported) (c : Checking) (new : Memory) (frame rest : List Fib) (fib : List ℕ) (f : Follows r mode period stream Unknown Unknown c)
+    → IsFramed (fib_count mode) (stream ++ r.read fib ∷ []) f.skipped (f.frames ++ frame ∷ []) rest → HearsFrame c.size frame c.memory reported new after true
+    → (g : EndsFull r mode period (stream ++ r.read fib ∷ []) Unknown Unknown)
+    × Adds (fib_count mode) (count_step mode) period true f.skipped g.skipped f.frames g.frames reported after
+ends_at r mode period stream reported after c new frame rest fib f framed h =
+    let t = ends_frame r mode period stream Unknown Unknown Unknown c new frame rest fib f framed (unkept c.size frame c.memory new reported after true h) in
+    let all = heard_same mode c frame reported after new true period (after_frames (count_step mode) [] f.frames) f.size f.knows h in
+    (t.0, (frame, t.1.0, t.1.1, all.findings))
 
 -- the buffered FIBs are a frame, as the next FIB begins with a FIG 0/0
-pub cut_before : (r : Reading) (mode : Mode) (period : ℕ) (stream : List Fib) (start reported : Option (List Finding)) (c : Checking) (fib : List ℕ) → c.held ≢ [] → begins_with_ensemble (r.read fib) ≡ true → 1 < fib_count mode
+pub cut_before : (r : Reading) (mode : Mode) (period : ℕ) (stream : List Fib) (start reported : Reported) (c : Checking) (fib : List ℕ) → c.held ≢ [] → begins_with_ensemble (r.read fib) ≡ true → 1 < fib_count mode
     → length c.held < c.size → (f : Follows r mode period stream start reported c) → IsFramed (fib_count mode) (stream ++ r.read fib ∷ []) f.skipped (f.frames ++ map r.read c.held ∷ []) (r.read fib ∷ [])
 cut_before r mode period stream start reported c fib some begins two short f =
     let same = length-map c.held r.read in
@@ -198,7 +245,7 @@ cut_before r mode period stream start reported c fib some begins two short f =
     is_one (inr none) = absurd (some_held r c.held some none)
 
 -- the buffered FIBs and this one are a frame
-pub cut_after : (r : Reading) (mode : Mode) (period : ℕ) (stream : List Fib) (start reported : Option (List Finding)) (c : Checking) (fib : List ℕ) → IsNext r c fib → (c.held ≢ [] → begins_with_ensemble (r.read fib) ≡ false)
+pub cut_after : (r : Reading) (mode : Mode) (period : ℕ) (stream : List Fib) (start reported : Reported) (c : Checking) (fib : List ℕ) → IsNext r c fib → (c.held ≢ [] → begins_with_ensemble (r.read fib) ≡ false)
     → length c.held + 1 ≡ c.size → (f : Follows r mode period stream start reported c) → IsFramed (fib_count mode) (stream ++ r.read fib ∷ []) f.skipped (f.frames ++ map r.read (c.held ++ fib ∷ []) ∷ []) []
 cut_after r mode period stream start reported c fib next later whole f =
     let one_is = one_more (map r.read c.held) (r.read fib) (λ some. later (held_some r c.held some)) (held_of (fib_count mode) f.frames (map r.read c.held) f.framed.cut) in
@@ -271,7 +318,7 @@ later_where r c fib o is e some = ap is_there (sym is) ∙ chosen (is_there o) c
 
 -- ---- before the first FIB, and after the last
 
-pub follows_nothing : (r : Reading) (mode : Mode) (period : ℕ) (start : Option (List Finding)) (c : Checking) → c.size ≡ fib_count mode → c.held ≡ [] → c.skipped ≡ 0 → c.damaged ≡ 0 → Knows (count_step mode) period [] c.memory
+pub follows_nothing : (r : Reading) (mode : Mode) (period : ℕ) (start : Reported) (c : Checking) → c.size ≡ fib_count mode → c.held ≡ [] → c.skipped ≡ 0 → c.damaged ≡ 0 → Knows (count_step mode) period [] c.memory
     → 0 < fib_count mode → Follows r mode period [] start start c
 follows_nothing r mode period start c size held skips damages k some = record {
   skipped = [];
@@ -285,12 +332,22 @@ follows_nothing r mode period start c size held skips damages k some = record {
   findings = more_none start;
 }
 
-pub summed : (r : Reading) (mode : Mode) (period : ℕ) (stream : List Fib) (start reported : Option (List Finding)) (c : Checking) (s : Summary) → (f : Follows r mode period stream start reported c)
+pub summed : (r : Reading) (mode : Mode) (period : ℕ) (stream : List Fib) (start reported : Reported) (c : Checking) (s : Summary) → (f : Follows r mode period stream start reported c)
     → s.frames ≡ c.memory.frames → s.skipped ≡ c.skipped → s.left_over ≡ length c.held → s.damaged ≡ c.damaged → IsSummary f.skipped f.frames (map r.read c.held) s
 summed r mode period stream start reported c s f frames skips left damages = record {
   frame_count = frames ∙ frame_count (count_step mode) period f.frames c.memory f.knows;
   skips = skips ∙ f.skips;
   left = left ∙ sym (length-map c.held r.read);
+  damages = damages ∙ f.damages;
+}
+
+-- the totals of the frames so far
+pub summed_so_far : (r : Reading) (mode : Mode) (period : ℕ) (stream : List Fib) (start reported : Reported) (c : Checking) (s : Summary) → (f : Follows r mode period stream start reported c)
+    → s.frames ≡ c.memory.frames → s.skipped ≡ c.skipped → s.left_over ≡ 0 → s.damaged ≡ c.damaged → IsSummary f.skipped f.frames [] s
+summed_so_far r mode period stream start reported c s f frames skips left damages = record {
+  frame_count = frames ∙ frame_count (count_step mode) period f.frames c.memory f.knows;
+  skips = skips ∙ f.skips;
+  left = left;
   damages = damages ∙ f.damages;
 }
 

@@ -10,7 +10,7 @@ use Rattle.stream_check.specs.declared.finding.What.{What}
 use Rattle.stream_check.specs.declared.finding.Fault.TheVariants as faults
 use Rattle.stream_check.specs.declared.reporting.FrameAt.{FrameAt}
 use Rattle.stream_check.specs.declared.memory.Memory.{Memory}
-use Rattle.stream_check.specs.Reporting.{with_more, in_frame, when}
+use Rattle.stream_check.specs.Reporting.{in_frame, when}
 use Rattle.stream_check.specs.Pictures.{Heard, heard_since, raws, key_of}
 use Rattle.stream_check.specs.Frames.{Fib, Reading}
 use Rattle.stream_check.specs.History.{Moment, Ended, said, frame_items, frames_ended, due, has_begun, row_at_hand, rows, last_heard}
@@ -21,6 +21,7 @@ use Rattle.stream_check.specs.Hearing.{IsLater, Hears, HearsFrame}
 use Rattle.stream_check.proofs.Notice.{notice_closed, notice_open}
 use Rattle.stream_check.proofs.Members.{after_is}
 use Rattle.stream_check.proofs.Chain.{more_twice}
+use Rattle.stream_check.specs.Reported.{Reported, with_more}
 
 -- ---- the frames of the notice
 
@@ -201,7 +202,7 @@ pub frame_len : (r : Reading) (fibs : List (List ℕ)) → length (map r.read fi
 frame_len r fibs = length-map fibs r.read
 
 -- all entries of the frame were heard, and the silent ones were reported
-pub frame_done : (size : ℕ) (frame : List Fib) (at : FrameAt) (old mid : Memory) (before reported one two : Option (List Finding))
+pub frame_done : (size : ℕ) (frame : List Fib) (at : FrameAt) (old mid : Memory) (before reported one two : Reported)
     → at ≡ record { frame = old.frames; count = count_of_frame old.step old.due frame }
     → one ≡ with_more before (map (in_frame at) (frame_findings size old.step old.due frame)) → Hears at (frame_items frame) old one mid two false → IsLater old mid
     → reported ≡ with_more two (map (in_frame at) (silent_in mid)) → HearsFrame size frame old before (with_frame (count_of_frame old.step old.due frame) mid) reported false
@@ -227,14 +228,14 @@ frame_done size frame at old mid before reported one two place first h l last pa
     at_of : ℕ → ℕ → FrameAt
     at_of n c = record { frame = n; count = c }
 
-    three : (at : FrameAt) (reported : Option (List Finding)) (xs ys zs : List What) → with_more (with_more (with_more reported (map (in_frame at) xs)) (map (in_frame at) ys)) (map (in_frame at) zs) ≡ with_more reported (map (in_frame at) (xs ++ (ys ++ zs)))
+    three : (at : FrameAt) (reported : Reported) (xs ys zs : List What) → with_more (with_more (with_more reported (map (in_frame at) xs)) (map (in_frame at) ys)) (map (in_frame at) zs) ≡ with_more reported (map (in_frame at) (xs ++ (ys ++ zs)))
     three at reported xs ys zs =
         more_twice (with_more reported (map (in_frame at) xs)) (map (in_frame at) ys) (map (in_frame at) zs)
         ∙ more_twice reported (map (in_frame at) xs) (map (in_frame at) ys ++ map (in_frame at) zs)
         ∙ ap (with_more reported) (sym (map-append (in_frame at) xs (ys ++ zs) ∙ ap (λ fs. map (in_frame at) xs ++ fs) (map-append (in_frame at) ys zs)))
 
 -- there was no room for one of its entries
-pub frame_full : (size : ℕ) (frame : List Fib) (at : FrameAt) (old mid : Memory) (before reported one : Option (List Finding))
+pub frame_full : (size : ℕ) (frame : List Fib) (at : FrameAt) (old mid : Memory) (before reported one : Reported)
     → at ≡ record { frame = old.frames; count = count_of_frame old.step old.due frame }
     → one ≡ with_more before (map (in_frame at) (frame_findings size old.step old.due frame)) → Hears at (frame_items frame) old one mid reported true → HearsFrame size frame old before mid reported true
 frame_full size frame at old mid before reported one place first h past k =
@@ -254,7 +255,7 @@ frame_full size frame at old mid before reported one place first h past k =
     at_of : ℕ → ℕ → FrameAt
     at_of n c = record { frame = n; count = c }
 
-    two : (at : FrameAt) (reported : Option (List Finding)) (xs ys : List What) → with_more (with_more reported (map (in_frame at) xs)) (map (in_frame at) ys) ≡ with_more reported (map (in_frame at) (xs ++ (ys ++ [])))
+    two : (at : FrameAt) (reported : Reported) (xs ys : List What) → with_more (with_more reported (map (in_frame at) xs)) (map (in_frame at) ys) ≡ with_more reported (map (in_frame at) (xs ++ (ys ++ [])))
     two at reported xs ys =
         more_twice reported (map (in_frame at) xs) (map (in_frame at) ys)
         ∙ ap (with_more reported) (sym (map-append (in_frame at) xs (ys ++ []) ∙ ap (λ fs. map (in_frame at) xs ++ map (in_frame at) fs) (append-nil ys)))

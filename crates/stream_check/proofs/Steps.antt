@@ -9,7 +9,7 @@ use Rattle.stream_check.specs.declared.finding.Finding.{Finding}
 use Rattle.stream_check.specs.declared.finding.What.{What}
 use Rattle.stream_check.specs.declared.reporting.FrameAt.{FrameAt}
 use Rattle.stream_check.specs.declared.memory.Memory.{Memory}
-use Rattle.stream_check.specs.Reporting.{with_more, in_frame}
+use Rattle.stream_check.specs.Reporting.{in_frame}
 use Rattle.stream_check.specs.Pictures.{Heard, HeardPicture, key_of, keys, keys_of, raws, shown}
 use Rattle.stream_check.specs.Lookup.{lookup_in}
 use Rattle.stream_check.specs.Parts.{most_parts}
@@ -22,6 +22,7 @@ use Rattle.stream_check.proofs.Members.{after_is}
 use Rattle.stream_check.proofs.Knowing.{knows_passed, knows_current, knows_next}
 use Rattle.stream_check.proofs.Ensembles.{knows_ensemble}
 use Rattle.stream_check.proofs.Chain.{more_none}
+use Rattle.stream_check.specs.Reported.{Reported, with_more}
 
 -- ---- the state knows what was sent before
 
@@ -83,7 +84,7 @@ one_found : (k : Known) (i : Item) (found : List What) → has_no_room k i ≡ f
 one_found k i found room is = ap (λ t. cond t [] (findings_at k i ++ [])) room ∙ append-nil (findings_at k i) ∙ is
 
 -- an entry for which there is room
-pub heard_one : (at : FrameAt) (i : Item) (old new : Memory) (before after : Option (List Finding)) → has_no_room (known_in old) i ≡ false → after ≡ with_more before (map (in_frame at) (findings_at (known_in old) i))
+pub heard_one : (at : FrameAt) (i : Item) (old new : Memory) (before after : Reported) → has_no_room (known_in old) i ≡ false → after ≡ with_more before (map (in_frame at) (findings_at (known_in old) i))
     → ((past : List Moment) → Knows old.step old.period past old → Knows old.step old.period (Said i ∷ past) new) → Hears at (i ∷ []) old before new after false
 heard_one at i old new before after room reported next past k =
     let same = known_same old.step old.period past old k in
@@ -95,7 +96,7 @@ heard_one at i old new before after room reported next past k =
     }
 
 -- an entry for which there is no room
-pub heard_none : (at : FrameAt) (i : Item) (old new : Memory) (before after : Option (List Finding)) → has_no_room (known_in old) i ≡ true → after ≡ before → Hears at (i ∷ []) old before new after true
+pub heard_none : (at : FrameAt) (i : Item) (old new : Memory) (before after : Reported) → has_no_room (known_in old) i ≡ true → after ≡ before → Hears at (i ∷ []) old before new after true
 heard_none at i old new before after room reported past k =
     let same = known_same old.step old.period past old k in
     let full : has_no_room (known_of old.step old.period past) i ≡ true = ap (λ t. has_no_room t i) (sym same) ∙ room in
@@ -106,7 +107,7 @@ heard_none at i old new before after room reported past k =
     }
 
 -- a FIG 0/0
-pub hears_ensemble : (at : FrameAt) (first next : Bool) (raw : Raw) (old new : Memory) (before after : Option (List Finding)) → raw.ext ≡ 0
+pub hears_ensemble : (at : FrameAt) (first next : Bool) (raw : Raw) (old new : Memory) (before after : Reported) → raw.ext ≡ 0
     → after ≡ with_more before (map (in_frame at) (ensemble_findings (known_in old) first (ensemble_in raw)))
     → new ≡ with_ensemble first (ensemble_in raw) (cond (makes_swap (known_in old) (ensemble_in raw)) (with_swap old) old)
     → Hears at (items_of first next (raw ∷ [])) old before new after false
@@ -132,7 +133,7 @@ found_of : (old : Memory) (first next : Bool) (raw : Raw) → (raw.ext == 0) ≡
 found_of old first next raw e = ap (λ t. cond t (ensemble_findings (known_in old) first (ensemble_in raw)) (member_findings (known_in old) next raw)) e
 
 -- an entry before the first FIG 0/0
-pub hears_passed : (at : FrameAt) (first next : Bool) (raw : Raw) (old : Memory) (before : Option (List Finding)) → raw.ext ≢ 0 → old.tuned ≡ false → Hears at (items_of first next (raw ∷ [])) old before old before false
+pub hears_passed : (at : FrameAt) (first next : Bool) (raw : Raw) (old : Memory) (before : Reported) → raw.ext ≢ 0 → old.tuned ≡ false → Hears at (items_of first next (raw ∷ [])) old before old before false
 hears_passed at first next raw old before other untuned =
     let e = not_zero raw.ext other in
     heard_one at (record { first = first; next = next; raw = raw }) old old before before
@@ -141,7 +142,7 @@ hears_passed at first next raw old before other untuned =
     (λ past k. knows_passed old.step old.period past old (record { first = first; next = next; raw = raw }) e untuned k)
 
 -- an entry of the current configuration; below, of the next one
-pub hears_current : (at : FrameAt) (first : Bool) (raw : Raw) (old new : Memory) (before after : Option (List Finding)) → raw.ext ≢ 0 → raw.ext < 4 → old.tuned ≡ true
+pub hears_current : (at : FrameAt) (first : Bool) (raw : Raw) (old new : Memory) (before after : Reported) → raw.ext ≢ 0 → raw.ext < 4 → old.tuned ≡ true
     → finds_no_room (lookup_in raw (shown old.current)) ≡ false → after ≡ with_more before (map (in_frame at) (current_findings (known_in old) raw)) → new ≡ with_current raw old
     → Hears at (items_of first false (raw ∷ [])) old before new after false
 hears_current at first raw old new before after other few tuned room reported is =
@@ -152,7 +153,7 @@ hears_current at first raw old new before after other few tuned room reported is
     (λ past k. subst (λ (m : Memory). Knows old.step old.period (Said (record { first = first; next = false; raw = raw }) ∷ past) m) (sym is)
     (knows_current old.step old.period past old (record { first = first; next = false; raw = raw }) e few (some_more raw.ext other) tuned refl room k))
 
-pub hears_next : (at : FrameAt) (first : Bool) (raw : Raw) (old new : Memory) (before after : Option (List Finding)) → raw.ext ≢ 0 → raw.ext < 4 → old.tuned ≡ true
+pub hears_next : (at : FrameAt) (first : Bool) (raw : Raw) (old new : Memory) (before after : Reported) → raw.ext ≢ 0 → raw.ext < 4 → old.tuned ≡ true
     → finds_no_room (lookup_in raw (shown old.next)) ≡ false → after ≡ with_more before (map (in_frame at) (next_findings (known_in old) raw)) → new ≡ with_next raw old
     → Hears at (items_of first true (raw ∷ [])) old before new after false
 hears_next at first raw old new before after other few tuned room reported is =
@@ -164,13 +165,13 @@ hears_next at first raw old new before after other few tuned room reported is =
     (knows_next old.step old.period past old (record { first = first; next = true; raw = raw }) e few (some_more raw.ext other) tuned refl room k))
 
 -- the same without room
-pub full_current : (at : FrameAt) (first : Bool) (raw : Raw) (old new : Memory) (before after : Option (List Finding)) → raw.ext ≢ 0 → old.tuned ≡ true
+pub full_current : (at : FrameAt) (first : Bool) (raw : Raw) (old new : Memory) (before after : Reported) → raw.ext ≢ 0 → old.tuned ≡ true
     → finds_no_room (lookup_in raw (shown old.current)) ≡ true → after ≡ before → Hears at (items_of first false (raw ∷ [])) old before new after true
 full_current at first raw old new before after other tuned room reported =
     heard_none at (record { first = first; next = false; raw = raw }) old new before after
     (room_of old first false raw true (not_zero raw.ext other) (ap (λ t. t && finds_no_room (lookup_in raw (shown old.current))) tuned ∙ room)) reported
 
-pub full_next : (at : FrameAt) (first : Bool) (raw : Raw) (old new : Memory) (before after : Option (List Finding)) → raw.ext ≢ 0 → old.tuned ≡ true
+pub full_next : (at : FrameAt) (first : Bool) (raw : Raw) (old new : Memory) (before after : Reported) → raw.ext ≢ 0 → old.tuned ≡ true
     → finds_no_room (lookup_in raw (shown old.next)) ≡ true → after ≡ before → Hears at (items_of first true (raw ∷ [])) old before new after true
 full_next at first raw old new before after other tuned room reported =
     heard_none at (record { first = first; next = true; raw = raw }) old new before after
@@ -249,13 +250,13 @@ later_next raw m s = elim (is_absent (lookup_in raw (shown m.next))) as (λ t. I
 
 -- ---- by the result of a call
 
-pub answered_current : (b : Bool) (at : FrameAt) (first : Bool) (raw : Raw) (old new : Memory) (before after : Option (List Finding)) → raw.ext ≢ 0 → raw.ext < 4 → old.tuned ≡ true
+pub answered_current : (b : Bool) (at : FrameAt) (first : Bool) (raw : Raw) (old new : Memory) (before after : Reported) → raw.ext ≢ 0 → raw.ext < 4 → old.tuned ≡ true
     → (b ≡ true → finds_no_room (lookup_in raw (shown old.current)) ≡ false) → (b ≡ true → after ≡ with_more before (map (in_frame at) (current_findings (known_in old) raw))) → (b ≡ true → new ≡ with_current raw old)
     → (b ≡ false → finds_no_room (lookup_in raw (shown old.current)) ≡ true) → (b ≡ false → after ≡ before) → Hears at (items_of first false (raw ∷ [])) old before new after (not b)
 answered_current true at first raw old new before after other few tuned room reported is full same = hears_current at first raw old new before after other few tuned (room refl) (reported refl) (is refl)
 answered_current false at first raw old new before after other few tuned room reported is full same = full_current at first raw old new before after other tuned (full refl) (same refl)
 
-pub answered_next : (b : Bool) (at : FrameAt) (first : Bool) (raw : Raw) (old new : Memory) (before after : Option (List Finding)) → raw.ext ≢ 0 → raw.ext < 4 → old.tuned ≡ true
+pub answered_next : (b : Bool) (at : FrameAt) (first : Bool) (raw : Raw) (old new : Memory) (before after : Reported) → raw.ext ≢ 0 → raw.ext < 4 → old.tuned ≡ true
     → (b ≡ true → finds_no_room (lookup_in raw (shown old.next)) ≡ false) → (b ≡ true → after ≡ with_more before (map (in_frame at) (next_findings (known_in old) raw))) → (b ≡ true → new ≡ with_next raw old)
     → (b ≡ false → finds_no_room (lookup_in raw (shown old.next)) ≡ true) → (b ≡ false → after ≡ before) → Hears at (items_of first true (raw ∷ [])) old before new after (not b)
 answered_next true at first raw old new before after other few tuned room reported is full same = hears_next at first raw old new before after other few tuned (room refl) (reported refl) (is refl)

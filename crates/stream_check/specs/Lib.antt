@@ -1,3 +1,4 @@
+pub mod Reported
 pub mod Reporting
 pub mod Pictures
 pub mod Lookup

@@ -1,15 +1,10 @@
 -- Findings reported one after the other.
-use Rattle.std.specs.Prelude.{Bool, if◌then◌else◌, List, [], ◌∷◌, ◌++◌, Option, Some, None}
+use Rattle.std.specs.Prelude.{Bool, if◌then◌else◌, List, [], ◌∷◌, Option, Some, None}
 use Rattle.stream_check.specs.declared.finding.Finding.{Finding}
 use Rattle.stream_check.specs.declared.finding.What.{What}
 use Rattle.stream_check.specs.declared.finding.What.TheVariants as whats
 use Rattle.stream_check.specs.declared.finding.Fault.{Fault}
 use Rattle.stream_check.specs.declared.reporting.FrameAt.{FrameAt}
-
--- appends findings to those that were reported; None if these are not kept
-abbrev pub with_more : Option (List Finding) → List Finding → Option (List Finding)
-with_more None more = None
-with_more (Some reported) more = Some (reported ++ more)
 
 abbrev pub in_frame : FrameAt → What → Finding
 in_frame at what = record { frame = at.frame; count = at.count; what = what }

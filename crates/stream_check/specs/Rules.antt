@@ -202,15 +202,25 @@ abbrev pub changes : Known → ℕ
 changes k = change_between k.listener.current k.listener.next
 
 -- faults of the notice, unless its beginning was not heard
+abbrev pub times_faults : Known → List What
+times_faults k = when (not k.is_cut_off && nat_lt k.times 3) (faults.AnnouncedTimes k.times)
+
+abbrev pub heard_faults : Known → List What
+heard_faults k = when (not k.is_cut_off && nat_lt k.heard 3) (faults.NextHeard k.heard)
+
+abbrev pub flags_faults : Known → List What
+flags_faults k = when (not k.is_cut_off && not (k.flags == changes k)) (faults.Flags k.flags (changes k))
+
 abbrev pub notice_faults : Known → List What
-notice_faults k =
-    when (not k.is_cut_off && nat_lt k.times 3) (faults.AnnouncedTimes k.times)
-    ++ (when (not k.is_cut_off && nat_lt k.heard 3) (faults.NextHeard k.heard)
-    ++ when (not k.is_cut_off && not (k.flags == changes k)) (faults.Flags k.flags (changes k)))
+notice_faults k = times_faults k ++ (heard_faults k ++ flags_faults k)
 
 -- faults in the capacity units of the next configuration
 abbrev pub unit_faults : Known → List What
 unit_faults k = as_list (overlap k.listener.next.subs) ++ as_list (past_end k.listener.next.subs)
+
+-- a swap, and whether it was awaited at another count
+abbrev pub count_findings : Known → EnsembleInformation → List What
+count_findings k e = whats.Event events.Swap ∷ when (not (e.count % 250 == awaited_low k)) (faults.AnnouncedFor (awaited_low k))
 
 abbrev pub swap_findings : Known → EnsembleInformation → List What
 swap_findings k e =
@@ -224,6 +234,10 @@ abbrev pub swap_or_another : Known → EnsembleInformation → List What
 swap_or_another k e =
     if makes_swap k e then swap_findings k e
     else when (announces_another k e) (faults.AnnouncedAgain e.change (occurrence_of e))
+
+-- no change flags, where entries of the next configuration came before
+abbrev pub unannounced_findings : Known → EnsembleInformation → List What
+unannounced_findings k e = when (not (has_flags e) && k.began_early) faults.NextUnannounced
 
 abbrev pub ensemble_findings : Known → Bool → EnsembleInformation → List What
 ensemble_findings k first e =

@@ -41,12 +41,18 @@ abbrev pub first_line : Option ℕ → List Fib → List What
 first_line None frame = whats.Event (events.Ensemble (eid_in (first_of_frame frame))) ∷ []
 first_line (Some count) frame = []
 
+abbrev pub size_findings : ℕ → List Fib → List What
+size_findings size frame = when (nat_lt (length frame) size) (faults.ShortFrame (length frame))
+
+abbrev pub damaged_findings : List Fib → List What
+damaged_findings frame = when (nat_lt 0 (damaged_in frame)) (faults.Damaged (damaged_in frame))
+
+abbrev pub missing_findings : ℕ → Option ℕ → List Fib → List What
+missing_findings step last frame = when (count_due last frame % step == 0 && lacks_opening frame) faults.NoEnsemble
+
 abbrev pub frame_findings : (size step : ℕ) → Option ℕ → List Fib → List What
 frame_findings size step last frame =
-    first_line last frame
-    ++ (when (nat_lt (length frame) size) (faults.ShortFrame (length frame))
-    ++ (when (nat_lt 0 (damaged_in frame)) (faults.Damaged (damaged_in frame))
-    ++ when (count_due last frame % step == 0 && lacks_opening frame) faults.NoEnsemble))
+    first_line last frame ++ (size_findings size frame ++ (damaged_findings frame ++ missing_findings step last frame))
 
 -- ---- findings at its entries, one after the other, as long as there is room
 

@@ -69,20 +69,20 @@ impl Model for Checker {
 }
 
 impl Checker {
-    ghost use Rattle.std.specs.Prelude.{◌≡◌, ◌&&◌, ℕ, ◌<◌, ◌+◌, ◌++◌, ◌∷◌, [], List, Option, length, map, not, true, false, OnOk, IfErr, IfSome, IfNone};
+    ghost use Rattle.std.specs.Prelude.{◌≡◌, ◌&&◌, ℕ, ◌<◌, ◌+◌, ◌++◌, ◌∷◌, [], List, Option, length, map, not, true, false, OnOk, IfOk, IfErr, IfSome, IfNone};
     ghost use Rattle.fib_codec.specs.Modes.{count_step};
     ghost use Rattle.fib_codec.specs.declared.modes.Mode as modes;
-    ghost use Rattle.stream_check.specs.declared.finding.Finding as findings;
+    ghost use Rattle.stream_check.specs.Reported.{Reported};
     ghost use Rattle.stream_check.specs.declared.checker.CheckFault.TheVariants as faults;
     ghost use Rattle.stream_check.specs.Frames.{Fib, Reading, IsSeen, damaged_in, holds_ensemble, is_there};
     ghost use Rattle.stream_check.specs.Memory.{most};
     ghost use Rattle.stream_check.specs.Hearing.{HearsFrame};
-    ghost use Rattle.stream_check.specs.Following.{Follows, EndsFull, IsAtLimit, IsSummary, is_begun, is_empty, with_skip, with_fib};
+    ghost use Rattle.stream_check.specs.Following.{Follows, EndsFull, FollowsFib, EndsAtFib, IsAtLimit, IsSummary, is_begun, is_empty, with_skip, with_fib};
 
     /// A checker of a stream in this mode, before its first FIB. Any `period` successive frames have to carry each
     /// entry of the current configuration.
     pub fn new(mode: Mode, period: u16) -> Checker
-        ensures { (r : Reading) (start : Option (List findings.Finding))
+        ensures { (r : Reading) (start : Reported)
             → Follows r mode period [] start start result }
     {
         Checker {
@@ -194,22 +194,30 @@ impl Checker {
         is_heard
     }
 
-    /// Hears one FIB and, if it ends a frame, reports the findings in that frame. A frame ends with the last of its
-    /// FIBs, or where the next one begins with a FIG 0/0. FIBs before the first that contains a FIG 0/0 are skipped.
+    /// Hears one FIB and, if it ends a frame, reports the findings in that frame; returns whether it does. A frame ends
+    /// with the last of its FIBs, or where the next one begins with a FIG 0/0. FIBs before the first that contains a
+    /// FIG 0/0 are skipped.
     ///
     /// - `Full`: a picture had no room for an entry; the findings before it were reported, and nothing after it may be
     ///   heard;
     /// - `TooLong`: there were already 2^62 frames, skipped FIBs or damaged FIBs; the FIB was not heard, and nothing
     ///   changed.
-    pub fn hear<R: Report>(&mut self, fib: &[u8; 32], report: &mut R) -> Result<(), CheckFault>
+    pub fn hear<R: Report>(&mut self, fib: &[u8; 32], report: &mut R) -> Result<bool, CheckFault>
         ensures heard { OnOk result ((r : Reading) (mode : modes.Mode) (period : ℕ)
-            (stream : List Fib) (start : Option (List findings.Finding))
+            (stream : List Fib) (start : Reported)
             → Follows r mode period stream start (R.reported report.old) self.old
             → Follows r mode period (stream ++ r.read fib.now ∷ []) start (R.reported report.new)
             self.new) }
+        ensures added { IfOk result (λ ends. (r : Reading) (mode : modes.Mode) (period : ℕ)
+            (stream : List Fib) → FollowsFib r mode period stream (r.read fib.now) ends
+            (R.reported report.old) (R.reported report.new) self.old self.new) }
+        ensures cut { IfErr result (λ fault. fault ≡ faults.Full → (r : Reading)
+            (mode : modes.Mode) (period : ℕ) (stream : List Fib)
+            → EndsAtFib r mode period stream (r.read fib.now)
+            (R.reported report.old) (R.reported report.new) self.old) }
         ensures full { IfErr result (λ fault. fault ≡ faults.Full → (r : Reading)
             (mode : modes.Mode) (period : ℕ) (stream : List Fib)
-            (start : Option (List findings.Finding))
+            (start : Reported)
             → Follows r mode period stream start (R.reported report.old) self.old
             → EndsFull r mode period (stream ++ r.read fib.now ∷ []) start
             (R.reported report.new)) }
@@ -222,23 +230,38 @@ impl Checker {
         }
         if self.is_skipped(fib) {
             self.skip();
-            return Ok(());
+            return Ok(false);
         }
         let sight = sight_of(fib);
         if self.is_cut(&sight) {
             if !self.hear_cut(fib, &sight, report) {
                 return Err(CheckFault::Full);
             }
-            return Ok(());
+            return Ok(true);
         }
         if self.has_space() {
             self.hold(fib, &sight);
-            return Ok(());
+            return Ok(false);
         }
         if !self.hear_last(fib, &sight, report) {
             return Err(CheckFault::Full);
         }
-        Ok(())
+        Ok(true)
+    }
+
+    /// The totals of the frames so far. FIBs behind them count nowhere, so that none is left over.
+    pub fn decided(&self) -> Summary
+        ensures { (r : Reading) (mode : modes.Mode) (period : ℕ) (stream : List Fib)
+            (start reported : Reported)
+            (follows : Follows r mode period stream start reported self.now)
+            → IsSummary follows.skipped follows.frames [] result }
+    {
+        Summary {
+            frames: self.memory.frames(),
+            skipped: self.skipped,
+            left_over: 0,
+            damaged: self.damaged,
+        }
     }
 
     /// Ends the check and returns the totals; None where the stream has no FIG 0/0.
@@ -246,7 +269,7 @@ impl Checker {
         ensures none { IfNone result (is_begun self.now ≡ false) }
         ensures some { IfSome result (λ s. (is_begun self.now ≡ true)
             × ((r : Reading) (mode : modes.Mode) (period : ℕ) (stream : List Fib)
-            (start reported : Option (List findings.Finding))
+            (start reported : Reported)
             (follows : Follows r mode period stream start reported self.now)
             → IsSummary follows.skipped follows.frames (map r.read self.now.held) s)) }
     {

@@ -17,8 +17,9 @@ fn can_fall_at(step: u16, low: u8) -> bool
 
 impl Memory {
     ghost use Rattle.std.specs.Prelude.{◌≡◌, ◌<◌, ◌≤◌, map, if◌then◌else◌};
-    ghost use Rattle.stream_check.specs.Reporting.{with_more, in_frame};
-    ghost use Rattle.stream_check.specs.Rules.{is_placed, makes_swap, announces_another, is_other, place_faults, swap_or_another, announcement, announces_first, ensemble_findings};
+    ghost use Rattle.stream_check.specs.Reported.{with_more};
+    ghost use Rattle.stream_check.specs.Reporting.{in_frame};
+    ghost use Rattle.stream_check.specs.Rules.{is_placed, makes_swap, announces_another, is_other, place_faults, swap_or_another, announcement, announces_first, ensemble_findings, unannounced_findings};
     ghost use Rattle.stream_check.specs.Memory.{IsSane, known_in, most, with_swap, with_flags, with_ensemble};
 
     /// Whether a FIG 0/0 is in place: the first FIG of its frame, at a count that is a multiple of the mode's step.
@@ -151,6 +152,14 @@ impl Memory {
         self.report_place(at, first, ensemble, report);
         self.report_swap_or_another(at, ensemble, report);
         self.report_announcement(at, ensemble, report);
+        self.report_unannounced(at, ensemble, report);
+    }
+
+    /// Reports a FIG 0/0 without change flags, if its frame has entries of the next configuration before it.
+    fn report_unannounced<R: Report>(&self, at: FrameAt, ensemble: &Ensemble, report: &mut R)
+        ensures { R.reported report.new ≡ with_more (R.reported report.old)
+            (map (in_frame at) (unannounced_findings (known_in self.now) ensemble.now)) }
+    {
         let is_bare = ensemble.change() == 0 && self.began_early;
         note_if(is_bare, at, Fault::NextUnannounced, report);
     }

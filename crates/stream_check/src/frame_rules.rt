@@ -22,10 +22,11 @@ impl Memory {
     ghost use Rattle.std.specs.Prelude.{◌≡◌, ◌≢◌, ◌<◌, ◌≤◌, ◌+◌, ◌==◌, ◌&&◌, map, not, true, false};
     ghost use Rattle.std.specs.List.{AllByRecursion};
     ghost use Rattle.stream_check.specs.Pictures.{Heard};
-    ghost use Rattle.stream_check.specs.Reporting.{with_more, in_frame};
+    ghost use Rattle.stream_check.specs.Reported.{with_more};
+    ghost use Rattle.stream_check.specs.Reporting.{in_frame};
     ghost use Rattle.stream_check.specs.Frames.{Reading};
     ghost use Rattle.stream_check.specs.History.{frame_items};
-    ghost use Rattle.stream_check.specs.Stream.{count_due, count_of_frame, first_line, frame_findings};
+    ghost use Rattle.stream_check.specs.Stream.{count_due, count_of_frame, first_line, size_findings, damaged_findings, missing_findings, frame_findings};
     ghost use Rattle.stream_check.specs.Memory.{IsSane, most, later, is_quiet, quiet_findings, silent_in};
     ghost use Rattle.stream_check.specs.Hearing.{IsLater, HearsFrame};
 
@@ -79,6 +80,35 @@ impl Memory {
         note(at, What::Event(Event::Ensemble(eid)), report);
     }
 
+    /// Reports a frame with fewer FIBs than the mode requires.
+    fn report_size<R: Report>(&self, at: FrameAt, size: usize, fibs: &FrameFibs, report: &mut R)
+        ensures { (r : Reading) → R.reported report.new ≡ with_more (R.reported report.old)
+            (map (in_frame at) (size_findings size (map r.read fibs.now))) }
+    {
+        let count = fibs.len() as u64;
+        note_if(fibs.len() < size, at, Fault::ShortFrame(count), report);
+    }
+
+    /// Reports the damaged FIBs of a frame.
+    fn report_damaged<R: Report>(&self, at: FrameAt, fibs: &FrameFibs, report: &mut R)
+        ensures { (r : Reading) → R.reported report.new ≡ with_more (R.reported report.old)
+            (map (in_frame at) (damaged_findings (map r.read fibs.now))) }
+    {
+        let damaged = fibs.damaged();
+        note_if(damaged > 0, at, Fault::Damaged(damaged), report);
+    }
+
+    /// Reports a frame that should begin with a FIG 0/0, and does not.
+    fn report_missing<R: Report>(&self, at: FrameAt, fibs: &FrameFibs, report: &mut R)
+        requires sane { IsSane self.now }
+        ensures { (r : Reading) → R.reported report.new ≡ with_more (R.reported report.old)
+            (map (in_frame at)
+            (missing_findings self.now.step self.now.due (map r.read fibs.now))) }
+    {
+        let is_missing = self.count_due(fibs) % self.step == 0 && fibs.starts_without_ensemble();
+        note_if(is_missing, at, Fault::NoEnsemble, report);
+    }
+
     /// Reports the findings for a frame as a whole.
     fn report_frame<R: Report>(&self, at: FrameAt, size: usize, fibs: &FrameFibs, report: &mut R)
         requires sane { IsSane self.now }
@@ -87,12 +117,9 @@ impl Memory {
             (frame_findings size self.now.step self.now.due (map r.read fibs.now))) }
     {
         self.report_first_line(at, fibs, report);
-        let count = fibs.len() as u64;
-        note_if(fibs.len() < size, at, Fault::ShortFrame(count), report);
-        let damaged = fibs.damaged();
-        note_if(damaged > 0, at, Fault::Damaged(damaged), report);
-        let is_missing = self.count_due(fibs) % self.step == 0 && fibs.starts_without_ensemble();
-        note_if(is_missing, at, Fault::NoEnsemble, report);
+        self.report_size(at, size, fibs, report);
+        self.report_damaged(at, fibs, report);
+        self.report_missing(at, fibs, report);
     }
 
     /// Whether an entry of the current configuration was last heard, or the last swap made, exactly `period` frames

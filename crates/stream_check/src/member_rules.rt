@@ -33,7 +33,8 @@ pub(crate) fn name_of(entry: &RawEntry<'_>) -> EntryName
 impl Memory {
     ghost use Rattle.std.specs.Prelude.{◌≡◌, ◌≢◌, ◌<◌, ◌+◌, map, true, false};
     ghost use Rattle.stream_check.specs.declared.heard_table.Lookup.TheVariants as standings;
-    ghost use Rattle.stream_check.specs.Reporting.{with_more, in_frame};
+    ghost use Rattle.stream_check.specs.Reported.{with_more};
+    ghost use Rattle.stream_check.specs.Reporting.{in_frame};
     ghost use Rattle.stream_check.specs.Pictures.{shown};
     ghost use Rattle.stream_check.specs.Lookup.{lookup_in};
     ghost use Rattle.stream_check.specs.Rules.{finds_no_room, current_findings, next_findings};

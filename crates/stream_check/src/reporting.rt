@@ -1,17 +1,17 @@
 //! Receivers of findings.
 
 ghost use Rattle.std.specs.Prelude.{◌≡◌, [], ◌∷◌, map};
-ghost use Rattle.stream_check.specs.Reporting.{with_more, in_frame, when, as_list};
+ghost use Rattle.stream_check.specs.Reported.{with_more};
+ghost use Rattle.stream_check.specs.Reporting.{in_frame, when, as_list};
 
 use crate::finding::{Fault, Finding, What};
 
 /// Receives findings one after the other.
 pub trait Report {
-    ghost use Rattle.std.specs.Prelude.{List, Option};
-    ghost use Rattle.stream_check.specs.declared.finding.Finding as findings;
+    ghost use Rattle.stream_check.specs.Reported.{Reported};
 
-    /// All findings that were reported to it, if it keeps them.
-    ghost reported: { Self → Option (List findings.Finding) };
+    /// What was reported to it: all findings, if it keeps them, or if it keeps a limited number and these are no more.
+    ghost reported: { Self → Reported };
 
     /// Receives one more finding.
     fn note(&mut self, finding: Finding)

@@ -1,21 +1,12 @@
 //! The command line of `check`.
 
-use crate::args::parser::{Argument, Grammar, Page, Values};
-use crate::args::shared::{file, mode, mode_of, number};
+use crate::args::parser::{Argument, Grammar, Kind, Page, Rule, Values};
+use crate::args::shared::{file, flag, mode, mode_of, number};
+use crate::args::start::second_at;
 use crate::args::{Request, UsageError};
-use fib_codec::Mode;
+use cli_streams::check::CheckRequest;
 use std::alloc::{AllocError, Global};
-
-/// The arguments of `check`.
-#[derive(Clone, Copy)]
-pub struct CheckRequest<'a> {
-    /// The path of the file of FIBs, or `-` for standard input.
-    pub file: &'a str,
-    /// The transmission mode.
-    pub mode: Mode,
-    /// Each entry of the current configuration must occur in any window of this many frames.
-    pub period: u16,
-}
+use stream_monitor::{CheckOptions, Form};
 
 const PAGE: Page = Page {
     name: "check",
@@ -28,13 +19,15 @@ const PAGE: Page = Page {
 const LONG: &str = "\
 Reports where a file of FIBs breaks the rules of reconfigurations (EN 300 401, clause 6.5).
 
-In goes a file of whole FIBs of 32 bytes, one after another, as any multiplexer may have written
-them. Out come the swaps, how they were announced, and each fault, with its frame and CIF count: a
-swap that was not announced in time, at another count or with other flags; a next configuration
-that could not be read three times before its swap; an entry that changed, appeared or fell silent
-without a swap; a jump of the CIF count, a FIG 0/0 out of its place, a FIB that is damaged or lost.";
+The file has FIBs of 32 bytes, one after another, as any multiplexer may have written them. Prints
+the announcements, the swaps and the faults, each with its frame and CIF count. A fault is a swap
+that was not announced in time, or comes at another count or with other flags; a next configuration
+that could not be received three times before its swap; an entry that changed, appeared or fell
+silent without a swap; a jump of the CIF count; a FIG 0/0 out of place; a damaged or missing FIB.";
 
-const USAGE: &str = "dabplan check <FILE> [--mode <M>] [--period <N>]";
+const USAGE: &str = "\
+dabplan check <FILE> [--mode <M>] [--period <N>] [--every <N>] [--time <HH:MM:SS>] [--until-fault]
+       [--json]";
 
 const AFTER: &str = "\
 The lines, each with the number of its frame, from 0, and the CIF count of the frame:
@@ -42,38 +35,99 @@ The lines, each with the number of its frame, from 0, and the CIF count of the f
   4 4 announced 1 swap at low 28      flags 1: sub-channels change, 2: services, 3: both; the low
                                       part of the CIF count of the swap
   28 28 swap                          the next configuration becomes the current one
-  28 28 fault: announced for low 24   a fault; see docs/guide/COMMANDS.md for each kind
+  28 28 fault: announced for low 24   a fault of the list below
   frames 100 skipped 0 left over 0 damaged 0 swaps 1 faults 1
-                                      skipped: FIBs before the first FIG 0/0; left over: those
-                                      behind the last whole frame
+                                      the last line. skipped: FIBs before the first FIG 0/0; left
+                                      over: FIBs after the last whole frame; damaged: FIBs of frames
 
-A frame has three FIBs, in mode 3 four, or fewer where the next one begins with a FIG 0/0.
+The faults of a frame:
+  frame of K FIBs               the frame has fewer FIBs than the mode gives it
+  damaged D                     D of its FIBs have a wrong CRC or no whole FIGs
+  FIG 0/0 is missing            the frame does not begin with the FIG 0/0 that is due in it
+  ensemble HHHH                 its FIG 0/0 has another EId than the one before
+  count: N was due              its FIG 0/0 has another CIF count
+  FIG 0/0 out of place          a FIG 0/0 where none is due: not first in the frame, or at a count
+                                that the step of the mode does not divide
+  announced again: B at low O   while a swap is awaited, other flags or another count are announced
+  no swap can fall at low O     no CIF count of a swap has the low part O
+  next without change flags     the next configuration is sent, and no change flag is set
+  changed: ENTRY                an entry of the current configuration changed without a swap
+  next changed: ENTRY           an entry of the next configuration changed
+  appeared: ENTRY               the current configuration did not have this entry
+  silent: ENTRY                 an entry of the current one was not sent for --period frames
+The faults of a swap:
+  announced for low O           the swap was announced for another CIF count
+  announced N times             fewer than three FIG 0/0 with change flags came before it
+  next heard N times            the next configuration could not be received three times before it
+  flags B, but D changes        the flags announced B, and what changes is D
+  overlap A B                   sub-channels A and B of the new configuration share a capacity unit
+  past the end: A               sub-channel A of the new configuration ends past capacity unit 863
+ENTRY is 'sub 1', 'service C221' or 'packet 7'. A frame has three FIBs, in mode 3 four, or fewer
+where the next FIB begins with a FIG 0/0.
 
-Example: one frame of one configuration, without a fault
-  printf '\\001\\001\\000\\001\\000\\000\\000\\003\\000\\200\\000\\302\\041\\001\\000\\077\\001' |
-    dabplan frame - --ensemble E1C5 --count 0 | xxd -r -p > frame.fib
-  dabplan check frame.fib
+The file is read as it comes, and all lines that its bytes decide are written before more is read, so
+that a pipe can be monitored. With --every 250 there is also a line of the totals so far every six
+seconds, so that a monitor that has stopped is noticed:
+  alive frames 250 skipped 0 left over 0 damaged 0 swaps 1 faults 1
+With --time each finding begins with the time of its frame, 21:59:54.240. With --json each line is one
+JSON object, as docs/guide/COMMANDS.md lists them:
+  {\"kind\":\"fault\",\"frame\":28,\"count\":28,\"fault\":\"announced-for\",\"low\":24}
+
+The line of a refusal, in place of the last line:
+  refused: not whole FIBs       the length of the file is not a multiple of 32 bytes
+  refused: no ensemble          there is no FIG 0/0
+  refused: Full                 a configuration has more than 64 services or packet components
+
+A line on standard error, 'FILE: no whole FIB: 32 bytes each are expected', says that the file has no
+FIBs, and what it looks like, if that is known.
+
+Example: the frames of a plan, with a change of rate that is announced and made
+  printf 'frames 1 contact 3 closed frames 300' > day.events
+  dabplan play examples/contact_lowers_a_rate.code day.events day.fib
+  dabplan check day.fib
 
 Exit status:
   0  there is no fault
-  1  there is one, or the file holds no whole FIBs, no FIG 0/0 or more than 64 services or packet
-     components, or can't be read
-  2  the command line is wrong";
+  1  the FIBs are refused, or FILE can't be read
+  2  the command line is wrong
+  3  there is a fault";
 
 /// The command `check`.
 pub(crate) fn grammar<'a>(alloc: Global) -> Result<Grammar<'a>, AllocError> {
     let file_help = "The file of FIBs, or '-' for standard input";
+    let until_help = "Ends with the first frame that has a fault, with status 3";
+    let json_help = "Prints each line as a JSON object";
     Grammar::of_command(alloc, PAGE)
         .argument(file("file", "FILE", file_help))?
         .argument(mode())?
-        .argument(period())
+        .argument(period())?
+        .argument(every())?
+        .argument(time())?
+        .argument(flag("until-fault", until_help))?
+        .argument(flag("json", json_help))
 }
 
 /// The option for the period.
 fn period() -> Argument {
-    let help =
-        "In how many successive frames each entry of the current configuration has to come, 1 to 60000";
+    let help = "Every entry must come at least once in this many frames of 24 ms, 1 to 60000";
     number("period", "N", 1, 60000, Some("250"), help)
+}
+
+/// The option for totals so far.
+fn every() -> Argument {
+    let help = "Prints the totals so far after every N frames, 1 to 4294967295";
+    number("every", "N", 1, 4294967295, None, help)
+}
+
+/// The option for the time of day.
+fn time() -> Argument {
+    Argument {
+        name: "time",
+        value_name: "HH:MM:SS",
+        help: "The time of the day at frame 0, 00:00:00 to 23:59:59: prints the time of each finding",
+        kind: Kind::Text(None),
+        rule: Rule::Free,
+    }
 }
 
 /// Reads the arguments of `check`.
@@ -81,5 +135,28 @@ pub(crate) fn request<'a>(values: &Values<'_, 'a>) -> Result<Request<'a>, UsageE
     let file = values.some_text("file")?;
     let mode = mode_of(values.some_number("mode")?).ok_or(UsageError::Nothing)?;
     let period = values.some_u16("period")?;
-    Ok(Request::Check(CheckRequest { file, mode, period }))
+    Ok(Request::Check(CheckRequest {
+        file,
+        options: CheckOptions {
+            mode,
+            period,
+            every: values.number("every"),
+            until_fault: values.flag("until-fault"),
+            form: Form {
+                is_json: values.flag("json"),
+                start: start_of(values)?,
+            },
+        },
+    }))
+}
+
+/// The second of the day of frame 0.
+fn start_of<'a>(values: &Values<'_, 'a>) -> Result<Option<u32>, UsageError<'a>> {
+    match values.text("time") {
+        Some(text) => match second_at(text) {
+            Some(second) => Ok(Some(second)),
+            None => Err(UsageError::Time(text)),
+        },
+        None => Ok(None),
+    }
 }

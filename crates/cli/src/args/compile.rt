@@ -1,20 +1,10 @@
 //! The command line of `compile`.
 
 use crate::args::parser::{Grammar, Page, Values};
-use crate::args::shared::{explain, file};
+use crate::args::shared::{check_output, explain, file};
 use crate::args::{Request, UsageError};
+use cli_scripts::compile::CompileRequest;
 use std::alloc::{AllocError, Global};
-
-/// The arguments of `compile`.
-#[derive(Clone, Copy)]
-pub struct CompileRequest<'a> {
-    /// The path of the script.
-    pub script: &'a str,
-    /// The path of the code file to write.
-    pub out: &'a str,
-    /// Whether a refusal is explained.
-    pub explain: bool,
-}
 
 const PAGE: Page = Page {
     name: "compile",
@@ -27,26 +17,28 @@ const PAGE: Page = Page {
 const LONG: &str = "\
 Compiles a script into a code file.
 
-In goes a script, the text of a plan of reconfigurations: the configuration that it begins with, and
-what changes when. Out comes the code file that 'verify', 'play' and 'debug' read. A script that is
-compiled gives a plan that 'verify' accepts.";
+A script is the text of a plan of reconfigurations: the configuration that it begins with, and what
+changes when. The code file is what 'verify', 'play', 'debug' and 'live' read. Every plan that is
+compiled is one that 'dabplan verify' accepts.";
 
 const USAGE: &str = "dabplan compile <SCRIPT> <OUT> [--explain]";
 
 const AFTER: &str = "\
 A script:
-  ensemble E1C5                     the EId
-  period 4 notice 24 budget 20      frames to read a configuration in, frames of a notice, and the
-                                    most instructions in a frame
-  sub 1 at 0 eep 3-A 128            sub-channel 1 at capacity unit 0, of 128 kbit/s
+  ensemble E1C5               # the EId
+  period 4 notice 24 budget 20
+                              # period: the frames in which everything is sent once; notice: the
+                              # frames that a swap is announced for; budget: the most instructions
+                              # in a frame
+  sub 1 at 0 eep 3-A 128      # sub-channel 1 at capacity unit 0, protection 3-A, 128 kbit/s
   service C221
-  audio 63 sub 1 in C221            audio of type 63 on sub-channel 1, for that service
-  begin                             and then what happens:
+  audio 63 sub 1 in C221      # audio of type (ASCTy) 63, DAB+, on sub-channel 1
+  begin                       # what follows happens while the plan plays
   forever {
     wait contact 3 closed
-    rate sub 1 96                   edits change the next configuration
-    commit in 24                    and a commit announces it, for a swap after 24 frames or more
-    join                            waits for the swap
+    rate sub 1 96             # edits change the next configuration
+    commit in 24              # commit announces it, for a swap after 24 frames or more
+    join                      # join waits for the swap
     wait contact 3 open
     rate sub 1 128
     commit in 24
@@ -55,18 +47,25 @@ A script:
 
 The line:
   instructions 9 labels 1 configurations 1
-  1:10: Number                  line 1, column 10 is no number in range; also Byte, Expected, Depth,
-                                NameUsed, NameUnknown and Limit
+                                the size of the code
+  1:10: Number                  line 1, column 10: there is no number in its range
+      Byte                      a character that no script has
+      Expected                  another word is expected
+      Depth                     more than 16 braces are open
+      NameUsed, NameUnknown     a block's name is defined twice, or applied before it is defined
+      Limit                     the text, a line, a word or the number of statements is too long
   refused line 7: Mismatch      the plan could go wrong at line 7; 'dabplan help verify' lists the
                                 causes
-  refused: Limit                the code would be too long
+  refused: Limit                the code has too many instructions, labels, configurations or
+                                nested repeats
 
-With --explain a refusal is followed by what is wrong, with the objects and numbers at hand, and by
-a line 'hint:' with what mends it:
-  night.plan:7: ..              line 7 of the script; where the text is no script line and column,
-                                the line of the text and a caret under the column
+With --explain a refusal is followed by what is wrong, with objects and numbers, and by a line that
+begins with 'hint:' and says how to correct it:
+  night.plan:7: ..              line 7 of the script
+  night.plan:1:10: ..           line 1, column 10; the line follows, with a caret below the column
 
-OUT is made last: where the script is refused it stays as it was.
+OUT is created last: where the script is refused it stays as it was. '-' is standard output, and the
+lines then go to standard error.
 
 Example: a lower rate at night
   dabplan compile examples/night_rate.plan night.code
@@ -81,15 +80,18 @@ Exit status:
 pub(crate) fn grammar<'a>(alloc: Global) -> Result<Grammar<'a>, AllocError> {
     Grammar::of_command(alloc, PAGE)
         .argument(file("script", "SCRIPT", "The script"))?
-        .argument(file("out", "OUT", "The code file that is made"))?
+        .argument(file("out", "OUT", "The code file to write"))?
         .argument(explain())
 }
 
 /// Reads the arguments of `compile`.
 pub(crate) fn request<'a>(values: &Values<'_, 'a>) -> Result<Request<'a>, UsageError<'a>> {
+    let script = values.some_text("script")?;
+    let out = values.some_text("out")?;
+    check_output("OUT", out, "SCRIPT", script)?;
     Ok(Request::Compile(CompileRequest {
-        script: values.some_text("script")?,
-        out: values.some_text("out")?,
+        script,
+        out,
         explain: values.flag("explain"),
     }))
 }

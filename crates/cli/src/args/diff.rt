@@ -3,16 +3,8 @@
 use crate::args::parser::{Grammar, Page, Values};
 use crate::args::shared::file;
 use crate::args::{Request, UsageError};
+use cli_scripts::diff::DiffRequest;
 use std::alloc::{AllocError, Global};
-
-/// The arguments of `diff`.
-#[derive(Clone, Copy)]
-pub struct DiffRequest<'a> {
-    /// The path of the script with the configuration to start from.
-    pub from: &'a str,
-    /// The path of the script with the configuration to reach.
-    pub to: &'a str,
-}
 
 const PAGE: Page = Page {
     name: "diff",
@@ -25,30 +17,35 @@ const PAGE: Page = Page {
 const LONG: &str = "\
 Writes the plan that changes one configuration into another.
 
-In go two scripts, of which the configurations count that they begin with. Out comes the script of
-a plan that begins with the first and leads to the second by one reconfiguration: the edits between
-them, a commit and a join. 'compile' accepts it.";
+FROM and TO are scripts, of which only the configurations that they begin with are used. The printed
+plan begins with that of FROM and reaches that of TO by one reconfiguration: the edits between them,
+a commit and a join. 'dabplan compile' accepts it.";
 
 const USAGE: &str = "dabplan diff <FROM> <TO>";
 
 const AFTER: &str = "\
-The plan has the header of TO, and a notice of that many frames. No frame has more instructions
-than the budget of TO.
+The plan has the header of TO, and announces the swap for the notice of TO. No frame has more
+instructions than the budget of TO.
 
-The line, where there is no plan:
-  now.plan:7:7: NameUnknown     line 7, column 7 of the file is at fault, as 'compile' says
+The line of a refusal:
+  now.plan:7:7: NameUnknown     line 7, column 7 of FROM or TO: no script, as 'dabplan help compile'
+                                says
   now.plan: refused line 9: Edit IdUsed
-                                an item is refused, or what the script begins with
+                                the item in line 9 can't be added; 'Config ..' in the line of
+                                'begin': the configuration is not sound; 'Round': it takes too many
+                                frames to be sent within the period
   refused: another ensemble     the two have different EIds or transmission modes
   refused: NoChange             both begin with the same configuration
-  refused: Round                the pages of both together take longer than the period, or three
-                                times them longer than the notice
+  refused: Round                both together take too many frames to be sent within the period, or
+                                three times within the notice
   refused: Cost                 the budget is 1, which leaves no room for an edit
 
-Example: a sub-channel of what is on air has another rate tonight
+Example: a sub-channel of what is on air gets a lower rate tonight
+  dabplan frame examples/on_air.plan --script --count 0 --raw > air.fib
   dabplan listen air.fib --script > today.plan
-  sed 's/3-A 128/3-A 96/' today.plan > tonight.plan
-  dabplan diff today.plan tonight.plan
+  sed 's/eep 3-A 128/eep 3-A 96/' today.plan > tonight.plan
+  dabplan diff today.plan tonight.plan > change.plan
+  dabplan compile change.plan change.code
 
 Exit status:
   0  the plan was printed
@@ -61,9 +58,9 @@ pub(crate) fn grammar<'a>(alloc: Global) -> Result<Grammar<'a>, AllocError> {
         .argument(file(
             "from",
             "FROM",
-            "The script whose opening the plan begins with",
+            "The script with the configuration to start from",
         ))?
-        .argument(file("to", "TO", "The script whose opening the plan ends with"))
+        .argument(file("to", "TO", "The script with the configuration to reach"))
 }
 
 /// Reads the arguments of `diff`.

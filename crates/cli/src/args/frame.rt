@@ -3,38 +3,11 @@
 use crate::args::parser::{Argument, Grammar, Kind, Page, Rule, Values};
 use crate::args::shared::{file, flag, mode, mode_of, number, with_rule};
 use crate::args::{Request, UsageError};
+use cli_scripts::frame_script::FrameScriptRequest;
+use cli_streams::frame::FrameRequest;
 use console::hexadecimal::u16_of;
-use fib_codec::Mode;
 use mux_config::Ensemble;
 use std::alloc::{AllocError, Global};
-
-/// The arguments of `frame`.
-#[derive(Clone, Copy)]
-pub struct FrameRequest<'a> {
-    /// The path of the configuration record, or `-` for standard input.
-    pub config: &'a str,
-    /// The transmission mode.
-    pub mode: Mode,
-    /// The identifier of the ensemble and the CIF count, without change flags.
-    pub ensemble: Ensemble,
-    /// The page number, from 0.
-    pub page: u16,
-    /// Whether the FIBs are written as bytes rather than as digits.
-    pub raw: bool,
-}
-
-/// The arguments of `frame --script`.
-#[derive(Clone, Copy)]
-pub struct FrameScriptRequest<'a> {
-    /// The path of the script, or `-` for standard input.
-    pub script: &'a str,
-    /// The CIF count, 0 to 4999.
-    pub count: u16,
-    /// The page number, from 0.
-    pub page: u16,
-    /// Whether the FIBs are written as bytes rather than as digits.
-    pub raw: bool,
-}
 
 const PAGE: Page = Page {
     name: "frame",
@@ -47,9 +20,10 @@ const PAGE: Page = Page {
 const LONG: &str = "\
 Writes the FIBs of one frame of a configuration.
 
-In goes a configuration record, a short binary file. Out come lines of 64 hexadecimal digits: the
-FIBs of 32 bytes that a frame of 24 ms carries, CRCs included. There are three, in transmission
-mode 3 four. Where the configuration needs more than one frame, --page picks the frame.";
+The configuration comes from a configuration record, a short binary file, or with --script from the
+text of a script. Each FIB of the frame of 24 ms is printed as a line of 64 hexadecimal digits, its
+CRC included: three FIBs, in transmission mode 3 four. Where the entries of the configuration take
+more than one frame, --page picks the frame.";
 
 const USAGE: &str = "\
 dabplan frame <CONFIG> --ensemble <HHHH> --count <N> [--page <K>] [--mode <M>] [--raw]
@@ -70,17 +44,32 @@ The record, field by field (in brackets the bytes of a field, its high byte firs
 Sub-channels, services (those of kind 0 first) and packet components ascend by identifier.
 The first component of a service is its primary one.
 
-With --script the frame is that of the configuration that a script begins with, of its ensemble and
-in its mode. --raw writes the FIBs as bytes, so that 'dabplan listen -' can read them.
+With --script the frame is one of the configuration that a script begins with, for the ensemble and
+in the transmission mode of the script. With --raw the FIBs are written as bytes, which
+'dabplan listen -' reads.
+
+The line of a refusal:
+  record: Field 4               the field that begins at byte 4, counted from 0, is out of range;
+                                'Short': bytes are missing; 'Order': an identifier is not above the
+                                one before it; 'trailing': bytes follow the record
+  refused: Overlap 1 2          sub-channels 1 and 2 share a capacity unit; 'Orphan': a component
+                                refers to a sub-channel or packet component that is missing;
+                                'AddressUsed': two packet components of a sub-channel have one
+                                address; 'EmptyService': a service has no component
+  refused: no such page         the configuration takes fewer frames than --page asks for
+  1:10: Number                  with --script: as 'dabplan help compile' says
+  refused line 9: Edit IdUsed   with --script: the item in line 9 can't be added
 
 Example: sub-channel 1 of 128 kbit/s at 3-A, and service C221 with audio of type 63 on it
   printf '\\001\\001\\000\\001\\000\\000\\000\\003\\000\\200\\000\\302\\041\\001\\000\\077\\001' |
     dabplan frame - --ensemble E1C5 --count 0
 
+Example: the same kind of frame from a script, as bytes
+  dabplan frame examples/on_air.plan --script --count 0 --raw > air.fib
+
 Exit status:
   0  the FIBs were printed
-  1  the record is no record ('record: Field 4' names its byte, from 0), or is refused as a
-     configuration ('refused: Overlap 1 2'), or CONFIG can't be read
+  1  the record, the script or the configuration is refused, or CONFIG can't be read
   2  the command line is wrong";
 
 /// The command `frame`.
@@ -110,14 +99,13 @@ fn ensemble() -> Argument {
 
 /// The CIF count of the frame.
 fn count() -> Argument {
-    let help =
-        "The CIF count of the frame, 0 to 4999; FIG 0/0 is sent where the mode's 4, 1, 1 or 2 divides it";
+    let help = "The CIF count of the frame, 0 to 4999; decides whether FIG 0/0 is in the frame";
     with_rule(number("count", "N", 0, 4999, None, help), Rule::Required)
 }
 
 /// The option that reads a script rather than a record.
 fn script() -> Argument {
-    let help = "CONFIG is a script: a frame of its opening, of its ensemble and in its mode";
+    let help = "CONFIG is a script, which also gives the ensemble and the mode";
     with_rule(flag("script", help), Rule::ExcludesBoth("ensemble", "mode"))
 }
 

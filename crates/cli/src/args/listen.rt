@@ -3,23 +3,9 @@
 use crate::args::parser::{Argument, Grammar, Page, Rule, Values};
 use crate::args::shared::{file, flag, mode_of, number, with_rule};
 use crate::args::{Request, UsageError};
-use fib_codec::Mode;
+use cli_scripts::listen_script::ListenScriptRequest;
+use cli_streams::listen::ListenRequest;
 use std::alloc::{AllocError, Global};
-
-/// The arguments of `listen --script`.
-#[derive(Clone, Copy)]
-pub struct ListenScriptRequest<'a> {
-    /// The path of the file of FIBs, or `-` for standard input.
-    pub file: &'a str,
-    /// The transmission mode, which FIBs do not carry.
-    pub mode: Mode,
-    /// The period, in frames, 1 to 60; `None` for the default.
-    pub period: Option<u8>,
-    /// The notice, in frames, 12 to 248.
-    pub notice: u8,
-    /// The budget, in instructions per frame, 1 to 255.
-    pub budget: u8,
-}
 
 const PAGE: Page = Page {
     name: "listen",
@@ -32,49 +18,65 @@ const PAGE: Page = Page {
 const LONG: &str = "\
 Decodes a file of FIBs and prints the resulting configuration.
 
-In goes a file of whole FIBs of 32 bytes, one after another, as any multiplexer may have written
-them. Out come the number of FIBs and of damaged ones among them, the current configuration at
-the end of the file, the next one where a reconfiguration is announced, and the low part of the
-CIF count at which it falls.";
+The file has FIBs of 32 bytes, one after another, as any multiplexer may have written them. Prints
+the number of FIBs, how many of them were damaged, the current configuration at the end of the file,
+and the next configuration, with the low part of the CIF count of its swap, where a reconfiguration
+is announced.";
 
 const USAGE: &str = "\
-dabplan listen <FILE>
+dabplan listen <FILE> [--json]
        dabplan listen <FILE> --script [--mode <M>] [--period <P>] [--notice <W>] [--budget <B>]";
 
 const AFTER: &str = "\
 The lines:
   fibs 1203 damaged 0                 damaged: a wrong CRC, or no whole FIGs
-  current                             then what was received with C/N 0
+  current                             what was received with C/N 0 follows
   sub 1 at 0 size 96 eep 3-A          a sub-channel: first capacity unit, size, protection
   sub 2 at 96 switch 0 table 35       one with unequal error protection
-  service C221                        a service, then its components in order
-    audio 63 sub 1 primary
-    packet 7 secondary
+  service C221                        a service, and its components in order:
+    audio 63 sub 1 primary            audio of type (ASCTy) 63 on sub-channel 1
+    packet 7 secondary                packet component 7
   packet 7 groups type 60 sub 5 address 1
                                       a packet component; 'raw' where data groups are not used
-  next                                then what was received with C/N 1
-  swap at low 28                      or 'no swap' where no reconfiguration is awaited
+  next                                what was received with C/N 1 follows
+  swap at low 28                      'no swap' where no reconfiguration is awaited
 
-With --script the current configuration is printed as a script, the other way round of
-'frame --script': with the EId of the last FIG 0/0, and the mode, period, notice and budget that are
-asked for. 'refused: cannot be written' names the first line of the listing that no script has.
+With --json the same is printed as one object of JSON on one line; a sub-channel has its rate in
+kbit/s there, where it has one:
+  {\"fibs\":3,\"damaged\":0,\"current\":[{\"sub\":1,\"start\":0,\"size\":96,\"protection\":\"3-A\",\"kbits\":128}],
+  \"next\":[],\"swap_at\":null}           on one line; a refusal is {\"kind\":\"refused\",\"cause\":\"Full\"}
+
+With --script the current configuration is printed as a script, which 'dabplan frame --script' turns
+into FIBs again. Its EId is that of the last FIG 0/0; mode, period, notice and budget are those of
+the options.
+
+The line of a refusal:
+  refused: not whole FIBs             the length of the file is not a multiple of 32 bytes
+  refused: Full                       a configuration has more than 64 services or packet components
+  refused: no ensemble                with --script: there is no FIG 0/0
+  refused: cannot be written: sub 2 at 96 switch 0 table 35
+                                      with --script: the first entry that no script can express
 
 Example: the FIBs that 'dabplan frame' writes, decoded again
-  printf '\\001\\001\\000\\001\\000\\000\\000\\003\\000\\200\\000\\302\\041\\001\\000\\077\\001' |
-    dabplan frame - --ensemble E1C5 --count 0 | xxd -r -p > frame.fib
-  dabplan listen frame.fib
+  dabplan frame examples/on_air.plan --script --count 0 --raw > air.fib
+  dabplan listen air.fib
+
+Example: what is on air, as the beginning of a plan
+  dabplan listen air.fib --script > today.plan
 
 Exit status:
-  0  the listing was printed
-  1  the file holds no whole FIBs or more than 64 services or packet components, or can't be read
+  0  the listing or the script was printed
+  1  the FIBs are refused, or FILE can't be read
   2  the command line is wrong";
 
 /// The command `listen`.
 pub(crate) fn grammar<'a>(alloc: Global) -> Result<Grammar<'a>, AllocError> {
     let file_help = "The file of FIBs, or '-' for standard input";
+    let json_help = "Prints one object of JSON instead of lines";
     let script_help = "Prints the current configuration as a script";
     Grammar::of_command(alloc, PAGE)
         .argument(file("file", "FILE", file_help))?
+        .argument(with_rule(flag("json", json_help), Rule::Excludes("script")))?
         .argument(flag("script", script_help))?
         .argument(mode())?
         .argument(period())?
@@ -124,7 +126,10 @@ pub(crate) fn request<'a>(values: &Values<'_, 'a>) -> Result<Request<'a>, UsageE
     if values.flag("script") {
         return script_request(values);
     }
-    Ok(Request::Listen(values.some_text("file")?))
+    Ok(Request::Listen(ListenRequest {
+        file: values.some_text("file")?,
+        is_json: values.flag("json"),
+    }))
 }
 
 /// Reads the arguments of `listen --script`.

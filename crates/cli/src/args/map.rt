@@ -1,18 +1,10 @@
 //! The command line of `map`.
 
 use crate::args::parser::{Argument, Grammar, Kind, Page, Rule, Values};
-use crate::args::shared::file;
+use crate::args::shared::{file, flag};
 use crate::args::{Request, UsageError};
+use cli_scripts::map::MapRequest;
 use std::alloc::{AllocError, Global};
-
-/// The arguments of `map`.
-#[derive(Clone, Copy)]
-pub struct MapRequest<'a> {
-    /// The path of the script.
-    pub script: &'a str,
-    /// The path of the drawing to write, if any.
-    pub drawing: Option<&'a str>,
-}
 
 const PAGE: Page = Page {
     name: "map",
@@ -25,41 +17,63 @@ const PAGE: Page = Page {
 const LONG: &str = "\
 Shows which capacity units each sub-channel has in a plan.
 
-In goes a script. Out comes a line for the configuration that it begins with, and one for each commit,
-in the order of the script. With --svg the same is drawn to scale, as a document that a browser opens.";
+Prints the configuration that the script begins with, and that of each commit, in the order of the
+script. With --svg the same is drawn to scale, as a document that any browser shows. With --layout
+the one layout of sub-channels is printed that serves all of them.";
 
-const USAGE: &str = "dabplan map <SCRIPT> [--svg <OUT>]";
+const USAGE: &str = "dabplan map <SCRIPT> [--svg <OUT>] [--layout]";
 
 const AFTER: &str = "\
-The lines, 170 columns wide:
-  begin 6       1 1 1 1 1 1 1 1................ free 768
-                       the statement and its line; 72 cells of 12 capacity units, each with the
-                       number of the sub-channel that has most of it, or '..' where it is free; and
-                       how many capacity units are free
-  1:10: Number         line 1, column 10 is no number in range; as 'dabplan help compile' says
+The lines (shortened here):
+  commit 12 (until 22:00:00): free 792
+                       the statement and its line in the script, 'in NAME' where it is in a block;
+                       in parentheses the last statement before it that waits or tests a contact,
+                       if it is the same on every path, and 'begin' where there is none; how many
+                       capacity units are free
+      0  1 1 1 1 1 1..................
+    432 ..............................
+                       72 cells of 12 capacity units in two lines, each with the number of the
+                       sub-channel that has most of it, or '..' where it is free
+    - sub 1 at 0 size 96 eep 3-A
+    + sub 1 at 0 size 72 eep 3-A
+                       what the configuration above has and this one has not, and what is new:
+                       sub-channels, services with their components, packet components
+  1:10: Number         line 1, column 10 has no number in range, as 'dabplan help compile' says
   refused line 7: Pending
-                       the plan could go wrong at line 7; as 'dabplan help compile' says
+                       the plan could go wrong at line 7, as 'dabplan help compile' says
 
-A commit in a block that is applied twice has two lines. Where ways meet, behind 'if' and in a loop, a
-line shows what holds whichever way was taken.
+A commit in a block that is applied twice is shown twice. After an 'if' and in a loop a row shows
+what holds on every path; in a loop what leads to it at first.
 
-In the drawing each sub-channel keeps its colour in all rows, with its number, kbit/s and protection in
-it; free units are hatched, and a key says which sub-channels carry each service. OUT is made before the
-lines are printed; where the script is refused it stays as it was.
+The lines of --layout, instead of these:
+  sub 1 at 0 size 96 eep 3-A
+                       a sub-channel, where it is in every configuration that has it
+  no one layout: sub 1 at 0 size 96 eep 3-A and at 0 size 72 eep 3-A
+                       a sub-channel with two places, sizes or profiles, or two sub-channels that
+                       share capacity units
+
+In the drawing each sub-channel keeps its colour in all rows, and has its number, kbit/s and
+protection in it; what is changed from the row above is framed in red, also where a service moves
+there; free units are hatched, and a key shows which sub-channels carry each service. OUT is created
+before the lines are printed; where the script is refused it stays as it was.
 
 Example: a lower rate at night
   dabplan map examples/night_rate.plan --svg night.svg
 
 Exit status:
-  0  the map was printed, and OUT holds the drawing
-  1  the script is refused, or a file can't be read or written
+  0  the map or the layout was printed, and OUT holds the drawing
+  1  the script is refused, there is no one layout, or a file can't be read or written
   2  the command line is wrong";
 
 /// The command `map`.
 pub(crate) fn grammar<'a>(alloc: Global) -> Result<Grammar<'a>, AllocError> {
     Grammar::of_command(alloc, PAGE)
         .argument(file("script", "SCRIPT", "The script"))?
-        .argument(drawing())
+        .argument(drawing())?
+        .argument(flag(
+            "layout",
+            "Prints the one layout that serves every configuration",
+        ))
 }
 
 /// The option for the drawing.
@@ -67,7 +81,7 @@ fn drawing() -> Argument {
     Argument {
         name: "svg",
         value_name: "OUT",
-        help: "The drawing that is made, an SVG document",
+        help: "Also writes a drawing to this file, an SVG document",
         kind: Kind::Text(None),
         rule: Rule::Free,
     }
@@ -75,8 +89,20 @@ fn drawing() -> Argument {
 
 /// Reads the arguments of `map`.
 pub(crate) fn request<'a>(values: &Values<'_, 'a>) -> Result<Request<'a>, UsageError<'a>> {
+    let script = values.some_text("script")?;
+    let drawing = values.text("svg");
+    if let Some(path) = drawing {
+        if path == script {
+            return Err(UsageError::SameFile {
+                input: "SCRIPT",
+                output: "--svg <OUT>",
+                path,
+            });
+        }
+    }
     Ok(Request::Map(MapRequest {
-        script: values.some_text("script")?,
-        drawing: values.text("svg"),
+        script,
+        drawing,
+        layout: values.flag("layout"),
     }))
 }

@@ -118,11 +118,33 @@ impl<'a> Grammar<'a> {
         Ok(Grammar { alloc, command })
     }
 
-    /// Parses a command line.
+    /// Parses a command line. Help on `help` is help: `help -h` and `help help` are `help`.
     pub fn parsed<S: AsStr>(self, args: &'a [S]) -> Result<Parsed<'a>, UsageError<'a>> {
-        let matches = self.command.try_get_matches_from(args)?;
+        let matches = self
+            .command
+            .try_get_matches_from(without_help_of_help(args))?;
         Ok(Parsed { matches })
     }
+}
+
+/// The arguments without the last one, where it asks for help after `help`.
+fn without_help_of_help<S: AsStr>(args: &[S]) -> &[S] {
+    let Some((last, rest)) = args.split_last() else {
+        return args;
+    };
+    let Some(first) = rest.first() else {
+        return args;
+    };
+    if first.as_str() == "help" && asks_for_help(last.as_str()) {
+        rest
+    } else {
+        args
+    }
+}
+
+/// Whether this argument asks for help.
+fn asks_for_help(arg: &str) -> bool {
+    matches!(arg, "help" | "-h" | "--help")
 }
 
 /// An argument, without its dependence on others.

@@ -1,23 +1,11 @@
 //! The command line of `play`.
 
 use crate::args::parser::{Grammar, Page, Values};
-use crate::args::shared::file;
-use crate::args::start::{StartOptions, contacts, count, day, start_options, time};
+use crate::args::shared::{check_output, file};
+use crate::args::start::{contacts, count, day, start_options, time};
 use crate::args::{Request, UsageError};
+use cli_plans::play::PlayRequest;
 use std::alloc::{AllocError, Global};
-
-/// The arguments of `play`.
-#[derive(Clone, Copy)]
-pub struct PlayRequest<'a> {
-    /// The path of the code file.
-    pub code: &'a str,
-    /// The path of the event file.
-    pub events: &'a str,
-    /// The path of the file that the frames are written to.
-    pub out: &'a str,
-    /// The start options.
-    pub start: StartOptions,
-}
 
 const PAGE: Page = Page {
     name: "play",
@@ -30,9 +18,10 @@ const PAGE: Page = Page {
 const LONG: &str = "\
 Plays a plan of reconfigurations, frame by frame.
 
-In go a code file, the binary form of a plan, and a text of events: frames of 24 ms, and contacts
-that are closed or read_opening between them. The FIBs of the frames go to OUT, one frame after
-another: three FIBs of 32 bytes, in transmission mode 3 four. One line says how many frames.";
+CODE is a code file, the binary form of a plan. EVENTS is a text: how many frames of 24 ms to play,
+and which contacts are closed and opened between them. The FIBs of the frames are written to OUT,
+frame after frame: three FIBs of 32 bytes each, in transmission mode 3 four. One line says how many
+frames were written.";
 
 const USAGE: &str = "\
 dabplan play <CODE> <EVENTS> <OUT> [--count <N>] [--day <N> | --time <HH:MM:SS>]
@@ -40,26 +29,28 @@ dabplan play <CODE> <EVENTS> <OUT> [--count <N>] [--day <N> | --time <HH:MM:SS>]
 
 const AFTER: &str = "\
 The events, in order, with blanks, line ends and comments ('#' to the end of the line) between:
-  frames N             N frames are made, 1 to 3600000
+  frames N             N frames are played, 1 to 3600000
   contact C closed     contact C, 0 to 15, is closed
-  contact C open       it is read_opening
+  contact C open       contact C is opened
 
 The line:
   played 70 frames
-  code: Magic                   the bytes of CODE are no code file
-  refused at 3 line 10: Notice  the plan is refused, as 'dabplan verify' says
+  code: Magic                   CODE is not a code file
+  refused at 3 line 10: Notice  the plan is refused, as 'dabplan help verify' says
   start: Count                  --count is 5000 or more; 'start: Day': --day is 3600000 or more
   events 1:8: Number            line 1, column 8 of EVENTS has no number in range; 'Expected':
-                                another word is expected there; 'Byte': no such byte may be there
+                                another word is expected there; 'Byte': a character that no event
+                                file has
   write failed after 3 frames and 40 bytes
-                                OUT took no more
+                                this much of OUT was written: 3 frames, and 40 bytes of the next one
 
-CODE and EVENTS are read before OUT is made. Where the plan or the events are refused OUT is empty.
+OUT is created when all of these are found to be good. Where they are refused it stays as it was,
+and is created empty if there is none. '-' is standard output; the line then goes to standard error.
 
-Example: a plan that lowers and raises a rate as contact 3 is closed and read_opening
-  printf 'frames 1 contact 3 closed frames 40 contact 3 open frames 30' > day.events
+Example: contact 3 is closed and opened again; a lower rate is announced and made, and taken back
+  printf 'frames 1 contact 3 closed frames 300 contact 3 open frames 300' > day.events
   dabplan play examples/contact_lowers_a_rate.code day.events day.fib
-  dabplan listen day.fib
+  dabplan check day.fib
 
 Exit status:
   0  all frames were written
@@ -71,7 +62,7 @@ pub(crate) fn grammar<'a>(alloc: Global) -> Result<Grammar<'a>, AllocError> {
     Grammar::of_command(alloc, PAGE)
         .argument(file("code", "CODE", "The code file"))?
         .argument(file("events", "EVENTS", "The event file"))?
-        .argument(file("out", "OUT", "The file that the frames are written to"))?
+        .argument(file("out", "OUT", "The file to write the frames to"))?
         .argument(count())?
         .argument(day())?
         .argument(time())?
@@ -81,10 +72,15 @@ pub(crate) fn grammar<'a>(alloc: Global) -> Result<Grammar<'a>, AllocError> {
 /// Reads the arguments of `play`.
 pub(crate) fn request<'a>(values: &Values<'_, 'a>) -> Result<Request<'a>, UsageError<'a>> {
     let start = start_options(values)?;
+    let code = values.some_text("code")?;
+    let events = values.some_text("events")?;
+    let out = values.some_text("out")?;
+    check_output("OUT", out, "CODE", code)?;
+    check_output("OUT", out, "EVENTS", events)?;
     Ok(Request::Play(PlayRequest {
-        code: values.some_text("code")?,
-        events: values.some_text("events")?,
-        out: values.some_text("out")?,
+        code,
+        events,
+        out,
         start,
     }))
 }

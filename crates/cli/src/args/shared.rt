@@ -3,6 +3,7 @@
 ghost use Rattle.std.specs.Prelude.{◌≡◌};
 ghost use Rattle.cli.specs.Numbers.{mode_of_number};
 
+use crate::args::UsageError;
 use crate::args::parser::{Argument, Kind, Rule};
 use fib_codec::Mode;
 
@@ -61,7 +62,7 @@ pub(crate) fn mode() -> Argument {
 pub(crate) fn explain() -> Argument {
     flag(
         "explain",
-        "Explains a refusal: what is wrong, with objects and numbers, and what mends it",
+        "Explains a refusal: what is wrong, with objects and numbers, and how to correct it",
     )
 }
 
@@ -76,4 +77,22 @@ pub(crate) fn mode_of(number: u32) -> Option<Mode>
         4 => Some(Mode::IV),
         _ => None,
     }
+}
+
+/// Checks that the path of an output is not that of an input, whose file would be written over; else `SameFile`. An
+/// output `-` is standard output, and no file.
+pub(crate) fn check_output<'a>(
+    output: &'static str,
+    path: &'a str,
+    input: &'static str,
+    input_path: &str,
+) -> Result<(), UsageError<'a>> {
+    if path != "-" && path == input_path {
+        return Err(UsageError::SameFile {
+            input,
+            output,
+            path,
+        });
+    }
+    Ok(())
 }

@@ -7,20 +7,10 @@ ghost use Rattle.script_tokens.specs.Times.{frame_at};
 use crate::args::UsageError;
 use crate::args::parser::{Argument, Kind, Rule, Values};
 use crate::args::shared::number;
+use cli_plans::start::StartOptions;
 use console::hexadecimal::u16_of;
 use plan_code::Contacts;
 use script_tokens::number as numbers;
-
-/// The start of a playback, which the code does not define.
-#[derive(Clone, Copy)]
-pub struct StartOptions {
-    /// The CIF count of the first frame.
-    pub count: u16,
-    /// The first frame's index in the day.
-    pub day: u32,
-    /// The contacts that are closed at the start.
-    pub contacts: Contacts,
-}
 
 /// The CIF count of the first frame.
 pub(crate) fn count() -> Argument {
@@ -30,7 +20,7 @@ pub(crate) fn count() -> Argument {
 
 /// The first frame's index in the day.
 pub(crate) fn day() -> Argument {
-    let help = "The frame of the day of the first frame, 0 to 3599999, in frames of 24 ms";
+    let help = "The time of day of the first frame, in frames since midnight, 0 to 3599999";
     number("day", "N", 0, 4294967295, Some("0"), help)
 }
 
@@ -39,7 +29,7 @@ pub(crate) fn time() -> Argument {
     Argument {
         name: "time",
         value_name: "HH:MM:SS",
-        help: "The time of the day at the first frame, 00:00:00 to 23:59:59, instead of --day",
+        help: "The time of day of the first frame, 00:00:00 to 23:59:59, instead of --day",
         kind: Kind::Text(None),
         rule: Rule::Excludes("day"),
     }
@@ -50,7 +40,7 @@ pub(crate) fn contacts() -> Argument {
     Argument {
         name: "contacts",
         value_name: "HHHH",
-        help: "The contacts that are closed at first: four hexadecimal digits, contact 0 the lowest bit",
+        help: "Contacts closed at the start: four hexadecimal digits, contact 0 the lowest bit",
         kind: Kind::Text(Some("0000")),
         rule: Rule::Free,
     }
@@ -79,6 +69,18 @@ fn day_option<'a>(values: &Values<'_, 'a>) -> Result<u32, UsageError<'a>> {
     match values.text("time") {
         Some(text) => day_at(text).ok_or(UsageError::Time(text)),
         None => values.some_number("day"),
+    }
+}
+
+/// The second of the day of the time `HH:MM:SS`; `None` if the text is not a time from 00:00:00 to 23:59:59.
+pub(crate) fn second_at(text: &str) -> Option<u32>
+    ensures range { IfSome result (λ second. second < 86400) }
+    ensures found { IfSome result (λ second. text.now ≡ time_text second) }
+    ensures none { result ≡ None → (second : ℕ) → second < 86400 → text.now ≢ time_text second }
+{
+    match numbers::time(text.as_bytes()) {
+        Some(time) => Some(time.seconds()),
+        _ => None,
     }
 }
 

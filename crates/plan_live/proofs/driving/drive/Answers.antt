@@ -1,6 +1,7 @@
-use Rattle.std.proofs.Common.{ℕ, ◌+◌, List, Bool, Option, refl, sym, subst, ◌∙◌}
+use Rattle.std.proofs.Common.{ℕ, ◌+◌, List, Option, refl, sym, subst, ◌∙◌}
 use Rattle.console.specs.Lines.{GivesLine}
 use Rattle.plan_player.specs.Playing.{Playing}
+use Rattle.plan_live.specs.declared.options.Wanted.{Wanted}
 use Rattle.plan_live.specs.declared.message.LineFault.TheVariants.{Limit}
 use Rattle.plan_live.specs.Living.{Streamed, streamed}
 use Rattle.plan_live.proofs.Lines.{going_first, line_bad, going_line, stops_line, whole_at, broken_at, prompt_first, prompt_more}
@@ -11,9 +12,9 @@ pub loop-number-init : goal.loop-number-init
 loop-number-init g c =
     let now : Streamed = streamed (g.E.Ends.left c.args.ends.now) (g.E.Ends.written c.args.ends.now) (g.E.Ends.reported c.args.ends.now) in
     record {
-      going = going_first c.args.options.skip c.args.options.status c.args.player.now now;
+      going = going_first c.args.options.skip c.args.options.wanted c.args.player.now now;
       flushed = c.requires.flushed;
-      prompt = prompt_first c.args.options.skip c.args.options.status c.args.player.now now (g.E.Ends.moments c.args.ends.now);
+      prompt = prompt_first c.args.options.skip c.args.options.wanted c.args.player.now now (g.E.Ends.moments c.args.ends.now);
     }
 
 pub returns-in-End-clause-whole : goal.returns-in-End-clause-whole
@@ -24,7 +25,7 @@ returns-in-End-clause-whole g c =
     let old : Streamed = streamed (left c.args.ends.now) (written c.args.ends.now) (reported c.args.ends.now) in
     let now : Streamed = streamed (left c.loop-number.ends) (written c.loop-number.ends) (reported c.loop-number.ends) in
     let end = c.in-End.ensures.end refl in
-    whole_at c.args.options.skip c.args.options.status c.args.player.now c.loop-number.player c.loop-number.made c.loop-number.number old now (left c.next.new.self) (written c.next.new.self) (reported c.next.new.self)
+    whole_at c.args.options.skip c.args.options.wanted c.args.player.now c.loop-number.player c.loop-number.made c.loop-number.number old now (left c.next.new.self) (written c.next.new.self) (reported c.next.new.self)
     c.loop-number.invariant.going end.0 end.1 c.in-End.ensures.written c.in-End.ensures.reported
 
 pub returns-in-Failed-clause-stopped : goal.returns-in-Failed-clause-stopped
@@ -34,7 +35,7 @@ returns-in-Failed-clause-stopped g c =
     let reported = g.E.Ends.reported in
     let old : Streamed = streamed (left c.args.ends.now) (written c.args.ends.now) (reported c.args.ends.now) in
     let now : Streamed = streamed (left c.loop-number.ends) (written c.loop-number.ends) (reported c.loop-number.ends) in
-    broken_at c.args.options.skip c.args.options.status c.args.player.now c.loop-number.player c.loop-number.made c.loop-number.number old now (left c.next.new.self) (written c.next.new.self) (reported c.next.new.self)
+    broken_at c.args.options.skip c.args.options.wanted c.args.player.now c.loop-number.player c.loop-number.made c.loop-number.number old now (left c.next.new.self) (written c.next.new.self) (reported c.next.new.self)
     c.loop-number.invariant.going c.in-Failed.ensures.written c.in-Failed.ensures.reported
 
 pub returns-in-Err-clause-stopped : goal.returns-in-Err-clause-stopped
@@ -47,7 +48,7 @@ returns-in-Err-clause-stopped g c =
     let after : Streamed = streamed (left c.take_line.new.ends) (written c.take_line.new.ends) (reported c.take_line.new.ends) in
     let line : List ℕ = c.as_slice-line.result.now in
     let given : GivesLine now.left line (left c.next.new.self) = subst (λ (l : List ℕ). GivesLine now.left l (left c.next.new.self)) (sym c.as_slice-line.ensures.value) (c.in-Line.ensures.line refl) in
-    stops_line c.args.options.skip c.args.options.status c.args.player.now c.loop-number.player c.loop-number.made c.loop-number.number line old now after (left c.next.new.self) (written c.next.new.self) (reported c.next.new.self) c.in-Err.stop
+    stops_line c.args.options.skip c.args.options.wanted c.args.player.now c.loop-number.player c.loop-number.made c.loop-number.number line old now after (left c.next.new.self) (written c.next.new.self) (reported c.next.new.self) c.in-Err.stop
     c.loop-number.invariant.going given c.in-Line.ensures.written c.in-Line.ensures.reported c.in-Err.ensures.stopped
 
 pub loop-number-preserved : goal.loop-number-preserved
@@ -57,7 +58,7 @@ loop-number-preserved g c =
     let reported = g.E.Ends.reported in
     let moments = g.E.Ends.moments in
     let skip : ℕ = c.args.options.skip in
-    let status : Bool = c.args.options.status in
+    let wanted : Wanted = c.args.options.wanted in
     let p : Playing = c.args.player.now in
     let q : Playing = c.loop-number.player in
     let m : ℕ = c.loop-number.made in
@@ -71,20 +72,20 @@ loop-number-preserved g c =
           let long = w.in-Long.ensures.long refl in
           let mid : Streamed = streamed rest (written c.next.new.self) (reported c.next.new.self) in
           let after : Streamed = streamed (left w.report.new.self) (written w.report.new.self) (reported w.report.new.self) in
-          let bad = line_bad skip status q m (number + 1) long.0 Limit mid after long.1 w.report.ensures.left w.report.ensures.written w.report.ensures.reported in
+          let bad = line_bad skip wanted q m (number + 1) long.0 Limit mid after long.1 w.report.ensures.left w.report.ensures.written w.report.ensures.reported in
           rw (w.ends-is, w.player-is, w.made-is) (record {
-            going = going_line skip status p q q m m number long.0 old now after rest (written c.next.new.self) (reported c.next.new.self) going long.2 w.in-Long.ensures.written w.in-Long.ensures.reported bad;
+            going = going_line skip wanted p q q m m number long.0 old now after rest (written c.next.new.self) (reported c.next.new.self) going long.2 w.in-Long.ensures.written w.in-Long.ensures.reported bad;
             flushed = w.report.ensures.flushed ∙ w.in-Long.ensures.flushed;
-            prompt = prompt_more skip status p q m number old now (moments c.args.ends.now) (moments c.loop-number.ends) (moments c.next.new.self) (moments w.report.new.self) going c.loop-number.invariant.prompt w.in-Long.ensures.moments w.report.ensures.moments;
+            prompt = prompt_more skip wanted p q m number old now (moments c.args.ends.now) (moments c.loop-number.ends) (moments c.next.new.self) (moments w.report.new.self) going c.loop-number.invariant.prompt w.in-Long.ensures.moments w.report.ensures.moments;
           })
       | in-Line+in-Ok w ↦
           let line : List ℕ = w.as_slice-line.result.now in
           let after : Streamed = streamed (left w.take_line.new.ends) (written w.take_line.new.ends) (reported w.take_line.new.ends) in
           let given : GivesLine now.left line rest = subst (λ (l : List ℕ). GivesLine now.left l rest) (sym w.as_slice-line.ensures.value) (w.in-Line.ensures.line refl) in
           rw (w.ends-is, w.player-is, w.made-is) (record {
-            going = going_line skip status p q w.take_line.new.player m w.take_line.new.made number line old now after rest (written c.next.new.self) (reported c.next.new.self) going given w.in-Line.ensures.written w.in-Line.ensures.reported w.in-Ok.ensures.done;
+            going = going_line skip wanted p q w.take_line.new.player m w.take_line.new.made number line old now after rest (written c.next.new.self) (reported c.next.new.self) going given w.in-Line.ensures.written w.in-Line.ensures.reported w.in-Ok.ensures.done;
             flushed = w.in-Ok.ensures.flushed;
-            prompt = prompt_more skip status p q m number old now (moments c.args.ends.now) (moments c.loop-number.ends) (moments c.next.new.self) (moments w.take_line.new.ends) going c.loop-number.invariant.prompt w.in-Line.ensures.moments w.take_line.ensures.moments;
+            prompt = prompt_more skip wanted p q m number old now (moments c.args.ends.now) (moments c.loop-number.ends) (moments c.next.new.self) (moments w.take_line.new.ends) going c.loop-number.invariant.prompt w.in-Line.ensures.moments w.take_line.ensures.moments;
           })
     ]
 
@@ -96,7 +97,7 @@ returns-in-End-clause-prompt g c =
     let moments = g.E.Ends.moments in
     let old : Streamed = streamed (left c.args.ends.now) (written c.args.ends.now) (reported c.args.ends.now) in
     let now : Streamed = streamed (left c.loop-number.ends) (written c.loop-number.ends) (reported c.loop-number.ends) in
-    prompt_more c.args.options.skip c.args.options.status c.args.player.now c.loop-number.player c.loop-number.made c.loop-number.number old now (moments c.args.ends.now) (moments c.loop-number.ends) (moments c.next.new.self) (moments c.next.new.self)
+    prompt_more c.args.options.skip c.args.options.wanted c.args.player.now c.loop-number.player c.loop-number.made c.loop-number.number old now (moments c.args.ends.now) (moments c.loop-number.ends) (moments c.next.new.self) (moments c.next.new.self)
     c.loop-number.invariant.going c.loop-number.invariant.prompt c.in-End.ensures.moments refl
 
 pub returns-in-Failed-clause-prompt : goal.returns-in-Failed-clause-prompt
@@ -107,7 +108,7 @@ returns-in-Failed-clause-prompt g c =
     let moments = g.E.Ends.moments in
     let old : Streamed = streamed (left c.args.ends.now) (written c.args.ends.now) (reported c.args.ends.now) in
     let now : Streamed = streamed (left c.loop-number.ends) (written c.loop-number.ends) (reported c.loop-number.ends) in
-    prompt_more c.args.options.skip c.args.options.status c.args.player.now c.loop-number.player c.loop-number.made c.loop-number.number old now (moments c.args.ends.now) (moments c.loop-number.ends) (moments c.next.new.self) (moments c.next.new.self)
+    prompt_more c.args.options.skip c.args.options.wanted c.args.player.now c.loop-number.player c.loop-number.made c.loop-number.number old now (moments c.args.ends.now) (moments c.loop-number.ends) (moments c.next.new.self) (moments c.next.new.self)
     c.loop-number.invariant.going c.loop-number.invariant.prompt c.in-Failed.ensures.moments refl
 
 pub returns-in-Err-clause-prompt : goal.returns-in-Err-clause-prompt
@@ -118,5 +119,5 @@ returns-in-Err-clause-prompt g c =
     let moments = g.E.Ends.moments in
     let old : Streamed = streamed (left c.args.ends.now) (written c.args.ends.now) (reported c.args.ends.now) in
     let now : Streamed = streamed (left c.loop-number.ends) (written c.loop-number.ends) (reported c.loop-number.ends) in
-    prompt_more c.args.options.skip c.args.options.status c.args.player.now c.loop-number.player c.loop-number.made c.loop-number.number old now (moments c.args.ends.now) (moments c.loop-number.ends) (moments c.next.new.self) (moments c.take_line.new.ends)
+    prompt_more c.args.options.skip c.args.options.wanted c.args.player.now c.loop-number.player c.loop-number.made c.loop-number.number old now (moments c.args.ends.now) (moments c.loop-number.ends) (moments c.next.new.self) (moments c.take_line.new.ends)
     c.loop-number.invariant.going c.loop-number.invariant.prompt c.in-Line.ensures.moments c.take_line.ensures.moments

@@ -16,9 +16,9 @@ returns-in-Ok-play_line-clause-done g c =
     let a : Streamed = streamed (left c.args.ends.now) (written c.args.ends.now) (reported c.args.ends.now) in
     let d : Streamed = streamed (left c.play_line.new.ends) (written c.play_line.new.ends) (reported c.play_line.new.ends) in
     let steps : List Step = c.in-Ok.steps.items in
-    let went : Went c.args.options.skip c.args.options.status c.args.player.now c.args.made.now (events_of steps) c.play_line.new.player c.play_line.new.made a d =
-    subst (λ (l : List Step). Went c.args.options.skip c.args.options.status c.args.player.now c.args.made.now (events_of l) c.play_line.new.player c.play_line.new.made a d) c.as_slice.ensures.value c.in-Ok-play_line.ensures.done in
-    line_good c.args.options.skip c.args.options.status c.args.player.now c.play_line.new.player c.args.made.now c.play_line.new.made c.args.number c.args.line.now steps a d c.in-Ok.ensures.found went
+    let went : Went c.args.options.skip c.args.options.wanted c.args.player.now c.args.made.now (events_of steps) c.play_line.new.player c.play_line.new.made a d =
+    subst (λ (l : List Step). Went c.args.options.skip c.args.options.wanted c.args.player.now c.args.made.now (events_of l) c.play_line.new.player c.play_line.new.made a d) c.as_slice.ensures.value c.in-Ok-play_line.ensures.done in
+    line_good c.args.options.skip c.args.options.wanted c.args.player.now c.play_line.new.player c.args.made.now c.play_line.new.made c.args.number c.args.line.now steps a d c.in-Ok.ensures.found went
 
 pub returns-in-Ok-clause-stopped : goal.returns-in-Ok-clause-stopped
 returns-in-Ok-clause-stopped g c =
@@ -28,9 +28,9 @@ returns-in-Ok-clause-stopped g c =
     let a : Streamed = streamed (left c.args.ends.now) (written c.args.ends.now) (reported c.args.ends.now) in
     let d : Streamed = streamed (left c.play_line.new.ends) (written c.play_line.new.ends) (reported c.play_line.new.ends) in
     let steps : List Step = c.in-Ok.steps.items in
-    let stops : StopsIn c.args.options.skip c.args.options.status c.args.player.now c.args.made.now (events_of steps) a d c.in-Err-play_line.stop =
-    subst (λ (l : List Step). StopsIn c.args.options.skip c.args.options.status c.args.player.now c.args.made.now (events_of l) a d c.in-Err-play_line.stop) c.as_slice.ensures.value c.in-Err-play_line.ensures.stopped in
-    line_cut c.args.options.skip c.args.options.status c.args.player.now c.args.made.now c.args.line.now steps a d c.in-Err-play_line.stop c.in-Ok.ensures.found stops
+    let stops : StopsIn c.args.options.skip c.args.options.wanted c.args.player.now c.args.made.now (events_of steps) a d c.in-Err-play_line.stop =
+    subst (λ (l : List Step). StopsIn c.args.options.skip c.args.options.wanted c.args.player.now c.args.made.now (events_of l) a d c.in-Err-play_line.stop) c.as_slice.ensures.value c.in-Err-play_line.ensures.stopped in
+    line_cut c.args.options.skip c.args.options.wanted c.args.player.now c.args.made.now c.args.line.now steps a d c.in-Err-play_line.stop c.in-Ok.ensures.found stops
 
 pub returns-in-Bad-clause-done : goal.returns-in-Bad-clause-done
 returns-in-Bad-clause-done g c =
@@ -40,4 +40,4 @@ returns-in-Bad-clause-done g c =
     let a : Streamed = streamed (left c.args.ends.now) (written c.args.ends.now) (reported c.args.ends.now) in
     let d : Streamed = streamed (left c.report.new.self) (written c.report.new.self) (reported c.report.new.self) in
     let is : IsLineFault c.args.line.now c.in-Bad.fault = subst (λ (u : Unread). IsUnread c.args.line.now u) c.in-Bad.is c.in-Err.ensures.fault in
-    line_bad c.args.options.skip c.args.options.status c.args.player.now c.args.made.now c.args.number c.args.line.now c.in-Bad.fault a d is c.report.ensures.left c.report.ensures.written c.report.ensures.reported
+    line_bad c.args.options.skip c.args.options.wanted c.args.player.now c.args.made.now c.args.number c.args.line.now c.in-Bad.fault a d is c.report.ensures.left c.report.ensures.written c.report.ensures.reported

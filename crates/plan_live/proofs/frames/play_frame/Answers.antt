@@ -5,6 +5,9 @@ use Rattle.plan_live.specs.Living.{Streamed, streamed}
 use Rattle.plan_live.proofs.Going.{frame_went, frame_stops}
 use Rattle.plan_live.proofs.frames.play_frame.Goals as goal
 
+pub report_frame-requires : goal.report_frame-requires
+report_frame-requires g c = c.in-Ok.ensures.counted
+
 pub returns-in-Ok-clause-done : goal.returns-in-Ok-clause-done
 returns-in-Ok-clause-done g c =
     let left = g.E.Ends.left in
@@ -15,7 +18,7 @@ returns-in-Ok-clause-done g c =
     let b : Streamed = streamed (left c.write_frame.new.ends) (written c.write_frame.new.ends) (reported c.write_frame.new.ends) in
     let d : Streamed = streamed (left c.report_frame.new.ends) (written c.report_frame.new.ends) (reported c.report_frame.new.ends) in
     let bytes : c.bytes.result.now ≡ next_frame p = c.bytes.ensures.value ∙ c.make_frame-frame.ensures.bytes in
-    frame_went c.args.options.skip c.args.options.status p c.make_frame-frame.new.player c.args.made.now c.write_frame.new.made a b d c.bytes.result.now bytes c.make_frame-frame.ensures.state c.in-Ok.ensures.done
+    frame_went c.args.options.skip c.args.options.wanted p c.make_frame-frame.new.player c.args.made.now c.write_frame.new.made a b d c.bytes.result.now bytes c.make_frame-frame.ensures.state c.in-Ok.ensures.done
     c.report_frame.ensures.left c.report_frame.ensures.written (c.report_frame.ensures.reported p c.make_frame-frame.ensures.state c.look_at-before.ensures)
 
 pub returns-in-Err-clause-stopped : goal.returns-in-Err-clause-stopped
@@ -27,4 +30,4 @@ returns-in-Err-clause-stopped g c =
     let a : Streamed = streamed (left c.args.ends.now) (written c.args.ends.now) (reported c.args.ends.now) in
     let b : Streamed = streamed (left c.write_frame.new.ends) (written c.write_frame.new.ends) (reported c.write_frame.new.ends) in
     let bytes : c.bytes.result.now ≡ next_frame p = c.bytes.ensures.value ∙ c.make_frame-frame.ensures.bytes in
-    frame_stops c.args.options.skip c.args.options.status p c.args.made.now a b c.bytes.result.now c.in-Err.stop bytes c.in-Err.ensures.stopped
+    frame_stops c.args.options.skip c.args.options.wanted p c.args.made.now a b c.bytes.result.now c.in-Err.stop bytes c.in-Err.ensures.stopped

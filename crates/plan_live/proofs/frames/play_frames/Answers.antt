@@ -18,17 +18,17 @@ returns-in-Err-clause-stopped g c =
     let b : Streamed = streamed (left c.loop-done.ends) (written c.loop-done.ends) (reported c.loop-done.ends) in
     let d : Streamed = streamed (left c.play_frame.new.ends) (written c.play_frame.new.ends) (reported c.play_frame.new.ends) in
     let skip : ℕ = c.args.options.skip in
-    let status = c.args.options.status in
+    let wanted = c.args.options.wanted in
     let p : Playing = c.args.player.now in
     let n : ℕ = c.args.made.now in
     let k : ℕ = c.loop-done.done in
     let rest : ℕ = c.args.count - (k + 1) in
-    let here = stops_later skip status p c.loop-done.player n c.loop-done.made (replicate k Frame) (Frame ∷ []) a b d c.in-Err.stop c.loop-done.invariant.went c.in-Err.ensures.stopped in
-    let later = stops_before skip status p n (replicate k Frame ++ Frame ∷ []) (replicate rest Frame) a d c.in-Err.stop here in
+    let here = stops_later skip wanted p c.loop-done.player n c.loop-done.made (replicate k Frame) (Frame ∷ []) a b d c.in-Err.stop c.loop-done.invariant.went c.in-Err.ensures.stopped in
+    let later = stops_before skip wanted p n (replicate k Frame ++ Frame ∷ []) (replicate rest Frame) a d c.in-Err.stop here in
     let all : (k + 1) + rest ≡ c.args.count = omega (arith, c.loop-done-test.true) in
     let cut : (replicate k Frame ++ Frame ∷ []) ++ replicate rest Frame ≡ replicate c.args.count Frame =
     ap (λ (l : List Event). l ++ replicate rest Frame) (sym (replicate_more k 1)) ∙ sym (replicate_more (k + 1) rest) ∙ ap (λ (m : ℕ). replicate m Frame) all in
-    subst (λ (l : List Event). StopsIn skip status p n l a d c.in-Err.stop) cut later
+    subst (λ (l : List Event). StopsIn skip wanted p n l a d c.in-Err.stop) cut later
 
 pub loop-done-preserved : goal.loop-done-preserved
 loop-done-preserved g c =
@@ -39,13 +39,13 @@ loop-done-preserved g c =
     let b : Streamed = streamed (left c.loop-done.ends) (written c.loop-done.ends) (reported c.loop-done.ends) in
     let d : Streamed = streamed (left c.play_frame.new.ends) (written c.play_frame.new.ends) (reported c.play_frame.new.ends) in
     let skip : ℕ = c.args.options.skip in
-    let status = c.args.options.status in
+    let wanted = c.args.options.wanted in
     let p : Playing = c.args.player.now in
     let n : ℕ = c.args.made.now in
     let k : ℕ = c.loop-done.done in
-    let both = went_join skip status p c.loop-done.player c.play_frame.new.player n c.loop-done.made c.play_frame.new.made (replicate k Frame) (Frame ∷ []) a b d c.loop-done.invariant.went c.in-Ok.ensures.done in
+    let both = went_join skip wanted p c.loop-done.player c.play_frame.new.player n c.loop-done.made c.play_frame.new.made (replicate k Frame) (Frame ∷ []) a b d c.loop-done.invariant.went c.in-Ok.ensures.done in
     record {
       within = omega (arith, c.loop-done-test.true);
-      went = subst (λ (l : List Event). Went skip status p n l c.play_frame.new.player c.play_frame.new.made a d) (sym (replicate_more k 1)) both;
+      went = subst (λ (l : List Event). Went skip wanted p n l c.play_frame.new.player c.play_frame.new.made a d) (sym (replicate_more k 1)) both;
       moments = c.in-Ok.ensures.moments ∙ c.loop-done.invariant.moments;
     }

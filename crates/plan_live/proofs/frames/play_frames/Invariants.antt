@@ -8,7 +8,7 @@ use Rattle.plan_live.proofs.frames.play_frames.Given as goal
 abbrev pub invariant-loop-done : goal.invariant-loop-done
 invariant-loop-done g l = record {
   within : l.done ≤ l.count;
-  went : Went l.options.skip l.options.status l.initial.player l.initial.made (replicate l.done Frame) l.player l.made
+  went : Went l.options.skip l.options.wanted l.initial.player l.initial.made (replicate l.done Frame) l.player l.made
       (streamed (g.E.Ends.left l.initial.ends) (g.E.Ends.written l.initial.ends) (g.E.Ends.reported l.initial.ends))
       (streamed (g.E.Ends.left l.ends) (g.E.Ends.written l.ends) (g.E.Ends.reported l.ends));
   moments : g.E.Ends.moments l.ends ≡ g.E.Ends.moments l.initial.ends;

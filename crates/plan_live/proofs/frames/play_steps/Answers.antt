@@ -19,7 +19,7 @@ returns-in-Err-clause-stopped g c =
     let b : Streamed = streamed (left c.loop-step.ends) (written c.loop-step.ends) (reported c.loop-step.ends) in
     let d : Streamed = streamed (left c.play_step.new.ends) (written c.play_step.new.ends) (reported c.play_step.new.ends) in
     let skip : ℕ = c.args.options.skip in
-    let status = c.args.options.status in
+    let wanted = c.args.options.wanted in
     let p : Playing = c.args.player.now in
     let n : ℕ = c.args.made.now in
     let steps : List Step = c.args.steps.now in
@@ -27,9 +27,9 @@ returns-in-Err-clause-stopped g c =
     let step : Step = c.step-item.result in
     let more : take (i + 1) steps ≡ take i steps ++ step ∷ [] =
     take_more steps i step c.loop-step-test.true ∙ ap (λ (x : Step). take i steps ++ x ∷ []) (sym c.step-item.is) in
-    let here = stops_later skip status p c.loop-step.player n c.loop-step.made (events_of (take i steps)) (events_of_step step) a b d c.in-Err.stop c.loop-step.invariant.went c.in-Err.ensures.stopped in
-    let later = stops_before skip status p n (events_of (take i steps) ++ events_of_step step) (events_of (drop (i + 1) steps)) a d c.in-Err.stop here in
-    subst (λ (l : List Event). StopsIn skip status p n l a d c.in-Err.stop) (events_cut steps i step more) later
+    let here = stops_later skip wanted p c.loop-step.player n c.loop-step.made (events_of (take i steps)) (events_of_step step) a b d c.in-Err.stop c.loop-step.invariant.went c.in-Err.ensures.stopped in
+    let later = stops_before skip wanted p n (events_of (take i steps) ++ events_of_step step) (events_of (drop (i + 1) steps)) a d c.in-Err.stop here in
+    subst (λ (l : List Event). StopsIn skip wanted p n l a d c.in-Err.stop) (events_cut steps i step more) later
 
 pub loop-step-preserved : goal.loop-step-preserved
 loop-step-preserved g c =
@@ -40,7 +40,7 @@ loop-step-preserved g c =
     let b : Streamed = streamed (left c.loop-step.ends) (written c.loop-step.ends) (reported c.loop-step.ends) in
     let d : Streamed = streamed (left c.play_step.new.ends) (written c.play_step.new.ends) (reported c.play_step.new.ends) in
     let skip : ℕ = c.args.options.skip in
-    let status = c.args.options.status in
+    let wanted = c.args.options.wanted in
     let p : Playing = c.args.player.now in
     let n : ℕ = c.args.made.now in
     let steps : List Step = c.args.steps.now in
@@ -48,8 +48,8 @@ loop-step-preserved g c =
     let step : Step = c.step-item.result in
     let more : take (i + 1) steps ≡ take i steps ++ step ∷ [] =
     take_more steps i step c.loop-step-test.true ∙ ap (λ (x : Step). take i steps ++ x ∷ []) (sym c.step-item.is) in
-    let both = went_join skip status p c.loop-step.player c.play_step.new.player n c.loop-step.made c.play_step.new.made (events_of (take i steps)) (events_of_step step) a b d c.loop-step.invariant.went c.in-Ok.ensures.done in
+    let both = went_join skip wanted p c.loop-step.player c.play_step.new.player n c.loop-step.made c.play_step.new.made (events_of (take i steps)) (events_of_step step) a b d c.loop-step.invariant.went c.in-Ok.ensures.done in
     record {
-      went = subst (λ (l : List Event). Went skip status p n l c.play_step.new.player c.play_step.new.made a d) (sym (events_more steps i step more)) both;
+      went = subst (λ (l : List Event). Went skip wanted p n l c.play_step.new.player c.play_step.new.made a d) (sym (events_more steps i step more)) both;
       moments = c.in-Ok.ensures.moments ∙ c.loop-step.invariant.moments;
     }

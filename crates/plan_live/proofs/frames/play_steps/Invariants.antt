@@ -7,7 +7,7 @@ use Rattle.plan_live.proofs.frames.play_steps.Given as goal
 -- the steps so far
 abbrev pub invariant-loop-step : goal.invariant-loop-step
 invariant-loop-step g l = record {
-  went : Went l.options.skip l.options.status l.initial.player l.initial.made (events_of (take l.step-index l.steps)) l.player l.made
+  went : Went l.options.skip l.options.wanted l.initial.player l.initial.made (events_of (take l.step-index l.steps)) l.player l.made
       (streamed (g.E.Ends.left l.initial.ends) (g.E.Ends.written l.initial.ends) (g.E.Ends.reported l.initial.ends))
       (streamed (g.E.Ends.left l.ends) (g.E.Ends.written l.ends) (g.E.Ends.reported l.ends));
   moments : g.E.Ends.moments l.ends ≡ g.E.Ends.moments l.initial.ends;

@@ -23,7 +23,7 @@ returns-in-Ok-drive-clause-played g c = λ p h.
     let starts : start ≡ start_of verified r = ap (λ (l : Plan). let s : Start = record { eid = l.eid; count = c.args.count; day = c.args.day; contacts = c.args.contacts } in s) plan in
     let codes : verified ≡ p.code = c.in-Ok.ensures.only p.code h.ready.file in
     let same : c.in-Ok-new.player ≡ p = one_player r verified start p c.in-Ok-new.player h codes starts c.in-Ok-new.ensures.begins in
-    subst (λ (x : Playing). (lines : List (List ℕ)) × Reached c.args.options.skip c.args.options.status x old new lines × IsAtEnd (left c.drive.new.ends)) same c.in-Ok-drive.ensures.whole
+    subst (λ (x : Playing). (lines : List (List ℕ)) × Reached c.args.options.skip c.args.options.wanted x old new lines × IsAtEnd (left c.drive.new.ends)) same c.in-Ok-drive.ensures.whole
 
 pub returns-clause-played : goal.returns-clause-played
 returns-clause-played g c = λ p h.
@@ -39,7 +39,7 @@ returns-clause-played g c = λ p h.
     let starts : start ≡ start_of verified r = ap (λ (l : Plan). let s : Start = record { eid = l.eid; count = c.args.count; day = c.args.day; contacts = c.args.contacts } in s) plan in
     let codes : verified ≡ p.code = c.in-Ok.ensures.only p.code h.ready.file in
     let same : c.in-Ok-new.player ≡ p = one_player r verified start p c.in-Ok-new.player h codes starts c.in-Ok-new.ensures.begins in
-    subst (λ (x : Playing). StoppedBy c.args.options.skip c.args.options.status x old new c.in-Err-drive.stop) same c.in-Err-drive.ensures.stopped
+    subst (λ (x : Playing). StoppedBy c.args.options.skip c.args.options.wanted x old new c.in-Err-drive.stop) same c.in-Err-drive.ensures.stopped
 
 pub returns-clause-prompt : goal.returns-clause-prompt
 returns-clause-prompt g c = λ p h.
@@ -55,4 +55,4 @@ returns-clause-prompt g c = λ p h.
     let starts : start ≡ start_of verified r = ap (λ (l : Plan). let s : Start = record { eid = l.eid; count = c.args.count; day = c.args.day; contacts = c.args.contacts } in s) plan in
     let codes : verified ≡ p.code = c.in-Ok.ensures.only p.code h.ready.file in
     let same : c.in-Ok-new.player ≡ p = one_player r verified start p c.in-Ok-new.player h codes starts c.in-Ok-new.ensures.begins in
-    subst (λ (x : Playing). IsPrompt c.args.options.skip c.args.options.status x old (moments c.args.ends.now) (moments c.drive.new.ends)) same c.drive.ensures.prompt
+    subst (λ (x : Playing). IsPrompt c.args.options.skip c.args.options.wanted x old (moments c.args.ends.now) (moments c.drive.new.ends)) same c.drive.ensures.prompt

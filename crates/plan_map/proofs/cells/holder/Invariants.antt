@@ -1,6 +1,5 @@
-use Rattle.std.proofs.Common.{◌≡◌, drop, None}
+use Rattle.std.proofs.Common.{◌≡◌, drop}
 use Rattle.plan_map.specs.Cells.{fullest, holder}
-use Rattle.plan_map.proofs.Holding.{HasUnits}
 use Rattle.plan_map.proofs.cells.holder.Given as goal
 
 abbrev pub invariant-loop-sub : goal.invariant-loop-sub

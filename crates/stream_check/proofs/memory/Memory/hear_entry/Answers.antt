@@ -2,11 +2,12 @@ use Rattle.std.proofs.Common.{◌≡◌, ◌∙◌, sym, subst, map}
 use Rattle.std.specs.Prelude.{if◌then◌else◌}
 use Rattle.std.proofs.lemmas.Bool.{eqb-true}
 use Rattle.mux_entries.specs.Entries.{EnsembleInformation}
-use Rattle.stream_check.specs.Reporting.{with_more, in_frame}
+use Rattle.stream_check.specs.Reporting.{in_frame}
 use Rattle.stream_check.specs.Rules.{ensemble_findings, makes_swap}
 use Rattle.stream_check.specs.Memory.{known_in, with_ensemble, with_swap}
 use Rattle.stream_check.proofs.Steps.{hears_ensemble}
 use Rattle.stream_check.proofs.memory.Memory.hear_entry.Goals as goal
+use Rattle.stream_check.specs.Reported.{with_more}
 
 pub returns-then-is_ensemble-clause-heard : goal.returns-then-is_ensemble-clause-heard
 returns-then-is_ensemble-clause-heard g c =

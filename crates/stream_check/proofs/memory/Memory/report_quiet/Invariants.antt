@@ -1,9 +1,10 @@
 use Rattle.std.proofs.Common.{◌≡◌, ◌≢◌, length, map}
 use Rattle.std.specs.List.{AllByRecursion}
 use Rattle.stream_check.specs.Pictures.{Heard}
-use Rattle.stream_check.specs.Reporting.{with_more, in_frame}
+use Rattle.stream_check.specs.Reporting.{in_frame}
 use Rattle.stream_check.specs.Memory.{quiet_findings}
 use Rattle.stream_check.proofs.memory.Memory.report_quiet.Given as goal
+use Rattle.stream_check.specs.Reported.{with_more}
 
 abbrev pub invariant-loop-entry : goal.invariant-loop-entry
 invariant-loop-entry g l = record {

@@ -1,6 +1,0 @@
-mod Appending
-mod Hearing
-mod Transcripts
-mod Naming
-mod OneAnswer
-mod PictureLines

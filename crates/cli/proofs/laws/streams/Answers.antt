@@ -1,5 +1,0 @@
-use Rattle.cli.proofs.OneAnswer.{one_answer}
-use Rattle.cli.proofs.laws.streams.Goals as goal
-
-pub returns : goal.returns
-returns c = one_answer c.one_list.ensures c.reading.ensures.apart

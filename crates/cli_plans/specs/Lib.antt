@@ -1,0 +1,2 @@
+pub mod LiveEnding
+pub mod Transcript

@@ -1,0 +1,234 @@
+//! `dabplan debug`: steps through a plan code by the commands of a file.
+
+ghost use Rattle.std.specs.Prelude.{ℕ, List, OnOk, IfErr};
+ghost use Rattle.std.specs.List.{flat_map};
+ghost use Rattle.std.specs.Io.KnownBytes.{Appends};
+ghost use Rattle.plan_player.specs.Playing.{Playing};
+ghost use Rattle.plan_session.specs.declared.command.Command.{Command};
+ghost use Rattle.plan_session.specs.Playback.{asked};
+ghost use Rattle.cli_plans.specs.Transcript.{place_text, swap_text, break_line, report_lines, announcement_line, shown_lines, Transcript, IsSession, Prints, IsDebugFault, IsUnprinted};
+
+use crate::event_file::read_event_text;
+use crate::start::StartOptions;
+use console::code_file::read_code;
+use console::exit::{Failure, Status};
+use console::files::Files;
+use mux_tables::Tables;
+use plan_code::CodeFault;
+use plan_debug::{Announcement, Command, Debugger, Report};
+use plan_player::{Player, Start};
+use plan_session::{EventFault, RunFault, laws, read_commands, typed_code};
+use std::alloc::Global;
+use std::io::{self, Write};
+use thiserror::Error;
+
+/// The arguments of `debug`.
+#[derive(Clone, Copy)]
+pub struct DebugRequest<'a> {
+    /// The path of the code file.
+    pub code: &'a str,
+    /// The path of the command file.
+    pub commands: &'a str,
+    /// The start options.
+    pub start: StartOptions,
+}
+
+/// Why the commands are not run to the end: the first of these that holds.
+#[derive(Clone, Copy, Debug, PartialEq, Eq, Error)]
+pub enum DebugFault {
+    /// The code can't be played from the start, as in `play`: `Code`, `Refused` or `Start`.
+    #[error("{0}")]
+    Playback(RunFault),
+    /// The text holds no commands; or out of memory.
+    #[error("commands {0}")]
+    Commands(EventFault),
+    /// Out of memory for the debugger.
+    #[error("no memory")]
+    Memory,
+    /// The writer failed.
+    #[error("cannot write")]
+    Output,
+}
+
+/// Runs `debug`: executes the commands and prints the lines of each; or prints why the code can't be
+/// debugged.
+pub fn show_debug<'a, F: Files, W: Write>(
+    alloc: Global,
+    request: &DebugRequest<'a>,
+    files: &mut F,
+    out: &mut W,
+) -> Result<Status, Failure<'a>> {
+    let code = read_code(alloc, files, request.code)?;
+    let commands = read_event_text(alloc, files, request.commands)?;
+    match debug(
+        alloc,
+        code.as_slice(),
+        commands.as_str(),
+        request.start,
+        out,
+    ) {
+        Ok(()) => Ok(Status::Done),
+        Err(DebugFault::Output) => Err(Failure::Output),
+        Err(DebugFault::Memory) => Err(Failure::Memory),
+        Err(DebugFault::Playback(RunFault::Code(CodeFault::Memory))) => Err(Failure::Memory),
+        Err(DebugFault::Commands(EventFault::Memory)) => Err(Failure::Memory),
+        Err(fault) => {
+            writeln!(out, "{fault}")?;
+            Ok(Status::Refused)
+        }
+    }
+}
+
+/// Runs the debugger commands of a text on the code in a file: the player starts at this CIF count and frame of the
+/// day, with these contacts closed. The lines of each command are printed.
+///
+/// The first fault in the order of [`DebugFault`]. With every fault but `Output` nothing was printed.
+pub fn debug<W: Write>(
+    alloc: Global,
+    code: &[u8],
+    text: &str,
+    start: StartOptions,
+    out: &mut W,
+) -> Result<(), DebugFault>
+    ensures printed { (p : Playing) (commands : List Command)
+        → IsSession (asked code.now text.now start.count start.day start.contacts) p commands
+        → Prints p commands (W.contents out.old) (W.contents out.new) result }
+    ensures only { OnOk result ((p : Playing) × (commands : List Command)
+        × IsSession (asked code.now text.now start.count start.day start.contacts) p commands) }
+    ensures first_fault { IfErr result (λ e.
+        IsDebugFault (asked code.now text.now start.count start.day start.contacts) e) }
+    ensures silent { IfErr result (λ e. IsUnprinted (W.contents out.old) (W.contents out.new) e) }
+{
+    laws::one_list_of_commands();
+    let verified = match typed_code(alloc, code) {
+        Ok(verified) => verified,
+        Err(fault) => return Err(DebugFault::Playback(fault)),
+    };
+    let begin = Start {
+        eid: verified.code().plan().eid,
+        count: start.count,
+        day: start.day,
+        contacts: start.contacts,
+    };
+    let player: Player<Tables> = match Player::new(&verified, begin) {
+        Ok(player) => player,
+        Err(fault) => return Err(DebugFault::Playback(RunFault::Start(fault))),
+    };
+    let commands = match read_commands(alloc, text) {
+        Ok(commands) => commands,
+        Err(fault) => return Err(DebugFault::Commands(fault)),
+    };
+    let mut debugger = match Debugger::new(alloc, player) {
+        Ok(debugger) => debugger,
+        Err(_player) => return Err(DebugFault::Memory),
+    };
+    match drive(&mut debugger, commands.as_slice(), out) {
+        Ok(()) => Ok(()),
+        Err(_) => Err(DebugFault::Output),
+    }
+}
+
+/// Executes the commands in order, and prints the lines of each.
+fn drive<W: Write>(
+    debugger: &mut Debugger<'_, Tables>,
+    commands: &[Command],
+    out: &mut W,
+) -> io::Result<()>
+    ensures { OnOk result ((lines : List ℕ)
+        × Transcript debugger.old commands.now lines debugger.new
+        × Appends (W.contents out.old) (W.contents out.new) lines) }
+{
+    for command in commands {
+        let report = debugger.command(*command);
+        print_report(&report, out)?;
+        print_shown(*command, debugger, out)?;
+    }
+    Ok(())
+}
+
+/// Prints the line of a report, and `break` if the break line was reached.
+fn print_report<W: Write>(report: &Report, out: &mut W) -> io::Result<()>
+    ensures { OnOk result (Appends (W.contents out.old) (W.contents out.new)
+        (report_lines report.now)) }
+{
+    print_position(report, out)?;
+    print_swap(report, out)?;
+    print_break(report.broke, out)
+}
+
+/// Prints the frames and steps played, the pc and the source line.
+fn print_position<W: Write>(report: &Report, out: &mut W) -> io::Result<()>
+    ensures { OnOk result (Appends (W.contents out.old) (W.contents out.new)
+        (place_text report.now)) }
+{
+    let frames = report.frames;
+    let steps = report.steps;
+    let pc = report.pc;
+    let line = report.line;
+    write!(out, "frames {frames} steps {steps} pc {pc} line {line}")
+}
+
+/// Prints the count and the frames until the swap, to the end of the line.
+fn print_swap<W: Write>(report: &Report, out: &mut W) -> io::Result<()>
+    ensures { OnOk result (Appends (W.contents out.old) (W.contents out.new)
+        (swap_text report.now)) }
+{
+    let count = report.count;
+    match report.remaining {
+        Some(frames) => writeln!(out, " count {count} remaining {frames}"),
+        None => writeln!(out, " count {count} remaining none"),
+    }
+}
+
+/// Prints `break` if the break line was reached.
+fn print_break<W: Write>(broke: bool, out: &mut W) -> io::Result<()>
+    ensures { OnOk result (Appends (W.contents out.old) (W.contents out.new) (break_line broke)) }
+{
+    if broke {
+        return writeln!(out, "break");
+    }
+    Ok(())
+}
+
+/// Prints the recorded announcements after `show`; nothing after another command.
+fn print_shown<W: Write>(
+    command: Command,
+    debugger: &Debugger<'_, Tables>,
+    out: &mut W,
+) -> io::Result<()>
+    ensures { OnOk result (Appends (W.contents out.old) (W.contents out.new)
+        (shown_lines command debugger.now.announcements)) }
+{
+    match command {
+        Command::Show => print_announcements(debugger, out),
+        Command::Contact(_, _) => Ok(()),
+        Command::Run(_) => Ok(()),
+        Command::Next => Ok(()),
+        Command::Break(_) => Ok(()),
+        Command::Clear => Ok(()),
+    }
+}
+
+/// Prints the recorded announcements, oldest first.
+fn print_announcements<W: Write>(debugger: &Debugger<'_, Tables>, out: &mut W) -> io::Result<()>
+    ensures { OnOk result (Appends (W.contents out.old) (W.contents out.new)
+        (flat_map announcement_line debugger.now.announcements)) }
+{
+    let mut place = 0;
+    while let Some(announcement) = debugger.announcement(place) {
+        print_announcement(announcement, out)?;
+        place += 1;
+    }
+    Ok(())
+}
+
+/// Prints an announcement.
+fn print_announcement<W: Write>(announcement: Announcement, out: &mut W) -> io::Result<()>
+    ensures { OnOk result (Appends (W.contents out.old) (W.contents out.new)
+        (announcement_line announcement)) }
+{
+    let count = announcement.count;
+    let occurrence = announcement.occurrence;
+    let change = announcement.change;
+    writeln!(out, "announced {count} swap {occurrence} change {change}")
+}

@@ -1,0 +1,48 @@
+-- The result of `compile`, its refusals, and the line that reports the size of a code.
+use Rattle.std.specs.Prelude.{◌≡◌, ℕ, List, ◌++◌, codes, length}
+use Rattle.std.specs.Fmt.{decimal}
+use Rattle.plan_code.specs.Program.{Program}
+use Rattle.plan_code.specs.Spelling.{code_bytes}
+use Rattle.plan_verifier.specs.Typing.{IsTyped}
+use Rattle.script_front.specs.Denoting.{IsScriptOf, IsNoScript}
+use Rattle.script_front.specs.Tree.{Tree, IsScript}
+use Rattle.script_meaning.specs.Compiled.{IsAccepted, IsCodeOf, CostsItsNeeds}
+use Rattle.script_meaning.specs.Refused.{IsRefused}
+use Rattle.script_meaning.specs.Meaning.{PlaysAsItReads}
+use Rattle.script_compiler.specs.Refusals.{IfRefused}
+use Rattle.cli_scripts.specs.declared.compile.Compiled.{Compiled}
+use Rattle.cli_scripts.specs.declared.compile.ScriptRefusal.{ScriptRefusal}
+use Rattle.cli_scripts.specs.declared.compile.ScriptRefusal.TheVariants.{Script, Plan, Memory}
+
+-- the text denotes this script, which is accepted, and this is its code: it is typed, the cost of each label is the
+-- need of the code from there, and it plays as the script reads
+pub record IsMadeOf (text : List ℕ) (tree : Tree) (code : Program) : Type 0 where
+  pub script : IsScript tree
+  pub denotes : IsScriptOf text tree
+  pub accepted : IsAccepted tree
+  pub is : IsCodeOf tree code
+  pub costs : CostsItsNeeds code
+  pub typed : IsTyped code
+  pub plays : PlaysAsItReads tree code
+
+-- the file is that of this code, with its numbers of instructions, labels and configurations
+pub record IsFileOf (code : Program) (c : Compiled) : Type 0 where
+  pub file : c.file.items ≡ code_bytes code
+  pub instructions : c.instructions ≡ length code.lines
+  pub labels : c.labels ≡ length code.labels
+  pub configurations : c.configurations ≡ length code.configurations
+
+-- the file is that of the code of the script that the text denotes
+abbrev pub IsCompiled : List ℕ → Compiled → Type 0
+IsCompiled text c = (tree : Tree) × (code : Program) × IsMadeOf text tree code × IsFileOf code c
+
+-- the text is not a script; or it is one that is not accepted, and is refused at the line and for the cause that the
+-- fault names, if it names one; barring allocation failure
+abbrev pub IsUncompiled : List ℕ → ScriptRefusal → Type 0
+IsUncompiled text (Script fault) = IsNoScript text
+IsUncompiled text (Plan fault) =
+    (tree : Tree) × IsScript tree × IsScriptOf text tree × (IsAccepted tree → ⊥) × IfRefused fault (IsRefused tree)
+IsUncompiled text Memory = Unit {0}
+
+abbrev pub counts_line : Compiled → List ℕ
+counts_line c = codes "instructions " ++ decimal c.instructions ++ codes " labels " ++ decimal c.labels ++ codes " configurations " ++ decimal c.configurations ++ codes "\n"

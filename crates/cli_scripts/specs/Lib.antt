@@ -1,0 +1,5 @@
+pub mod Compiled
+pub mod Naming
+pub mod Planned
+pub mod ScriptFrame
+pub mod Verdict

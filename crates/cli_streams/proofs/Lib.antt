@@ -1,0 +1,5 @@
+mod Appending
+pub mod Hearing
+mod JsonObjects
+mod OneAnswer
+mod PictureLines

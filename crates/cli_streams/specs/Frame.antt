@@ -1,0 +1,66 @@
+-- One frame of the configuration in a record, or the first fault.
+use Rattle.std.specs.Prelude.{◌≡◌, ℕ, ◌/◌, ◌%◌, ◌==◌, nat_lt, Bool, if◌then◌else◌, List, ◌++◌, codes, length, Option, Some, None, Result, Ok, Err}
+use Rattle.std.specs.List.{flat_map}
+use Rattle.std.specs.Simd.{first_chunks}
+use Rattle.std.specs.Io.KnownBytes.{Appends}
+use Rattle.console.specs.Digits.{digits_of_bytes}
+use Rattle.console.specs.declared.exit.Status.{Status}
+use Rattle.console.specs.declared.exit.Status.TheVariants.{Done, Refused}
+use Rattle.mux_config.specs.Configuration.{Configuration}
+use Rattle.mux_entries.specs.Entries.{EnsembleInformation}
+use Rattle.mux_config.specs.FieldReading.{Reads}
+use Rattle.mux_config.specs.Reading.{config_at}
+use Rattle.mux_config.specs.Sound.{sound_or_fault}
+use Rattle.mux_config.specs.declared.fault.ConfigFault.{ConfigFault}
+use Rattle.fib_codec.specs.Modes.{count_step}
+use Rattle.fib_codec.specs.declared.modes.Mode.{Mode}
+use Rattle.fib_carousel.specs.Pages.{page_set, rounds}
+use Rattle.fib_carousel.specs.Bytes.{page_bytes}
+use Rattle.cli_streams.specs.declared.frame.FrameFault.{FrameFault}
+use Rattle.cli_streams.specs.declared.frame.FrameFault.TheVariants.{Record, Trailing, Unsound, NoSuchPage}
+
+-- FIG 0/0 is sent in frames whose count is a multiple of the mode's step
+abbrev pub sent : Mode → EnsembleInformation → Option EnsembleInformation
+sent mode ensemble = if ensemble.count % count_step mode == 0 then Some ensemble else None
+
+abbrev pub page_or_fault : Mode → EnsembleInformation → ℕ → Configuration → Result (List ℕ) FrameFault
+page_or_fault mode ensemble page c =
+    if nat_lt page (rounds mode (page_set c None)) then Ok (page_bytes mode (sent mode ensemble) page (page_set c None))
+    else Err NoSuchPage
+
+abbrev pub frame_or_fault : Result (Unit {0}) ConfigFault → Result (List ℕ) FrameFault → Result (List ℕ) FrameFault
+frame_or_fault (Err fault) page = Err (Unsound fault)
+frame_or_fault (Ok sound) page = page
+
+abbrev pub frame_of_read : Mode → EnsembleInformation → ℕ → Reads Configuration → Result (List ℕ) FrameFault
+frame_of_read mode ensemble page (Err fault) = Err (Record fault)
+frame_of_read mode ensemble page (Ok (c, rest)) =
+    if nat_lt 0 (length rest) then Err Trailing
+    else frame_or_fault (sound_or_fault c) (page_or_fault mode ensemble page c)
+
+-- the bytes of a page of the configuration in the record, or the first fault: of the record, bytes after it, of
+-- the configuration, of the page
+abbrev pub frame_of : Mode → EnsembleInformation → ℕ → List ℕ → Result (List ℕ) FrameFault
+frame_of mode ensemble page bytes = frame_of_read mode ensemble page (config_at bytes)
+
+-- a FIB as its digits, on a line
+abbrev pub fib_line : List ℕ → List ℕ
+fib_line fib = digits_of_bytes fib ++ codes "\n"
+
+-- the FIBs of a frame, 32 bytes each
+abbrev pub fibs_text : List ℕ → List ℕ
+fibs_text frame = flat_map fib_line (first_chunks 32 (length frame / 32) frame)
+
+-- a frame as its bytes, or as digits
+abbrev pub frame_text : (raw : Bool) → List ℕ → List ℕ
+frame_text raw frame = if raw then frame else fibs_text frame
+
+-- the longest record: three numbers, 64 sub-channels and packet components of 7 bytes, 64 services of 4 bytes with 12
+-- components of 3; and one byte more, to detect a longer file
+abbrev pub most_bytes : ℕ
+most_bytes = 3460
+
+-- the frame is printed, or it is refused; `old` and `new` are the writer's bytes before and after
+abbrev pub ShowsFrame : (raw : Bool) → Result (List ℕ) FrameFault → (old new : Option (List ℕ)) → Status → Type 0
+ShowsFrame raw (Ok frame) old new status = (status ≡ Done) × Appends old new (frame_text raw frame)
+ShowsFrame raw (Err fault) old new status = status ≡ Refused

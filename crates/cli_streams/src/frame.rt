@@ -1,0 +1,161 @@
+//! `dabplan frame`: prints one frame of the configuration in a record.
+
+ghost use Rattle.std.specs.Prelude.{◌≡◌, ◌≢◌, IfOk, IfSome, OnOk, codes, take};
+ghost use Rattle.std.specs.Io.KnownBytes.{Appends};
+ghost use Rattle.cli_streams.specs.Frame.{ShowsFrame, fibs_text, frame_of, frame_text, most_bytes, page_or_fault, sent};
+
+use console::exit::{Failure, Status, read_input};
+use console::files::Files;
+use console::hexadecimal::digits_of_fib;
+use fib_carousel::{page, pages};
+use fib_codec::{FibFrame, Mode};
+use mux_config::{Config, ConfigFault, Ensemble, RecordFault, read_config, soundness};
+use std::alloc::Global;
+use std::io::{self, Write};
+use thiserror::Error;
+
+/// The most bytes of a configuration record: the three numbers, 64 sub-channels and 64 packet components of 7 bytes
+/// each, and 64 services of 4 bytes with 12 components of 3 bytes each. One byte more is read, to detect bytes after
+/// the record.
+const MOST_BYTES: usize = 3 + 64 * 7 + 64 * (4 + 12 * 3) + 64 * 7;
+
+/// The arguments of `frame`.
+#[derive(Clone, Copy)]
+pub struct FrameRequest<'a> {
+    /// The path of the configuration record, or `-` for standard input.
+    pub config: &'a str,
+    /// The transmission mode.
+    pub mode: Mode,
+    /// The identifier of the ensemble and the CIF count, without change flags.
+    pub ensemble: Ensemble,
+    /// The page number, from 0.
+    pub page: u16,
+    /// Whether the FIBs are written as bytes rather than as digits.
+    pub raw: bool,
+}
+
+/// Why a record gives no frame, in the order in which [`frame_of`] tests.
+#[derive(Clone, Copy, Debug, PartialEq, Eq, Error)]
+pub enum FrameFault {
+    /// The bytes are not a configuration record.
+    #[error("record: {0}")]
+    Record(RecordFault),
+    /// Bytes follow the record.
+    #[error("record: trailing")]
+    Trailing,
+    /// The configuration is not sound.
+    #[error("refused: {0}")]
+    Unsound(ConfigFault),
+    /// The configuration has no page of this number.
+    #[error("refused: no such page")]
+    NoSuchPage,
+}
+
+/// Runs `frame`: prints the FIBs of the frame, three or in mode III four, a line each.
+pub fn show_frame<'a, F: Files, W: Write>(
+    alloc: Global,
+    request: &FrameRequest<'a>,
+    files: &mut F,
+    out: &mut W,
+) -> Result<Status, Failure<'a>>
+    ensures input { request.now.config.now ≡ codes "-" → IfSome (F.known_input files.old) (λ bytes.
+        IfOk result (ShowsFrame request.now.raw (frame_of request.now.mode request.now.ensemble
+        request.now.page (take most_bytes bytes)) (W.contents out.old) (W.contents out.new))) }
+    ensures file { request.now.config.now ≢ codes "-" → IfSome (F.known files.old request.now.config.now) (λ bytes.
+        IfOk result (ShowsFrame request.now.raw (frame_of request.now.mode request.now.ensemble
+        request.now.page (take most_bytes bytes)) (W.contents out.old) (W.contents out.new))) }
+{
+    let record = read_input(alloc, files, request.config, MOST_BYTES + 1)?;
+    match frame_of(
+        record.as_slice(),
+        request.mode,
+        request.ensemble,
+        request.page,
+    ) {
+        Ok(frame) => match print_frame(&frame, request.raw, out) {
+            Ok(()) => Ok(Status::Done),
+            Err(_) => Err(Failure::Output),
+        },
+        Err(fault) => {
+            writeln!(out, "{fault}")?;
+            Ok(Status::Refused)
+        }
+    }
+}
+
+/// The FIBs of page `index` of the configuration in a record, with FIG 0/0 of `ensemble` if its count is a
+/// multiple of the mode's step: 4, 1, 1 or 2 (EN 300 401 clauses 5.1 and 6.4).
+///
+/// Returns the first fault: `Record`, `Trailing`, `Unsound`, `NoSuchPage`.
+pub fn frame_of(
+    bytes: &[u8],
+    mode: Mode,
+    ensemble: Ensemble,
+    index: u16,
+) -> Result<FibFrame, FrameFault>
+    ensures { result ≡ frame_of mode ensemble index bytes.now }
+{
+    let (config, length) = match read_config(bytes) {
+        Ok(read) => read,
+        Err(fault) => return Err(FrameFault::Record(fault)),
+    };
+    if length < bytes.len() {
+        return Err(FrameFault::Trailing);
+    }
+    if let Err(fault) = soundness(&config) {
+        return Err(FrameFault::Unsound(fault));
+    }
+    page_of(&config, mode, ensemble, index)
+}
+
+/// The FIBs of page `index` of a configuration; `NoSuchPage` if there is no such page.
+pub fn page_of<'a>(
+    config: &'a Config,
+    mode: Mode,
+    ensemble: Ensemble,
+    index: u16,
+) -> Result<FibFrame, FrameFault>
+    ensures { result ≡ page_or_fault mode ensemble index config.now }
+{
+    let alone: Option<&'a Config> = None;
+    let index = usize::from(index);
+    if index >= pages(mode, config, alone) {
+        return Err(FrameFault::NoSuchPage);
+    }
+    Ok(page(mode, config, alone, index, sent(mode, ensemble)))
+}
+
+/// The ensemble information of this frame, which is sent if the count is a multiple of the mode's step.
+fn sent(mode: Mode, ensemble: Ensemble) -> Option<Ensemble>
+    ensures { result ≡ sent mode ensemble }
+{
+    if ensemble.count() % mode.step() == 0 {
+        Some(ensemble)
+    } else {
+        None
+    }
+}
+
+/// Prints the FIBs of a frame as bytes or as digits.
+pub fn print_frame<W: Write>(frame: &FibFrame, raw: bool, out: &mut W) -> io::Result<()>
+    ensures { OnOk result (Appends (W.contents out.old) (W.contents out.new)
+        (frame_text raw frame.now)) }
+{
+    if raw {
+        out.write_all(frame.bytes())
+    } else {
+        print_fibs(frame, out)
+    }
+}
+
+/// Prints the FIBs of a frame as 64 hexadecimal digits each.
+fn print_fibs<W: Write>(frame: &FibFrame, out: &mut W) -> io::Result<()>
+    ensures { OnOk result (Appends (W.contents out.old) (W.contents out.new)
+        (fibs_text frame.now)) }
+{
+    for fib in frame.bytes().as_chunks::<32>().0 {
+        out.write_all(digits_of_fib(fib).as_slice())?;
+        out.write_all(b"\n")?;
+    }
+    Ok(())
+}

@@ -1,0 +1,24 @@
+//! Reads code files, up to a bound that no code file exceeds.
+
+ghost use Rattle.std.specs.Prelude.{◌≡◌, take, IfOk, IfSome};
+
+use crate::exit::{Failure, read_file};
+use crate::files::Files;
+use std::alloc::Global;
+
+/// More bytes than any code file has: 256 configurations, 1,024 labels and 4,096 instructions, each of the greatest
+/// length, take 943,889.
+const MOST_BYTES: usize = 1_048_576;
+
+/// Reads a code file, or returns why it can't be read. A file longer than any code file is read only as far as
+/// its first fault needs.
+pub fn read_code<'a, F: Files>(
+    alloc: Global,
+    files: &mut F,
+    path: &'a str,
+) -> Result<Vec<u8>, Failure<'a>>
+    ensures { IfOk result (λ read. IfSome (F.known files.old path.now)
+        (λ bytes. read.items ≡ take 1048577 bytes)) }
+{
+    read_file(alloc, files, path, MOST_BYTES + 1)
+}

@@ -1,0 +1,6 @@
+use Rattle.std.proofs.Common.{◌≡◌, drop}
+use Rattle.plan_map.specs.Layout.{clash_with}
+use Rattle.plan_map.proofs.layout.clash_with.Given as goal
+
+abbrev pub invariant-loop-place : goal.invariant-loop-place
+invariant-loop-place l = clash_with l.sub (drop l.place-index l.layout) ≡ clash_with l.sub l.layout

@@ -1,0 +1,8 @@
+use Rattle.std.proofs.Common.{◌≡◌}
+use Rattle.std.specs.List.{flat_map, range_with_len}
+use Rattle.plan_map.specs.Layout.{place_of}
+use Rattle.plan_map.proofs.layout.places_of.Given as goal
+
+-- the places so far
+abbrev pub invariant-loop-id : goal.invariant-loop-id
+invariant-loop-id l = l.places.items ≡ flat_map (place_of l.subs) (range_with_len 0 l.id)

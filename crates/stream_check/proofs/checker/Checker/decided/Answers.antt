@@ -1,0 +1,10 @@
+use Rattle.std.proofs.Common.{◌∙◌, refl, ap}
+use Rattle.stream_check.specs.Following.{Checking}
+use Rattle.stream_check.proofs.Followed.{summed_so_far}
+use Rattle.stream_check.proofs.checker.Checker.decided.Goals as goal
+
+pub returns : goal.returns
+returns c = λ r mode period stream start reported f.
+    summed_so_far r mode period stream start reported c.args.self.now _ f
+    (c.frames.ensures ∙ ap (λ (x : Checking). x.memory.frames) c.self.view_is) (ap (λ (x : Checking). x.skipped) c.self.view_is)
+    refl (ap (λ (x : Checking). x.damaged) c.self.view_is)

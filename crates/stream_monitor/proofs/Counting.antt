@@ -1,0 +1,22 @@
+-- Counting findings one after the other.
+use Rattle.std.proofs.Common.{◌≡◌, ℕ, ◌+◌, List, [], ◌∷◌, ◌∙◌, length, refl, sym, ap, arith}
+use Rattle.std.specs.Io.Iter.{u64_saturate}
+use Rattle.stream_check.specs.declared.finding.Finding.{Finding}
+use Rattle.stream_monitor.specs.declared.tally.Tally.{Tally}
+use Rattle.stream_monitor.specs.Findings.{swaps_in, faults_in, counted}
+
+pub saturated_more : (a b n : ℕ) → u64_saturate (u64_saturate (a + b) + n) ≡ u64_saturate (a + (b + n))
+saturated_more a b n = omega arith
+
+none_left : (xs : List Finding) → length xs ≡ 0 → xs ≡ []
+none_left [] e = refl
+none_left (x ∷ xs) e = absurd (omega (arith, e))
+
+-- no finding is left
+pub counted_all : (start : Tally) (findings rest : List Finding) (swaps faults : ℕ) → length rest ≡ 0
+    → u64_saturate (swaps + swaps_in rest) ≡ u64_saturate (start.swaps + swaps_in findings) → u64_saturate (faults + faults_in rest) ≡ u64_saturate (start.faults + faults_in findings)
+    → counted (record { swaps = swaps; faults = faults }) [] ≡ counted start findings
+counted_all start findings rest swaps faults none s f =
+    let one : u64_saturate (swaps + swaps_in []) ≡ u64_saturate (start.swaps + swaps_in findings) = ap (λ (l : List Finding). u64_saturate (swaps + swaps_in l)) (sym (none_left rest none)) ∙ s in
+    let other : u64_saturate (faults + faults_in []) ≡ u64_saturate (start.faults + faults_in findings) = ap (λ (l : List Finding). u64_saturate (faults + faults_in l)) (sym (none_left rest none)) ∙ f in
+    cc

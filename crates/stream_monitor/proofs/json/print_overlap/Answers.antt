@@ -1,0 +1,4 @@
+use Rattle.stream_monitor.proofs.json.print_overlap.Goals as goal
+
+pub returns : goal.returns
+returns g c = c.write.ensures.bytes

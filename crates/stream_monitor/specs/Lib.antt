@@ -1,0 +1,10 @@
+pub mod Checking
+pub mod Clock
+pub mod Decided
+pub mod Findings
+pub mod Hints
+pub mod Json
+pub mod Lines
+pub mod Moments
+pub mod Streaming
+pub mod Text

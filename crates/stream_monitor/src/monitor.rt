@@ -1,0 +1,227 @@
+//! Checks a stream of FIBs as its bytes come.
+
+ghost use Rattle.std.specs.Prelude.{◌≡◌, ◌<◌, ◌%◌, ◌&&◌, ◌==◌, nat_lt, ℕ, List, Option, [], length, IfOk, OnOk, IfSome};
+ghost use Rattle.std.specs.Io.KnownBytes.{Appends, IsAtEnd};
+ghost use Rattle.stream_check.specs.Frames.{Reading};
+ghost use Rattle.stream_check.specs.Following.{Follows};
+ghost use Rattle.stream_check.specs.Reported.{Unknown};
+ghost use Rattle.stream_monitor.specs.Checking.{HasReadAll, StopsAtFib, StopsAtPiece};
+ghost use Rattle.stream_monitor.specs.Decided.{finding_lines, is_due};
+
+use crate::ending::Ending;
+use crate::ends::Ends;
+use crate::line::{Cause, Form, Line, Totals};
+use crate::options::CheckOptions;
+use crate::stash::Stash;
+use crate::tally::{Tally, counted, no_tally};
+use console::files::FileFault;
+use stream_check::{CheckFault, Checker, Finding, Summary};
+
+/// More pieces than any stream has, of which each but the last has a FIB.
+const MOST_PIECES: u64 = 1 << 50;
+
+/// Why a check does not come to its end.
+#[derive(Clone, Copy, Debug, PartialEq, Eq)]
+pub enum Stop {
+    /// The input failed.
+    Read(FileFault),
+    /// The output failed. Nothing more is printed.
+    Write,
+    /// A frame has more than 1,024 findings, for which there is no room; none has.
+    Memory,
+}
+
+/// A check between FIBs.
+#[derive(Drop)]
+pub(crate) struct State {
+    checker: Checker,
+    tally: Tally,
+}
+
+/// Before the first FIB.
+fn start(options: CheckOptions) -> State
+    ensures checker { (r : Reading)
+        → Follows r options.mode options.period [] Unknown Unknown result.checker }
+    ensures tally { result.tally ≡ record { swaps = 0; faults = 0 } }
+{
+    State {
+        checker: Checker::new(options.mode, options.period),
+        tally: no_tally(),
+    }
+}
+
+/// The totals with these numbers of frames and FIBs.
+fn totals_of(tally: Tally, summary: Summary) -> Totals
+    ensures { result ≡ record { summary = summary; swaps = tally.swaps; faults = tally.faults } }
+{
+    Totals {
+        summary,
+        swaps: tally.swaps,
+        faults: tally.faults,
+    }
+}
+
+/// Checks a stream of FIBs as it comes: for each frame that its bytes decide the findings are printed, a line each, and
+/// the totals so far where they are due. Before more input is requested, the output has taken all these lines.
+/// Returns how the check ends, which is its last line and is not printed here.
+///
+/// # Errors
+///
+/// `Read` if the input failed; `Write` if the output failed, after which nothing is printed; `Memory` if a frame has
+/// more than 1,024 findings, which none has.
+#[tactic(auto, using(crate::proofs::Stopping::stopped_reading))]
+pub fn check_stream<E: Ends>(options: CheckOptions, ends: &mut E) -> Result<Ending, Stop>
+    ensures all { IfOk result (λ ending. HasReadAll options ending (E.left ends.new)) }
+{
+    let mut state = start(options);
+    let mut stash = Stash::new();
+    match ends.flush() {
+        Ok(()) => {}
+        Err(_) => return Err(Stop::Write),
+    }
+    for _ in 0..MOST_PIECES {
+        match ends.next() {
+            Ok(true) => {}
+            Ok(false) => {
+                ends.end();
+                return Ok(finish(options, &state));
+            }
+            Err(fault) => return Err(Stop::Read(fault)),
+        }
+        match check_piece(options, &mut state, &mut stash, ends) {
+            Ok(None) => ends.look(),
+            Ok(Some(ending)) => {
+                ends.look();
+                ends.end();
+                return Ok(ending);
+            }
+            Err(stop) => return Err(stop),
+        }
+        match ends.flush() {
+            Ok(()) => {}
+            Err(_) => return Err(Stop::Write),
+        }
+    }
+    Err(Stop::Read(FileFault::Failed))
+}
+
+/// Checks the FIBs of a piece, and returns the end of the check if it comes with them.
+#[tactic(auto, using(crate::proofs::Stopping::stops_in_piece))]
+fn check_piece<E: Ends>(
+    options: CheckOptions,
+    state: &mut State,
+    stash: &mut Stash,
+    ends: &mut E,
+) -> Result<Option<Ending>, Stop>
+    ensures ended { IfOk result (λ e. IfSome e (StopsAtPiece options (E.piece ends.old))) }
+    ensures left { E.left ends.new ≡ E.left ends.old }
+{
+    let len = ends.piece().len();
+    let mut number = 0;
+    while number < len / 32 {
+        let fib = ends.fib(number);
+        match check_fib(options, state, stash, &fib, ends) {
+            Ok(None) => number += 1,
+            Ok(Some(ending)) => return Ok(Some(ending)),
+            Err(stop) => return Err(stop),
+        }
+    }
+    if len % 32 > 0 {
+        return Ok(Some(Ending::Refused(Cause::NotWhole)));
+    }
+    Ok(None)
+}
+
+/// Checks a FIB, prints the lines of the frame that it ends, if it ends one, and returns the end of the check if it
+/// comes with it.
+fn check_fib<E: Ends>(
+    options: CheckOptions,
+    state: &mut State,
+    stash: &mut Stash,
+    fib: &[u8; 32],
+    ends: &mut E,
+) -> Result<Option<Ending>, Stop>
+    ensures ended { IfOk result (λ e. IfSome e (StopsAtFib options)) }
+    ensures left { E.left ends.new ≡ E.left ends.old }
+    ensures piece { E.piece ends.new ≡ E.piece ends.old }
+{
+    stash.clear();
+    let heard = state.checker.hear(fib, stash);
+    match stash.findings() {
+        Some(findings) => match print_findings(options.form, findings, ends) {
+            Ok(()) => state.tally = counted(state.tally, findings),
+            Err(stop) => return Err(stop),
+        },
+        None => return Err(Stop::Memory),
+    }
+    match heard {
+        Ok(false) => Ok(None),
+        Ok(true) => end_frame(options, state, ends),
+        Err(CheckFault::Full) => Ok(Some(Ending::Refused(Cause::Full))),
+        Err(CheckFault::TooLong) => Ok(Some(Ending::Refused(Cause::TooLong))),
+    }
+}
+
+/// Prints findings, a line each.
+fn print_findings<E: Ends>(form: Form, findings: &[Finding], ends: &mut E) -> Result<(), Stop>
+    ensures printed { OnOk result
+        (Appends (E.printed ends.old) (E.printed ends.new) (finding_lines form findings.now)) }
+    ensures left { E.left ends.new ≡ E.left ends.old }
+    ensures piece { E.piece ends.new ≡ E.piece ends.old }
+{
+    let mut rest = findings;
+    while let Some((finding, after)) = rest.split_first() {
+        match ends.print(form, &Line::Found(*finding)) {
+            Ok(()) => rest = after,
+            Err(_) => return Err(Stop::Write),
+        }
+    }
+    Ok(())
+}
+
+/// Whether totals are printed after this many frames.
+fn is_due(every: Option<u32>, frames: u64) -> bool
+    ensures { result ≡ is_due every frames }
+{
+    match every {
+        Some(every) => {
+            let every = u64::from(every);
+            every > 0 && frames % every == 0
+        }
+        None => false,
+    }
+}
+
+/// Ends a frame: prints the totals so far, if they are due, and returns the end of the check if it ends with a fault
+/// that was found.
+fn end_frame<E: Ends>(
+    options: CheckOptions,
+    state: &State,
+    ends: &mut E,
+) -> Result<Option<Ending>, Stop>
+    ensures ended { IfOk result (λ e. IfSome e (StopsAtFib options)) }
+    ensures left { E.left ends.new ≡ E.left ends.old }
+    ensures piece { E.piece ends.new ≡ E.piece ends.old }
+{
+    let totals = totals_of(state.tally, state.checker.decided());
+    if is_due(options.every, totals.summary.frames) {
+        match ends.print(options.form, &Line::Alive(totals)) {
+            Ok(()) => {}
+            Err(_) => return Err(Stop::Write),
+        }
+    }
+    if options.until_fault && totals.faults > 0 {
+        return Ok(Some(Ending::Counted(totals)));
+    }
+    Ok(None)
+}
+
+/// The end of a check at the end of its stream.
+fn finish(options: CheckOptions, state: &State) -> Ending
+    ensures { (left : Option (List ℕ)) → IsAtEnd left → HasReadAll options result left }
+{
+    match state.checker.finish() {
+        Some(summary) => Ending::Counted(totals_of(state.tally, summary)),
+        None => Ending::Refused(Cause::NoEnsemble),
+    }
+}
