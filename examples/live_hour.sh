@@ -5,6 +5,7 @@
 #   examples/live_hour.sh [FRAME]     kills it when the lines have reached this frame, default 60000
 set -euo pipefail
 dabplan=$(cd "$(dirname "$0")/.." && pwd)/dabplan
+if [ ! -f "$dabplan" ]; then dabplan=dabplan; fi
 code=$(cd "$(dirname "$0")" && pwd)/contact_lowers_a_rate.code
 killed=${1:-60000}
 hour=150000

@@ -1,7 +1,9 @@
 #!/usr/bin/env python3
-"""'dabplan check': its findings in valid and invalid streams of FIBs, and refused files. The last line is 'N
-passed, M failed'."""
+"""'dabplan check': its findings in valid and invalid streams of FIBs, as text and as JSON, its options, refused files, and
+lines that come as a stream is fed. The last line is 'N passed, M failed'."""
 import pathlib
+import subprocess
+import threading
 import rows
 from listen import crc, stream
 from rows import hexadecimal
@@ -82,7 +84,7 @@ def broken_announcements(rows):
         (run(40, after=(AT_96, OTHER_RADIO)), "4 4 announced 1 swap at low 28\n28 28 swap\n"
                                               "28 28 fault: flags 1, but 3 changes\n" + last.format(1)),
     ):
-        rows.answers("check x.fib", 1, first + wanted, {"x.fib": data})
+        rows.answers("check x.fib", 3, first + wanted, {"x.fib": data})
 
 
 def refusals(rows):
@@ -114,9 +116,253 @@ def a_real_stream(rows):
     at = next(at for at in range(606, len(data) // 32) if old in data[32 * at:32 * at + 32])
     number = (at - 6) // 3
     first, last = wanted.splitlines()
-    rows.answers("check x.fib", 1, f"{first}\n{number} {4460 + number} fault: changed: sub 63\n{last[:-1]}1\n",
+    rows.answers("check x.fib", 3, f"{first}\n{number} {4460 + number} fault: changed: sub 63\n{last[:-1]}1\n",
                  {"x.fib": changed(data, 606, old, new)})
 
 
+# ---- the table of faults
+
+# Service E1C2 0001 (long), service C222, and packet component 5 in sub-channel 1, at two addresses.
+LONG, OTHER_LONG = "22 E1 C2 00 01 01 3F 06", "22 E1 C2 00 01 01 05 06"
+SECOND = "02 C2 22 01 3F 06"
+PACKET, OTHER_PACKET = "03 00 50 3C 04 01", "03 00 50 3C 04 02"
+
+
+def air(frames, alter=None, entries=(AT_128, RADIO)):
+    """Frames of mode I from count 0 on, all entries in each. `alter` gives the FIGs and next FIGs of a count."""
+    out = b""
+    for count in range(frames):
+        figs = ([ensemble(count)] if count % 4 == 0 else []) + [fig(entry) for entry in entries]
+        figs, following = alter(count, figs) if alter else (figs, [])
+        out += frame(figs, following)
+    return out
+
+
+def without(data, number):
+    """A stream without the FIB of this number."""
+    return data[:32 * number] + data[32 * number + 32:]
+
+
+def damaged(data, number):
+    """A stream in which the CRC of the FIB of this number is wrong."""
+    at = 32 * number + 31
+    return data[:at] + bytes([data[at] ^ 1]) + data[at + 1:]
+
+
+def heard_in(data, counts):
+    """A stream whose frames have no next entries but at these counts."""
+    return b"".join(data[at:at + 32] + (data[at + 32:at + 64] if at // 96 in counts else stream("FF")) + data[at + 64:at + 96]
+                    for at in range(0, len(data), 96))
+
+
+def at(place, figs, following=()):
+    """These FIGs at one count, and the usual ones at all others."""
+    return lambda count, usual: (figs, list(following)) if count == place else (usual, [])
+
+
+def entries_from(place, entries):
+    """Other entries from a count on."""
+    def alter(count, usual):
+        if count < place:
+            return usual, []
+        return ([ensemble(count)] if count % 4 == 0 else []) + [fig(entry) for entry in entries], []
+    return alter
+
+
+def announced_from(place, following, low=100, flags=1):
+    """From a count on a notice without an end, with these next entries at each count, by a function."""
+    def alter(count, usual):
+        if count < place:
+            return usual, []
+        figs = [ensemble(count, flags, low)] if count % 4 == 0 else []
+        return figs + [fig(AT_128), fig(RADIO)], [fig(entry, True) for entry in following(count)]
+    return alter
+
+
+def faults_table():
+    """For each fault a stream, options, its findings after the first line, as text and as fields, and frames, damaged FIBs,
+    swaps."""
+    begun = (4, 4, "announced 1 swap at low 28", ',"change":1,"low":28')
+    swapped = (28, 28, "swap", "")
+    usual = [fig(AT_128), fig(RADIO)]
+    yield without(air(8), 11), "", [(3, 3, "fault: frame of 2 FIBs", ',"fault":"short-frame","fibs":2')], (8, 0, 0)
+    yield damaged(air(8), 4), "", [(1, 1, "fault: damaged 1", ',"fault":"damaged","fibs":1')], (8, 1, 0)
+    yield air(8, at(4, usual)), "", [(4, 4, "fault: FIG 0/0 is missing", ',"fault":"no-ensemble"')], (8, 0, 0)
+    yield (air(8, at(4, [ensemble(4, eid="E1C6"), *usual])), "",
+           [(4, 4, "fault: ensemble E1C6", ',"fault":"other-ensemble","eid":"E1C6"')], (8, 0, 0))
+    yield (air(8, at(4, [ensemble(8), *usual])), "",
+           [(4, 8, "fault: count: 4 was due", ',"fault":"count","due":4')], (8, 0, 0))
+    yield (air(4, at(1, [*usual, ensemble(1)])), "",
+           [(1, 1, "fault: FIG 0/0 out of place", ',"fault":"out-of-place"')], (4, 0, 0))
+    yield (run(24, moved=(16, 32)), "",
+           [begun, (16, 16, "fault: announced again: 1 at low 32", ',"fault":"announced-again","change":1,"low":32')],
+           (24, 0, 0))
+    yield (air(8, announced_from(4, lambda count: (), low=251)), "",
+           [(4, 4, "announced 1 swap at low 251", ',"change":1,"low":251'),
+            (4, 4, "fault: no swap can fall at low 251", ',"fault":"no-swap-at","low":251')], (8, 0, 0))
+    yield (air(4, at(0, [ensemble(0), *usual], [fig(AT_96, True)])), "",
+           [(0, 0, "fault: next without change flags", ',"fault":"next-unannounced"')], (4, 0, 0))
+    for before, after, text, field in ((AT_128, AT_96, "sub 1", ',"sub":1'), (RADIO, OTHER_RADIO, "service C221", ',"service":"C221"'),
+                                       (LONG, OTHER_LONG, "service E1C20001", ',"service":"E1C20001"'),
+                                       (PACKET, OTHER_PACKET, "packet 5", ',"packet":5')):
+        yield (air(6, entries_from(5, [after]), [before]), "",
+               [(5, 5, f"fault: changed: {text}", f',"fault":"changed"{field}')], (6, 0, 0))
+        yield (air(6, announced_from(4, lambda count, one=before, other=after: [one if count == 4 else other])), "",
+               [(4, 4, "announced 1 swap at low 100", ',"change":1,"low":100'),
+                (5, 5, f"fault: next changed: {text}", f',"fault":"next-changed"{field}')], (6, 0, 0))
+        yield (air(6, entries_from(5, [SECOND, before]), [SECOND]), " --period 4",
+               [(5, 5, f"fault: appeared: {text}", f',"fault":"appeared"{field}')], (6, 0, 0))
+        yield (air(8, entries_from(2, [SECOND]), [SECOND, before]), " --period 4",
+               [(5, 5, f"fault: silent: {text}", f',"fault":"silent"{field}')], (8, 0, 0))
+    yield (run(40, low=32), "",
+           [(4, 4, "announced 1 swap at low 32", ',"change":1,"low":32'), swapped,
+            (28, 28, "fault: announced for low 32", ',"fault":"announced-for","low":32')], (40, 0, 1))
+    yield (run(40, first=20), "", [(20, 20, *begun[2:]), swapped, (28, 28, "fault: announced 2 times", ',"fault":"announced-times","times":2')],
+           (40, 0, 1))
+    yield (heard_in(run(40), (8, 9)), "",
+           [begun, swapped, (28, 28, "fault: next heard 2 times", ',"fault":"next-heard","times":2')], (40, 0, 1))
+    yield (run(40, after=(AT_96, OTHER_RADIO)), "",
+           [begun, swapped, (28, 28, "fault: flags 1, but 3 changes", ',"fault":"flags","change":1,"changes":3')], (40, 0, 1))
+    overlapping = "01 08 32 88 60"  # sub-channel 2 at 50, in the middle of sub-channel 1
+    yield (run(40, before=(AT_128, RADIO), after=(AT_128, overlapping, RADIO)), "",
+           [begun, swapped, (28, 28, "fault: overlap 1 2", ',"fault":"overlap","subs":[1,2]')], (40, 0, 1))
+    late = "01 07 20 88 60"  # sub-channel 1 at 800, of 96 capacity units
+    yield (run(40, after=(late, RADIO)), "",
+           [begun, swapped, (28, 28, "fault: past the end: 1", ',"fault":"past-end","sub":1')], (40, 0, 1))
+
+
+def line_of(found, json):
+    """A finding as a line of text or JSON."""
+    number, count, text, fields = found
+    if json:
+        kind = "fault" if text.startswith("fault: ") else text.split()[0]
+        return f'{{"kind":"{kind}","frame":{number},"count":{count}{fields}}}\n'
+    return f"{number} {count} {text}\n"
+
+
+def totals(frames, damaged_fibs, swaps, faults, json, kind="summary", left_over=0):
+    """A line of totals as text or JSON."""
+    if json:
+        return (f'{{"kind":"{kind}","frames":{frames},"skipped":0,"left_over":{left_over},"damaged":{damaged_fibs},'
+                f'"swaps":{swaps},"faults":{faults}}}\n')
+    return (("alive " if kind == "alive" else "") + f"frames {frames} skipped 0 left over {left_over} damaged {damaged_fibs} "
+            f"swaps {swaps} faults {faults}\n")
+
+
+FIRST = (0, 0, "ensemble E1C5", ',"eid":"E1C5"')
+
+
+def each_fault(rows):
+    """Each fault, as text and as JSON."""
+    for data, words, findings, (frames, bad, swaps) in faults_table():
+        faults = sum(text.startswith("fault: ") for _, _, text, _ in findings)
+        for json in (False, True):
+            wanted = "".join(line_of(found, json) for found in [FIRST, *findings]) + totals(frames, bad, swaps, faults, json)
+            rows.answers("check x.fib" + words + (" --json" if json else ""), 3, wanted, {"x.fib": data})
+
+
+def options(rows):
+    """--every, --time, --until-fault and --json; modes and periods."""
+    data = without(air(8), 11)
+    fault = (3, 3, "fault: frame of 2 FIBs", ',"fault":"short-frame","fibs":2')
+    for json in (False, True):
+        words = " --json" if json else ""
+        lines = [line_of(FIRST, json), line_of(fault, json)]
+        alive = [totals(frames, 0, 0, int(frames > 3), json, "alive") for frames in (3, 6)]
+        end = totals(8, 0, 0, 1, json)
+        rows.answers("check x.fib --every 3" + words, 3, lines[0] + alive[0] + lines[1] + alive[1] + end, {"x.fib": data})
+        # Nothing after the first frame with a fault is checked, be it no FIB at all.
+        rows.answers("check x.fib --until-fault --every 2" + words, 3, "".join(
+            [lines[0], totals(2, 0, 0, 0, json, "alive"), lines[1], totals(4, 0, 0, 1, json, "alive"), totals(4, 0, 0, 1, json)]),
+            {"x.fib": data + b"no FIB"})
+        rows.answers("check x.fib --until-fault" + words, 0, lines[0] + totals(8, 0, 0, 0, json), {"x.fib": air(8)})
+    # The time of a frame is 24 ms after that of the one before, over midnight.
+    rows.answers("check x.fib --time 23:59:59", 3, "23:59:59.000 0 0 ensemble E1C5\n00:00:00.008 42 42 fault: damaged 1\n"
+                 + totals(44, 1, 0, 1, False), {"x.fib": damaged(air(44), 127)})
+    rows.answers("check x.fib --time 21:59:54 --json", 0, '{"kind":"ensemble","time":"21:59:54.000","frame":0,"count":0,"eid":"E1C5"}\n'
+                 + totals(8, 0, 0, 0, True), {"x.fib": air(8)})
+    # In mode II every frame has a FIG 0/0, in mode III frames have four FIBs, in mode IV every other frame has one.
+    for mode, fibs, step in ((2, 3, 1), (3, 4, 1), (4, 3, 2)):
+        data = b"".join(stream(" ".join([*([ensemble(count)] if count % step == 0 else []), fig(AT_128), "FF"]), *["FF"] * (fibs - 1))
+                        for count in range(8))
+        rows.answers(f"check x.fib --mode {mode}", 0, line_of(FIRST, False) + totals(8, 0, 0, 0, False), {"x.fib": data})
+    # The same stream of mode IV in mode I: its FIG 0/0 at counts 2 and 6 are out of place.
+    rows.answers("check x.fib --mode 1", 3, "".join(line_of(found, False) for found in (
+        FIRST, (2, 2, "fault: FIG 0/0 out of place", ""), (6, 6, "fault: FIG 0/0 out of place", ""))) + totals(8, 0, 0, 2, False),
+        {"x.fib": data})
+    # With a longer period the same entry is not silent yet.
+    silent = air(8, entries_from(2, [SECOND]), [SECOND, AT_128])
+    rows.answers("check x.fib --period 7", 0, line_of(FIRST, False) + totals(8, 0, 0, 0, False), {"x.fib": silent})
+    # A fault in the last of 2,800 frames, behind the first 262,144 bytes.
+    far = damaged(air(2800), 8397)
+    rows.answers("check x.fib", 3, line_of(FIRST, False) + "2799 2799 fault: damaged 1\n" + totals(2800, 1, 0, 1, False), {"x.fib": far})
+
+
+def full(rows):
+    """A stream whose current configuration would get a 65th service."""
+    services = [fig(f"02 D0 {number:02X} 01 3F 06") for number in range(65)]
+    groups = [" ".join([*services[at:at + 4], "FF"]) for at in range(0, 72, 4)]
+    data = b"".join(stream(" ".join([*([ensemble(count)] if count % 4 == 0 else []), "FF"]), *groups[2 * count:2 * count + 2])
+                    for count in range(9))
+    rows.answers("check x.fib", 1, "0 0 ensemble E1C5\nrefused: Full\n", {"x.fib": data + stream("FF")})
+    rows.answers("check x.fib --json", 1, '{"kind":"ensemble","frame":0,"count":0,"eid":"E1C5"}\n{"kind":"refused","cause":"Full"}\n',
+                 {"x.fib": data + stream("FF")})
+
+
+def hints(rows):
+    """Files that are no streams of FIBs: a line on standard error, once, whatever is printed."""
+    plain = "x.fib: no whole FIB: 32 bytes each are expected"
+    eti = " (ETI: its FIC is taken out by examples/bridge)"
+    for data, hint in (
+        (b"\0" * 32, plain), (b"\0" * 100, plain), (b"\0", plain),
+        (bytes([255]) + hexadecimal("073AB6") + b"\0" * 60, plain + eti), (b"\0" * 3 + hexadecimal("F8C549") + b"\0" * 60, plain + eti),
+        (b"05 00 E1 c5\r\n" * 8, plain + " (hexadecimal text: xxd -r -p)"),
+        (b"\0" * 32 * 2048 + stream("FF"), plain),
+    ):
+        for command in ("check x.fib", "check x.fib --json", "listen x.fib", "listen x.fib --json"):
+            ended = rows.run(command, {"x.fib": data})
+            rows.tally.same(f"dabplan {command}, a hint", hint.encode() + b"\n", ended.messages)
+    for data in (b"", stream("FF"), b"\0" * 32 + stream("FF"), b"\0" * 32 * 2047 + stream("FF")):
+        rows.tally.same("no hint", b"", rows.run("check x.fib", {"x.fib": data}).messages)
+
+
+def json_refusals(rows):
+    """Refusals and failures as JSON."""
+    for words, wanted, files in (
+        ("check x.fib --json", '{"kind":"refused","cause":"no ensemble"}\n', {"x.fib": b""}),
+        ("check x.fib --json", '{"kind":"refused","cause":"not whole FIBs"}\n', {"x.fib": stream("FF") + b"\0"}),
+        (["check", 'a"b\\c', "--json"], '{"kind":"refused","cause":"cannot read a\\"b\\\\c"}\n', {}),
+        (["check", "a\n\t\x01\x7f\u00e9", "--json"], '{"kind":"refused","cause":"cannot read a\\n\\t\\u0001\x7f\u00e9"}\n', {}),
+    ):
+        rows.answers(words, 1, wanted, files)
+
+
+def lines_as_they_come(rows):
+    """Over a pipe that is fed frame by frame, each line is read at the other end before the next frame is fed."""
+    data = run(40, low=32)
+    wanted = {0: ["0 0 ensemble E1C5"], 4: ["4 4 announced 1 swap at low 32"], 28: ["28 28 swap", "28 28 fault: announced for low 32"]}
+    program = subprocess.Popen([rows.program, "check", "-", "--every", "20"], stdin=subprocess.PIPE, stdout=subprocess.PIPE, cwd=rows.folder)
+    guard = threading.Timer(120, program.kill)  # a program that holds its lines back would wait for ever
+    guard.start()
+    read = {}
+    for count in range(40):
+        # In three parts, which cut FIBs.
+        for front, back in ((0, 40), (40, 90), (90, 96)):
+            program.stdin.write(data[96 * count + front:96 * count + back])
+            program.stdin.flush()
+        lines = list(wanted.get(count, []))
+        if count in (19, 39):
+            lines.append(totals(count + 1, 0, int(count > 28), int(count > 28), False, "alive").strip())
+        if lines:
+            read[count] = (lines, [program.stdout.readline().decode().strip() for _ in lines])
+    program.stdin.close()
+    last = program.stdout.read().decode()
+    guard.cancel()
+    for count, (lines, got) in read.items():
+        rows.tally.same(f"lines after frame {count}", lines, got)
+    rows.tally.same("the last line", (totals(40, 0, 1, 1, False), 3), (last, program.wait()))
+
+
 if __name__ == "__main__":
-    rows.main([good_streams, broken_announcements, refusals, a_real_stream])
+    rows.main([good_streams, broken_announcements, each_fault, options, full, refusals, json_refusals, hints, lines_as_they_come,
+               a_real_stream])

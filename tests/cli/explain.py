@@ -63,9 +63,22 @@ def faults(rows):
         (after("comit in 250"), "7:1: Expected", "x.plan:7:1: expected a statement or the end of the script; found 'comit'",
          "    comit in 250", "    ^", "hint: write 'commit'"),
         (after("forever {\n  wait 5"), "9:1: Expected",
-         "x.plan:9:1: expected a statement or '}'; the script ends here", "    ", "    ^"),
+         "x.plan:9:1: expected a statement or '}'; the script ends here", "    ", "    ^",
+         "hint: the brace opened in line 7 is not closed"),
+        (after("wait contact 5 on"), "7:16: Expected",
+         "x.plan:7:16: expected 'closed' or 'open'; found 'on'", "    wait contact 5 on", "                   ^",
+         "hint: write 'closed' where the input's circuit is closed, 'open' where it is not"),
+        (f"{HEAD}service E20\n", "6:9: Number", f"x.plan:6:9: expected {SID}; found 'E20'",
+         "    service E20", "            ^"),
         (after("wait 5, 6"), "7:7: Byte", "x.plan:7:7: the byte 2C is not allowed in a script outside comments",
          "    wait 5, 6", "          ^",
+         "hint: letters, digits, '_', ':', '-', '{', '}', blanks and ';' are allowed there; '#' begins a comment"),
+        (after("wait 5, 6\r\nwait 7\r"), "7:7: Byte", "x.plan:7:7: the byte 2C is not allowed in a script outside comments",
+         "    wait 5, 6", "          ^",
+         "hint: letters, digits, '_', ':', '-', '{', '}', blanks and ';' are allowed there; '#' begins a comment"),
+        (after(" " * 300 + "wait 5, 6" + " " * 300), "7:307: Byte",
+         "x.plan:7:307: the byte 2C is not allowed in a script outside comments",
+         "    " + " " * 74 + "wait 5, 6" + " " * 77, "    " + " " * 80 + "^",
          "hint: letters, digits, '_', ':', '-', '{', '}', blanks and ';' are allowed there; '#' begins a comment"),
         (after("apply night"), "7:7: NameUnknown", "x.plan:7:7: 'night' is not the name of a block that is defined before",
          "    apply night", "          ^",
@@ -75,7 +88,7 @@ def faults(rows):
          "hint: give one of both another name"),
         (after("if contact 1 " + "{ repeat 2 " * 16 + "{ }"), "7:190: Depth",
          "x.plan:7:190: '{' would be more than 16 braces deep",
-         "    " + ("if contact 1 " + "{ repeat 2 " * 16 + "{ }")[:160],
+         "    " + ("if contact 1 " + "{ repeat 2 " * 16 + "{ }")[109:], "    " + " " * 80 + "^",
          "hint: put an inner block into a 'define' and 'apply' it"),
         (after("apply " + "a" * 33), "7:7: Limit", "x.plan:7:7: a token of 33 bytes; the longest has 32",
          "    apply " + "a" * 33, "          ^"),
@@ -102,6 +115,10 @@ def edits(rows):
         (after("drop component sub 2 in C221"), "refused line 7: Edit IdAbsent",
          "x.plan:7: service C221 (audio 63 sub 1) has no component on sub 2", "hint: name one that it has"),
         (after("drop service C222"), "refused line 7: Edit IdAbsent",
+         "x.plan:7: service C222 is not there", "hint: the services there are C221"),
+        (after("drop component sub 1 in C222"), "refused line 7: Edit IdAbsent",
+         "x.plan:7: service C222 is not there", "hint: the services there are C221"),
+        (after("data 5 sub 1 in C222"), "refused line 7: Edit IdAbsent",
          "x.plan:7: service C222 is not there", "hint: add it first, as 'service C222' does"),
         (after("move sub 1 at 800"), "refused line 7: Edit PastEnd",
          "x.plan:7: sub 1 at 800 eep 3-A 128 has 96 CU, so CU 800 to 895; the last one is 863",
@@ -202,6 +219,66 @@ def ways(rows):
         explained(rows, script, first, *rest)
 
 
+def branches(rows):
+    """Refusals behind an `if`: what is told was done on the path to the refused line, and not in the other branch."""
+    pending = "rate sub 1 96\ncommit in 250\nif contact 3 {\n  join\n  rate sub 1 128\n  commit in 250\n"
+    swap = "a swap is pending that comes after 250 to 253 frames, by the commit in line 8; until then the next configuration"
+    hint = "hint: 'join' after the commit in line 8, or 'settle' before this line"
+    two = f"{HEAD}sub 2 at 200 eep 3-A 64\n"
+    for script, first, *rest in (
+        (after(pending + "} else {\n  rate sub 1 80\n}"), "refused line 14: Pending",
+         f"x.plan:14: {swap} stays as it is", hint),
+        (after(pending + "  end\n}\nrate sub 1 80"), "refused line 15: Pending",
+         f"x.plan:15: {swap} stays as it is", hint),
+        (after(pending + "  join\n  end\n}\nrate sub 1 80"), "refused line 16: Pending",
+         f"x.plan:16: {swap} stays as it is", hint),
+        (after("if contact 3 {\n  rate sub 1 96\n  commit in 250\n} else {\n  rate sub 1 96\n  commit in 250\n}\nrate sub 1 80"),
+         "refused line 14: Pending",
+         "x.plan:14: a swap is pending that comes after 250 to 253 frames; until then the next configuration stays as it is",
+         "hint: 'settle' before this line"),
+        (after("if contact 3 {\n  sub 2 at 200 eep 3-A 64\n  drop sub 2\n} else {\n  drop sub 2\n}"),
+         "refused line 11: Edit IdAbsent", "x.plan:11: sub 2 is not there", "hint: the sub-channels there are 1"),
+        (after("if contact 3 {\n  drop sub 2\n  sub 2 at 200 eep 3-A 64\n} else {\n  sub 2 at 300 eep 3-A 64\n}", two),
+         "refused line 12: Edit IdUsed",
+         "x.plan:12: sub 2 at 200 eep 3-A 64 is there already; line 6 added it",
+         "hint: 'drop' it first, or take another number"),
+    ):
+        explained(rows, script, first, *rest)
+
+
+def loops(rows):
+    """Loops that begin with a swap pending, and iterations without a wait."""
+    entered = "rate sub 1 96\ncommit in 250\nforever {\n  wait 1\n"
+    hint = "hint: 'join' or 'settle' before line 9: the loop would begin with no swap pending"
+    for script, first, *rest in (
+        (after(entered + "}"), "refused line 9: Mismatch",
+         "x.plan:9: the loop does not come back as it began: a swap is pending that comes after 249 to 252 frames at its end; a"
+         " swap is pending that comes after 250 to 253 frames at its beginning", hint),
+        (after(entered + "  join\n}"), "refused line 9: Mismatch",
+         "x.plan:9: the loop does not come back as it began: no swap is pending at its end; a swap is pending that comes after"
+         " 250 to 253 frames at its beginning", hint),
+        (after(entered + "  settle\n}"), "refused line 9: Mismatch",
+         "x.plan:9: the loop does not come back as it began: no swap is pending at its end; a swap is pending that comes after"
+         " 250 to 253 frames at its beginning", hint),
+        (after("rate sub 1 96\ncommit in 250\nwait contact 3 closed\nforever {\n  wait 1\n}"), "refused line 10: Mismatch",
+         "x.plan:10: the loop does not come back as it began: a swap may be pending, that comes after 251 frames at most at its"
+         " end; a swap may be pending, that comes after 252 frames at most at its beginning",
+         "hint: 'settle' before line 10: the loop would begin with no swap pending"),
+        (after("rate sub 1 96\ncommit in 250\nforever {\n  join\n  rate sub 1 128\n  commit in 240\n  wait 1\n}"),
+         "refused line 9: Mismatch",
+         "x.plan:9: the loop does not come back as it began: a swap is pending that comes after 239 to 242 frames at its end; a"
+         " swap is pending that comes after 250 to 253 frames at its beginning",
+         "hint: 'join' or 'settle' before line 9, and 'settle' at the end of the loop: no swap would be pending at either"),
+        (after("repeat 2 {\n  move sub 1 at 200\n  move sub 1 at 0\n}"), "refused line 7: Cost",
+         "x.plan:7: an iteration of the loop of lines 7 to 10 can run without a wait: that is refused, however few iterations it"
+         " has", "hint: a 'wait 1' in the loop, on each path through it"),
+        (after("forever {\n  if contact 3 {\n    wait 1\n    wait 2\n  }\n}"), "refused line 7: Cost",
+         "x.plan:7: the loop of lines 7 to 12 can repeat without a wait, so that its instructions in one frame have no bound",
+         "hint: a 'wait 1' in the loop, on each path through it"),
+    ):
+        explained(rows, script, first, *rest)
+
+
 def costs(rows):
     """Budgets and periods that are too small."""
     moves = "".join(f"move sub 1 at {n}\n" for n in (10, 20, 30, 40, 50))
@@ -211,7 +288,7 @@ def costs(rows):
         (long, "refused line 8: Cost", "x.plan:8: the longest path runs 8 instructions in one frame; the budget is 6",
          "hint: a budget of 8, or a 'wait 1' between the instructions that follow this line"),
         (after("forever {\n  if contact 3 { wait 1 }\n}"), "refused line 7: Cost",
-         "x.plan:7: the loop of lines 7 to 8 can repeat without a wait, so that its instructions in one frame have no bound",
+         "x.plan:7: the loop of lines 7 to 9 can repeat without a wait, so that its instructions in one frame have no bound",
          "hint: a 'wait 1' in the loop, on each path through it"),
         (HEAD.replace("period 4", "period 1") + f"{many}begin\n", "refused line 90: Round",
          "x.plan:90: the configuration takes 4 pages, a frame each; the period is 1 frames",
@@ -321,4 +398,4 @@ def accepted(rows):
 
 
 if __name__ == "__main__":
-    rows.main([faults, edits, configurations, swaps, ways, costs, limits, first_mistakes, codes, accepted])
+    rows.main([faults, edits, configurations, swaps, ways, branches, loops, costs, limits, first_mistakes, codes, accepted])

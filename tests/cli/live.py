@@ -55,6 +55,61 @@ def a_plan_ends(rows):
         live(rows, NOTHING_FILE, b"frames 1\nframes 2\n", f"{options} --status", 0, wanted, reported)
 
 
+def frames_are_reported(rows):
+    """`--every N`: the last of each N frames, after the other messages of it, skipped ones too."""
+    wanted = played(rows, RATES_FILE, " ".join(LINES))
+    lines = "\n".join(LINES).encode()
+    for every in (1, 7, 29, 70):
+        reported = "".join(f"frame {n} count {n}\n" for n in range(every - 1, 70, every))
+        live(rows, RATES_FILE, lines, f"--every {every}", 0, wanted, reported)
+        live(rows, RATES_FILE, lines, f"--every {every} --skip 8", 0, wanted[96 * 8:], reported)
+    for every in (71, 4294967295):
+        live(rows, RATES_FILE, lines, f"--every {every}", 0, wanted, "")
+    first, second, third, fourth = STATUS.splitlines(keepends=True)
+    live(rows, RATES_FILE, lines, "--every 29 --status", 0, wanted,
+         first + second + "frame 28 count 28\n" + third + "frame 57 count 57\n" + fourth)
+    live(rows, NOTHING_FILE, b"frames 1", "--every 1 --status --count 4999", 0, played(rows, NOTHING_FILE, "frames 1", "--count 4999"),
+         "frame 0 count 4999 end\nframe 0 count 4999\n")
+
+
+def messages_as_json(rows):
+    """`--json`: each message as an object; without it and `--every`, those of bad lines and refusals alone."""
+    wanted = played(rows, RATES_FILE, " ".join(LINES))
+    lines = "\n".join(LINES).encode()
+    status = """\
+{"kind":"announced","frame":4,"count":4,"change":1,"low":28,"swap_count":28,"left":24}
+{"kind":"swap","frame":28,"count":28}
+{"kind":"announced","frame":40,"count":40,"change":1,"low":64,"swap_count":64,"left":24}
+{"kind":"swap","frame":64,"count":64}
+"""
+    live(rows, RATES_FILE, lines, "--json", 0, wanted, "")
+    live(rows, RATES_FILE, lines, "--json --status", 0, wanted, status)
+    live(rows, RATES_FILE, lines, "--every 70 --json", 0, wanted, '{"kind":"frame","frame":69,"count":69}\n')
+    live(rows, NOTHING_FILE, b"frames 1", "--json --status --count 4999", 0, played(rows, NOTHING_FILE, "frames 1", "--count 4999"),
+         '{"kind":"end","frame":0,"count":4999}\n')
+    # The swap is at the count 4980 + 24 - 5000.
+    late = "\n".join(LINES[1:3]).encode()
+    live(rows, RATES_FILE, late, "--json --status --count 4977", 0, played(rows, RATES_FILE, " ".join(LINES[1:3]), "--count 4977"),
+         '{"kind":"announced","frame":3,"count":4980,"change":1,"low":4,"swap_count":4,"left":24}\n'
+         '{"kind":"swap","frame":27,"count":4}\n')
+    for line, fields in ((b"frames 0", '"column":8,"fault":"Number"'), (b"frames", '"column":7,"fault":"Expected"'),
+                         (b"\x00", '"column":1,"fault":"Byte"'), (b"\xff", '"fault":"Byte"'), (b" " * 65537, '"fault":"Limit"')):
+        live(rows, RATES_FILE, b"\n" + line + b"\n", "--json", 0, b"", f'{{"kind":"line","line":2,{fields}}}\n')
+    for code, options, cause in (("44 41 42 50", "", "code: Truncated"), (REFUSED_FILE, "", "refused at 0 line 1: JoinIdle"),
+                                 (RATES_FILE, "--count 5000", "start: Count")):
+        live(rows, code, b"frames 1\n", f"{options} --json", 1, b"", f'{{"kind":"refused","cause":"{cause}"}}\n')
+    for name, shown in (("absent.code", "absent.code"), ('a"b\\c', 'a\\"b\\\\c'), ("\t\n\r\b\f\x01\x1f\x7f", "\\t\\n\\r\\b\\f\\u0001\\u001f\x7f")):
+        ended = rows.run(["live", name, "--json"], {}, b"frames 1\n")
+        rows.tally.same(f"no code {name}", (1, b"", f'{{"kind":"refused","cause":"cannot read {shown}"}}\n'.encode()),
+                        (*ended.lines(), ended.messages))
+    rows.run("", {"x.code": hexadecimal(RATES_FILE)})
+    with open("/dev/full", "wb") as full:
+        ended = subprocess.run([rows.program, "live", "x.code", "--json"], cwd=rows.folder, stdout=full, input=b"frames 5\n",
+                               stderr=subprocess.PIPE, check=False)
+    rows.tally.same("live --json into /dev/full", (1, b'{"kind":"refused","cause":"write failed after 0 frames and 0 bytes"}\n'),
+                    (ended.returncode, ended.stderr))
+
+
 def bad_lines_do_nothing(rows):
     """Each is reported with its number and column, and the next one is read."""
     wanted = played(rows, RATES_FILE, "frames 3")
@@ -134,7 +189,8 @@ def a_time_is_a_day_frame(rows):
 def wrong_command_lines(rows):
     """They are reported on standard error, and nothing goes to standard output; help does."""
     for options in ("--time 24:00:00", "--time 12:60:00", "--time 12:00", "--time 1:00:00", "--time=", "--day 0 --time 00:00:00",
-                    "--skip -1", "--skip 4294967296", "--skip x", "--status --status", "--page 1", "x", "--contacts 00g0"):
+                    "--skip -1", "--skip 4294967296", "--skip x", "--status --status",
+                    "--every 0", "--every 4294967296", "--every x", "--json --json", "--json=1", "--page 1", "x", "--contacts 00g0"):
         ended = rows.run(f"live x.code {options}", {"x.code": hexadecimal(RATES_FILE)}, b"frames 1\n")
         rows.tally.same(f"live {options}", (2, b"", b"error: ", 1),
                         (ended.status, ended.printed, ended.messages[:7], ended.messages.count(b"\n")))
@@ -151,5 +207,5 @@ def wrong_command_lines(rows):
 
 
 if __name__ == "__main__":
-    rows.main([lines_are_played, frames_are_skipped, a_plan_ends, bad_lines_do_nothing, it_does_not_begin, the_output_fails,
-               each_line_comes_out, a_time_is_a_day_frame, wrong_command_lines])
+    rows.main([lines_are_played, frames_are_skipped, a_plan_ends, frames_are_reported, messages_as_json, bad_lines_do_nothing,
+               it_does_not_begin, the_output_fails, each_line_comes_out, a_time_is_a_day_frame, wrong_command_lines])

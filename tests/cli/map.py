@@ -27,9 +27,10 @@ apply lower
 """
 
 
-def row(label, bar, free):
-    """A line of a map."""
-    return f"{label:12} {bar} free {free}\n"
+def row(label, bar, free, *changes):
+    """A row of a map: its heading, its two lines of cells, and what changes."""
+    return "".join(line + "\n" for line in (f"{label}: free {free}", f"    0 {bar[:72]}", f"  432 {bar[72:]}",
+                                            *(f"  {change}" for change in changes)))
 
 
 def cells(*runs):
@@ -38,21 +39,130 @@ def cells(*runs):
     return text + "." * (144 - len(text))
 
 
+def changed(before, after):
+    """The lines of a part that changes."""
+    return f"- {before}", f"+ {after}"
+
+
 def rows_of_plans(rows):
     """The lines of a map: the opening, and each commit in the order of the text with its blocks."""
     high, low = cells((" 1", 8)), cells((" 1", 6))
-    rows.answers("map x.plan", 0, row("begin 6", high, 768) + row("commit 10", low, 792) + row("commit 14", high, 768),
+    high_line, low_line = "sub 1 at 0 size 96 eep 3-A", "sub 1 at 0 size 72 eep 3-A"
+    rows.answers("map x.plan", 0,
+                 row("begin 6", high, 768) + row("commit 10 (contact 3 closed)", low, 792, *changed(high_line, low_line))
+                 + row("commit 14 (contact 3 open)", high, 768, *changed(low_line, high_line)),
                  {"x.plan": RATES})
     full = " 2" + ".." * 70 + "63"
     short = " 1" + ".." * 70 + "63"
     moved = " 2" + ".." + "63" + ".." * 69
+    two = ("sub 2 at 4 size 8 eep 4-A", "sub 2 at 4 size 4 eep 4-A")
+    last = ("sub 63 at 860 size 4 eep 4-A", "sub 63 at 24 size 4 eep 4-A")
     rows.answers("map x.plan", 0,
-                 row("begin 11", full, 848) + row("commit 10", short, 852) + row("commit 10", full, 848)
-                 + row("commit 13", moved, 848) + row("commit 13", full, 848)
-                 + row("commit 10", short, 852) + row("commit 10", full, 848),
+                 row("begin 11", full, 848) + row("commit 10 in lower (begin)", short, 852, *changed(*two))
+                 + row("commit 10 in lower (join)", full, 848, *changed(*two[::-1]))
+                 + row("commit 13 (contact 3 closed)", moved, 848, *changed(*last))
+                 + row("commit 13 (join)", full, 848, *changed(*last[::-1]))
+                 + row("commit 10 in lower", short, 852, *changed(*two)) + row("commit 10 in lower (join)", full, 848, *changed(*two[::-1])),
                  {"x.plan": WAYS})
     rows.answers("map x.plan", 0, row("begin 1", cells(), 864),
                  {"x.plan": "ensemble E1C5 period 4 notice 24 budget 20 begin"})
+
+
+# Services that move, are added, dropped and changed; packet components; each kind of what leads to a commit.
+PARTS = """\
+ensemble E1C5
+period 4 notice 24 budget 20
+sub 1 at 0 eep 3-A 128
+sub 2 at 96 eep 3-B 64
+packet 7 raw type 60 sub 2 address 9
+service C221
+audio 63 sub 1 in C221
+service E1C20001
+carry 7 in E1C20001
+begin
+drop component sub 1 in C221
+data 5 sub 2 in C221
+commit in 24
+settle
+drop packet 7
+packet 7 groups type 59 sub 2 address 9
+commit at 1000
+join
+wait 65535
+service C222
+audio 0 sub 1 in C222
+commit in 24
+join
+until 23:59:59
+drop service C222
+commit in 24
+join
+if contact 15 { drop service C221 commit in 24 join service C221 data 5 sub 2 in C221 commit in 24 join }
+else { service C222 audio 0 sub 1 in C222 commit in 24 join drop service C222 commit in 24 join }
+wait contact 0 open
+drop sub 1
+commit in 24
+join
+if contact 1 { wait 1 }
+sub 1 at 0 eep 1-A 8
+commit in 24
+"""
+
+
+def parts_are_marked(rows):
+    """What changes from row to row, in the words of a script, and what leads there."""
+    ended = rows.run("map x.plan", {"x.plan": PARTS})
+    lines = [line for line in ended.printed.decode().splitlines() if not re.match("    0 |  432 ", line)]
+    rows.tally.same("the parts", [
+        "begin 10: free 732",
+        "commit 13 (begin): free 732",
+        "  - service C221 audio 63 sub 1", "  + service C221 data 5 sub 2",
+        "commit 17 (settle): free 732",
+        "  - packet 7 raw type 60 sub 2 address 9", "  + packet 7 groups type 59 sub 2 address 9",
+        "commit 22 (wait 65535): free 732",
+        "  + service C222 audio 0 sub 1",
+        "commit 26 (until 23:59:59): free 732",
+        "  - service C222 audio 0 sub 1",
+        "commit 28 (contact 15 closed): free 732",
+        "  - service C221 data 5 sub 2",
+        "commit 28 (join): free 732",
+        "  + service C221 data 5 sub 2",
+        "commit 29 (contact 15 open): free 732",
+        "  + service C222 audio 0 sub 1",
+        "commit 29 (join): free 732",
+        "  - service C222 audio 0 sub 1",
+        "commit 32 (contact 0 open): free 828",
+        "  - sub 1 at 0 size 96 eep 3-A",
+        "commit 36: free 816",
+        "  + sub 1 at 0 size 12 eep 1-A"], lines)
+    rows.tally.hold(all(len(line) <= 80 for line in ended.printed.decode().splitlines()), "no line has more than 80 columns")
+
+
+def layouts(rows):
+    """The one layout of all configurations, or what is against it."""
+    rows.answers("map x.plan --layout", 1, "no one layout: sub 1 at 0 size 96 eep 3-A and at 0 size 72 eep 3-A\n", {"x.plan": RATES})
+    rows.answers("map x.plan --layout", 1, "no one layout: sub 2 at 4 size 8 eep 4-A and at 4 size 4 eep 4-A\n", {"x.plan": WAYS})
+    rows.answers("map x.plan --layout", 0, "", {"x.plan": "ensemble E1C5 period 4 notice 24 budget 20 begin"})
+    head = "ensemble E1C5\nperiod 4 notice 24 budget 20\nsub 5 at 96 eep 4-A 64\nsub 7 at 400 eep 3-B 32\nbegin\n"
+    once = head + "drop sub 7\nsub 1 at 0 eep 3-A 128\ncommit in 24\njoin\ndrop sub 5\nsub 63 at 128 eep 2-A 8\ncommit in 24\njoin\n"
+    lines = "sub 1 at 0 size 96 eep 3-A\nsub 5 at 96 size 32 eep 4-A\nsub 7 at 400 size 18 eep 3-B\nsub 63 at 128 size 8 eep 2-A\n"
+    rows.answers("map x.plan --layout", 0, lines, {"x.plan": once})
+    again = once + "drop sub 1\nsub 7 at 400 eep 3-B 32\ncommit in 24\njoin\nsub 1 at 0 eep 3-A 128\ncommit in 24\n"
+    rows.answers("map x.plan --layout", 0, lines, {"x.plan": again})
+    for edit, wanted in (
+        ("sub 5 at 97 eep 4-A 64", "sub 5 at 96 size 32 eep 4-A and at 97 size 32 eep 4-A"),
+        ("sub 5 at 96 eep 3-A 64", "sub 5 at 96 size 32 eep 4-A and at 96 size 48 eep 3-A"),
+        ("sub 5 at 96 eep 2-A 32", "sub 5 at 96 size 32 eep 4-A and at 96 size 32 eep 2-A"),
+        ("sub 6 at 127 eep 4-A 8", "sub 5 at 96 size 32 eep 4-A and sub 6 at 127 size 4 eep 4-A"),
+        ("sub 4 at 417 eep 4-A 8", "sub 7 at 400 size 18 eep 3-B and sub 4 at 417 size 4 eep 4-A"),
+    ):
+        script = head + f"drop sub 5\ndrop sub 7\n{edit}\ncommit in 24\n"
+        rows.answers("map x.plan --layout", 1, f"no one layout: {wanted}\n", {"x.plan": script})
+    for edit in ("sub 6 at 128 eep 4-A 8", "sub 6 at 92 eep 4-A 8", "sub 4 at 418 eep 4-A 8"):
+        script = head + f"drop sub 5\ndrop sub 7\n{edit}\ncommit in 24\n"
+        rows.tally.same(edit, 0, rows.run("map x.plan --layout", {"x.plan": script}).status)
+    ended = rows.run("map x.plan --layout --svg x.svg", {"x.plan": once})
+    rows.tally.same("a drawing too", (0, lines.encode(), True), (*ended.lines(), (rows.made("x.svg") or b"").startswith(b"<svg")))
 
 
 def colours_of(drawing):
@@ -69,18 +179,31 @@ def colours_of(drawing):
 def drawings(rows):
     """A drawing is a document of its own, in which a sub-channel has one colour, and no two have the same."""
     ended = rows.run("map x.plan --svg x.svg", {"x.plan": WAYS})
-    rows.tally.same("the lines are printed too", 7, len(ended.printed.splitlines()))
+    rows.tally.same("the lines are printed too", 7 * 3 + 12, len(ended.printed.splitlines()))
     drawing = tree.fromstring(rows.made("x.svg") or b"<svg/>")
     titles = [title.text for title in drawing.iter(f"{SVG}title")]
     rows.tally.same("a title for all", "The multiplex of ensemble E1C5: 7 configurations", titles[0])
     rows.tally.same("a title for each row", 1, titles.count("begin, line 11: 848 CU free"))
-    rows.tally.same("sub-channel 2 at first", True,
-                    "Sub-channel 2: CU 4 to 11, 16 kbit/s, 4-A, service C221" in titles)
+    whole = "Sub-channel 2: CU 4 to 11, 16 kbit/s, 4-A, service C221"
+    rows.tally.same("sub-channel 2, and where it is changed", (3, 2), (titles.count(whole), titles.count(f"{whole}, changed")))
     rows.tally.same("free units", True, "848 CU free: 12 to 859" in titles)
     colours = colours_of(drawing)
     rows.tally.same("one colour each", ["1", "2", "63"], sorted(colours))
     rows.tally.same("for all rows", [1, 1, 1], [len(of) for of in colours.values()])
     rows.tally.same("and no other's", 3, len(set().union(*colours.values())))
+
+
+def moves_are_framed(rows):
+    """A sub-channel that a service leaves, or comes to, is changed, and so is one that is new; another one is not."""
+    rows.run("map x.plan --svg x.svg", {"x.plan": PARTS})
+    found = []
+    for group in tree.fromstring(rows.made("x.svg") or b"<svg/>").iter(f"{SVG}g"):
+        title = group.find(f"{SVG}title")
+        if title is not None and "CU free" in title.text:
+            shapes = [(shape.find(f"{SVG}title").text, shape.get("stroke")) for shape in group.iter(f"{SVG}rect")]
+            found.append("".join(text.split()[1].strip(":") for text, stroke in shapes
+                                 if text.endswith(", changed") and stroke == "#b00000"))
+    rows.tally.same("what is framed", ["", "12", "", "1", "1", "2", "2", "1", "1", "", "1"], found)
 
 
 def colours_of_all(rows):
@@ -108,4 +231,4 @@ def refused(rows):
 
 
 if __name__ == "__main__":
-    rows.main([rows_of_plans, drawings, colours_of_all, refused])
+    rows.main([rows_of_plans, parts_are_marked, layouts, drawings, moves_are_framed, colours_of_all, refused])

@@ -1,0 +1,31 @@
+# The completion of dabplan for bash, made by release/manual.
+_dabplan() {
+  local word=${COMP_WORDS[COMP_CWORD]} before=${COMP_WORDS[COMP_CWORD-1]} options=
+  if [ "$COMP_CWORD" -eq 1 ]; then
+    COMPREPLY=($(compgen -W "frame listen check diff compile verify map play debug live help --help --version" -- "$word"))
+    return
+  fi
+  case $before in
+    --mode) COMPREPLY=($(compgen -W "1 2 3 4" -- "$word")); return ;;
+    --budget|--contacts|--count|--day|--ensemble|--every|--notice|--page|--period|--skip|--time) return ;;
+  esac
+  case ${COMP_WORDS[1]} in
+    frame) options="--ensemble --count --page --mode --script --raw --help" ;;
+    listen) options="--script --mode --period --notice --budget --help" ;;
+    check) options="--mode --period --help" ;;
+    diff) options="--help" ;;
+    compile) options="--explain --help" ;;
+    verify) options="--explain --help" ;;
+    map) options="--svg --layout --help" ;;
+    play) options="--count --day --time --contacts --help" ;;
+    debug) options="--count --day --time --contacts --help" ;;
+    live) options="--count --day --time --contacts --skip --status --every --json --help" ;;
+    help) COMPREPLY=($(compgen -W "frame listen check diff compile verify map play debug live" -- "$word")); return ;;
+  esac
+  if [[ $word == -* ]]; then
+    COMPREPLY=($(compgen -W "$options" -- "$word"))
+  else
+    COMPREPLY=($(compgen -f -- "$word"))
+  fi
+}
+complete -o filenames -F _dabplan dabplan
