@@ -260,10 +260,6 @@ def loops(rows):
         (after(entered + "  settle\n}"), "refused line 9: Mismatch",
          "x.plan:9: the loop does not come back as it began: no swap is pending at its end; a swap is pending that comes after"
          " 250 to 253 frames at its beginning", hint),
-        (after("rate sub 1 96\ncommit in 250\nwait contact 3 closed\nforever {\n  wait 1\n}"), "refused line 10: Mismatch",
-         "x.plan:10: the loop does not come back as it began: a swap may be pending, that comes after 251 frames at most at its"
-         " end; a swap may be pending, that comes after 252 frames at most at its beginning",
-         "hint: 'settle' before line 10: the loop would begin with no swap pending"),
         (after("rate sub 1 96\ncommit in 250\nforever {\n  join\n  rate sub 1 128\n  commit in 240\n  wait 1\n}"),
          "refused line 9: Mismatch",
          "x.plan:9: the loop does not come back as it began: a swap is pending that comes after 239 to 242 frames at its end; a"
@@ -373,8 +369,8 @@ def codes(rows):
         (late, "refused at 2 line 10: Notice", "x.code:10: the swap would come after 23 frames; the notice is 24 frames",
          "hint: 'commit in 24' or more"),
         (hexadecimal(RATES_FILE.replace("04 18 14", "04 18 02")), "refused at 3 line 11: Cost",
-         "x.code:11: no more instructions may run in this frame before instruction 3, as the label before declares; the budget"
-         " is 2"),
+         "x.code:11: no more instructions may run in this frame before instruction 3, by the budget since the wait before; the"
+         " budget is 2"),
         (hexadecimal(RATES_FILE.replace("00 0D 13 01 00 80", "00 0D 13 01 00 90")), "refused at 8 line 7: Mismatch",
          "x.code:7: at the label of instruction 0: what is known does not fit the label: in the current configuration sub 1 at 0"
          " eep 3-A 144 as it is known, sub 1 at 0 eep 3-A 128 as the label declares"),

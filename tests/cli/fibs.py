@@ -17,7 +17,7 @@ RADIO = "service C221\n  audio 63 sub 1 primary\n"
 def reported(rows, data, current, following="", swap="no swap", damaged=0):
     """The listing of FIBs: the current and the next lines."""
     wanted = f"fibs {len(data) // 32} damaged {damaged}\ncurrent\n{current}next\n{following}{swap}\n"
-    rows.answers("listen x.fib", 0, wanted, {"x.fib": data})
+    rows.listens("listen x.fib", wanted, {"x.fib": data})
 
 
 def whole_and_damaged(rows):

@@ -42,8 +42,8 @@ def listings(rows):
         # A FIG with an incomplete entry makes its FIB damaged, including earlier FIGs.
         (("05 00 E1 C5 00 00 04 01 04 00 88 FF",), "fibs 1 damaged 1\ncurrent\nnext\nno swap\n"),
     ):
-        rows.answers("listen x.fib", 0, wanted, {"x.fib": stream(*data)})
-        rows.answers("listen -", 0, wanted, stdin=stream(*data))
+        rows.listens("listen x.fib", wanted, {"x.fib": stream(*data)})
+        rows.listens("listen -", wanted, stdin=stream(*data))
 
 
 def damaged_fibs(rows):
@@ -51,7 +51,7 @@ def damaged_fibs(rows):
     for place in range(32):
         turned = bytearray(fib(ONE_PROGRAMME[0]))
         turned[place] ^= 1
-        rows.answers("listen x.fib", 0, "fibs 1 damaged 1\ncurrent\nnext\nno swap\n", {"x.fib": bytes(turned)})
+        rows.listens("listen x.fib", "fibs 1 damaged 1\ncurrent\nnext\nno swap\n", {"x.fib": bytes(turned)})
 
 
 def all_forms(rows):

@@ -3,6 +3,7 @@
 line is 'N passed, M failed'."""
 import rows
 from listen import ONE_PROGRAMME, stream
+from rows import NO_FIB
 
 HEADER = "ensemble E1C5\nperiod 4 notice 240 budget 20\n"
 ITEMS = "sub 1 at 0 eep 3-A 128\nservice C221\naudio 63 sub 1 in C221\n"
@@ -50,7 +51,8 @@ def refused_streams(rows):
          "refused: cannot be written: sub 1 at 0 switch 0 table 5\n"),
     ):
         rows.answers("listen x.fib --script", 1, wanted, {"x.fib": stream(*data)})
-    rows.answers("listen x.fib --script", 1, "refused: not whole FIBs\n", {"x.fib": stream(short)[:31]})
+    rows.answers("listen x.fib --script", 1, "refused: not whole FIBs\n", {"x.fib": stream(short)[:31]},
+                 messages=f"x.fib: {NO_FIB}\n")
     rows.answers("listen x.fib --script", 1, "cannot read x.fib\n")
 
 

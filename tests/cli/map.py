@@ -154,7 +154,7 @@ def layouts(rows):
         ("sub 5 at 96 eep 3-A 64", "sub 5 at 96 size 32 eep 4-A and at 96 size 48 eep 3-A"),
         ("sub 5 at 96 eep 2-A 32", "sub 5 at 96 size 32 eep 4-A and at 96 size 32 eep 2-A"),
         ("sub 6 at 127 eep 4-A 8", "sub 5 at 96 size 32 eep 4-A and sub 6 at 127 size 4 eep 4-A"),
-        ("sub 4 at 417 eep 4-A 8", "sub 7 at 400 size 18 eep 3-B and sub 4 at 417 size 4 eep 4-A"),
+        ("sub 4 at 417 eep 4-A 8", "sub 4 at 417 size 4 eep 4-A and sub 7 at 400 size 18 eep 3-B"),
     ):
         script = head + f"drop sub 5\ndrop sub 7\n{edit}\ncommit in 24\n"
         rows.answers("map x.plan --layout", 1, f"no one layout: {wanted}\n", {"x.plan": script})

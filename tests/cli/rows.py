@@ -1,5 +1,6 @@
 """Shared by the scripts of tests/cli/: runs a command line over its files, and compares the output with the expected one."""
 import pathlib
+import re
 import sys
 import tempfile
 
@@ -45,6 +46,9 @@ NOTHING_FILE = """
 00 00 00  00 00 00 00 00 00 00 00 00 00 00 00 01  00 01 07
 """
 
+# What is said of a file without one whole FIB.
+NO_FIB = "no whole FIB: 32 bytes each are expected"
+
 # A code whose only instruction is a join without a pending swap, in line 1.
 REFUSED_FILE = NOTHING_FILE.replace("00 01 07", "00 01 06")
 
@@ -76,10 +80,16 @@ class Rows:
         path = pathlib.Path(self.folder, name)
         return path.read_bytes() if path.exists() else None
 
-    def answers(self, line, status, printed, files=None, stdin=b""):
-        """Counts that a command line ends with this status, prints this text and nothing on standard error."""
+    def answers(self, line, status, printed, files=None, stdin=b"", messages=""):
+        """Counts that a command line ends with this status, prints this text, and these messages on standard error."""
         ended = self.run(line, files, stdin)
-        self.tally.same(f"dabplan {line}", (status, printed.encode(), b""), (*ended.lines(), ended.messages))
+        self.tally.same(f"dabplan {line}", (status, printed.encode(), messages.encode()), (*ended.lines(), ended.messages))
+
+    def listens(self, line, printed, files=None, stdin=b""):
+        """Counts that `listen FILE` prints this listing; if all FIBs are damaged, a message says that these are none."""
+        fibs, damaged = re.match(r"fibs (\d+) damaged (\d+)\n", printed).groups()
+        messages = f"{line.split()[1]}: {NO_FIB}\n" if fibs == damaged != "0" else ""
+        self.answers(line, 0, printed, files, stdin, messages)
 
 
 def main(parts):

@@ -131,10 +131,7 @@ fn dispatch<F: Files, W: Write>(
             let ended = check::show_check(alloc, request, files, out);
             report_in(request.options.form.is_json, ended, out)
         }
-        Request::Compile(request) => report(
-            compile::show_compile(alloc, request, files, out),
-            out,
-        ),
+        Request::Compile(request) => report(compile::show_compile(alloc, request, files, out), out),
         Request::Verify(request) => report(verify::show_verdict(alloc, request, files, out), out),
         Request::Play(request) => report(play::show_play(alloc, request, files, out), out),
         Request::Debug(request) => report(debug::show_debug(alloc, request, files, out), out),

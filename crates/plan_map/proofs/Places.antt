@@ -1,6 +1,7 @@
 -- The places of sub-channels: those that serve all of them, and what clashes otherwise.
-use Rattle.std.proofs.Common.{◌≡◌, ◌⊎◌, ℕ, zero, suc, ◌+◌, ◌<◌, ◌≤◌, ◌==◌, ◌||◌, Bool, true, false, not, if◌then◌else◌, List, [], ◌∷◌, ◌++◌, Option, Some, None, refl, sym, ap, ◌∙◌, subst, append_assoc, arith, inl, inr, length, get_or, take}
-use Rattle.std.proofs.lemmas.Bool.{cases_lt, eq-eqb}
+use Rattle.std.proofs.Common.{◌≡◌, ◌⊎◌, ℕ, zero, suc, ◌+◌, ◌<◌, ◌≤◌, ◌==◌, ◌||◌, Bool, true, false, not, if◌then◌else◌, ltb, List, [], ◌∷◌, ◌++◌, Option, Some, None, refl, sym, ap, ◌∙◌, subst, append_assoc, arith, inl, inr, length, get_or, take}
+use Rattle.std.proofs.lemmas.Bool.{cases_lt, eq-eqb, ne_eqb, lt-ltb, le-ltb}
+use Rattle.std.proofs.Math.Bool.{and_comm}
 use Rattle.std.proofs.lemmas.List.Folds.{list_any-append}
 use Rattle.std.specs.List.{flat_map, range_with_len, list_any, AllByRecursion}
 use Rattle.mux_types.specs.declared.parts.Sub.{Sub}
@@ -9,8 +10,9 @@ use Rattle.mux_types.specs.Configuration.{IsPlaced}
 use Rattle.mux_types.specs.Configuration.{IsConfiguration}
 use Rattle.plan_map.specs.declared.rows.Row.{Row}
 use Rattle.plan_map.specs.declared.layout.Clash.{Clash}
+use Rattle.plan_map.specs.Cells.{end_of}
 use Rattle.plan_map.proofs.Printed.{texts_more}
-use Rattle.plan_map.specs.Layout.{row_subs, subs_of, clashes, first_with, listed, place_of, places, places_below, clash_with, clash_of, first_clash, is_served, is_refused, Serves, Occurs, IsClash}
+use Rattle.plan_map.specs.Layout.{row_subs, subs_of, clashes, first_with, listed, place_of, places, places_below, shares, clash_with, clash_of, in_order, first_clash, is_served, is_refused, Serves, Occurs, IsClash}
 
 same_number : (n : ℕ) → n == n ≡ true
 same_number n = eq-eqb n n refl
@@ -166,29 +168,48 @@ with_found s l [] h = absurd cc
 with_found s l (k ∷ ls) h = with_found_by s k l ls (clashes k s) refl (with_found s l ls) h
 
 record Between (c : Clash) (layout ss : List Sub) : Type 0 where
-  first : Occurs c.first layout
-  second : Occurs c.second ss
-  clash : clashes c.first c.second ≡ true
+  place : Sub
+  sub : Sub
+  is : in_order place sub ≡ c
+  first : Occurs place layout
+  second : Occurs sub ss
+  clash : clashes place sub ≡ true
 
 between_by : (c : Clash) (layout : List Sub) (s : Sub) (ss : List Sub) (found : Option Sub) → clash_with s layout ≡ found
     → (first_clash layout ss ≡ Some c → Between c layout ss) → clash_of s found (first_clash layout ss) ≡ Some c → Between c layout (s ∷ ss)
-between_by c layout s ss None e behind h = let later = behind h in record { first = later.first; second = inr later.second; clash = later.clash }
+between_by c layout s ss None e behind h =
+    let later = behind h in
+    record { place = later.place; sub = later.sub; is = later.is; first = later.first; second = inr later.second; clash = later.clash }
 between_by c layout s ss (Some l) e behind h =
-    let k : Clash = record { first = l; second = s } in
-    let same : k ≡ c = cc in
+    let same : in_order l s ≡ c = cc in
     let found = with_found s l layout e in
-    let this : Between k layout (s ∷ ss) = record { first = found.occurs; second = inl refl; clash = found.clash } in
-    subst (λ (x : Clash). Between x layout (s ∷ ss)) same this
+    record { place = l; sub = s; is = same; first = found.occurs; second = inl refl; clash = found.clash }
 
 between : (c : Clash) (layout ss : List Sub) → first_clash layout ss ≡ Some c → Between c layout ss
 between c layout [] h = absurd cc
 between c layout (s ∷ ss) h = between_by c layout s ss (clash_with s layout) refl (between c layout ss) h
 
+-- other sub-channels share a unit whichever is named first
+turned : (l s : Sub) → s.id < l.id → clashes l s ≡ true → clashes s l ≡ true
+turned l s lt h =
+    let one : (l.id == s.id) ≡ false = ne_eqb l.id s.id (λ same. omega (arith, lt, same)) in
+    let other : (s.id == l.id) ≡ false = ne_eqb s.id l.id (λ same. omega (arith, lt, same)) in
+    let shared : shares l s ≡ true = sym (rw one refl) ∙ h in
+    let turn : shares s l ≡ shares l s = and_comm (ltb s.start (end_of l)) (ltb l.start (end_of s)) in
+    rw other (turn ∙ shared)
+
+ordered_clash : (l s : Sub) (subs : List Sub) → Occurs l subs → Occurs s subs → clashes l s ≡ true → IsClash (in_order l s) subs
+ordered_clash l s subs one other h =
+    elim (cases_lt s.id l.id) [
+      | inl lt ↦ rw (lt-ltb s.id l.id lt) (record { first_occurs = other; second_occurs = one; clash = turned l s lt h; ordered = omega (arith, lt) })
+      | inr ge ↦ rw (le-ltb s.id l.id ge) (record { first_occurs = one; second_occurs = other; clash = h; ordered = ge })
+    ]
+
 pub is_clash : (c : Clash) (layout subs : List Sub) → layout ≡ places subs → first_clash layout subs ≡ Some c → IsClash c subs
 is_clash c layout subs is h =
     let found = between c layout subs h in
-    let among : Occurs c.first (flat_map (place_of subs) (range_with_len 0 64)) = subst (Occurs c.first) (is ∙ places_is subs) found.first in
-    record { first_occurs = places_occur subs 0 64 c.first among; second_occurs = found.second; clash = found.clash }
+    let among : Occurs found.place (flat_map (place_of subs) (range_with_len 0 64)) = subst (Occurs found.place) (is ∙ places_is subs) found.first in
+    subst (λ (x : Clash). IsClash x subs) found.is (ordered_clash found.place found.sub subs (places_occur subs 0 64 found.place among) found.second found.clash)
 
 -- the sub-channels of one more row
 pub all_join : (P : Sub → Type 0) (xs ys : List Sub) → AllByRecursion P xs → AllByRecursion P ys → AllByRecursion P (xs ++ ys)

@@ -1,5 +1,5 @@
 -- The one layout of sub-channels that serves every configuration of a map's rows, and what stands against one.
-use Rattle.std.specs.Prelude.{◌≡◌, ◌⊎◌, ℕ, ◌==◌, ◌&&◌, Bool, true, false, not, if◌then◌else◌, nat_lt, List, [], ◌∷◌, ◌++◌, Option, Some, None, codes}
+use Rattle.std.specs.Prelude.{◌≡◌, ◌⊎◌, ℕ, ◌≤◌, ◌==◌, ◌&&◌, Bool, true, false, not, if◌then◌else◌, nat_lt, List, [], ◌∷◌, ◌++◌, Option, Some, None, codes}
 use Rattle.std.specs.List.{flat_map, range_with_len, list_any, AllByRecursion}
 use Rattle.std.specs.Fmt.{decimal}
 use Rattle.mux_types.specs.declared.parts.Sub.{Sub}
@@ -52,9 +52,13 @@ abbrev pub clash_with : Sub → List Sub → Option Sub
 clash_with s [] = None
 clash_with s (l ∷ ls) = if clashes l s then Some l else clash_with s ls
 
+-- two that clash, the one with the lower SubChId first; of one sub-channel its place
+abbrev pub in_order : Sub → Sub → Clash
+in_order l s = if nat_lt s.id l.id then record { first = s; second = l } else record { first = l; second = s }
+
 abbrev pub clash_of : Sub → Option Sub → Option Clash → Option Clash
 clash_of s None later = later
-clash_of s (Some l) later = Some (record { first = l; second = s })
+clash_of s (Some l) later = Some (in_order l s)
 
 -- the first of some sub-channels that clashes with one of a layout, and that one
 abbrev pub first_clash : List Sub → List Sub → Option Clash
@@ -74,7 +78,7 @@ pub record Serves (layout subs : List Sub) : Type 0 where
   pub apart : AllByRecursion (λ s. is_refused layout s ≡ false) subs
   pub found : layout ≡ places subs
 
--- where there is none, two of the sub-channels clash
+-- where there is none, two of the sub-channels clash, by ascending SubChId
 abbrev pub Occurs : Sub → List Sub → Type 0
 Occurs s [] = ⊥
 Occurs s (x ∷ xs) = (s ≡ x) ⊎ Occurs s xs
@@ -83,6 +87,7 @@ pub record IsClash (c : Clash) (subs : List Sub) : Type 0 where
   pub first_occurs : Occurs c.first subs
   pub second_occurs : Occurs c.second subs
   pub clash : clashes c.first c.second ≡ true
+  pub ordered : c.first.id ≤ c.second.id
 
 abbrev pub IsLayout : Layout → List Sub → Type 0
 IsLayout (One v) subs = Serves v.items subs

@@ -5,7 +5,7 @@ ghost use Rattle.std.specs.Prelude.{◌≡◌, ◌<◌, ◌++◌, ◌∷◌, [],
 ghost use Rattle.std.specs.List.{AllByRecursion, list_any};
 ghost use Rattle.mux_types.specs.Sameness.{is_same_sub};
 ghost use Rattle.std.specs.Io.KnownBytes.{Appends};
-ghost use Rattle.plan_map.specs.Layout.{Serves, IsClash, IsLayout, is_served, is_refused, Occurs, set_text, place_text, sub_text, sub_line, layout_text, other_text, clash_text, answer_text, row_subs, subs_of, shares, clashes, first_with, place_of, places_below, clash_with, first_clash};
+ghost use Rattle.plan_map.specs.Layout.{Serves, IsClash, IsLayout, is_served, is_refused, Occurs, set_text, place_text, sub_text, sub_line, layout_text, other_text, clash_text, answer_text, row_subs, subs_of, shares, clashes, first_with, place_of, places_below, clash_with, in_order, first_clash};
 
 use crate::cells::{end_of, units_of};
 use crate::rows::Row;
@@ -19,7 +19,7 @@ use std::io::{self, Write};
 /// another start, rate or profile; or two that have a capacity unit in common.
 #[derive(Clone, Copy, Debug, PartialEq, Eq)]
 pub struct Clash {
-    /// The one that comes first in the plan.
+    /// The one with the lower SubChId; if both are one sub-channel, as the plan has it first.
     pub first: Sub,
     /// The other one.
     pub second: Sub,
@@ -108,16 +108,30 @@ fn clash_with(sub: &Sub, layout: &[Sub]) -> Option<Sub>
     None
 }
 
+/// Two that clash, the one with the lower SubChId first; of one sub-channel its place.
+fn in_order(place: Sub, sub: Sub) -> Clash
+    ensures { result ≡ in_order place sub }
+{
+    if sub.id.get() < place.id.get() {
+        Clash {
+            first: sub,
+            second: place,
+        }
+    } else {
+        Clash {
+            first: place,
+            second: sub,
+        }
+    }
+}
+
 /// The first of some sub-channels that clashes with one of a layout, and that one.
 fn first_clash(layout: &[Sub], subs: &[Sub]) -> Option<Clash>
     ensures { result ≡ first_clash layout.now subs.now }
 {
     for sub in subs {
-        if let Some(first) = clash_with(sub, layout) {
-            return Some(Clash {
-                first,
-                second: *sub,
-            });
+        if let Some(place) = clash_with(sub, layout) {
+            return Some(in_order(place, *sub));
         }
     }
     None

@@ -26,8 +26,8 @@ that could not be received three times before its swap; an entry that changed, a
 silent without a swap; a jump of the CIF count; a FIG 0/0 out of place; a damaged or missing FIB.";
 
 const USAGE: &str = "\
-dabplan check <FILE> [--mode <M>] [--period <N>] [--every <N>] [--time <HH:MM:SS>] [--until-fault]
-       [--json]";
+dabplan check <FILE> [--mode <M>] [--period <N>] [--every <N>] [--time <HH:MM:SS>]
+       [--until-fault] [--json]";
 
 const AFTER: &str = "\
 The lines, each with the number of its frame, from 0, and the CIF count of the frame:
@@ -65,12 +65,12 @@ The faults of a swap:
 ENTRY is 'sub 1', 'service C221' or 'packet 7'. A frame has three FIBs, in mode 3 four, or fewer
 where the next FIB begins with a FIG 0/0.
 
-The file is read as it comes, and all lines that its bytes decide are written before more is read, so
-that a pipe can be monitored. With --every 250 there is also a line of the totals so far every six
-seconds, so that a monitor that has stopped is noticed:
+The file is read as it comes, and all lines that its bytes decide are written before more is read,
+so that a pipe can be monitored. With --every 250 there is also a line of the totals so far every
+six seconds, so that a monitor that has stopped is noticed:
   alive frames 250 skipped 0 left over 0 damaged 0 swaps 1 faults 1
-With --time each finding begins with the time of its frame, 21:59:54.240. With --json each line is one
-JSON object, as docs/guide/COMMANDS.md lists them:
+With --time each finding begins with the time of its frame, 21:59:54.240. With --json each line is
+one JSON object:
   {\"kind\":\"fault\",\"frame\":28,\"count\":28,\"fault\":\"announced-for\",\"low\":24}
 
 The line of a refusal, in place of the last line:
@@ -78,8 +78,8 @@ The line of a refusal, in place of the last line:
   refused: no ensemble          there is no FIG 0/0
   refused: Full                 a configuration has more than 64 services or packet components
 
-A line on standard error, 'FILE: no whole FIB: 32 bytes each are expected', says that the file has no
-FIBs, and what it looks like, if that is known.
+A line on standard error, 'FILE: no whole FIB: 32 bytes each are expected', says that the file has
+no FIBs, and what it looks like, if that is known.
 
 Example: the frames of a plan, with a change of rate that is announced and made
   printf 'frames 1 contact 3 closed frames 300' > day.events
