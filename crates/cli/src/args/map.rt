@@ -25,7 +25,7 @@ const USAGE: &str = "dabplan map <SCRIPT> [--svg <OUT>] [--layout]";
 
 const AFTER: &str = "\
 The lines (shortened here):
-  commit 12 (until 22:00:00): free 792
+  commit 12 (until 21:59:54): free 792
                        the statement and its line in the script, 'in NAME' where it is in a block;
                        in parentheses the last statement before it that waits or tests a contact,
                        if it is the same on every path, and 'begin' where there is none; how many
