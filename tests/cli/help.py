@@ -50,8 +50,9 @@ def error_lines(printed):
 
 
 def identifiers(text):
-    """The words of a text with '_' that name no file of examples/: they are names of the sources."""
-    words = re.findall(r"[\w./-]*\w_\w[\w./-]*", text)
+    """The words of a text with '_' that name no file of examples/ and no field of JSON, which stands in quotation marks before
+    a colon: they are names of the sources."""
+    words = re.findall(r"[\w./-]*\w_\w[\w./-]*", re.sub(r'\\?"\w+\\?":', "", text))
     return sorted({word for word in words if not (TOP / word.rstrip(".,")).exists()})
 
 
