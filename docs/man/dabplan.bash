@@ -2,7 +2,7 @@
 _dabplan() {
   local word=${COMP_WORDS[COMP_CWORD]} before=${COMP_WORDS[COMP_CWORD-1]} options=
   if [ "$COMP_CWORD" -eq 1 ]; then
-    COMPREPLY=($(compgen -W "frame listen check diff compile verify map play debug live help --help --version" -- "$word"))
+    COMPREPLY=($(compgen -W "frame listen check merge diff compile verify map play debug live help --help --version" -- "$word"))
     return
   fi
   case $before in
@@ -11,8 +11,9 @@ _dabplan() {
   esac
   case ${COMP_WORDS[1]} in
     frame) options="--ensemble --count --page --mode --script --raw --help" ;;
-    listen) options="--script --mode --period --notice --budget --help" ;;
-    check) options="--mode --period --help" ;;
+    listen) options="--json --script --mode --period --notice --budget --help" ;;
+    check) options="--mode --period --every --time --until-fault --json --help" ;;
+    merge) options="--mode --help" ;;
     diff) options="--help" ;;
     compile) options="--explain --help" ;;
     verify) options="--explain --help" ;;
@@ -20,7 +21,7 @@ _dabplan() {
     play) options="--count --day --time --contacts --help" ;;
     debug) options="--count --day --time --contacts --help" ;;
     live) options="--count --day --time --contacts --skip --status --every --json --help" ;;
-    help) COMPREPLY=($(compgen -W "frame listen check diff compile verify map play debug live" -- "$word")); return ;;
+    help) COMPREPLY=($(compgen -W "frame listen check merge diff compile verify map play debug live" -- "$word")); return ;;
   esac
   if [[ $word == -* ]]; then
     COMPREPLY=($(compgen -W "$options" -- "$word"))
