@@ -98,16 +98,23 @@ def try_files(tally, failing):
             tally.same(f"{what}: calls", calls[:number] + calls[number - 1:], made.replace("w", ""))
 
 
+def flushed(line, printed):
+    """The parts of an output that are flushed: `check` flushes the findings in its one piece before it reads on."""
+    end = printed[:-1].rfind(b"\n") + 1 if line.startswith("check") else 0
+    return [part for part in (printed[:end], printed[end:]) if part]
+
+
 def try_writes(tally, failing, line, takes):
     """Each write to standard output fails, with a limit on the bytes per write."""
     whole, calls = failing.run(line, takes=takes)
     writes = calls.count("w")
-    tally.same(f"{line}: writes", (len(whole.printed) + takes - 1) // takes, writes)
+    sizes = [min(takes, len(part) - at) for part in flushed(line, whole.printed) for at in range(0, len(part), takes)]
+    tally.same(f"{line}: writes", len(sizes), writes)
     for number in range(writes):
         for error in (EIO, EINTR, 0):
             ended, calls = failing.run(line, takes=takes, after=number, **{"as": error})
             what = f"{line}: write {number + 1} fails as {error}"
-            tally.same(what, (1, whole.printed[:takes * number], b""), (*ended.lines(), ended.messages))
+            tally.same(what, (1, whole.printed[:sum(sizes[:number])], b""), (*ended.lines(), ended.messages))
             tally.same(f"{what}: writes", number + 1, calls.count("w"))
 
 
