@@ -33,6 +33,10 @@ SETTLED_FILE = """
 # NOTHING_FILE as a code of version 2, in mode 3.
 MODE_FILE = NOTHING_FILE.replace("42 50 01", "42 50 02 03", 1)
 
+# NOTHING_FILE as a code of version 3: in mode 1 with one FIB of each frame reserved, and in mode 3 with two.
+RESERVE_FILE = NOTHING_FILE.replace("42 50 01", "42 50 03 01 01", 1)
+TWO_RESERVED_FILE = NOTHING_FILE.replace("42 50 01", "42 50 03 03 02", 1)
+
 
 def fault(rows, file):
     """The reported fault of a code file, without the prefix 'code: '; nothing if it has none."""
@@ -62,7 +66,8 @@ def fields_of_the_shortest_file(rows):
     """The header, the label and the opcode of a code of one instruction."""
     one_byte_is_changed(rows, NOTHING_FILE, (
         # the header: the letters, the version, the period, the notice, the budget and the three numbers
-        (0, 0x45, "Magic"), (3, 0x51, "Magic"), (4, 0x00, "Version"), (4, 0x03, "Version"), (4, 0x02, "Field 5"),
+        (0, 0x45, "Magic"), (3, 0x51, "Magic"), (4, 0x00, "Version"), (4, 0x04, "Version"), (4, 0x02, "Field 5"),
+        (4, 0x03, "Field 5"),
         (7, 0x00, "Field 7"), (7, 0x3D, "Field 7"), (8, 0x0B, "Field 8"), (8, 0xF9, "Field 8"), (9, 0x00, "Field 9"),
         (11, 0x00, "Field 10"), (13, 0x00, "Field 12"), (15, 0x00, "Field 14"),
         # 257 configurations, 1,025 labels, 4,097 instructions
@@ -178,13 +183,26 @@ def modes(rows):
     """Version 2 has a mode from 2 to 4; mode 1 has only version 1."""
     one_byte_is_changed(rows, MODE_FILE, (
         (5, 2, ""), (5, 3, ""), (5, 4, ""), (5, 0, "Field 5"), (5, 1, "Field 5"), (5, 5, "Field 5"), (5, 255, "Field 5"),
-        (4, 0, "Version"), (4, 3, "Version"), (4, 4, "Version"), (4, 255, "Version"),
+        (4, 0, "Version"), (4, 3, "Field 6"), (4, 4, "Version"), (4, 255, "Version"),
+    ))
+
+
+def reserves(rows):
+    """Version 3 has a mode from 1 to 4, and a reserve of 1, in mode 3 of 1 or 2. The mode is judged first."""
+    one_byte_is_changed(rows, RESERVE_FILE, (
+        (5, 1, ""), (5, 2, ""), (5, 3, ""), (5, 4, ""), (5, 0, "Field 5"), (5, 5, "Field 5"), (5, 255, "Field 5"),
+        (6, 1, ""), (6, 0, "Field 6"), (6, 2, "Field 6"), (6, 3, "Field 6"), (6, 255, "Field 6"),
+        (4, 0, "Version"), (4, 4, "Version"), (4, 255, "Version"),
+    ))
+    one_byte_is_changed(rows, TWO_RESERVED_FILE, (
+        (5, 3, ""), (5, 1, "Field 6"), (5, 2, "Field 6"), (5, 4, "Field 6"), (5, 0, "Field 5"), (5, 5, "Field 5"),
+        (6, 1, ""), (6, 2, ""), (6, 0, "Field 6"), (6, 3, "Field 6"), (6, 255, "Field 6"),
     ))
 
 
 def cut_files(rows):
     """A file that is cut anywhere is truncated, and one with an extra byte is too long."""
-    for text in (NOTHING_FILE, RATES_FILE, FULL_FILE, MODE_FILE):
+    for text in (NOTHING_FILE, RATES_FILE, FULL_FILE, MODE_FILE, RESERVE_FILE, TWO_RESERVED_FILE):
         whole = hexadecimal(text)
         judged(rows, whole, "")
         for length in range(len(whole)):
@@ -196,7 +214,8 @@ def cut_files(rows):
 def files_that_are_cut_at_a_fault(rows):
     """A field is checked as soon as its bytes are present, and is missing before."""
     for place, byte, end, wanted in (
-        (0, 0x45, 4, "Magic"), (4, 0x03, 5, "Version"), (7, 0x00, 8, "Field 7"), (8, 0x0B, 9, "Field 8"),
+        (0, 0x45, 4, "Magic"), (4, 0x04, 5, "Version"), (4, 0x03, 6, "Field 5"), (7, 0x00, 8, "Field 7"),
+        (8, 0x0B, 9, "Field 8"),
         (9, 0x00, 10, "Field 9"), (11, 0x00, 12, "Field 10"), (10, 0x01, 12, "Limit"), (13, 0x00, 14, "Field 12"),
         (12, 0x04, 14, "Limit"), (15, 0x00, 16, "Field 14"), (14, 0x10, 16, "Limit"), (16, 0x41, 17, "Field 16"),
         (22, 0x01, 23, "Field 21"), (24, 0x01, 25, "Field 23"), (25, 0x03, 26, "Field 25"), (25, 0x02, 30, "Field 28"),
@@ -263,5 +282,5 @@ def opcodes_that_are_none(rows):
 
 if __name__ == "__main__":
     rows.main([fields_of_the_shortest_file, fields_of_a_programme_and_its_instructions, fields_of_a_loop,
-               fields_of_a_configuration, fields_of_labels, limits_of_labels, limits_of_a_plan, modes, cut_files,
+               fields_of_a_configuration, fields_of_labels, limits_of_labels, limits_of_a_plan, modes, reserves, cut_files,
                files_that_are_cut_at_a_fault, operands_at_their_limits, operands_past_their_limits, opcodes_that_are_none])

@@ -103,7 +103,8 @@ def heard_again(rows):
 def command_lines(rows):
     """The options of a script belong to '--script', and its header to the script."""
     for line in ("listen x.fib --mode 1", "listen x.fib --period 4", "listen x.fib --notice 24", "listen x.fib --budget 20",
-                 "listen x.fib --script --period 0", "listen x.fib --script --period 61", "listen x.fib --script --notice 11",
+                 "listen x.fib --json --mode 1", "listen x.fib --json --period 4", "listen x.fib --json --notice 24",
+                 "listen x.fib --json --budget 20", "listen x.fib --script --period 0", "listen x.fib --script --period 61", "listen x.fib --script --notice 11",
                  "listen x.fib --script --notice 249", "listen x.fib --script --budget 0",
                  "listen x.fib --script --budget 256", "listen x.fib --script --mode 5",
                  "frame s.plan --script --count 0 --ensemble E1C5", "frame s.plan --script --count 0 --mode 1",

@@ -76,7 +76,7 @@ def files_of_no_code(rows):
     for place, byte, status, wanted in (
         (4, 1, 0, "accepted\n"),
         (0, 0x45, 1, "code: Magic\n"),
-        (4, 3, 1, "code: Version\n"),
+        (4, 4, 1, "code: Version\n"),
         (7, 61, 1, "code: Field 7\n"),
         (34, 9, 1, "code: Field 34\n"),
         (10, 2, 1, "code: Limit\n"),

@@ -190,6 +190,9 @@ pub(crate) fn explain<W: Write>(
             "error: invalid value '{}' for '--time <HH:MM:SS>': expected 00:00:00 to 23:59:59",
             Escaped::in_line(value)
         ),
+        UsageError::Reserve(value) => format!(in alloc;
+            "error: invalid value '{value}' for '--reserve <R>': expected 1, or in mode 3 a number from 1 to 2"
+        ),
         UsageError::SameFile {
             input,
             output,

@@ -85,6 +85,8 @@ pub enum UsageError<'a> {
     },
     /// The value of `--time` is not a time of day.
     Time(&'a str),
+    /// `--reserve` has this value, which is not one of the mode.
+    Reserve(u8),
     /// Both inputs are standard input.
     TwiceInput,
     /// Two of the paths, those of these values, are the same, and one of the files would be written over.

@@ -3,7 +3,7 @@ use Rattle.std.specs.Prelude.{◌≡◌, ℕ, false, List, None, Result, Ok, Err
 use Rattle.mux_config.specs.Configuration.{Configuration, nothing}
 use Rattle.mux_config.specs.Sound.{sound_or_fault}
 use Rattle.mux_entries.specs.Entries.{EnsembleInformation}
-use Rattle.script_front.specs.declared.tree.Header.{Header}
+use Rattle.plan_code.specs.declared.plan.Plan.{Plan}
 use Rattle.script_front.specs.Denoting.{IsScriptOf, IsNoScript}
 use Rattle.script_front.specs.Tree.{Tree, IsScript}
 use Rattle.script_opening.specs.declared.opening.ItemFault.{ItemFault}
@@ -14,7 +14,7 @@ use Rattle.cli_scripts.specs.declared.frame_script.ScriptFrameFault.{ScriptFrame
 use Rattle.cli_scripts.specs.declared.frame_script.ScriptFrameFault.TheVariants.{Script, Item, Frame, Memory}
 
 -- the script's ensemble, at this count and without change flags
-abbrev pub named_at : Header → ℕ → EnsembleInformation
+abbrev pub named_at : Plan → ℕ → EnsembleInformation
 named_at header count = record { eid = header.eid; change = 0; al = false; count = count; occurrence = None }
 
 abbrev pub in_frame : Result (List ℕ) FrameFault → Result (List ℕ) ScriptFrameFault
@@ -22,10 +22,10 @@ in_frame (Ok frame) = Ok frame
 in_frame (Err fault) = Err (Frame fault)
 
 -- as for a record: the configuration's soundness, and then the page
-abbrev pub frame_of_made : Header → (count index : ℕ) → Result Configuration ItemFault → Result (List ℕ) ScriptFrameFault
+abbrev pub frame_of_made : Plan → (count index : ℕ) → Result Configuration ItemFault → Result (List ℕ) ScriptFrameFault
 frame_of_made header count index (Err fault) = Err (Item fault)
 frame_of_made header count index (Ok c) =
-    in_frame (frame_or_fault (sound_or_fault c) (page_or_fault header.mode (named_at header count) index c))
+    in_frame (frame_or_fault (sound_or_fault c) (page_or_fault header.layout (named_at header count) index c))
 
 abbrev pub frame_of_script : Tree → (count index : ℕ) → Result (List ℕ) ScriptFrameFault
 frame_of_script tree count index = frame_of_made tree.header count index (made_by tree.items nothing)

@@ -100,7 +100,7 @@ pub fn frame_of_script(
     }
     let header = script.header();
     let ensemble = Ensemble::new(header.eid, 0, false, count, None).unwrap();
-    match page_of(&config, header.mode, ensemble, index) {
+    match page_of(&config, header.layout, ensemble, index) {
         Ok(frame) => Ok(frame),
         Err(fault) => Err(ScriptFrameFault::Frame(fault)),
     }

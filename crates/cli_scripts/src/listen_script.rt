@@ -2,7 +2,7 @@
 
 ghost use Rattle.std.specs.Prelude.{◌≡◌, ℕ, ◌≤◌, List, IfOk};
 ghost use Rattle.std.specs.Io.KnownBytes.{Consumes, IsAtEnd};
-ghost use Rattle.script_front.specs.Tree.{IsHeader};
+ghost use Rattle.plan_code.specs.Program.{IsPlan};
 ghost use Rattle.cli_scripts.specs.Naming.{HearsNamed, ended_named};
 
 use cli_streams::entries::print_head;
@@ -10,10 +10,11 @@ use cli_streams::listen::{Heard, MOST_PIECES, StreamFault};
 use console::exit::{Failure, Status, pieces_of};
 use console::files::{FileFault, Files};
 use console::pieces::Pieces;
-use fib_codec::Mode;
+use fib_codec::FrameLayout;
 use fib_reader::OwnedEntry;
 use mux_config::Config;
-use script_front::Header;
+use plan_code::Plan;
+use plan_code::limits::{LONGEST_NOTICE, LONGEST_PERIOD, SHORTEST_NOTICE};
 use std::alloc::Global;
 use std::io::{Read, Write};
 use stream_config::{config_heard, config_text, eid_after, usual_period};
@@ -24,8 +25,8 @@ use stream_monitor::Hints;
 pub struct ListenScriptRequest<'a> {
     /// The path of the file of FIBs, or `-` for standard input.
     pub file: &'a str,
-    /// The transmission mode, which FIBs do not carry.
-    pub mode: Mode,
+    /// The layout of a frame of the script: the transmission mode, which FIBs do not carry, and the reserve.
+    pub layout: FrameLayout,
     /// The period, in frames, 1 to 60; `None` for the default.
     pub period: Option<u8>,
     /// The notice, in frames, 12 to 248.
@@ -147,18 +148,18 @@ fn print_config<'a, W: Write>(
 
 /// The header of the script, from the request and the stream. An out-of-range number, which the command line
 /// refuses, is clamped.
-fn header_for(request: &ListenScriptRequest<'_>, eid: u16, config: &Config) -> Header
-    ensures { IsHeader result }
+fn header_for(request: &ListenScriptRequest<'_>, eid: u16, config: &Config) -> Plan
+    ensures { IsPlan result }
 {
     let period = match request.period {
         Some(period) => period,
-        None => usual_period(request.mode, config),
+        None => usual_period(request.layout, config),
     };
-    Header {
+    Plan {
         eid,
-        mode: request.mode,
-        period: period.clamp(1, 60),
-        notice: request.notice.clamp(12, 248),
+        layout: request.layout,
+        period: period.clamp(1, LONGEST_PERIOD),
+        notice: request.notice.clamp(SHORTEST_NOTICE, LONGEST_NOTICE),
         budget: request.budget.max(1),
     }
 }

@@ -8,7 +8,7 @@ use console::exit::{Failure, Status, read_input};
 use console::files::Files;
 use console::hexadecimal::digits_of_fib;
 use fib_carousel::{page, pages};
-use fib_codec::{FibFrame, Mode};
+use fib_codec::{FibFrame, FrameLayout, Mode};
 use mux_config::{Config, ConfigFault, Ensemble, RecordFault, read_config, soundness};
 use std::alloc::Global;
 use std::io::{self, Write};
@@ -24,8 +24,8 @@ const MOST_BYTES: usize = 3 + 64 * 7 + 64 * (4 + 12 * 3) + 64 * 7;
 pub struct FrameRequest<'a> {
     /// The path of the configuration record, or `-` for standard input.
     pub config: &'a str,
-    /// The transmission mode.
-    pub mode: Mode,
+    /// The layout of the frame: the transmission mode, and the number of FIBs that the entries leave free.
+    pub layout: FrameLayout,
     /// The identifier of the ensemble and the CIF count, without change flags.
     pub ensemble: Ensemble,
     /// The page number, from 0.
@@ -59,16 +59,16 @@ pub fn show_frame<'a, F: Files, W: Write>(
     out: &mut W,
 ) -> Result<Status, Failure<'a>>
     ensures input { request.now.config.now ≡ codes "-" → IfSome (F.known_input files.old) (λ bytes.
-        IfOk result (ShowsFrame request.now.raw (frame_of request.now.mode request.now.ensemble
+        IfOk result (ShowsFrame request.now.raw (frame_of request.now.layout request.now.ensemble
         request.now.page (take most_bytes bytes)) (W.contents out.old) (W.contents out.new))) }
     ensures file { request.now.config.now ≢ codes "-" → IfSome (F.known files.old request.now.config.now) (λ bytes.
-        IfOk result (ShowsFrame request.now.raw (frame_of request.now.mode request.now.ensemble
+        IfOk result (ShowsFrame request.now.raw (frame_of request.now.layout request.now.ensemble
         request.now.page (take most_bytes bytes)) (W.contents out.old) (W.contents out.new))) }
 {
     let record = read_input(alloc, files, request.config, MOST_BYTES + 1)?;
     match frame_of(
         record.as_slice(),
-        request.mode,
+        request.layout,
         request.ensemble,
         request.page,
     ) {
@@ -84,16 +84,17 @@ pub fn show_frame<'a, F: Files, W: Write>(
 }
 
 /// The FIBs of page `index` of the configuration in a record, with FIG 0/0 of `ensemble` if its count is a
-/// multiple of the mode's step: 4, 1, 1 or 2 (EN 300 401 clauses 5.1 and 6.4).
+/// multiple of the mode's step: 4, 1, 1 or 2 (EN 300 401 clauses 5.1 and 6.4). The reserved FIBs of the layout are
+/// empty.
 ///
 /// Returns the first fault: `Record`, `Trailing`, `Unsound`, `NoSuchPage`.
 pub fn frame_of(
     bytes: &[u8],
-    mode: Mode,
+    layout: FrameLayout,
     ensemble: Ensemble,
     index: u16,
 ) -> Result<FibFrame, FrameFault>
-    ensures { result ≡ frame_of mode ensemble index bytes.now }
+    ensures { result ≡ frame_of layout ensemble index bytes.now }
 {
     let (config, length) = match read_config(bytes) {
         Ok(read) => read,
@@ -105,24 +106,24 @@ pub fn frame_of(
     if let Err(fault) = soundness(&config) {
         return Err(FrameFault::Unsound(fault));
     }
-    page_of(&config, mode, ensemble, index)
+    page_of(&config, layout, ensemble, index)
 }
 
 /// The FIBs of page `index` of a configuration; `NoSuchPage` if there is no such page.
 pub fn page_of<'a>(
     config: &'a Config,
-    mode: Mode,
+    layout: FrameLayout,
     ensemble: Ensemble,
     index: u16,
 ) -> Result<FibFrame, FrameFault>
-    ensures { result ≡ page_or_fault mode ensemble index config.now }
+    ensures { result ≡ page_or_fault layout ensemble index config.now }
 {
     let alone: Option<&'a Config> = None;
     let index = usize::from(index);
-    if index >= pages(mode, config, alone) {
+    if index >= pages(layout, config, alone) {
         return Err(FrameFault::NoSuchPage);
     }
-    Ok(page(mode, config, alone, index, sent(mode, ensemble)))
+    Ok(page(layout, config, alone, index, sent(layout.mode(), ensemble)))
 }
 
 /// The ensemble information of this frame, which is sent if the count is a multiple of the mode's step.

@@ -6,12 +6,13 @@ use std::alloc::{AllocError, Global};
 use std::io::{self, Write};
 
 /// The keywords of the grammar, except those that begin a statement.
-const WORDS: [&str; 20] = [
+const WORDS: [&str; 21] = [
     "ensemble",
     "mode",
     "period",
     "notice",
     "budget",
+    "reserve",
     "begin",
     "at",
     "eep",
@@ -102,7 +103,11 @@ impl Expected {
             return Ok(());
         };
         let what = number_word(alloc, front, high)?;
-        let phrase = format!(in alloc; "{what}, {low} to {high}")?;
+        let phrase = if low == high {
+            format!(in alloc; "{what}, {low}")?
+        } else {
+            format!(in alloc; "{what}, {low} to {high}")?
+        };
         self.add(alloc, phrase.as_str())
     }
 
@@ -191,6 +196,7 @@ fn number_in(word: &[u8], high: u32) -> &'static str {
         b"period" => "the period in frames",
         b"notice" => "the notice in frames",
         b"budget" => "the budget in instructions per frame",
+        b"reserve" => "the number of FIBs of a frame to reserve",
         b"sub" => "a SubChId",
         b"audio" | b"data" | b"type" => "a type",
         b"packet" | b"carry" => "an SCId",

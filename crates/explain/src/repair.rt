@@ -4,12 +4,13 @@ use crate::probe::Front;
 use std::alloc::{AllocError, Global};
 
 /// The keywords of the grammar.
-const WORDS: [&str; 38] = [
+const WORDS: [&str; 39] = [
     "ensemble",
     "mode",
     "period",
     "notice",
     "budget",
+    "reserve",
     "define",
     "begin",
     "sub",

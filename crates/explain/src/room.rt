@@ -1,14 +1,63 @@
 //! Explains configurations that need too many pages.
 
+ghost use Rattle.std.specs.Prelude.{◌≡◌, None, Some};
+ghost use Rattle.fib_carousel.specs.Pages.{page_set, rounds};
+ghost use Rattle.fib_codec.specs.Layouts.{layout_mode, reserved_fibs};
+
 use fib_carousel::pages;
+use fib_codec::FrameLayout;
 use mux_config::Config;
 use plan_code::Plan;
 use std::io::{self, Write};
 
-/// The number of pages of a configuration by itself.
-fn pages_alone(plan: &Plan, config: &Config) -> usize {
+/// The numbers of pages of a current and a next configuration, each alone and both together.
+#[derive(Clone, Copy)]
+struct Counts {
+    before: usize,
+    after: usize,
+    both: usize,
+}
+
+impl Counts {
+    /// Counts the pages with a layout.
+    fn of(layout: FrameLayout, current: &Config, next: &Config) -> Counts
+        ensures before { result.before ≡ rounds layout (page_set current.now None) }
+        ensures after { result.after ≡ rounds layout (page_set next.now None) }
+        ensures both { result.both ≡ rounds layout (page_set current.now (Some next.now)) }
+    {
+        Counts {
+            before: pages_alone(layout, current),
+            after: pages_alone(layout, next),
+            both: pages(layout, current, Some(next)),
+        }
+    }
+}
+
+/// The number of pages of a configuration alone.
+fn pages_alone(layout: FrameLayout, config: &Config) -> usize
+    ensures { result ≡ rounds layout (page_set config.now None) }
+{
     let alone: Option<&Config> = None;
-    pages(plan.mode, config, alone)
+    pages(layout, config, alone)
+}
+
+/// The layout of the same mode that reserves no FIB.
+fn without_reserve(layout: FrameLayout) -> FrameLayout
+    ensures mode { layout_mode result ≡ layout_mode layout }
+    ensures reserve { reserved_fibs result ≡ 0 }
+{
+    FrameLayout::Whole(layout.mode())
+}
+
+/// Writes which FIBs of a frame are left for pages.
+fn put_reserve<W: Write>(layout: FrameLayout, out: &mut W) -> io::Result<()> {
+    let reserve = layout.reserve();
+    let used = layout.used();
+    let fibs = layout.fibs();
+    write!(
+        out,
+        "'reserve {reserve}' leaves {used} of the {fibs} FIBs of a frame; without it "
+    )
 }
 
 /// Explains an opening whose pages take longer than the period.
@@ -18,11 +67,16 @@ pub(crate) fn explain_opening<W: Write>(
     out: &mut W,
 ) -> io::Result<()> {
     let period = plan.period;
-    let count = pages_alone(plan, opening);
+    let count = pages_alone(plan.layout, opening);
     writeln!(
         out,
         "the configuration takes {count} pages, a frame each; the period is {period} frames"
     )?;
+    if plan.layout.reserve() > 0 {
+        let fewer = pages_alone(without_reserve(plan.layout), opening);
+        put_reserve(plan.layout, out)?;
+        writeln!(out, "the configuration takes {fewer} pages")?;
+    }
     writeln!(out, "hint: a period of {count}, or fewer entries")
 }
 
@@ -35,15 +89,26 @@ pub(crate) fn explain_round<W: Write>(
 ) -> io::Result<()> {
     let period = plan.period;
     let notice = plan.notice;
-    let before = pages_alone(plan, current);
-    let after = pages_alone(plan, next);
-    let both = pages(plan.mode, current, Some(next));
+    let Counts {
+        before,
+        after,
+        both,
+    } = Counts::of(plan.layout, current, next);
     let least = both.max(after);
     let thrice = both.saturating_mul(3);
     writeln!(
         out,
         "the current configuration takes {before} pages, a frame each, the next {after}, and both together, in the notice, {both}; the period is {period} frames and the notice {notice}"
     )?;
+    if plan.layout.reserve() > 0 {
+        let fewer = Counts::of(without_reserve(plan.layout), current, next);
+        put_reserve(plan.layout, out)?;
+        writeln!(
+            out,
+            "they take {}, {} and {} pages",
+            fewer.before, fewer.after, fewer.both
+        )?;
+    }
     writeln!(
         out,
         "hint: a period of {least} or more, and a notice of {thrice} or more, which is three times both; or fewer entries"

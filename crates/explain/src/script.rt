@@ -37,18 +37,6 @@ struct PlanPath {
     stop: Option<Stop>,
 }
 
-/// The declarations of a script.
-fn plan_of(script: &Script) -> Plan {
-    let header = script.header();
-    Plan {
-        eid: header.eid,
-        mode: header.mode,
-        period: header.period,
-        notice: header.notice,
-        budget: header.budget,
-    }
-}
-
 /// Applies the items of a script, up to the first with a fault.
 fn add_items(
     script: &Script,
@@ -80,7 +68,7 @@ fn path_to(alloc: Global, script: &Script) -> Result<PlanPath, AllocError> {
         stop: None,
     };
     if is_made {
-        extend(&plan_of(script), script, &opening, &mut path_taken)?;
+        extend(&script.header(), script, &opening, &mut path_taken)?;
     }
     Ok(path_taken)
 }
@@ -238,7 +226,7 @@ fn explain_cause<W: Write>(
         return Err(Error::from(ErrorKind::OutOfMemory));
     };
     write!(out, "{path}:{line}: ")?;
-    explain_path(&plan_of(script), &path_taken, line, out)
+    explain_path(&script.header(), &path_taken, line, out)
 }
 
 /// Explains why a script with this text is not compiled: the objects and numbers involved, and a correction. Writes

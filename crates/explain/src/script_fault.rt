@@ -34,7 +34,7 @@ fn put_found<W: Write>(text: &str, position: Position, word: &str, out: &mut W) 
 }
 
 /// The keywords of a header, in order.
-const HEADER: [&str; 5] = ["ensemble", "mode", "period", "notice", "budget"];
+const HEADER: [&str; 6] = ["ensemble", "mode", "period", "notice", "budget", "reserve"];
 
 /// Whether a token is a header keyword where another one is expected.
 fn is_out_of_order(alloc: Global, front: &Front, token: &[u8]) -> Result<bool, AllocError> {

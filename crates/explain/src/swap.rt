@@ -55,7 +55,7 @@ pub(crate) fn explain_notice<W: Write>(plan: &Plan, delay: Delay, out: &mut W) -
 
 /// Explains a commit at a count that is not a possible count of a swap.
 pub(crate) fn explain_count<W: Write>(plan: &Plan, count: u16, out: &mut W) -> io::Result<()> {
-    let step = plan.mode.step();
+    let step = plan.layout.mode().step();
     let notice = plan.notice;
     writeln!(
         out,

@@ -6,7 +6,7 @@ use Rattle.std.proofs.Math.Seq.{get_or-append_seam, set-append_seam}
 use Rattle.mux_entries.specs.Facts.{Marked}
 use Rattle.mux_entries.specs.declared.entry.Entry.{Entry}
 use Rattle.fib_codec.specs.declared.head.Head.{Head}
-use Rattle.fib_codec.specs.declared.modes.Mode.{Mode}
+use Rattle.fib_codec.specs.declared.frame_layout.FrameLayout.{FrameLayout}
 use Rattle.fib_codec.specs.Spelling.{Written, head_of, head_byte, entry_bytes, entry_size, entries_bytes, fig_bytes, figs_bytes}
 use Rattle.fib_codec.proofs.Lengths.{entry_length, flat_map-append}
 use Rattle.fib_carousel.specs.declared.pack_state.EntryShape.{EntryShape}
@@ -286,33 +286,33 @@ put_next old bytes mid here m s (Some f) fig h headed sized room g = by (same_he
     by false e g = put_begun old bytes mid here m s fig h.is (apart_other old here m f h.end (same_as f s m false headed e)) headed sized room g
 
 -- ---- the loop: the entries of FIB n so far
-pub record FilledTo (mode : Mode) (ms : List Marked) (n : ℕ) (old : List ℕ) (c : Position) (last : Option OpenFig) (bytes : List ℕ) : Type 0 where
+pub record FilledTo (layout : FrameLayout) (ms : List Marked) (n : ℕ) (old : List ℕ) (c : Position) (last : Option OpenFig) (bytes : List ℕ) : Type 0 where
   pub from : ℕ
-  pub walked : Walked mode ms n from c
+  pub walked : Walked layout ms n from c
   pub filled : IsFilled old (take (c.index - from) (drop from ms)) last bytes
 
-pub filled_start : (mode : Mode) (ms : List Marked) (n : ℕ) (bytes : List ℕ) (c : Position) → IsAtFib mode ms n c → FilledTo mode ms n bytes c None bytes
-filled_start mode ms n bytes c s =
+pub filled_start : (layout : FrameLayout) (ms : List Marked) (n : ℕ) (bytes : List ℕ) (c : Position) → IsAtFib layout ms n c → FilledTo layout ms n bytes c None bytes
+filled_start layout ms n bytes c s =
     let none : c.index - c.index ≡ 0 = omega arith in
     let nothing : take (c.index - c.index) (drop c.index ms) ≡ [] = ap (λ k. take k (drop c.index ms)) none in
     record {
       from = c.index;
-      walked = walked_start mode ms n c s;
+      walked = walked_start layout ms n c s;
       filled = record { is = sym (append-nil bytes) ∙ ap (λ xs. bytes ++ figs_bytes (figs_of xs)) (sym nothing); end = nothing };
     }
 
 -- a step into an earlier FIB
-pub filled_before : (mode : Mode) (ms : List Marked) (n : ℕ) (old bytes : List ℕ) (c d : Position) (last : Option OpenFig) → Passed mode ms c.index c.state d.state → d.index ≡ c.index + 1 → d.state.fib < n
-    → d.state.used ≤ 30 → d.state.fib ≤ c.state.fib + 2 → c.index < length ms → FilledTo mode ms n old c last bytes → FilledTo mode ms n old d last bytes
-filled_before mode ms n old bytes c d last s at before used near inside w =
-    let above : c.state.fib ≤ d.state.fib = passed_above mode ms c.index c.state d.state s in
+pub filled_before : (layout : FrameLayout) (ms : List Marked) (n : ℕ) (old bytes : List ℕ) (c d : Position) (last : Option OpenFig) → Passed layout ms c.index c.state d.state → d.index ≡ c.index + 1 → d.state.fib < n
+    → d.state.used ≤ 30 → d.state.fib ≤ c.state.fib + 2 → c.index < length ms → FilledTo layout ms n old c last bytes → FilledTo layout ms n old d last bytes
+filled_before layout ms n old bytes c d last s at before used near inside w =
+    let above : c.state.fib ≤ d.state.fib = passed_above layout ms c.index c.state d.state s in
     let fresh : c.index - w.from ≡ 0 = elim w.walked.kind [ inl e ↦ omega (arith, e) | inr e ↦ absurd (omega (arith, e, above, before)) ] in
     let none : d.index - d.index ≡ 0 = omega arith in
     let same : take (c.index - w.from) (drop w.from ms) ≡ take (d.index - d.index) (drop d.index ms) =
     ap (λ k. take k (drop w.from ms)) fresh ∙ ap (λ k. take k (drop d.index ms)) (sym none) in
     record {
       from = d.index;
-      walked = walked_before mode ms n w.from c d s at before used near inside w.walked;
+      walked = walked_before layout ms n w.from c d s at before used near inside w.walked;
       filled = subst (λ (xs : List Marked). IsFilled old xs last bytes) same w.filled;
     }
 
@@ -321,14 +321,14 @@ pub figs_size_part : (h : Option Head) (xs ys : List Marked) → figs_size h xs 
 figs_size_part h [] ys = omega arith
 figs_size_part h (x ∷ xs) ys = omega (arith, figs_size_part (Some (head_of x)) xs ys)
 
-room_next : (mode : Mode) (ms : List Marked) (n from top : ℕ) (c : Position) (q : PackState) (s : Passed mode ms c.index c.state q) → q.fib ≡ n → Walked mode ms n from c
-    → top + figs_size None (fib_entries mode n ms) ≤ 30 → top + figs_size None (take (c.index - from) (drop from ms) ++ s.entry ∷ []) ≤ 30
-room_next mode ms n from top c q s into w room =
+room_next : (layout : FrameLayout) (ms : List Marked) (n from top : ℕ) (c : Position) (q : PackState) (s : Passed layout ms c.index c.state q) → q.fib ≡ n → Walked layout ms n from c
+    → top + figs_size None (fib_entries layout n ms) ≤ 30 → top + figs_size None (take (c.index - from) (drop from ms) ++ s.entry ∷ []) ≤ 30
+room_next layout ms n from top c q s into w room =
     let piece = take (c.index - from) (drop from ms) in
-    let rest = rest_in mode n ms (c.index + 1) q in
-    let whole : (piece ++ s.entry ∷ []) ++ rest ≡ fib_entries mode n ms =
-    append_assoc piece (s.entry ∷ []) rest ∙ ap (λ xs. piece ++ xs) (sym (rest_takes mode n ms c.index c.state q s into)) ∙ w.here in
-    let part : figs_size None (piece ++ s.entry ∷ []) ≤ figs_size None (fib_entries mode n ms) =
+    let rest = rest_in layout n ms (c.index + 1) q in
+    let whole : (piece ++ s.entry ∷ []) ++ rest ≡ fib_entries layout n ms =
+    append_assoc piece (s.entry ∷ []) rest ∙ ap (λ xs. piece ++ xs) (sym (rest_takes layout n ms c.index c.state q s into)) ∙ w.here in
+    let part : figs_size None (piece ++ s.entry ∷ []) ≤ figs_size None (fib_entries layout n ms) =
     subst (λ (xs : List Marked). figs_size None (piece ++ s.entry ∷ []) ≤ figs_size None xs) whole (figs_size_part None (piece ++ s.entry ∷ []) rest) in
     omega (arith, part, room)
 
@@ -336,30 +336,30 @@ pub same_there : (ms : List Marked) (i : ℕ) (a b : Marked) → slice_get ms i 
 same_there ms i a b h k = sym (get_or_from_slice_get ms i a a h) ∙ get_or_from_slice_get ms i b a k
 
 -- what is known of a step into FIB n
-pub record Entered (mode : Mode) (ms : List Marked) (n : ℕ) (old : List ℕ) (c d : Position) : Type 0 where
-  pub step : Passed mode ms c.index c.state d.state
+pub record Entered (layout : FrameLayout) (ms : List Marked) (n : ℕ) (old : List ℕ) (c d : Position) : Type 0 where
+  pub step : Passed layout ms c.index c.state d.state
   pub at : d.index ≡ c.index + 1
   pub into : d.state.fib ≡ n
   pub used : d.state.used ≤ 30
   pub near : d.state.fib ≤ c.state.fib + 2
   pub inside : c.index < length ms
-  pub room : length old + figs_size None (fib_entries mode n ms) ≤ 30
+  pub room : length old + figs_size None (fib_entries layout n ms) ≤ 30
 
-pub filled_fits : (mode : Mode) (ms : List Marked) (n : ℕ) (old bytes : List ℕ) (c d : Position) (last : Option OpenFig) (shape : EntryShape) (s : IsShapeAt ms c.index shape) → (e : Entered mode ms n old c d)
-    → FilledTo mode ms n old c last bytes → TakesEntry last shape bytes
-filled_fits mode ms n old bytes c d last shape s e w =
+pub filled_fits : (layout : FrameLayout) (ms : List Marked) (n : ℕ) (old bytes : List ℕ) (c d : Position) (last : Option OpenFig) (shape : EntryShape) (s : IsShapeAt ms c.index shape) → (e : Entered layout ms n old c d)
+    → FilledTo layout ms n old c last bytes → TakesEntry last shape bytes
+filled_fits layout ms n old bytes c d last shape s e w =
     let same : s.entry ≡ e.step.entry = same_there ms c.index s.entry e.step.entry s.here e.step.here in
     fits_next old bytes (take (c.index - w.from) (drop w.from ms)) e.step.entry shape last w.filled (s.head ∙ ap head_of same) (s.size ∙ ap size_of same)
-    (room_next mode ms n w.from (length old) c d.state e.step e.into w.walked e.room)
+    (room_next layout ms n w.from (length old) c d.state e.step e.into w.walked e.room)
 
-pub put_step : (mode : Mode) (ms : List Marked) (n : ℕ) (old bytes mid : List ℕ) (c d : Position) (last : Option OpenFig) (fig : OpenFig) (shape : EntryShape) (s : IsShapeAt ms c.index shape) (e : Entered mode ms n old c d)
-    → (w : FilledTo mode ms n old c last bytes) → Grows last shape bytes fig mid → Put old mid (take (c.index - w.from) (drop w.from ms)) e.step.entry fig
-put_step mode ms n old bytes mid c d last fig shape s e w g =
+pub put_step : (layout : FrameLayout) (ms : List Marked) (n : ℕ) (old bytes mid : List ℕ) (c d : Position) (last : Option OpenFig) (fig : OpenFig) (shape : EntryShape) (s : IsShapeAt ms c.index shape) (e : Entered layout ms n old c d)
+    → (w : FilledTo layout ms n old c last bytes) → Grows last shape bytes fig mid → Put old mid (take (c.index - w.from) (drop w.from ms)) e.step.entry fig
+put_step layout ms n old bytes mid c d last fig shape s e w g =
     let same : s.entry ≡ e.step.entry = same_there ms c.index s.entry e.step.entry s.here e.step.here in
     put_next old bytes mid (take (c.index - w.from) (drop w.from ms)) e.step.entry shape last fig w.filled (s.head ∙ ap head_of same) (s.size ∙ ap size_of same)
-    (room_next mode ms n w.from (length old) c d.state e.step e.into w.walked e.room) g
+    (room_next layout ms n w.from (length old) c d.state e.step e.into w.walked e.room) g
 
 -- the end of the walk
-pub filled_all : (mode : Mode) (ms : List Marked) (n : ℕ) (old bytes : List ℕ) (c : Position) (last : Option OpenFig) (w : FilledTo mode ms n old c last bytes) → take (c.index - w.from) (drop w.from ms) ≡ fib_entries mode n ms
-    → bytes ≡ old ++ figs_bytes (figs_of (fib_entries mode n ms))
-filled_all mode ms n old bytes c last w all = w.filled.is ∙ ap (λ xs. old ++ figs_bytes (figs_of xs)) all
+pub filled_all : (layout : FrameLayout) (ms : List Marked) (n : ℕ) (old bytes : List ℕ) (c : Position) (last : Option OpenFig) (w : FilledTo layout ms n old c last bytes) → take (c.index - w.from) (drop w.from ms) ≡ fib_entries layout n ms
+    → bytes ≡ old ++ figs_bytes (figs_of (fib_entries layout n ms))
+filled_all layout ms n old bytes c last w all = w.filled.is ∙ ap (λ xs. old ++ figs_bytes (figs_of xs)) all

@@ -10,12 +10,12 @@ use Rattle.mux_entries.specs.declared.entry.Entry.TheVariants.{Ensemble as Ensem
 use Rattle.fib_codec.specs.Modes.{with_fib}
 use Rattle.fib_codec.specs.Heard.{fib_at}
 use Rattle.fib_codec.specs.Spelling.{Written, entry_size, fig_bytes, figs_bytes, fib_bytes, filled, checked}
-use Rattle.fib_codec.specs.declared.modes.Mode.{Mode}
+use Rattle.fib_codec.specs.declared.frame_layout.FrameLayout.{FrameLayout}
 use Rattle.fib_codec.proofs.Finished.{length-filled}
 use Rattle.fib_carousel.specs.declared.kept_page.KeptPage.{KeptPage}
 use Rattle.fib_carousel.specs.Packing.{room}
 use Rattle.fib_carousel.specs.Pages.{fib_entries, first_fib, later_fibs}
-use Rattle.fib_carousel.specs.Bytes.{figs_of, ensemble_figs, page_bytes}
+use Rattle.fib_carousel.specs.Bytes.{figs_of, ensemble_figs, reserved_figs, page_bytes}
 use Rattle.fib_carousel.specs.Kept.{IsKept}
 use Rattle.fib_carousel.proofs.Least.{room_cases}
 use Rattle.fib_carousel.proofs.Sharing.{figs_cost}
@@ -80,17 +80,17 @@ with_fig e figs first is short =
     ∙ ap (λ t. checked (filled t)) (sym (flat_map-append (λ (w : Written). fig_bytes w.head w.entries) (ensemble_figs (Some e)) figs))
 
 -- the whole page
-pub kept_with : (mode : Mode) (ms : List Marked) (k : ℕ) (p : KeptPage) (e : EnsembleInformation) (first fib after : List ℕ) → IsKept mode ms k p
+pub kept_with : (layout : FrameLayout) (ms : List Marked) (k : ℕ) (p : KeptPage) (e : EnsembleInformation) (first fib after : List ℕ) → IsKept layout ms k p
     → first ≡ fib_at p.plain 0 → fib ≡ checked (figs_bytes (ensemble_figs (Some e)) ++ take (30 - length (figs_bytes (ensemble_figs (Some e)))) first)
-    → after ≡ with_fib 0 fib p.plain → after ≡ page_bytes mode (Some e) k ms
-kept_with mode ms k p e first fib after kept at is written =
-    let figs : List Written = figs_of (fib_entries mode (first_fib mode k) ms) in
-    let rest : List ℕ = flat_map fib_bytes (map (λ n. figs_of (fib_entries mode n ms)) (later_fibs mode k)) in
-    let long : length (fib_bytes figs) ≡ 32 = length-fib_bytes figs (page_fits mode None k ms (record { entries = kept.sendable; ensemble_within = tt })).0 in
+    → after ≡ with_fib 0 fib p.plain → after ≡ page_bytes layout (Some e) k ms
+kept_with layout ms k p e first fib after kept at is written =
+    let figs : List Written = figs_of (fib_entries layout (first_fib layout k) ms) in
+    let rest : List ℕ = flat_map fib_bytes (map (λ n. figs_of (fib_entries layout n ms)) (later_fibs layout k) ++ reserved_figs layout) in
+    let long : length (fib_bytes figs) ≡ 32 = length-fib_bytes figs (page_fits layout None k ms (record { entries = kept.sendable; ensemble_within = tt })).0 in
     let plain : p.plain ≡ fib_bytes figs ++ rest = kept.plain in
-    let size : length (figs_bytes figs) ≤ room mode (first_fib mode k) = rw (figs_cost (fib_entries mode (first_fib mode k) ms)) (fib_fits mode ms (first_fib mode k) kept.sendable) in
+    let size : length (figs_bytes figs) ≤ room layout (first_fib layout k) = rw (figs_cost (fib_entries layout (first_fib layout k) ms)) (fib_fits layout ms (first_fib layout k) kept.sendable) in
     let short : length (figs_bytes figs) ≤ 23 =
-    elim (room_cases mode (first_fib mode k)) [ inl c ↦ omega (arith, size, c.1) | inr c ↦ absurd (c.0 (first_of_page mode k)) ] in
+    elim (room_cases layout (first_fib layout k)) [ inl c ↦ omega (arith, size, c.1) | inr c ↦ absurd (c.0 (first_of_page layout k)) ] in
     let whole : first ≡ fib_bytes figs = at ∙ ap (λ t. take 32 t) plain ∙ take_at (fib_bytes figs) rest 32 long in
     written
     ∙ ap (λ t. fib ++ drop 32 t) plain

@@ -1,7 +1,8 @@
 -- What a receiver decodes from the bytes of a page.
-use Rattle.std.proofs.Common.{◌≡◌, ℕ, ◌+◌, ◌*◌, ◌≤◌, ◌==◌, ◌↔◌, Bool, true, false, List, [], ◌∷◌, ◌++◌, zero, suc, length, take, drop, map, flat_map, Option, Some, None, IfSome, IsSome, Contains, ◌%◌, ◌/◌, refl, sym, ◌∙◌, ap, subst, inl, inr, ◌⊎◌, if◌then◌else◌, arith, append_assoc, ◌-◌}
-use Rattle.fib_codec.specs.declared.modes.Mode.{Mode}
-use Rattle.std.proofs.lemmas.List.{length-append, take_at, drop_at, drop_all, drop-drop}
+use Rattle.std.proofs.Common.{◌≡◌, ℕ, ◌+◌, ◌*◌, ◌≤◌, ◌==◌, ◌↔◌, Bool, true, false, List, [], ◌∷◌, ◌++◌, zero, suc, length, take, drop, map, flat_map, Option, Some, None, IfSome, IsSome, Contains, ◌%◌, ◌/◌, refl, sym, ◌∙◌, ap, subst, inl, inr, ◌⊎◌, if◌then◌else◌, arith, append_assoc, ◌-◌, ◌<◌, replicate}
+use Rattle.fib_codec.specs.declared.frame_layout.FrameLayout.{FrameLayout}
+use Rattle.std.proofs.lemmas.List.{length-append, length-replicate, append-nil, take_at, drop_at, drop_all, drop-drop}
+use Rattle.std.proofs.lemmas.Grind.{flat_map-append}
 use Rattle.std.proofs.lemmas.List.Elements.{Contains-append_cases, Contains-append_left, Contains-append_right}
 use Rattle.mux_config.specs.Configuration.{Configuration, IsConfiguration}
 use Rattle.std.specs.List.{AllByRecursion}
@@ -18,13 +19,14 @@ use Rattle.fib_codec.proofs.Sent.{heard_is_written}
 use Rattle.fib_carousel.specs.Packing.{same_head, room, entries_where, IsPacking}
 use Rattle.fib_carousel.specs.Greedy.{packing}
 use Rattle.fib_carousel.specs.Pages.{page_set, fib_entries, page_entries, first_fib, later_fibs}
-use Rattle.fib_codec.specs.Modes.{fib_count}
+use Rattle.fib_codec.specs.Layouts.{used_fibs, reserved_fibs, frame_fibs, empty_fib}
+use Rattle.fib_codec.proofs.Layouts.{layouts_divide}
 use Rattle.fib_carousel.proofs.Widths.{some_fibs, first_of_page}
 use Rattle.std.proofs.lemmas.List.{length-map}
 use Rattle.std.proofs.lemmas.List.FromFn.{length-range_with_len}
-use Rattle.fib_carousel.specs.Bytes.{with_entry_first, figs_of, ensemble_figs, page_figs, page_bytes, figs_by, AreFibs}
+use Rattle.fib_carousel.specs.Bytes.{with_entry_first, figs_of, ensemble_figs, used_figs, reserved_figs, page_figs, page_bytes, figs_by, AreFibs}
 use Rattle.fib_carousel.specs.Carried.{IsSendable, AreSendable}
-use Rattle.fib_carousel.specs.Carried.{IsPageable}
+use Rattle.fib_carousel.specs.Carried.{IsPageable, PagesKeepReserve}
 use Rattle.fib_carousel.proofs.Least.{of_packing}
 use Rattle.fib_carousel.proofs.Pieces.{page_is_fibs}
 use Rattle.fib_carousel.proofs.Sharing.{same_head_is, figs_cost, written_of}
@@ -106,14 +108,14 @@ length-figs_bytes (f ∷ xs) ys =
     length-append (fig_bytes f.head f.entries) (figs_bytes (xs ++ ys))
     ∙ omega (arith, length-figs_bytes xs ys, length-append (fig_bytes f.head f.entries) (figs_bytes xs))
 
-fits_in : (mode : Mode) (o : Option EnsembleInformation) (n : ℕ) (ms : List Marked) → IsPageable o ms → (IsSome o → n % fib_count mode ≡ 0) → Fits (ensemble_figs o ++ figs_of (fib_entries mode n ms))
-fits_in mode o n ms h first =
-    let here : List Marked = fib_entries mode n ms in
-    let cost : length (figs_bytes (figs_of here)) ≤ room mode n = rw (figs_cost here) (fib_fits mode ms n h.entries) in
+fits_in : (layout : FrameLayout) (o : Option EnsembleInformation) (n : ℕ) (ms : List Marked) → IsPageable o ms → (IsSome o → n % used_fibs layout ≡ 0) → Fits (ensemble_figs o ++ figs_of (fib_entries layout n ms))
+fits_in layout o n ms h first =
+    let here : List Marked = fib_entries layout n ms in
+    let cost : length (figs_bytes (figs_of here)) ≤ room layout n = rw (figs_cost here) (fib_fits layout ms n h.entries) in
     record {
-      written = each_append IsWritten (ensemble_figs o) (figs_of here) (ensemble_written o h.ensemble_within) (written_figs here (sendable_where (λ m. m == n) ms (packing mode ms) h.entries));
+      written = each_append IsWritten (ensemble_figs o) (figs_of here) (ensemble_written o h.ensemble_within) (written_figs here (sendable_where (λ m. m == n) ms (packing layout ms) h.entries));
       ours = each_append IsOurs (ensemble_figs o) (figs_of here) (ensemble_ours o) (ours_figs here);
-      short = rw (length-figs_bytes (ensemble_figs o) (figs_of here)) (fib_room mode o n (length (figs_bytes (ensemble_figs o))) (length (figs_bytes (figs_of here))) (ensemble_low o) (ensemble_none o) first cost);
+      short = rw (length-figs_bytes (ensemble_figs o) (figs_of here)) (fib_room layout o n (length (figs_bytes (ensemble_figs o))) (length (figs_bytes (figs_of here))) (ensemble_low o) (ensemble_none o) first cost);
     }
 
 -- the FIBs of a page
@@ -121,12 +123,22 @@ each_of : {A B : Type 0} (P : B → Type 0) (f : A → B) → ((x : A) → P (f 
 each_of P f h [] = tt
 each_of P f h (x ∷ xs) = (h x, each_of P f h xs)
 
-pub page_fits : (mode : Mode) (o : Option EnsembleInformation) (k : ℕ) (ms : List Marked) → IsPageable o ms → AllByRecursion Fits (page_figs mode o k ms)
-page_fits mode o k ms h =
+each_replicate : {A : Type 0} (P : A → Type 0) (x : A) → P x → (n : ℕ) → AllByRecursion P (replicate n x)
+each_replicate P x h zero = tt
+each_replicate P x h (suc n) = (h, each_replicate P x h n)
+
+each_front : {A : Type 0} (P : A → Type 0) (xs ys : List A) → AllByRecursion P (xs ++ ys) → AllByRecursion P xs
+each_front P [] ys h = tt
+each_front P (x ∷ xs) ys h = (h.0, each_front P xs ys h.1)
+
+pub page_fits : (layout : FrameLayout) (o : Option EnsembleInformation) (k : ℕ) (ms : List Marked) → IsPageable o ms → AllByRecursion Fits (page_figs layout o k ms)
+page_fits layout o k ms h =
     let plain : IsPageable None ms = record { entries = h.entries; ensemble_within = tt } in
-    let first : Fits (ensemble_figs o ++ figs_of (fib_entries mode (first_fib mode k) ms)) = fits_in mode o (first_fib mode k) ms h (λ _. first_of_page mode k) in
-    let other : (n : ℕ) → Fits (figs_of (fib_entries mode n ms)) = λ n. fits_in mode None n ms plain (λ e. absurd (cc e)) in
-    (first, each_of Fits (λ n. figs_of (fib_entries mode n ms)) other (later_fibs mode k))
+    let first : Fits (ensemble_figs o ++ figs_of (fib_entries layout (first_fib layout k) ms)) = fits_in layout o (first_fib layout k) ms h (λ _. first_of_page layout k) in
+    let other : (n : ℕ) → Fits (figs_of (fib_entries layout n ms)) = λ n. fits_in layout None n ms plain (λ e. absurd (cc e)) in
+    each_append Fits (used_figs layout (packing layout ms) o k ms) (reserved_figs layout)
+    (first, each_of Fits (λ n. figs_of (fib_entries layout n ms)) other (later_fibs layout k))
+    (each_replicate Fits [] (record { written = tt; ours = tt; short = omega arith }) (reserved_fibs layout))
 
 pub length-fib_bytes : (figs : List Written) → Fits figs → length (fib_bytes figs) ≡ 32
 length-fib_bytes figs f =
@@ -148,16 +160,27 @@ length-fibs (figs ∷ rest) f =
     length-append (fib_bytes figs) (flat_map fib_bytes rest)
     ∙ omega (arith, length-fib_bytes figs f.0, length-fibs rest f.1)
 
-length-page_figs : (mode : Mode) (o : Option EnsembleInformation) (k : ℕ) (ms : List Marked) → length (page_figs mode o k ms) ≡ fib_count mode
-length-page_figs mode o k ms =
-    let later : length (map (λ n. figs_of (fib_entries mode n ms)) (later_fibs mode k)) ≡ fib_count mode - 1 =
-    length-map (later_fibs mode k) (λ n. figs_of (fib_entries mode n ms)) ∙ length-range_with_len (first_fib mode k + 1) (fib_count mode - 1) in
-    omega (arith, later, some_fibs mode)
+pub length-used_figs : (layout : FrameLayout) (o : Option EnsembleInformation) (k : ℕ) (ms : List Marked) → length (used_figs layout (packing layout ms) o k ms) ≡ used_fibs layout
+length-used_figs layout o k ms =
+    let later : length (map (λ n. figs_of (fib_entries layout n ms)) (later_fibs layout k)) ≡ used_fibs layout - 1 =
+    length-map (later_fibs layout k) (λ n. figs_of (fib_entries layout n ms)) ∙ length-range_with_len (first_fib layout k + 1) (used_fibs layout - 1) in
+    omega (arith, later, some_fibs layout)
 
-pub pages_are_valid : (mode : Mode) (o : Option EnsembleInformation) (k : ℕ) (ms : List Marked) → IsPageable o ms → AreFibs (page_figs mode o k ms) (page_bytes mode o k ms) × (length (page_bytes mode o k ms) ≡ 32 * fib_count mode)
-pages_are_valid mode o k ms h = (
-  are_fibs (page_figs mode o k ms) (page_fits mode o k ms h),
-  length-fibs (page_figs mode o k ms) (page_fits mode o k ms h) ∙ ap (λ n. 32 * n) (length-page_figs mode o k ms),
+length-page_figs : (layout : FrameLayout) (o : Option EnsembleInformation) (k : ℕ) (ms : List Marked) → length (page_figs layout o k ms) ≡ frame_fibs layout
+length-page_figs layout o k ms =
+    let reserved : length (reserved_figs layout) ≡ reserved_fibs layout = length-replicate (reserved_fibs layout) [] in
+    omega (
+      arith,
+      length-append (used_figs layout (packing layout ms) o k ms) (reserved_figs layout),
+      length-used_figs layout o k ms,
+      reserved,
+      (layouts_divide layout).0,
+    )
+
+pub pages_are_valid : (layout : FrameLayout) (o : Option EnsembleInformation) (k : ℕ) (ms : List Marked) → IsPageable o ms → AreFibs (page_figs layout o k ms) (page_bytes layout o k ms) × (length (page_bytes layout o k ms) ≡ 32 * frame_fibs layout)
+pages_are_valid layout o k ms h = (
+  are_fibs (page_figs layout o k ms) (page_fits layout o k ms h),
+  length-fibs (page_figs layout o k ms) (page_fits layout o k ms h) ∙ ap (λ n. 32 * n) (length-page_figs layout o k ms),
 )
 
 -- the entries in a FIB with such FIGs
@@ -222,29 +245,37 @@ first_says : (o : Option EnsembleInformation) (ms : List Marked) → marked_of (
 first_says None ms = figs_say ms
 first_says (Some e) ms = ap (λ xs. marked false (EnsembleOf e) ∷ xs) (figs_say ms)
 
-later_say : (mode : Mode) (ms : List Marked) (ns : List ℕ) → flat_map marked_of (map (λ n. figs_of (fib_entries mode n ms)) ns) ≡ flat_map (λ n. fib_entries mode n ms) ns
-later_say mode ms [] = refl
-later_say mode ms (n ∷ ns) =
-    ap (λ xs. xs ++ flat_map marked_of (map (λ n. figs_of (fib_entries mode n ms)) ns)) (figs_say (fib_entries mode n ms))
-    ∙ ap (λ xs. fib_entries mode n ms ++ xs) (later_say mode ms ns)
+later_say : (layout : FrameLayout) (ms : List Marked) (ns : List ℕ) → flat_map marked_of (map (λ n. figs_of (fib_entries layout n ms)) ns) ≡ flat_map (λ n. fib_entries layout n ms) ns
+later_say layout ms [] = refl
+later_say layout ms (n ∷ ns) =
+    ap (λ xs. xs ++ flat_map marked_of (map (λ n. figs_of (fib_entries layout n ms)) ns)) (figs_say (fib_entries layout n ms))
+    ∙ ap (λ xs. fib_entries layout n ms ++ xs) (later_say layout ms ns)
 
-page_says : (mode : Mode) (o : Option EnsembleInformation) (k : ℕ) (ms : List Marked) → flat_map marked_of (page_figs mode o k ms) ≡ ensemble_marked o ++ page_entries mode k ms
-page_says mode o k ms =
-    let first : List Marked = fib_entries mode (first_fib mode k) ms in
-    let later : List Marked = flat_map (λ n. fib_entries mode n ms) (later_fibs mode k) in
-    ap (λ xs. xs ++ flat_map marked_of (map (λ n. figs_of (fib_entries mode n ms)) (later_fibs mode k))) (first_says o first)
-    ∙ ap (λ xs. (ensemble_marked o ++ first) ++ xs) (later_say mode ms (later_fibs mode k))
+reserved_say : (n : ℕ) → flat_map marked_of (replicate n []) ≡ []
+reserved_say zero = refl
+reserved_say (suc n) = reserved_say n
+
+page_says : (layout : FrameLayout) (o : Option EnsembleInformation) (k : ℕ) (ms : List Marked) → flat_map marked_of (page_figs layout o k ms) ≡ ensemble_marked o ++ page_entries layout k ms
+page_says layout o k ms =
+    let first : List Marked = fib_entries layout (first_fib layout k) ms in
+    let later : List Marked = flat_map (λ n. fib_entries layout n ms) (later_fibs layout k) in
+    let used : List (List Written) = used_figs layout (packing layout ms) o k ms in
+    flat_map-append marked_of used (reserved_figs layout)
+    ∙ ap (λ xs. flat_map marked_of used ++ xs) (reserved_say (reserved_fibs layout))
+    ∙ append-nil (flat_map marked_of used)
+    ∙ ap (λ xs. xs ++ flat_map marked_of (map (λ n. figs_of (fib_entries layout n ms)) (later_fibs layout k))) (first_says o first)
+    ∙ ap (λ xs. (ensemble_marked o ++ first) ++ xs) (later_say layout ms (later_fibs layout k))
     ∙ append_assoc (ensemble_marked o) first later
-    ∙ ap (λ xs. ensemble_marked o ++ xs) (sym (page_is_fibs mode ms k))
+    ∙ ap (λ xs. ensemble_marked o ++ xs) (sym (page_is_fibs layout ms k))
 
-in_page : (mode : Mode) (o : Option EnsembleInformation) (k : ℕ) (ms : List Marked) (m : Marked) → IsPageable o ms → IsSentIn (page_bytes mode o k ms) m → Contains (ensemble_marked o) m ⊎ Contains (page_entries mode k ms) m
-in_page mode o k ms m h (place, inside) =
-    Contains-append_cases (ensemble_marked o) (page_entries mode k ms) m
-    (subst (λ (xs : List Marked). Contains xs m) (page_says mode o k ms) (row_heard (page_figs mode o k ms) m (page_fits mode o k ms h) place inside))
+in_page : (layout : FrameLayout) (o : Option EnsembleInformation) (k : ℕ) (ms : List Marked) (m : Marked) → IsPageable o ms → IsSentIn (page_bytes layout o k ms) m → Contains (ensemble_marked o) m ⊎ Contains (page_entries layout k ms) m
+in_page layout o k ms m h (place, inside) =
+    Contains-append_cases (ensemble_marked o) (page_entries layout k ms) m
+    (subst (λ (xs : List Marked). Contains xs m) (page_says layout o k ms) (row_heard (page_figs layout o k ms) m (page_fits layout o k ms h) place inside))
 
-of_page : (mode : Mode) (o : Option EnsembleInformation) (k : ℕ) (ms : List Marked) (m : Marked) → IsPageable o ms → Contains (ensemble_marked o ++ page_entries mode k ms) m → IsSentIn (page_bytes mode o k ms) m
-of_page mode o k ms m h inside =
-    row_sent (page_figs mode o k ms) m (page_fits mode o k ms h) (subst (λ (xs : List Marked). Contains xs m) (sym (page_says mode o k ms)) inside)
+of_page : (layout : FrameLayout) (o : Option EnsembleInformation) (k : ℕ) (ms : List Marked) (m : Marked) → IsPageable o ms → Contains (ensemble_marked o ++ page_entries layout k ms) m → IsSentIn (page_bytes layout o k ms) m
+of_page layout o k ms m h inside =
+    row_sent (page_figs layout o k ms) m (page_fits layout o k ms h) (subst (λ (xs : List Marked). Contains xs m) (sym (page_says layout o k ms)) inside)
 
 -- entries of a page are of FIG 0/1 to 0/3, and ensemble information is not
 each_contains : {A : Type 0} (P : A → Type 0) (xs : List A) (x : A) → AllByRecursion P xs → Contains xs x → P x
@@ -252,9 +283,9 @@ each_contains P [] x h inside = absurd (omega (arith, inside.1))
 each_contains P (y ∷ xs) x h (zero, lt, is) = subst P is h.0
 each_contains P (y ∷ xs) x h (suc i, lt, is) = each_contains P xs x h.1 (i, omega (arith, lt), is)
 
-organized : (mode : Mode) (k : ℕ) (ms : List Marked) (m : Marked) → AreSendable ms → Contains (page_entries mode k ms) m → 1 ≤ ext_of m.entry
-organized mode k ms m h inside =
-    let s : IsSendable m = each_contains IsSendable (page_entries mode k ms) m (sendable_where (λ n. n / fib_count mode == k) ms (packing mode ms) h) inside in
+organized : (layout : FrameLayout) (k : ℕ) (ms : List Marked) (m : Marked) → AreSendable ms → Contains (page_entries layout k ms) m → 1 ≤ ext_of m.entry
+organized layout k ms m h inside =
+    let s : IsSendable m = each_contains IsSendable (page_entries layout k ms) m (sendable_where (λ n. n / used_fibs layout == k) ms (packing layout ms) h) inside in
     s.organization
 
 ensemble_is : (o : Option EnsembleInformation) (m : Marked) → Contains (ensemble_marked o) m → (e : EnsembleInformation) × (o ≡ Some e) × (m ≡ marked false (EnsembleOf e))
@@ -262,10 +293,10 @@ ensemble_is None m inside = absurd (omega (arith, inside.1))
 ensemble_is (Some e) m (zero, lt, is) = (e, refl, sym is)
 ensemble_is (Some e) m (suc i, lt, is) = absurd (omega (arith, lt))
 
-pub pages_are_heard : (mode : Mode) (o : Option EnsembleInformation) (k : ℕ) (ms : List Marked) → IsPageable o ms → (m : Marked) → IsHeardInRow (page_bytes mode o k ms) m ↔ Contains (page_entries mode k ms) m
-pages_are_heard mode o k ms h m = (
+pub pages_are_heard : (layout : FrameLayout) (o : Option EnsembleInformation) (k : ℕ) (ms : List Marked) → IsPageable o ms → (m : Marked) → IsHeardInRow (page_bytes layout o k ms) m ↔ Contains (page_entries layout k ms) m
+pages_are_heard layout o k ms h m = (
   λ heard.
-      elim (in_page mode o k ms m h (heard.0, heard.1.inside)) [
+      elim (in_page layout o k ms m h (heard.0, heard.1.inside)) [
         | inl first ↦
             let e = ensemble_is o m first in
             let none : ext_of m.entry ≡ 0 = ap (λ (n : Marked). ext_of n.entry) e.2 in
@@ -273,28 +304,28 @@ pages_are_heard mode o k ms h m = (
         | inr here ↦ here
       ],
   λ here.
-      let found = of_page mode o k ms m h (Contains-append_right (ensemble_marked o) (page_entries mode k ms) m here) in
-      (found.0, record { organization = organized mode k ms m h.entries here; inside = found.1 }),
+      let found = of_page layout o k ms m h (Contains-append_right (ensemble_marked o) (page_entries layout k ms) m here) in
+      (found.0, record { organization = organized layout k ms m h.entries here; inside = found.1 }),
 )
 
-pub ensemble_is_heard : (mode : Mode) (o : Option EnsembleInformation) (k : ℕ) (ms : List Marked) → IsPageable o ms → (next : Bool) (e : EnsembleInformation) → IsEnsembleHeardInRow (page_bytes mode o k ms) next e ↔ ((next ≡ false) × (o ≡ Some e))
-ensemble_is_heard mode o k ms h next e = (
+pub ensemble_is_heard : (layout : FrameLayout) (o : Option EnsembleInformation) (k : ℕ) (ms : List Marked) → IsPageable o ms → (next : Bool) (e : EnsembleInformation) → IsEnsembleHeardInRow (page_bytes layout o k ms) next e ↔ ((next ≡ false) × (o ≡ Some e))
+ensemble_is_heard layout o k ms h next e = (
   λ heard.
-      elim (in_page mode o k ms (marked next (EnsembleOf e)) h (heard.0, heard.1)) [
+      elim (in_page layout o k ms (marked next (EnsembleOf e)) h (heard.0, heard.1)) [
         | inl first ↦
             let found = ensemble_is o (marked next (EnsembleOf e)) first in
             let flag : next ≡ false = ap (λ (n : Marked). n.next) found.2 in
             let entry : EnsembleOf e ≡ EnsembleOf found.0 = ap (λ (n : Marked). n.entry) found.2 in
             let same : e ≡ found.0 = cc entry in
             (flag, found.1 ∙ ap (λ (x : EnsembleInformation). Some x) (sym same))
-        | inr here ↦ absurd (omega (arith, organized mode k ms (marked next (EnsembleOf e)) h.entries here))
+        | inr here ↦ absurd (omega (arith, organized layout k ms (marked next (EnsembleOf e)) h.entries here))
       ],
   λ told.
       let marks : ensemble_marked o ≡ marked next (EnsembleOf e) ∷ [] =
       ap (λ (x : Option EnsembleInformation). ensemble_marked x) told.1 ∙ ap (λ (b : Bool). marked b (EnsembleOf e) ∷ []) (sym told.0) in
       let inside : Contains (ensemble_marked o) (marked next (EnsembleOf e)) =
       subst (λ (xs : List Marked). Contains xs (marked next (EnsembleOf e))) (sym marks) (0, omega arith, refl) in
-      let found = of_page mode o k ms (marked next (EnsembleOf e)) h (Contains-append_left (ensemble_marked o) (page_entries mode k ms) (marked next (EnsembleOf e)) inside) in
+      let found = of_page layout o k ms (marked next (EnsembleOf e)) h (Contains-append_left (ensemble_marked o) (page_entries layout k ms) (marked next (EnsembleOf e)) inside) in
       (found.0, found.1),
 )
 
@@ -302,10 +333,38 @@ pub page_sets_are_pageable : (c : Configuration) (n : Option Configuration) (o :
 page_sets_are_pageable c n o h next e = record { entries = sendable_page_set c n h next; ensemble_within = e }
 
 -- the bytes of a page, if its entries are given by an equal list
-pub valid_page : (mode : Mode) (o : Option EnsembleInformation) (k : ℕ) (ms known : List Marked) (bytes : List ℕ) → known ≡ ms → IsPageable o known → bytes ≡ page_bytes mode o k known → AreFibs (page_figs mode o k ms) bytes
-valid_page mode o k ms known bytes e h b =
-    subst (λ (xs : List Marked). AreFibs (page_figs mode o k xs) bytes) e
-    (subst (λ (xs : List ℕ). AreFibs (page_figs mode o k known) xs) (sym b) (pages_are_valid mode o k known h).0)
+pub valid_page : (layout : FrameLayout) (o : Option EnsembleInformation) (k : ℕ) (ms known : List Marked) (bytes : List ℕ) → known ≡ ms → IsPageable o known → bytes ≡ page_bytes layout o k known → AreFibs (page_figs layout o k ms) bytes
+valid_page layout o k ms known bytes e h b =
+    subst (λ (xs : List Marked). AreFibs (page_figs layout o k xs) bytes) e
+    (subst (λ (xs : List ℕ). AreFibs (page_figs layout o k known) xs) (sym b) (pages_are_valid layout o k known h).0)
 
-pub packed_page : (mode : Mode) (o : Option EnsembleInformation) (k : ℕ) (ms : List Marked) (bytes : List ℕ) → AreFibs (page_figs mode o k ms) bytes → (ns : List ℕ) → IsPacking mode ms ns → AreFibs (figs_by mode ns o k ms) bytes
-packed_page mode o k ms bytes valid ns p = subst (λ (numbers : List ℕ). AreFibs (figs_by mode numbers o k ms) bytes) (of_packing mode (λ (numbers : List ℕ). numbers) ms ns p) valid
+pub packed_page : (layout : FrameLayout) (o : Option EnsembleInformation) (k : ℕ) (ms : List Marked) (bytes : List ℕ) → AreFibs (page_figs layout o k ms) bytes → (ns : List ℕ) → IsPacking layout ms ns → AreFibs (figs_by layout ns o k ms) bytes
+packed_page layout o k ms bytes valid ns p = subst (λ (numbers : List ℕ). AreFibs (figs_by layout numbers o k ms) bytes) (of_packing layout (λ (numbers : List ℕ). numbers) ms ns p) valid
+
+-- the FIBs after those that carry FIGs
+fib_in_rest : (all : List (List Written)) (rest : List ℕ) (place : ℕ) → AllByRecursion Fits all → fib_at (flat_map fib_bytes all ++ rest) (length all + place) ≡ fib_at rest place
+fib_in_rest [] rest place f = let same : 0 + place ≡ place = omega arith in ap (λ n. fib_at rest n) same
+fib_in_rest (figs ∷ all) rest place f =
+    let count : suc (length all) + place ≡ suc (length all + place) = omega arith in
+    ap (λ n. fib_at ((fib_bytes figs ++ flat_map fib_bytes all) ++ rest) n) count
+    ∙ ap (λ xs. fib_at xs (suc (length all + place))) (append_assoc (fib_bytes figs) (flat_map fib_bytes all) rest)
+    ∙ fib_later figs (flat_map fib_bytes all ++ rest) (length all + place) f.0
+    ∙ fib_in_rest all rest place f.1
+
+empty_at : (count place : ℕ) → place < count → fib_at (flat_map fib_bytes (replicate count [])) place ≡ empty_fib
+empty_at zero place few = absurd (omega (arith, few))
+empty_at (suc count) zero few = fib_front [] (flat_map fib_bytes (replicate count [])) (record { written = tt; ours = tt; short = omega arith })
+empty_at (suc count) (suc place) few =
+    fib_later [] (flat_map fib_bytes (replicate count [])) place (record { written = tt; ours = tt; short = omega arith })
+    ∙ empty_at count place (omega (arith, few))
+
+pub pages_keep_reserve : PagesKeepReserve
+pages_keep_reserve layout o k ms h n from to =
+    let used : List (List Written) = used_figs layout (packing layout ms) o k ms in
+    let long : length used ≡ used_fibs layout = length-used_figs layout o k ms in
+    let all : AllByRecursion Fits used = each_front Fits used (reserved_figs layout) (page_fits layout o k ms h) in
+    let at : n ≡ length used + (n - used_fibs layout) = omega (arith, long, from) in
+    ap (λ xs. fib_at xs n) (flat_map-append fib_bytes used (reserved_figs layout))
+    ∙ ap (λ i. fib_at (flat_map fib_bytes used ++ flat_map fib_bytes (reserved_figs layout)) i) at
+    ∙ fib_in_rest used (flat_map fib_bytes (reserved_figs layout)) (n - used_fibs layout) all
+    ∙ empty_at (reserved_fibs layout) (n - used_fibs layout) (omega (arith, from, to, (layouts_divide layout).0))

@@ -1,8 +1,9 @@
 -- How many pages configurations can need.
 use Rattle.std.proofs.Common.{◌≡◌, ℕ, ◌+◌, ◌-◌, ◌*◌, ◌%◌, ◌<◌, ◌≤◌, ◌==◌, Bool, true, false, List, [], ◌∷◌, ◌++◌, zero, suc, length, map, Option, Some, None, refl, sym, ◌∙◌, ap, subst, inl, inr, ◌⊎◌, if◌then◌else◌, arith, eq-eqb}
-use Rattle.fib_codec.specs.declared.modes.Mode.{Mode}
+use Rattle.fib_codec.specs.declared.frame_layout.FrameLayout.{FrameLayout}
 use Rattle.fib_codec.specs.declared.modes.Mode.TheVariants.{I, II, III, IV}
-use Rattle.fib_codec.specs.Modes.{fib_count}
+use Rattle.fib_codec.specs.declared.frame_layout.FrameLayout.TheVariants.{Whole, ReserveOne, ReserveTwo}
+use Rattle.fib_codec.specs.Layouts.{used_fibs}
 use Rattle.fib_carousel.specs.Most.{most_alone, most_together}
 use Rattle.std.proofs.lemmas.Bool.{ne_eqb, cases_lt}
 use Rattle.std.proofs.Math.Nat.{mul-le-mul_left}
@@ -20,6 +21,7 @@ use Rattle.fib_carousel.specs.declared.pack_state.PackState.{PackState}
 use Rattle.fib_carousel.specs.Packing.{room, size_of, cost, last_number}
 use Rattle.fib_carousel.specs.Greedy.{numbers_from, placed, extended, opened, start, packing}
 use Rattle.fib_carousel.specs.Pages.{page_set, rounds}
+use Rattle.fib_carousel.proofs.Widths.{by_width}
 use Rattle.fib_carousel.proofs.Least.{room_cases, placed_cases, Leaves}
 use Rattle.fib_carousel.proofs.Sent.{same_head_own}
 use Rattle.fib_carousel.proofs.Sendable.{each_map, service_small, length-component_entries}
@@ -65,7 +67,14 @@ cap_three a b n =
           ]
     ]
 
--- and four do in mode III
+-- and two do where a page has two, and four where it has four
+cap_two : (a b n : ℕ) → cap 2 a b n + cap 2 a b (suc n) ≡ a + b
+cap_two a b n =
+    elim (cases_lt (n % 2) 1) [
+      | inl zero_left ↦ omega (arith, cap_first 2 a b n (omega (arith, zero_left)), cap_other 2 a b (suc n) (λ q. omega (arith, zero_left, q)))
+      | inr some_left ↦ omega (arith, cap_other 2 a b n (λ q. omega (arith, some_left, q)), cap_first 2 a b (suc n) (omega (arith, some_left)))
+    ]
+
 cap_four : (a b n : ℕ) → cap 4 a b n + cap 4 a b (suc n) + cap 4 a b (suc (suc n)) + cap 4 a b (suc (suc (suc n))) ≡ a + b + b + b
 cap_four a b n =
     elim (cases_lt (n % 4) 1) [
@@ -103,6 +112,11 @@ cap_four a b n =
 abbrev Takes : ℕ → ℕ → ℕ → ℕ → Type 0
 Takes w a b page = (n : ℕ) → total w a b (n + w) ≡ total w a b n + page
 
+page_two : (a b page : ℕ) → page ≡ a + b → Takes 2 a b page
+page_two a b page e n =
+    let next : n + 2 ≡ suc (suc n) = omega arith in
+    ap (λ k. total 2 a b k) next ∙ omega (arith, cap_two a b n, e)
+
 page_three : (a b page : ℕ) → page ≡ a + b + b → Takes 3 a b page
 page_three a b page e n =
     let next : n + 3 ≡ suc (suc (suc n)) = omega arith in
@@ -131,6 +145,11 @@ total_more w a b n (suc k) =
 total_mono : (w a b m n : ℕ) → m ≤ n → total w a b m ≤ total w a b n
 total_mono w a b m n h = let whole : m + (n - m) ≡ n = omega (arith, h) in subst (λ k. total w a b m ≤ total w a b k) whole (total_more w a b m (n - m))
 
+total_one : (w a b n k : ℕ) → k ≡ n + 1 → a ≤ b → total w a b n + a ≤ total w a b k
+total_one w a b n k e h =
+    let one : k ≡ suc n = omega (arith, e) in
+    subst (λ i. total w a b n + a ≤ total w a b i) (sym one) (omega (arith, cap_low w a b n h))
+
 total_two : (w a b n k : ℕ) → k ≡ n + 2 → a ≤ b → total w a b n + (a + a) ≤ total w a b k
 total_two w a b n k e h =
     let two : k ≡ suc (suc n) = omega (arith, e) in
@@ -141,27 +160,27 @@ abbrev IsOfKind : ℕ → ℕ → ℕ → Head → Marked → Type 0
 IsOfKind a b s h m = (size_of m ≤ s) × ((head_of m ≡ h) ⊎ ((a ≤ 1) × (b ≤ 1)))
 
 -- a FIB has room for the number of them that `cap` gives
-abbrev Holds : (mode : Mode) → ℕ → ℕ → ℕ → Type 0
-Holds mode a b s = (n : ℕ) → 1 ≤ cap (fib_count mode) a b n → 2 + s * cap (fib_count mode) a b n ≤ room mode n
+abbrev Holds : (layout : FrameLayout) → ℕ → ℕ → ℕ → Type 0
+Holds layout a b s = (n : ℕ) → 1 ≤ cap (used_fibs layout) a b n → 2 + s * cap (used_fibs layout) a b n ≤ room layout n
 
-cap_small : (mode : Mode) (a b n : ℕ) → (a ≤ 1) × (b ≤ 1) → cap (fib_count mode) a b n ≤ 1
-cap_small mode a b n h =
-    elim (room_cases mode n) [
-      | inl c ↦ subst (λ k. k ≤ 1) (sym (cap_first (fib_count mode) a b n c.0)) h.0
-      | inr c ↦ subst (λ k. k ≤ 1) (sym (cap_other (fib_count mode) a b n c.0)) h.1
+cap_small : (layout : FrameLayout) (a b n : ℕ) → (a ≤ 1) × (b ≤ 1) → cap (used_fibs layout) a b n ≤ 1
+cap_small layout a b n h =
+    elim (room_cases layout n) [
+      | inl c ↦ subst (λ k. k ≤ 1) (sym (cap_first (used_fibs layout) a b n c.0)) h.0
+      | inr c ↦ subst (λ k. k ≤ 1) (sym (cap_other (used_fibs layout) a b n c.0)) h.1
     ]
 
 -- the progress after i entries of a kind, if the entry before them is in FIB f: still there, or further on with the
 -- FIBs between filled
-pub record Further (mode : Mode) (a b s f i : ℕ) (h : Head) (q : PackState) : Type 0 where
+pub record Further (layout : FrameLayout) (a b s f i : ℕ) (h : Head) (q : PackState) : Type 0 where
   pub above : f < q.fib
   pub count : ℕ
   pub some : 1 ≤ count
-  pub spent : total (fib_count mode) a b q.fib + count ≤ total (fib_count mode) a b (f + 1) + i
-  pub filled : (cap (fib_count mode) a b q.fib ≤ count) ⊎ ((q.head ≡ Some h) × (q.used ≤ 2 + s * count))
+  pub spent : total (used_fibs layout) a b q.fib + count ≤ total (used_fibs layout) a b (f + 1) + i
+  pub filled : (cap (used_fibs layout) a b q.fib ≤ count) ⊎ ((q.head ≡ Some h) × (q.used ≤ 2 + s * count))
 
-abbrev Comes : (mode : Mode) → ℕ → ℕ → ℕ → ℕ → ℕ → Head → PackState → Type 0
-Comes mode a b s f i h q = (q.fib ≡ f) ⊎ Further mode a b s f i h q
+abbrev Comes : (layout : FrameLayout) → ℕ → ℕ → ℕ → ℕ → ℕ → Head → PackState → Type 0
+Comes layout a b s f i h q = (q.fib ≡ f) ⊎ Further layout a b s f i h q
 
 -- after an entry with its head an entry costs its size
 cost_alike : (h : Option Head) (k : Head) (m : Marked) → h ≡ Some k → head_of m ≡ k → cost h m ≡ size_of m
@@ -170,8 +189,8 @@ cost_alike h k m e own =
     ap (λ (g : Option Head). cost g m) e ∙ same
 
 -- a step within a FIB
-further_stays : (mode : Mode) (a b s f i : ℕ) (h : Head) (m : Marked) (q : PackState) → IsOfKind a b s h m → Further mode a b s f i h q → Further mode a b s f (suc i) h (extended m q)
-further_stays mode a b s f i h m q kind c = record {
+further_stays : (layout : FrameLayout) (a b s f i : ℕ) (h : Head) (m : Marked) (q : PackState) → IsOfKind a b s h m → Further layout a b s f i h q → Further layout a b s f (suc i) h (extended m q)
+further_stays layout a b s f i h m q kind c = record {
   above = c.above;
   count = suc c.count;
   some = omega arith;
@@ -184,52 +203,52 @@ further_stays mode a b s f i h m q kind c = record {
               | inl own ↦
                   let price : cost q.head m ≡ size_of m = cost_alike q.head h m open_.0 own in
                   inr (ap (λ (g : Head). Some g) own, omega (arith, open_.1, price, kind.0))
-              | inr few ↦ inl (omega (arith, cap_small mode a b q.fib few))
+              | inr few ↦ inl (omega (arith, cap_small layout a b q.fib few))
             ]
       ];
 }
 
 -- the FIB that a step continues to, and those that it passes over
-passed_over : (mode : Mode) (a b s : ℕ) (h : Head) (m : Marked) (q : PackState) → Holds mode a b s → IsOfKind a b s h m → (c : Leaves mode m q) → total (fib_count mode) a b c.to ≡ total (fib_count mode) a b (suc q.fib)
-passed_over mode a b s h m q holds kind c =
+passed_over : (layout : FrameLayout) (a b s : ℕ) (h : Head) (m : Marked) (q : PackState) → Holds layout a b s → IsOfKind a b s h m → (c : Leaves layout m q) → total (used_fibs layout) a b c.to ≡ total (used_fibs layout) a b (suc q.fib)
+passed_over layout a b s h m q holds kind c =
     elim (cases_lt c.to (q.fib + 2)) [
-      | inl lt ↦ let one : c.to ≡ suc q.fib = omega (arith, lt, c.above) in ap (λ k. total (fib_count mode) a b k) one
+      | inl lt ↦ let one : c.to ≡ suc q.fib = omega (arith, lt, c.above) in ap (λ k. total (used_fibs layout) a b k) one
       | inr ge ↦
           let two : c.to ≡ suc (suc q.fib) = omega (arith, ge, c.near) in
-          elim (cases_lt 0 (cap (fib_count mode) a b (suc q.fib))) [
+          elim (cases_lt 0 (cap (used_fibs layout) a b (suc q.fib))) [
             | inl some_left ↦
-                let product : s * 1 ≤ s * cap (fib_count mode) a b (suc q.fib) = mul-le-mul_left s some_left in
-                let fits : 2 + size_of m ≤ room mode (suc q.fib) = omega (arith, holds (suc q.fib) some_left, kind.0, product) in
+                let product : s * 1 ≤ s * cap (used_fibs layout) a b (suc q.fib) = mul-le-mul_left s some_left in
+                let fits : 2 + size_of m ≤ room layout (suc q.fib) = omega (arith, holds (suc q.fib) some_left, kind.0, product) in
                 absurd (omega (arith, c.first (suc q.fib) (omega arith) fits, two))
             | inr none_left ↦
-                let none : total (fib_count mode) a b (suc (suc q.fib)) ≡ total (fib_count mode) a b (suc q.fib) = omega (arith, none_left) in
-                ap (λ k. total (fib_count mode) a b k) two ∙ none
+                let none : total (used_fibs layout) a b (suc (suc q.fib)) ≡ total (used_fibs layout) a b (suc q.fib) = omega (arith, none_left) in
+                ap (λ k. total (used_fibs layout) a b k) two ∙ none
           ]
     ]
 
 -- a step that leaves a FIB leaves it full
-left_full : (mode : Mode) (a b s f i : ℕ) (h : Head) (m : Marked) (q : PackState) → Holds mode a b s → IsOfKind a b s h m → (c : Leaves mode m q) → (d : Further mode a b s f i h q) → cap (fib_count mode) a b q.fib ≤ d.count
-left_full mode a b s f i h m q holds kind c d =
+left_full : (layout : FrameLayout) (a b s f i : ℕ) (h : Head) (m : Marked) (q : PackState) → Holds layout a b s → IsOfKind a b s h m → (c : Leaves layout m q) → (d : Further layout a b s f i h q) → cap (used_fibs layout) a b q.fib ≤ d.count
+left_full layout a b s f i h m q holds kind c d =
     elim d.filled [
       | inl full ↦ full
       | inr open_ ↦
           elim kind.1 [
             | inl own ↦
                 let price : cost q.head m ≡ size_of m = cost_alike q.head h m open_.0 own in
-                elim (cases_lt d.count (cap (fib_count mode) a b q.fib)) [
+                elim (cases_lt d.count (cap (used_fibs layout) a b q.fib)) [
                   | inl lt ↦
-                      let product : s * suc d.count ≤ s * cap (fib_count mode) a b q.fib = mul-le-mul_left s lt in
-                      let some_left : 1 ≤ cap (fib_count mode) a b q.fib = omega (arith, lt) in
+                      let product : s * suc d.count ≤ s * cap (used_fibs layout) a b q.fib = mul-le-mul_left s lt in
+                      let some_left : 1 ≤ cap (used_fibs layout) a b q.fib = omega (arith, lt) in
                       absurd (omega (arith, holds q.fib some_left, product, c.full, price, kind.0, open_.1))
                   | inr ge ↦ ge
                 ]
-            | inr few ↦ omega (arith, cap_small mode a b q.fib few, d.some)
+            | inr few ↦ omega (arith, cap_small layout a b q.fib few, d.some)
           ]
     ]
 
-further_leaves : (mode : Mode) (a b s f i : ℕ) (h : Head) (m : Marked) (q : PackState) → Holds mode a b s → IsOfKind a b s h m → Comes mode a b s f i h q → (c : Leaves mode m q) → Further mode a b s f (suc i) h (opened m c.to)
-further_leaves mode a b s f i h m q holds kind comes c =
-    let passed : total (fib_count mode) a b c.to ≡ total (fib_count mode) a b q.fib + cap (fib_count mode) a b q.fib = passed_over mode a b s h m q holds kind c in
+further_leaves : (layout : FrameLayout) (a b s f i : ℕ) (h : Head) (m : Marked) (q : PackState) → Holds layout a b s → IsOfKind a b s h m → Comes layout a b s f i h q → (c : Leaves layout m q) → Further layout a b s f (suc i) h (opened m c.to)
+further_leaves layout a b s f i h m q holds kind comes c =
+    let passed : total (used_fibs layout) a b c.to ≡ total (used_fibs layout) a b q.fib + cap (used_fibs layout) a b q.fib = passed_over layout a b s h m q holds kind c in
     record {
       above = elim comes [ inl e ↦ omega (arith, e, c.above) | inr d ↦ omega (arith, d.above, c.above) ];
       count = 1;
@@ -237,66 +256,69 @@ further_leaves mode a b s f i h m q holds kind comes c =
       spent =
           elim comes [
             | inl e ↦
-                let here : total (fib_count mode) a b (f + 1) ≡ total (fib_count mode) a b q.fib + cap (fib_count mode) a b q.fib =
-                let same : f + 1 ≡ suc q.fib = omega (arith, e) in ap (λ k. total (fib_count mode) a b k) same in
+                let here : total (used_fibs layout) a b (f + 1) ≡ total (used_fibs layout) a b q.fib + cap (used_fibs layout) a b q.fib =
+                let same : f + 1 ≡ suc q.fib = omega (arith, e) in ap (λ k. total (used_fibs layout) a b k) same in
                 omega (arith, passed, here)
-            | inr d ↦ omega (arith, passed, d.spent, left_full mode a b s f i h m q holds kind c d)
+            | inr d ↦ omega (arith, passed, d.spent, left_full layout a b s f i h m q holds kind c d)
           ];
       filled =
           elim kind.1 [
             | inl own ↦ inr (ap (λ (g : Head). Some g) own, omega (arith, kind.0))
-            | inr few ↦ inl (cap_small mode a b c.to few)
+            | inr few ↦ inl (cap_small layout a b c.to few)
           ];
     }
 
-comes_step : (mode : Mode) (a b s f i : ℕ) (h : Head) (m : Marked) (q : PackState) → Holds mode a b s → IsOfKind a b s h m → Comes mode a b s f i h q → Comes mode a b s f (suc i) h (placed mode m q)
-comes_step mode a b s f i h m q holds kind comes =
-    elim (placed_cases mode m q) [
+comes_step : (layout : FrameLayout) (a b s f i : ℕ) (h : Head) (m : Marked) (q : PackState) → Holds layout a b s → IsOfKind a b s h m → Comes layout a b s f i h q → Comes layout a b s f (suc i) h (placed layout m q)
+comes_step layout a b s f i h m q holds kind comes =
+    elim (placed_cases layout m q) [
       | inl c ↦
-          subst (λ (r : PackState). Comes mode a b s f (suc i) h r) (sym c.is)
-          (elim comes [ inl e ↦ inl e | inr d ↦ inr (further_stays mode a b s f i h m q kind d) ])
-      | inr c ↦ subst (λ (r : PackState). Comes mode a b s f (suc i) h r) (sym c.is) (inr (further_leaves mode a b s f i h m q holds kind comes c))
+          subst (λ (r : PackState). Comes layout a b s f (suc i) h r) (sym c.is)
+          (elim comes [ inl e ↦ inl e | inr d ↦ inr (further_stays layout a b s f i h m q kind d) ])
+      | inr c ↦ subst (λ (r : PackState). Comes layout a b s f (suc i) h r) (sym c.is) (inr (further_leaves layout a b s f i h m q holds kind comes c))
     ]
 
 -- the state after a list of entries
-abbrev behind : (mode : Mode) → PackState → List Marked → PackState
-behind mode p [] = p
-behind mode p (m ∷ ms) = behind mode (placed mode m p) ms
+abbrev behind : (layout : FrameLayout) → PackState → List Marked → PackState
+behind layout p [] = p
+behind layout p (m ∷ ms) = behind layout (placed layout m p) ms
 
-comes_all : (mode : Mode) (a b s f i : ℕ) (h : Head) (ms : List Marked) (q : PackState) → Holds mode a b s → AllByRecursion (IsOfKind a b s h) ms → Comes mode a b s f i h q → Comes mode a b s f (i + length ms) h (behind mode q ms)
-comes_all mode a b s f i h [] q holds kinds comes = let same : i + 0 ≡ i = omega arith in subst (λ n. Comes mode a b s f n h q) (sym same) comes
-comes_all mode a b s f i h (m ∷ ms) q holds kinds comes =
+comes_all : (layout : FrameLayout) (a b s f i : ℕ) (h : Head) (ms : List Marked) (q : PackState) → Holds layout a b s → AllByRecursion (IsOfKind a b s h) ms → Comes layout a b s f i h q → Comes layout a b s f (i + length ms) h (behind layout q ms)
+comes_all layout a b s f i h [] q holds kinds comes = let same : i + 0 ≡ i = omega arith in subst (λ n. Comes layout a b s f n h q) (sym same) comes
+comes_all layout a b s f i h (m ∷ ms) q holds kinds comes =
     let same : i + suc (length ms) ≡ suc i + length ms = omega arith in
-    subst (λ n. Comes mode a b s f n h (behind mode (placed mode m q) ms)) (sym same)
-    (comes_all mode a b s f (suc i) h ms (placed mode m q) holds kinds.1 (comes_step mode a b s f i h m q holds kinds.0 comes))
+    subst (λ n. Comes layout a b s f n h (behind layout (placed layout m q) ms)) (sym same)
+    (comes_all layout a b s f (suc i) h ms (placed layout m q) holds kinds.1 (comes_step layout a b s f i h m q holds kinds.0 comes))
 
 -- 64 entries of a kind go no further than the FIBs that take 64
-comes_within : (mode : Mode) (a b s f n k : ℕ) (h : Head) (q : PackState) → Comes mode a b s f n h q → n ≤ 64 → total (fib_count mode) a b (f + 1) + 64 ≤ total (fib_count mode) a b (f + 1 + k) → q.fib ≤ f + k
-comes_within mode a b s f n k h q comes few enough =
+comes_within : (layout : FrameLayout) (a b s f n k : ℕ) (h : Head) (q : PackState) → Comes layout a b s f n h q → n ≤ 64 → total (used_fibs layout) a b (f + 1) + 64 ≤ total (used_fibs layout) a b (f + 1 + k) → q.fib ≤ f + k
+comes_within layout a b s f n k h q comes few enough =
     elim comes [
       | inl e ↦ omega (arith, e)
       | inr d ↦
           elim (cases_lt (f + k) q.fib) [
-            | inl far ↦ absurd (omega (arith, total_mono (fib_count mode) a b (f + 1 + k) q.fib (omega (arith, far)), enough, d.spent, d.some, few))
+            | inl far ↦ absurd (omega (arith, total_mono (used_fibs layout) a b (f + 1 + k) q.fib (omega (arith, far)), enough, d.spent, d.some, few))
             | inr near ↦ near
           ]
     ]
 
--- this many more FIBs take 64 entries of a kind: of sub-channels, of services, and of packet components
-abbrev subs_most : Mode → ℕ
-subs_most I = 11
-subs_most II = 11
-subs_most III = 10
-subs_most IV = 11
+-- with pages of this many FIBs, 2 to 4, so many more FIBs take 64 entries of a kind: of sub-channels, of services, and
+-- of packet components
+abbrev subs_most : ℕ → ℕ
+subs_most fibs = if fibs == 4 then 10 else 11
 
-abbrev services_most : Mode → ℕ
-services_most I = 96
-services_most II = 96
-services_most III = 86
-services_most IV = 96
+abbrev services_most : ℕ → ℕ
+services_most fibs = if fibs == 2 then 128 else if fibs == 3 then 96 else 86
 
-abbrev Suffices : Mode → ℕ → ℕ → ℕ → ℕ → Type 0
-Suffices mode a b k f = total (fib_count mode) a b (f + 1) + 64 ≤ total (fib_count mode) a b (f + 1 + k)
+abbrev packets_most : ℕ → ℕ
+packets_most fibs = if fibs == 2 then 15 else 14
+
+abbrev Suffices : FrameLayout → ℕ → ℕ → ℕ → ℕ → Type 0
+Suffices layout a b k f = total (used_fibs layout) a b (f + 1) + 64 ≤ total (used_fibs layout) a b (f + 1 + k)
+
+subs_two : (f : ℕ) → total 2 5 7 (f + 1) + 64 ≤ total 2 5 7 (f + 1 + 11)
+subs_two f =
+    let pages : total 2 5 7 (f + 1 + 10) ≡ total 2 5 7 (f + 1) + 60 = total_pages 2 5 7 12 (f + 1) 5 (page_two 5 7 12 refl) in
+    omega (arith, pages, total_one 2 5 7 (f + 1 + 10) (f + 1 + 11) (omega arith) (omega arith))
 
 subs_three : (f : ℕ) → total 3 5 7 (f + 1) + 64 ≤ total 3 5 7 (f + 1 + 11)
 subs_three f =
@@ -321,11 +343,14 @@ subs_four f =
           | inr none_left ↦ omega (arith, cap_other 4 5 7 (suc n) (λ q. omega (arith, none_left, q)), low)
         ])
 
-subs_enough : (mode : Mode) (f : ℕ) → Suffices mode 5 7 (subs_most mode) f
-subs_enough I f = subs_three f
-subs_enough II f = subs_three f
-subs_enough III f = subs_four f
-subs_enough IV f = subs_three f
+subs_enough : (layout : FrameLayout) (f : ℕ) → Suffices layout 5 7 (subs_most (used_fibs layout)) f
+subs_enough layout f =
+    by_width (λ w. total w 5 7 (f + 1) + 64 ≤ total w 5 7 (f + 1 + subs_most w)) (subs_two f) (subs_three f) (subs_four f) layout
+
+services_two : (f : ℕ) → total 2 0 1 (f + 1) + 64 ≤ total 2 0 1 (f + 1 + 128)
+services_two f =
+    let pages : total 2 0 1 (f + 1 + 128) ≡ total 2 0 1 (f + 1) + 64 = total_pages 2 0 1 1 (f + 1) 64 (page_two 0 1 1 refl) in
+    omega (arith, pages)
 
 services_three : (f : ℕ) → total 3 0 1 (f + 1) + 64 ≤ total 3 0 1 (f + 1 + 96)
 services_three f =
@@ -347,19 +372,22 @@ services_four f =
           | inr none_left ↦ omega (arith, cap_other 4 0 1 (suc n) (λ q. omega (arith, none_left, q)))
         ])
 
-services_enough : (mode : Mode) (f : ℕ) → Suffices mode 0 1 (services_most mode) f
-services_enough I f = services_three f
-services_enough II f = services_three f
-services_enough III f = services_four f
-services_enough IV f = services_three f
+services_enough : (layout : FrameLayout) (f : ℕ) → Suffices layout 0 1 (services_most (used_fibs layout)) f
+services_enough layout f =
+    by_width (λ w. total w 0 1 (f + 1) + 64 ≤ total w 0 1 (f + 1 + services_most w)) (services_two f) (services_three f) (services_four f) layout
 
--- one FIB fewer in mode III after FIB 10
-services_behind_ten : Suffices III 0 1 85 10
+-- one FIB fewer with four FIBs to a page after FIB 10
+services_behind_ten : Suffices (Whole III) 0 1 85 10
 services_behind_ten =
     let pages : total 4 0 1 (11 + 84) ≡ total 4 0 1 11 + 63 = total_pages 4 0 1 3 11 21 (page_four 0 1 3 refl) in
     let one : cap 4 0 1 95 ≡ 1 = refl in
     let next : total 4 0 1 96 ≡ total 4 0 1 95 + cap 4 0 1 95 = refl in
     omega (arith, pages, one, next)
+
+packets_two : (f : ℕ) → total 2 4 5 (f + 1) + 64 ≤ total 2 4 5 (f + 1 + 15)
+packets_two f =
+    let pages : total 2 4 5 (f + 1 + 14) ≡ total 2 4 5 (f + 1) + 63 = total_pages 2 4 5 9 (f + 1) 7 (page_two 4 5 9 refl) in
+    omega (arith, pages, total_one 2 4 5 (f + 1 + 14) (f + 1 + 15) (omega arith) (omega arith))
 
 packets_three : (f : ℕ) → total 3 4 5 (f + 1) + 64 ≤ total 3 4 5 (f + 1 + 14)
 packets_three f =
@@ -371,28 +399,26 @@ packets_four f =
     let pages : total 4 4 5 (f + 1 + 12) ≡ total 4 4 5 (f + 1) + 57 = total_pages 4 4 5 19 (f + 1) 3 (page_four 4 5 19 refl) in
     omega (arith, pages, total_two 4 4 5 (f + 1 + 12) (f + 1 + 14) (omega arith) (omega arith))
 
-packets_enough : (mode : Mode) (f : ℕ) → Suffices mode 4 5 14 f
-packets_enough I f = packets_three f
-packets_enough II f = packets_three f
-packets_enough III f = packets_four f
-packets_enough IV f = packets_three f
+packets_enough : (layout : FrameLayout) (f : ℕ) → Suffices layout 4 5 (packets_most (used_fibs layout)) f
+packets_enough layout f =
+    by_width (λ w. total w 4 5 (f + 1) + 64 ≤ total w 4 5 (f + 1 + packets_most w)) (packets_two f) (packets_three f) (packets_four f) layout
 
-holds_by : (mode : Mode) (a b s : ℕ) → 2 + s * a ≤ 23 ⊎ (a ≡ 0) → 2 + s * b ≤ 30 → Holds mode a b s
-holds_by mode a b s first other n some_left =
-    elim (room_cases mode n) [
+holds_by : (layout : FrameLayout) (a b s : ℕ) → 2 + s * a ≤ 23 ⊎ (a ≡ 0) → 2 + s * b ≤ 30 → Holds layout a b s
+holds_by layout a b s first other n some_left =
+    elim (room_cases layout n) [
       | inl c ↦
-          let is : cap (fib_count mode) a b n ≡ a = cap_first (fib_count mode) a b n c.0 in
+          let is : cap (used_fibs layout) a b n ≡ a = cap_first (used_fibs layout) a b n c.0 in
           elim first [
-            | inl fits ↦ subst (λ k. 2 + s * k ≤ room mode n) (sym is) (omega (arith, fits, c.1))
+            | inl fits ↦ subst (λ k. 2 + s * k ≤ room layout n) (sym is) (omega (arith, fits, c.1))
             | inr none ↦ absurd (omega (arith, some_left, is, none))
           ]
-      | inr c ↦ subst (λ k. 2 + s * k ≤ room mode n) (sym (cap_other (fib_count mode) a b n c.0)) (omega (arith, other, c.1))
+      | inr c ↦ subst (λ k. 2 + s * k ≤ room layout n) (sym (cap_other (used_fibs layout) a b n c.0)) (omega (arith, other, c.1))
     ]
 
 -- a phase of at most 64 entries of a kind
-phase : (mode : Mode) (a b s k : ℕ) (h : Head) (ms : List Marked) (p : PackState) → Holds mode a b s → Suffices mode a b k p.fib → AllByRecursion (IsOfKind a b s h) ms → length ms ≤ 64 → (behind mode p ms).fib ≤ p.fib + k
-phase mode a b s k h ms p holds enough kinds few =
-    comes_within mode a b s p.fib (0 + length ms) k h (behind mode p ms) (comes_all mode a b s p.fib 0 h ms p holds kinds (inl refl)) (omega (arith, few)) enough
+phase : (layout : FrameLayout) (a b s k : ℕ) (h : Head) (ms : List Marked) (p : PackState) → Holds layout a b s → Suffices layout a b k p.fib → AllByRecursion (IsOfKind a b s h) ms → length ms ≤ 64 → (behind layout p ms).fib ≤ p.fib + k
+phase layout a b s k h ms p holds enough kinds few =
+    comes_within layout a b s p.fib (0 + length ms) k h (behind layout p ms) (comes_all layout a b s p.fib 0 h ms p holds kinds (inl refl)) (omega (arith, few)) enough
 
 -- the three kinds of entries
 abbrev head_ext : Bool → ℕ → Head
@@ -405,38 +431,38 @@ service_size s h =
 length-marked : {A : Type 0} (next : Bool) (f : A → Entry) (xs : List A) → length (map (marked next) (map f xs)) ≡ length xs
 length-marked next f xs = length-map (map f xs) (marked next) ∙ length-map xs f
 
-subs_phase : (mode : Mode) (c : Configuration) (next : Bool) (p : PackState) → IsConfiguration c → (behind mode p (map (marked next) (map sub_entry c.subs))).fib ≤ p.fib + subs_most mode
-subs_phase mode c next p h =
+subs_phase : (layout : FrameLayout) (c : Configuration) (next : Bool) (p : PackState) → IsConfiguration c → (behind layout p (map (marked next) (map sub_entry c.subs))).fib ≤ p.fib + subs_most (used_fibs layout)
+subs_phase layout c next p h =
     let kind : (s : Sub) → IsPlaced s → IsOfKind 5 7 4 (head_ext next 1) (marked next (sub_entry s)) = λ s _. (omega arith, inl refl) in
     let kinds : AllByRecursion (IsOfKind 5 7 4 (head_ext next 1)) (map (marked next) (map sub_entry c.subs)) =
     each_map (marked next) (λ e. IsOfKind 5 7 4 (head_ext next 1) (marked next e)) (IsOfKind 5 7 4 (head_ext next 1)) (map sub_entry c.subs) (λ e k. k)
     (each_map sub_entry IsPlaced (λ e. IsOfKind 5 7 4 (head_ext next 1) (marked next e)) c.subs kind h.subs_placed) in
-    phase mode 5 7 4 (subs_most mode) (head_ext next 1) (map (marked next) (map sub_entry c.subs)) p (holds_by mode 5 7 4 (inl (omega arith)) (omega arith)) (subs_enough mode p.fib) kinds
+    phase layout 5 7 4 (subs_most (used_fibs layout)) (head_ext next 1) (map (marked next) (map sub_entry c.subs)) p (holds_by layout 5 7 4 (inl (omega arith)) (omega arith)) (subs_enough layout p.fib) kinds
     (omega (arith, length-marked next sub_entry c.subs, h.subs_few))
 
-services_phase : (mode : Mode) (c : Configuration) (next : Bool) (p : PackState) (k : ℕ) → Suffices mode 0 1 k p.fib → IsConfiguration c → (behind mode p (map (marked next) (map service_entry c.services))).fib ≤ p.fib + k
-services_phase mode c next p k enough h =
+services_phase : (layout : FrameLayout) (c : Configuration) (next : Bool) (p : PackState) (k : ℕ) → Suffices layout 0 1 k p.fib → IsConfiguration c → (behind layout p (map (marked next) (map service_entry c.services))).fib ≤ p.fib + k
+services_phase layout c next p k enough h =
     let Kind : Entry → Type 0 = λ e. IsOfKind 0 1 27 (head_ext next 2) (marked next e) in
     let kind : (s : Service) → IsService s → Kind (service_entry s) = λ s k. (service_size s k, inr (omega arith, omega arith)) in
     let kinds : AllByRecursion (IsOfKind 0 1 27 (head_ext next 2)) (map (marked next) (map service_entry c.services)) =
     each_map (marked next) Kind (IsOfKind 0 1 27 (head_ext next 2)) (map service_entry c.services) (λ e k. k)
     (each_map service_entry IsService Kind c.services kind h.services_formed) in
-    phase mode 0 1 27 k (head_ext next 2) (map (marked next) (map service_entry c.services)) p (holds_by mode 0 1 27 (inr refl) (omega arith)) enough kinds
+    phase layout 0 1 27 k (head_ext next 2) (map (marked next) (map service_entry c.services)) p (holds_by layout 0 1 27 (inr refl) (omega arith)) enough kinds
     (omega (arith, length-marked next service_entry c.services, h.services_few))
 
-packets_phase : (mode : Mode) (c : Configuration) (next : Bool) (p : PackState) → IsConfiguration c → (behind mode p (map (marked next) (map packet_entry c.packets))).fib ≤ p.fib + 14
-packets_phase mode c next p h =
+packets_phase : (layout : FrameLayout) (c : Configuration) (next : Bool) (p : PackState) → IsConfiguration c → (behind layout p (map (marked next) (map packet_entry c.packets))).fib ≤ p.fib + packets_most (used_fibs layout)
+packets_phase layout c next p h =
     let Kind : Entry → Type 0 = λ e. IsOfKind 4 5 5 (head_ext next 3) (marked next e) in
     let kind : (k : Packet) → IsAddressed k → Kind (packet_entry k) = λ k _. (omega arith, inl refl) in
     let kinds : AllByRecursion (IsOfKind 4 5 5 (head_ext next 3)) (map (marked next) (map packet_entry c.packets)) =
     each_map (marked next) Kind (IsOfKind 4 5 5 (head_ext next 3)) (map packet_entry c.packets) (λ e k. k)
     (each_map packet_entry IsAddressed Kind c.packets kind h.packets_addressed) in
-    phase mode 4 5 5 14 (head_ext next 3) (map (marked next) (map packet_entry c.packets)) p (holds_by mode 4 5 5 (inl (omega arith)) (omega arith)) (packets_enough mode p.fib) kinds
+    phase layout 4 5 5 (packets_most (used_fibs layout)) (head_ext next 3) (map (marked next) (map packet_entry c.packets)) p (holds_by layout 4 5 5 (inl (omega arith)) (omega arith)) (packets_enough layout p.fib) kinds
     (omega (arith, length-marked next packet_entry c.packets, h.packets_few))
 
-behind-append : (mode : Mode) (p : PackState) (xs ys : List Marked) → behind mode p (xs ++ ys) ≡ behind mode (behind mode p xs) ys
-behind-append mode p [] ys = refl
-behind-append mode p (x ∷ xs) ys = behind-append mode (placed mode x p) xs ys
+behind-append : (layout : FrameLayout) (p : PackState) (xs ys : List Marked) → behind layout p (xs ++ ys) ≡ behind layout (behind layout p xs) ys
+behind-append layout p [] ys = refl
+behind-append layout p (x ∷ xs) ys = behind-append layout (placed layout x p) xs ys
 
 -- a configuration takes this many more FIBs
 abbrev subs_entries : Configuration → Bool → List Marked
@@ -448,68 +474,73 @@ services_only c next = map (marked next) (map service_entry c.services)
 abbrev packets_only : Configuration → Bool → List Marked
 packets_only c next = map (marked next) (map packet_entry c.packets)
 
-facts_walk : (mode : Mode) (c : Configuration) (next : Bool) (p : PackState) → behind mode p (facts_of c next) ≡ behind mode (behind mode (behind mode p (subs_entries c next)) (services_only c next)) (packets_only c next)
-facts_walk mode c next p =
+facts_walk : (layout : FrameLayout) (c : Configuration) (next : Bool) (p : PackState) → behind layout p (facts_of c next) ≡ behind layout (behind layout (behind layout p (subs_entries c next)) (services_only c next)) (packets_only c next)
+facts_walk layout c next p =
     let subs : List Marked = subs_entries c next in
     let services : List Marked = services_only c next in
     let packets : List Marked = packets_only c next in
     let parts : facts_of c next ≡ subs ++ (services ++ packets) =
     map-append (marked next) (sub_entries c) (service_entries c)
     ∙ ap (λ xs. subs ++ xs) (map-append (marked next) (map service_entry c.services) (map packet_entry c.packets)) in
-    ap (λ xs. behind mode p xs) parts ∙ behind-append mode p subs (services ++ packets) ∙ behind-append mode (behind mode p subs) services packets
+    ap (λ xs. behind layout p xs) parts ∙ behind-append layout p subs (services ++ packets) ∙ behind-append layout (behind layout p subs) services packets
 
-abbrev facts_most : Mode → ℕ
-facts_most mode = subs_most mode + services_most mode + 14
+abbrev facts_most : ℕ → ℕ
+facts_most fibs = subs_most fibs + services_most fibs + packets_most fibs
 
-facts_phase : (mode : Mode) (c : Configuration) (next : Bool) (p : PackState) → IsConfiguration c → (behind mode p (facts_of c next)).fib ≤ p.fib + facts_most mode
-facts_phase mode c next p h =
-    let first : PackState = behind mode p (subs_entries c next) in
-    let second : PackState = behind mode first (services_only c next) in
-    let one : first.fib ≤ p.fib + subs_most mode = subs_phase mode c next p h in
-    let two : second.fib ≤ first.fib + services_most mode = services_phase mode c next first (services_most mode) (services_enough mode first.fib) h in
-    let three : (behind mode second (packets_only c next)).fib ≤ second.fib + 14 = packets_phase mode c next second h in
-    subst (λ (q : PackState). q.fib ≤ p.fib + facts_most mode) (sym (facts_walk mode c next p)) (omega (arith, one, two, three))
+facts_phase : (layout : FrameLayout) (c : Configuration) (next : Bool) (p : PackState) → IsConfiguration c → (behind layout p (facts_of c next)).fib ≤ p.fib + facts_most (used_fibs layout)
+facts_phase layout c next p h =
+    let first : PackState = behind layout p (subs_entries c next) in
+    let second : PackState = behind layout first (services_only c next) in
+    let one : first.fib ≤ p.fib + subs_most (used_fibs layout) = subs_phase layout c next p h in
+    let two : second.fib ≤ first.fib + services_most (used_fibs layout) = services_phase layout c next first (services_most (used_fibs layout)) (services_enough layout first.fib) h in
+    let three : (behind layout second (packets_only c next)).fib ≤ second.fib + packets_most (used_fibs layout) = packets_phase layout c next second h in
+    subst (λ (q : PackState). q.fib ≤ p.fib + facts_most (used_fibs layout)) (sym (facts_walk layout c next p)) (omega (arith, one, two, three))
 
--- in mode III one FIB fewer from the start
-facts_first : (c : Configuration) → IsConfiguration c → (behind III start (facts_of c false)).fib ≤ 109
+-- with four FIBs to a page one FIB fewer from the start
+facts_first : (c : Configuration) → IsConfiguration c → (behind (Whole III) start (facts_of c false)).fib ≤ 109
 facts_first c h =
-    let first : PackState = behind III start (subs_entries c false) in
-    let second : PackState = behind III first (services_only c false) in
-    let one : first.fib ≤ 0 + 10 = subs_phase III c false start h in
+    let first : PackState = behind (Whole III) start (subs_entries c false) in
+    let second : PackState = behind (Whole III) first (services_only c false) in
+    let one : first.fib ≤ 0 + 10 = subs_phase (Whole III) c false start h in
     let two : second.fib ≤ 95 =
     elim (cases_lt first.fib 10) [
-      | inl lt ↦ omega (arith, lt, services_phase III c false first 86 (services_four first.fib) h)
+      | inl lt ↦ omega (arith, lt, services_phase (Whole III) c false first 86 (services_four first.fib) h)
       | inr ge ↦
           let at : first.fib ≡ 10 = omega (arith, ge, one) in
-          omega (arith, at, services_phase III c false first 85 (subst (λ f. Suffices III 0 1 85 f) (sym at) services_behind_ten) h)
+          omega (arith, at, services_phase (Whole III) c false first 85 (subst (λ f. Suffices (Whole III) 0 1 85 f) (sym at) services_behind_ten) h)
     ] in
-    let three : (behind III second (packets_only c false)).fib ≤ second.fib + 14 = packets_phase III c false second h in
-    subst (λ (q : PackState). q.fib ≤ 109) (sym (facts_walk III c false start)) (omega (arith, two, three))
+    let three : (behind (Whole III) second (packets_only c false)).fib ≤ second.fib + 14 = packets_phase (Whole III) c false second h in
+    subst (λ (q : PackState). q.fib ≤ 109) (sym (facts_walk (Whole III) c false start)) (omega (arith, two, three))
 
-last_behind : (mode : Mode) (p : PackState) (ms : List Marked) → last_number p.fib (numbers_from mode p ms) ≡ (behind mode p ms).fib
-last_behind mode p [] = refl
-last_behind mode p (m ∷ ms) = last_behind mode (placed mode m p) ms
+last_behind : (layout : FrameLayout) (p : PackState) (ms : List Marked) → last_number p.fib (numbers_from layout p ms) ≡ (behind layout p ms).fib
+last_behind layout p [] = refl
+last_behind layout p (m ∷ ms) = last_behind layout (placed layout m p) ms
 
 -- the last FIBs of one configuration and of two
-record Reach (mode : Mode) (c d : Configuration) (one two : ℕ) : Type 0 where
-  alone : last_number 0 (packing mode (page_set c None)) ≤ one
-  both : last_number 0 (packing mode (page_set c (Some d))) ≤ two
+record Reach (layout : FrameLayout) (c d : Configuration) (one two : ℕ) : Type 0 where
+  alone : last_number 0 (packing layout (page_set c None)) ≤ one
+  both : last_number 0 (packing layout (page_set c (Some d))) ≤ two
 
-reach : (mode : Mode) (c d : Configuration) (one two : ℕ) → IsConfiguration d → (behind mode start (facts_of c false)).fib ≤ one → one + facts_most mode ≤ two → Reach mode c d one two
-reach mode c d one two hd h sum =
-    let first : PackState = behind mode start (facts_of c false) in
-    let more : (behind mode first (facts_of d true)).fib ≤ first.fib + facts_most mode = facts_phase mode d true first hd in
-    let both : behind mode start (facts_of c false ++ facts_of d true) ≡ behind mode first (facts_of d true) = behind-append mode start (facts_of c false) (facts_of d true) in
-    let last_one : last_number 0 (packing mode (facts_of c false)) ≡ first.fib = last_behind mode start (facts_of c false) in
-    let last_two : last_number 0 (packing mode (facts_of c false ++ facts_of d true)) ≡ (behind mode first (facts_of d true)).fib =
-    last_behind mode start (facts_of c false ++ facts_of d true) ∙ ap (λ (q : PackState). q.fib) both in
+reach : (layout : FrameLayout) (c d : Configuration) (one two : ℕ) → IsConfiguration d → (behind layout start (facts_of c false)).fib ≤ one → one + facts_most (used_fibs layout) ≤ two → Reach layout c d one two
+reach layout c d one two hd h sum =
+    let first : PackState = behind layout start (facts_of c false) in
+    let more : (behind layout first (facts_of d true)).fib ≤ first.fib + facts_most (used_fibs layout) = facts_phase layout d true first hd in
+    let both : behind layout start (facts_of c false ++ facts_of d true) ≡ behind layout first (facts_of d true) = behind-append layout start (facts_of c false) (facts_of d true) in
+    let last_one : last_number 0 (packing layout (facts_of c false)) ≡ first.fib = last_behind layout start (facts_of c false) in
+    let last_two : last_number 0 (packing layout (facts_of c false ++ facts_of d true)) ≡ (behind layout first (facts_of d true)).fib =
+    last_behind layout start (facts_of c false ++ facts_of d true) ∙ ap (λ (q : PackState). q.fib) both in
     record {
       alone = omega (arith, h, last_one);
       both = omega (arith, more, h, sum, last_two);
     }
 
-pub most_pages : (mode : Mode) (c d : Configuration) → IsConfiguration c → IsConfiguration d → (rounds mode (page_set c None) ≤ most_alone mode) × (rounds mode (page_set c (Some d)) ≤ most_together mode)
-most_pages I c d hc hd = let r = reach I c d 121 242 hd (facts_phase I c false start hc) (omega arith) in (omega (arith, r.alone), omega (arith, r.both))
-most_pages II c d hc hd = let r = reach II c d 121 242 hd (facts_phase II c false start hc) (omega arith) in (omega (arith, r.alone), omega (arith, r.both))
-most_pages III c d hc hd = let r = reach III c d 109 219 hd (facts_first c hc) (omega arith) in (omega (arith, r.alone), omega (arith, r.both))
-most_pages IV c d hc hd = let r = reach IV c d 121 242 hd (facts_phase IV c false start hc) (omega arith) in (omega (arith, r.alone), omega (arith, r.both))
+pub most_pages : (layout : FrameLayout) (c d : Configuration) → IsConfiguration c → IsConfiguration d → (rounds layout (page_set c None) ≤ most_alone (used_fibs layout)) × (rounds layout (page_set c (Some d)) ≤ most_together (used_fibs layout))
+most_pages (Whole I) c d hc hd = let r = reach (Whole I) c d 121 242 hd (facts_phase (Whole I) c false start hc) (omega arith) in (omega (arith, r.alone), omega (arith, r.both))
+most_pages (Whole II) c d hc hd = let r = reach (Whole II) c d 121 242 hd (facts_phase (Whole II) c false start hc) (omega arith) in (omega (arith, r.alone), omega (arith, r.both))
+most_pages (Whole IV) c d hc hd = let r = reach (Whole IV) c d 121 242 hd (facts_phase (Whole IV) c false start hc) (omega arith) in (omega (arith, r.alone), omega (arith, r.both))
+most_pages (Whole III) c d hc hd = let r = reach (Whole III) c d 109 219 hd (facts_first c hc) (omega arith) in (omega (arith, r.alone), omega (arith, r.both))
+most_pages (ReserveOne I) c d hc hd = let r = reach (ReserveOne I) c d 154 308 hd (facts_phase (ReserveOne I) c false start hc) (omega arith) in (omega (arith, r.alone), omega (arith, r.both))
+most_pages (ReserveOne II) c d hc hd = let r = reach (ReserveOne II) c d 154 308 hd (facts_phase (ReserveOne II) c false start hc) (omega arith) in (omega (arith, r.alone), omega (arith, r.both))
+most_pages (ReserveOne IV) c d hc hd = let r = reach (ReserveOne IV) c d 154 308 hd (facts_phase (ReserveOne IV) c false start hc) (omega arith) in (omega (arith, r.alone), omega (arith, r.both))
+most_pages (ReserveOne III) c d hc hd = let r = reach (ReserveOne III) c d 121 242 hd (facts_phase (ReserveOne III) c false start hc) (omega arith) in (omega (arith, r.alone), omega (arith, r.both))
+most_pages ReserveTwo c d hc hd = let r = reach ReserveTwo c d 154 308 hd (facts_phase ReserveTwo c false start hc) (omega arith) in (omega (arith, r.alone), omega (arith, r.both))

@@ -1,6 +1,6 @@
 -- The list of entries cut into pages, and pages into FIBs: pieces of the list, joined in order.
 use Rattle.std.proofs.Common.{◌≡◌, ℕ, ◌+◌, ◌/◌, ◌<◌, ◌≤◌, ◌==◌, Bool, true, false, ◌&&◌, List, [], ◌∷◌, ◌++◌, zero, suc, length, refl, sym, ◌∙◌, ap, subst, inl, inr, if◌then◌else◌, nat_lt, nat_le, flat_map, ◌-◌, arith, eq-eqb, Contains, lt-ltb, le-ltb}
-use Rattle.fib_codec.specs.declared.modes.Mode.{Mode}
+use Rattle.fib_codec.specs.declared.frame_layout.FrameLayout.{FrameLayout}
 use Rattle.std.specs.List.{range_with_len}
 use Rattle.std.proofs.lemmas.Bool.{ne_eqb, cases_lt, le-leb, lt-leb}
 use Rattle.std.proofs.lemmas.List.Elements.{Contains-append_cases}
@@ -8,7 +8,7 @@ use Rattle.mux_entries.specs.Facts.{Marked}
 use Rattle.fib_carousel.specs.Packing.{entries_where, entries_in_fib, NeverFalls, last_number}
 use Rattle.fib_carousel.specs.Greedy.{start, packing}
 use Rattle.fib_carousel.specs.Pages.{rounds, fib_entries, page_entries, pages_below, first_fib, fibs_of_page}
-use Rattle.fib_codec.specs.Modes.{fib_count}
+use Rattle.fib_codec.specs.Layouts.{used_fibs}
 use Rattle.fib_carousel.proofs.Widths.{some_fibs, no_page, next_page, in_its_page, before_its_page, behind_its_page, later_page, within_its_page}
 use Rattle.fib_carousel.proofs.Least.{numbers_rise, length-numbers_from}
 
@@ -60,57 +60,57 @@ join_where first second both at s k (e ∷ es) (n ∷ ns) r =
     by true again = ap (λ xs. e ∷ xs) again
     by false again = again
 
-packing_rises : (mode : Mode) (es : List Marked) → NeverFalls 0 (packing mode es)
-packing_rises mode es = numbers_rise mode start es 0 (omega arith)
+packing_rises : (layout : FrameLayout) (es : List Marked) → NeverFalls 0 (packing layout es)
+packing_rises layout es = numbers_rise layout start es 0 (omega arith)
 
 -- the pages below k are the entries whose numbers are below that of its first FIB
-page_splits : (mode : Mode) (k : ℕ) → Splits (λ m. nat_lt m (first_fib mode k)) (λ m. m / fib_count mode == k) (λ m. nat_lt m (first_fib mode (suc k))) (first_fib mode k)
-page_splits mode k =
-    let next : first_fib mode (suc k) ≡ first_fib mode k + fib_count mode = next_page mode k in
+page_splits : (layout : FrameLayout) (k : ℕ) → Splits (λ m. nat_lt m (first_fib layout k)) (λ m. m / used_fibs layout == k) (λ m. nat_lt m (first_fib layout (suc k))) (first_fib layout k)
+page_splits layout k =
+    let next : first_fib layout (suc k) ≡ first_fib layout k + used_fibs layout = next_page layout k in
     record {
       low = λ m h. (
-        ne_eqb (m / fib_count mode) k (before_its_page mode k m h),
-        lt-ltb m (first_fib mode k) h ∙ sym (lt-ltb m (first_fib mode (suc k)) (omega (arith, h, next))),
+        ne_eqb (m / used_fibs layout) k (before_its_page layout k m h),
+        lt-ltb m (first_fib layout k) h ∙ sym (lt-ltb m (first_fib layout (suc k)) (omega (arith, h, next))),
       );
       high = λ m h. (
-        le-ltb m (first_fib mode k) h,
-        elim (cases_lt m (first_fib mode (suc k))) [
-          | inl lt ↦ eq-eqb (m / fib_count mode) k (in_its_page mode k m h (omega (arith, lt, next))) ∙ sym (lt-ltb m (first_fib mode (suc k)) lt)
-          | inr ge ↦ ne_eqb (m / fib_count mode) k (behind_its_page mode k m (omega (arith, ge, next))) ∙ sym (le-ltb m (first_fib mode (suc k)) ge)
+        le-ltb m (first_fib layout k) h,
+        elim (cases_lt m (first_fib layout (suc k))) [
+          | inl lt ↦ eq-eqb (m / used_fibs layout) k (in_its_page layout k m h (omega (arith, lt, next))) ∙ sym (lt-ltb m (first_fib layout (suc k)) lt)
+          | inr ge ↦ ne_eqb (m / used_fibs layout) k (behind_its_page layout k m (omega (arith, ge, next))) ∙ sym (le-ltb m (first_fib layout (suc k)) ge)
         ],
       );
     }
 
-below_is_where : (mode : Mode) (k : ℕ) (es : List Marked) → pages_below mode k es ≡ entries_where (λ m. nat_lt m (first_fib mode k)) es (packing mode es)
-below_is_where mode zero es =
-    let none : first_fib mode 0 ≡ 0 = no_page mode in
-    sym (none_where (λ m. nat_lt m (first_fib mode 0)) 0 (λ m h. le-ltb m (first_fib mode 0) (omega (arith, h, none))) es (packing mode es) (packing_rises mode es))
-below_is_where mode (suc k) es =
-    ap (λ xs. xs ++ page_entries mode k es) (below_is_where mode k es)
-    ∙ join_where (λ m. nat_lt m (first_fib mode k)) (λ m. m / fib_count mode == k) (λ m. nat_lt m (first_fib mode (suc k))) (first_fib mode k) (page_splits mode k) 0 es (packing mode es) (packing_rises mode es)
+below_is_where : (layout : FrameLayout) (k : ℕ) (es : List Marked) → pages_below layout k es ≡ entries_where (λ m. nat_lt m (first_fib layout k)) es (packing layout es)
+below_is_where layout zero es =
+    let none : first_fib layout 0 ≡ 0 = no_page layout in
+    sym (none_where (λ m. nat_lt m (first_fib layout 0)) 0 (λ m h. le-ltb m (first_fib layout 0) (omega (arith, h, none))) es (packing layout es) (packing_rises layout es))
+below_is_where layout (suc k) es =
+    ap (λ xs. xs ++ page_entries layout k es) (below_is_where layout k es)
+    ∙ join_where (λ m. nat_lt m (first_fib layout k)) (λ m. m / used_fibs layout == k) (λ m. nat_lt m (first_fib layout (suc k))) (first_fib layout k) (page_splits layout k) 0 es (packing layout es) (packing_rises layout es)
 
-pub pages_are_all : (mode : Mode) (es : List Marked) → pages_below mode (rounds mode es) es ≡ es
-pages_are_all mode es =
-    let top : ℕ = last_number 0 (packing mode es) in
-    let within : top < first_fib mode (rounds mode es) = within_its_page mode top in
-    below_is_where mode (rounds mode es) es
-    ∙ all_up_to (λ m. nat_lt m (first_fib mode (rounds mode es))) top (λ m h. lt-ltb m (first_fib mode (rounds mode es)) (omega (arith, h, within))) 0 es (packing mode es) (packing_rises mode es) (omega arith) (length-numbers_from mode start es)
+pub pages_are_all : (layout : FrameLayout) (es : List Marked) → pages_below layout (rounds layout es) es ≡ es
+pages_are_all layout es =
+    let top : ℕ = last_number 0 (packing layout es) in
+    let within : top < first_fib layout (rounds layout es) = within_its_page layout top in
+    below_is_where layout (rounds layout es) es
+    ∙ all_up_to (λ m. nat_lt m (first_fib layout (rounds layout es))) top (λ m h. lt-ltb m (first_fib layout (rounds layout es)) (omega (arith, h, within))) 0 es (packing layout es) (packing_rises layout es) (omega arith) (length-numbers_from layout start es)
 
-pub none_beyond : (mode : Mode) (es : List Marked) (k : ℕ) → rounds mode es ≤ k → page_entries mode k es ≡ []
-none_beyond mode es k h =
-    let top : ℕ = last_number 0 (packing mode es) in
-    none_up_to (λ m. m / fib_count mode == k) top (λ m l. ne_eqb (m / fib_count mode) k (λ q. omega (arith, h, q, later_page mode m top l))) 0 es (packing mode es) (packing_rises mode es) (omega arith)
+pub none_beyond : (layout : FrameLayout) (es : List Marked) (k : ℕ) → rounds layout es ≤ k → page_entries layout k es ≡ []
+none_beyond layout es k h =
+    let top : ℕ = last_number 0 (packing layout es) in
+    none_up_to (λ m. m / used_fibs layout == k) top (λ m l. ne_eqb (m / used_fibs layout) k (λ q. omega (arith, h, q, later_page layout m top l))) 0 es (packing layout es) (packing_rises layout es) (omega arith)
 
-in_some_page : (mode : Mode) (k : ℕ) (es : List Marked) (e : Marked) → Contains (pages_below mode k es) e → (j : ℕ) × (j < k) × Contains (page_entries mode j es) e
-in_some_page mode zero es e h = absurd (omega (arith, h.1))
-in_some_page mode (suc k) es e h =
-    elim (Contains-append_cases (pages_below mode k es) (page_entries mode k es) e h) [
-      | inl below ↦ let found = in_some_page mode k es e below in (found.0, omega (arith, found.1), found.2)
+in_some_page : (layout : FrameLayout) (k : ℕ) (es : List Marked) (e : Marked) → Contains (pages_below layout k es) e → (j : ℕ) × (j < k) × Contains (page_entries layout j es) e
+in_some_page layout zero es e h = absurd (omega (arith, h.1))
+in_some_page layout (suc k) es e h =
+    elim (Contains-append_cases (pages_below layout k es) (page_entries layout k es) e h) [
+      | inl below ↦ let found = in_some_page layout k es e below in (found.0, omega (arith, found.1), found.2)
       | inr here ↦ (k, omega arith, here)
     ]
 
-pub each_in_a_page : (mode : Mode) (es : List Marked) (e : Marked) → Contains es e → (k : ℕ) × (k < rounds mode es) × Contains (page_entries mode k es) e
-each_in_a_page mode es e h = in_some_page mode (rounds mode es) es e (subst (λ xs. Contains xs e) (sym (pages_are_all mode es)) h)
+pub each_in_a_page : (layout : FrameLayout) (es : List Marked) (e : Marked) → Contains es e → (k : ℕ) × (k < rounds layout es) × Contains (page_entries layout k es) e
+each_in_a_page layout es e h = in_some_page layout (rounds layout es) es e (subst (λ xs. Contains xs e) (sym (pages_are_all layout es)) h)
 
 -- the numbers of some successive FIBs, from n on
 abbrev in_span : ℕ → ℕ → ℕ → Bool
@@ -162,22 +162,22 @@ where_same f g h (e ∷ es) (n ∷ ns) =
     ap (λ b. if b then e ∷ entries_where f es ns else entries_where f es ns) (h n)
     ∙ ap (λ xs. if g n then e ∷ xs else xs) (where_same f g h es ns)
 
-span_of_page : (mode : Mode) (k m : ℕ) → in_span (first_fib mode k) (suc (fib_count mode - 1)) m ≡ (m / fib_count mode == k)
-span_of_page mode k m =
-    let first : ℕ = first_fib mode k in
-    let count : suc (fib_count mode - 1) ≡ fib_count mode = omega (arith, some_fibs mode) in
+span_of_page : (layout : FrameLayout) (k m : ℕ) → in_span (first_fib layout k) (suc (used_fibs layout - 1)) m ≡ (m / used_fibs layout == k)
+span_of_page layout k m =
+    let first : ℕ = first_fib layout k in
+    let count : suc (used_fibs layout - 1) ≡ used_fibs layout = omega (arith, some_fibs layout) in
     elim (cases_lt m first) [
-      | inl lt ↦ in_span_below first (suc (fib_count mode - 1)) m lt ∙ sym (ne_eqb (m / fib_count mode) k (before_its_page mode k m lt))
+      | inl lt ↦ in_span_below first (suc (used_fibs layout - 1)) m lt ∙ sym (ne_eqb (m / used_fibs layout) k (before_its_page layout k m lt))
       | inr ge ↦
-          elim (cases_lt m (first + fib_count mode)) [
-            | inl lt ↦ in_span_inside first (suc (fib_count mode - 1)) m ge (omega (arith, lt, count)) ∙ sym (eq-eqb (m / fib_count mode) k (in_its_page mode k m ge lt))
-            | inr over ↦ in_span_behind first (suc (fib_count mode - 1)) m (omega (arith, over, count)) ∙ sym (ne_eqb (m / fib_count mode) k (behind_its_page mode k m over))
+          elim (cases_lt m (first + used_fibs layout)) [
+            | inl lt ↦ in_span_inside first (suc (used_fibs layout - 1)) m ge (omega (arith, lt, count)) ∙ sym (eq-eqb (m / used_fibs layout) k (in_its_page layout k m ge lt))
+            | inr over ↦ in_span_behind first (suc (used_fibs layout - 1)) m (omega (arith, over, count)) ∙ sym (ne_eqb (m / used_fibs layout) k (behind_its_page layout k m over))
           ]
     ]
 
-pub page_is_fibs : (mode : Mode) (es : List Marked) (k : ℕ) → page_entries mode k es ≡ flat_map (λ n. fib_entries mode n es) (fibs_of_page mode k)
-page_is_fibs mode es k =
+pub page_is_fibs : (layout : FrameLayout) (es : List Marked) (k : ℕ) → page_entries layout k es ≡ flat_map (λ n. fib_entries layout n es) (fibs_of_page layout k)
+page_is_fibs layout es k =
     sym (
-    span_is (suc (fib_count mode - 1)) (first_fib mode k) es (packing mode es) (packing_rises mode es)
-    ∙ where_same (in_span (first_fib mode k) (suc (fib_count mode - 1))) (λ m. m / fib_count mode == k) (span_of_page mode k) es (packing mode es)
+    span_is (suc (used_fibs layout - 1)) (first_fib layout k) es (packing layout es) (packing_rises layout es)
+    ∙ where_same (in_span (first_fib layout k) (suc (used_fibs layout - 1))) (λ m. m / used_fibs layout == k) (span_of_page layout k) es (packing layout es)
     )

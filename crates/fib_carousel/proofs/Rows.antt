@@ -1,5 +1,5 @@
 -- The FIBs of a page written one after another.
-use Rattle.std.proofs.Common.{◌≡◌, ℕ, ◌+◌, ◌-◌, ◌*◌, ◌<◌, List, ◌++◌, suc, length, take, map, flat_map, sym, ◌∙◌, ap, arith, append_assoc}
+use Rattle.std.proofs.Common.{◌≡◌, ℕ, ◌+◌, ◌-◌, ◌*◌, ◌<◌, List, [], ◌++◌, suc, replicate, length, take, map, flat_map, sym, ◌∙◌, ap, arith, append_assoc}
 use Rattle.std.specs.List.{range_with_len}
 use Rattle.std.proofs.lemmas.List.{take_all, append-nil}
 use Rattle.fib_codec.specs.Spelling.{Written, fib_bytes}
@@ -24,12 +24,32 @@ fib_written count first slot figs before after fib whole h is grown so_far =
     ∙ ap (λ xs. before ++ xs) (sym (fibs_left count first slot figs h))
     ∙ so_far
 
-pub fibs_done : (count first : ℕ) (figs : ℕ → List Written) (bytes whole : List ℕ) → length bytes ≡ 32 * count
-    → take (32 * count) bytes ++ flat_map fib_bytes (map figs (range_with_len (first + count) (count - count))) ≡ whole → bytes ≡ whole
-fibs_done count first figs bytes whole long h =
+pub fibs_done : (count first : ℕ) (figs : ℕ → List Written) (bytes whole : List ℕ)
+    → take (32 * count) bytes ++ flat_map fib_bytes (map figs (range_with_len (first + count) (count - count))) ≡ whole → take (32 * count) bytes ≡ whole
+fibs_done count first figs bytes whole h =
+    let none : count - count ≡ 0 = omega arith in
+    sym (append-nil (take (32 * count) bytes))
+    ∙ ap (λ n. take (32 * count) bytes ++ flat_map fib_bytes (map figs (range_with_len (first + count) n))) (sym none)
+    ∙ h
+
+-- the reserved FIBs still to be written, from this slot on
+pub reserved_written : (slot count : ℕ) (before after fib whole : List ℕ) → slot < count → fib ≡ fib_bytes [] → after ≡ before ++ fib
+    → before ++ flat_map fib_bytes (replicate (count - slot) []) ≡ whole → after ++ flat_map fib_bytes (replicate (count - (slot + 1)) []) ≡ whole
+reserved_written slot count before after fib whole h is grown so_far =
+    let rest : List ℕ = flat_map fib_bytes (replicate (count - (slot + 1)) []) in
+    let more : count - slot ≡ suc (count - (slot + 1)) = omega (arith, h) in
+    ap (λ xs. xs ++ rest) grown
+    ∙ append_assoc before fib rest
+    ∙ ap (λ xs. before ++ (xs ++ rest)) is
+    ∙ ap (λ n. before ++ flat_map fib_bytes (replicate n [])) (sym more)
+    ∙ so_far
+
+pub reserved_done : (count : ℕ) (bytes whole : List ℕ) → length bytes ≡ 32 * count
+    → take (32 * count) bytes ++ flat_map fib_bytes (replicate (count - count) []) ≡ whole → bytes ≡ whole
+reserved_done count bytes whole long h =
     let none : count - count ≡ 0 = omega arith in
     let all : take (32 * count) bytes ≡ bytes = take_all (32 * count) bytes (omega (arith, long)) in
     sym all
     ∙ sym (append-nil (take (32 * count) bytes))
-    ∙ ap (λ n. take (32 * count) bytes ++ flat_map fib_bytes (map figs (range_with_len (first + count) n))) (sym none)
+    ∙ ap (λ n. take (32 * count) bytes ++ flat_map fib_bytes (replicate n [])) (sym none)
     ∙ h

@@ -1,13 +1,13 @@
 -- The entries of a FIB sent as FIGs.
 use Rattle.std.proofs.Common.{◌≡◌, ℕ, ◌+◌, ◌<◌, ◌≤◌, Bool, true, false, List, [], ◌∷◌, Option, Some, None, IsSome, ◌%◌, refl, ap, subst, inl, inr, arith, eq-eqb}
-use Rattle.fib_codec.specs.declared.modes.Mode.{Mode}
+use Rattle.fib_codec.specs.declared.frame_layout.FrameLayout.{FrameLayout}
 use Rattle.std.specs.List.{AllByRecursion}
 use Rattle.mux_entries.specs.Entries.{EnsembleInformation}
 use Rattle.mux_entries.specs.Facts.{Marked}
 use Rattle.mux_entries.specs.declared.entry.Entry.{Entry}
 use Rattle.mux_entries.specs.declared.entry.Entry.TheVariants.{Ensemble as EnsembleOf, Sub as SubOf, Short as ShortOf, Service as ServiceOf, Packet as PacketOf}
 use Rattle.fib_codec.specs.declared.head.Head.{Head}
-use Rattle.fib_codec.specs.Modes.{fib_count}
+use Rattle.fib_codec.specs.Layouts.{used_fibs}
 use Rattle.fib_codec.specs.Spelling.{Written, IsWritten, IsUnder, head_of, ext_of}
 use Rattle.fib_carousel.specs.Packing.{same_flag, same_head, figs_size, room, AreSmall}
 use Rattle.fib_carousel.specs.Pages.{fib_entries}
@@ -21,8 +21,8 @@ small_all [] h = tt
 small_all (m ∷ ms) h = (h.0.small, small_all ms h.1)
 
 -- what the packing puts into a FIB fits there
-pub fib_fits : (mode : Mode) (ms : List Marked) (n : ℕ) → AreSendable ms → figs_size None (fib_entries mode n ms) ≤ room mode n
-fib_fits mode ms n h = (greedy_is_packing mode ms (small_all ms h)).division.fits n
+pub fib_fits : (layout : FrameLayout) (ms : List Marked) (n : ℕ) → AreSendable ms → figs_size None (fib_entries layout n ms) ≤ room layout n
+fib_fits layout ms n h = (greedy_is_packing layout ms (small_all ms h)).division.fits n
 
 -- a head is the same as itself
 same_flag_own : (b : Bool) → same_flag b b ≡ true
@@ -81,10 +81,10 @@ ext_of_low (ServiceOf s) = omega arith
 ext_of_low (PacketOf p) = omega arith
 
 -- what FIG 0/0 leaves of a FIB has room for what the packing puts there
-pub fib_room : (mode : Mode) (ensemble : Option EnsembleInformation) (number used size : ℕ) → used ≤ 7 → (ensemble ≡ None → used ≡ 0) → (IsSome ensemble → number % fib_count mode ≡ 0) → size ≤ room mode number → used + size ≤ 30
-fib_room mode None number used size low none first fits = omega (arith, none refl, fits, room_high mode number)
-fib_room mode (Some e) number used size low none first fits =
-    elim (room_cases mode number) [
+pub fib_room : (layout : FrameLayout) (ensemble : Option EnsembleInformation) (number used size : ℕ) → used ≤ 7 → (ensemble ≡ None → used ≡ 0) → (IsSome ensemble → number % used_fibs layout ≡ 0) → size ≤ room layout number → used + size ≤ 30
+fib_room layout None number used size low none first fits = omega (arith, none refl, fits, room_high layout number)
+fib_room layout (Some e) number used size low none first fits =
+    elim (room_cases layout number) [
       | inl c ↦ omega (arith, low, fits, c.1)
       | inr c ↦ absurd (c.0 (first refl))
     ]

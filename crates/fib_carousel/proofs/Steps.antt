@@ -1,6 +1,6 @@
 -- A division read entry by entry.
 use Rattle.std.proofs.Common.{◌≡◌, ℕ, ◌+◌, ◌<◌, ◌≤◌, List, [], ◌∷◌, length, Option, Some, None, refl, sym, ◌∙◌, ap, subst, inl, inr, ◌⊎◌, arith, eq-eqb}
-use Rattle.fib_codec.specs.declared.modes.Mode.{Mode}
+use Rattle.fib_codec.specs.declared.frame_layout.FrameLayout.{FrameLayout}
 use Rattle.std.proofs.lemmas.Bool.{ne_eqb, cases_lt}
 use Rattle.mux_entries.specs.Facts.{Marked}
 use Rattle.fib_carousel.specs.declared.pack_state.PackState.{PackState}
@@ -9,20 +9,20 @@ use Rattle.fib_carousel.specs.Packing.{room, size_of, cost, figs_size, entries_i
 use Rattle.fib_carousel.specs.Greedy.{extended, opened, start}
 
 -- from state p on, each entry continues in its FIB or opens a later one
-abbrev pub Goes : (mode : Mode) → PackState → List Marked → List ℕ → Type 0
-Goes mode p [] [] = Unit {0}
-Goes mode p [] (m ∷ ms) = ⊥
-Goes mode p (e ∷ es) [] = ⊥
-Goes mode p (e ∷ es) (m ∷ ms) =
-    ((m ≡ p.fib) × (p.used + cost p.head e ≤ room mode m) × Goes mode (extended e p) es ms)
-    ⊎ ((p.fib < m) × (2 + size_of e ≤ room mode m) × Goes mode (opened e m) es ms)
+abbrev pub Goes : (layout : FrameLayout) → PackState → List Marked → List ℕ → Type 0
+Goes layout p [] [] = Unit {0}
+Goes layout p [] (m ∷ ms) = ⊥
+Goes layout p (e ∷ es) [] = ⊥
+Goes layout p (e ∷ es) (m ∷ ms) =
+    ((m ≡ p.fib) × (p.used + cost p.head e ≤ room layout m) × Goes layout (extended e p) es ms)
+    ⊎ ((p.fib < m) × (2 + size_of e ≤ room layout m) × Goes layout (opened e m) es ms)
 
 -- what a division says from a state on
-pub record Divides (mode : Mode) (p : PackState) (es : List Marked) (ms : List ℕ) : Type 0 where
+pub record Divides (layout : FrameLayout) (p : PackState) (es : List Marked) (ms : List ℕ) : Type 0 where
   pub each : length ms ≡ length es
   pub rising : NeverFalls p.fib ms
-  pub here : p.used + figs_size p.head (entries_in_fib p.fib es ms) ≤ room mode p.fib
-  pub later : (n : ℕ) → p.fib < n → figs_size None (entries_in_fib n es ms) ≤ room mode n
+  pub here : p.used + figs_size p.head (entries_in_fib p.fib es ms) ≤ room layout p.fib
+  pub later : (n : ℕ) → p.fib < n → figs_size None (entries_in_fib n es ms) ≤ room layout n
 
 -- the first entry is in FIB n, or in another
 pub in_fib_same : (n m : ℕ) (e : Marked) (es : List Marked) (ms : List ℕ) → m ≡ n → entries_in_fib n (e ∷ es) (m ∷ ms) ≡ e ∷ entries_in_fib n es ms
@@ -41,56 +41,56 @@ in_fib_past n k (e ∷ es) (m ∷ ms) h r = in_fib_other n m e es ms (λ q. omeg
 pub figs_size_past : (h : Option _) (n k : ℕ) (es : List Marked) (ms : List ℕ) → n < k → NeverFalls k ms → figs_size h (entries_in_fib n es ms) ≡ 0
 figs_size_past h n k es ms lt r = ap (λ xs. figs_size h xs) (in_fib_past n k es ms lt r)
 
-pub goes_from : (mode : Mode) (p : PackState) (es : List Marked) (ms : List ℕ) → Divides mode p es ms → Goes mode p es ms
-goes_from mode p [] [] d = tt
-goes_from mode p [] (m ∷ ms) d = absurd (omega (arith, d.each))
-goes_from mode p (e ∷ es) [] d = absurd (omega (arith, d.each))
-goes_from mode p (e ∷ es) (m ∷ ms) d =
+pub goes_from : (layout : FrameLayout) (p : PackState) (es : List Marked) (ms : List ℕ) → Divides layout p es ms → Goes layout p es ms
+goes_from layout p [] [] d = tt
+goes_from layout p [] (m ∷ ms) d = absurd (omega (arith, d.each))
+goes_from layout p (e ∷ es) [] d = absurd (omega (arith, d.each))
+goes_from layout p (e ∷ es) (m ∷ ms) d =
     elim (cases_lt p.fib m) [
       | inl lt ↦
-          let first : 2 + size_of e + figs_size (Some (head_of e)) (entries_in_fib m es ms) ≤ room mode m =
-          subst (λ xs. figs_size None xs ≤ room mode m) (in_fib_same m m e es ms refl) (d.later m lt) in
-          let more : Divides mode (opened e m) es ms = record {
+          let first : 2 + size_of e + figs_size (Some (head_of e)) (entries_in_fib m es ms) ≤ room layout m =
+          subst (λ xs. figs_size None xs ≤ room layout m) (in_fib_same m m e es ms refl) (d.later m lt) in
+          let more : Divides layout (opened e m) es ms = record {
             each = omega (arith, d.each);
             rising = d.rising.1;
             here = first;
-            later = λ n h. subst (λ xs. figs_size None xs ≤ room mode n) (in_fib_other n m e es ms (λ q. omega (arith, h, q))) (d.later n (omega (arith, lt, h)));
+            later = λ n h. subst (λ xs. figs_size None xs ≤ room layout n) (in_fib_other n m e es ms (λ q. omega (arith, h, q))) (d.later n (omega (arith, lt, h)));
           } in
-          inr (lt, omega (arith, first), goes_from mode (opened e m) es ms more)
+          inr (lt, omega (arith, first), goes_from layout (opened e m) es ms more)
       | inr ge ↦
           let eq : m ≡ p.fib = omega (arith, ge, d.rising.0) in
-          let first : p.used + (cost p.head e + figs_size (Some (head_of e)) (entries_in_fib p.fib es ms)) ≤ room mode p.fib =
-          subst (λ xs. p.used + figs_size p.head xs ≤ room mode p.fib) (in_fib_same p.fib m e es ms eq) d.here in
-          let more : Divides mode (extended e p) es ms = record {
+          let first : p.used + (cost p.head e + figs_size (Some (head_of e)) (entries_in_fib p.fib es ms)) ≤ room layout p.fib =
+          subst (λ xs. p.used + figs_size p.head xs ≤ room layout p.fib) (in_fib_same p.fib m e es ms eq) d.here in
+          let more : Divides layout (extended e p) es ms = record {
             each = omega (arith, d.each);
             rising = subst (λ k. NeverFalls k ms) eq d.rising.1;
             here = omega (arith, first);
-            later = λ n h. subst (λ xs. figs_size None xs ≤ room mode n) (in_fib_other n m e es ms (λ q. omega (arith, h, q, eq))) (d.later n h);
+            later = λ n h. subst (λ xs. figs_size None xs ≤ room layout n) (in_fib_other n m e es ms (λ q. omega (arith, h, q, eq))) (d.later n h);
           } in
-          let fits : p.used + cost p.head e ≤ room mode p.fib = omega (arith, first) in
-          inl (eq, subst (λ k. p.used + cost p.head e ≤ room mode k) (sym eq) fits, goes_from mode (extended e p) es ms more)
+          let fits : p.used + cost p.head e ≤ room layout p.fib = omega (arith, first) in
+          inl (eq, subst (λ k. p.used + cost p.head e ≤ room layout k) (sym eq) fits, goes_from layout (extended e p) es ms more)
     ]
 
-pub divides_from : (mode : Mode) (p : PackState) (es : List Marked) (ms : List ℕ) → p.used ≤ room mode p.fib → Goes mode p es ms → Divides mode p es ms
-divides_from mode p [] [] u g = record { each = refl; rising = tt; here = omega (arith, u); later = λ n h. omega arith }
-divides_from mode p [] (m ∷ ms) u g = absurd g
-divides_from mode p (e ∷ es) [] u g = absurd g
-divides_from mode p (e ∷ es) (m ∷ ms) u g =
+pub divides_from : (layout : FrameLayout) (p : PackState) (es : List Marked) (ms : List ℕ) → p.used ≤ room layout p.fib → Goes layout p es ms → Divides layout p es ms
+divides_from layout p [] [] u g = record { each = refl; rising = tt; here = omega (arith, u); later = λ n h. omega arith }
+divides_from layout p [] (m ∷ ms) u g = absurd g
+divides_from layout p (e ∷ es) [] u g = absurd g
+divides_from layout p (e ∷ es) (m ∷ ms) u g =
     elim g [
       | inl s ↦
-          let fits : p.used + cost p.head e ≤ room mode p.fib = subst (λ k. p.used + cost p.head e ≤ room mode k) s.0 s.1 in
-          let d : Divides mode (extended e p) es ms = divides_from mode (extended e p) es ms fits s.2 in
-          let tail : p.used + cost p.head e + figs_size (Some (head_of e)) (entries_in_fib p.fib es ms) ≤ room mode p.fib = d.here in
-          let whole : p.used + (cost p.head e + figs_size (Some (head_of e)) (entries_in_fib p.fib es ms)) ≤ room mode p.fib = omega (arith, tail) in
+          let fits : p.used + cost p.head e ≤ room layout p.fib = subst (λ k. p.used + cost p.head e ≤ room layout k) s.0 s.1 in
+          let d : Divides layout (extended e p) es ms = divides_from layout (extended e p) es ms fits s.2 in
+          let tail : p.used + cost p.head e + figs_size (Some (head_of e)) (entries_in_fib p.fib es ms) ≤ room layout p.fib = d.here in
+          let whole : p.used + (cost p.head e + figs_size (Some (head_of e)) (entries_in_fib p.fib es ms)) ≤ room layout p.fib = omega (arith, tail) in
           record {
             each = omega (arith, d.each);
             rising = (omega (arith, s.0), subst (λ k. NeverFalls k ms) (sym s.0) d.rising);
-            here = subst (λ xs. p.used + figs_size p.head xs ≤ room mode p.fib) (sym (in_fib_same p.fib m e es ms s.0)) whole;
-            later = λ n h. subst (λ xs. figs_size None xs ≤ room mode n) (sym (in_fib_other n m e es ms (λ q. omega (arith, h, q, s.0)))) (d.later n h);
+            here = subst (λ xs. p.used + figs_size p.head xs ≤ room layout p.fib) (sym (in_fib_same p.fib m e es ms s.0)) whole;
+            later = λ n h. subst (λ xs. figs_size None xs ≤ room layout n) (sym (in_fib_other n m e es ms (λ q. omega (arith, h, q, s.0)))) (d.later n h);
           }
       | inr s ↦
-          let d : Divides mode (opened e m) es ms = divides_from mode (opened e m) es ms s.1 s.2 in
-          let tail : 2 + size_of e + figs_size (Some (head_of e)) (entries_in_fib m es ms) ≤ room mode m = d.here in
+          let d : Divides layout (opened e m) es ms = divides_from layout (opened e m) es ms s.1 s.2 in
+          let tail : 2 + size_of e + figs_size (Some (head_of e)) (entries_in_fib m es ms) ≤ room layout m = d.here in
           let none : figs_size p.head (entries_in_fib p.fib es ms) ≡ 0 = figs_size_past p.head p.fib m es ms s.0 d.rising in
           let none_first : figs_size p.head (entries_in_fib p.fib (e ∷ es) (m ∷ ms)) ≡ 0 =
           ap (λ xs. figs_size p.head xs) (in_fib_other p.fib m e es ms (λ q. omega (arith, q, s.0))) ∙ none in
@@ -100,7 +100,7 @@ divides_from mode p (e ∷ es) (m ∷ ms) u g =
             here = omega (arith, none_first, u);
             later = λ n h.
                 elim (cases_lt m n) [
-                  | inl lt ↦ subst (λ xs. figs_size None xs ≤ room mode n) (sym (in_fib_other n m e es ms (λ q. omega (arith, lt, q)))) (d.later n lt)
+                  | inl lt ↦ subst (λ xs. figs_size None xs ≤ room layout n) (sym (in_fib_other n m e es ms (λ q. omega (arith, lt, q)))) (d.later n lt)
                   | inr ge ↦
                       elim (cases_lt n m) [
                         | inl below ↦
@@ -109,25 +109,25 @@ divides_from mode p (e ∷ es) (m ∷ ms) u g =
                             omega (arith, empty)
                         | inr above ↦
                             let same : m ≡ n = omega (arith, ge, above) in
-                            subst (λ k. figs_size None (entries_in_fib k (e ∷ es) (m ∷ ms)) ≤ room mode k) same
-                            (subst (λ xs. figs_size None xs ≤ room mode m) (sym (in_fib_same m m e es ms refl)) tail)
+                            subst (λ k. figs_size None (entries_in_fib k (e ∷ es) (m ∷ ms)) ≤ room layout k) same
+                            (subst (λ xs. figs_size None xs ≤ room layout m) (sym (in_fib_same m m e es ms refl)) tail)
                       ]
                 ];
           }
     ]
 
 -- a whole division is one from the start, with the first FIB opened by its first entry
-pub goes_all : (mode : Mode) (es : List Marked) (ms : List ℕ) → IsDivision mode es ms → Goes mode start es ms
-goes_all mode es ms d = goes_from mode start es ms (record {
+pub goes_all : (layout : FrameLayout) (es : List Marked) (ms : List ℕ) → IsDivision layout es ms → Goes layout start es ms
+goes_all layout es ms d = goes_from layout start es ms (record {
   each = d.each;
   rising = d.rising;
-  here = let first : figs_size None (entries_in_fib 0 es ms) ≤ room mode 0 = d.fits 0 in omega (arith, first);
+  here = let first : figs_size None (entries_in_fib 0 es ms) ≤ room layout 0 = d.fits 0 in omega (arith, first);
   later = λ n h. d.fits n;
 })
 
-pub division_from : (mode : Mode) (es : List Marked) (ms : List ℕ) → Goes mode start es ms → IsDivision mode es ms
-division_from mode es ms g =
-    let d : Divides mode start es ms = divides_from mode start es ms (omega arith) g in
+pub division_from : (layout : FrameLayout) (es : List Marked) (ms : List ℕ) → Goes layout start es ms → IsDivision layout es ms
+division_from layout es ms g =
+    let d : Divides layout start es ms = divides_from layout start es ms (omega arith) g in
     record {
       each = d.each;
       rising = d.rising;
@@ -135,9 +135,9 @@ division_from mode es ms g =
           elim (cases_lt 0 n) [
             | inl lt ↦ d.later n lt
             | inr ge ↦
-                let first : 0 + figs_size None (entries_in_fib 0 es ms) ≤ room mode 0 = d.here in
-                let first_fits : figs_size None (entries_in_fib 0 es ms) ≤ room mode 0 = omega (arith, first) in
+                let first : 0 + figs_size None (entries_in_fib 0 es ms) ≤ room layout 0 = d.here in
+                let first_fits : figs_size None (entries_in_fib 0 es ms) ≤ room layout 0 = omega (arith, first) in
                 let at : 0 ≡ n = omega (arith, ge) in
-                subst (λ k. figs_size None (entries_in_fib k es ms) ≤ room mode k) at first_fits
+                subst (λ k. figs_size None (entries_in_fib k es ms) ≤ room layout k) at first_fits
           ];
     }

@@ -6,7 +6,7 @@ use Rattle.std.proofs.Math.Seq.{get_or-append_seam, set-append_seam, take-add}
 use Rattle.mux_entries.specs.Facts.{Marked}
 use Rattle.mux_entries.specs.declared.entry.Entry.{Entry}
 use Rattle.fib_codec.specs.declared.head.Head.{Head}
-use Rattle.fib_codec.specs.declared.modes.Mode.{Mode}
+use Rattle.fib_codec.specs.declared.frame_layout.FrameLayout.{FrameLayout}
 use Rattle.fib_codec.specs.Spelling.{Written, head_of, head_byte, entry_bytes, entries_bytes, fig_bytes, figs_bytes}
 use Rattle.fib_codec.proofs.Lengths.{AllByRecursion-at, entry_length, flat_map-append}
 use Rattle.fib_carousel.specs.declared.pack_state.EntryShape.{EntryShape}
@@ -72,30 +72,30 @@ same_state p s fib used f u h =
     ∙ ap (λ (x : Option Head). let r : PackState = record { fib = fib; used = used; head = x } in r) h
 
 -- the state after placing the first of them, and the position after this many more
-pub record Goes (mode : Mode) (ms : List Marked) (n : ℕ) (c : Position) (q : PackState) (s : EntryShape) (k : ℕ) (d : Position) : Type 0 where
+pub record Goes (layout : FrameLayout) (ms : List Marked) (n : ℕ) (c : Position) (q : PackState) (s : EntryShape) (k : ℕ) (d : Position) : Type 0 where
   pub index : d.index ≡ c.index + 1 + k
   pub fib : d.state.fib ≡ n
   pub used : d.state.used ≡ q.used + k * s.size
   pub head : d.state.head ≡ Some s.head
-  pub fits : q.used + k * s.size ≤ room mode n
+  pub fits : q.used + k * s.size ≤ room layout n
   pub run : IsRun ms c.index (suc k) s
-  pub first : Passed mode ms c.index c.state q
+  pub first : Passed layout ms c.index c.state q
   pub into : q.fib ≡ n
   pub own : q.head ≡ Some s.head
   pub near : q.fib ≤ c.state.fib + 2
 
-pub walked_run : (mode : Mode) (ms : List Marked) (n from : ℕ) (c : Position) (q : PackState) (s : EntryShape) (k : ℕ) (d : Position) → Goes mode ms n c q s k d → Walked mode ms n from c → Walked mode ms n from d
-walked_run mode ms n from c q s zero d g w =
+pub walked_run : (layout : FrameLayout) (ms : List Marked) (n from : ℕ) (c : Position) (q : PackState) (s : EntryShape) (k : ℕ) (d : Position) → Goes layout ms n c q s k d → Walked layout ms n from c → Walked layout ms n from d
+walked_run layout ms n from c q s zero d g w =
     let used : q.used + zero * s.size ≡ q.used = omega arith in
-    let low : q.used ≤ 30 = omega (arith, g.fits, used, room_high mode n) in
+    let low : q.used ≤ 30 = omega (arith, g.fits, used, room_high layout n) in
     let at : d.index ≡ c.index + 1 = omega (arith, g.index) in
     let same : d.state ≡ q = same_state d.state s n (q.used + zero * s.size) g.fib g.used g.head ∙ ap (state_at s n) used ∙ sym (same_state q s n q.used g.into refl g.own) in
-    let first : Passed mode ms c.index c.state d.state = subst (λ (r : PackState). Passed mode ms c.index c.state r) (sym same) g.first in
-    walked_in mode ms n from c d first at g.fib (omega (arith, low, g.used, used)) (omega (arith, g.fib, g.into, g.near)) (omega (arith, g.run.inside)) w
-walked_run mode ms n from c q s (suc k) d g w =
+    let first : Passed layout ms c.index c.state d.state = subst (λ (r : PackState). Passed layout ms c.index c.state r) (sym same) g.first in
+    walked_in layout ms n from c d first at g.fib (omega (arith, low, g.used, used)) (omega (arith, g.fib, g.into, g.near)) (omega (arith, g.run.inside)) w
+walked_run layout ms n from c q s (suc k) d g w =
     let e : Position = record { index = c.index + 1 + k; state = state_at s n (q.used + k * s.size) } in
     let more : suc k * s.size ≡ k * s.size + s.size = omega arith in
-    let before : Goes mode ms n c q s k e = record {
+    let before : Goes layout ms n c q s k e = record {
       index = refl;
       fib = refl;
       used = refl;
@@ -110,22 +110,22 @@ walked_run mode ms n from c q s (suc k) d g w =
     let there : InRun ms (c.index + (suc k)) s = in_run ms c.index (suc (suc k)) s g.first.entry g.run (suc k) (omega arith) in
     let at : c.index + (suc k) ≡ c.index + 1 + k = omega arith in
     let here : slice_get ms e.index ≡ Some there.entry = ap (λ i. slice_get ms i) (sym at) ∙ there.here in
-    let fits : q.used + k * s.size + s.size ≤ room mode n = omega (arith, g.fits, more) in
+    let fits : q.used + k * s.size + s.size ≤ room layout n = omega (arith, g.fits, more) in
     let whole : q.used + k * s.size + s.size ≡ q.used + suc k * s.size = omega (arith, more) in
-    let next : d.state ≡ placed mode there.entry e.state =
+    let next : d.state ≡ placed layout there.entry e.state =
     same_state d.state s n (q.used + suc k * s.size) g.fib g.used g.head
     ∙ ap (state_at s n) (sym whole)
-    ∙ sym (step_stays mode s n (q.used + k * s.size) fits)
-    ∙ ap (λ (t : EntryShape). step mode t e.state) (sym there.shape)
-    ∙ sym (placed_step mode there.entry e.state) in
-    let one : Passed mode ms e.index e.state d.state = record {
+    ∙ sym (step_stays layout s n (q.used + k * s.size) fits)
+    ∙ ap (λ (t : EntryShape). step layout t e.state) (sym there.shape)
+    ∙ sym (placed_step layout there.entry e.state) in
+    let one : Passed layout ms e.index e.state d.state = record {
       entry = there.entry;
       here = here;
       row = drop_here ms e.index there.entry here;
       next = next;
     } in
-    walked_in mode ms n from e d one (omega (arith, g.index)) g.fib (omega (arith, g.used, g.fits, room_high mode n)) (omega (arith, g.fib)) (omega (arith, g.run.inside))
-    (walked_run mode ms n from c q s k e before w)
+    walked_in layout ms n from e d one (omega (arith, g.index)) g.fib (omega (arith, g.used, g.fits, room_high layout n)) (omega (arith, g.fib)) (omega (arith, g.run.inside))
+    (walked_run layout ms n from c q s k e before w)
 
 -- ---- the FIG with the rest of a run after its entries
 figs_run : (here rest : List Marked) (before : List Written) (h : Head) (entries : List Entry) (s : EntryShape) → h ≡ s.head → AreAlike s rest
@@ -221,29 +221,29 @@ run_shape ms i n shape s sh r some =
     same_shape shape (shape_of sh.entry) sh.head sh.size ∙ ap shape_of same ∙ first.shape
 
 -- the FIB after a run
-pub record RunIn (mode : Mode) (ms : List Marked) (n : ℕ) (old : List ℕ) (d : Position) (fig : OpenFig) (bytes : List ℕ) (more : ℕ) : Type 0 where
+pub record RunIn (layout : FrameLayout) (ms : List Marked) (n : ℕ) (old : List ℕ) (d : Position) (fig : OpenFig) (bytes : List ℕ) (more : ℕ) : Type 0 where
   pub place : fig.place < length bytes
   pub byte : slice_index_or bytes fig.place 0 + more ≤ 255
-  pub filled : FilledTo mode ms n old d (Some fig) (slice_set bytes fig.place (slice_index_or bytes fig.place 0 + more))
+  pub filled : FilledTo layout ms n old d (Some fig) (slice_set bytes fig.place (slice_index_or bytes fig.place 0 + more))
   pub low : length bytes ≤ 30
 
-pub run_in : (mode : Mode) (ms : List Marked) (n : ℕ) (old bytes mid : List ℕ) (c e d : Position) (last : Option OpenFig) (fig : OpenFig) (shape : EntryShape) (sh : IsShapeAt ms c.index shape) (en : Entered mode ms n old c e)
-    → (w : FilledTo mode ms n old c last bytes) → Grows last shape bytes fig mid → (k : ℕ) → Goes mode ms n c e.state shape k d
-    → RunIn mode ms n old d fig (mid ++ marked_bytes (piece ms c.index (suc k))) (k * shape.size)
-run_in mode ms n old bytes mid c e d last fig shape sh en w g k go =
+pub run_in : (layout : FrameLayout) (ms : List Marked) (n : ℕ) (old bytes mid : List ℕ) (c e d : Position) (last : Option OpenFig) (fig : OpenFig) (shape : EntryShape) (sh : IsShapeAt ms c.index shape) (en : Entered layout ms n old c e)
+    → (w : FilledTo layout ms n old c last bytes) → Grows last shape bytes fig mid → (k : ℕ) → Goes layout ms n c e.state shape k d
+    → RunIn layout ms n old d fig (mid ++ marked_bytes (piece ms c.index (suc k))) (k * shape.size)
+run_in layout ms n old bytes mid c e d last fig shape sh en w g k go =
     let here : List Marked = take (c.index - w.from) (drop w.from ms) in
     let m : Marked = en.step.entry in
     let rest : List Marked = take k (drop (c.index + 1) ms) in
     let cut : piece ms c.index (suc k) ≡ m ∷ rest = ap (λ xs. take (suc k) xs) en.step.row in
     let after : List ℕ = mid ++ entry_bytes m.entry in
-    let one : IsFilled old (here ++ m ∷ []) (Some fig) after = (put_step mode ms n old bytes mid c e last fig shape sh en w g).filled after refl in
+    let one : IsFilled old (here ++ m ∷ []) (Some fig) after = (put_step layout ms n old bytes mid c e last fig shape sh en w g).filled after refl in
     let alike : AreAlike shape (m ∷ rest) = subst (λ (xs : List Marked). AreAlike shape xs) cut go.run.alike in
     let count : length rest ≡ k = length-take-le k (drop (c.index + 1) ms) (omega (arith, length-drop (c.index + 1) ms, go.run.inside)) in
     let sized : k * shape.size ≡ length rest * shape.size = ap (λ j. j * shape.size) (sym count) in
     let b = behind_all old after (here ++ m ∷ []) rest fig shape (k * shape.size) one (grown_head last shape bytes mid fig g) alike.1 sized in
     let with_entry_first : after ++ marked_bytes rest ≡ mid ++ marked_bytes (piece ms c.index (suc k)) =
     append_assoc mid (entry_bytes m.entry) (marked_bytes rest) ∙ ap (λ xs. mid ++ marked_bytes xs) (sym cut) in
-    let walked : Walked mode ms n w.from d = walked_run mode ms n w.from c e.state shape k d go w.walked in
+    let walked : Walked layout ms n w.from d = walked_run layout ms n w.from c e.state shape k d go w.walked in
     let grown : (here ++ m ∷ []) ++ rest ≡ take (d.index - w.from) (drop w.from ms) =
     append_assoc here (m ∷ []) rest
     ∙ ap (λ xs. here ++ xs) (sym cut)
@@ -252,14 +252,14 @@ run_in mode ms n old bytes mid c e d last fig shape sh en w g k go =
     let filled : IsFilled old (take (d.index - w.from) (drop w.from ms)) (Some fig) (slice_set (after ++ marked_bytes rest) fig.place (slice_index_or (after ++ marked_bytes rest) fig.place 0 + k * shape.size)) =
     subst (λ (xs : List Marked). IsFilled old xs (Some fig) (slice_set (after ++ marked_bytes rest) fig.place (slice_index_or (after ++ marked_bytes rest) fig.place 0 + k * shape.size))) grown b.filled in
     let cost : length (figs_bytes (figs_of (take (d.index - w.from) (drop w.from ms)))) ≡ figs_size None (take (d.index - w.from) (drop w.from ms)) = figs_cost (take (d.index - w.from) (drop w.from ms)) in
-    let part : figs_size None (take (d.index - w.from) (drop w.from ms)) ≤ figs_size None (fib_entries mode n ms) =
+    let part : figs_size None (take (d.index - w.from) (drop w.from ms)) ≤ figs_size None (fib_entries layout n ms) =
     subst (λ (xs : List Marked). figs_size None (take (d.index - w.from) (drop w.from ms)) ≤ figs_size None xs) walked.here
-    (figs_size_part None (take (d.index - w.from) (drop w.from ms)) (rest_in mode n ms d.index d.state)) in
+    (figs_size_part None (take (d.index - w.from) (drop w.from ms)) (rest_in layout n ms d.index d.state)) in
     let long : length (after ++ marked_bytes rest) ≡ length old + length (figs_bytes (figs_of (take (d.index - w.from) (drop w.from ms)))) =
     sym (length-set (after ++ marked_bytes rest) fig.place (slice_index_or (after ++ marked_bytes rest) fig.place 0 + k * shape.size))
     ∙ ap length filled.is ∙ length-append old (figs_bytes (figs_of (take (d.index - w.from) (drop w.from ms)))) in
     let low : length (after ++ marked_bytes rest) ≤ 30 = omega (arith, long, cost, part, en.room) in
-    subst (λ bs. RunIn mode ms n old d fig bs (k * shape.size)) with_entry_first (record {
+    subst (λ bs. RunIn layout ms n old d fig bs (k * shape.size)) with_entry_first (record {
       place = b.place;
       byte = omega (arith, b.byte, low);
       filled = record { from = w.from; walked = walked; filled = filled };
@@ -274,19 +274,19 @@ run_in mode ms n old bytes mid c e d last fig shape sh en w g k go =
         ∙ ap (λ xs. take (at - from) (drop from ms) ++ take n xs) (drop-drop (at - from) from ms ∙ ap (λ i. drop i ms) whole)
 
 -- so a FIB takes each run that fits in the room
-pub takes_runs : (mode : Mode) (ms : List Marked) (n : ℕ) (old bytes mid : List ℕ) (c e : Position) (last : Option OpenFig) (fig : OpenFig) (shape : EntryShape) (sh : IsShapeAt ms c.index shape) (en : Entered mode ms n old c e)
-    → (w : FilledTo mode ms n old c last bytes) → Grows last shape bytes fig mid → e.state.head ≡ Some shape.head → e.state.used ≤ room mode n → (free : ℕ) → free ≡ shape.size + (room mode n - e.state.used)
+pub takes_runs : (layout : FrameLayout) (ms : List Marked) (n : ℕ) (old bytes mid : List ℕ) (c e : Position) (last : Option OpenFig) (fig : OpenFig) (shape : EntryShape) (sh : IsShapeAt ms c.index shape) (en : Entered layout ms n old c e)
+    → (w : FilledTo layout ms n old c last bytes) → Grows last shape bytes fig mid → e.state.head ≡ Some shape.head → e.state.used ≤ room layout n → (free : ℕ) → free ≡ shape.size + (room layout n - e.state.used)
     → TakesRuns ms c.index free mid
-takes_runs mode ms n old bytes mid c e last fig shape sh en w g headed within free is zero s r fits =
-    let room : length mid + size_of en.step.entry ≤ 30 = (put_step mode ms n old bytes mid c e last fig shape sh en w g).room in
+takes_runs layout ms n old bytes mid c e last fig shape sh en w g headed within free is zero s r fits =
+    let room : length mid + size_of en.step.entry ≤ 30 = (put_step layout ms n old bytes mid c e last fig shape sh en w g).room in
     omega (arith, room)
-takes_runs mode ms n old bytes mid c e last fig shape sh en w g headed within free is (suc k) s r fits =
+takes_runs layout ms n old bytes mid c e last fig shape sh en w g headed within free is (suc k) s r fits =
     let own : shape ≡ s = run_shape ms c.index (suc k) shape s sh r (omega arith) in
     let r' : IsRun ms c.index (suc k) shape = subst (λ (t : EntryShape). IsRun ms c.index (suc k) t) (sym own) r in
     let fits' : (suc k) * shape.size ≤ free = subst (λ (t : EntryShape). (suc k) * t.size ≤ free) (sym own) fits in
     let more : (suc k) * shape.size ≡ shape.size + k * shape.size = omega arith in
     let d : Position = record { index = c.index + 1 + k; state = state_at shape n (e.state.used + k * shape.size) } in
-    let go : Goes mode ms n c e.state shape k d = record {
+    let go : Goes layout ms n c e.state shape k d = record {
       index = refl;
       fib = refl;
       used = refl;
@@ -298,7 +298,7 @@ takes_runs mode ms n old bytes mid c e last fig shape sh en w g headed within fr
       own = headed;
       near = en.near;
     } in
-    let done = run_in mode ms n old bytes mid c e d last fig shape sh en w g k go in
+    let done = run_in layout ms n old bytes mid c e d last fig shape sh en w g k go in
     let long : length (mid ++ marked_bytes (piece ms c.index (suc k))) ≡ length mid + (suc k) * shape.size =
     length-append mid (marked_bytes (piece ms c.index (suc k))) ∙ ap (λ j. length mid + j) (piece_bytes ms c.index (suc k) shape r') in
     let low : length mid + (suc k) * shape.size ≤ 30 = omega (arith, long, done.low) in
@@ -313,41 +313,41 @@ times_less (suc n) s some =
     more ∙ ap (λ k. s + k * s) (sym less)
 
 -- the state after placing the first of them
-pub record IsFirst (mode : Mode) (q : PackState) (shape : EntryShape) : Type 0 where
-  pub within : q.used ≤ room mode q.fib
+pub record IsFirst (layout : FrameLayout) (q : PackState) (shape : EntryShape) : Type 0 where
+  pub within : q.used ≤ room layout q.fib
   pub head : q.head ≡ Some shape.head
 
-pub first_of_run : (mode : Mode) (ms : List Marked) (at : ℕ) (p q : PackState) (shape : EntryShape) → IsShapeAt ms at shape → shape.size ≤ 28 → Passed mode ms at p q → IsFirst mode q shape
-first_of_run mode ms at p q shape sh small s =
+pub first_of_run : (layout : FrameLayout) (ms : List Marked) (at : ℕ) (p q : PackState) (shape : EntryShape) → IsShapeAt ms at shape → shape.size ≤ 28 → Passed layout ms at p q → IsFirst layout q shape
+first_of_run layout ms at p q shape sh small s =
     let same : sh.entry ≡ s.entry = same_there ms at sh.entry s.entry sh.here s.here in
     let size : size_of s.entry ≡ shape.size = ap size_of (sym same) ∙ sym sh.size in
     let head : head_of s.entry ≡ shape.head = ap head_of (sym same) ∙ sym sh.head in
-    subst (λ (r : PackState). IsFirst mode r shape) (sym s.next)
-    (elim (placed_cases mode s.entry p) [
-      | inl c ↦ subst (λ (r : PackState). IsFirst mode r shape) (sym c.is) (record { within = c.fits; head = ap Some head })
-      | inr c ↦ subst (λ (r : PackState). IsFirst mode r shape) (sym c.is) (record { within = c.fits (omega (arith, size, small)); head = ap Some head })
+    subst (λ (r : PackState). IsFirst layout r shape) (sym s.next)
+    (elim (placed_cases layout s.entry p) [
+      | inl c ↦ subst (λ (r : PackState). IsFirst layout r shape) (sym c.is) (record { within = c.fits; head = ap Some head })
+      | inr c ↦ subst (λ (r : PackState). IsFirst layout r shape) (sym c.is) (record { within = c.fits (omega (arith, size, small)); head = ap Some head })
     ])
 
 -- the room for a run, and what is put there
-pub record Room (mode : Mode) (n : ℕ) (q : PackState) (shape : EntryShape) (free : ℕ) : Type 0 where
-  pub first : IsFirst mode q shape
+pub record Room (layout : FrameLayout) (n : ℕ) (q : PackState) (shape : EntryShape) (free : ℕ) : Type 0 where
+  pub first : IsFirst layout q shape
   pub into : q.fib ≡ n
-  pub is : free ≡ shape.size + (room mode n - q.used)
+  pub is : free ≡ shape.size + (room layout n - q.used)
 
-pub record Counted (mode : Mode) (n : ℕ) (q : PackState) (shape : EntryShape) (count : ℕ) : Type 0 where
+pub record Counted (layout : FrameLayout) (n : ℕ) (q : PackState) (shape : EntryShape) (count : ℕ) : Type 0 where
   pub times : count * shape.size ≡ shape.size + (count - 1) * shape.size
-  pub fits : q.used + (count - 1) * shape.size ≤ room mode n
+  pub fits : q.used + (count - 1) * shape.size ≤ room layout n
 
-pub counted : (mode : Mode) (ms : List Marked) (i n : ℕ) (q : PackState) (shape : EntryShape) (free count : ℕ) (mid new : List ℕ) → Room mode n q shape free → PutsRun ms i shape free count mid new → Counted mode n q shape count
-counted mode ms i n q shape free count mid new r p =
+pub counted : (layout : FrameLayout) (ms : List Marked) (i n : ℕ) (q : PackState) (shape : EntryShape) (free count : ℕ) (mid new : List ℕ) → Room layout n q shape free → PutsRun ms i shape free count mid new → Counted layout n q shape count
+counted layout ms i n q shape free count mid new r p =
     let times : count * shape.size ≡ shape.size + (count - 1) * shape.size = times_less count shape.size p.some in
-    let within : q.used ≤ room mode n = subst (λ k. q.used ≤ room mode k) r.into r.first.within in
+    let within : q.used ≤ room layout n = subst (λ k. q.used ≤ room layout k) r.into r.first.within in
     record { times = times; fits = omega (arith, times, within, r.is, p.fits) }
 
-pub takes : (mode : Mode) (ms : List Marked) (n : ℕ) (old bytes mid : List ℕ) (c e : Position) (last : Option OpenFig) (fig : OpenFig) (shape : EntryShape) (sh : IsShapeAt ms c.index shape) (en : Entered mode ms n old c e)
-    → FilledTo mode ms n old c last bytes → Grows last shape bytes fig mid → (free : ℕ) → Room mode n e.state shape free → TakesRuns ms c.index free mid
-takes mode ms n old bytes mid c e last fig shape sh en w g free r =
-    takes_runs mode ms n old bytes mid c e last fig shape sh en w g r.first.head (subst (λ k. e.state.used ≤ room mode k) r.into r.first.within) free r.is
+pub takes : (layout : FrameLayout) (ms : List Marked) (n : ℕ) (old bytes mid : List ℕ) (c e : Position) (last : Option OpenFig) (fig : OpenFig) (shape : EntryShape) (sh : IsShapeAt ms c.index shape) (en : Entered layout ms n old c e)
+    → FilledTo layout ms n old c last bytes → Grows last shape bytes fig mid → (free : ℕ) → Room layout n e.state shape free → TakesRuns ms c.index free mid
+takes layout ms n old bytes mid c e last fig shape sh en w g free r =
+    takes_runs layout ms n old bytes mid c e last fig shape sh en w g r.first.head (subst (λ k. e.state.used ≤ room layout k) r.into r.first.within) free r.is
 
 -- the position after it
 pub record Moved (c e d : Position) (size count : ℕ) : Type 0 where
@@ -356,18 +356,18 @@ pub record Moved (c e d : Position) (size count : ℕ) : Type 0 where
   pub used : d.state.used ≡ e.state.used + (count - 1) * size
   pub head : d.state.head ≡ e.state.head
 
-pub all_in : (mode : Mode) (ms : List Marked) (n : ℕ) (old bytes mid new : List ℕ) (c e d : Position) (last : Option OpenFig) (fig : OpenFig) (shape : EntryShape) (sh : IsShapeAt ms c.index shape) (en : Entered mode ms n old c e)
-    → FilledTo mode ms n old c last bytes → Grows last shape bytes fig mid → (free count : ℕ) → Room mode n e.state shape free → PutsRun ms c.index shape free count mid new → Moved c e d shape.size count
-    → RunIn mode ms n old d fig new ((count - 1) * shape.size)
-all_in mode ms n old bytes mid new c e d last fig shape sh en w g free count r p m =
+pub all_in : (layout : FrameLayout) (ms : List Marked) (n : ℕ) (old bytes mid new : List ℕ) (c e d : Position) (last : Option OpenFig) (fig : OpenFig) (shape : EntryShape) (sh : IsShapeAt ms c.index shape) (en : Entered layout ms n old c e)
+    → FilledTo layout ms n old c last bytes → Grows last shape bytes fig mid → (free count : ℕ) → Room layout n e.state shape free → PutsRun ms c.index shape free count mid new → Moved c e d shape.size count
+    → RunIn layout ms n old d fig new ((count - 1) * shape.size)
+all_in layout ms n old bytes mid new c e d last fig shape sh en w g free count r p m =
     let k : ℕ = count - 1 in
     let whole : suc k ≡ count = omega (arith, p.some) in
-    let go : Goes mode ms n c e.state shape k d = record {
+    let go : Goes layout ms n c e.state shape k d = record {
       index = omega (arith, m.index, p.some);
       fib = m.fib ∙ r.into;
       used = m.used;
       head = m.head ∙ r.first.head;
-      fits = (counted mode ms c.index n e.state shape free count mid new r p).fits;
+      fits = (counted layout ms c.index n e.state shape free count mid new r p).fits;
       run = subst (λ j. IsRun ms c.index j shape) (sym whole) p.run;
       first = en.step;
       into = en.into;
@@ -375,4 +375,4 @@ all_in mode ms n old bytes mid new c e d last fig shape sh en w g free count r p
       near = en.near;
     } in
     let same : mid ++ marked_bytes (piece ms c.index (suc k)) ≡ new = ap (λ j. mid ++ marked_bytes (piece ms c.index j)) whole ∙ sym p.bytes in
-    subst (λ (bs : List ℕ). RunIn mode ms n old d fig bs (k * shape.size)) same (run_in mode ms n old bytes mid c e d last fig shape sh en w g k go)
+    subst (λ (bs : List ℕ). RunIn layout ms n old d fig bs (k * shape.size)) same (run_in layout ms n old bytes mid c e d last fig shape sh en w g k go)

@@ -3,6 +3,7 @@ use Rattle.std.proofs.Common.{◌≡◌, ℕ, ◌+◌, ◌*◌, ◌<◌, ◌≤�
 use Rattle.mux_entries.specs.Facts.{Marked, marked}
 use Rattle.mux_entries.specs.declared.entry.Entry.TheVariants.{Sub as SubOf}
 use Rattle.fib_codec.specs.declared.modes.Mode.TheVariants.{I}
+use Rattle.fib_codec.specs.declared.frame_layout.FrameLayout.TheVariants.{Whole}
 use Rattle.fib_codec.specs.Spelling.{head_of}
 use Rattle.fib_carousel.specs.declared.pack_state.EntryShape.{EntryShape}
 use Rattle.fib_carousel.specs.declared.pack_state.PackState.{PackState}
@@ -49,21 +50,21 @@ a_full_one_does_not takes =
     absurd (omega (arith, fits))
 
 -- an entry of this shape is placed as its shape alone would be
-by_shape : (p : PackState) (m : Marked) → shape.head ≡ head_of m → shape.size ≡ size_of m → placed I m p ≡ step I shape p
-by_shape p m head size = placed_step I m p ∙ ap (λ (t : EntryShape). step I t p) (sym (same_shape shape (shape_of m) head size))
+by_shape : (p : PackState) (m : Marked) → shape.head ≡ head_of m → shape.size ≡ size_of m → placed (Whole I) m p ≡ step (Whole I) shape p
+by_shape p m head size = placed_step (Whole I) m p ∙ ap (λ (t : EntryShape). step (Whole I) t p) (sym (same_shape shape (shape_of m) head size))
 
-the_first_is_within : IsThenWithin I shape 0 start (state_at shape 0 6)
+the_first_is_within : IsThenWithin (Whole I) shape 0 start (state_at shape 0 6)
 the_first_is_within = record { is = λ m head size. sym (by_shape start m head size); used = omega arith; low = omega arith; near = omega arith }
 
-fib_1_is_not : IsThenWithin I shape 0 start (state_at shape 1 6) → ⊥
+fib_1_is_not : IsThenWithin (Whole I) shape 0 start (state_at shape 1 6) → ⊥
 fib_1_is_not w =
     let low : 1 ≤ 0 = w.low in
     absurd (omega (arith, low))
 
-behind_twenty : IsPlacedAfter I shape 0 (state_at shape 0 20)
+behind_twenty : IsPlacedAfter (Whole I) shape 0 (state_at shape 0 20)
 behind_twenty = λ m head size. subst (λ (q : PackState). 0 < q.fib) (sym (by_shape (state_at shape 0 20) m head size)) (omega arith)
 
-the_first_is_not_behind : IsPlacedAfter I shape 0 start → ⊥
+the_first_is_not_behind : IsPlacedAfter (Whole I) shape 0 start → ⊥
 the_first_is_not_behind behind =
     let past : 0 < 0 = behind now refl refl in
     absurd (omega (arith, past))

@@ -1,85 +1,71 @@
--- The number of FIBs of a page: three, or four in mode III.
-use Rattle.std.proofs.Common.{◌≡◌, ℕ, ◌+◌, ◌*◌, ◌/◌, ◌%◌, ◌<◌, ◌≤◌, suc, arith, subst, sym}
-use Rattle.fib_codec.specs.declared.modes.Mode.{Mode}
+-- The number of FIBs of a page: two to four.
+use Rattle.std.proofs.Common.{◌≡◌, ℕ, ◌+◌, ◌-◌, ◌*◌, ◌/◌, ◌%◌, ◌<◌, ◌≤◌, suc, arith, subst, sym}
+use Rattle.fib_codec.specs.declared.frame_layout.FrameLayout.{FrameLayout}
+use Rattle.fib_codec.specs.declared.frame_layout.FrameLayout.TheVariants.{Whole, ReserveOne, ReserveTwo}
 use Rattle.fib_codec.specs.declared.modes.Mode.TheVariants.{I, II, III, IV}
-use Rattle.fib_codec.specs.Modes.{fib_count}
+use Rattle.fib_codec.specs.Layouts.{used_fibs}
 
-pub some_fibs : (mode : Mode) → (3 ≤ fib_count mode) × (fib_count mode ≤ 4)
-some_fibs I = (omega arith, omega arith)
-some_fibs II = (omega arith, omega arith)
-some_fibs III = (omega arith, omega arith)
-some_fibs IV = (omega arith, omega arith)
+-- what holds of each width holds of each layout
+pub by_width : (P : ℕ → Type 0) → P 2 → P 3 → P 4 → (layout : FrameLayout) → P (used_fibs layout)
+by_width P two three four (Whole I) = three
+by_width P two three four (Whole II) = three
+by_width P two three four (Whole III) = four
+by_width P two three four (Whole IV) = three
+by_width P two three four (ReserveOne I) = two
+by_width P two three four (ReserveOne II) = two
+by_width P two three four (ReserveOne III) = three
+by_width P two three four (ReserveOne IV) = two
+by_width P two three four ReserveTwo = two
+
+pub some_fibs : (layout : FrameLayout) → (2 ≤ used_fibs layout) × (used_fibs layout ≤ 4)
+some_fibs layout = by_width (λ w. (2 ≤ w) × (w ≤ 4)) (omega arith, omega arith) (omega arith, omega arith) (omega arith, omega arith) layout
 
 -- of two successive FIBs at most one is the first of a page
-pub apart : (mode : Mode) (n : ℕ) → (n + 1) % fib_count mode ≡ 0 → (n + 2) % fib_count mode ≡ 0 → ⊥
-apart I n a b = omega (arith, a, b)
-apart II n a b = omega (arith, a, b)
-apart III n a b = omega (arith, a, b)
-apart IV n a b = omega (arith, a, b)
+pub apart : (layout : FrameLayout) (n : ℕ) → (n + 1) % used_fibs layout ≡ 0 → (n + 2) % used_fibs layout ≡ 0 → ⊥
+apart layout n =
+    by_width (λ w. (n + 1) % w ≡ 0 → (n + 2) % w ≡ 0 → ⊥) (λ a b. omega (arith, a, b)) (λ a b. omega (arith, a, b)) (λ a b. omega (arith, a, b)) layout
 
-pub first_of_page : (mode : Mode) (k : ℕ) → (fib_count mode * k) % fib_count mode ≡ 0
-first_of_page I k = omega arith
-first_of_page II k = omega arith
-first_of_page III k = omega arith
-first_of_page IV k = omega arith
+pub first_of_page : (layout : FrameLayout) (k : ℕ) → (used_fibs layout * k) % used_fibs layout ≡ 0
+first_of_page layout k = by_width (λ w. (w * k) % w ≡ 0) (omega arith) (omega arith) (omega arith) layout
 
-pub no_page : (mode : Mode) → fib_count mode * 0 ≡ 0
-no_page I = omega arith
-no_page II = omega arith
-no_page III = omega arith
-no_page IV = omega arith
+pub no_page : (layout : FrameLayout) → used_fibs layout * 0 ≡ 0
+no_page layout = by_width (λ w. w * 0 ≡ 0) (omega arith) (omega arith) (omega arith) layout
 
--- the FIBs of page k are those from its first one on, up to the first one of the next
-pub next_page : (mode : Mode) (k : ℕ) → fib_count mode * suc k ≡ fib_count mode * k + fib_count mode
-next_page I k = omega arith
-next_page II k = omega arith
-next_page III k = omega arith
-next_page IV k = omega arith
+-- the first FIB of the next page
+pub next_page : (layout : FrameLayout) (k : ℕ) → used_fibs layout * suc k ≡ used_fibs layout * k + used_fibs layout
+next_page layout k = by_width (λ w. w * suc k ≡ w * k + w) (omega arith) (omega arith) (omega arith) layout
 
-pub in_its_page : (mode : Mode) (k n : ℕ) → fib_count mode * k ≤ n → n < fib_count mode * k + fib_count mode → n / fib_count mode ≡ k
-in_its_page I k n low high = omega (arith, low, high)
-in_its_page II k n low high = omega (arith, low, high)
-in_its_page III k n low high = omega (arith, low, high)
-in_its_page IV k n low high = omega (arith, low, high)
+pub in_its_page : (layout : FrameLayout) (k n : ℕ) → used_fibs layout * k ≤ n → n < used_fibs layout * k + used_fibs layout → n / used_fibs layout ≡ k
+in_its_page layout k n =
+    by_width (λ w. w * k ≤ n → n < w * k + w → n / w ≡ k) (λ low high. omega (arith, low, high)) (λ low high. omega (arith, low, high)) (λ low high. omega (arith, low, high)) layout
 
-pub before_its_page : (mode : Mode) (k n : ℕ) → n < fib_count mode * k → n / fib_count mode ≡ k → ⊥
-before_its_page I k n low h = omega (arith, low, h)
-before_its_page II k n low h = omega (arith, low, h)
-before_its_page III k n low h = omega (arith, low, h)
-before_its_page IV k n low h = omega (arith, low, h)
+pub before_its_page : (layout : FrameLayout) (k n : ℕ) → n < used_fibs layout * k → n / used_fibs layout ≡ k → ⊥
+before_its_page layout k n =
+    by_width (λ w. n < w * k → n / w ≡ k → ⊥) (λ low h. omega (arith, low, h)) (λ low h. omega (arith, low, h)) (λ low h. omega (arith, low, h)) layout
 
-pub behind_its_page : (mode : Mode) (k n : ℕ) → fib_count mode * k + fib_count mode ≤ n → n / fib_count mode ≡ k → ⊥
-behind_its_page I k n high h = omega (arith, high, h)
-behind_its_page II k n high h = omega (arith, high, h)
-behind_its_page III k n high h = omega (arith, high, h)
-behind_its_page IV k n high h = omega (arith, high, h)
+pub behind_its_page : (layout : FrameLayout) (k n : ℕ) → used_fibs layout * k + used_fibs layout ≤ n → n / used_fibs layout ≡ k → ⊥
+behind_its_page layout k n =
+    by_width (λ w. w * k + w ≤ n → n / w ≡ k → ⊥) (λ high h. omega (arith, high, h)) (λ high h. omega (arith, high, h)) (λ high h. omega (arith, high, h)) layout
 
 -- later FIBs are in the same page or in a later one
-pub later_page : (mode : Mode) (m n : ℕ) → m ≤ n → m / fib_count mode ≤ n / fib_count mode
-later_page I m n h = omega (arith, h)
-later_page II m n h = omega (arith, h)
-later_page III m n h = omega (arith, h)
-later_page IV m n h = omega (arith, h)
+pub later_page : (layout : FrameLayout) (m n : ℕ) → m ≤ n → m / used_fibs layout ≤ n / used_fibs layout
+later_page layout m n = by_width (λ w. m ≤ n → m / w ≤ n / w) (λ h. omega (arith, h)) (λ h. omega (arith, h)) (λ h. omega (arith, h)) layout
 
 -- a FIB comes before the page after its own
-pub within_its_page : (mode : Mode) (n : ℕ) → n < fib_count mode * (n / fib_count mode + 1)
-within_its_page I n = omega arith
-within_its_page II n = omega arith
-within_its_page III n = omega arith
-within_its_page IV n = omega arith
+pub within_its_page : (layout : FrameLayout) (n : ℕ) → n < used_fibs layout * (n / used_fibs layout + 1)
+within_its_page layout n = by_width (λ w. n < w * (n / w + 1)) (omega arith) (omega arith) (omega arith) layout
 
 -- with at most two FIBs to an entry there is at most one page more than entries
-pub few_pages : (mode : Mode) (n count : ℕ) → n ≤ 0 + 2 * count → n / fib_count mode + 1 ≤ count + 1
-few_pages I n count h = omega (arith, h)
-few_pages II n count h = omega (arith, h)
-few_pages III n count h = omega (arith, h)
-few_pages IV n count h = omega (arith, h)
+pub few_pages : (layout : FrameLayout) (n count : ℕ) → n ≤ 0 + 2 * count → n / used_fibs layout + 1 ≤ count + 1
+few_pages layout n count =
+    by_width (λ w. n ≤ 0 + 2 * count → n / w + 1 ≤ count + 1) (λ h. omega (arith, h)) (λ h. omega (arith, h)) (λ h. omega (arith, h)) layout
 
-pub few_fibs : (mode : Mode) (w k : ℕ) → w ≡ fib_count mode → w * k ≤ 4 * k
-few_fibs mode w k e = subst (λ n. n * k ≤ 4 * k) (sym e) (by mode)
-  where
-    by : (mode : Mode) → fib_count mode * k ≤ 4 * k
-    by I = omega arith
-    by II = omega arith
-    by III = omega arith
-    by IV = omega arith
+pub few_fibs : (layout : FrameLayout) (w k : ℕ) → w ≡ used_fibs layout → w * k ≤ 4 * k
+few_fibs layout w k e = subst (λ n. n * k ≤ 4 * k) (sym e) (by_width (λ n. n * k ≤ 4 * k) (omega arith) (omega arith) (omega arith) layout)
+
+-- the page of a FIB that is in page k or before, or after page k
+pub last_in : (layout : FrameLayout) (k top : ℕ) → top ≤ used_fibs layout * k + used_fibs layout - 1 → top / used_fibs layout ≤ k
+last_in layout k top = by_width (λ w. top ≤ w * k + w - 1 → top / w ≤ k) (λ h. omega (arith, h)) (λ h. omega (arith, h)) (λ h. omega (arith, h)) layout
+
+pub last_over : (layout : FrameLayout) (k top : ℕ) → used_fibs layout * k + used_fibs layout - 1 < top → k + 1 ≤ top / used_fibs layout
+last_over layout k top = by_width (λ w. w * k + w - 1 < top → k + 1 ≤ top / w) (λ h. omega (arith, h)) (λ h. omega (arith, h)) (λ h. omega (arith, h)) layout

@@ -1,5 +1,5 @@
 -- The bytes of the FIBs of a page (EN 300 401 clauses 5.2.1, 5.2.2 and 6.4).
-use Rattle.std.specs.Prelude.{◌≡◌, map, flat_map, take, drop, ℕ, false, if◌then◌else◌, Option, Some, None, List, [], ◌∷◌, ◌++◌}
+use Rattle.std.specs.Prelude.{◌≡◌, map, flat_map, take, drop, replicate, ℕ, false, if◌then◌else◌, Option, Some, None, List, [], ◌∷◌, ◌++◌}
 use Rattle.mux_entries.specs.Entries.{EnsembleInformation}
 use Rattle.mux_entries.specs.Facts.{Marked, marked}
 use Rattle.mux_entries.specs.declared.entry.Entry.TheVariants.{Ensemble as EnsembleOf}
@@ -7,7 +7,8 @@ use Rattle.mux_entries.specs.declared.entry.Entry.{Entry}
 use Rattle.fib_codec.specs.declared.head.Head.{Head}
 use Rattle.fib_codec.specs.Spelling.{Written, head_of, fib_bytes}
 use Rattle.fib_codec.specs.Grammar.{IsValid, fig_of}
-use Rattle.fib_codec.specs.declared.modes.Mode.{Mode}
+use Rattle.fib_codec.specs.declared.frame_layout.FrameLayout.{FrameLayout}
+use Rattle.fib_codec.specs.Layouts.{reserved_fibs}
 use Rattle.fib_carousel.specs.Packing.{same_head, entries_in_fib}
 use Rattle.fib_carousel.specs.Greedy.{packing}
 use Rattle.fib_carousel.specs.Pages.{first_fib, later_fibs}
@@ -35,17 +36,25 @@ ensemble_figs (Some e) = record { head = head_of (marked false (EnsembleOf e)); 
 
 -- the FIGs of the FIBs of page k, if the entries are in the FIBs with these numbers: FIG 0/0, if given, comes first in
 -- the first of them
-abbrev pub figs_by : Mode → List ℕ → Option EnsembleInformation → ℕ → List Marked → List (List Written)
-figs_by mode ns ensemble k ms =
-    (ensemble_figs ensemble ++ figs_of (entries_in_fib (first_fib mode k) ms ns))
-    ∷ map (λ n. figs_of (entries_in_fib n ms ns)) (later_fibs mode k)
+abbrev pub used_figs : FrameLayout → List ℕ → Option EnsembleInformation → ℕ → List Marked → List (List Written)
+used_figs layout ns ensemble k ms =
+    (ensemble_figs ensemble ++ figs_of (entries_in_fib (first_fib layout k) ms ns))
+    ∷ map (λ n. figs_of (entries_in_fib n ms ns)) (later_fibs layout k)
 
-abbrev pub page_figs : Mode → Option EnsembleInformation → ℕ → List Marked → List (List Written)
-page_figs mode ensemble k ms = figs_by mode (packing mode ms) ensemble k ms
+-- the reserved FIBs have none
+abbrev pub reserved_figs : FrameLayout → List (List Written)
+reserved_figs layout = replicate (reserved_fibs layout) []
+
+-- the FIGs of all FIBs of the frame in which page k is sent
+abbrev pub figs_by : FrameLayout → List ℕ → Option EnsembleInformation → ℕ → List Marked → List (List Written)
+figs_by layout ns ensemble k ms = used_figs layout ns ensemble k ms ++ reserved_figs layout
+
+abbrev pub page_figs : FrameLayout → Option EnsembleInformation → ℕ → List Marked → List (List Written)
+page_figs layout ensemble k ms = figs_by layout (packing layout ms) ensemble k ms
 
 -- the bytes of page k of these entries, with this FIG 0/0: what is sent in one frame
-abbrev pub page_bytes : Mode → Option EnsembleInformation → ℕ → List Marked → List ℕ
-page_bytes mode ensemble k ms = flat_map fib_bytes (page_figs mode ensemble k ms)
+abbrev pub page_bytes : FrameLayout → Option EnsembleInformation → ℕ → List Marked → List ℕ
+page_bytes layout ensemble k ms = flat_map fib_bytes (page_figs layout ensemble k ms)
 
 -- these bytes are valid FIBs, one after another, with exactly these FIGs
 abbrev pub AreFibs : List (List Written) → List ℕ → Type 0

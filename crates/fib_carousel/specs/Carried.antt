@@ -4,11 +4,11 @@ use Rattle.mux_config.specs.Configuration.{Configuration, IsConfiguration}
 use Rattle.std.specs.List.{AllByRecursion}
 use Rattle.mux_entries.specs.Entries.{EnsembleInformation}
 use Rattle.mux_entries.specs.Facts.{Marked}
-use Rattle.fib_codec.specs.Modes.{fib_count}
+use Rattle.fib_codec.specs.Layouts.{frame_fibs, KeepsReserve}
 use Rattle.fib_codec.specs.Ranges.{IsEnsembleInformation, IsWithin}
 use Rattle.fib_codec.specs.Spelling.{ext_of}
 use Rattle.fib_codec.specs.Heard.{IsHeardInRow, IsEnsembleHeardInRow}
-use Rattle.fib_codec.specs.declared.modes.Mode.{Mode}
+use Rattle.fib_codec.specs.declared.frame_layout.FrameLayout.{FrameLayout}
 use Rattle.fib_carousel.specs.Packing.{size_of}
 use Rattle.fib_carousel.specs.Pages.{page_set, page_entries}
 use Rattle.fib_carousel.specs.Bytes.{page_bytes, page_figs, AreFibs}
@@ -37,19 +37,25 @@ PageSetsArePageable =
 -- a page consists of as many valid FIBs as a frame of the mode has, with the FIG 0/0 given and the FIGs of its entries
 abbrev pub PagesAreValid : Type 0
 PagesAreValid =
-    (mode : Mode) (ensemble : Option EnsembleInformation) (k : ℕ) (ms : List Marked) → IsPageable ensemble ms
-    → AreFibs (page_figs mode ensemble k ms) (page_bytes mode ensemble k ms)
-    × (length (page_bytes mode ensemble k ms) ≡ 32 * fib_count mode)
+    (layout : FrameLayout) (ensemble : Option EnsembleInformation) (k : ℕ) (ms : List Marked) → IsPageable ensemble ms
+    → AreFibs (page_figs layout ensemble k ms) (page_bytes layout ensemble k ms)
+    × (length (page_bytes layout ensemble k ms) ≡ 32 * frame_fibs layout)
 
 -- the entries of FIG 0/1 to 0/3 decoded from a page's bytes are that page's entries, and no others
 abbrev pub PagesAreHeard : Type 0
 PagesAreHeard =
-    (mode : Mode) (ensemble : Option EnsembleInformation) (k : ℕ) (ms : List Marked) → IsPageable ensemble ms
-    → (m : Marked) → IsHeardInRow (page_bytes mode ensemble k ms) m ↔ Contains (page_entries mode k ms) m
+    (layout : FrameLayout) (ensemble : Option EnsembleInformation) (k : ℕ) (ms : List Marked) → IsPageable ensemble ms
+    → (m : Marked) → IsHeardInRow (page_bytes layout ensemble k ms) m ↔ Contains (page_entries layout k ms) m
 
 -- the ensemble information decoded from them is the one given, as FIG 0/0 with C/N 0, and no other
 abbrev pub EnsembleIsCarried : Type 0
 EnsembleIsCarried =
-    (mode : Mode) (ensemble : Option EnsembleInformation) (k : ℕ) (ms : List Marked) → IsPageable ensemble ms
+    (layout : FrameLayout) (ensemble : Option EnsembleInformation) (k : ℕ) (ms : List Marked) → IsPageable ensemble ms
     → (next : Bool) (e : EnsembleInformation)
-    → IsEnsembleHeardInRow (page_bytes mode ensemble k ms) next e ↔ ((next ≡ false) × (ensemble ≡ Some e))
+    → IsEnsembleHeardInRow (page_bytes layout ensemble k ms) next e ↔ ((next ≡ false) × (ensemble ≡ Some e))
+
+-- the reserved FIBs are empty
+abbrev pub PagesKeepReserve : Type 0
+PagesKeepReserve =
+    (layout : FrameLayout) (ensemble : Option EnsembleInformation) (k : ℕ) (ms : List Marked) → IsPageable ensemble ms
+    → KeepsReserve layout (page_bytes layout ensemble k ms)

@@ -11,6 +11,7 @@ pub mod Runs
 pub mod Items
 pub mod Shapes
 pub use Rattle.fib_codec.specs.Modes
+pub use Rattle.fib_codec.specs.Layouts
 pub use Rattle.fib_codec.specs.Crc
 pub use Rattle.fib_codec.specs.Spelling
 pub use Rattle.fib_codec.specs.Grammar

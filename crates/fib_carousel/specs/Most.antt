@@ -1,25 +1,19 @@
 -- The most pages that configurations can need.
-use Rattle.std.specs.Prelude.{ℕ, ◌≤◌, Some, None}
+use Rattle.std.specs.Prelude.{ℕ, ◌≤◌, ◌==◌, if◌then◌else◌, Some, None}
 use Rattle.mux_config.specs.Configuration.{Configuration, IsConfiguration}
-use Rattle.fib_codec.specs.declared.modes.Mode.{Mode}
-use Rattle.fib_codec.specs.declared.modes.Mode.TheVariants.{I, II, III, IV}
+use Rattle.fib_codec.specs.declared.frame_layout.FrameLayout.{FrameLayout}
+use Rattle.fib_codec.specs.Layouts.{used_fibs}
 use Rattle.fib_carousel.specs.Pages.{page_set, rounds}
 
--- one configuration alone
-abbrev pub most_alone : Mode → ℕ
-most_alone I = 41
-most_alone II = 41
-most_alone III = 28
-most_alone IV = 41
+-- one configuration alone, with pages of this many FIBs, 2 to 4
+abbrev pub most_alone : ℕ → ℕ
+most_alone fibs = if fibs == 2 then 78 else if fibs == 3 then 41 else 28
 
 -- two side by side
-abbrev pub most_together : Mode → ℕ
-most_together I = 81
-most_together II = 81
-most_together III = 55
-most_together IV = 81
+abbrev pub most_together : ℕ → ℕ
+most_together fibs = if fibs == 2 then 155 else if fibs == 3 then 81 else 55
 
 abbrev pub MostPages : Type 0
 MostPages =
-    (mode : Mode) (c d : Configuration) → IsConfiguration c → IsConfiguration d
-    → (rounds mode (page_set c None) ≤ most_alone mode) × (rounds mode (page_set c (Some d)) ≤ most_together mode)
+    (layout : FrameLayout) (c d : Configuration) → IsConfiguration c → IsConfiguration d
+    → (rounds layout (page_set c None) ≤ most_alone (used_fibs layout)) × (rounds layout (page_set c (Some d)) ≤ most_together (used_fibs layout))

@@ -3,8 +3,8 @@ use Rattle.std.specs.Prelude.{◌≡◌, ℕ, ◌+◌, ◌-◌, ◌*◌, ◌<◌
 use Rattle.std.specs.List.{range_with_len}
 use Rattle.mux_entries.specs.Facts.{Marked, facts_of}
 use Rattle.mux_config.specs.Configuration.{Configuration}
-use Rattle.fib_codec.specs.Modes.{fib_count}
-use Rattle.fib_codec.specs.declared.modes.Mode.{Mode}
+use Rattle.fib_codec.specs.Layouts.{used_fibs}
+use Rattle.fib_codec.specs.declared.frame_layout.FrameLayout.{FrameLayout}
 use Rattle.fib_carousel.specs.Packing.{rounds_of, entries_in_fib, entries_in_page}
 use Rattle.fib_carousel.specs.Greedy.{packing}
 
@@ -19,48 +19,48 @@ abbrev pub page_set_of : {S : Type 0} → (S → Configuration) → S → Option
 page_set_of content current next = page_set (content current) (option_map content next)
 
 -- the number of pages that the entries take, at least 1
-abbrev pub rounds : Mode → List Marked → ℕ
-rounds mode es = rounds_of mode (packing mode es)
+abbrev pub rounds : FrameLayout → List Marked → ℕ
+rounds layout es = rounds_of layout (packing layout es)
 
 -- the page after page k of this many pages: page 0 again after the last
 abbrev pub page_after : ℕ → ℕ → ℕ
 page_after pages k = if nat_lt (k + 1) pages then k + 1 else 0
 
 -- the FIB numbers of page k: the first one, and the others
-abbrev pub first_fib : Mode → ℕ → ℕ
-first_fib mode k = fib_count mode * k
+abbrev pub first_fib : FrameLayout → ℕ → ℕ
+first_fib layout k = used_fibs layout * k
 
-abbrev pub later_fibs : Mode → ℕ → List ℕ
-later_fibs mode k = range_with_len (first_fib mode k + 1) (fib_count mode - 1)
+abbrev pub later_fibs : FrameLayout → ℕ → List ℕ
+later_fibs layout k = range_with_len (first_fib layout k + 1) (used_fibs layout - 1)
 
-abbrev pub fibs_of_page : Mode → ℕ → List ℕ
-fibs_of_page mode k = first_fib mode k ∷ later_fibs mode k
+abbrev pub fibs_of_page : FrameLayout → ℕ → List ℕ
+fibs_of_page layout k = first_fib layout k ∷ later_fibs layout k
 
-abbrev pub fib_entries : Mode → ℕ → List Marked → List Marked
-fib_entries mode n es = entries_in_fib n es (packing mode es)
+abbrev pub fib_entries : FrameLayout → ℕ → List Marked → List Marked
+fib_entries layout n es = entries_in_fib n es (packing layout es)
 
-abbrev pub page_entries : Mode → ℕ → List Marked → List Marked
-page_entries mode k es = entries_in_page mode k es (packing mode es)
+abbrev pub page_entries : FrameLayout → ℕ → List Marked → List Marked
+page_entries layout k es = entries_in_page layout k es (packing layout es)
 
 -- the entries of the first k pages
-abbrev pub pages_below : Mode → ℕ → List Marked → List Marked
-pages_below mode zero es = []
-pages_below mode (suc k) es = pages_below mode k es ++ page_entries mode k es
+abbrev pub pages_below : FrameLayout → ℕ → List Marked → List Marked
+pages_below layout zero es = []
+pages_below layout (suc k) es = pages_below layout k es ++ page_entries layout k es
 
 -- all pages together have each entry once, in order, and no other
 abbrev pub PagesAreAll : Type 0
-PagesAreAll = (mode : Mode) (es : List Marked) → pages_below mode (rounds mode es) es ≡ es
+PagesAreAll = (layout : FrameLayout) (es : List Marked) → pages_below layout (rounds layout es) es ≡ es
 
 abbrev pub EachInAPage : Type 0
 EachInAPage =
-    (mode : Mode) (es : List Marked) (e : Marked) → Contains es e
-    → (k : ℕ) × (k < rounds mode es) × Contains (page_entries mode k es) e
+    (layout : FrameLayout) (es : List Marked) (e : Marked) → Contains es e
+    → (k : ℕ) × (k < rounds layout es) × Contains (page_entries layout k es) e
 
 abbrev pub NoneBeyond : Type 0
-NoneBeyond = (mode : Mode) (es : List Marked) (k : ℕ) → rounds mode es ≤ k → page_entries mode k es ≡ []
+NoneBeyond = (layout : FrameLayout) (es : List Marked) (k : ℕ) → rounds layout es ≤ k → page_entries layout k es ≡ []
 
--- a page consists of as many successive FIBs as a frame of the mode has
+-- a page consists of as many successive FIBs as the layout does not reserve
 abbrev pub PageIsFibs : Type 0
 PageIsFibs =
-    (mode : Mode) (es : List Marked) (k : ℕ)
-    → page_entries mode k es ≡ flat_map (λ n. fib_entries mode n es) (fibs_of_page mode k)
+    (layout : FrameLayout) (es : List Marked) (k : ℕ)
+    → page_entries layout k es ≡ flat_map (λ n. fib_entries layout n es) (fibs_of_page layout k)

@@ -4,7 +4,7 @@ use Rattle.std.specs.Prelude.{◌≡◌, ℕ, zero, suc, ◌+◌, ◌<◌, ◌�
 use Rattle.mux_entries.specs.Facts.{Marked}
 use Rattle.fib_codec.specs.Spelling.{head_of}
 use Rattle.fib_codec.specs.declared.head.Head.{Head}
-use Rattle.fib_codec.specs.declared.modes.Mode.{Mode}
+use Rattle.fib_codec.specs.declared.frame_layout.FrameLayout.{FrameLayout}
 use Rattle.fib_carousel.specs.declared.pack_state.EntryShape.{EntryShape}
 use Rattle.fib_carousel.specs.declared.pack_state.PackState.{PackState}
 use Rattle.fib_carousel.specs.Packing.{room, same_head, size_of}
@@ -28,32 +28,32 @@ shape_cost (Some h) s = if same_head h s.head then s.size else 2 + s.size
 abbrev pub state_at : EntryShape → ℕ → ℕ → PackState
 state_at s fib used = record { fib = fib; used = used; head = Some s.head }
 
-abbrev pub step : Mode → EntryShape → PackState → PackState
-step mode s p =
-    if nat_le (p.used + shape_cost p.head s) (room mode p.fib) then state_at s p.fib (p.used + shape_cost p.head s)
-    else (if nat_le (2 + s.size) (room mode (p.fib + 1)) then state_at s (p.fib + 1) (2 + s.size) else state_at s (p.fib + 2) (2 + s.size))
+abbrev pub step : FrameLayout → EntryShape → PackState → PackState
+step layout s p =
+    if nat_le (p.used + shape_cost p.head s) (room layout p.fib) then state_at s p.fib (p.used + shape_cost p.head s)
+    else (if nat_le (2 + s.size) (room layout (p.fib + 1)) then state_at s (p.fib + 1) (2 + s.size) else state_at s (p.fib + 2) (2 + s.size))
 
 -- the state after placing this many entries of one shape
-abbrev pub steps : Mode → EntryShape → ℕ → PackState → PackState
-steps mode s zero p = p
-steps mode s (suc n) p = steps mode s n (step mode s p)
+abbrev pub steps : FrameLayout → EntryShape → ℕ → PackState → PackState
+steps layout s zero p = p
+steps layout s (suc n) p = steps layout s n (step layout s p)
 
 -- a state whose FIB is closed: every entry goes after it
 abbrev pub closed : PackState → PackState
 closed p = record { fib = p.fib; used = 30; head = None }
 
 -- the state after placing the entries of a list
-abbrev pub all_placed : Mode → List Marked → PackState → PackState
-all_placed mode [] p = p
-all_placed mode (e ∷ es) p = all_placed mode es (placed mode e p)
+abbrev pub all_placed : FrameLayout → List Marked → PackState → PackState
+all_placed layout [] p = p
+all_placed layout (e ∷ es) p = all_placed layout es (placed layout e p)
 
 -- the state after placing an entry of this shape, in FIB `number` or an earlier one
-pub record IsThenWithin (mode : Mode) (s : EntryShape) (number : ℕ) (p q : PackState) : Type 0 where
-  pub is : (m : Marked) → s.head ≡ head_of m → s.size ≡ size_of m → q ≡ placed mode m p
+pub record IsThenWithin (layout : FrameLayout) (s : EntryShape) (number : ℕ) (p q : PackState) : Type 0 where
+  pub is : (m : Marked) → s.head ≡ head_of m → s.size ≡ size_of m → q ≡ placed layout m p
   pub used : q.used ≤ 30
   pub low : q.fib ≤ number
   pub near : q.fib ≤ p.fib + 2
 
 -- an entry of this shape goes into a FIB after FIB `number`
-abbrev pub IsPlacedAfter : Mode → EntryShape → ℕ → PackState → Type 0
-IsPlacedAfter mode s number p = (m : Marked) → s.head ≡ head_of m → s.size ≡ size_of m → number < (placed mode m p).fib
+abbrev pub IsPlacedAfter : FrameLayout → EntryShape → ℕ → PackState → Type 0
+IsPlacedAfter layout s number p = (m : Marked) → s.head ≡ head_of m → s.size ≡ size_of m → number < (placed layout m p).fib

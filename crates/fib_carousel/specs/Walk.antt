@@ -3,7 +3,7 @@
 use Rattle.std.specs.Prelude.{◌≡◌, ℕ, ◌*◌, ◌<◌, ◌≤◌, ◌⊎◌, List, ◌∷◌, drop, length, slice_get, Some}
 use Rattle.mux_entries.specs.Facts.{Marked}
 use Rattle.fib_codec.specs.Spelling.{head_of}
-use Rattle.fib_codec.specs.declared.modes.Mode.{Mode}
+use Rattle.fib_codec.specs.declared.frame_layout.FrameLayout.{FrameLayout}
 use Rattle.fib_carousel.specs.declared.pack_state.EntryShape.{EntryShape}
 use Rattle.fib_carousel.specs.declared.pack_state.Position.{Position}
 use Rattle.fib_carousel.specs.declared.page_cursor.Cursor.{Cursor}
@@ -19,38 +19,38 @@ pub record IsShapeAt (ms : List Marked) (index : ℕ) (shape : EntryShape) : Typ
   pub size : shape.size ≡ size_of entry
 
 -- from the position on, the rule gives FIB n and later ones what the packing gives them
-pub record IsAtFib (mode : Mode) (ms : List Marked) (n : ℕ) (p : Position) : Type 0 where
+pub record IsAtFib (layout : FrameLayout) (ms : List Marked) (n : ℕ) (p : Position) : Type 0 where
   pub index : p.index ≤ length ms
   pub used : p.state.used ≤ 30
   pub fib : p.state.fib ≤ 2 * p.index
   pub below : p.state.fib ≤ n
-  pub rest : (m : ℕ) → n ≤ m → entries_in_fib m (drop p.index ms) (numbers_from mode p.state (drop p.index ms)) ≡ fib_entries mode m ms
-  pub last : last_number p.state.fib (numbers_from mode p.state (drop p.index ms)) ≡ last_number 0 (packing mode ms)
+  pub rest : (m : ℕ) → n ≤ m → entries_in_fib m (drop p.index ms) (numbers_from layout p.state (drop p.index ms)) ≡ fib_entries layout m ms
+  pub last : last_number p.state.fib (numbers_from layout p.state (drop p.index ms)) ≡ last_number 0 (packing layout ms)
 
 -- no entry is left after FIB n, or the last one is past it
-pub record HasPassed (mode : Mode) (ms : List Marked) (n : ℕ) (p : Position) : Type 0 where
+pub record HasPassed (layout : FrameLayout) (ms : List Marked) (n : ℕ) (p : Position) : Type 0 where
   pub fib : p.state.fib ≤ n
-  pub left : (p.index ≡ length ms) ⊎ (n < last_number 0 (packing mode ms))
+  pub left : (p.index ≡ length ms) ⊎ (n < last_number 0 (packing layout ms))
 
 -- the next remaining entry goes past FIB n
-abbrev pub NextIsAfter : Mode → List Marked → ℕ → Position → Type 0
-NextIsAfter mode ms n p =
-    (m : Marked) (rest : List Marked) → drop p.index ms ≡ m ∷ rest → n < (placed mode m p.state).fib
+abbrev pub NextIsAfter : FrameLayout → List Marked → ℕ → Position → Type 0
+NextIsAfter layout ms n p =
+    (m : Marked) (rest : List Marked) → drop p.index ms ≡ m ∷ rest → n < (placed layout m p.state).fib
 
 -- the current page of a cursor
 abbrev pub cursor_page : Cursor → ℕ
 cursor_page c = c.page
 
 -- it is a page of these entries, and the cursor's position in the list is where that page starts
-pub record IsAtPageStart (mode : Mode) (ms : List Marked) (c : Cursor) : Type 0 where
-  pub within : cursor_page c < rounds mode ms
-  pub before : IsAtFib mode ms (first_fib mode (cursor_page c)) c.position
+pub record IsAtPageStart (layout : FrameLayout) (ms : List Marked) (c : Cursor) : Type 0 where
+  pub within : cursor_page c < rounds layout ms
+  pub before : IsAtFib layout ms (first_fib layout (cursor_page c)) c.position
 
 -- the cursor is at page k of these entries
-abbrev pub IsAtPage : Mode → List Marked → ℕ → Cursor → Type 0
-IsAtPage mode ms k c = IsAtPageStart mode ms c × (cursor_page c ≡ k)
+abbrev pub IsAtPage : FrameLayout → List Marked → ℕ → Cursor → Type 0
+IsAtPage layout ms k c = IsAtPageStart layout ms c × (cursor_page c ≡ k)
 
 -- the cursor is at page 0, whatever the entries are
 pub record IsAtFirstPage (c : Cursor) : Type 0 where
   pub page : cursor_page c ≡ 0
-  pub stands : (mode : Mode) (ms : List Marked) → IsAtPageStart mode ms c
+  pub stands : (layout : FrameLayout) (ms : List Marked) → IsAtPageStart layout ms c

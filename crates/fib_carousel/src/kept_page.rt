@@ -2,7 +2,7 @@
 
 ghost use Rattle.std.specs.Prelude.{◌≡◌, ℕ, ◌+◌, ◌-◌, ◌≤◌, ◌++◌, List, length, take, Some, None};
 ghost use Rattle.mux_entries.specs.Facts.{Marked};
-ghost use Rattle.fib_codec.specs.declared.modes.Mode.{Mode};
+ghost use Rattle.fib_codec.specs.declared.frame_layout.FrameLayout.{FrameLayout};
 ghost use Rattle.fib_codec.specs.Modes.{with_fib};
 ghost use Rattle.fib_codec.specs.Spelling.{figs_bytes, checked};
 ghost use Rattle.fib_carousel.specs.Bytes.{ensemble_figs, page_bytes};
@@ -47,16 +47,16 @@ impl KeptPage {
     /// The page without FIG 0/0.
     pub fn without_ensemble(&self) -> &FibFrame
         ensures value { result.now ≡ self.now.plain }
-        ensures page { (mode : Mode) (ms : List Marked) (k : ℕ)
-            → IsKept mode ms k self.now → result.now ≡ page_bytes mode None k ms }
+        ensures page { (layout : FrameLayout) (ms : List Marked) (k : ℕ)
+            → IsKept layout ms k self.now → result.now ≡ page_bytes layout None k ms }
     {
         &self.plain
     }
 
     /// Overwrites a frame with the page, this FIG 0/0 first.
     pub fn with_ensemble(&self, ensemble: Ensemble, frame: &mut FibFrame)
-        ensures { (mode : Mode) (ms : List Marked) (k : ℕ)
-            → IsKept mode ms k self.now → frame.new ≡ page_bytes mode (Some ensemble) k ms }
+        ensures { (layout : FrameLayout) (ms : List Marked) (k : ℕ)
+            → IsKept layout ms k self.now → frame.new ≡ page_bytes layout (Some ensemble) k ms }
     {
         *frame = self.plain;
         if let Some(first) = self.plain.fib(0) {

@@ -4,7 +4,7 @@ ghost use Rattle.fib_carousel.specs.Packing.{PackingIsOne, DividedAreSmall};
 ghost use Rattle.fib_carousel.specs.Greedy.{GreedyIsPacking, NoFewer};
 ghost use Rattle.fib_carousel.specs.Pages.{PagesAreAll, EachInAPage, NoneBeyond, PageIsFibs};
 ghost use Rattle.fib_carousel.specs.Most.{MostPages};
-ghost use Rattle.fib_carousel.specs.Carried.{PageSetsArePageable, PagesAreValid, PagesAreHeard, EnsembleIsCarried};
+ghost use Rattle.fib_carousel.specs.Carried.{PageSetsArePageable, PagesAreValid, PagesAreHeard, EnsembleIsCarried, PagesKeepReserve};
 
 /// The greedy rule gives the packing of every list of entries that has a division, so no division takes
 /// fewer FIBs or pages. A list has at most one packing.
@@ -16,8 +16,8 @@ pub fn greedy()
 {}
 
 /// The pages together contain each entry once, in order, and no other; so each entry is in a page, and pages past the
-/// last are empty. The entries of a page are those of its FIBs, as many as a frame of the mode has. One configuration
-/// needs at most 41 pages and two at most 81; in mode III 28 and 55.
+/// last are empty. The entries of a page are those of its FIBs, as many as the layout does not reserve. One configuration
+/// needs at most 41 pages of three FIBs and two at most 81; 28 and 55 pages of four, 78 and 155 of two.
 pub fn pages()
     ensures all { PagesAreAll }
     ensures each { EachInAPage }
@@ -28,10 +28,11 @@ pub fn pages()
 
 /// A page consists of as many valid FIBs as a frame of the mode has, with FIG 0/0 first if given. A receiver decodes
 /// from it exactly the entries of that page and the ensemble information given: no entry is lost, and none is added.
-/// This covers the entries of every configuration.
+/// This covers the entries of every configuration. The reserved FIBs are empty.
 pub fn carried()
     ensures pageable { PageSetsArePageable }
     ensures valid { PagesAreValid }
     ensures heard { PagesAreHeard }
     ensures ensemble { EnsembleIsCarried }
+    ensures reserved { PagesKeepReserve }
 {}

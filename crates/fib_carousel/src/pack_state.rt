@@ -7,7 +7,7 @@ ghost use Rattle.fib_carousel.specs.Packing.{cost, room, same_head, size_of};
 ghost use Rattle.fib_carousel.specs.Greedy.{start, placed};
 ghost use Rattle.fib_carousel.specs.Runs.{shape_cost, step, steps, closed, IsThenWithin, IsPlacedAfter};
 
-use fib_codec::{Head, Mode};
+use fib_codec::{FrameLayout, Head};
 
 /// The most bytes that FIGs may take in a FIB.
 pub(crate) const MOST_USED: u8 = 30;
@@ -47,15 +47,14 @@ pub(crate) struct Position {
 
 /// The bytes that the FIGs of entries may take in a FIB of the sequence. The first FIB of a page reserves 7 bytes for
 /// FIG 0/0, even if none is sent.
-fn room(mode: Mode, fib: usize) -> u8
-    ensures value { result ≡ room mode fib }
+fn room(layout: FrameLayout, fib: usize) -> u8
+    ensures value { result ≡ room layout fib }
     ensures bound { result ≤ 30 }
 {
-    let is_first = match mode {
-        Mode::I => fib % 3 == 0,
-        Mode::II => fib % 3 == 0,
-        Mode::III => fib % 4 == 0,
-        Mode::IV => fib % 3 == 0,
+    let is_first = match layout.used() {
+        2 => fib % 2 == 0,
+        3 => fib % 3 == 0,
+        _ => fib % 4 == 0,
     };
     if is_first { FIRST_ROOM } else { MOST_USED }
 }
@@ -126,26 +125,26 @@ impl PackState {
     }
 
     /// The state after placing the next entry: in the same FIB if it fits, else in the next FIB in which it fits.
-    pub(crate) fn then(self, mode: Mode, shape: EntryShape) -> PackState
+    pub(crate) fn then(self, layout: FrameLayout, shape: EntryShape) -> PackState
         requires small { shape.size ≤ 28 }
         requires used { self.used ≤ 30 }
         requires fib { self.fib < 2 ^ 32 }
         ensures value { (m : Marked)
-            → shape.head ≡ head_of m → shape.size ≡ size_of m → result ≡ placed mode m self }
-        ensures step { result ≡ step mode shape self }
+            → shape.head ≡ head_of m → shape.size ≡ size_of m → result ≡ placed layout m self }
+        ensures step { result ≡ step layout shape self }
         ensures used { result.used ≤ 30 }
         ensures from { self.fib ≤ result.fib }
         ensures to { result.fib ≤ self.fib + 2 }
     {
         let used = self.used + self.cost(shape);
-        if used <= room(mode, self.fib) {
+        if used <= room(layout, self.fib) {
             return PackState {
                 fib: self.fib,
                 used,
                 head: Some(shape.head),
             };
         }
-        let fib = if 2 + shape.size <= room(mode, self.fib + 1) {
+        let fib = if 2 + shape.size <= room(layout, self.fib + 1) {
             self.fib + 1
         } else {
             self.fib + 2
@@ -159,14 +158,19 @@ impl PackState {
 
     /// The state after placing the next entry, as [`PackState::then`] gives it; None if that is past FIB `number`.
     #[inline(never)]
-    fn then_from_before(&self, mode: Mode, shape: EntryShape, number: usize) -> Option<PackState>
+    fn then_from_before(
+        &self,
+        layout: FrameLayout,
+        shape: EntryShape,
+        number: usize,
+    ) -> Option<PackState>
         requires small { shape.size ≤ 28 }
         requires used { self.now.used ≤ 30 }
         requires fib { self.now.fib < 2 ^ 32 }
-        ensures within { IfSome result (λ q. IsThenWithin mode shape number self.now q) }
-        ensures behind { result ≡ None → IsPlacedAfter mode shape number self.now }
+        ensures within { IfSome result (λ q. IsThenWithin layout shape number self.now q) }
+        ensures behind { result ≡ None → IsPlacedAfter layout shape number self.now }
     {
-        let state = self.then(mode, shape);
+        let state = self.then(layout, shape);
         if state.fib > number {
             return None;
         }
@@ -179,7 +183,7 @@ impl PackState {
     #[inline(always)]
     pub(crate) fn then_within(
         &self,
-        mode: Mode,
+        layout: FrameLayout,
         shape: EntryShape,
         number: usize,
         known: u8,
@@ -188,9 +192,9 @@ impl PackState {
         requires small { shape.size ≤ 28 }
         requires used { self.now.used ≤ 30 }
         requires fib { self.now.fib < 2 ^ 32 }
-        requires known { known ≡ room mode number }
-        ensures within { IfSome result (λ q. IsThenWithin mode shape number self.now q) }
-        ensures behind { result ≡ None → IsPlacedAfter mode shape number self.now }
+        requires known { known ≡ room layout number }
+        ensures within { IfSome result (λ q. IsThenWithin layout shape number self.now q) }
+        ensures behind { result ≡ None → IsPlacedAfter layout shape number self.now }
     {
         if self.fib == number {
             return state_within(number, self.used + self.cost(shape), shape.head, known);
@@ -200,7 +204,7 @@ impl PackState {
                 return state_within(number, 2 + shape.size, shape.head, known);
             }
         }
-        self.then_from_before(mode, shape, number)
+        self.then_from_before(layout, shape, number)
     }
 
     /// The state with its FIB closed: the next entry starts a later FIB, as it does if this one has no room for it.
@@ -216,22 +220,22 @@ impl PackState {
 
     /// The state after placing this many entries of one shape, as many to a FIB as fit. Such an entry fits in every
     /// FIB.
-    pub(crate) fn run(self, mode: Mode, shape: EntryShape, count: usize) -> PackState
+    pub(crate) fn run(self, layout: FrameLayout, shape: EntryShape, count: usize) -> PackState
         requires some { 1 ≤ shape.size }
         requires small { shape.size ≤ 21 }
         requires used { self.used ≤ 30 }
         requires fib { self.fib + 2 * count < 2 ^ 32 }
-        ensures value { result ≡ steps mode shape count self }
+        ensures value { result ≡ steps layout shape count self }
         ensures used { result.used ≤ 30 }
         ensures to { result.fib ≤ self.fib + 2 * count }
     {
         if count == 0 {
             return self;
         }
-        let mut state = self.then(mode, shape);
+        let mut state = self.then(layout, shape);
         let mut left = count - 1;
         while left > 0 {
-            let fit = usize::from((room(mode, state.fib) - state.used) / shape.size);
+            let fit = usize::from((room(layout, state.fib) - state.used) / shape.size);
             if left <= fit {
                 let used = state.used + left as u8 * shape.size;
                 return PackState { used, ..state };

@@ -2,7 +2,7 @@
 
 ghost use Rattle.std.specs.Prelude.{◌≡◌, ◌+◌, ◌-◌, ◌<◌};
 ghost use Rattle.std.specs.Option.{option_copied};
-ghost use Rattle.fib_codec.specs.Modes.{fib_count};
+ghost use Rattle.fib_codec.specs.Layouts.{used_fibs};
 ghost use Rattle.fib_carousel.specs.Pages.{page_set_of, page_after, rounds, first_fib};
 ghost use Rattle.fib_carousel.specs.Bytes.{page_bytes};
 ghost use Rattle.fib_carousel.specs.Kept.{IsKept};
@@ -13,12 +13,12 @@ use crate::kept_page::KeptPage;
 use crate::pack_state::Position;
 use crate::page_set::PageSet;
 use crate::page_writer::write_page;
-use fib_codec::{FibFrame, Mode};
+use fib_codec::{FibFrame, FrameLayout};
 use mux_config::{Ensemble, Store};
 
 /// Yields the pages of a page set in order, and page 0 again after the last. It keeps the position in the list of
 /// entries at which the next page starts, so a page is packed from there and not from the first entry. It keeps none of
-/// the entries: the configurations are passed in for each page. When they or the mode change, it must be restarted.
+/// the entries: the configurations are passed in for each page. When they or the layout change, it must be restarted.
 #[derive(Clone, Copy, Debug, PartialEq, Eq)]
 pub struct Cursor {
     page: usize,
@@ -62,14 +62,14 @@ impl Cursor {
     }
 
     /// Advances past the page that was packed: to the next page, and to page 0 after the last.
-    fn advance<L: EntryList>(&mut self, list: &L, mode: Mode)
-        requires within { self.old.page < rounds mode (L.entries list.now) }
-        requires before { let next = first_fib mode self.old.page + fib_count mode in
-            IsAtFib mode (L.entries list.now) next self.old.position }
-        requires passed { let last = first_fib mode self.old.page + fib_count mode - 1 in
-            HasPassed mode (L.entries list.now) last self.old.position }
-        ensures stands { IsAtPageStart mode (L.entries list.now) self.new }
-        ensures page { let pages = rounds mode (L.entries list.now) in
+    fn advance<L: EntryList>(&mut self, list: &L, layout: FrameLayout)
+        requires within { self.old.page < rounds layout (L.entries list.now) }
+        requires before { let next = first_fib layout self.old.page + used_fibs layout in
+            IsAtFib layout (L.entries list.now) next self.old.position }
+        requires passed { let last = first_fib layout self.old.page + used_fibs layout - 1 in
+            HasPassed layout (L.entries list.now) last self.old.position }
+        ensures stands { IsAtPageStart layout (L.entries list.now) self.new }
+        ensures page { let pages = rounds layout (L.entries list.now) in
             cursor_page self.new ≡ page_after pages (cursor_page self.old) }
     {
         if self.position.index < list.len() {
@@ -80,54 +80,61 @@ impl Cursor {
     }
 
     /// Returns the current page, with FIG 0/0 first if given (the bytes that `page` gives for it), and advances,
-    /// wrapping after the last. The configurations and the mode are those with which the cursor came to this page.
+    /// wrapping after the last. The configurations and the layout are those with which the cursor came to this page.
     pub fn page<'a, 'b, S: Store>(
         &mut self,
-        mode: Mode,
+        layout: FrameLayout,
         current: &'a S,
         next: Option<&'b S>,
         ensemble: Option<Ensemble>,
     ) -> FibFrame
         requires stands { let ms = page_set_of S.content current.now (option_copied next) in
-            IsAtPageStart mode ms self.old }
+            IsAtPageStart layout ms self.old }
         ensures bytes { let ms = page_set_of S.content current.now (option_copied next.entry) in
-            result ≡ page_bytes mode ensemble (cursor_page self.old) ms }
+            result ≡ page_bytes layout ensemble (cursor_page self.old) ms }
         ensures next { let ms = page_set_of S.content current.now (option_copied next.entry) in
-            IsAtPage mode ms (page_after (rounds mode ms) (cursor_page self.old)) self.new }
+            IsAtPage layout ms (page_after (rounds layout ms) (cursor_page self.old)) self.new }
     {
         let set = PageSet::new(current, next);
-        let mut frame = FibFrame::new(mode);
+        let mut frame = FibFrame::new(layout.mode());
         write_page(
             &set,
-            mode,
+            layout,
             &mut self.position,
             self.page,
             ensemble,
             &mut frame,
         );
-        self.advance(&set, mode);
+        self.advance(&set, layout);
         frame
     }
 
     /// Returns the current page, to be sent in several frames with FIG 0/0 or without it, and advances, wrapping after
-    /// the last. The configurations and the mode are those with which the cursor came to this page.
+    /// the last. The configurations and the layout are those with which the cursor came to this page.
     pub fn kept_page<'a, 'b, S: Store>(
         &mut self,
-        mode: Mode,
+        layout: FrameLayout,
         current: &'a S,
         next: Option<&'b S>,
     ) -> KeptPage
         requires stands { let ms = page_set_of S.content current.now (option_copied next) in
-            IsAtPageStart mode ms self.old }
+            IsAtPageStart layout ms self.old }
         ensures kept { let ms = page_set_of S.content current.now (option_copied next.entry) in
-            IsKept mode ms (cursor_page self.old) result }
+            IsKept layout ms (cursor_page self.old) result }
         ensures next { let ms = page_set_of S.content current.now (option_copied next.entry) in
-            IsAtPage mode ms (page_after (rounds mode ms) (cursor_page self.old)) self.new }
+            IsAtPage layout ms (page_after (rounds layout ms) (cursor_page self.old)) self.new }
     {
         let set = PageSet::new(current, next);
-        let mut plain = FibFrame::new(mode);
-        write_page(&set, mode, &mut self.position, self.page, None, &mut plain);
-        self.advance(&set, mode);
+        let mut plain = FibFrame::new(layout.mode());
+        write_page(
+            &set,
+            layout,
+            &mut self.position,
+            self.page,
+            None,
+            &mut plain,
+        );
+        self.advance(&set, layout);
         KeptPage::new(plain)
     }
 }

@@ -1,19 +1,20 @@
 //! Puts entries into the FIGs of a FIB, and writes the FIBs of a page.
 
-ghost use Rattle.std.specs.Prelude.{◌≡◌, [], take, ◌+◌, ◌-◌, ◌*◌, ◌%◌, ◌<◌, ◌≤◌, ◌++◌, length, IsSome, IfSome, Option, None};
-ghost use Rattle.fib_codec.specs.Modes.{fib_count};
+ghost use Rattle.std.specs.Prelude.{◌≡◌, [], take, flat_map, ◌+◌, ◌-◌, ◌*◌, ◌%◌, ◌<◌, ◌≤◌, ◌++◌, length, IsSome, IfSome, Option, None};
+ghost use Rattle.fib_codec.specs.Layouts.{used_fibs, frame_fibs};
 ghost use Rattle.fib_codec.specs.Spelling.{figs_bytes, fib_bytes};
 ghost use Rattle.fib_codec.specs.Ranges.{IsEnsembleInformation};
 ghost use Rattle.fib_carousel.specs.Packing.{figs_size, room};
 ghost use Rattle.fib_carousel.specs.Pages.{fib_entries, first_fib, rounds};
-ghost use Rattle.fib_carousel.specs.Bytes.{figs_of, ensemble_figs, page_bytes};
+ghost use Rattle.fib_carousel.specs.Bytes.{figs_of, ensemble_figs, used_figs, reserved_figs, page_bytes};
+ghost use Rattle.fib_carousel.specs.Greedy.{packing};
 ghost use Rattle.fib_carousel.specs.Filling.{Begins, Grows, TakesEntry};
 ghost use Rattle.fib_carousel.specs.Walk.{IsAtFib, HasPassed, NextIsAfter};
 ghost use Rattle.fib_carousel.specs.Carried.{AreSendable, IsPageable};
 
 use crate::entry_list::EntryList;
 use crate::pack_state::{EntryShape, FIRST_ROOM, MOST_USED, PackState, Position, same_head};
-use fib_codec::{Fib, FibFrame, Head, Mode, entry_len};
+use fib_codec::{Fib, FibFrame, FrameLayout, Head, entry_len};
 use mux_config::{Ensemble, Entry};
 
 /// The size in bytes of the shortest entry: a service without components.
@@ -77,29 +78,29 @@ struct FibPlace {
 fn put_figs<L: EntryList>(
     list: &L,
     len: u16,
-    mode: Mode,
+    layout: FrameLayout,
     position: &mut Position,
     place: FibPlace,
     fib: &mut Fib,
 )
     requires count { len ≡ length (L.entries list.now) }
     requires sendable { AreSendable (L.entries list.now) }
-    requires known { place.room ≡ room mode place.number }
-    requires stands { IsAtFib mode (L.entries list.now) place.number position.old }
-    requires room { let here = fib_entries mode place.number (L.entries list.now) in
+    requires known { place.room ≡ room layout place.number }
+    requires stands { IsAtFib layout (L.entries list.now) place.number position.old }
+    requires room { let here = fib_entries layout place.number (L.entries list.now) in
         length fib.old + figs_size None here ≤ 30 }
-    ensures bytes { let here = fib_entries mode place.number (L.entries list.now) in
+    ensures bytes { let here = fib_entries layout place.number (L.entries list.now) in
         fib.new ≡ fib.old ++ figs_bytes (figs_of here) }
-    ensures next { IsAtFib mode (L.entries list.now) (place.number + 1) position.new }
-    ensures passed { HasPassed mode (L.entries list.now) place.number position.new }
-    ensures past { NextIsAfter mode (L.entries list.now) place.number position.new }
+    ensures next { IsAtFib layout (L.entries list.now) (place.number + 1) position.new }
+    ensures passed { HasPassed layout (L.entries list.now) place.number position.new }
+    ensures past { NextIsAfter layout (L.entries list.now) place.number position.new }
 {
     let number = place.number;
     let known = place.room;
     let mut last = None;
     'entries: while position.index < len {
         let shape = list.shape(position.index);
-        let state = match position.state.then_within(mode, shape, number, known) {
+        let state = match position.state.then_within(layout, shape, number, known) {
             Some(state) => state,
             None => return,
         };
@@ -151,7 +152,7 @@ fn put_ensemble(fib: &mut Fib, ensemble: Option<Ensemble>)
 fn write_fib<L: EntryList>(
     list: &L,
     len: u16,
-    mode: Mode,
+    layout: FrameLayout,
     position: &mut Position,
     place: FibPlace,
     ensemble: Option<Ensemble>,
@@ -159,59 +160,96 @@ fn write_fib<L: EntryList>(
 )
     requires count { len ≡ length (L.entries list.now) }
     requires sendable { AreSendable (L.entries list.now) }
-    requires known { place.room ≡ room mode place.number }
-    requires stands { IsAtFib mode (L.entries list.now) place.number position.old }
-    requires first { IsSome ensemble → place.number % fib_count mode ≡ 0 }
+    requires known { place.room ≡ room layout place.number }
+    requires stands { IsAtFib layout (L.entries list.now) place.number position.old }
+    requires first { IsSome ensemble → place.number % used_fibs layout ≡ 0 }
     requires there { 32 * place.index + 32 ≤ length frame.old }
-    ensures bytes { let here = fib_entries mode place.number (L.entries list.now) in
+    ensures bytes { let here = fib_entries layout place.number (L.entries list.now) in
         take (32 * place.index + 32) frame.new ≡ take (32 * place.index) frame.old
         ++ fib_bytes (ensemble_figs ensemble ++ figs_of here) }
     ensures size { length frame.new ≡ length frame.old }
     ensures within { IfSome ensemble IsEnsembleInformation }
-    ensures next { IsAtFib mode (L.entries list.now) (place.number + 1) position.new }
-    ensures passed { HasPassed mode (L.entries list.now) place.number position.new }
+    ensures next { IsAtFib layout (L.entries list.now) (place.number + 1) position.new }
+    ensures passed { HasPassed layout (L.entries list.now) place.number position.new }
 {
     let mut fib = Fib::new();
     put_ensemble(&mut fib, ensemble);
-    put_figs(list, len, mode, position, place, &mut fib);
+    put_figs(list, len, layout, position, place, &mut fib);
     position.close();
     frame.finish_fib(place.index, &fib);
 }
 
-/// Overwrites the FIBs of a frame with a page, FIG 0/0 first if given. `position` moves from before the page's first
-/// FIB to after its last.
-pub(crate) fn write_page<L: EntryList>(
+/// Overwrites the FIBs of a frame that are not reserved with those of a page, FIG 0/0 first if given. `position` moves
+/// from before the page's first FIB to after its last.
+fn write_used<L: EntryList>(
     list: &L,
-    mode: Mode,
+    layout: FrameLayout,
     position: &mut Position,
     page: usize,
     ensemble: Option<Ensemble>,
     frame: &mut FibFrame,
 )
-    requires page { page < rounds mode (L.entries list.now) }
-    requires size { length frame.old ≡ 32 * fib_count mode }
-    requires stands { IsAtFib mode (L.entries list.now) (first_fib mode page) position.old }
-    ensures bytes { frame.new ≡ page_bytes mode ensemble page (L.entries list.now) }
+    requires page { page < rounds layout (L.entries list.now) }
+    requires size { length frame.old ≡ 32 * frame_fibs layout }
+    requires stands { IsAtFib layout (L.entries list.now) (first_fib layout page) position.old }
+    ensures bytes { let ms = L.entries list.now in take (32 * used_fibs layout) frame.new
+        ≡ flat_map fib_bytes (used_figs layout (packing layout ms) ensemble page ms) }
+    ensures size { length frame.new ≡ length frame.old }
     ensures pageable { IsPageable ensemble (L.entries list.now) }
-    ensures next { let next = first_fib mode page + fib_count mode in
-        IsAtFib mode (L.entries list.now) next position.new }
-    ensures passed { let last = first_fib mode page + fib_count mode - 1 in
-        HasPassed mode (L.entries list.now) last position.new }
+    ensures next { let next = first_fib layout page + used_fibs layout in
+        IsAtFib layout (L.entries list.now) next position.new }
+    ensures passed { let last = first_fib layout page + used_fibs layout - 1 in
+        HasPassed layout (L.entries list.now) last position.new }
 {
     let len = list.len();
-    let first = mode.fibs() * page;
+    let first = layout.used() * page;
     let place = FibPlace {
         number: first,
         index: 0,
         room: FIRST_ROOM,
     };
-    write_fib(list, len, mode, position, place, ensemble, frame);
-    for slot in 1..mode.fibs() {
+    write_fib(list, len, layout, position, place, ensemble, frame);
+    for slot in 1..layout.used() {
         let place = FibPlace {
             number: first + slot,
             index: slot,
             room: MOST_USED,
         };
-        write_fib(list, len, mode, position, place, None, frame);
+        write_fib(list, len, layout, position, place, None, frame);
     }
+}
+
+/// Empties the reserved FIBs of a frame.
+fn write_reserved(layout: FrameLayout, frame: &mut FibFrame)
+    requires { length frame.old ≡ 32 * frame_fibs layout }
+    ensures { frame.new
+        ≡ take (32 * used_fibs layout) frame.old ++ flat_map fib_bytes (reserved_figs layout) }
+{
+    for slot in layout.used()..layout.fibs() {
+        frame.finish_fib(slot, &Fib::new());
+    }
+}
+
+/// Overwrites the FIBs of a frame with a page, FIG 0/0 first if given, and with the reserved FIBs, which are empty.
+/// `position` moves from before the page's first FIB to after its last.
+pub(crate) fn write_page<L: EntryList>(
+    list: &L,
+    layout: FrameLayout,
+    position: &mut Position,
+    page: usize,
+    ensemble: Option<Ensemble>,
+    frame: &mut FibFrame,
+)
+    requires page { page < rounds layout (L.entries list.now) }
+    requires size { length frame.old ≡ 32 * frame_fibs layout }
+    requires stands { IsAtFib layout (L.entries list.now) (first_fib layout page) position.old }
+    ensures bytes { frame.new ≡ page_bytes layout ensemble page (L.entries list.now) }
+    ensures pageable { IsPageable ensemble (L.entries list.now) }
+    ensures next { let next = first_fib layout page + used_fibs layout in
+        IsAtFib layout (L.entries list.now) next position.new }
+    ensures passed { let last = first_fib layout page + used_fibs layout - 1 in
+        HasPassed layout (L.entries list.now) last position.new }
+{
+    write_used(list, layout, position, page, ensemble, frame);
+    write_reserved(layout, frame);
 }

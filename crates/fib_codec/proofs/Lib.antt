@@ -8,6 +8,7 @@ pub mod Finished
 pub mod Determined
 pub mod Sent
 pub mod Frames
+pub mod Layouts
 pub mod Begun
 pub mod Spelled
 pub mod Vectors

@@ -7,6 +7,7 @@ pub mod Grammar
 pub mod Heard
 pub mod Laws
 pub mod Modes
+pub mod Layouts
 pub mod Extensions
 pub use Rattle.mux_types.specs.Configuration
 pub use Rattle.mux_entries.specs.Entries

@@ -6,6 +6,7 @@ ghost use Rattle.fib_codec.specs.Grammar.{OneList, SpellingIsEntry, WrittenIsFib
 ghost use Rattle.fib_codec.specs.Heard.{HeardIsWritten};
 ghost use Rattle.fib_codec.specs.Laws.{EntryIsSpelled, FibHas32Bytes};
 ghost use Rattle.fib_codec.specs.Modes.{StepsDivide};
+ghost use Rattle.fib_codec.specs.Layouts.{LayoutsDivide, LayoutIsOne};
 
 /// Grammar: 32 bytes contain at most one list of FIGs.
 pub fn one_list()
@@ -42,4 +43,11 @@ pub fn heard()
 /// steps are at most 12, so that each notice has three FIG 0/0.
 pub fn steps()
     ensures { StepsDivide }
+{}
+
+/// Layouts: each FIB of a frame either carries FIGs or is reserved, at least two carry FIGs, and a mode and a number of
+/// reserved FIBs have at most one layout.
+pub fn layouts()
+    ensures divide { LayoutsDivide }
+    ensures one { LayoutIsOne }
 {}

@@ -5,8 +5,8 @@
 //! decoded, and as the contract of `decode` the law that these agree. Readers call the same functions.
 //!
 //! The definitions that contracts cite are in `specs/`: `Spelling` says how entries and FIGs are encoded, `Grammar`
-//! which FIGs 32 bytes contain, `Crc` what the CRC is, without any table, and `Heard` which entries a receiver decodes
-//! from a FIB.
+//! which FIGs 32 bytes contain, `Crc` what the CRC is, without any table, `Heard` which entries a receiver decodes
+//! from a FIB, and `Layouts` which FIBs of a frame are reserved.
 #![tactic(auto)]
 
 pub mod bytes;
@@ -21,6 +21,7 @@ pub mod fig0_0;
 pub mod fig0_1;
 pub mod fig0_2;
 pub mod fig0_3;
+pub mod frame_layout;
 pub mod head;
 pub mod laws;
 pub mod modes;
@@ -30,6 +31,7 @@ pub use entry_writer::entry_len;
 pub use extension::Extension;
 pub use fib::Fib;
 pub use fib_frame::FibFrame;
+pub use frame_layout::FrameLayout;
 pub use head::Head;
 pub use modes::Mode;
 pub use mux_entries::{

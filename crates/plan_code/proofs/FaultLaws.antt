@@ -1,15 +1,16 @@
 -- Bytes have at most one fault, and have one exactly where they are not a code file; none is out of memory.
-use Rattle.std.proofs.Common.{◌≡◌, ℕ, zero, suc, Bool, true, false, cond, eqb, ltb, not, List, [], ◌∷◌, ◌++◌, length, Result, Ok, Err, refl, sym, ap, subst, ◌∙◌}
+use Rattle.std.proofs.Common.{◌≡◌, ℕ, zero, suc, Bool, true, false, cond, eqb, ltb, not, List, [], ◌∷◌, ◌++◌, length, Result, Ok, Err, refl, sym, ap, subst, ◌∙◌, ◌-◌}
 use Rattle.std.specs.Int.{w16, w32}
 use Rattle.byte_fields.specs.declared.record.RecordFault.{RecordFault}
 use Rattle.byte_fields.specs.declared.record.RecordFault.TheVariants.{Short, Field as FieldOfRecord, Order}
 use Rattle.mux_config.specs.FieldReading.{place, byte_at, number_at, byte_within}
+use Rattle.fib_codec.specs.Modes.{fib_count}
 use Rattle.plan_code.specs.declared.fault.CodeFault.{CodeFault}
 use Rattle.plan_code.specs.declared.fault.CodeFault.TheVariants.{Magic, Version, Truncated, Field, Limit, Trailing, Memory}
 use Rattle.plan_code.specs.Program.{Program}
 use Rattle.plan_code.specs.Faults.{AreBytes, IsNoFile, HasCodeFault, HasOneFault, HasFaultWithoutCode, BytesLackNoMemory}
 use Rattle.plan_code.specs.Spelling.{magic}
-use Rattle.plan_code.specs.Reading.{Parses, ◌>>=◌, refuse_code, read_from, in_file, magic_at, mode_at, plan_at, count_at, config_in, line_in, items_at, labels_in, Header, header_at, program_at, code_of}
+use Rattle.plan_code.specs.Reading.{Parses, ◌>>=◌, refuse_code, read_from, in_file, magic_at, mode_of, reserving_at, layout_at, plan_at, count_at, config_in, line_in, items_at, labels_in, Header, header_at, program_at, code_of}
 use Rattle.plan_code.proofs.FileLaws.{code_front, code_again}
 
 abbrev is : {A : Type 0} → A → Result A CodeFault
@@ -55,18 +56,25 @@ named_magic bytes =
     named_then (in_file (number_at w32 bytes)) _ (named_part 0 (number_at w32 bytes)) (λ letters.
     named_then (refuse_code (not (eqb letters.0 magic)) Magic) (λ known. is letters) (named_test _ Magic tt) (λ known. tt))
 
-named_mode : (total : ℕ) (bytes : List ℕ) → IsNamed (mode_at total bytes)
-unfolding mode_at
-named_mode total bytes =
+named_reserving : (total : ℕ) (bytes : List ℕ) → IsNamed (reserving_at total bytes)
+unfolding reserving_at
+named_reserving total bytes =
+    named_then (in_file (byte_within total 1 4 bytes)) _ (named_part 0 (byte_within total 1 4 bytes)) (λ number.
+    named_then (in_file (byte_within total 1 (fib_count (mode_of number.0) - 2) number.1)) _ (named_part 0 (byte_within total 1 (fib_count (mode_of number.0) - 2) number.1)) (λ reserve. tt))
+
+named_layout : (total : ℕ) (bytes : List ℕ) → IsNamed (layout_at total bytes)
+unfolding layout_at
+named_layout total bytes =
     named_then (in_file (byte_at bytes)) _ (named_part 0 (byte_at bytes)) (λ version.
     named_choice (eqb version.0 1) _ _ tt (
-    named_choice (eqb version.0 2) _ _ (named_then (in_file (byte_within total 2 4 version.1)) _ (named_part 0 (byte_within total 2 4 version.1)) (λ number. tt)) tt))
+    named_choice (eqb version.0 2) _ _ (named_then (in_file (byte_within total 2 4 version.1)) _ (named_part 0 (byte_within total 2 4 version.1)) (λ number. tt)) (
+    named_choice (eqb version.0 3) _ _ (named_reserving total version.1) tt)))
 
 named_plan : (total : ℕ) (bytes : List ℕ) → IsNamed (plan_at total bytes)
 unfolding plan_at
 named_plan total bytes =
-    named_then (mode_at total bytes) _ (named_mode total bytes) (λ mode.
-    named_then (in_file (number_at w16 mode.1)) _ (named_part 0 (number_at w16 mode.1)) (λ eid.
+    named_then (layout_at total bytes) _ (named_layout total bytes) (λ layout.
+    named_then (in_file (number_at w16 layout.1)) _ (named_part 0 (number_at w16 layout.1)) (λ eid.
     named_then (in_file (byte_within total 1 60 eid.1)) _ (named_part 0 (byte_within total 1 60 eid.1)) (λ period.
     named_then (in_file (byte_within total 12 248 period.1)) _ (named_part 0 (byte_within total 12 248 period.1)) (λ notice.
     named_then (in_file (byte_within total 1 255 notice.1)) _ (named_part 0 (byte_within total 1 255 notice.1)) (λ budget. tt)))))

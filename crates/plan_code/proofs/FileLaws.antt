@@ -1,10 +1,12 @@
 -- Reading a code file and spelling a code are inverse.
-use Rattle.std.proofs.Common.{◌≡◌, ◌≢◌, ℕ, zero, suc, ◌+◌, ◌<◌, ◌≤◌, Bool, true, false, cond, eqb, ltb, not, List, [], ◌∷◌, ◌++◌, length, Result, Ok, Err, IfOk, refl, sym, ap, subst, ◌∙◌, append_assoc, arith, inl, inr}
+use Rattle.std.proofs.Common.{◌≡◌, ◌≢◌, ℕ, zero, suc, ◌+◌, ◌<◌, ◌≤◌, Bool, true, false, cond, eqb, ltb, not, List, [], ◌∷◌, ◌++◌, length, Result, Ok, Err, IfOk, refl, sym, ap, subst, ◌∙◌, append_assoc, arith, inl, inr, ◌-◌}
 use Rattle.std.specs.Int.{w16, w32, to_be_bytes}
 use Rattle.std.specs.List.{flat_map, AllByRecursion}
 use Rattle.std.proofs.lemmas.Bool.{ltb-false, le-ltb, eqb-true, eqb-false, ne_eqb, cases_eq, eq-eqb}
 use Rattle.std.proofs.lemmas.List.{append-nil, nil_from_length}
-use Rattle.fib_codec.specs.declared.modes.Mode.{Mode}
+use Rattle.fib_codec.specs.Modes.{fib_count}
+use Rattle.fib_codec.specs.declared.frame_layout.FrameLayout.{FrameLayout}
+use Rattle.fib_codec.specs.declared.frame_layout.FrameLayout.TheVariants.{Whole, ReserveOne, ReserveTwo}
 use Rattle.fib_codec.specs.declared.modes.Mode.TheVariants.{I, II, III, IV}
 use Rattle.byte_fields.specs.declared.record.RecordFault.{RecordFault}
 use Rattle.mux_config.specs.Configuration.{Configuration, IsConfiguration, IsAscending}
@@ -20,9 +22,9 @@ use Rattle.plan_code.specs.declared.plan.Plan.{Plan}
 use Rattle.plan_code.specs.declared.label.Label.{Label}
 use Rattle.plan_code.specs.declared.instr.Line.{Line}
 use Rattle.plan_code.specs.Program.{Program, IsProgram, IsPlan, IsLabel, IsLine, label_key}
-use Rattle.plan_code.specs.Spelling.{magic, mode_bytes, plan_bytes, header_bytes, label_bytes, line_bytes, code_bytes}
+use Rattle.plan_code.specs.Spelling.{magic, mode_bytes, layout_bytes, plan_bytes, header_bytes, label_bytes, line_bytes, code_bytes}
 use Rattle.plan_code.specs.Parts.{label_from, line_from}
-use Rattle.plan_code.specs.Reading.{Parses, ◌>>=◌, refuse_code, read_from, in_file, magic_at, mode_of, mode_in, mode_at, plan_at, count_at, config_in, line_in, items_at, labels_in, Header, header_at, program_at, code_of, Gives}
+use Rattle.plan_code.specs.Reading.{Parses, ◌>>=◌, refuse_code, read_from, in_file, magic_at, mode_of, reserving, reserving_at, layout_in, layout_at, plan_at, count_at, config_in, line_in, items_at, labels_in, Header, header_at, program_at, code_of, Gives}
 use Rattle.plan_code.proofs.Operands.{IsReading, byte_of, word_reading, byte_from_reading}
 use Rattle.plan_code.proofs.LabelLaws.{label_front, label_again}
 use Rattle.plan_code.proofs.LineLaws.{line_front, line_again}
@@ -88,20 +90,45 @@ number_bytes (suc (suc (suc zero))) from to = refl
 number_bytes (suc (suc (suc (suc zero)))) from to = refl
 number_bytes (suc (suc (suc (suc (suc more))))) from to = absurd (omega (arith, to))
 
-first_version : (bytes rest : List ℕ) (x : Mode × List ℕ) → (let first : Mode × List ℕ = (I, rest) in made first) ≡ Ok x → Front bytes (byte_of 1) rest → Front bytes (mode_bytes x.0) x.1
+first_version : (bytes rest : List ℕ) (x : FrameLayout × List ℕ) → (let first : FrameLayout × List ℕ = (Whole I, rest) in made first) ≡ Ok x → Front bytes (byte_of 1) rest → Front bytes (layout_bytes x.0) x.1
 first_version bytes rest x e front =
-    let found : Mode × List ℕ = (I, rest) in
-    subst (λ (y : Mode × List ℕ). Front bytes (mode_bytes y.0) y.1) (made_is found x e) front
+    let found : FrameLayout × List ℕ = (Whole I, rest) in
+    subst (λ (y : FrameLayout × List ℕ). Front bytes (layout_bytes y.0) y.1) (made_is found x e) front
 
-second_version : (total : ℕ) (bytes rest : List ℕ) (x : Mode × List ℕ) → (in_file (byte_within total 2 4 rest) >>= λ number. let found : Mode × List ℕ = (mode_of number.0, number.1) in made found) ≡ Ok x
-    → Front bytes (byte_of 2) rest → Front bytes (mode_bytes x.0) x.1
+second_version : (total : ℕ) (bytes rest : List ℕ) (x : FrameLayout × List ℕ) → (in_file (byte_within total 2 4 rest) >>= λ number. let found : FrameLayout × List ℕ = (Whole (mode_of number.0), number.1) in made found) ≡ Ok x
+    → Front bytes (byte_of 2) rest → Front bytes (layout_bytes x.0) x.1
 second_version total bytes rest x e front =
     let n = then_ok (in_file (byte_within total 2 4 rest)) _ x e in
     let fn = (byte_from_reading total 2 4).front rest n.0 front.rest_fits (read_ok 0 _ n.0 n.1) in
-    let found : Mode × List ℕ = (mode_of n.0.0, n.0.1) in
+    let found : FrameLayout × List ℕ = (Whole (mode_of n.0.0), n.0.1) in
     let both : Front bytes (2 ∷ n.0.0 ∷ []) n.0.1 = front_then bytes (byte_of 2) rest (byte_of n.0.0) n.0.1 front fn.0 in
     let here : Front bytes (mode_bytes (mode_of n.0.0)) n.0.1 = subst (λ (t : List ℕ). Front bytes t n.0.1) (sym (number_bytes n.0.0 fn.1.0 fn.1.1)) both in
-    subst (λ (y : Mode × List ℕ). Front bytes (mode_bytes y.0) y.1) (made_is found x n.2) here
+    subst (λ (y : FrameLayout × List ℕ). Front bytes (layout_bytes y.0) y.1) (made_is found x n.2) here
+
+reserving_bytes : (n r : ℕ) → 1 ≤ n → n ≤ 4 → 1 ≤ r → r ≤ fib_count (mode_of n) - 2 → layout_bytes (reserving (mode_of n) r) ≡ 3 ∷ n ∷ r ∷ []
+reserving_bytes zero r from to some few = absurd (omega (arith, from))
+reserving_bytes (suc zero) r from to some few = let one : r ≡ 1 = omega (arith, some, few) in rw one refl
+reserving_bytes (suc (suc zero)) r from to some few = let one : r ≡ 1 = omega (arith, some, few) in rw one refl
+reserving_bytes (suc (suc (suc zero))) zero from to some few = absurd (omega (arith, some))
+reserving_bytes (suc (suc (suc zero))) (suc zero) from to some few = refl
+reserving_bytes (suc (suc (suc zero))) (suc (suc zero)) from to some few = refl
+reserving_bytes (suc (suc (suc zero))) (suc (suc (suc r))) from to some few = absurd (omega (arith, few))
+reserving_bytes (suc (suc (suc (suc zero)))) r from to some few = let one : r ≡ 1 = omega (arith, some, few) in rw one refl
+reserving_bytes (suc (suc (suc (suc (suc more))))) r from to some few = absurd (omega (arith, to))
+
+third_version : (total : ℕ) (bytes rest : List ℕ) (x : FrameLayout × List ℕ) → reserving_at total rest ≡ Ok x → Front bytes (byte_of 3) rest → Front bytes (layout_bytes x.0) x.1
+unfolding reserving_at
+third_version total bytes rest x e front =
+    let n = then_ok (in_file (byte_within total 1 4 rest)) _ x e in
+    let fn = (byte_from_reading total 1 4).front rest n.0 front.rest_fits (read_ok 0 _ n.0 n.1) in
+    let most : ℕ = fib_count (mode_of n.0.0) - 2 in
+    let r = then_ok (in_file (byte_within total 1 most n.0.1)) _ x n.2 in
+    let fr = (byte_from_reading total 1 most).front n.0.1 r.0 fn.0.rest_fits (read_ok 0 _ r.0 r.1) in
+    let found : FrameLayout × List ℕ = (reserving (mode_of n.0.0) r.0.0, r.0.1) in
+    let two : Front bytes (3 ∷ n.0.0 ∷ []) n.0.1 = front_then bytes (byte_of 3) rest (byte_of n.0.0) n.0.1 front fn.0 in
+    let all : Front bytes (3 ∷ n.0.0 ∷ r.0.0 ∷ []) r.0.1 = front_then bytes (3 ∷ n.0.0 ∷ []) n.0.1 (byte_of r.0.0) r.0.1 two fr.0 in
+    let here : Front bytes (layout_bytes found.0) r.0.1 = subst (λ (t : List ℕ). Front bytes t r.0.1) (sym (reserving_bytes n.0.0 r.0.0 fn.1.0 fn.1.1 fr.1.0 fr.1.1)) all in
+    subst (λ (y : FrameLayout × List ℕ). Front bytes (layout_bytes y.0) y.1) (made_is found x r.2) here
 
 -- this version, or one of those tested later
 choose : {T E : Type 0} (version known : ℕ) (given other : Result (T × List ℕ) E) (x : T × List ℕ) (Q : ℕ → Type 0) → (given ≡ Ok x → Q known) → (other ≡ Ok x → Q version)
@@ -112,31 +139,37 @@ choose version known given other x Q here there e =
       | inr apart ↦ there (rw (ne_eqb _ _ apart) at e)
     ]
 
-version_front : (total version : ℕ) (bytes rest : List ℕ) (x : Mode × List ℕ) → mode_in total version rest ≡ Ok x → Front bytes (byte_of version) rest → Front bytes (mode_bytes x.0) x.1
+version_front : (total version : ℕ) (bytes rest : List ℕ) (x : FrameLayout × List ℕ) → layout_in total version rest ≡ Ok x → Front bytes (byte_of version) rest → Front bytes (layout_bytes x.0) x.1
 version_front total version bytes rest x =
-    let Q : ℕ → Type 0 = λ v. Front bytes (byte_of v) rest → Front bytes (mode_bytes x.0) x.1 in
+    let Q : ℕ → Type 0 = λ v. Front bytes (byte_of v) rest → Front bytes (layout_bytes x.0) x.1 in
     choose version 1 _ _ x Q (first_version bytes rest x) (
     choose version 2 _ _ x Q (second_version total bytes rest x) (
-    λ e. absurd (let wrong : Err Version ≡ made x = e in cc)))
+    choose version 3 _ _ x Q (third_version total bytes rest x) (
+    λ e. absurd (let wrong : Err Version ≡ made x = e in cc))))
 
-mode_front : (total : ℕ) (bytes : List ℕ) (x : Mode × List ℕ) → IsBytes bytes → mode_at total bytes ≡ Ok x → Front bytes (mode_bytes x.0) x.1
-unfolding mode_at
-mode_front total bytes x fits e =
+layout_front : (total : ℕ) (bytes : List ℕ) (x : FrameLayout × List ℕ) → IsBytes bytes → layout_at total bytes ≡ Ok x → Front bytes (layout_bytes x.0) x.1
+unfolding layout_at
+layout_front total bytes x fits e =
     let v = then_ok (in_file (byte_at bytes)) _ x e in
     version_front total v.0.0 bytes v.0.1 x v.2 (byte_front bytes v.0 fits (read_ok 0 _ v.0 v.1))
 
-mode_again : (total : ℕ) (m : Mode) (rest : List ℕ) → mode_at total (mode_bytes m ++ rest) ≡ Ok (m, rest)
-unfolding mode_at
-mode_again total I rest = refl
-mode_again total II rest = refl
-mode_again total III rest = refl
-mode_again total IV rest = refl
+layout_again : (total : ℕ) (l : FrameLayout) (rest : List ℕ) → layout_at total (layout_bytes l ++ rest) ≡ Ok (l, rest)
+unfolding layout_at reserving_at
+layout_again total (Whole I) rest = refl
+layout_again total (Whole II) rest = refl
+layout_again total (Whole III) rest = refl
+layout_again total (Whole IV) rest = refl
+layout_again total (ReserveOne I) rest = refl
+layout_again total (ReserveOne II) rest = refl
+layout_again total (ReserveOne III) rest = refl
+layout_again total (ReserveOne IV) rest = refl
+layout_again total ReserveTwo rest = refl
 
 plan_front : (total : ℕ) (bytes : List ℕ) (x : Plan × List ℕ) → IsBytes bytes → plan_at total bytes ≡ Ok x → Front bytes (plan_bytes x.0) x.1 × IsPlan x.0
 unfolding plan_at
 plan_front total bytes x fits e =
-    let m = then_ok (mode_at total bytes) _ x e in
-    let fm = mode_front total bytes m.0 fits m.1 in
+    let m = then_ok (layout_at total bytes) _ x e in
+    let fm = layout_front total bytes m.0 fits m.1 in
     let a = then_ok (in_file (number_at w16 m.0.1)) _ x m.2 in
     let fa = word_reading.front m.0.1 a.0 fm.rest_fits (read_ok 0 _ a.0 a.1) in
     let p = then_ok (in_file (byte_within total 1 60 a.0.1)) _ x a.2 in
@@ -145,11 +178,11 @@ plan_front total bytes x fits e =
     let fn = (byte_from_reading total 12 248).front p.0.1 n.0 fp.0.rest_fits (read_ok 0 _ n.0 n.1) in
     let b = then_ok (in_file (byte_within total 1 255 n.0.1)) _ x n.2 in
     let fb = (byte_from_reading total 1 255).front n.0.1 b.0 fn.0.rest_fits (read_ok 0 _ b.0 b.1) in
-    let plan : Plan × List ℕ = (record { eid = a.0.0; mode = m.0.0; period = p.0.0; notice = n.0.0; budget = b.0.0 }, b.0.1) in
+    let plan : Plan × List ℕ = (record { eid = a.0.0; layout = m.0.0; period = p.0.0; notice = n.0.0; budget = b.0.0 }, b.0.1) in
     let nb = front_then p.0.1 (byte_of n.0.0) n.0.1 (byte_of b.0.0) b.0.1 fn.0 fb.0 in
     let pnb = front_then a.0.1 (byte_of p.0.0) p.0.1 (byte_of n.0.0 ++ byte_of b.0.0) b.0.1 fp.0 nb in
-    let ma = front_then bytes (mode_bytes m.0.0) m.0.1 (u16_bytes a.0.0) a.0.1 fm fa.0 in
-    let all = front_then bytes (mode_bytes m.0.0 ++ u16_bytes a.0.0) a.0.1 (byte_of p.0.0 ++ (byte_of n.0.0 ++ byte_of b.0.0)) b.0.1 ma pnb in
+    let ma = front_then bytes (layout_bytes m.0.0) m.0.1 (u16_bytes a.0.0) a.0.1 fm fa.0 in
+    let all = front_then bytes (layout_bytes m.0.0 ++ u16_bytes a.0.0) a.0.1 (byte_of p.0.0 ++ (byte_of n.0.0 ++ byte_of b.0.0)) b.0.1 ma pnb in
     subst (λ (y : Plan × List ℕ). Front bytes (plan_bytes y.0) y.1 × IsPlan y.0) (made_is plan x b.2)
     (all, record { ensemble = fa.1; period_from = fp.1.0; period_to = fp.1.1; notice_from = fn.1.0; notice_to = fn.1.1; budget_from = fb.1.0; budget_to = fb.1.1 })
 
@@ -157,11 +190,11 @@ plan_again : (total : ℕ) (p : Plan) (rest : List ℕ) → IsPlan p → plan_at
 unfolding plan_at
 plan_again total p rest is =
     let last : List ℕ = p.period ∷ p.notice ∷ p.budget ∷ [] in
-    let grouped : plan_bytes p ++ rest ≡ mode_bytes p.mode ++ (u16_bytes p.eid ++ (last ++ rest)) =
-    append_assoc (mode_bytes p.mode ++ u16_bytes p.eid) last rest ∙ append_assoc (mode_bytes p.mode) (u16_bytes p.eid) (last ++ rest) in
+    let grouped : plan_bytes p ++ rest ≡ layout_bytes p.layout ++ (u16_bytes p.eid ++ (last ++ rest)) =
+    append_assoc (layout_bytes p.layout ++ u16_bytes p.eid) last rest ∙ append_assoc (layout_bytes p.layout) (u16_bytes p.eid) (last ++ rest) in
     ap (plan_at total) grouped
     ∙ rw (
-      mode_again total p.mode (u16_bytes p.eid ++ (last ++ rest)),
+      layout_again total p.layout (u16_bytes p.eid ++ (last ++ rest)),
       ok_read 0 _ _ (word_reading.again p.eid (p.period ∷ p.notice ∷ p.budget ∷ rest) is.ensemble),
       ok_read 0 _ _ ((byte_from_reading total 1 60).again p.period (p.notice ∷ p.budget ∷ rest) (is.period_from, is.period_to)),
       ok_read 0 _ _ ((byte_from_reading total 12 248).again p.notice (p.budget ∷ rest) (is.notice_from, is.notice_to)),

@@ -1,5 +1,5 @@
 -- The offset of a field at fault is within the file, and the bytes before it are truncated.
-use Rattle.std.proofs.Common.{◌≡◌, ℕ, zero, suc, ◌<◌, ◌≤◌, Bool, true, false, cond, eqb, ltb, not, List, [], ◌∷◌, ◌++◌, length, take, Result, Ok, Err, refl, subst, ◌⊎◌, inl, inr, arith}
+use Rattle.std.proofs.Common.{◌≡◌, ℕ, zero, suc, ◌-◌, ◌<◌, ◌≤◌, Bool, true, false, cond, eqb, ltb, not, List, [], ◌∷◌, ◌++◌, length, take, Result, Ok, Err, refl, subst, ◌⊎◌, inl, inr, arith}
 use Rattle.std.specs.Int.{w16, w32}
 use Rattle.std.proofs.lemmas.List.{length-take-le}
 use Rattle.byte_fields.specs.declared.record.RecordFault.TheVariants.{Short, Field as FieldOfRecord, Order}
@@ -9,10 +9,11 @@ use Rattle.byte_fields.proofs.PlacedFields.{Placed, placed_byte, placed_number, 
 use Rattle.mux_config.proofs.Places.{placed_members, placed_config}
 use Rattle.plan_code.specs.declared.fault.CodeFault.{CodeFault}
 use Rattle.plan_code.specs.declared.fault.CodeFault.TheVariants.{Magic, Version, Truncated, Field, Limit, Trailing, Memory}
+use Rattle.fib_codec.specs.Modes.{fib_count}
 use Rattle.plan_code.specs.Program.{Program, label_key}
 use Rattle.plan_code.specs.Spelling.{magic}
 use Rattle.plan_code.specs.Parts.{label_from, line_from}
-use Rattle.plan_code.specs.Reading.{Parses, ◌>>=◌, refuse_code, read_from, in_file, magic_at, mode_in, mode_at, plan_at, count_at, config_in, line_in, labels_in, items_at, Header, header_at, program_at, code_of}
+use Rattle.plan_code.specs.Reading.{Parses, ◌>>=◌, refuse_code, read_from, in_file, magic_at, mode_of, reserving_at, layout_in, layout_at, plan_at, count_at, config_in, line_in, labels_in, items_at, Header, header_at, program_at, code_of}
 use Rattle.plan_code.specs.Faults.{HasCodeFault}
 use Rattle.plan_code.specs.FileFaults.{TruncatedBeforePlaces}
 use Rattle.plan_code.proofs.PlacedParts.{placed_label, placed_line}
@@ -74,21 +75,28 @@ stands_magic total bytes some left =
     stands_bind total _ _ (stands_field total _ some (placed_number total w32 bytes left)) (λ letters rest after.
     stands_refuse total (not (eqb letters magic)) Magic _ tt after)
 
-stands_mode_in : (total version : ℕ) (bytes : List ℕ) → 0 < total → length bytes ≤ total → Stands total (mode_in total version bytes)
-stands_mode_in total version bytes some left =
-    stands_choice total (eqb version 1) _ _ left (
-    stands_choice total (eqb version 2) _ _ (stands_bind total _ _ (stands_field total _ some (placed_byte_within total 2 4 bytes left)) (λ number rest after. after)) tt)
+stands_reserving : (total : ℕ) (bytes : List ℕ) → 0 < total → length bytes ≤ total → Stands total (reserving_at total bytes)
+unfolding reserving_at
+stands_reserving total bytes some left =
+    stands_bind total _ _ (stands_field total _ some (placed_byte_within total 1 4 bytes left)) (λ number after_number left_number.
+    stands_bind total _ _ (stands_field total _ some (placed_byte_within total 1 (fib_count (mode_of number) - 2) after_number left_number)) (λ reserve rest after. after))
 
-stands_mode : (total : ℕ) (bytes : List ℕ) → 0 < total → length bytes ≤ total → Stands total (mode_at total bytes)
-unfolding mode_at
-stands_mode total bytes some left =
-    stands_bind total _ _ (stands_field total _ some (placed_byte total bytes left)) (λ version rest after. stands_mode_in total version rest some after)
+stands_layout_in : (total version : ℕ) (bytes : List ℕ) → 0 < total → length bytes ≤ total → Stands total (layout_in total version bytes)
+stands_layout_in total version bytes some left =
+    stands_choice total (eqb version 1) _ _ left (
+    stands_choice total (eqb version 2) _ _ (stands_bind total _ _ (stands_field total _ some (placed_byte_within total 2 4 bytes left)) (λ number rest after. after)) (
+    stands_choice total (eqb version 3) _ _ (stands_reserving total bytes some left) tt))
+
+stands_layout : (total : ℕ) (bytes : List ℕ) → 0 < total → length bytes ≤ total → Stands total (layout_at total bytes)
+unfolding layout_at
+stands_layout total bytes some left =
+    stands_bind total _ _ (stands_field total _ some (placed_byte total bytes left)) (λ version rest after. stands_layout_in total version rest some after)
 
 stands_plan : (total : ℕ) (bytes : List ℕ) → 0 < total → length bytes ≤ total → Stands total (plan_at total bytes)
 unfolding plan_at
 stands_plan total bytes some left =
-    stands_bind total _ _ (stands_mode total bytes some left) (λ mode after_mode left_mode.
-    stands_bind total _ _ (stands_field total _ some (placed_number total w16 after_mode left_mode)) (λ eid after_eid left_eid.
+    stands_bind total _ _ (stands_layout total bytes some left) (λ layout after_layout left_layout.
+    stands_bind total _ _ (stands_field total _ some (placed_number total w16 after_layout left_layout)) (λ eid after_eid left_eid.
     stands_bind total _ _ (stands_field total _ some (placed_byte_within total 1 60 after_eid left_eid)) (λ period after_period left_period.
     stands_bind total _ _ (stands_field total _ some (placed_byte_within total 12 248 after_period left_period)) (λ notice after_notice left_notice.
     stands_bind total _ _ (stands_field total _ some (placed_byte_within total 1 255 after_notice left_notice)) (λ budget rest after. after)))))

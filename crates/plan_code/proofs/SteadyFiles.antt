@@ -1,5 +1,5 @@
 -- Appended bytes do not affect the reading of a code file: any fault except `Truncated` stays the same.
-use Rattle.std.proofs.Common.{◌≡◌, ◌≢◌, ℕ, zero, suc, ◌+◌, ◌<◌, Bool, true, false, cond, eqb, ltb, not, List, [], ◌∷◌, ◌++◌, length, take, drop, Result, Ok, Err, refl, sym, ap, ◌∙◌, subst, ◌⊎◌, inl, inr, arith}
+use Rattle.std.proofs.Common.{◌≡◌, ◌≢◌, ℕ, zero, suc, ◌+◌, ◌<◌, Bool, true, false, cond, eqb, ltb, not, List, [], ◌∷◌, ◌++◌, length, take, drop, Result, Ok, Err, refl, sym, ap, ◌∙◌, subst, ◌⊎◌, inl, inr, arith, ◌-◌}
 use Rattle.std.specs.Int.{w16, w32}
 use Rattle.std.proofs.lemmas.Bool.{ne_eqb}
 use Rattle.std.proofs.lemmas.List.{length-append, take-append-drop, append-nil, length-take-le}
@@ -7,12 +7,13 @@ use Rattle.byte_fields.specs.declared.record.RecordFault.TheVariants.{Short, Fie
 use Rattle.mux_config.specs.FieldReading.{Reads}
 use Rattle.byte_fields.proofs.SteadyFields.{Goes, place_same, goes_byte, goes_number, goes_byte_within}
 use Rattle.mux_config.proofs.Steady.{goes_config, goes_members}
+use Rattle.fib_codec.specs.Modes.{fib_count}
 use Rattle.plan_code.specs.declared.fault.CodeFault.{CodeFault}
 use Rattle.plan_code.specs.declared.fault.CodeFault.TheVariants.{Magic, Version, Truncated, Field, Limit, Trailing, Memory}
 use Rattle.plan_code.specs.Program.{Program, IsProgram, label_key}
 use Rattle.plan_code.specs.Spelling.{magic, code_bytes}
 use Rattle.plan_code.specs.Parts.{label_from}
-use Rattle.plan_code.specs.Reading.{Parses, ◌>>=◌, refuse_code, read_from, in_file, magic_at, mode_in, mode_at, plan_at, count_at, config_in, line_in, items_at, Header, header_at, program_at, code_of}
+use Rattle.plan_code.specs.Reading.{Parses, ◌>>=◌, refuse_code, read_from, in_file, magic_at, mode_of, reserving_at, layout_in, layout_at, plan_at, count_at, config_in, line_in, items_at, Header, header_at, program_at, code_of}
 use Rattle.plan_code.specs.FileFaults.{CutsAreTruncated, FileFaultsStay, FileFaultsAreFirst}
 use Rattle.plan_code.proofs.SteadyParts.{goes_label, goes_line}
 use Rattle.plan_code.proofs.FileLaws.{code_again}
@@ -75,21 +76,28 @@ runs_magic bytes more =
     runs_bind more _ _ _ _ (runs_field more _ _ (goes_number w32 bytes more)) (λ letters rest.
     runs_refuse more (not (eqb letters magic)) Magic Magic _ _ refl refl)
 
-runs_mode_in : (total version : ℕ) (bytes more : List ℕ) → Runs more (mode_in total version bytes) (mode_in (total + length more) version (bytes ++ more))
-runs_mode_in total version bytes more =
+runs_reserving : (total : ℕ) (bytes more : List ℕ) → Runs more (reserving_at total bytes) (reserving_at (total + length more) (bytes ++ more))
+unfolding reserving_at
+runs_reserving total bytes more =
+    runs_bind more _ _ _ _ (runs_field more _ _ (goes_byte_within total 1 4 bytes more)) (λ number after_number.
+    runs_bind more _ _ _ _ (runs_field more _ _ (goes_byte_within total 1 (fib_count (mode_of number) - 2) after_number more)) (λ reserve rest. refl))
+
+runs_layout_in : (total version : ℕ) (bytes more : List ℕ) → Runs more (layout_in total version bytes) (layout_in (total + length more) version (bytes ++ more))
+runs_layout_in total version bytes more =
     runs_choice more (eqb version 1) _ _ _ _ refl (
     runs_choice more (eqb version 2) _ _ _ _ (runs_bind more _ _ _ _ (runs_field more _ _ (goes_byte_within total 2 4 bytes more)) (λ number rest. refl)) (
-    runs_fault _ more Version Version refl))
+    runs_choice more (eqb version 3) _ _ _ _ (runs_reserving total bytes more) (
+    runs_fault _ more Version Version refl)))
 
-runs_mode : (total : ℕ) (bytes more : List ℕ) → Runs more (mode_at total bytes) (mode_at (total + length more) (bytes ++ more))
-unfolding mode_at
-runs_mode total bytes more = runs_bind more _ _ _ _ (runs_field more _ _ (goes_byte bytes more)) (λ version rest. runs_mode_in total version rest more)
+runs_layout : (total : ℕ) (bytes more : List ℕ) → Runs more (layout_at total bytes) (layout_at (total + length more) (bytes ++ more))
+unfolding layout_at
+runs_layout total bytes more = runs_bind more _ _ _ _ (runs_field more _ _ (goes_byte bytes more)) (λ version rest. runs_layout_in total version rest more)
 
 runs_plan : (total : ℕ) (bytes more : List ℕ) → Runs more (plan_at total bytes) (plan_at (total + length more) (bytes ++ more))
 unfolding plan_at
 runs_plan total bytes more =
-    runs_bind more _ _ _ _ (runs_mode total bytes more) (λ mode after_mode.
-    runs_bind more _ _ _ _ (runs_field more _ _ (goes_number w16 after_mode more)) (λ eid after_eid.
+    runs_bind more _ _ _ _ (runs_layout total bytes more) (λ layout after_layout.
+    runs_bind more _ _ _ _ (runs_field more _ _ (goes_number w16 after_layout more)) (λ eid after_eid.
     runs_bind more _ _ _ _ (runs_field more _ _ (goes_byte_within total 1 60 after_eid more)) (λ period after_period.
     runs_bind more _ _ _ _ (runs_field more _ _ (goes_byte_within total 12 248 after_period more)) (λ notice after_notice.
     runs_bind more _ _ _ _ (runs_field more _ _ (goes_byte_within total 1 255 after_notice more)) (λ budget rest. refl)))))

@@ -1,5 +1,5 @@
 -- Each kind of instruction and each of its traps, on small states that the checker computes.
-use Rattle.std.proofs.Common.{◌≡◌, ℕ, ◌+◌, ◌%◌, ◌≤◌, false, [], ◌∷◌, Option, Some, None, refl, arith}
+use Rattle.std.proofs.Common.{◌≡◌, ℕ, ◌+◌, ◌%◌, ◌≤◌, false, [], ◌∷◌, Option, Some, None, Ok, Err, refl, arith}
 use Rattle.std.proofs.lemmas.Bool.{false≢true}
 use Rattle.mux_eep.specs.declared.sizes.EepSet.TheVariants.{A}
 use Rattle.mux_types.specs.declared.parts.Sub.{Sub}
@@ -8,15 +8,18 @@ use Rattle.mux_config.specs.declared.edit.Edit.TheVariants.{AddSub, DropSub, Rat
 use Rattle.mux_config.specs.Configuration.{Configuration, nothing}
 use Rattle.fib_codec.specs.declared.modes.Mode.{Mode}
 use Rattle.fib_codec.specs.declared.modes.Mode.TheVariants.{I, II, IV}
+use Rattle.fib_codec.specs.declared.frame_layout.FrameLayout.TheVariants.{Whole, ReserveOne, ReserveTwo}
 use Rattle.plan_code.specs.declared.plan.Plan.{Plan}
 use Rattle.plan_code.specs.declared.flags.Contacts.{Contacts}
 use Rattle.plan_code.specs.declared.hold.Hold.{Hold}
 use Rattle.plan_code.specs.declared.hold.Hold.TheVariants.{Waits, WaitsDay, WaitsContact, WaitsSwap, Ended}
 use Rattle.plan_code.specs.declared.instr.Instr.TheVariants.{Wait, Until, WaitContact, CommitIn, CommitAt, Join, Settle, End, Edit as Edits, Test, Jump, Set, Loop}
+use Rattle.plan_code.specs.Reading.{layout_at, reserving_at}
+use Rattle.plan_code.specs.declared.fault.CodeFault.TheVariants.{Version, Field}
 use Rattle.plan_code.specs.Machine.{State, effect, IsAllowed, IsLeastFrom}
 
 abbrev plan : Mode → Plan
-plan mode = record { eid = 0xe1c5; mode = mode; period = 4; notice = 24; budget = 20 }
+plan mode = record { eid = 0xe1c5; layout = Whole mode; period = 4; notice = 24; budget = 20 }
 
 -- contact 3 is closed
 abbrev closed_three : Contacts
@@ -175,3 +178,42 @@ not_the_least h = let e : 31 ≤ 27 = h.first 27 (omega arith) refl in omega (ar
 -- and after 26 it is not
 not_reached : IsLeastFrom 24 (λ r. (1 + r) % 4 ≡ 0) 26 → ⊥
 not_reached h = let e : 3 ≡ 0 = h.holds in omega (arith, e)
+
+-- ---- the layout in the header of a file, after the four bytes of the magic number
+
+of_version_one : layout_at 8 (1 ∷ 225 ∷ 197 ∷ 4 ∷ []) ≡ Ok (Whole I, 225 ∷ 197 ∷ 4 ∷ [])
+unfolding layout_at reserving_at
+of_version_one = refl
+
+of_version_two : layout_at 8 (2 ∷ 4 ∷ 225 ∷ 197 ∷ []) ≡ Ok (Whole IV, 225 ∷ 197 ∷ [])
+unfolding layout_at reserving_at
+of_version_two = refl
+
+one_reserved : layout_at 8 (3 ∷ 1 ∷ 1 ∷ 225 ∷ []) ≡ Ok (ReserveOne I, 225 ∷ [])
+unfolding layout_at reserving_at
+one_reserved = refl
+
+two_reserved : layout_at 8 (3 ∷ 3 ∷ 2 ∷ 225 ∷ []) ≡ Ok (ReserveTwo, 225 ∷ [])
+unfolding layout_at reserving_at
+two_reserved = refl
+
+-- the mode is refused before the reserve is read, which may be 0 in no file, and 2 in mode III alone
+mode_five : layout_at 8 (3 ∷ 5 ∷ 9 ∷ 225 ∷ []) ≡ Err (Field 5)
+unfolding layout_at reserving_at
+mode_five = refl
+
+none_reserved : layout_at 8 (3 ∷ 1 ∷ 0 ∷ 225 ∷ []) ≡ Err (Field 6)
+unfolding layout_at reserving_at
+none_reserved = refl
+
+two_reserved_in_mode_one : layout_at 8 (3 ∷ 1 ∷ 2 ∷ 225 ∷ []) ≡ Err (Field 6)
+unfolding layout_at reserving_at
+two_reserved_in_mode_one = refl
+
+three_reserved : layout_at 8 (3 ∷ 3 ∷ 3 ∷ 225 ∷ []) ≡ Err (Field 6)
+unfolding layout_at reserving_at
+three_reserved = refl
+
+of_version_four : layout_at 8 (4 ∷ 1 ∷ 1 ∷ 225 ∷ []) ≡ Err Version
+unfolding layout_at reserving_at
+of_version_four = refl

@@ -6,6 +6,7 @@ use Rattle.mux_config.specs.Edits.{changed, edit_fault}
 use Rattle.mux_config.specs.Sound.{IsSound}
 use Rattle.mux_config.specs.declared.edit.Edit.{Edit}
 use Rattle.fib_codec.specs.Modes.{count_step}
+use Rattle.fib_codec.specs.Layouts.{layout_mode}
 use Rattle.fib_codec.specs.declared.modes.Mode.{Mode}
 use Rattle.mux_entries.specs.declared.limits.TheConstants.{COUNTS}
 use Rattle.plan_code.specs.declared.plan.Plan.{Plan}
@@ -88,7 +89,7 @@ abbrev pub effect : Plan → Instr → State → State
 effect plan (Wait n) s = suspend (Waits n) s
 effect plan (Until t) s = suspend (WaitsDay t) s
 effect plan (WaitContact c closed) s = suspend (WaitsContact c closed) s
-effect plan (CommitIn k) s = commit (left_in (count_step plan.mode) s.count k) s
+effect plan (CommitIn k) s = commit (left_in (count_step (layout_mode plan.layout)) s.count k) s
 effect plan (CommitAt n) s = commit (left_at s.count plan.notice n) s
 effect plan Join s = suspend WaitsSwap s
 effect plan Settle s = settle s.left s
@@ -137,7 +138,7 @@ IsAllowed plan (Wait n) s = Unit {0}
 IsAllowed plan (Until t) s = Unit {0}
 IsAllowed plan (WaitContact c closed) s = Unit {0}
 IsAllowed plan (CommitIn k) s = IsReady s × IsNoticed plan k
-IsAllowed plan (CommitAt n) s = IsReady s × IsSwapCount plan.mode n
+IsAllowed plan (CommitAt n) s = IsReady s × IsSwapCount (layout_mode plan.layout) n
 IsAllowed plan Join s = IsPending s
 IsAllowed plan Settle s = Unit {0}
 IsAllowed plan End s = Unit {0}

@@ -1,8 +1,11 @@
 -- Reading a code file in order, up to the first fault.
-use Rattle.std.specs.Prelude.{◌≡◌, ℕ, zero, suc, ◌+◌, ◌==◌, nat_lt, if◌then◌else◌, List, [], ◌∷◌, ◌++◌, length, Bool, not, Result, Ok, Err}
+use Rattle.std.specs.Prelude.{◌≡◌, ℕ, zero, suc, ◌+◌, ◌-◌, ◌==◌, nat_lt, if◌then◌else◌, List, [], ◌∷◌, ◌++◌, length, Bool, not, Result, Ok, Err}
 use Rattle.std.specs.Int.{w16, w32}
 use Rattle.fib_codec.specs.declared.modes.Mode.{Mode}
 use Rattle.fib_codec.specs.declared.modes.Mode.TheVariants.{I, II, III, IV}
+use Rattle.fib_codec.specs.Modes.{fib_count}
+use Rattle.fib_codec.specs.declared.frame_layout.FrameLayout.{FrameLayout}
+use Rattle.fib_codec.specs.declared.frame_layout.FrameLayout.TheVariants.{Whole, ReserveOne, ReserveTwo}
 use Rattle.mux_config.specs.Configuration.{Configuration}
 use Rattle.mux_config.specs.FieldReading.{Unread, place, byte_at, number_at, byte_within}
 use Rattle.mux_config.specs.Reading.{config_at, members_at}
@@ -70,30 +73,42 @@ magic_at bytes = do
   known ← refuse_code (not (letters.0 == magic)) Magic
   Ok letters
 
--- modes II to IV by their numbers
+-- the modes by their numbers
 abbrev pub mode_of : ℕ → Mode
-mode_of number = if number == 2 then II else if number == 3 then III else IV
+mode_of number = if number == 1 then I else if number == 2 then II else if number == 3 then III else IV
 
--- the mode in a file of this version
-abbrev pub mode_in : (total version : ℕ) → List ℕ → Parses Mode
-mode_in total version bytes =
-    if version == 1 then Ok (I, bytes)
-    else if version == 2 then (in_file (byte_within total 2 4 bytes) >>= λ number. Ok (mode_of number.0, number.1))
+-- the layout with a reserve of 1, or of 2, which only mode III has
+abbrev pub reserving : Mode → ℕ → FrameLayout
+reserving mode reserve = if reserve == 2 then ReserveTwo else ReserveOne mode
+
+-- the mode and the reserve in a file of version 3: two FIBs of a frame at least are not reserved
+unfoldable pub reserving_at : (total : ℕ) → List ℕ → Parses FrameLayout
+reserving_at total bytes = do
+  number ← in_file (byte_within total 1 4 bytes)
+  reserve ← in_file (byte_within total 1 (fib_count (mode_of number.0) - 2) number.1)
+  Ok (reserving (mode_of number.0) reserve.0, reserve.1)
+
+-- the layout in a file of this version
+abbrev pub layout_in : (total version : ℕ) → List ℕ → Parses FrameLayout
+layout_in total version bytes =
+    if version == 1 then Ok (Whole I, bytes)
+    else if version == 2 then (in_file (byte_within total 2 4 bytes) >>= λ number. Ok (Whole (mode_of number.0), number.1))
+    else if version == 3 then reserving_at total bytes
     else Err Version
 
-unfoldable pub mode_at : (total : ℕ) → List ℕ → Parses Mode
-mode_at total bytes = do
+unfoldable pub layout_at : (total : ℕ) → List ℕ → Parses FrameLayout
+layout_at total bytes = do
   version ← in_file (byte_at bytes)
-  mode_in total version.0 version.1
+  layout_in total version.0 version.1
 
 unfoldable pub plan_at : (total : ℕ) → List ℕ → Parses Plan
 plan_at total bytes = do
-  mode ← mode_at total bytes
-  eid ← in_file (number_at w16 mode.1)
+  layout ← layout_at total bytes
+  eid ← in_file (number_at w16 layout.1)
   period ← in_file (byte_within total 1 60 eid.1)
   notice ← in_file (byte_within total 12 248 period.1)
   budget ← in_file (byte_within total 1 255 notice.1)
-  Ok (record { eid = eid.0; mode = mode.0; period = period.0; notice = notice.0; budget = budget.0 }, budget.1)
+  Ok (record { eid = eid.0; layout = layout.0; period = period.0; notice = notice.0; budget = budget.0 }, budget.1)
 
 -- the number of entries of a table: at least one, at most `limit`
 abbrev pub count_at : (total limit : ℕ) → List ℕ → Parses ℕ

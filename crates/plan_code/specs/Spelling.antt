@@ -10,6 +10,8 @@ use Rattle.mux_config.specs.declared.edit.Edit.{Edit}
 use Rattle.mux_config.specs.declared.edit.Edit.TheVariants.{AddSub, DropSub, MoveSub, RateSub, AddService, DropService, AddComponent, DropComponent, AddPacket, DropPacket}
 use Rattle.fib_codec.specs.declared.modes.Mode.{Mode}
 use Rattle.fib_codec.specs.declared.modes.Mode.TheVariants.{I, II, III, IV}
+use Rattle.fib_codec.specs.declared.frame_layout.FrameLayout.{FrameLayout}
+use Rattle.fib_codec.specs.declared.frame_layout.FrameLayout.TheVariants.{Whole, ReserveOne, ReserveTwo}
 use Rattle.plan_code.specs.declared.plan.Plan.{Plan}
 use Rattle.plan_code.specs.declared.label.Label.{Label}
 use Rattle.plan_code.specs.declared.label.Swap.{Swap}
@@ -25,15 +27,27 @@ use Rattle.plan_code.specs.Program.{Program}
 abbrev pub magic : ℕ
 magic = 0x44414250
 
--- the version of the format: 1 in mode I; in the other modes 2, followed by the mode's number
+-- the version of the format without reserve: 1 in mode I; in the other modes 2, followed by the mode's number
 abbrev pub mode_bytes : Mode → List ℕ
 mode_bytes I = 1 ∷ []
 mode_bytes II = 2 ∷ 2 ∷ []
 mode_bytes III = 2 ∷ 3 ∷ []
 mode_bytes IV = 2 ∷ 4 ∷ []
 
+abbrev pub mode_number : Mode → ℕ
+mode_number I = 1
+mode_number II = 2
+mode_number III = 3
+mode_number IV = 4
+
+-- with a reserve version 3, followed by the mode's number and the number of reserved FIBs of a frame
+abbrev pub layout_bytes : FrameLayout → List ℕ
+layout_bytes (Whole mode) = mode_bytes mode
+layout_bytes (ReserveOne mode) = 3 ∷ mode_number mode ∷ 1 ∷ []
+layout_bytes ReserveTwo = 3 ∷ mode_number III ∷ 2 ∷ []
+
 abbrev pub plan_bytes : Plan → List ℕ
-plan_bytes p = mode_bytes p.mode ++ u16_bytes p.eid ++ p.period ∷ p.notice ∷ p.budget ∷ []
+plan_bytes p = layout_bytes p.layout ++ u16_bytes p.eid ++ p.period ∷ p.notice ∷ p.budget ∷ []
 
 -- with the numbers of configurations, labels and instructions
 abbrev pub header_bytes : Plan → (configurations labels lines : ℕ) → List ℕ

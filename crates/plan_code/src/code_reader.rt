@@ -3,7 +3,7 @@
 ghost use Rattle.std.specs.Prelude.{◌≡◌, ◌≤◌, ◌<◌, [], length, IfOk, Ok, Err};
 ghost use Rattle.plan_code.specs.Program.{Program, IsProgram};
 ghost use Rattle.plan_code.specs.Spelling.{code_bytes};
-ghost use Rattle.plan_code.specs.Reading.{Gives, GivesNext, magic_at, mode_at, plan_at, count_at, header_at, config_in, line_in, items_at, labels_in, code_of};
+ghost use Rattle.plan_code.specs.Reading.{Gives, GivesNext, magic_at, mode_of, reserving_at, layout_at, plan_at, count_at, header_at, config_in, line_in, items_at, labels_in, code_of};
 
 use crate::code::Code;
 use crate::fault::{CodeFault, fault_from};
@@ -14,7 +14,7 @@ use crate::plan::Plan;
 use crate::read_label::label;
 use crate::read_line::line;
 use byte_fields::Reader;
-use fib_codec::Mode;
+use fib_codec::{FrameLayout, Mode};
 use mux_config::{Config, read_config};
 use std::alloc::Global;
 
@@ -32,19 +32,48 @@ fn magic(reader: &mut Reader) -> Result<u32, CodeFault>
     Ok(letters)
 }
 
-/// Reads the version, and in version 2 the mode; version 1 implies mode I.
-#[tactic(auto, unfolding(crate::specs::Reading::mode_at))]
-fn mode(reader: &mut Reader) -> Result<Mode, CodeFault>
-    ensures read { GivesNext (λ m. m) result reader.new (mode_at reader.old.total reader.old.rest) }
+/// The mode with this number, 1 to 4.
+fn mode_from(number: u8) -> Mode
+    ensures { result ≡ mode_of number }
+{
+    match number {
+        1 => Mode::I,
+        2 => Mode::II,
+        3 => Mode::III,
+        _ => Mode::IV,
+    }
+}
+
+/// Reads the mode and the reserve of version 3, which is at least 1.
+#[tactic(auto, unfolding(crate::specs::Reading::reserving_at))]
+fn reserving(reader: &mut Reader) -> Result<FrameLayout, CodeFault>
+    ensures read { GivesNext (λ l. l) result reader.new
+        (reserving_at reader.old.total reader.old.rest) }
+    ensures total { reader.new.total ≡ reader.old.total }
+{
+    let mode = mode_from(reader.byte_within(1, 4)?);
+    let most = mode.fibs() as u8 - 2;
+    match reader.byte_within(1, most)? {
+        2 => Ok(FrameLayout::ReserveTwo),
+        _ => Ok(FrameLayout::ReserveOne(mode)),
+    }
+}
+
+/// Reads the version, in version 2 the mode, and in version 3 the mode and the reserve. Version 1 implies mode I, and
+/// versions 1 and 2 no reserve.
+#[tactic(auto, unfolding(crate::specs::Reading::layout_at))]
+fn layout(reader: &mut Reader) -> Result<FrameLayout, CodeFault>
+    ensures read { GivesNext (λ l. l) result reader.new
+        (layout_at reader.old.total reader.old.rest) }
     ensures total { reader.new.total ≡ reader.old.total }
 {
     match reader.byte()? {
-        1 => Ok(Mode::I),
-        2 => match reader.byte_within(2, 4)? {
-            2 => Ok(Mode::II),
-            3 => Ok(Mode::III),
-            _ => Ok(Mode::IV),
-        },
+        1 => Ok(FrameLayout::Whole(Mode::I)),
+        2 => {
+            let number = reader.byte_within(2, 4)?;
+            Ok(FrameLayout::Whole(mode_from(number)))
+        }
+        3 => reserving(reader),
         _ => Err(CodeFault::Version),
     }
 }
@@ -54,14 +83,14 @@ fn plan(reader: &mut Reader) -> Result<Plan, CodeFault>
     ensures read { GivesNext (λ p. p) result reader.new (plan_at reader.old.total reader.old.rest) }
     ensures total { reader.new.total ≡ reader.old.total }
 {
-    let mode = mode(reader)?;
+    let layout = layout(reader)?;
     let eid = reader.u16()?;
     let period = reader.byte_within(1, 60)?;
     let notice = reader.byte_within(12, 248)?;
     let budget = reader.byte_within(1, 255)?;
     Ok(Plan {
         eid,
-        mode,
+        layout,
         period,
         notice,
         budget,

@@ -6,7 +6,7 @@ ghost use Rattle.mux_config.specs.FieldSpelling.{u16_bytes};
 ghost use Rattle.mux_config.specs.Spelling.{sub_record, packet_record, config_bytes};
 ghost use Rattle.plan_code.specs.Opcodes.{opcode_byte};
 ghost use Rattle.plan_code.specs.Program.{IsProgram};
-ghost use Rattle.plan_code.specs.Spelling.{mode_bytes, plan_bytes, swap_bytes, label_bytes, carrier_bytes, edit_bytes, instr_bytes, line_bytes, code_bytes};
+ghost use Rattle.plan_code.specs.Spelling.{mode_bytes, layout_bytes, mode_number, plan_bytes, swap_bytes, label_bytes, carrier_bytes, edit_bytes, instr_bytes, line_bytes, code_bytes};
 ghost use Rattle.plan_code.specs.Reading.{code_of};
 
 use crate::code::Code;
@@ -17,12 +17,24 @@ use crate::label::{Label, Swap};
 use crate::opcode::Opcode;
 use crate::plan::Plan;
 use byte_fields::{put_component, put_protection, put_sid, put_u16, put_u32};
-use fib_codec::Mode;
+use fib_codec::{FrameLayout, Mode};
 use mux_config::record_writer::put_config;
 use mux_config::{Carrier, Config, Edit, NewSub, Packet};
 use std::alloc::{AllocError, Global};
 
-/// Writes the version of the file and, in version 2, the mode's number.
+/// The number of a mode, 1 to 4.
+fn mode_number(mode: Mode) -> u8
+    ensures { result ≡ mode_number mode }
+{
+    match mode {
+        Mode::I => 1,
+        Mode::II => 2,
+        Mode::III => 3,
+        Mode::IV => 4,
+    }
+}
+
+/// Writes the version of a file without reserve and, in version 2, the mode's number.
 fn put_mode(out: &mut Vec<u8>, mode: Mode) -> Result<(), AllocError>
     ensures { OnOk result (out.new.items ≡ out.old.items ++ mode_bytes mode) }
 {
@@ -34,10 +46,21 @@ fn put_mode(out: &mut Vec<u8>, mode: Mode) -> Result<(), AllocError>
     }
 }
 
+/// Writes the version of the file, and the mode and the reserve as far as the version has them.
+fn put_layout(out: &mut Vec<u8>, layout: FrameLayout) -> Result<(), AllocError>
+    ensures { OnOk result (out.new.items ≡ out.old.items ++ layout_bytes layout) }
+{
+    match layout {
+        FrameLayout::Whole(mode) => put_mode(out, mode),
+        FrameLayout::ReserveOne(mode) => out.extend_from_slice(&[3, mode_number(mode), 1]),
+        FrameLayout::ReserveTwo => out.extend_from_slice(&[3, 3, 2]),
+    }
+}
+
 fn put_plan(out: &mut Vec<u8>, plan: Plan) -> Result<(), AllocError>
     ensures { OnOk result (out.new.items ≡ out.old.items ++ plan_bytes plan) }
 {
-    put_mode(out, plan.mode)?;
+    put_layout(out, plan.layout)?;
     put_u16(out, plan.eid)?;
     out.extend_from_slice(&[plan.period, plan.notice, plan.budget])
 }

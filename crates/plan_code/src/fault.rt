@@ -14,7 +14,7 @@ pub enum CodeFault {
     /// The file doesn't begin with the four bytes `DABP`.
     #[error("Magic")]
     Magic,
-    /// The version is neither 1 nor 2.
+    /// The version is none of 1 to 3.
     #[error("Version")]
     Version,
     /// Bytes of a field are missing.

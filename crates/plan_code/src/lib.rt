@@ -28,7 +28,7 @@ pub use code::Code;
 pub use code_reader::decode;
 pub use code_writer::encode;
 pub use fault::CodeFault;
-pub use fib_codec::Mode;
+pub use fib_codec::{FrameLayout, Mode};
 pub use flags::{Contacts, Counters};
 pub use hold::Hold;
 pub use instr::{Instr, Line};

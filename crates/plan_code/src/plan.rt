@@ -3,15 +3,16 @@
 ghost use Rattle.std.specs.Prelude.{◌↔◌, IsTrue};
 
 use crate::limits::{LONGEST_NOTICE, LONGEST_PERIOD, SHORTEST_NOTICE};
-use fib_codec::Mode;
+use fib_codec::FrameLayout;
 
 /// The plan of an ensemble: what its frames carry and how long its notices last.
 #[derive(Clone, Copy, Debug, PartialEq, Eq)]
 pub struct Plan {
     /// The identifier of the ensemble, EId (EN 300 401 clause 6.4).
     pub eid: u16,
-    /// The transmission mode: how many FIBs a frame has, and on which CIF counts FIG 0/0 and swaps fall.
-    pub mode: Mode,
+    /// The layout of a frame: the transmission mode, which says how many FIBs a frame has, and on which CIF counts
+    /// FIG 0/0 and swaps fall; and the reserve, the number of FIBs of each frame that carry no FIG of the plan.
+    pub layout: FrameLayout,
     /// The period P, in frames, 1 to 60 in a code: any P successive frames of one phase carry the whole current
     /// configuration.
     pub period: u8,

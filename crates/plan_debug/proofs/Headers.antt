@@ -2,6 +2,7 @@
 use Rattle.std.proofs.Common.{rules, ◌≡◌, ℕ, zero, suc, ◌≤◌, ◌%◌, ◌==◌, Bool, true, false, if◌then◌else◌, List, [], ◌∷◌, map, Contains, Option, Some, None, refl, sym, ap, subst, ◌∙◌, arith}
 use Rattle.std.proofs.Math.Dec.{eqb-suc-zero}
 use Rattle.std.specs.List.{AllByRecursion}
+use Rattle.fib_codec.specs.Layouts.{layout_mode}
 use Rattle.mux_entries.specs.Entries.{EnsembleInformation}
 use Rattle.mux_entries.specs.Facts.{marked}
 use Rattle.mux_entries.specs.declared.entry.Entry.TheVariants.{Ensemble as EnsembleOf}
@@ -74,19 +75,19 @@ Headed fib a = (header : Fig) (others : List Fig) (e : EnsembleInformation) → 
 abbrev pub Unheaded : List ℕ → Option Announcement → Type 0
 Unheaded fib a = (figs : List Fig) → IsFib fib figs → AllByRecursion IsNoHeader figs → a ≡ None
 
-due : (plan : Plan) (s : State) (bytes fib : List ℕ) (a : Option Announcement) (n : ℕ) → s.count % count_step plan.mode ≡ n → IsRight plan s bytes → fib ≡ fib_at bytes 0 → Headed fib a → Unheaded fib a → a ≡ shown_announcement plan s
+due : (plan : Plan) (s : State) (bytes fib : List ℕ) (a : Option Announcement) (n : ℕ) → s.count % count_step (layout_mode plan.layout) ≡ n → IsRight plan s bytes → fib ≡ fib_at bytes 0 → Headed fib a → Unheaded fib a → a ≡ shown_announcement plan s
 due plan s bytes fib a zero is right at headed unheaded =
     let h = right.headed is in
     let said = headed h.header h.others h.information (subst (λ (l : List ℕ). IsFib l (h.header ∷ h.others)) (sym at) h.first) h.says in
     let state = noticed_alike plan s h.information (is_noticed plan.notice s.left) refl h.right in
     rw (is) (said ∙ state)
 due plan s bytes fib a (suc n) is right at headed unheaded =
-    let h = right.unheaded (λ (none : s.count % count_step plan.mode ≡ 0). omega (arith, is, none)) in
+    let h = right.unheaded (λ (none : s.count % count_step (layout_mode plan.layout) ≡ 0). omega (arith, is, none)) in
     let said = unheaded h.0 (subst (λ (l : List ℕ). IsFib l h.0) (sym at) h.1) h.2 in
     rw (is, eqb-suc-zero n) said
 
 pub announced_here : (plan : Plan) (s : State) (bytes fib : List ℕ) (a : Option Announcement) → IsRight plan s bytes → fib ≡ fib_at bytes 0 → Headed fib a → Unheaded fib a → a ≡ shown_announcement plan s
-announced_here plan s bytes fib a right at headed unheaded = due plan s bytes fib a (s.count % count_step plan.mode) refl right at headed unheaded
+announced_here plan s bytes fib a right at headed unheaded = due plan s bytes fib a (s.count % count_step (layout_mode plan.layout)) refl right at headed unheaded
 
 pub three_fibs : (mode : Mode) → 1 ≤ fib_count mode
 three_fibs I = omega arith

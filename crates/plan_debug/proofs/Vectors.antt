@@ -1,5 +1,6 @@
 -- Flagged FIG 0/0, in bytes that have the FIG 0/0 of a known state: each definition where it holds, and where it fails.
 use Rattle.std.proofs.Common.{◌≡◌, ℕ, false, List, [], ◌∷◌, Some, None, replicate, refl, ap, arith, inl, inr}
+use Rattle.fib_codec.specs.declared.frame_layout.FrameLayout.TheVariants.{Whole}
 use Rattle.mux_config.specs.Configuration.{nothing}
 use Rattle.fib_codec.specs.declared.modes.Mode.TheVariants.{I}
 use Rattle.plan_code.specs.declared.plan.Plan.{Plan}
@@ -11,7 +12,7 @@ use Rattle.plan_debug.specs.Flagged.{IsFlaggedIn, IsUnflagged, IsFlaggedOnly, Ar
 use Rattle.plan_debug.proofs.Flagged.{announcement_as, frame_says}
 
 abbrev plan : Plan
-plan = record { eid = 0xe1c5; mode = I; period = 1; notice = 12; budget = 20 }
+plan = record { eid = 0xe1c5; layout = Whole I; period = 1; notice = 12; budget = 20 }
 
 -- a first packet component takes effect with the swap in this many frames
 abbrev before_swap : ℕ → State

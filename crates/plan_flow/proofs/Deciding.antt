@@ -5,6 +5,7 @@ use Rattle.mux_config.specs.Configuration.{Configuration}
 use Rattle.mux_config.specs.Change.{has_same_subs, has_same_services}
 use Rattle.mux_config.proofs.Same.{list_same, list_equal, sub_same, sub_itself, service_same, service_itself, packet_same, packet_itself}
 use Rattle.mux_config.specs.Sameness.{is_same_sub, is_same_service, is_same_packet}
+use Rattle.fib_codec.specs.Layouts.{layout_mode}
 use Rattle.plan_code.specs.declared.plan.Plan.{Plan}
 use Rattle.plan_code.specs.declared.label.Swap.{Swap}
 use Rattle.plan_code.specs.declared.label.Swap.TheVariants.{Idle, Within, Perhaps}
@@ -137,7 +138,7 @@ decides_room plan t =
       found = λ h. all.found ((h.within_period, h.three_times), h.alone);
     }
 
-pub decides_count : (plan : Plan) (count : ℕ) → Decides (is_swap_count plan count) (IsSwapCount plan.mode count)
+pub decides_count : (plan : Plan) (count : ℕ) → Decides (is_swap_count plan count) (IsSwapCount (layout_mode plan.layout) count)
 decides_count plan count = decides_both _ _ _ _ (decides_eq _ 0) (decides_lt count COUNTS)
 
 decides_configurations : (t declared : Known) → Decides (has_configurations_of t declared) (HasConfigurationsOf t declared)

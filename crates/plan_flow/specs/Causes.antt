@@ -3,6 +3,7 @@
 use Rattle.std.specs.Prelude.{◌≡◌, ◌≢◌, ◌<◌, ◌⊎◌, Option, Some, None}
 use Rattle.mux_config.specs.Edits.{edit_fault}
 use Rattle.mux_config.specs.Sound.{first_fault}
+use Rattle.fib_codec.specs.Layouts.{layout_mode}
 use Rattle.plan_code.specs.declared.plan.Plan.{Plan}
 use Rattle.plan_code.specs.declared.label.Swap.TheVariants.{Idle}
 use Rattle.plan_code.specs.declared.instr.Instr.{Instr}
@@ -42,7 +43,7 @@ CommitRefused plan t fault cause =
 abbrev pub FlowRefused : Plan → Instr → Known → Cause → Type 0
 FlowRefused plan (Edits edit) t = Where (t.pending ≢ Idle) Pending orelse WhereSome (edit_fault edit t.next) OfEdit
 FlowRefused plan (CommitIn delay) t = CommitRefused plan t (delay < plan.notice) Notice
-FlowRefused plan (CommitAt count) t = CommitRefused plan t (IsSwapCount plan.mode count → ⊥) Count
+FlowRefused plan (CommitAt count) t = CommitRefused plan t (IsSwapCount (layout_mode plan.layout) count → ⊥) Count
 FlowRefused plan (Wait frames) t = Where (IsCertain frames t.pending → ⊥) SwapUncertain
 FlowRefused plan (Until day) t = λ given. ⊥
 FlowRefused plan (WaitContact contact closed) t = λ given. ⊥

@@ -4,6 +4,7 @@ use Rattle.mux_config.specs.Configuration.{Configuration}
 use Rattle.mux_config.specs.Edits.{edit_fault, changed}
 use Rattle.mux_config.specs.Sound.{IsSound}
 use Rattle.fib_codec.specs.Modes.{count_step}
+use Rattle.fib_codec.specs.Layouts.{layout_mode}
 use Rattle.fib_carousel.specs.Pages.{page_set, rounds}
 use Rattle.mux_entries.specs.declared.limits.TheConstants.{COUNTS}
 use Rattle.plan_code.specs.declared.plan.Plan.{Plan}
@@ -30,11 +31,11 @@ pub record Known : Type 0 where
 
 -- the number of pages that a configuration takes by itself
 abbrev pub pages_alone : Plan → Configuration → ℕ
-pages_alone plan c = rounds plan.mode (page_set c None)
+pages_alone plan c = rounds plan.layout (page_set c None)
 
 -- the number of pages that the current and the next configuration take together, in the frames of a notice
 abbrev pub notice_pages : Plan → Known → ℕ
-notice_pages plan t = rounds plan.mode (page_set t.current (Some t.next))
+notice_pages plan t = rounds plan.layout (page_set t.current (Some t.next))
 
 -- all pages of the notice fit within the period, and three cycles of them within the notice; after the swap, the pages
 -- of the next configuration fit within the period
@@ -68,7 +69,7 @@ IsSurelyPending (Perhaps hi) = ⊥
 abbrev pub IsFine : Plan → Instr → Known → Type 0
 IsFine plan (Edits edit) t = (t.pending ≡ Idle) × (edit_fault edit t.next ≡ None)
 IsFine plan (CommitIn delay) t = CanCommit plan t × (plan.notice ≤ delay)
-IsFine plan (CommitAt count) t = CanCommit plan t × IsSwapCount plan.mode count
+IsFine plan (CommitAt count) t = CanCommit plan t × IsSwapCount (layout_mode plan.layout) count
 IsFine plan (Wait frames) t = IsCertain frames t.pending
 IsFine plan (Until day) t = Unit {0}
 IsFine plan (WaitContact contact closed) t = Unit {0}
@@ -121,7 +122,7 @@ rested plan t = record t { allowance = plan.budget }
 abbrev pub leaves : Plan → Instr → Known → Known
 leaves plan (Edits edit) t = spent (record t { next = changed edit t.next })
 leaves plan (CommitIn delay) t =
-    spent (record t { pending = Within delay (delay + (count_step plan.mode - 1)) })
+    spent (record t { pending = Within delay (delay + (count_step (layout_mode plan.layout) - 1)) })
 leaves plan (CommitAt count) t = spent (record t { pending = Within plan.notice (plan.notice + (COUNTS - 1)) })
 leaves plan (Wait frames) t = rested plan (after_wait frames t.pending t)
 leaves plan (Until day) t = rested plan (after_pause t.pending t)

@@ -5,6 +5,7 @@ use Rattle.mux_config.specs.Change.{has_same_subs, has_same_services}
 use Rattle.mux_config.specs.Edits.{edit_fault}
 use Rattle.mux_config.specs.Sound.{first_fault}
 use Rattle.fib_codec.specs.Modes.{count_step}
+use Rattle.fib_codec.specs.Layouts.{layout_mode}
 use Rattle.mux_entries.specs.declared.limits.TheConstants.{COUNTS}
 use Rattle.plan_code.specs.declared.plan.Plan.{Plan}
 use Rattle.plan_code.specs.declared.label.Swap.{Swap}
@@ -64,7 +65,7 @@ has_room_for_notice plan t =
     && nat_le (pages_alone plan t.next) plan.period
 
 abbrev pub is_swap_count : Plan → ℕ → Bool
-is_swap_count plan count = (count % count_step plan.mode == 0) && nat_lt count COUNTS
+is_swap_count plan count = (count % count_step (layout_mode plan.layout) == 0) && nat_lt count COUNTS
 
 abbrev pub has_configurations_of : Known → Known → Bool
 has_configurations_of t declared = is_same t.current declared.current && is_same t.next declared.next

@@ -2,6 +2,7 @@
 
 ghost use Rattle.std.specs.Prelude.{◌≡◌, ◌≢◌, ◌↔◌, IsTrue, IsOk, OnOk, IfErr};
 ghost use Rattle.mux_config.specs.Sound.{IsSound};
+ghost use Rattle.fib_codec.specs.Layouts.{layout_mode};
 ghost use Rattle.plan_code.specs.Machine.{IsSwapCount};
 ghost use Rattle.plan_code.specs.declared.instr.Instr.TheVariants.{CommitIn, CommitAt};
 ghost use Rattle.plan_flow.specs.Rules.{HasRoom, IsFine};
@@ -50,9 +51,9 @@ fn test_change<S: Store>(plan: &Plan, flow: &Flow<S>) -> Result<(), Cause>
 /// Whether a swap can fall on this CIF count.
 fn is_swap_count(plan: &Plan, count: u16) -> bool
     ensures value { result ≡ is_swap_count plan.now count }
-    ensures falls { IsTrue result ↔ IsSwapCount plan.now.mode count }
+    ensures falls { IsTrue result ↔ IsSwapCount (layout_mode plan.now.layout) count }
 {
-    count % plan.mode.step() == 0 && count < COUNTS
+    count % plan.layout.mode().step() == 0 && count < COUNTS
 }
 
 /// Commits the next configuration, for a swap after this delay.
@@ -77,7 +78,7 @@ pub(crate) fn commit_in<S: Store>(
         return Err(Cause::Notice);
     }
     test_change(plan, flow)?;
-    flow.pending = Swap::Within(least, least + (plan.mode.step() - 1));
+    flow.pending = Swap::Within(least, least + (plan.layout.mode().step() - 1));
     Ok(())
 }
 

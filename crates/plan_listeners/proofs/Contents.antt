@@ -1,21 +1,22 @@
 -- The entries that the FIBs of a frame carry.
 use Rattle.std.specs.Prelude.{Contains, flat_map, map, drop, ◌*◌}
-use Rattle.std.proofs.Common.{◌≡◌, ℕ, suc, ◌+◌, ◌==◌, Bool, true, false, cond, List, [], ◌∷◌, ◌++◌, length, Option, Some, None, inl, inr, ◌⊎◌, refl, ap, sym, ◌∙◌, subst, arith}
+use Rattle.std.proofs.Common.{◌≡◌, ℕ, zero, suc, replicate, ◌+◌, ◌==◌, Bool, true, false, cond, List, [], ◌∷◌, ◌++◌, length, Option, Some, None, inl, inr, ◌⊎◌, refl, ap, sym, ◌∙◌, subst, arith}
 use Rattle.std.proofs.lemmas.List.{drop-drop}
+use Rattle.fib_codec.specs.Layouts.{frame_fibs, reserved_fibs}
+use Rattle.fib_codec.specs.declared.frame_layout.FrameLayout.{FrameLayout}
+use Rattle.fib_codec.specs.declared.frame_layout.FrameLayout.TheVariants.{Whole, ReserveOne, ReserveTwo}
 use Rattle.mux_config.specs.Configuration.{Configuration}
 use Rattle.std.specs.List.{AllByRecursion}
 use Rattle.mux_entries.specs.Entries.{EnsembleInformation}
 use Rattle.mux_entries.specs.Facts.{Marked, facts_of}
-use Rattle.fib_codec.specs.declared.modes.Mode.{Mode}
 use Rattle.fib_codec.specs.declared.modes.Mode.TheVariants.{I, II, III, IV}
-use Rattle.fib_codec.specs.Modes.{fib_count}
 use Rattle.fib_codec.specs.Heard.{fib_at, IsHeardInRow}
 use Rattle.fib_codec.specs.Grammar.{fig_of}
 use Rattle.fib_carousel.specs.Packing.{entries_where}
 use Rattle.fib_carousel.specs.Greedy.{packing}
 use Rattle.fib_carousel.specs.Pages.{page_set, page_entries, fib_entries, first_fib, later_fibs, PageIsFibs}
 use Rattle.fib_carousel.specs.Bytes.{AreFibs, figs_of, ensemble_figs}
-use Rattle.fib_reader.specs.Raw.{raw_entry}
+use Rattle.fib_reader.specs.Raw.{Raw, raw_entry}
 use Rattle.fib_reader.specs.Laws.{EnsembleIsHeard}
 use Rattle.plan_code.specs.declared.plan.Plan.{Plan}
 use Rattle.plan_code.specs.Machine.{State}
@@ -60,29 +61,42 @@ sent_by c n true m h =
 set_sent : (plan : Plan) (u : State) → AllByRecursion (IsSentOf (is_noticed plan.notice u.left) u.current u.next) (sent_entries plan u)
 set_sent plan u = each_from (IsSentOf (is_noticed plan.notice u.left) u.current u.next) (sent_entries plan u) (sent_by u.current u.next (is_noticed plan.notice u.left))
 
-fib_sent : (plan : Plan) (u : State) (n : ℕ) → AllByRecursion (IsSentOf (is_noticed plan.notice u.left) u.current u.next) (fib_entries plan.mode n (sent_entries plan u))
-fib_sent plan u n = each_where (IsSentOf (is_noticed plan.notice u.left) u.current u.next) (λ m. m == n) (sent_entries plan u) (packing plan.mode (sent_entries plan u)) (set_sent plan u)
+fib_sent : (plan : Plan) (u : State) (n : ℕ) → AllByRecursion (IsSentOf (is_noticed plan.notice u.left) u.current u.next) (fib_entries plan.layout n (sent_entries plan u))
+fib_sent plan u n = each_where (IsSentOf (is_noticed plan.notice u.left) u.current u.next) (λ m. m == n) (sent_entries plan u) (packing plan.layout (sent_entries plan u)) (set_sent plan u)
 
-fibs_sent : (plan : Plan) (u : State) (ns : List ℕ) → AreSentOf (is_noticed plan.notice u.left) u.current u.next (map (λ n. fib_entries plan.mode n (sent_entries plan u)) ns)
+fibs_sent : (plan : Plan) (u : State) (ns : List ℕ) → AreSentOf (is_noticed plan.notice u.left) u.current u.next (map (λ n. fib_entries plan.layout n (sent_entries plan u)) ns)
 fibs_sent plan u [] = tt
 fibs_sent plan u (n ∷ ns) = (fib_sent plan u n, fibs_sent plan u ns)
 
 -- ---- what the FIBs carry
 
-later_say : (mode : Mode) (es : List Marked) (ns : List ℕ) (place : ℕ) (frame : List ℕ)
-    → AreFibs (map (λ n. figs_of (fib_entries mode n es)) ns) (drop (32 * place) frame) → AllSay (fibs_from (length ns) place frame) (map (λ n. fib_entries mode n es) ns)
-later_say mode es [] place frame h = tt
-later_say mode es (n ∷ ns) place frame h =
+-- FIBs without FIGs, the reserved ones, have no entries
+none_say : (count place : ℕ) (frame : List ℕ) → AreFibs (replicate count []) (drop (32 * place) frame) → AllSay (fibs_from count place frame) (replicate count [])
+none_say zero place frame h = tt
+none_say (suc count) place frame h =
     let next : drop 32 (drop (32 * place) frame) ≡ drop (32 * (place + 1)) frame = drop-drop 32 (32 * place) frame ∙ ap (λ k. drop k frame) (omega arith) in
-    let rest : AreFibs (map (λ n. figs_of (fib_entries mode n es)) ns) (drop (32 * (place + 1)) frame) = subst (λ (b : List ℕ). AreFibs (map (λ n. figs_of (fib_entries mode n es)) ns) b) next h.1 in (
-      record { figs = map fig_of (figs_of (fib_entries mode n es)); is_fib = h.0.fib; hears = figs_heard (fib_entries mode n es) },
-      later_say mode es ns (place + 1) frame rest,
+    let rest : AreFibs (replicate count []) (drop (32 * (place + 1)) frame) = subst (λ (b : List ℕ). AreFibs (replicate count []) b) next h.1 in
+    (record { figs = []; is_fib = h.0.fib; hears = figs_heard [] }, none_say count (place + 1) frame rest)
+
+later_say : (layout : FrameLayout) (es : List Marked) (ns : List ℕ) (count place : ℕ) (frame : List ℕ)
+    → AreFibs (map (λ n. figs_of (fib_entries layout n es)) ns ++ replicate count []) (drop (32 * place) frame)
+    → AllSay (fibs_from (length ns + count) place frame) (map (λ n. fib_entries layout n es) ns ++ replicate count [])
+later_say layout es [] count place frame h =
+    let same : 0 + count ≡ count = omega arith in
+    subst (λ (n : ℕ). AllSay (fibs_from n place frame) (replicate count [])) (sym same) (none_say count place frame h)
+later_say layout es (n ∷ ns) count place frame h =
+    let next : drop 32 (drop (32 * place) frame) ≡ drop (32 * (place + 1)) frame = drop-drop 32 (32 * place) frame ∙ ap (λ k. drop k frame) (omega arith) in
+    let rest : AreFibs (map (λ n. figs_of (fib_entries layout n es)) ns ++ replicate count []) (drop (32 * (place + 1)) frame) = subst (λ (b : List ℕ). AreFibs (map (λ n. figs_of (fib_entries layout n es)) ns ++ replicate count []) b) next h.1 in
+    let one : suc (length ns) + count ≡ suc (length ns + count) = omega arith in
+    subst (λ (k : ℕ). AllSay (fibs_from k place frame) (map (λ n. fib_entries layout n es) (n ∷ ns) ++ replicate count [])) (sym one) (
+      record { figs = map fig_of (figs_of (fib_entries layout n es)); is_fib = h.0.fib; hears = figs_heard (fib_entries layout n es) },
+      later_say layout es ns count (place + 1) frame rest,
     )
 
 pub record FrameSays (plan : Plan) (u : State) : Type 0 where
   pub first_fib_is : List ℕ
   pub later_are : List (List ℕ)
-  pub fibs : fibs_from (fib_count plan.mode) 0 (shown_bytes plan u) ≡ first_fib_is ∷ later_are
+  pub fibs : fibs_from (frame_fibs plan.layout) 0 (shown_bytes plan u) ≡ first_fib_is ∷ later_are
   pub entries : List Marked
   pub more : List (List Marked)
   pub first : Says first_fib_is (ensemble_sent plan u) entries
@@ -104,41 +118,56 @@ said_in_some f (n ∷ ns) m h =
       | inr there ↦ inr (said_in_some f ns m there)
     ]
 
-count_of : (mode : Mode) (k : ℕ) → fib_count mode ≡ suc (length (later_fibs mode k))
-count_of I k = refl
-count_of II k = refl
-count_of III k = refl
-count_of IV k = refl
+said_in_more : (next : Bool) (xs ys : List (List Marked)) (raw : Raw) → SaidInSome next xs raw → SaidInSome next (xs ++ ys) raw
+said_in_more next [] ys raw h = absurd h
+said_in_more next (x ∷ xs) ys raw (inl here) = inl here
+said_in_more next (x ∷ xs) ys raw (inr there) = inr (said_in_more next xs ys raw there)
+
+sent_and_none : (on : Bool) (c n : Configuration) (xs : List (List Marked)) (count : ℕ) → AreSentOf on c n xs → AreSentOf on c n (xs ++ replicate count [])
+sent_and_none on c n [] zero h = tt
+sent_and_none on c n [] (suc count) h = (tt, sent_and_none on c n [] count tt)
+sent_and_none on c n (x ∷ xs) count h = (h.0, sent_and_none on c n xs count h.1)
+
+count_of : (layout : FrameLayout) (k : ℕ) → frame_fibs layout ≡ suc (length (later_fibs layout k) + reserved_fibs layout)
+count_of (Whole I) k = refl
+count_of (Whole II) k = refl
+count_of (Whole III) k = refl
+count_of (Whole IV) k = refl
+count_of (ReserveOne I) k = refl
+count_of (ReserveOne II) k = refl
+count_of (ReserveOne III) k = refl
+count_of (ReserveOne IV) k = refl
+count_of ReserveTwo k = refl
 
 pub frame_says : Laws → (plan : Plan) (u : State) → Airs plan u → FrameSays plan u
 frame_says laws plan u a =
-    let mode : Mode = plan.mode in
+    let layout : FrameLayout = plan.layout in
     let es : List Marked = sent_entries plan u in
     let o : Option EnsembleInformation = ensemble_sent plan u in
     let k : ℕ = u.page_index in
     let frame : List ℕ = shown_bytes plan u in
-    let ns : List ℕ = later_fibs mode k in
-    let are = (laws.pages.valid mode o k es (pageable laws.pages plan u a)).0 in
+    let ns : List ℕ = later_fibs layout k in
+    let are = (laws.pages.valid layout o k es (pageable laws.pages plan u a)).0 in
     record {
       first_fib_is = fib_at frame 0;
-      later_are = fibs_from (length ns) 1 frame;
-      fibs = ap (λ (n : ℕ). fibs_from n 0 frame) (count_of mode k);
-      entries = fib_entries mode (first_fib mode k) es;
-      more = map (λ n. fib_entries mode n es) ns;
+      later_are = fibs_from (length ns + reserved_fibs layout) 1 frame;
+      fibs = ap (λ (n : ℕ). fibs_from n 0 frame) (count_of layout k);
+      entries = fib_entries layout (first_fib layout k) es;
+      more = map (λ n. fib_entries layout n es) ns ++ replicate (reserved_fibs layout) [];
       first = record {
-        figs = map fig_of (ensemble_figs o ++ figs_of (fib_entries mode (first_fib mode k) es));
+        figs = map fig_of (ensemble_figs o ++ figs_of (fib_entries layout (first_fib layout k) es));
         is_fib = are.0.fib;
-        hears = first_heard laws.ensemble o (sent_within plan u a) (fib_entries mode (first_fib mode k) es);
+        hears = first_heard laws.ensemble o (sent_within plan u a) (fib_entries layout (first_fib layout k) es);
       };
-      later = later_say mode es ns 1 frame are.1;
-      entries_sent = fib_sent plan u (first_fib mode k);
-      more_sent = fibs_sent plan u ns;
+      later = later_say layout es ns (reserved_fibs layout) 1 frame are.1;
+      entries_sent = fib_sent plan u (first_fib layout k);
+      more_sent = sent_and_none (is_noticed plan.notice u.left) u.current u.next (map (λ n. fib_entries layout n es) ns) (reserved_fibs layout) (fibs_sent plan u ns);
       heard = λ m h.
-          let inside : Contains (page_entries mode k es) m = (laws.pages.heard mode o k es (pageable laws.pages plan u a) m).0 h in
-          let among : In m (page_entries mode k es) = contains_in (page_entries mode k es) m inside in
-          let parts : In m (fib_entries mode (first_fib mode k) es ++ flat_map (λ n. fib_entries mode n es) ns) = subst (λ (xs : List Marked). In m xs) (laws.fibs mode es k) among in
-          elim (in_append m (fib_entries mode (first_fib mode k) es) (flat_map (λ n. fib_entries mode n es) ns) parts) [
-            | inl here ↦ inl (said_in (fib_entries mode (first_fib mode k) es) m here)
-            | inr there ↦ inr (said_in_some (λ n. fib_entries mode n es) ns m there)
+          let inside : Contains (page_entries layout k es) m = (laws.pages.heard layout o k es (pageable laws.pages plan u a) m).0 h in
+          let among : In m (page_entries layout k es) = contains_in (page_entries layout k es) m inside in
+          let parts : In m (fib_entries layout (first_fib layout k) es ++ flat_map (λ n. fib_entries layout n es) ns) = subst (λ (xs : List Marked). In m xs) (laws.fibs layout es k) among in
+          elim (in_append m (fib_entries layout (first_fib layout k) es) (flat_map (λ n. fib_entries layout n es) ns) parts) [
+            | inl here ↦ inl (said_in (fib_entries layout (first_fib layout k) es) m here)
+            | inr there ↦ inr (said_in_more m.next (map (λ n. fib_entries layout n es) ns) (replicate (reserved_fibs layout) []) (raw_entry m.entry) (said_in_some (λ n. fib_entries layout n es) ns m there))
           ];
     }

@@ -2,11 +2,12 @@
 use Rattle.std.specs.Prelude.{take}
 use Rattle.std.proofs.Common.{◌≡◌, ◌≢◌, ℕ, zero, suc, ◌+◌, ◌%◌, ◌==◌, Bool, true, false, cond, List, ◌∷◌, Option, Some, None, inl, inr, ◌⊎◌, refl, ap, sym, ◌∙◌, subst, arith}
 use Rattle.std.proofs.lemmas.Bool.{eq-eqb, eqb-true}
+use Rattle.fib_codec.specs.Layouts.{layout_mode, frame_fibs}
 use Rattle.mux_config.specs.Configuration.{Configuration}
 use Rattle.mux_entries.specs.Entries.{EnsembleInformation}
 use Rattle.mux_entries.specs.Facts.{marked}
 use Rattle.mux_entries.specs.declared.entry.Entry.{Entry}
-use Rattle.fib_codec.specs.Modes.{fib_count, count_step}
+use Rattle.fib_codec.specs.Modes.{count_step}
 use Rattle.fib_codec.specs.Heard.{IsHeardInRow}
 use Rattle.fib_reader.specs.Raw.{Raw, raw_entry}
 use Rattle.fib_reader.specs.Listening.{Listening, untuned}
@@ -30,15 +31,15 @@ use Rattle.plan_listeners.proofs.Knowing.{KnowsBy, KnowsPending, Ready, InFrame,
 
 -- ---- FIG 0/0 is sent or not
 
-is_sent : (plan : Plan) (s : State) → s.count % count_step plan.mode ≡ 0 → ensemble_sent plan s ≡ Some (ensemble_of plan s)
-is_sent plan s e = ap (λ (b : Bool). cond b (Some (ensemble_of plan s)) None) (eq-eqb (s.count % count_step plan.mode) 0 e)
+is_sent : (plan : Plan) (s : State) → s.count % count_step (layout_mode plan.layout) ≡ 0 → ensemble_sent plan s ≡ Some (ensemble_of plan s)
+is_sent plan s e = ap (λ (b : Bool). cond b (Some (ensemble_of plan s)) None) (eq-eqb (s.count % count_step (layout_mode plan.layout)) 0 e)
 
-not_sent_by : (plan : Plan) (s : State) (b : Bool) → (s.count % count_step plan.mode == 0) ≡ b → s.count % count_step plan.mode ≢ 0 → cond b (Some (ensemble_of plan s)) None ≡ None
-not_sent_by plan s true e apart = absurd (apart (eqb-true (s.count % count_step plan.mode) 0 e))
+not_sent_by : (plan : Plan) (s : State) (b : Bool) → (s.count % count_step (layout_mode plan.layout) == 0) ≡ b → s.count % count_step (layout_mode plan.layout) ≢ 0 → cond b (Some (ensemble_of plan s)) None ≡ None
+not_sent_by plan s true e apart = absurd (apart (eqb-true (s.count % count_step (layout_mode plan.layout)) 0 e))
 not_sent_by plan s false e apart = refl
 
-not_sent : (plan : Plan) (s : State) → s.count % count_step plan.mode ≢ 0 → ensemble_sent plan s ≡ None
-not_sent plan s apart = not_sent_by plan s (s.count % count_step plan.mode == 0) refl apart
+not_sent : (plan : Plan) (s : State) → s.count % count_step (layout_mode plan.layout) ≢ 0 → ensemble_sent plan s ≡ None
+not_sent plan s apart = not_sent_by plan s (s.count % count_step (layout_mode plan.layout) == 0) refl apart
 
 pub zero_or_not : (n : ℕ) → (n ≡ 0) ⊎ (n ≢ 0)
 zero_or_not zero = inl refl
@@ -51,7 +52,7 @@ abbrev pub RowSaid : List ℕ → Bool → Raw → Type 0
 RowSaid frame flag x = (e : Entry) × (raw_entry e ≡ x) × IsHeardInRow frame (marked flag e)
 
 abbrev pub fibs_in : Plan → State → List (List ℕ)
-fibs_in plan u = fibs_from (fib_count plan.mode) 0 (shown_bytes plan u)
+fibs_in plan u = fibs_from (frame_fibs plan.layout) 0 (shown_bytes plan u)
 
 pub record HearsFrame (plan : Plan) (u : State) (C N : Raw → Type 0) (l : Listening) : Type 0 where
   pub after : Listening
@@ -116,7 +117,7 @@ some_heard laws plan u a C N k l h =
     }
 
 -- an untuned listener ignores a frame without FIG 0/0
-pub frame_passed : Laws → (plan : Plan) (u : State) → Airs plan u → u.count % count_step plan.mode ≢ 0 → HearsAll (fibs_in plan u) untuned untuned
+pub frame_passed : Laws → (plan : Plan) (u : State) → Airs plan u → u.count % count_step (layout_mode plan.layout) ≢ 0 → HearsAll (fibs_in plan u) untuned untuned
 frame_passed laws plan u a apart =
     let says = frame_says laws plan u a in
     let on : Bool = is_noticed plan.notice u.left in
@@ -154,7 +155,7 @@ enters p ts c s h C N l due knows =
     let there : Ready plan u.left s.current u.next s.count C M l = ready_by plan s.left u.left s.current s.next u.next s.count C N l (ahead_from s.left due) a.ahead (link.left due) knows in
     let here : Ready plan u.left u.current u.next u.count C M l =
     subst (λ (x : Configuration). Ready plan u.left x u.next u.count C M l) (sym (link.current due)) (subst (λ (k : ℕ). Ready plan u.left s.current u.next k C M l) (sym link.count) there) in
-    elim (zero_or_not (u.count % count_step plan.mode)) [
+    elim (zero_or_not (u.count % count_step (layout_mode plan.layout))) [
       | inl whole ↦ as_headed plan u C M l (Some (ensemble_of plan u)) (is_sent plan u whole) (headed_ready plan u C M l a (omega (arith, c.program.planned.notice_to)) here)
       | inr apart ↦ as_headed plan u C M l None (not_sent plan u apart) (unheaded_ready plan u C M l apart here)
     ]
@@ -176,19 +177,19 @@ enters_swap p ts c s h C N l due knows =
     let link = links p ts c s h in
     let is = due_left s.left due in
     let pending : KnowsPending plan 0 s.current s.next s.count C N l = subst (λ (o : Option ℕ). KnowsBy plan o s.current s.next s.count C N l) is knows in
-    let step : (s.count + 0) % count_step plan.mode ≡ 0 = subst (λ (o : Option ℕ). SwapsOn plan s.count o) is h.tracked.swaps in
+    let step : (s.count + 0) % count_step (layout_mode plan.layout) ≡ 0 = subst (λ (o : Option ℕ). SwapsOn plan s.count o) is h.tracked.swaps in
     let none : u.count ≡ s.count + 0 = link.count ∙ (let same : s.count ≡ s.count + 0 = omega arith in same) in
-    let whole : u.count % count_step plan.mode ≡ 0 = ap (λ (k : ℕ). k % count_step plan.mode) none ∙ step in
+    let whole : u.count % count_step (layout_mode plan.layout) ≡ 0 = ap (λ (k : ℕ). k % count_step (layout_mode plan.layout)) none ∙ step in
     let current : u.current ≡ s.next = current_shown p ts c s h ∙ due_current s due in
     as_headed plan u N (λ x. ⊥) l (Some (ensemble_of plan u)) (is_sent plan u whole)
     (headed_swap plan u s.current s.next s.count C N l a (omega (arith, c.program.planned.notice_from)) h.tracked.count link.count current pending)
 
 -- the first FIG 0/0 that is heard
-pub enters_untuned : (p : Program) (ts : List Known) → IsCode p ts → (s : State) → Holds p ts s → s.count % count_step p.plan.mode ≡ 0
+pub enters_untuned : (p : Program) (ts : List Known) → IsCode p ts → (s : State) → Holds p ts s → s.count % count_step (layout_mode p.plan.layout) ≡ 0
     → InFrame p.plan (shown p s) (λ x. ⊥) (λ x. ⊥) (headed (ensemble_sent p.plan (shown p s)) untuned)
 enters_untuned p ts c s h whole =
     let u : State = shown p s in
     let plan : Plan = p.plan in
     let link = links p ts c s h in
-    let here : u.count % count_step plan.mode ≡ 0 = ap (λ (k : ℕ). k % count_step plan.mode) link.count ∙ whole in
+    let here : u.count % count_step (layout_mode plan.layout) ≡ 0 = ap (λ (k : ℕ). k % count_step (layout_mode plan.layout)) link.count ∙ whole in
     as_headed plan u (λ x. ⊥) (λ x. ⊥) untuned (Some (ensemble_of plan u)) (is_sent plan u here) (headed_untuned plan u (airs p ts c s h))

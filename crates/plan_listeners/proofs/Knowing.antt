@@ -2,6 +2,7 @@
 use Rattle.std.specs.Prelude.{◌||◌, ◌-◌}
 use Rattle.std.proofs.Common.{◌≡◌, ◌≢◌, ℕ, ◌+◌, ◌%◌, ◌<◌, ◌≤◌, ◌==◌, Bool, true, false, cond, Option, Some, None, is_some, inl, inr, refl, ap, sym, ◌∙◌, subst, arith}
 use Rattle.std.proofs.lemmas.Bool.{eq-eqb, ne_eqb}
+use Rattle.fib_codec.specs.Layouts.{layout_mode}
 use Rattle.mux_config.specs.Configuration.{Configuration}
 use Rattle.mux_entries.specs.Entries.{EnsembleInformation}
 use Rattle.fib_codec.specs.declared.modes.Mode.{Mode}
@@ -23,7 +24,7 @@ use Rattle.plan_listeners.proofs.Tuned.{NextBy, Tuned, tuned_weaker}
 
 -- with k frames left until the swap: the low part of its count is awaited, or the notice has sent no FIG 0/0 so far
 abbrev pub Waits : Plan → ℕ → ℕ → Option ℕ → Type 0
-Waits plan k count None = plan.notice - k ≤ (count + (count_step plan.mode - 1)) % count_step plan.mode
+Waits plan k count None = plan.notice - k ≤ (count + (count_step (layout_mode plan.layout) - 1)) % count_step (layout_mode plan.layout)
 Waits plan k count (Some low) = low ≡ (count + k) % 5000 % 250
 
 -- before a frame
@@ -60,7 +61,7 @@ pub record InFrame (plan : Plan) (u : State) (C N : Raw → Type 0) (l : Listeni
   pub awaited : Option ℕ
   pub knows : Tuned (is_noticed plan.notice u.left) u.current u.next C N awaited l
   pub waits : WaitsBy plan u.left u.count awaited
-  pub headless : is_noticed plan.notice u.left ≡ true → awaited ≡ None → u.count % count_step plan.mode ≢ 0
+  pub headless : is_noticed plan.notice u.left ≡ true → awaited ≡ None → u.count % count_step (layout_mode plan.layout) ≢ 0
 
 -- ---- from before the frame to the state that its bytes are made from
 
@@ -256,7 +257,7 @@ headed_ready plan u C N l airs short h =
     subst (λ (x : Listening). InFrame plan u C N x) (sym (heard_plain e l made))
     (settled plan u airs C N l.current l.next l.awaited h.knows.current h.knows.next (λ off. h.knows.awaits ∙ none_awaited plan u.left u.count h.awaited airs.ahead off h.waits))
 
-pub unheaded_ready : (plan : Plan) (u : State) (C N : Raw → Type 0) (l : Listening) → u.count % count_step plan.mode ≢ 0 → Ready plan u.left u.current u.next u.count C N l → InFrame plan u C N l
+pub unheaded_ready : (plan : Plan) (u : State) (C N : Raw → Type 0) (l : Listening) → u.count % count_step (layout_mode plan.layout) ≢ 0 → Ready plan u.left u.current u.next u.count C N l → InFrame plan u C N l
 unheaded_ready plan u C N l apart h = record { awaited = h.awaited; knows = h.knows; waits = h.waits; headless = λ on none. apart }
 
 -- ---- the swap
@@ -275,7 +276,7 @@ or_last true b e = refl
 or_last false b e = e
 
 made_by : (plan : Plan) (u : State) (count : ℕ) (a : Option ℕ) → 12 ≤ plan.notice → count < 5000 → u.count ≡ count → Waits plan 0 count a → is_made a (ensemble_of plan u) ≡ true
-made_by plan u count None long below same w = absurd (long_notice plan.mode plan.notice count long w)
+made_by plan u count None long below same w = absurd (long_notice (layout_mode plan.layout) plan.notice count long w)
 made_by plan u count (Some low) long below same w =
     let e : EnsembleInformation = ensemble_of plan u in
     let count_is : e.count ≡ count = (ensemble_right plan u).count ∙ same in
@@ -313,15 +314,15 @@ waits_on IV notice k count some within apart h = omega (arith, some, within, apa
 waits_low_on : (count low k : ℕ) → 1 ≤ k → low ≡ (count + k) % 5000 % 250 → low ≡ ((count + 1) % 5000 + (k - 1)) % 5000 % 250
 waits_low_on count low k some is = omega (arith, some, is)
 
-waits_later : (plan : Plan) (k count : ℕ) (a : Option ℕ) → 1 ≤ k → k ≤ plan.notice → (a ≡ None → count % count_step plan.mode ≢ 0) → Waits plan k count a → Waits plan (k - 1) ((count + 1) % 5000) a
-waits_later plan k count None some within headless w = waits_on plan.mode plan.notice k count some within (headless refl) w
+waits_later : (plan : Plan) (k count : ℕ) (a : Option ℕ) → 1 ≤ k → k ≤ plan.notice → (a ≡ None → count % count_step (layout_mode plan.layout) ≢ 0) → Waits plan k count a → Waits plan (k - 1) ((count + 1) % 5000) a
+waits_later plan k count None some within headless w = waits_on (layout_mode plan.layout) plan.notice k count some within (headless refl) w
 waits_later plan k count (Some low) some within headless w = waits_low_on count low k some w
 
 as_awaited : (noticed : Bool) (c n : Configuration) (C N : Raw → Type 0) (a b : Option ℕ) (l : Listening) → a ≡ b → Tuned noticed c n C N a l → Tuned noticed c n C N b l
 as_awaited noticed c n C N a b l e h = subst (λ (o : Option ℕ). Tuned noticed c n C N o l) e h
 
 after_by : (plan : Plan) (left : Option ℕ) (c n : Configuration) (count : ℕ) (C N : Raw → Type 0) (a : Option ℕ) (l : Listening) → IsAhead left → Tuned (is_noticed plan.notice left) c n C N a l → WaitsBy plan left count a
-    → (is_noticed plan.notice left ≡ true → a ≡ None → count % count_step plan.mode ≢ 0) → KnowsBy plan (left_after_frame left) c n ((count + 1) % 5000) C N l
+    → (is_noticed plan.notice left ≡ true → a ≡ None → count % count_step (layout_mode plan.layout) ≢ 0) → KnowsBy plan (left_after_frame left) c n ((count + 1) % 5000) C N l
 after_by plan None c n count C N a l ahead h w headless = as_awaited false c n C N a None l w h
 after_by plan (Some k) c n count C N a l ahead h w headless = record {
   outside = λ late.

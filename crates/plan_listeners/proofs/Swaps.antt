@@ -101,7 +101,7 @@ OfNotice plan s x = SomeSaid (heard_of plan s) true x
 
 pub record HearsNotice (p : Program) (s : State) (events : List Event) (l : Listening) : Type 0 where
   pub after : Listening
-  pub hears : HearsAll (fibs_of p.plan.mode (run_frames p s events)) l after
+  pub hears : HearsAll (fibs_of p.plan.layout (run_frames p s events)) l after
   pub knows : KnowsAt p.plan (run p s events) Nothing (SomeSaid (heard_of p.plan (run p s events)) true) after
 
 left_on : (plan : Plan) (count k : ℕ) (before left : Option ℕ) (n m : Configuration) → before ≡ Some k → LeftBy plan count before n left m → left ≡ Some k
@@ -186,7 +186,7 @@ notice_whole laws p ts code s h due e inside =
 
 pub record HearsAfter (p : Program) (s : State) (c : Configuration) (k : ℕ) (events : List Event) (C : Raw → Type 0) (l : Listening) : Type 0 where
   pub after : Listening
-  pub hears : HearsAll (take k (fibs_of p.plan.mode (run_frames p s events))) l after
+  pub hears : HearsAll (take k (fibs_of p.plan.layout (run_frames p s events))) l after
   pub current : IsPartial (whole_of c) C after.current
 
 take_none : (k : ℕ) (fibs : List (List ℕ)) → fibs ≡ [] → take k fibs ≡ []
@@ -204,14 +204,14 @@ frame_take laws p ts code s es h c same C N j l entered later =
     let plan : Plan = p.plan in
     let a = airs p ts code s h in
     let here : List (List ℕ) = fibs_in plan u in
-    let more : List (List ℕ) = fibs_of plan.mode (run_frames p (after_frame p s) es) in
-    let cut : fibs_of plan.mode (frame_bytes p s ∷ run_frames p (after_frame p s) es) ≡ here ++ more = fibs_more plan.mode (frame_bytes p s) (run_frames p (after_frame p s) es) in
+    let more : List (List ℕ) = fibs_of plan.layout (run_frames p (after_frame p s) es) in
+    let cut : fibs_of plan.layout (frame_bytes p s ∷ run_frames p (after_frame p s) es) ≡ here ++ more = fibs_more plan.layout (frame_bytes p s) (run_frames p (after_frame p s) es) in
     elim (split_le (suc j) (length here)) [
       | inl within ↦
           let some = some_heard laws plan u a C N j l entered in
           record {
             after = some.after;
-            hears = as_fibs (take (suc j) (fibs_of plan.mode (frame_bytes p s ∷ run_frames p (after_frame p s) es))) (take (suc j) here) l some.after
+            hears = as_fibs (take (suc j) (fibs_of plan.layout (frame_bytes p s ∷ run_frames p (after_frame p s) es))) (take (suc j) here) l some.after
                 (ap (take (suc j)) cut ∙ take-append-le (suc j) here more within) some.hears;
             current = subst (λ (x : Configuration). IsPartial (whole_of x) C some.after.current) same some.current;
           }
@@ -225,7 +225,7 @@ frame_take laws p ts code s es h c same C N j l entered later =
           let rest = later d heard.after next in
           record {
             after = rest.after;
-            hears = as_fibs (take (suc j) (fibs_of plan.mode (frame_bytes p s ∷ run_frames p (after_frame p s) es))) (here ++ take d more) l rest.after
+            hears = as_fibs (take (suc j) (fibs_of plan.layout (frame_bytes p s ∷ run_frames p (after_frame p s) es))) (here ++ take d more) l rest.after
                 (ap (take (suc j)) cut ∙ ap (λ (n : ℕ). take n (here ++ more)) count ∙ take-append-add here more d)
                 (hears_join here (take d more) l heard.after rest.after heard.hears rest.hears);
             current = weaker (whole_of c) D C rest.after.current (λ x y. inl y) rest.current;
@@ -269,7 +269,7 @@ after_swap laws p ts code s (Frame ∷ es) h is C N j l knows =
 
 record IsFollowed (p : Program) (s : State) (after : List Event) (fibs : ℕ) (l : Listening) : Type 0 where
   heard : Listening
-  hears : HearsAll (take fibs (fibs_of p.plan.mode (run_frames p s after))) l heard
+  hears : HearsAll (take fibs (fibs_of p.plan.layout (run_frames p s after))) l heard
   shows : Shows heard.current s.next
 
 followed : Laws → (p : Program) (ts : List Known) → IsCode p ts → (s : State) → Holds p ts s → is_due s.left ≡ true → (after : List Event) → IsUntilNextSwap p s after → (fibs : ℕ) → 1 ≤ fibs → (l : Listening)
@@ -293,11 +293,11 @@ knows_the_new one_list laws p s h waiting notice after fibs heard tuned is until
     let knows : KnowsAt p.plan s2 Nothing (SomeSaid (heard_of p.plan s2) true) v.after = subst (λ (x : State). KnowsAt p.plan x Nothing (SomeSaid (heard_of p.plan x) true) v.after) (sym joins) v.knows in
     let due : is_due s2.left ≡ true = ap (λ (x : State). is_due x.left) joins ∙ due_after p t notice is in
     let last = followed laws p ts code s2 (run_holds p ts code s (waiting ++ notice) here) due after until fibs some v.after knows in
-    let before : List (List ℕ) = fibs_of p.plan.mode (run_frames p s (waiting ++ notice)) in
-    let rest : List (List ℕ) = take fibs (fibs_of p.plan.mode (run_frames p s2 after)) in
+    let before : List (List ℕ) = fibs_of p.plan.layout (run_frames p s (waiting ++ notice)) in
+    let rest : List (List ℕ) = take fibs (fibs_of p.plan.layout (run_frames p s2 after)) in
     let first : HearsAll before untuned v.after =
-    as_fibs before (fibs_of p.plan.mode (run_frames p s waiting) ++ fibs_of p.plan.mode (run_frames p t notice)) untuned v.after (fibs_join p s waiting notice)
-    (hears_join (fibs_of p.plan.mode (run_frames p s waiting)) (fibs_of p.plan.mode (run_frames p t notice)) untuned w.after v.after w.hears v.hears) in
+    as_fibs before (fibs_of p.plan.layout (run_frames p s waiting) ++ fibs_of p.plan.layout (run_frames p t notice)) untuned v.after (fibs_join p s waiting notice)
+    (hears_join (fibs_of p.plan.layout (run_frames p s waiting)) (fibs_of p.plan.layout (run_frames p t notice)) untuned w.after v.after w.hears v.hears) in
     let mine : HearsAll (before ++ rest) untuned last.heard = hears_join before rest untuned v.after last.heard first last.hears in
     let same : last.heard ≡ heard = hears_same one_list (before ++ rest) untuned last.heard heard mine all in
     subst (λ (l : Listening). Shows l.current s2.next) same last.shows

@@ -1,6 +1,7 @@
 -- Small examples: a listener hearing one FIB, and statements that hold for one run and fail for another.
 use Rattle.std.specs.Prelude.{take, map, ◌++◌}
 use Rattle.std.proofs.Common.{◌≡◌, ℕ, true, false, List, [], ◌∷◌, Option, Some, None, inr, refl, ap, replicate, arith}
+use Rattle.fib_codec.specs.declared.frame_layout.FrameLayout.TheVariants.{Whole}
 use Rattle.mux_eep.specs.declared.sizes.EepSet.TheVariants.{A}
 use Rattle.mux_types.specs.declared.parts.Sub.{Sub}
 use Rattle.mux_config.specs.Configuration.{Configuration}
@@ -56,19 +57,19 @@ its_page = record {
 }
 
 abbrev page : List ℕ
-page = page_bytes II (Some information) 0 (facts_of one_sub false)
+page = page_bytes (Whole II) (Some information) 0 (facts_of one_sub false)
 
 abbrev knows : Listening
 knows = record { tuned = true; current = whole_of one_sub; next = blank; awaited = None }
 
-first_fib_heard : HearsAll (take 1 (fibs_of II (page ∷ []))) untuned knows
+first_fib_heard : HearsAll (take 1 (fibs_of (Whole II) (page ∷ []))) untuned knows
 first_fib_heard =
-    let valid = (pages_are_valid II (Some information) 0 (facts_of one_sub false) its_page).0.0 in
+    let valid = (pages_are_valid (Whole II) (Some information) 0 (facts_of one_sub false) its_page).0.0 in
     (knows, (map fig_of (ensemble_figs (Some information) ++ figs_of (facts_of one_sub false)), valid.fib, refl), refl)
 
-not_unheard : OneList → HearsAll (take 1 (fibs_of II (page ∷ []))) untuned untuned → ⊥
+not_unheard : OneList → HearsAll (take 1 (fibs_of (Whole II) (page ∷ []))) untuned untuned → ⊥
 not_unheard law h =
-    let same : knows ≡ untuned = hears_same law (take 1 (fibs_of II (page ∷ []))) untuned knows untuned first_fib_heard h in
+    let same : knows ≡ untuned = hears_same law (take 1 (fibs_of (Whole II) (page ∷ []))) untuned knows untuned first_fib_heard h in
     let flags : true ≡ false = ap (λ (l : Listening). l.tuned) same in
     absurd cc
 
@@ -76,7 +77,7 @@ not_unheard law h =
 
 abbrev code : ℕ → Program
 code period = record {
-  plan = record { eid = 0xe1c5; mode = II; period = period; notice = 12; budget = 20 };
+  plan = record { eid = 0xe1c5; layout = Whole II; period = period; notice = 12; budget = 20 };
   configurations = [];
   labels = [];
   lines = [];

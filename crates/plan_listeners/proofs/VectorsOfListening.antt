@@ -2,6 +2,7 @@
 use Rattle.std.specs.Prelude.{is_some, get_or}
 use Rattle.std.proofs.Common.{◌≡◌, ℕ, zero, suc, ◌+◌, ◌*◌, ◌/◌, ◌%◌, ◌==◌, cond, ◌<◌, Bool, true, false, List, [], ◌∷◌, ◌++◌, length, map, Option, Some, None, inl, inr, refl, sym, ap, ◌∙◌, replicate, arith}
 use Rattle.std.proofs.lemmas.Bool.{false≢true}
+use Rattle.fib_codec.specs.declared.frame_layout.FrameLayout.TheVariants.{Whole}
 use Rattle.mux_entries.specs.Entries.{EnsembleInformation}
 use Rattle.mux_entries.specs.Facts.{marked, facts_of, sub_entry}
 use Rattle.fib_codec.specs.Ranges.{IsEnsembleInformation}
@@ -60,7 +61,7 @@ abbrev with_sub : ℕ → Configuration
 with_sub kbits = record { subs = sub kbits ∷ []; services = []; packets = [] }
 
 abbrev plan : Mode → Plan
-plan mode = record { eid = 0xe1c5; mode = mode; period = 1; notice = 12; budget = 20 }
+plan mode = record { eid = 0xe1c5; layout = Whole mode; period = 1; notice = 12; budget = 20 }
 
 abbrev no_counters : Counters
 no_counters = record { 0 = 0 }
@@ -287,7 +288,7 @@ current_sendable = record {
 }
 
 abbrev page : List ℕ
-page = page_bytes II (Some (unflagged 7)) 0 (facts_of (with_sub 128) false)
+page = page_bytes (Whole II) (Some (unflagged 7)) 0 (facts_of (with_sub 128) false)
 
 page_is : IsPageable (Some (unflagged 7)) (facts_of (with_sub 128) false)
 page_is = record { entries = (current_sendable, tt); ensemble_within = unflagged_is 7 (omega arith) }
@@ -297,7 +298,7 @@ knows = record { tuned = true; current = whole_of (with_sub 128); next = blank; 
 
 hears_the_first : HearsFib (fib_at page 0) untuned knows
 hears_the_first =
-    let valid = (pages_are_valid II (Some (unflagged 7)) 0 (facts_of (with_sub 128) false) page_is).0.0 in
+    let valid = (pages_are_valid (Whole II) (Some (unflagged 7)) 0 (facts_of (with_sub 128) false) page_is).0.0 in
     (map fig_of (ensemble_figs (Some (unflagged 7)) ++ figs_of (facts_of (with_sub 128) false)), valid.fib, refl)
 
 same_heard : (fib : List ℕ) (old new other : Listening) → HearsFib fib old new → HearsFib fib old other → new ≡ other
@@ -318,7 +319,7 @@ twice = record { subs = sub 96 ∷ sub 96 ∷ []; services = []; packets = [] }
 
 abbrev ended : Program
 ended = record {
-  plan = record { eid = 0xe1c5; mode = II; period = 1; notice = 1; budget = 20 };
+  plan = record { eid = 0xe1c5; layout = Whole II; period = 1; notice = 1; budget = 20 };
   configurations = [];
   labels = [];
   lines = [];
@@ -349,22 +350,22 @@ knows_one = record { tuned = true; current = whole_of (with_sub 96); next = blan
 
 hears_the_notice : HearsFib (fib_at notice_frame 0) untuned knows_both
 hears_the_notice =
-    let valid = (pages_are_valid II (Some (flagged 7 8)) 0 (page_set (with_sub 128) (Some twice)) noticed_is).0.0 in
+    let valid = (pages_are_valid (Whole II) (Some (flagged 7 8)) 0 (page_set (with_sub 128) (Some twice)) noticed_is).0.0 in
     (map fig_of (ensemble_figs (Some (flagged 7 8)) ++ figs_of (page_set (with_sub 128) (Some twice))), valid.fib, refl)
 
 nothing_in_the_second : HearsFib (fib_at notice_frame 1) knows_both knows_both
 nothing_in_the_second =
-    let valid = (pages_are_valid II (Some (flagged 7 8)) 0 (page_set (with_sub 128) (Some twice)) noticed_is).0.1.0 in
+    let valid = (pages_are_valid (Whole II) (Some (flagged 7 8)) 0 (page_set (with_sub 128) (Some twice)) noticed_is).0.1.0 in
     ([], valid.fib, refl)
 
 nothing_in_the_third : HearsFib (fib_at notice_frame 2) knows_both knows_both
 nothing_in_the_third =
-    let valid = (pages_are_valid II (Some (flagged 7 8)) 0 (page_set (with_sub 128) (Some twice)) noticed_is).0.1.1.0 in
+    let valid = (pages_are_valid (Whole II) (Some (flagged 7 8)) 0 (page_set (with_sub 128) (Some twice)) noticed_is).0.1.1.0 in
     ([], valid.fib, refl)
 
 hears_the_swap : HearsFib (fib_at swap_frame 0) knows_both knows_one
 hears_the_swap =
-    let valid = (pages_are_valid II (Some (unflagged 8)) 0 (page_set twice None) swapped_is).0.0 in
+    let valid = (pages_are_valid (Whole II) (Some (unflagged 8)) 0 (page_set twice None) swapped_is).0.0 in
     (map fig_of (ensemble_figs (Some (unflagged 8)) ++ figs_of (page_set twice None)), valid.fib, refl)
 
 shows_one_of_two : Shows knows_one.current twice → ⊥

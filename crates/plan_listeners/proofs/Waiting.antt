@@ -1,9 +1,10 @@
 -- A listener hearing the frames of a run: it always has room, and it is tuned after the first FIG 0/0.
 use Rattle.std.proofs.Common.{◌≡◌, ◌≢◌, ℕ, ◌%◌, Bool, true, false, List, [], ◌∷◌, ◌++◌, Option, Some, None, inl, inr, ◌⊎◌, refl, ap, sym, ◌∙◌, subst}
 use Rattle.std.proofs.lemmas.List.Concat.{flat_map-cons}
+use Rattle.fib_codec.specs.Layouts.{layout_mode, frame_fibs}
+use Rattle.fib_codec.specs.declared.frame_layout.FrameLayout.{FrameLayout}
 use Rattle.mux_config.specs.Configuration.{Configuration}
-use Rattle.fib_codec.specs.declared.modes.Mode.{Mode}
-use Rattle.fib_codec.specs.Modes.{fib_count, count_step}
+use Rattle.fib_codec.specs.Modes.{count_step}
 use Rattle.fib_reader.specs.Raw.{Raw}
 use Rattle.fib_reader.specs.Listening.{Listening, untuned}
 use Rattle.plan_code.specs.declared.plan.Plan.{Plan}
@@ -60,14 +61,14 @@ pub hears_join : (xs ys : List (List ℕ)) (a b c : Listening) → HearsAll xs a
 hears_join [] ys a b c h g = subst (λ (x : Listening). HearsAll ys x c) h g
 hears_join (x ∷ xs) ys a b c (m, one, rest) g = (m, one, hears_join xs ys m b c rest g)
 
-pub fibs_more : (mode : Mode) (frame : List ℕ) (frames : List (List ℕ)) → fibs_of mode (frame ∷ frames) ≡ fibs_from (fib_count mode) 0 frame ++ fibs_of mode frames
-fibs_more mode frame frames = flat_map-cons (fibs_from (fib_count mode) 0) frame frames
+pub fibs_more : (layout : FrameLayout) (frame : List ℕ) (frames : List (List ℕ)) → fibs_of layout (frame ∷ frames) ≡ fibs_from (frame_fibs layout) 0 frame ++ fibs_of layout frames
+fibs_more layout frame frames = flat_map-cons (fibs_from (frame_fibs layout) 0) frame frames
 
-pub frame_then : (p : Program) (s : State) (frames : List (List ℕ)) (l m after : Listening) → HearsAll (fibs_in p.plan (shown p s)) l m → HearsAll (fibs_of p.plan.mode frames) m after
-    → HearsAll (fibs_of p.plan.mode (frame_bytes p s ∷ frames)) l after
+pub frame_then : (p : Program) (s : State) (frames : List (List ℕ)) (l m after : Listening) → HearsAll (fibs_in p.plan (shown p s)) l m → HearsAll (fibs_of p.plan.layout frames) m after
+    → HearsAll (fibs_of p.plan.layout (frame_bytes p s ∷ frames)) l after
 frame_then p s frames l m after h g =
-    as_fibs (fibs_of p.plan.mode (frame_bytes p s ∷ frames)) (fibs_in p.plan (shown p s) ++ fibs_of p.plan.mode frames) l after (fibs_more p.plan.mode (frame_bytes p s) frames)
-    (hears_join (fibs_in p.plan (shown p s)) (fibs_of p.plan.mode frames) l m after h g)
+    as_fibs (fibs_of p.plan.layout (frame_bytes p s ∷ frames)) (fibs_in p.plan (shown p s) ++ fibs_of p.plan.layout frames) l after (fibs_more p.plan.layout (frame_bytes p s) frames)
+    (hears_join (fibs_in p.plan (shown p s)) (fibs_of p.plan.layout frames) l m after h g)
 
 -- ---- a tuned listener
 
@@ -84,7 +85,7 @@ enters_known p ts c s h l knows = by (is_due s.left) refl
 
 pub record HearsRun (p : Program) (s : State) (events : List Event) (l : Listening) : Type 0 where
   pub after : Listening
-  pub hears : HearsAll (fibs_of p.plan.mode (run_frames p s events)) l after
+  pub hears : HearsAll (fibs_of p.plan.layout (run_frames p s events)) l after
   pub knows : KnowsAt p.plan (run p s events) Nothing Nothing after
 
 record HearsOne (p : Program) (s : State) (l : Listening) : Type 0 where
@@ -122,7 +123,7 @@ known_runs laws p ts c s (Frame ∷ es) h l knows =
 
 pub record HearsWaiting (p : Program) (s : State) (events : List Event) : Type 0 where
   pub after : Listening
-  pub hears : HearsAll (fibs_of p.plan.mode (run_frames p s events)) untuned after
+  pub hears : HearsAll (fibs_of p.plan.layout (run_frames p s events)) untuned after
   pub either : (after ≡ untuned) ⊎ KnowsAt p.plan (run p s events) Nothing Nothing after
   pub tuned : HasCount p s events → KnowsAt p.plan (run p s events) Nothing Nothing after
 
@@ -132,7 +133,7 @@ waits_run laws p ts c s (Contact k closed ∷ es) h =
     let rest = waits_run laws p ts c (happens p s (Contact k closed)) es (happens_holds p ts c s (Contact k closed) h) in
     record { after = rest.after; hears = rest.hears; either = rest.either; tuned = rest.tuned }
 waits_run laws p ts c s (Frame ∷ es) h =
-    elim (zero_or_not (s.count % count_step p.plan.mode)) [
+    elim (zero_or_not (s.count % count_step (layout_mode p.plan.layout))) [
       | inl whole ↦
           let one = hears_one laws p ts c s h untuned (enters_untuned p ts c s h whole) in
           let rest = known_runs laws p ts c (after_frame p s) es (frame_holds p ts c s h) one.after one.knows in
@@ -145,7 +146,7 @@ waits_run laws p ts c s (Frame ∷ es) h =
       | inr apart ↦
           let u : State = shown p s in
           let link = links p ts c s h in
-          let here : u.count % count_step p.plan.mode ≢ 0 = λ e. apart (ap (λ (k : ℕ). k % count_step p.plan.mode) (sym link.count) ∙ e) in
+          let here : u.count % count_step (layout_mode p.plan.layout) ≢ 0 = λ e. apart (ap (λ (k : ℕ). k % count_step (layout_mode p.plan.layout)) (sym link.count) ∙ e) in
           let rest = waits_run laws p ts c (after_frame p s) es (frame_holds p ts c s h) in
           record {
             after = rest.after;
@@ -159,7 +160,7 @@ waits_run laws p ts c s (Frame ∷ es) h =
 
 -- it is tuned, or FIG 0/0 of the next frame will tune it
 abbrev pub IsTuning : Plan → State → Listening → Type 0
-IsTuning plan s l = KnowsAt plan s Nothing Nothing l ⊎ ((l ≡ untuned) × (s.count % count_step plan.mode ≡ 0))
+IsTuning plan s l = KnowsAt plan s Nothing Nothing l ⊎ ((l ≡ untuned) × (s.count % count_step (layout_mode plan.layout) ≡ 0))
 
 pub enters_tuning : (p : Program) (ts : List Known) → IsCode p ts → (s : State) → Holds p ts s → (l : Listening) → IsTuning p.plan s l
     → InFrame p.plan (shown p s) Nothing Nothing (headed (ensemble_sent p.plan (shown p s)) l)

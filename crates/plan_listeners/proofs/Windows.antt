@@ -2,10 +2,11 @@
 use Rattle.std.specs.Prelude.{◌||◌}
 use Rattle.std.proofs.Common.{◌≡◌, ℕ, zero, suc, ◌%◌, ◌≤◌, Bool, true, false, cond, List, [], ◌∷◌, ◌++◌, length, inl, inr, ◌⊎◌, refl, ap, sym, ◌∙◌, subst, arith}
 use Rattle.std.proofs.lemmas.Grind.{flat_map-append}
+use Rattle.fib_codec.specs.Layouts.{layout_mode, frame_fibs}
 use Rattle.mux_config.specs.Configuration.{Configuration}
 use Rattle.mux_entries.specs.Facts.{marked, facts_of}
 use Rattle.mux_entries.specs.declared.entry.Entry.{Entry}
-use Rattle.fib_codec.specs.Modes.{fib_count, count_step}
+use Rattle.fib_codec.specs.Modes.{count_step}
 use Rattle.fib_codec.specs.Heard.{IsHeardInRow}
 use Rattle.fib_codec.specs.Grammar.{OneList}
 use Rattle.fib_reader.specs.Raw.{Raw, raw_entry}
@@ -61,7 +62,7 @@ or_parts false b e = (refl, e)
 
 pub record HearsWindow (p : Program) (s : State) (c : Configuration) (events : List Event) (C : Raw → Type 0) (l : Listening) : Type 0 where
   pub after : Listening
-  pub hears : HearsAll (fibs_of p.plan.mode (run_frames p s events)) l after
+  pub hears : HearsAll (fibs_of p.plan.layout (run_frames p s events)) l after
   pub current : IsPartial (whole_of c) (Or C (SomeSaid (run_frames p s events) false)) after.current
 
 window_on : Laws → (p : Program) (ts : List Known) → IsCode p ts → (s : State) (es : List Event) → Holds p ts s → BeginsNoPhase p s es → (c : Configuration) → s.current ≡ c → (C N : Raw → Type 0) (l : Listening)
@@ -131,12 +132,12 @@ frames_join p s (Contact c closed ∷ es) more = frames_join p (happens p s (Con
 frames_join p s (Frame ∷ es) more = ap (λ fs. frame_bytes p s ∷ fs) (frames_join p (after_frame p s) es more)
 
 pub fibs_join : (p : Program) (s : State) (events more : List Event)
-    → fibs_of p.plan.mode (run_frames p s (events ++ more)) ≡ fibs_of p.plan.mode (run_frames p s events) ++ fibs_of p.plan.mode (run_frames p (run p s events) more)
+    → fibs_of p.plan.layout (run_frames p s (events ++ more)) ≡ fibs_of p.plan.layout (run_frames p s events) ++ fibs_of p.plan.layout (run_frames p (run p s events) more)
 fibs_join p s events more =
-    ap (fibs_of p.plan.mode) (frames_join p s events more)
-    ∙ flat_map-append (fibs_from (fib_count p.plan.mode) 0) (run_frames p s events) (run_frames p (run p s events) more)
+    ap (fibs_of p.plan.layout) (frames_join p s events more)
+    ∙ flat_map-append (fibs_from (frame_fibs p.plan.layout) 0) (run_frames p s events) (run_frames p (run p s events) more)
 
-tuning_by : (plan : Plan) (s : State) (l : Listening) → (l ≡ untuned) ⊎ KnowsAt plan s Nothing Nothing l → s.count % count_step plan.mode ≡ 0 → IsTuning plan s l
+tuning_by : (plan : Plan) (s : State) (l : Listening) → (l ≡ untuned) ⊎ KnowsAt plan s Nothing Nothing l → s.count % count_step (layout_mode plan.layout) ≡ 0 → IsTuning plan s l
 tuning_by plan s l (inl new) whole = inr (new, whole)
 tuning_by plan s l (inr knows) whole = inl knows
 
@@ -162,10 +163,10 @@ knows_the_current one_list laws p s h waiting window heard tuned phase long all 
     let w = waits_run laws p ts code s waiting here in
     let some : 1 ≤ length (run_frames p t window) = omega (arith, long, h.program.planned.period_from) in
     let v = window_from laws p ts code t window (run_holds p ts code s waiting here) phase some w.after (tuning p s waiting w tuned) in
-    let mine : HearsAll (fibs_of p.plan.mode (run_frames p s (waiting ++ window))) untuned v.after =
-    as_fibs (fibs_of p.plan.mode (run_frames p s (waiting ++ window))) (fibs_of p.plan.mode (run_frames p s waiting) ++ fibs_of p.plan.mode (run_frames p t window)) untuned v.after (fibs_join p s waiting window)
-    (hears_join (fibs_of p.plan.mode (run_frames p s waiting)) (fibs_of p.plan.mode (run_frames p t window)) untuned w.after v.after w.hears v.hears) in
-    let same : v.after ≡ heard = hears_same one_list (fibs_of p.plan.mode (run_frames p s (waiting ++ window))) untuned v.after heard mine all in
+    let mine : HearsAll (fibs_of p.plan.layout (run_frames p s (waiting ++ window))) untuned v.after =
+    as_fibs (fibs_of p.plan.layout (run_frames p s (waiting ++ window))) (fibs_of p.plan.layout (run_frames p s waiting) ++ fibs_of p.plan.layout (run_frames p t window)) untuned v.after (fibs_join p s waiting window)
+    (hears_join (fibs_of p.plan.layout (run_frames p s waiting)) (fibs_of p.plan.layout (run_frames p t window)) untuned w.after v.after w.hears v.hears) in
+    let same : v.after ≡ heard = hears_same one_list (fibs_of p.plan.layout (run_frames p s (waiting ++ window))) untuned v.after heard mine all in
     let c : Configuration = (with_due_swap t).current in
     let whole = periods_are_whole laws.pages p s h waiting window phase long in
     let frames : List (List ℕ) = run_frames p t window in

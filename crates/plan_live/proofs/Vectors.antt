@@ -3,6 +3,7 @@ use Rattle.std.specs.Prelude.{codes, replicate}
 use Rattle.std.proofs.Common.{◌≡◌, ℕ, List, [], ◌∷◌, length, Result, Ok, Err, Some, None, true, false, refl, sym, ap, arith, inl, inr}
 use Rattle.std.proofs.lemmas.Fmt.{decimal_digit}
 use Rattle.std.proofs.lemmas.List.{length-replicate}
+use Rattle.fib_codec.specs.declared.frame_layout.FrameLayout.TheVariants.{Whole}
 use Rattle.script_tokens.specs.declared.fault.ScriptFault.{ScriptFault}
 use Rattle.script_tokens.specs.declared.fault.ScriptFault.TheVariants.{Byte as ByteAt}
 use Rattle.script_tokens.specs.declared.token.Token.{Token}
@@ -41,7 +42,7 @@ use Rattle.plan_live.specs.Lines.{LineHolds, HoldsNone, IsLineFault, LineDoes, L
 -- ---- values shared by these vectors: a code of an empty multiplex that waits for a frame and ends
 
 abbrev pub plan : Plan
-plan = record { eid = 0xe1c5; mode = I; period = 4; notice = 24; budget = 20 }
+plan = record { eid = 0xe1c5; layout = Whole I; period = 4; notice = 24; budget = 20 }
 
 abbrev no_counters : Counters
 no_counters = record { 0 = 0 }

@@ -4,18 +4,20 @@ use Rattle.std.specs.List.{concat}
 use Rattle.std.proofs.lemmas.Bool.{ne_eqb}
 use Rattle.std.proofs.lemmas.List.{append-nil, take_at, drop_at}
 use Rattle.std.proofs.Math.Nat.{suc-mul}
+use Rattle.fib_codec.specs.Layouts.{layout_mode, frame_fibs}
+use Rattle.fib_codec.specs.declared.frame_layout.FrameLayout.{FrameLayout}
 use Rattle.mux_entries.specs.Entries.{EnsembleInformation}
 use Rattle.mux_entries.specs.Facts.{Marked, marked}
 use Rattle.mux_entries.specs.declared.entry.Entry.TheVariants.{Ensemble as EnsembleOf}
 use Rattle.mux_entries.specs.declared.limits.TheConstants.{COUNTS}
-use Rattle.fib_codec.specs.Modes.{fib_count, count_step}
+use Rattle.fib_codec.specs.Modes.{count_step}
 use Rattle.fib_codec.specs.Spelling.{Written, occurrence_bytes, entries_bytes, figs_bytes, fib_bytes, filled, checked, head_of, head_byte}
 use Rattle.fib_codec.specs.declared.modes.Mode.{Mode}
 use Rattle.fib_codec.specs.declared.modes.Mode.TheVariants.{I, II, III, IV}
 use Rattle.fib_codec.proofs.Finished.{length-filled}
 use Rattle.fib_codec.proofs.U16.{checked_len}
 use Rattle.fib_carousel.specs.Pages.{fib_entries, first_fib, later_fibs}
-use Rattle.fib_carousel.specs.Bytes.{figs_of, ensemble_figs, page_bytes}
+use Rattle.fib_carousel.specs.Bytes.{reserved_figs, figs_of, ensemble_figs, page_bytes}
 use Rattle.fib_carousel.specs.Carried.{IsPageable}
 use Rattle.fib_carousel.proofs.Hearing.{page_fits, pages_are_valid}
 use Rattle.plan_code.specs.declared.plan.Plan.{Plan}
@@ -65,17 +67,17 @@ headed_filled h c figs =
     ((occurrence_bytes h.swap ++ []) ++ figs_bytes figs)
 
 -- the first FIB of a page gets another count
-pub page_recounted : (mode : Mode) (h : Header) (c later k : ℕ) (ms : List Marked) → IsPageable (Some (ensemble_at h later)) ms
+pub page_recounted : (layout : FrameLayout) (h : Header) (c later k : ℕ) (ms : List Marked) → IsPageable (Some (ensemble_at h later)) ms
     → (before after bytes fib new : List ℕ) (offset high low : ℕ)
-    → bytes ≡ before ++ (page_bytes mode (Some (ensemble_at h c)) k ms ++ after) → length before ≡ offset
+    → bytes ≡ before ++ (page_bytes layout (Some (ensemble_at h c)) k ms ++ after) → length before ≡ offset
     → high ≡ h.change * 64 + later / 250 → low ≡ later % 250
     → fib ≡ take 32 (drop offset bytes)
     → ((p q r u x y : ℕ) (rest : List ℕ) → length rest ≡ 24 → fib ≡ checked (p ∷ q ∷ r ∷ u ∷ x ∷ y ∷ rest) → new ≡ checked (p ∷ q ∷ r ∷ u ∷ high ∷ low ∷ rest))
-    → take offset bytes ++ (new ++ drop 32 (drop offset bytes)) ≡ before ++ (page_bytes mode (Some (ensemble_at h later)) k ms ++ after)
-page_recounted mode h c later k ms pageable before after bytes fib new offset high low is long is_high is_low part step =
-    let figs : List Written = figs_of (fib_entries mode (first_fib mode k) ms) in
-    let others : List ℕ = flat_map fib_bytes (map (λ n. figs_of (fib_entries mode n ms)) (later_fibs mode k)) in
-    let fits = (page_fits mode (Some (ensemble_at h later)) k ms pageable).0 in
+    → take offset bytes ++ (new ++ drop 32 (drop offset bytes)) ≡ before ++ (page_bytes layout (Some (ensemble_at h later)) k ms ++ after)
+page_recounted layout h c later k ms pageable before after bytes fib new offset high low is long is_high is_low part step =
+    let figs : List Written = figs_of (fib_entries layout (first_fib layout k) ms) in
+    let others : List ℕ = flat_map fib_bytes (map (λ n. figs_of (fib_entries layout n ms)) (later_fibs layout k) ++ reserved_figs layout) in
+    let fits = (page_fits layout (Some (ensemble_at h later)) k ms pageable).0 in
     let old_fib : List ℕ = fib_bytes (ensemble_figs (Some (ensemble_at h c)) ++ figs) in
     let new_fib : List ℕ = fib_bytes (ensemble_figs (Some (ensemble_at h later)) ++ figs) in
     let x : ℕ = h.change * 64 + 0 * 32 + c / 250 in
@@ -137,17 +139,17 @@ mixed_all plan n k s t e =
 
 -- ---- frames without FIG 0/0
 
-no_fig : (plan : Plan) (s : State) → (s.count % count_step plan.mode == 0) ≡ false → shown_bytes plan s ≡ page_bytes plan.mode None s.page_index (sent_entries plan s)
-no_fig plan s off = ap (λ (b : Bool). page_bytes plan.mode (cond b (Some (ensemble_of plan s)) None) s.page_index (sent_entries plan s)) off
+no_fig : (plan : Plan) (s : State) → (s.count % count_step (layout_mode plan.layout) == 0) ≡ false → shown_bytes plan s ≡ page_bytes plan.layout None s.page_index (sent_entries plan s)
+no_fig plan s off = ap (λ (b : Bool). page_bytes plan.layout (cond b (Some (ensemble_of plan s)) None) s.page_index (sent_entries plan s)) off
 
-same_frame : (plan : Plan) (header : Header) (s t : State) → IsAlike plan header s t → (t.count % count_step plan.mode == 0) ≡ false → shown_bytes plan s ≡ shown_bytes plan t
+same_frame : (plan : Plan) (header : Header) (s t : State) → IsAlike plan header s t → (t.count % count_step (layout_mode plan.layout) == 0) ≡ false → shown_bytes plan s ≡ shown_bytes plan t
 same_frame plan header s t h off =
     no_fig plan s (h.on_step ∙ off)
-    ∙ ap₂ (λ (k : ℕ) (ms : List Marked). page_bytes plan.mode None k ms) h.page_index h.entries
+    ∙ ap₂ (λ (k : ℕ) (ms : List Marked). page_bytes plan.layout None k ms) h.page_index h.entries
     ∙ sym (no_fig plan t off)
 
 pub passed_over : (plan : Plan) (header : Header) (n k m : ℕ) (s t : State) → AreAlike plan header n s t → k + m ≤ n
-    → ((j : ℕ) → k ≤ j → j < k + m → ((counted_on plan j t).count % count_step plan.mode == 0) ≡ false)
+    → ((j : ℕ) → k ≤ j → j < k + m → ((counted_on plan j t).count % count_step (layout_mode plan.layout) == 0) ≡ false)
     → mixed plan n k s t ≡ mixed plan n (k + m) s t
 passed_over plan header n k zero s t alike fits off =
     let same : k ≡ k + 0 = omega arith in
@@ -164,20 +166,20 @@ passed_over plan header n k (suc m) s t alike fits off =
 
 -- ---- a frame with FIG 0/0
 
-with_fig : (plan : Plan) (header : Header) (s : State) → header_of plan s ≡ header → (s.count % count_step plan.mode == 0) ≡ true → ensemble_sent plan s ≡ Some (ensemble_at header s.count)
+with_fig : (plan : Plan) (header : Header) (s : State) → header_of plan s ≡ header → (s.count % count_step (layout_mode plan.layout) == 0) ≡ true → ensemble_sent plan s ≡ Some (ensemble_at header s.count)
 with_fig plan header s is on =
     ap (λ (b : Bool). cond b (Some (ensemble_of plan s)) None) on
     ∙ ap (λ (e : EnsembleInformation). Some e) (ensemble_is plan s ∙ ap (λ (h : Header). ensemble_at h s.count) is)
 
-frame_long : (plan : Plan) (header : Header) (s t : State) → IsAlike plan header s t → length (shown_bytes plan t) ≡ 32 * fib_count plan.mode
-frame_long plan header s t h = (pages_are_valid plan.mode (ensemble_sent plan t) t.page_index (sent_entries plan t) h.pageable).1
+frame_long : (plan : Plan) (header : Header) (s t : State) → IsAlike plan header s t → length (shown_bytes plan t) ≡ 32 * frame_fibs plan.layout
+frame_long plan header s t h = (pages_are_valid plan.layout (ensemble_sent plan t) t.page_index (sent_entries plan t) h.pageable).1
 
-pub all_long : (plan : Plan) (header : Header) (n k : ℕ) (s t : State) → AreAlike plan header n s t → k ≤ n → length (concat (notice_frames plan k t)) ≡ k * (32 * fib_count plan.mode)
+pub all_long : (plan : Plan) (header : Header) (n k : ℕ) (s t : State) → AreAlike plan header n s t → k ≤ n → length (concat (notice_frames plan k t)) ≡ k * (32 * frame_fibs plan.layout)
 all_long plan header n zero s t alike le =
-    let none : 0 * (32 * fib_count plan.mode) ≡ 0 = omega arith in
+    let none : 0 * (32 * frame_fibs plan.layout) ≡ 0 = omega arith in
     sym none
 all_long plan header n (suc k) s t alike le =
-    let size : ℕ = 32 * fib_count plan.mode in
+    let size : ℕ = 32 * frame_fibs plan.layout in
     let last : List ℕ = shown_bytes plan (counted_on plan k t) in
     let long : length last ≡ size = frame_long plan header (counted_on plan k s) (counted_on plan k t) (alike k (omega (arith, le))) in
     let before = all_long plan header n k s t alike (omega (arith, le)) in
@@ -188,7 +190,7 @@ all_long plan header n (suc k) s t alike le =
     ∙ sym more
 
 pub frame_recounted : (plan : Plan) (header : Header) (n k number offset high low : ℕ) (s t : State) (bytes fib new : List ℕ) → AreAlike plan header n s t → k < n
-    → (counted_on plan k t).count ≡ number → number % count_step plan.mode ≡ 0 → offset ≡ k * (32 * fib_count plan.mode)
+    → (counted_on plan k t).count ≡ number → number % count_step (layout_mode plan.layout) ≡ 0 → offset ≡ k * (32 * frame_fibs plan.layout)
     → high ≡ header.change * 64 + number / 250 → low ≡ number % 250
     → bytes ≡ mixed plan n k s t → fib ≡ take 32 (drop offset bytes)
     → ((p q r u x y : ℕ) (rest : List ℕ) → length rest ≡ 24 → fib ≡ checked (p ∷ q ∷ r ∷ u ∷ x ∷ y ∷ rest) → new ≡ checked (p ∷ q ∷ r ∷ u ∷ high ∷ low ∷ rest))
@@ -199,18 +201,18 @@ frame_recounted plan header n k number offset high low s t bytes fib new alike l
     let h = alike k lt in
     let before : List ℕ = concat (notice_frames plan k t) in
     let after : List ℕ = rest_from plan n (suc k) s in
-    let there : (b.count % count_step plan.mode == 0) ≡ true = ap (λ (c : ℕ). c % count_step plan.mode == 0) at ∙ ap (λ (c : ℕ). c == 0) on in
+    let there : (b.count % count_step (layout_mode plan.layout) == 0) ≡ true = ap (λ (c : ℕ). c % count_step (layout_mode plan.layout) == 0) at ∙ ap (λ (c : ℕ). c == 0) on in
     let old : ensemble_sent plan a ≡ Some (ensemble_at header a.count) = with_fig plan header a h.first (h.on_step ∙ there) in
     let late : ensemble_sent plan b ≡ Some (ensemble_at header number) = with_fig plan header b h.second there ∙ ap (λ (c : ℕ). Some (ensemble_at header c)) at in
-    let old_page : shown_bytes plan a ≡ page_bytes plan.mode (Some (ensemble_at header a.count)) b.page_index (sent_entries plan b) =
-    ap (λ (o : Option EnsembleInformation). page_bytes plan.mode o a.page_index (sent_entries plan a)) old
-    ∙ ap₂ (λ (i : ℕ) (ms : List Marked). page_bytes plan.mode (Some (ensemble_at header a.count)) i ms) h.page_index h.entries in
-    let new_page : shown_bytes plan b ≡ page_bytes plan.mode (Some (ensemble_at header number)) b.page_index (sent_entries plan b) =
-    ap (λ (o : Option EnsembleInformation). page_bytes plan.mode o b.page_index (sent_entries plan b)) late in
+    let old_page : shown_bytes plan a ≡ page_bytes plan.layout (Some (ensemble_at header a.count)) b.page_index (sent_entries plan b) =
+    ap (λ (o : Option EnsembleInformation). page_bytes plan.layout o a.page_index (sent_entries plan a)) old
+    ∙ ap₂ (λ (i : ℕ) (ms : List Marked). page_bytes plan.layout (Some (ensemble_at header a.count)) i ms) h.page_index h.entries in
+    let new_page : shown_bytes plan b ≡ page_bytes plan.layout (Some (ensemble_at header number)) b.page_index (sent_entries plan b) =
+    ap (λ (o : Option EnsembleInformation). page_bytes plan.layout o b.page_index (sent_entries plan b)) late in
     let pageable : IsPageable (Some (ensemble_at header number)) (sent_entries plan b) = subst (λ (o : Option EnsembleInformation). IsPageable o (sent_entries plan b)) late h.pageable in
     let text = is ∙ mixed_at plan n k s t lt ∙ ap (λ (l : List ℕ). before ++ (l ++ after)) old_page in
     let long : length before ≡ offset = all_long plan header n k s t alike (omega (arith, lt)) ∙ sym at_offset in
-    page_recounted plan.mode header a.count number b.page_index (sent_entries plan b) pageable before after bytes fib new offset high low text long is_high is_low part step
+    page_recounted plan.layout header a.count number b.page_index (sent_entries plan b) pageable before after bytes fib new offset high low text long is_high is_low part step
     ∙ ap (λ (l : List ℕ). before ++ (l ++ after)) (sym new_page)
     ∙ mixed_next plan n k s t
 
@@ -250,30 +252,30 @@ step_small II = (omega arith, omega arith)
 step_small III = (omega arith, omega arith)
 step_small IV = (omega arith, omega arith)
 
-pub none_before : (plan : Plan) (count j : ℕ) (t : State) → count < COUNTS → t.count ≡ count → j < (count_step plan.mode - count % count_step plan.mode) % count_step plan.mode
-    → ((counted_on plan j t).count % count_step plan.mode == 0) ≡ false
+pub none_before : (plan : Plan) (count j : ℕ) (t : State) → count < COUNTS → t.count ≡ count → j < (count_step (layout_mode plan.layout) - count % count_step (layout_mode plan.layout)) % count_step (layout_mode plan.layout)
+    → ((counted_on plan j t).count % count_step (layout_mode plan.layout) == 0) ≡ false
 none_before plan count j t fits at lt =
     let here : (counted_on plan j t).count ≡ (count + j) % COUNTS = count_at plan j t (omega (arith, fits, at)) ∙ ap (λ (c : ℕ). (c + j) % COUNTS) at in
-    ap (λ (c : ℕ). c % count_step plan.mode == 0) here ∙ ne_eqb ((count + j) % COUNTS % count_step plan.mode) 0 (λ on. off_before plan.mode count j lt on)
+    ap (λ (c : ℕ). c % count_step (layout_mode plan.layout) == 0) here ∙ ne_eqb ((count + j) % COUNTS % count_step (layout_mode plan.layout)) 0 (λ on. off_before (layout_mode plan.layout) count j lt on)
 
-pub none_between : (plan : Plan) (count k j : ℕ) (t : State) → count < COUNTS → t.count ≡ count → (count + k) % COUNTS % count_step plan.mode ≡ 0 → k < j → j < k + count_step plan.mode
-    → ((counted_on plan j t).count % count_step plan.mode == 0) ≡ false
+pub none_between : (plan : Plan) (count k j : ℕ) (t : State) → count < COUNTS → t.count ≡ count → (count + k) % COUNTS % count_step (layout_mode plan.layout) ≡ 0 → k < j → j < k + count_step (layout_mode plan.layout)
+    → ((counted_on plan j t).count % count_step (layout_mode plan.layout) == 0) ≡ false
 none_between plan count k j t fits at here from below =
     let d : ℕ = j - k in
     let far : count + j ≡ count + k + d = omega (arith, from) in
     let there : (counted_on plan j t).count ≡ (count + k + d) % COUNTS =
     count_at plan j t (omega (arith, fits, at)) ∙ ap (λ (c : ℕ). (c + j) % COUNTS) at ∙ ap (λ (c : ℕ). c % COUNTS) far in
-    ap (λ (c : ℕ). c % count_step plan.mode == 0) there
-    ∙ ne_eqb ((count + k + d) % COUNTS % count_step plan.mode) 0
-    (λ on. off_after plan.mode (count + k) d (omega (arith, from)) (omega (arith, from, below)) here on)
+    ap (λ (c : ℕ). c % count_step (layout_mode plan.layout) == 0) there
+    ∙ ne_eqb ((count + k + d) % COUNTS % count_step (layout_mode plan.layout)) 0
+    (λ on. off_after (layout_mode plan.layout) (count + k) d (omega (arith, from)) (omega (arith, from, below)) here on)
 
 -- ---- from one frame with FIG 0/0 to the next
 
 pub entered : (plan : Plan) (header : Header) (n count at step : ℕ) (s t : State) (bytes : List ℕ) → AreAlike plan header n s t → t.count ≡ count → count < COUNTS
-    → step ≡ count_step plan.mode → at ≡ (step - count % step) % step → bytes ≡ concat (notice_frames plan n s) → bytes ≡ mixed plan n (n - (n - at)) s t
+    → step ≡ count_step (layout_mode plan.layout) → at ≡ (step - count % step) % step → bytes ≡ concat (notice_frames plan n s) → bytes ≡ mixed plan n (n - (n - at)) s t
 entered plan header n count at step s t bytes alike counts fits is_step is_at is =
     let k : ℕ = n - (n - at) in
-    let by_mode : at ≡ (count_step plan.mode - count % count_step plan.mode) % count_step plan.mode = is_at ∙ ap (λ (m : ℕ). (m - count % m) % m) is_step in
+    let by_mode : at ≡ (count_step (layout_mode plan.layout) - count % count_step (layout_mode plan.layout)) % count_step (layout_mode plan.layout) = is_at ∙ ap (λ (m : ℕ). (m - count % m) % m) is_step in
     let start : 0 + k ≡ k = omega arith in
     is
     ∙ mixed_none plan n s t
@@ -282,7 +284,7 @@ entered plan header n count at step s t bytes alike counts fits is_step is_at is
     ∙ ap (λ (j : ℕ). mixed plan n j s t) start
 
 pub continued : (plan : Plan) (header : Header) (n count at number step size offset width high low : ℕ) (s t : State) (bytes fib new last : List ℕ) → AreAlike plan header n s t → t.count ≡ count → count < COUNTS
-    → step ≡ count_step plan.mode → size ≡ 32 * fib_count plan.mode → at < n → number ≡ (count + at) % COUNTS → number % count_step plan.mode ≡ 0 → offset ≡ at * size
+    → step ≡ count_step (layout_mode plan.layout) → size ≡ 32 * frame_fibs plan.layout → at < n → number ≡ (count + at) % COUNTS → number % count_step (layout_mode plan.layout) ≡ 0 → offset ≡ at * size
     → width ≡ 32 → high ≡ header.change * 64 + number / 250 → low ≡ number % 250
     → bytes ≡ mixed plan n (n - (n - at)) s t → fib ≡ take width (drop offset bytes)
     → ((p q r u x y : ℕ) (rest : List ℕ) → length rest ≡ 24 → fib ≡ checked (p ∷ q ∷ r ∷ u ∷ x ∷ y ∷ rest) → new ≡ checked (p ∷ q ∷ r ∷ u ∷ high ∷ low ∷ rest))
@@ -290,12 +292,12 @@ pub continued : (plan : Plan) (header : Header) (n count at number step size off
 continued plan header n count at number step size offset width high low s t bytes fib new last alike counts fits is_step is_size lt at_number on at_offset is_width is_high is_low is part made is_last =
     let k : ℕ = n - (n - (at + step)) in
     let m : ℕ = k - suc at in
-    let some : 1 ≤ step = omega (arith, is_step, (step_small plan.mode).0) in
+    let some : 1 ≤ step = omega (arith, is_step, (step_small (layout_mode plan.layout)).0) in
     let all : suc at + m ≡ k = omega (arith, lt, some) in
     let here : n - (n - at) ≡ at = omega (arith, lt) in
     let old : bytes ≡ mixed plan n at s t = is ∙ ap (λ (j : ℕ). mixed plan n j s t) here in
     let there : (counted_on plan at t).count ≡ number = count_at plan at t (omega (arith, fits, counts)) ∙ ap (λ (c : ℕ). (c + at) % COUNTS) counts ∙ sym at_number in
-    let now : (count + at) % COUNTS % count_step plan.mode ≡ 0 = ap (λ (c : ℕ). c % count_step plan.mode) (sym at_number) ∙ on in
+    let now : (count + at) % COUNTS % count_step (layout_mode plan.layout) ≡ 0 = ap (λ (c : ℕ). c % count_step (layout_mode plan.layout)) (sym at_number) ∙ on in
     is_last
     ∙ ap (λ (w : ℕ). take offset bytes ++ (new ++ drop w (drop offset bytes))) is_width
     ∙ frame_recounted plan header n at number offset high low s t bytes fib new alike lt there on (at_offset ∙ ap (λ (x : ℕ). at * x) is_size) is_high is_low old (part ∙ ap (λ (w : ℕ). take w (drop offset bytes)) is_width) made

@@ -18,7 +18,7 @@ use Rattle.plan_player.specs.Positions.{Progress, with_notice_begun}
 
 -- what is sent takes at most the period
 few_by : (plan : Plan) (left : Option ℕ) (c n : Configuration) → IsPlan plan → IsOnAir plan c → CommittedBy plan left c n
-    → (b : Bool) → is_noticed plan.notice left ≡ b → rounds plan.mode (page_set c (cond b (Some n) None)) ≤ 60
+    → (b : Bool) → is_noticed plan.notice left ≡ b → rounds plan.layout (page_set c (cond b (Some n) None)) ≤ 60
 few_by plan None c n formed air committed true e = absurd cc
 few_by plan (Some l) c n formed air committed true e = omega (arith, committed.within_period, formed.period_to)
 few_by plan left c n formed air committed false e = omega (arith, air.within_period, formed.period_to)

@@ -4,6 +4,7 @@ use Rattle.std.specs.List.{concat}
 use Rattle.std.proofs.lemmas.List.{take_at, drop_at, take-append-le, take-append-drop}
 use Rattle.std.proofs.Math.Seq.{take-append-add}
 use Rattle.std.proofs.Math.Nat.{suc-mul, mod-add-mod}
+use Rattle.fib_codec.specs.Layouts.{layout_mode, frame_fibs}
 use Rattle.mux_config.specs.declared.flags.Change.{Change}
 use Rattle.mux_config.specs.Change.{change_of, bits_of}
 use Rattle.mux_entries.specs.declared.limits.TheConstants.{COUNTS}
@@ -47,12 +48,12 @@ bytes_split plan a b s =
     sym (concat_join (notice_frames plan a s) (notice_frames plan b (counted_on plan a s)))
     ∙ ap (λ (fs : List (List ℕ)). concat fs) (frames_split plan a b s)
 
-pub bytes_long : (plan : Plan) (n k : ℕ) (s : State) (pages : PhasePages) → IsStretch plan n s pages → k ≤ n → length (concat (notice_frames plan k s)) ≡ k * (32 * fib_count plan.mode)
+pub bytes_long : (plan : Plan) (n k : ℕ) (s : State) (pages : PhasePages) → IsStretch plan n s pages → k ≤ n → length (concat (notice_frames plan k s)) ≡ k * (32 * frame_fibs plan.layout)
 bytes_long plan n zero s pages h le =
-    let none : 0 * (32 * fib_count plan.mode) ≡ 0 = omega arith in
+    let none : 0 * (32 * frame_fibs plan.layout) ≡ 0 = omega arith in
     sym none
 bytes_long plan n (suc k) s pages h le =
-    let size : ℕ = 32 * fib_count plan.mode in
+    let size : ℕ = 32 * frame_fibs plan.layout in
     let last : List ℕ = shown_bytes plan (counted_on plan k s) in
     let long : length last ≡ size = frame_size plan n k s pages h (omega (arith, le)) in
     let before = bytes_long plan n k s pages h (omega (arith, le)) in
@@ -101,7 +102,7 @@ step_again III count done k whole = omega (arith, whole)
 step_again IV count done k whole = omega (arith, whole)
 
 one_alike : (plan : Plan) (n done k : ℕ) (s : State) (pages : PhasePages) (header : Header) → IsStretch plan n s pages → header ≡ header_of plan s
-    → done % pages.made ≡ 0 → done % count_step plan.mode ≡ 0 → done + k < n → IsAlike plan header (counted_on plan k s) (counted_on plan (done + k) s)
+    → done % pages.made ≡ 0 → done % count_step (layout_mode plan.layout) ≡ 0 → done + k < n → IsAlike plan header (counted_on plan k s) (counted_on plan (done + k) s)
 one_alike plan n done k s pages header h is cycle steps lt =
     let few : k < n = omega (arith, lt) in
     let inside = turn_within plan n s pages (omega (arith, lt)) h in
@@ -117,26 +118,26 @@ one_alike plan n done k s pages header h is cycle steps lt =
       entries = entries_later plan n k s h.away few ∙ sym (entries_later plan n (done + k) s h.away lt);
       first = header_later plan n k s h.away few ∙ sym is;
       second = header_later plan n (done + k) s h.away lt ∙ sym is;
-      on_step = ap (λ (c : ℕ). c % count_step plan.mode == 0) before
-          ∙ ap (λ (c : ℕ). c == 0) (step_again plan.mode s.count done k steps)
-          ∙ sym (ap (λ (c : ℕ). c % count_step plan.mode == 0) after);
+      on_step = ap (λ (c : ℕ). c % count_step (layout_mode plan.layout) == 0) before
+          ∙ ap (λ (c : ℕ). c == 0) (step_again (layout_mode plan.layout) s.count done k steps)
+          ∙ sym (ap (λ (c : ℕ). c % count_step (layout_mode plan.layout) == 0) after);
       pageable = record { entries = page.kept.sendable; ensemble_within = (h.ready (done + k) lt).sent.ensemble };
     }
 
 alike : (plan : Plan) (n done more : ℕ) (s : State) (pages : PhasePages) (header : Header) → IsStretch plan n s pages → header ≡ header_of plan s
-    → done % pages.made ≡ 0 → done % count_step plan.mode ≡ 0 → done + more ≤ n → AreAlike plan header more s (counted_on plan done s)
+    → done % pages.made ≡ 0 → done % count_step (layout_mode plan.layout) ≡ 0 → done + more ≤ n → AreAlike plan header more s (counted_on plan done s)
 alike plan n done more s pages header h is cycle steps le k lt =
     subst (λ (u : State). IsAlike plan header (counted_on plan k s) u) (sym (on_split plan done k s))
     (one_alike plan n done k s pages header h is cycle steps (omega (arith, lt, le)))
 
 -- further frames are copies of the first ones with other counts
 pub turn_on_turn : (plan : Plan) (n done more number : ℕ) (s : State) (pages : PhasePages) (header : Header) (old new text : List ℕ) → IsStretch plan n s pages → header ≡ header_of plan s
-    → done % pages.made ≡ 0 → done % count_step plan.mode ≡ 0 → 1 ≤ n → more ≤ done → done + more ≤ n → number ≡ (s.count + done) % COUNTS
-    → old ≡ concat (notice_frames plan done s) → new ≡ old ++ text → AreRecounted plan header number more (take (more * (32 * fib_count plan.mode)) old) text
+    → done % pages.made ≡ 0 → done % count_step (layout_mode plan.layout) ≡ 0 → 1 ≤ n → more ≤ done → done + more ≤ n → number ≡ (s.count + done) % COUNTS
+    → old ≡ concat (notice_frames plan done s) → new ≡ old ++ text → AreRecounted plan header number more (take (more * (32 * frame_fibs plan.layout)) old) text
     → new ≡ concat (notice_frames plan (done + more) s)
 turn_on_turn plan n done more number s pages header old new text h is cycle steps some few le at before is_new recounted =
     let t : State = counted_on plan done s in
-    let size : ℕ = 32 * fib_count plan.mode in
+    let size : ℕ = 32 * frame_fibs plan.layout in
     let counts = (h.ready 0 (omega (arith, some))).sent.count in
     let all : more + (done - more) ≡ done = omega (arith, few) in
     let first : List ℕ = concat (notice_frames plan more s) in

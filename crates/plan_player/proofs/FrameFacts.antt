@@ -2,10 +2,10 @@
 use Rattle.std.specs.Prelude.{◌||◌}
 use Rattle.std.proofs.Common.{◌≡◌, ℕ, ◌<◌, Bool, true, false, cond, List, [], ◌∷◌, Option, Some, None, refl, sym, ap, subst, ◌∙◌, arith}
 use Rattle.std.proofs.lemmas.Bool.{eqb-false}
+use Rattle.fib_codec.specs.declared.frame_layout.FrameLayout.{FrameLayout}
 use Rattle.mux_config.specs.Configuration.{Configuration}
 use Rattle.mux_config.specs.Change.{change_of, bits_of}
 use Rattle.mux_entries.specs.Facts.{Marked}
-use Rattle.fib_codec.specs.declared.modes.Mode.{Mode}
 use Rattle.fib_carousel.specs.Pages.{page_set}
 use Rattle.plan_code.specs.declared.plan.Plan.{Plan}
 use Rattle.plan_code.specs.Program.{Program, IsProgram}
@@ -89,9 +89,9 @@ change_later notice (Some l) c n change a h = λ earlier. h (noticed notice l a 
 
 -- ---- a frame
 
-same_pages : (mode : Mode) (pages : PhasePages) (ms ns : List Marked) (page_index page : ℕ) → ns ≡ ms → page ≡ page_index → Keeps mode ms page_index pages → Keeps mode ns page pages
-same_pages mode pages ms ns page_index page e f k =
-    subst (λ (es : List Marked). Keeps mode es page pages) (sym e) (subst (λ (n : ℕ). Keeps mode ms n pages) (sym f) k)
+same_pages : (layout : FrameLayout) (pages : PhasePages) (ms ns : List Marked) (page_index page : ℕ) → ns ≡ ms → page ≡ page_index → Keeps layout ms page_index pages → Keeps layout ns page pages
+same_pages layout pages ms ns page_index page e f k =
+    subst (λ (es : List Marked). Keeps layout es page pages) (sym e) (subst (λ (n : ℕ). Keeps layout ms n pages) (sym f) k)
 
 pub frame_ready : (p : Program) (s : State) (steps : ℕ) (pages : PhasePages) → IsGoing p s steps pages → IsFrameReady p s pages
 frame_ready p s steps pages h =
@@ -104,14 +104,14 @@ frame_ready p s steps pages h =
       first = first_page p s h.played;
       kept = λ no_phase.
           let sent = sends p h.played.typed.0 (code_of p s h.played) s (played_holds p s h.played) no_phase ms s.page_index (record { sent = h.phase.sent; turn_is = refl }) in
-          same_pages p.plan.mode pages ms (sent_entries p.plan (shown p s)) s.page_index (shown p s).page_index sent.entries sent.turn_is h.phase.keeps;
+          same_pages p.plan.layout pages ms (sent_entries p.plan (shown p s)) s.page_index (shown p s).page_index sent.entries sent.turn_is h.phase.keeps;
       change = λ other.
           let link = links p h.played.typed.0 (code_of p s h.played) s (played_holds p s h.played) in
           change_known p.plan s (shown p s) pages.change link (is_due s.left) refl other h.phase.change;
     }
 
 pub frame_goes : (p : Program) (s : State) (steps : ℕ) (pages after : PhasePages) → IsGoing p s steps pages
-    → Keeps p.plan.mode (sent_entries p.plan (shown p s)) (after_frame p s).page_index after → HasChange p.plan.notice (shown p s).left (shown p s).current (shown p s).next after.change
+    → Keeps p.plan.layout (sent_entries p.plan (shown p s)) (after_frame p s).page_index after → HasChange p.plan.notice (shown p s).left (shown p s).current (shown p s).next after.change
     → IsGoing p (after_frame p s) (frame_steps p s) after
 frame_goes p s steps pages after h keeps change =
     let u : State = shown p s in
@@ -134,10 +134,10 @@ pub lent_ready : (p q : Program) (s : State) (steps : ℕ) (pages : PhasePages) 
 lent_ready p q s steps pages e h = subst (λ (x : Program). IsFrameReady x s pages) (sym e) (frame_ready p s steps pages h)
 
 pub lent_goes : (p q : Program) (s t : State) (steps made : ℕ) (pages after : PhasePages) → q ≡ p → IsGoing p s steps pages → t ≡ after_frame q s → made ≡ frame_steps q s
-    → Keeps q.plan.mode (sent_entries q.plan (shown q s)) (after_frame q s).page_index after → HasChange q.plan.notice (shown q s).left (shown q s).current (shown q s).next after.change → IsGoing p t made after
+    → Keeps q.plan.layout (sent_entries q.plan (shown q s)) (after_frame q s).page_index after → HasChange q.plan.notice (shown q s).left (shown q s).current (shown q s).next after.change → IsGoing p t made after
 lent_goes p q s t steps made pages after e h state count keeps change =
-    let here : Keeps p.plan.mode (sent_entries p.plan (shown p s)) (after_frame p s).page_index after =
-    subst (λ (x : Program). Keeps x.plan.mode (sent_entries x.plan (shown x s)) (after_frame x s).page_index after) e keeps in
+    let here : Keeps p.plan.layout (sent_entries p.plan (shown p s)) (after_frame p s).page_index after =
+    subst (λ (x : Program). Keeps x.plan.layout (sent_entries x.plan (shown x s)) (after_frame x s).page_index after) e keeps in
     let flags : HasChange p.plan.notice (shown p s).left (shown p s).current (shown p s).next after.change =
     subst (λ (x : Program). HasChange x.plan.notice (shown x s).left (shown x s).current (shown x s).next after.change) e change in
     let on = frame_goes p s steps pages after h here flags in
@@ -156,7 +156,7 @@ contact_goes p s steps pages c closed h below = record {
 
 -- ---- the start
 
-pub start_goes : (p : Program) (start : Start) (s : State) (pages : PhasePages) → IsProgram p → IsTyped p → StartIsInRange start → IsStart p start s → ((mode : Mode) (ms : List Marked) → Keeps mode ms 0 pages) → IsGoing p s 0 pages
+pub start_goes : (p : Program) (start : Start) (s : State) (pages : PhasePages) → IsProgram p → IsTyped p → StartIsInRange start → IsStart p start s → ((layout : FrameLayout) (ms : List Marked) → Keeps layout ms 0 pages) → IsGoing p s 0 pages
 start_goes p start s pages formed typed range starts none =
     let ms : List Marked = page_set s.current None in
     let sent : SentBy p.plan None s.current s.next ms = refl in
@@ -165,7 +165,7 @@ start_goes p start s pages formed typed range starts none =
       phase = record {
         entries = ms;
         sent = subst (λ (o : Option ℕ). SentBy p.plan o s.current s.next ms) (sym starts.left) sent;
-        keeps = subst (λ (n : ℕ). Keeps p.plan.mode ms n pages) (sym starts.page_index) (none p.plan.mode ms);
+        keeps = subst (λ (n : ℕ). Keeps p.plan.layout ms n pages) (sym starts.page_index) (none p.plan.layout ms);
         change = subst (λ (o : Option ℕ). KeepsChange p.plan.notice o s.current s.next pages.change) (sym starts.left) tt;
       };
       within = omega arith;

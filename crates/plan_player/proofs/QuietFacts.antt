@@ -33,15 +33,15 @@ quiet_after p plan s t e quiet state =
     state ∙ ap (λ (q : Plan). with_next_counts q s) e ∙ sym (stays p s quiet).after
 
 pub quiet_goes : (p : Program) (plan : Plan) (s t : State) (steps : ℕ) (pages after : PhasePages) → plan ≡ p.plan → IsGoing p s steps pages → IsQuiet p s
-    → t ≡ with_next_counts plan s → Keeps plan.mode (sent_entries plan s) (page_after (sent_rounds plan s) s.page_index) after → after.change ≡ pages.change
+    → t ≡ with_next_counts plan s → Keeps plan.layout (sent_entries plan s) (page_after (sent_rounds plan s) s.page_index) after → after.change ≡ pages.change
     → IsGoing p t 0 after
 quiet_goes p plan s t steps pages after e h quiet state keeps same =
     let now = stays p s quiet in
     let ready = quiet_ready p p.plan s steps pages refl h quiet in
-    let mine : Keeps p.plan.mode (sent_entries p.plan s) (page_after (sent_rounds p.plan s) s.page_index) after =
-    subst (λ (q : Plan). Keeps q.mode (sent_entries q s) (page_after (sent_rounds q s) s.page_index) after) e keeps in
-    let kept : Keeps p.plan.mode (sent_entries p.plan (shown p s)) (after_frame p s).page_index after =
-    subst (λ (u : State). Keeps p.plan.mode (sent_entries p.plan u) (page_after (sent_rounds p.plan u) u.page_index) after) (sym now.shows) mine in
+    let mine : Keeps p.plan.layout (sent_entries p.plan s) (page_after (sent_rounds p.plan s) s.page_index) after =
+    subst (λ (q : Plan). Keeps q.layout (sent_entries q s) (page_after (sent_rounds q s) s.page_index) after) e keeps in
+    let kept : Keeps p.plan.layout (sent_entries p.plan (shown p s)) (after_frame p s).page_index after =
+    subst (λ (u : State). Keeps p.plan.layout (sent_entries p.plan u) (page_after (sent_rounds p.plan u) u.page_index) after) (sym now.shows) mine in
     let flags : HasChange p.plan.notice s.left s.current s.next after.change =
     subst (λ (n : ℕ). HasChange p.plan.notice s.left s.current s.next n) (sym same) ready.change in
     let change : HasChange p.plan.notice (shown p s).left (shown p s).current (shown p s).next after.change =

@@ -65,7 +65,7 @@ next_goes : (p : Program) (s : State) (steps : ℕ) (pages : PhasePages) → pag
 next_goes p s steps pages whole h quiet =
     let ready = quiet_ready p p.plan s steps pages refl h quiet in
     let made = ready.keeps.all whole in
-    let keeps = turned p.plan.mode (sent_entries p.plan s) s.page_index (sent_rounds p.plan s) pages ready.keeps (omega (arith, made, ready.sent.page_index)) in
+    let keeps = turned p.plan.layout (sent_entries p.plan s) s.page_index (sent_rounds p.plan s) pages ready.keeps (omega (arith, made, ready.sent.page_index)) in
     quiet_goes p p.plan s (with_next_counts p.plan s) steps pages pages refl h quiet refl keeps refl
 
 pub going_on : (p : Program) (n k : ℕ) (s : State) (steps : ℕ) (pages : PhasePages) → k ≤ n → pages.is_whole ≡ true → IsGoing p s steps pages → AreQuiet p n s → IsGoing p (counted_on p.plan k s) 0 pages

@@ -5,10 +5,11 @@ use Rattle.std.specs.List.{concat}
 use Rattle.std.proofs.lemmas.List.{append-nil, take-append-le}
 use Rattle.std.proofs.Math.Seq.{take-append-add}
 use Rattle.std.proofs.Math.Nat.{mod-add-mod, mod-add-div', mod-lt, suc-mul}
+use Rattle.fib_codec.specs.Layouts.{layout_mode, frame_fibs}
 use Rattle.mux_config.specs.Change.{change_of, bits_of}
 use Rattle.mux_entries.specs.Entries.{EnsembleInformation}
 use Rattle.mux_entries.specs.declared.limits.TheConstants.{COUNTS}
-use Rattle.fib_codec.specs.Modes.{fib_count, count_step}
+use Rattle.fib_codec.specs.Modes.{count_step}
 use Rattle.fib_codec.specs.Ranges.{IsEnsembleInformation}
 use Rattle.mux_entries.specs.Facts.{Marked}
 use Rattle.fib_carousel.specs.declared.kept_page.KeptPage.{KeptPage}
@@ -77,11 +78,11 @@ pub ensemble_is : (plan : Plan) (s : State) → ensemble_of plan s ≡ ensemble_
 ensemble_is plan s = ensemble_is_by plan s (is_noticed plan.notice s.left)
 
 pub headed_later : (plan : Plan) (n k : ℕ) (s : State) → SwapIsAway plan.notice s.left n → k < n
-    → ensemble_sent plan (counted_on plan k s) ≡ headed_at plan.mode (header_of plan s) (counted_on plan k s).count
+    → ensemble_sent plan (counted_on plan k s) ≡ headed_at (layout_mode plan.layout) (header_of plan s) (counted_on plan k s).count
 headed_later plan n k s away lt =
     let t : State = counted_on plan k s in
     let same : ensemble_of plan t ≡ ensemble_at (header_of plan s) t.count = ensemble_is plan t ∙ ap (λ (h : Header). ensemble_at h t.count) (header_later plan n k s away lt) in
-    ap (λ (e : EnsembleInformation). cond (t.count % count_step plan.mode == 0) (Some e) None) same
+    ap (λ (e : EnsembleInformation). cond (t.count % count_step (layout_mode plan.layout) == 0) (Some e) None) same
 
 -- ---- pages
 
@@ -90,7 +91,7 @@ stretch_rounds plan n s pages h = λ k lt. sym ((h.ready k lt).keeps.all h.whole
 
 pub stretch_page : (plan : Plan) (n k : ℕ) (s : State) (pages : PhasePages) → IsStretch plan n s pages → k < n
     → (let t : State = counted_on plan k s in
-    HasPage plan.mode (sent_entries plan t) t.page_index pages.pages)
+    HasPage plan.layout (sent_entries plan t) t.page_index pages.pages)
 stretch_page plan n k s pages h lt =
     let ready = h.ready k lt in
     let made = ready.keeps.all h.whole in
@@ -102,11 +103,11 @@ turn_within plan n s pages some h =
     let made = ready.keeps.all h.whole in
     omega (arith, made, ready.sent.page_index)
 
-pub frame_size : (plan : Plan) (n k : ℕ) (s : State) (pages : PhasePages) → IsStretch plan n s pages → k < n → length (shown_bytes plan (counted_on plan k s)) ≡ 32 * fib_count plan.mode
+pub frame_size : (plan : Plan) (n k : ℕ) (s : State) (pages : PhasePages) → IsStretch plan n s pages → k < n → length (shown_bytes plan (counted_on plan k s)) ≡ 32 * frame_fibs plan.layout
 frame_size plan n k s pages h lt =
     let t : State = counted_on plan k s in
     let page = stretch_page plan n k s pages h lt in
-    (pages_are_valid plan.mode (ensemble_sent plan t) t.page_index (sent_entries plan t) (record { entries = page.kept.sendable; ensemble_within = (h.ready k lt).sent.ensemble })).1
+    (pages_are_valid plan.layout (ensemble_sent plan t) t.page_index (sent_entries plan t) (record { entries = page.kept.sendable; ensemble_within = (h.ready k lt).sent.ensemble })).1
 
 -- ---- the bytes
 
@@ -168,34 +169,34 @@ within_by true e h is = h
 within_by false e h is = absurd cc
 
 pub headed_within : (plan : Plan) (n k : ℕ) (s : State) (pages : PhasePages) (header : Header) (number : ℕ) → IsStretch plan n s pages → k < n
-    → header ≡ header_of plan s → number ≡ (counted_on plan k s).count → (number % count_step plan.mode == 0) ≡ true → IsEnsembleInformation (ensemble_at header number)
+    → header ≡ header_of plan s → number ≡ (counted_on plan k s).count → (number % count_step (layout_mode plan.layout) == 0) ≡ true → IsEnsembleInformation (ensemble_at header number)
 headed_within plan n k s pages header number h lt is at =
     let here = subst (λ (o : Option EnsembleInformation). IfSome o IsEnsembleInformation) (headed_later plan n k s h.away lt) (h.ready k lt).sent.ensemble in
-    let mine = subst (λ (x : Header). IfSome (headed_at plan.mode x (counted_on plan k s).count) IsEnsembleInformation) (sym is) here in
-    let now = subst (λ (x : ℕ). IfSome (headed_at plan.mode header x) IsEnsembleInformation) (sym at) mine in
-    within_by (number % count_step plan.mode == 0) (ensemble_at header number) now
+    let mine = subst (λ (x : Header). IfSome (headed_at (layout_mode plan.layout) x (counted_on plan k s).count) IsEnsembleInformation) (sym is) here in
+    let now = subst (λ (x : ℕ). IfSome (headed_at (layout_mode plan.layout) header x) IsEnsembleInformation) (sym at) mine in
+    within_by (number % count_step (layout_mode plan.layout) == 0) (ensemble_at header number) now
 
 -- the page in turn is the one stored at its index
 pub page_kept : (plan : Plan) (n k : ℕ) (s : State) (pages : PhasePages) (page_index : ℕ) (page : KeptPage) → IsStretch plan n s pages → k < n
     → page_index ≡ (counted_on plan k s).page_index → slice_get pages.pages page_index ≡ Some (Some page)
     → (let t : State = counted_on plan k s in
-    IsKept plan.mode (sent_entries plan t) t.page_index page)
+    IsKept plan.layout (sent_entries plan t) t.page_index page)
 page_kept plan n k s pages page_index page h lt at held =
     let t : State = counted_on plan k s in
-    held_is plan.mode (sent_entries plan t) t.page_index pages.pages page (stretch_page plan n k s pages h lt) (subst (λ (x : ℕ). slice_get pages.pages x ≡ Some (Some page)) at held)
+    held_is plan.layout (sent_entries plan t) t.page_index pages.pages page (stretch_page plan n k s pages h lt) (subst (λ (x : ℕ). slice_get pages.pages x ≡ Some (Some page)) at held)
 
 pub batch_more : (plan : Plan) (n k : ℕ) (s : State) (pages : PhasePages) (header : Header) (number : ℕ) (old new : List ℕ) → IsStretch plan n s pages → k < n
     → header ≡ header_of plan s → number ≡ (counted_on plan k s).count → old ≡ concat (notice_frames plan k s)
     → (let t : State = counted_on plan k s in
-    new ≡ old ++ page_bytes plan.mode (headed_at plan.mode header number) t.page_index (sent_entries plan t)) → new ≡ concat (notice_frames plan (suc k) s)
+    new ≡ old ++ page_bytes plan.layout (headed_at (layout_mode plan.layout) header number) t.page_index (sent_entries plan t)) → new ≡ concat (notice_frames plan (suc k) s)
 batch_more plan n k s pages header number old new h lt is at before more =
     let t : State = counted_on plan k s in
     let ms : List Marked = sent_entries plan t in
-    let frame = ap (λ (x : Header). page_bytes plan.mode (headed_at plan.mode x number) t.page_index ms) is
-    ∙ ap (λ (x : ℕ). page_bytes plan.mode (headed_at plan.mode (header_of plan s) x) t.page_index ms) at
-    ∙ ap (λ (o : Option EnsembleInformation). page_bytes plan.mode o t.page_index ms) (sym (headed_later plan n k s h.away lt)) in
+    let frame = ap (λ (x : Header). page_bytes plan.layout (headed_at (layout_mode plan.layout) x number) t.page_index ms) is
+    ∙ ap (λ (x : ℕ). page_bytes plan.layout (headed_at (layout_mode plan.layout) (header_of plan s) x) t.page_index ms) at
+    ∙ ap (λ (o : Option EnsembleInformation). page_bytes plan.layout o t.page_index ms) (sym (headed_later plan n k s h.away lt)) in
     more
-    ∙ ap (λ (l : List ℕ). l ++ page_bytes plan.mode (headed_at plan.mode header number) t.page_index ms) before
+    ∙ ap (λ (l : List ℕ). l ++ page_bytes plan.layout (headed_at (layout_mode plan.layout) header number) t.page_index ms) before
     ∙ ap (λ (l : List ℕ). concat (notice_frames plan k s) ++ l) frame
     ∙ sym (bytes_more plan k s)
 
@@ -208,7 +209,7 @@ count_more plan k s = ap (λ (u : State). u.count) (on_more plan k s)
 
 -- ---- the frame in which the sink failed
 
-pub stretch_cut : (plan : Plan) (n : ℕ) (s : State) (pages : PhasePages) (size taken : ℕ) → IsStretch plan n s pages → size ≡ 32 * fib_count plan.mode → 0 < size
+pub stretch_cut : (plan : Plan) (n : ℕ) (s : State) (pages : PhasePages) (size taken : ℕ) → IsStretch plan n s pages → size ≡ 32 * frame_fibs plan.layout → 0 < size
     → taken < length (concat (notice_frames plan n s)) → Cut plan n s taken (taken / size) (taken % size)
 stretch_cut plan n s pages size taken h is some inside =
     let sum = mod-add-div' taken size in

@@ -2,6 +2,7 @@
 -- examples that fail for each definition.
 use Rattle.std.proofs.Common.{◌≡◌, ℕ, List, [], ◌∷◌, ◌++◌, length, take, replicate, Some, None, true, refl, ap, arith}
 use Rattle.std.proofs.lemmas.List.{length-append}
+use Rattle.fib_codec.specs.declared.frame_layout.FrameLayout.TheVariants.{Whole}
 use Rattle.mux_config.specs.Configuration.{nothing}
 use Rattle.fib_codec.specs.declared.modes.Mode.TheVariants.{I}
 use Rattle.fib_carousel.specs.Bytes.{page_bytes}
@@ -29,7 +30,7 @@ use Rattle.plan_player.specs.Phase.{HasPage, ShowsAs, HasChange, KeepsChange}
 -- ---- values shared by these vectors: an empty multiplex
 
 abbrev plan : Plan
-plan = record { eid = 0xe1c5; mode = I; period = 4; notice = 24; budget = 20 }
+plan = record { eid = 0xe1c5; layout = Whole I; period = 4; notice = 24; budget = 20 }
 
 abbrev no_counters : Counters
 no_counters = record { 0 = 0 }
@@ -202,18 +203,18 @@ in_a_notice h = let e : 1 ≡ 0 = h (omega arith) in omega (arith, e)
 -- ---- kept pages
 
 abbrev kept : KeptPage
-kept = record { plain = page_bytes I None 0 [] }
+kept = record { plain = page_bytes (Whole I) None 0 [] }
 
-holds_page_0 : HasPage I [] 0 (Some kept ∷ [])
+holds_page_0 : HasPage (Whole I) [] 0 (Some kept ∷ [])
 holds_page_0 = record { page = kept; held = refl; kept = record { plain = refl; sendable = tt } }
 
-no_page_1 : HasPage I [] 1 (Some kept ∷ []) → ⊥
+no_page_1 : HasPage (Whole I) [] 1 (Some kept ∷ []) → ⊥
 no_page_1 h = let e : None ≡ Some (Some h.page) = h.held in absurd cc
 
-shows_page_0 : ShowsAs (Kept 0) (Some kept ∷ []) [] (page_bytes I None 0 [])
+shows_page_0 : ShowsAs (Kept 0) (Some kept ∷ []) [] (page_bytes (Whole I) None 0 [])
 shows_page_0 = (kept, refl, refl)
 
-shows_no_page_1 : ShowsAs (Kept 1) (Some kept ∷ []) [] (page_bytes I None 0 []) → ⊥
+shows_no_page_1 : ShowsAs (Kept 1) (Some kept ∷ []) [] (page_bytes (Whole I) None 0 []) → ⊥
 shows_no_page_1 h = let e : None ≡ Some (Some h.0) = h.1 in absurd cc
 
 shows_what_was_made : ShowsAs Headed [] taken taken

@@ -2,6 +2,7 @@
 -- waits for a frame and ends: examples that hold and examples that fail for each definition.
 use Rattle.std.specs.Prelude.{get_or}
 use Rattle.std.proofs.Common.{◌≡◌, ℕ, zero, suc, ◌+◌, ◌*◌, ◌<◌, ◌≤◌, true, false, List, [], ◌∷◌, Some, None, replicate, refl, ap, arith}
+use Rattle.fib_codec.specs.declared.frame_layout.FrameLayout.TheVariants.{Whole}
 use Rattle.mux_eep.specs.declared.sizes.EepSet.TheVariants.{A}
 use Rattle.mux_types.specs.declared.parts.Sub.{Sub}
 use Rattle.mux_config.specs.Configuration.{Configuration, IsPlaced, IsConfiguration}
@@ -39,7 +40,7 @@ use Rattle.plan_player.proofs.FrameFacts.{frame_ready}
 -- ---- values shared by these vectors: one sub-channel, at 128 kbit/s and at 96 kbit/s, and a code with it
 
 abbrev pub plan : Plan
-plan = record { eid = 0xe1c5; mode = I; period = 4; notice = 24; budget = 20 }
+plan = record { eid = 0xe1c5; layout = Whole I; period = 4; notice = 24; budget = 20 }
 
 abbrev with_sub : ℕ → Configuration
 with_sub kbits = record {
@@ -110,14 +111,14 @@ entries kbits = page_set (with_sub kbits) None
 abbrev two_pages : List Marked
 two_pages = page_set many_subs None
 
-one_page : rounds I (entries 128) ≡ 1
+one_page : rounds (Whole I) (entries 128) ≡ 1
 one_page = refl
 
-two_of_them : rounds I two_pages ≡ 2
+two_of_them : rounds (Whole I) two_pages ≡ 2
 two_of_them = refl
 
 abbrev page_of : ℕ → KeptPage
-page_of kbits = record { plain = page_bytes I None 0 (entries kbits) }
+page_of kbits = record { plain = page_bytes (Whole I) None 0 (entries kbits) }
 
 abbrev at_page : ℕ → Cursor
 at_page k = record { page = k; position = record { index = 0; state = before_all } }
@@ -168,10 +169,10 @@ configuration_is = record {
   packets_few = omega arith;
 }
 
-has_page : HasPage I (entries 128) 0 kept.pages
+has_page : HasPage (Whole I) (entries 128) 0 kept.pages
 has_page = record { page = page_of 128; held = refl; kept = record { plain = refl; sendable = sendable_page_set (with_sub 128) None configuration_is tt } }
 
-keeps_none : Keeps I (entries 128) 0 fresh
+keeps_none : Keeps (Whole I) (entries 128) 0 fresh
 keeps_none = record {
   whole = refl;
   room = omega arith;
@@ -182,12 +183,12 @@ keeps_none = record {
   cursor = λ more. (record { within = omega arith; before = record { index = omega arith; used = omega arith; fib = omega arith; below = omega arith; rest = λ m le. refl; last = refl } }, refl);
 }
 
-each_made : (n : ℕ) → n < 1 → HasPage I (entries 128) n kept.pages
+each_made : (n : ℕ) → n < 1 → HasPage (Whole I) (entries 128) n kept.pages
 each_made zero below = has_page
 each_made (suc n) below = absurd (omega (arith, below))
 
 -- the page in turn is the one that was made, or there is none left
-keeps_one : (page_index : ℕ) → page_index ≤ 1 → Keeps I (entries 128) page_index kept
+keeps_one : (page_index : ℕ) → page_index ≤ 1 → Keeps (Whole I) (entries 128) page_index kept
 keeps_one page_index le = record {
   whole = refl;
   room = omega arith;
@@ -199,19 +200,19 @@ keeps_one page_index le = record {
 }
 
 -- page 2 can't be in turn before page 1 was made
-turn_past_made : Keeps I (entries 128) 2 kept → ⊥
+turn_past_made : Keeps (Whole I) (entries 128) 2 kept → ⊥
 turn_past_made h = let e : 2 ≤ 1 = h.index_within in omega (arith, e)
 
 -- one of two pages isn't all of them
-not_all : Keeps I two_pages 0 kept → ⊥
+not_all : Keeps (Whole I) two_pages 0 kept → ⊥
 not_all h = let e : 1 ≡ 2 = h.all refl in omega (arith, e)
 
 -- and where all have been made, no more remain
-no_more : Keeps I (entries 128) 0 (record kept { is_whole = false }) → ⊥
+no_more : Keeps (Whole I) (entries 128) 0 (record kept { is_whole = false }) → ⊥
 no_more h = let e : 1 < 1 = h.more refl in omega (arith, e)
 
 -- the next page to be made is page 0, and this cursor is at another one
-another_place : Keeps I two_pages 0 (record fresh { cursor = at_page 1 }) → ⊥
+another_place : Keeps (Whole I) two_pages 0 (record fresh { cursor = at_page 1 }) → ⊥
 another_place h = let e : 1 ≡ 0 = (h.cursor (omega arith)).1 in omega (arith, e)
 
 -- the last byte of the entry of the sub-channel, with the low part of its size
@@ -219,7 +220,7 @@ abbrev size_in : List ℕ → ℕ
 size_in bytes = get_or bytes 5 0
 
 -- a page of the sub-channel at 96 kbit/s is not a page of these entries
-page_of_others : Keeps I (entries 128) 0 (record kept { pages = Some (page_of 96) ∷ replicate 59 None }) → ⊥
+page_of_others : Keeps (Whole I) (entries 128) 0 (record kept { pages = Some (page_of 96) ∷ replicate 59 None }) → ⊥
 page_of_others h =
     let first_page = h.each 0 (omega arith) in
     let held : Some (Some (page_of 96)) ≡ Some (Some first_page.page) = first_page.held in
@@ -230,10 +231,10 @@ page_of_others h =
 
 -- ---- the last frame
 
-shows_the_page : ShowsBytes kept (page_bytes I None 0 (entries 128))
+shows_the_page : ShowsBytes kept (page_bytes (Whole I) None 0 (entries 128))
 shows_the_page = (page_of 128, refl, refl)
 
-shows_no_other : ShowsBytes kept (page_bytes I None 0 (entries 96)) → ⊥
+shows_no_other : ShowsBytes kept (page_bytes (Whole I) None 0 (entries 96)) → ⊥
 shows_no_other h =
     let held : Some (Some (page_of 128)) ≡ Some (Some h.0) = h.1 in
     let same : page_of 128 ≡ h.0 = cc held in
@@ -268,9 +269,9 @@ not_these_pages h =
     let sent : page_set (with_sub 128) (Some (with_sub 96)) ≡ h.entries = h.sent.0 (omega arith) in
     let held : Some (Some (page_of 128)) ≡ Some (Some first_page.page) = first_page.held in
     let same : page_of 128 ≡ first_page.page = cc held in
-    let plain : fig_after first_page.page.plain ≡ fig_after (page_bytes I None 0 h.entries) = ap fig_after first_page.kept.plain in
+    let plain : fig_after first_page.page.plain ≡ fig_after (page_bytes (Whole I) None 0 h.entries) = ap fig_after first_page.kept.plain in
     let here : 255 ≡ fig_after first_page.page.plain = ap (λ (p : KeptPage). fig_after p.plain) same in
-    let there : 5 ≡ fig_after (page_bytes I None 0 h.entries) = ap (λ (ms : List Marked). fig_after (page_bytes I None 0 ms)) sent in
+    let there : 5 ≡ fig_after (page_bytes (Whole I) None 0 h.entries) = ap (λ (ms : List Marked). fig_after (page_bytes (Whole I) None 0 ms)) sent in
     omega (arith, plain, here, there)
   where
     -- what follows the FIG 0/1 of the current configuration: that of the next one, or the end marker

@@ -1,5 +1,6 @@
 -- Quiet frames of a code that waits, with an empty multiplex: examples that hold and examples that fail.
 use Rattle.std.proofs.Common.{◌≡◌, ℕ, zero, suc, true, false, [], ◌∷◌, Option, Some, None, replicate, refl, arith}
+use Rattle.fib_codec.specs.declared.frame_layout.FrameLayout.TheVariants.{Whole}
 use Rattle.mux_config.specs.Configuration.{nothing}
 use Rattle.fib_codec.specs.declared.modes.Mode.TheVariants.{I}
 use Rattle.plan_code.specs.declared.plan.Plan.{Plan}
@@ -13,7 +14,7 @@ use Rattle.plan_player.specs.Quiet.{IsQuiet, AreQuiet, counted_on, AreCopied, Sw
 use Rattle.plan_player.proofs.Quiet.{quiet_frames_are_copied}
 
 abbrev plan : Plan
-plan = record { eid = 0xe1c5; mode = I; period = 4; notice = 24; budget = 20 }
+plan = record { eid = 0xe1c5; layout = Whole I; period = 4; notice = 24; budget = 20 }
 
 abbrev waits : Program
 waits = record {

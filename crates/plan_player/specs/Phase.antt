@@ -1,10 +1,10 @@
 -- The pages of a phase that a player keeps. Public contracts do not refer to them: a frame's bytes are defined as those
 -- of its page, made anew.
 use Rattle.std.specs.Prelude.{◌≡◌, ℕ, ◌<◌, ◌≤◌, true, false, List, length, Option, Some, None, slice_get}
+use Rattle.fib_codec.specs.declared.frame_layout.FrameLayout.{FrameLayout}
 use Rattle.mux_config.specs.Configuration.{Configuration}
 use Rattle.mux_config.specs.Change.{change_of, bits_of}
 use Rattle.mux_entries.specs.Facts.{Marked}
-use Rattle.fib_codec.specs.declared.modes.Mode.{Mode}
 use Rattle.fib_carousel.specs.declared.kept_page.KeptPage.{KeptPage}
 use Rattle.fib_carousel.specs.Pages.{rounds}
 use Rattle.fib_carousel.specs.Kept.{IsKept}
@@ -21,21 +21,21 @@ use Rattle.plan_player.specs.declared.phase_pages.Sent.{Sent}
 use Rattle.plan_player.specs.declared.phase_pages.Sent.TheVariants.{Kept, Headed}
 
 -- page n is in the table
-pub record HasPage (mode : Mode) (ms : List Marked) (n : ℕ) (pages : List (Option KeptPage)) : Type 0 where
+pub record HasPage (layout : FrameLayout) (ms : List Marked) (n : ℕ) (pages : List (Option KeptPage)) : Type 0 where
   pub page : KeptPage
   pub held : slice_get pages n ≡ Some (Some page)
-  pub kept : IsKept mode ms n page
+  pub kept : IsKept layout ms n page
 
 -- the pages made so far are those of these entries, from page 0 on; the page in turn is one of them or the next to be
 -- made, and the cursor is at the next to be made
-pub record Keeps (mode : Mode) (ms : List Marked) (page_index : ℕ) (p : PhasePages) : Type 0 where
+pub record Keeps (layout : FrameLayout) (ms : List Marked) (page_index : ℕ) (p : PhasePages) : Type 0 where
   pub whole : length p.pages ≡ 60
   pub room : p.made ≤ 60
   pub index_within : page_index ≤ p.made
-  pub each : (n : ℕ) → n < p.made → HasPage mode ms n p.pages
-  pub all : p.is_whole ≡ true → p.made ≡ rounds mode ms
-  pub more : p.is_whole ≡ false → p.made < rounds mode ms
-  pub cursor : p.made < rounds mode ms → IsAtPage mode ms p.made p.cursor
+  pub each : (n : ℕ) → n < p.made → HasPage layout ms n p.pages
+  pub all : p.is_whole ≡ true → p.made ≡ rounds layout ms
+  pub more : p.is_whole ≡ false → p.made < rounds layout ms
+  pub cursor : p.made < rounds layout ms → IsAtPage layout ms p.made p.cursor
 
 -- the last frame: a page that is kept, or one with a FIG 0/0 in a buffer of its own
 abbrev pub ShowsAs : Sent → List (Option KeptPage) → List ℕ → List ℕ → Type 0
@@ -59,7 +59,7 @@ KeepsChange notice (Some left) current next change = left < notice → change �
 pub record IsInPhase (plan : Plan) (s : State) (p : PhasePages) : Type 0 where
   pub entries : List Marked
   pub sent : SentBy plan s.left s.current s.next entries
-  pub keeps : Keeps plan.mode entries s.page_index p
+  pub keeps : Keeps plan.layout entries s.page_index p
   pub change : KeepsChange plan.notice s.left s.current s.next p.change
 
 -- the preconditions of the next frame: its instructions can be executed, and then it can be sent; if it begins a
@@ -70,7 +70,7 @@ pub record IsFrameReady (p : Program) (s : State) (pages : PhasePages) : Type 0 
   pub sent : CanBeSent p.plan (shown p s)
   pub few : sent_rounds p.plan (shown p s) ≤ 60
   pub first : begins_phase p s ≡ true → (shown p s).page_index ≡ 0
-  pub kept : begins_phase p s ≡ false → Keeps p.plan.mode (sent_entries p.plan (shown p s)) (shown p s).page_index pages
+  pub kept : begins_phase p s ≡ false → Keeps p.plan.layout (sent_entries p.plan (shown p s)) (shown p s).page_index pages
   pub change : is_first_noticed p.plan.notice (shown p s).left ≡ false
       → HasChange p.plan.notice (shown p s).left (shown p s).current (shown p s).next pages.change
 

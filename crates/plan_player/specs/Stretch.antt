@@ -2,6 +2,7 @@
 use Rattle.std.specs.Prelude.{◌≡◌, ℕ, suc, ◌-◌, ◌<◌, ◌≤◌, ◌%◌, ◌==◌, ◌++◌, true, false, if◌then◌else◌, List, length, take, Option, Some, None}
 use Rattle.std.specs.List.{concat}
 use Rattle.std.specs.Io.KnownBytes.{Appends}
+use Rattle.fib_codec.specs.Layouts.{layout_mode}
 use Rattle.mux_config.specs.Change.{change_of, bits_of}
 use Rattle.mux_entries.specs.Entries.{EnsembleInformation}
 use Rattle.fib_codec.specs.Modes.{count_step}
@@ -41,7 +42,7 @@ headed_at mode header count = if count % count_step mode == 0 then Some (ensembl
 pub record IsPageReady (plan : Plan) (s : State) (pages : PhasePages) : Type 0 where
   pub sent : CanBeSent plan s
   pub few : sent_rounds plan s ≤ 60
-  pub keeps : Keeps plan.mode (sent_entries plan s) s.page_index pages
+  pub keeps : Keeps plan.layout (sent_entries plan s) s.page_index pages
   pub change : HasChange plan.notice s.left s.current s.next pages.change
 
 -- this holds for each of n frames, all pages have been made, and no notice begins or ends
@@ -66,7 +67,7 @@ pub record IsAlike (plan : Plan) (header : Header) (s t : State) : Type 0 where
   pub entries : sent_entries plan s ≡ sent_entries plan t
   pub first : header_of plan s ≡ header
   pub second : header_of plan t ≡ header
-  pub on_step : (s.count % count_step plan.mode == 0) ≡ (t.count % count_step plan.mode == 0)
+  pub on_step : (s.count % count_step (layout_mode plan.layout) == 0) ≡ (t.count % count_step (layout_mode plan.layout) == 0)
   pub pageable : IsPageable (ensemble_sent plan t) (sent_entries plan t)
 
 abbrev pub AreAlike : Plan → Header → ℕ → State → State → Type 0

@@ -1,7 +1,7 @@
 //! A buffer of frames that go to a sink together.
 
 ghost use Rattle.std.specs.Prelude.{◌≡◌, ℕ, List, ◌+◌, ◌*◌, ◌<◌, ◌≤◌, [], ◌++◌, length, take, drop};
-ghost use Rattle.fib_codec.specs.Modes.{fib_count};
+ghost use Rattle.fib_codec.specs.Layouts.{frame_fibs};
 ghost use Rattle.plan_player.specs.Stretch.{AreRecounted};
 
 use crate::machine::Header;
@@ -86,14 +86,14 @@ impl Batch {
         requires count { count < COUNTS }
         requires change { header.change < 4 }
         requires few { frames ≤ 128 }
-        requires there { frames * (32 * fib_count plan.now.mode) ≤ length self.old }
-        requires room { length self.old + frames * (32 * fib_count plan.now.mode) ≤ 16384 }
+        requires there { frames * (32 * frame_fibs plan.now.layout) ≤ length self.old }
+        requires room { length self.old + frames * (32 * frame_fibs plan.now.layout) ≤ 16384 }
         ensures { (text : List ℕ) × (self.new ≡ self.old ++ text)
             × AreRecounted plan.now header count frames
-            (take (frames * (32 * fib_count plan.now.mode)) self.old) text }
+            (take (frames * (32 * frame_fibs plan.now.layout)) self.old) text }
     {
         let offset = self.len;
-        let len = usize::from(frames) * (32 * plan.mode.fibs());
+        let len = usize::from(frames) * (32 * plan.layout.fibs());
         copy_front(&mut self.bytes, len, offset);
         let copy = &mut self.bytes[offset..offset + len];
         recount_frames(plan, header, count, frames, copy);

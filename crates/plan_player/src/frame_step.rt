@@ -2,7 +2,7 @@
 
 ghost use Rattle.std.specs.Prelude.{◌≡◌, ℕ, ◌<◌, ◌≤◌, List, Some, true, false};
 ghost use Rattle.mux_entries.specs.Facts.{Marked};
-ghost use Rattle.fib_codec.specs.declared.modes.Mode.{Mode};
+ghost use Rattle.fib_codec.specs.declared.frame_layout.FrameLayout.{FrameLayout};
 ghost use Rattle.fib_carousel.specs.Pages.{page_after};
 ghost use Rattle.fib_carousel.specs.Bytes.{page_bytes};
 ghost use Rattle.plan_runs.specs.Frames.{is_first_noticed, shown, shown_bytes, sent_entries, sent_rounds, with_next_counts, frame_bytes, frame_steps, after_frame};
@@ -20,18 +20,18 @@ use plan_code::{Code, Plan};
 /// Makes the page in turn, unless it has already been made in this phase.
 fn make_page_to_send<S: Store>(plan: &Plan, machine: &Machine<S>, pages: &mut PhasePages)
     requires keeps { let s = state_of S.content machine.now in
-        Keeps plan.now.mode (sent_entries plan.now s) s.page_index pages.old }
+        Keeps plan.now.layout (sent_entries plan.now s) s.page_index pages.old }
     requires within { let s = state_of S.content machine.now in s.page_index < sent_rounds plan.now s }
     requires few { sent_rounds plan.now (state_of S.content machine.now) ≤ 60 }
     ensures keeps { let s = state_of S.content machine.now in
-        Keeps plan.now.mode (sent_entries plan.now s) s.page_index pages.new }
+        Keeps plan.now.layout (sent_entries plan.now s) s.page_index pages.new }
     ensures made { machine.now.page_index < pages.new.made }
     ensures change { pages.new.change ≡ pages.old.change }
 {
     let next = next_sent(plan, machine);
     make_if_new(
         pages,
-        plan.mode,
+        plan.layout,
         machine.page_index(),
         machine.current(),
         next,
@@ -41,11 +41,13 @@ fn make_page_to_send<S: Store>(plan: &Plan, machine: &Machine<S>, pages: &mut Ph
 /// Makes a frame from this page, which has been made, with this FIG 0/0.
 #[inline(never)]
 fn show_headed(pages: &mut PhasePages, number: u8, ensemble: Ensemble)
-    requires { (mode : Mode) × (ms : List Marked) × HasPage mode ms number pages.old.pages }
-    ensures bytes { (mode : Mode) (ms : List Marked) → HasPage mode ms number pages.old.pages
-        → ShowsBytes pages.new (page_bytes mode (Some ensemble) number ms) }
-    ensures keeps { (mode : Mode) (ms : List Marked) (page_index : ℕ) →
-        Keeps mode ms page_index pages.old → Keeps mode ms page_index pages.new }
+    requires { (layout : FrameLayout) × (ms : List Marked)
+        × HasPage layout ms number pages.old.pages }
+    ensures bytes { (layout : FrameLayout) (ms : List Marked)
+        → HasPage layout ms number pages.old.pages
+        → ShowsBytes pages.new (page_bytes layout (Some ensemble) number ms) }
+    ensures keeps { (layout : FrameLayout) (ms : List Marked) (page_index : ℕ) →
+        Keeps layout ms page_index pages.old → Keeps layout ms page_index pages.new }
     ensures made { pages.new.made ≡ pages.old.made }
     ensures change { pages.new.change ≡ pages.old.change }
 {
@@ -55,11 +57,13 @@ fn show_headed(pages: &mut PhasePages, number: u8, ensemble: Ensemble)
 
 /// Makes a frame from this page, which has been made, with this FIG 0/0 if there is one.
 fn show(pages: &mut PhasePages, number: u8, ensemble: Option<Ensemble>)
-    requires { (mode : Mode) × (ms : List Marked) × HasPage mode ms number pages.old.pages }
-    ensures bytes { (mode : Mode) (ms : List Marked) → HasPage mode ms number pages.old.pages
-        → ShowsBytes pages.new (page_bytes mode ensemble number ms) }
-    ensures keeps { (mode : Mode) (ms : List Marked) (page_index : ℕ) →
-        Keeps mode ms page_index pages.old → Keeps mode ms page_index pages.new }
+    requires { (layout : FrameLayout) × (ms : List Marked)
+        × HasPage layout ms number pages.old.pages }
+    ensures bytes { (layout : FrameLayout) (ms : List Marked)
+        → HasPage layout ms number pages.old.pages
+        → ShowsBytes pages.new (page_bytes layout ensemble number ms) }
+    ensures keeps { (layout : FrameLayout) (ms : List Marked) (page_index : ℕ) →
+        Keeps layout ms page_index pages.old → Keeps layout ms page_index pages.new }
     ensures made { pages.new.made ≡ pages.old.made }
     ensures change { pages.new.change ≡ pages.old.change }
 {
@@ -74,7 +78,7 @@ pub(crate) fn send<S: Store>(plan: &Plan, machine: &mut Machine<S>, pages: &mut 
     requires sent { CanBeSent plan.now (state_of S.content machine.old) }
     requires few { sent_rounds plan.now (state_of S.content machine.old) ≤ 60 }
     requires keeps { let s = state_of S.content machine.old in
-        Keeps plan.now.mode (sent_entries plan.now s) s.page_index pages.old }
+        Keeps plan.now.layout (sent_entries plan.now s) s.page_index pages.old }
     requires change { let s = state_of S.content machine.old in
         HasChange plan.now.notice s.left s.current s.next pages.old.change }
     ensures bytes { ShowsBytes pages.new (shown_bytes plan.now (state_of S.content machine.old)) }
@@ -82,7 +86,7 @@ pub(crate) fn send<S: Store>(plan: &Plan, machine: &mut Machine<S>, pages: &mut 
         with_next_counts plan.now (state_of S.content machine.old) }
     ensures keeps { let s = state_of S.content machine.old in
         let page_index = page_after (sent_rounds plan.now s) s.page_index in
-        Keeps plan.now.mode (sent_entries plan.now s) page_index pages.new }
+        Keeps plan.now.layout (sent_entries plan.now s) page_index pages.new }
     ensures change { pages.new.change ≡ pages.old.change }
 {
     make_page_to_send(plan, machine, pages);
@@ -94,7 +98,8 @@ pub(crate) fn send<S: Store>(plan: &Plan, machine: &mut Machine<S>, pages: &mut 
 
 /// Discards the pages at the start of a phase.
 fn renew(begins: bool, pages: &mut PhasePages)
-    ensures began { begins ≡ true → (mode : Mode) (ms : List Marked) → Keeps mode ms 0 pages.new }
+    ensures began { begins ≡ true
+        → (layout : FrameLayout) (ms : List Marked) → Keeps layout ms 0 pages.new }
     ensures stays { begins ≡ false → pages.new ≡ pages.old }
     ensures change { pages.new.change ≡ pages.old.change }
 {
@@ -110,8 +115,8 @@ fn note_change<S: Store>(plan: &Plan, machine: &Machine<S>, pages: &mut PhasePag
         HasChange plan.now.notice s.left s.current s.next pages.old.change }
     ensures change { let s = state_of S.content machine.now in
         HasChange plan.now.notice s.left s.current s.next pages.new.change }
-    ensures keeps { (mode : Mode) (ms : List Marked) (page_index : ℕ) →
-        Keeps mode ms page_index pages.old → Keeps mode ms page_index pages.new }
+    ensures keeps { (layout : FrameLayout) (ms : List Marked) (page_index : ℕ) →
+        Keeps layout ms page_index pages.old → Keeps layout ms page_index pages.new }
 {
     if is_first_noticed(plan.notice, machine.left()) {
         pages.change = change(machine.current(), machine.next()).bits();
@@ -132,7 +137,7 @@ fn prepare<S: Store>(
         shown code.now (state_of S.content machine.old) }
     ensures steps { result ≡ frame_steps code.now (state_of S.content machine.old) }
     ensures keeps { let u = shown code.now (state_of S.content machine.old) in
-        Keeps code.now.plan.mode (sent_entries code.now.plan u) u.page_index pages.new }
+        Keeps code.now.plan.layout (sent_entries code.now.plan u) u.page_index pages.new }
     ensures change { pages.new.change ≡ pages.old.change }
 {
     let swapped = begin(machine);
@@ -155,7 +160,7 @@ pub(crate) fn make_frame<S: Store>(
         after_frame code.now (state_of S.content machine.old) }
     ensures keeps { let u = shown code.now (state_of S.content machine.old) in
         let t = after_frame code.now (state_of S.content machine.old) in
-        Keeps code.now.plan.mode (sent_entries code.now.plan u) t.page_index pages.new }
+        Keeps code.now.plan.layout (sent_entries code.now.plan u) t.page_index pages.new }
     ensures change { let u = shown code.now (state_of S.content machine.old) in
         HasChange code.now.plan.notice u.left u.current u.next pages.new.change }
 {

@@ -3,13 +3,13 @@
 ghost use Rattle.std.specs.Prelude.{◌≡◌, ℕ, ◌+◌, ◌<◌, ◌≤◌, List, slice_get, Some, true, false};
 ghost use Rattle.std.specs.Option.{option_copied};
 ghost use Rattle.mux_entries.specs.Facts.{Marked};
-ghost use Rattle.fib_codec.specs.declared.modes.Mode.{Mode};
+ghost use Rattle.fib_codec.specs.declared.frame_layout.FrameLayout.{FrameLayout};
 ghost use Rattle.fib_carousel.specs.Pages.{page_set_of, rounds};
 ghost use Rattle.fib_carousel.specs.declared.kept_page.KeptPage.{KeptPage};
 ghost use Rattle.plan_player.specs.Phase.{Keeps, ShowsBytes};
 
 use fib_carousel::{Cursor, KeptPage};
-use fib_codec::{FibFrame, Mode};
+use fib_codec::{FibFrame, FrameLayout, Mode};
 use mux_config::Store;
 
 /// The maximum number of pages in a phase of a typed code: the longest period of a plan.
@@ -54,18 +54,23 @@ pub(crate) fn held(pages: &[Option<KeptPage>; MOST_PAGES], number: u8) -> &KeptP
 
 /// Makes the next page.
 #[inline(never)]
-fn make<'a, 'b, S: Store>(pages: &mut PhasePages, mode: Mode, current: &'a S, next: Option<&'b S>)
+fn make<'a, 'b, S: Store>(
+    pages: &mut PhasePages,
+    layout: FrameLayout,
+    current: &'a S,
+    next: Option<&'b S>,
+)
     requires keeps { let ms = page_set_of S.content current.now (option_copied next) in
-        Keeps mode ms pages.old.made pages.old }
+        Keeps layout ms pages.old.made pages.old }
     requires within { let ms = page_set_of S.content current.now (option_copied next) in
-        pages.old.made < rounds mode ms }
+        pages.old.made < rounds layout ms }
     requires few { pages.old.made < 60 }
     ensures keeps { let ms = page_set_of S.content current.now (option_copied next.entry) in
-        Keeps mode ms pages.old.made pages.new }
+        Keeps layout ms pages.old.made pages.new }
     ensures made { pages.new.made ≡ pages.old.made + 1 }
     ensures change { pages.new.change ≡ pages.old.change }
 {
-    let page = pages.cursor.kept_page(mode, current, next);
+    let page = pages.cursor.kept_page(layout, current, next);
     let place = usize::from(pages.made);
     pages.pages[place] = Some(page);
     pages.is_whole = pages.cursor.number() == 0;
@@ -75,30 +80,31 @@ fn make<'a, 'b, S: Store>(pages: &mut PhasePages, mode: Mode, current: &'a S, ne
 /// Makes the page in turn of these configurations, unless it has already been made in this phase.
 pub(crate) fn make_if_new<'a, 'b, S: Store>(
     pages: &mut PhasePages,
-    mode: Mode,
+    layout: FrameLayout,
     page_index: u8,
     current: &'a S,
     next: Option<&'b S>,
 )
     requires keeps { let ms = page_set_of S.content current.now (option_copied next) in
-        Keeps mode ms page_index pages.old }
-    requires within { page_index < rounds mode (page_set_of S.content current.now (option_copied next)) }
+        Keeps layout ms page_index pages.old }
+    requires within { let ms = page_set_of S.content current.now (option_copied next) in
+        page_index < rounds layout ms }
     requires few { page_index < 60 }
     ensures keeps { let ms = page_set_of S.content current.now (option_copied next.entry) in
-        Keeps mode ms page_index pages.new }
+        Keeps layout ms page_index pages.new }
     ensures made { page_index < pages.new.made }
     ensures change { pages.new.change ≡ pages.old.change }
 {
     if page_index < pages.made {
         return;
     }
-    make(pages, mode, current, next);
+    make(pages, layout, current, next);
 }
 
 impl PhasePages {
     /// A phase without pages.
     pub(crate) fn new() -> PhasePages
-        ensures { (mode : Mode) (ms : List Marked) → Keeps mode ms 0 result }
+        ensures { (layout : FrameLayout) (ms : List Marked) → Keeps layout ms 0 result }
     {
         PhasePages {
             pages: [None; MOST_PAGES],
@@ -133,7 +139,7 @@ impl PhasePages {
 
     /// Discards the pages at the start of a phase.
     pub(crate) fn restart(&mut self)
-        ensures pages { (mode : Mode) (ms : List Marked) → Keeps mode ms 0 self.new }
+        ensures pages { (layout : FrameLayout) (ms : List Marked) → Keeps layout ms 0 self.new }
         ensures change { self.new.change ≡ self.old.change }
     {
         self.made = 0;

@@ -1,7 +1,7 @@
 //! Changing the count of FIG 0/0 in finished frames.
 
 ghost use Rattle.std.specs.Prelude.{◌≡◌, ℕ, ◌*◌, ◌-◌, ◌%◌, ◌<◌, ◌≤◌, List, ◌∷◌, length};
-ghost use Rattle.fib_codec.specs.Modes.{fib_count};
+ghost use Rattle.fib_codec.specs.Layouts.{frame_fibs};
 ghost use Rattle.fib_codec.specs.Spelling.{checked};
 ghost use Rattle.plan_player.specs.Stretch.{AreRecounted};
 
@@ -41,12 +41,12 @@ pub(crate) fn recount_frames(plan: &Plan, header: Header, count: u16, frames: u1
     requires count { count < COUNTS }
     requires change { header.change < 4 }
     requires few { frames ≤ 128 }
-    requires size { length bytes.old ≡ frames * (32 * fib_count plan.now.mode) }
+    requires size { length bytes.old ≡ frames * (32 * frame_fibs plan.now.layout) }
     ensures frames { AreRecounted plan.now header count frames bytes.old bytes.new }
     ensures size { length bytes.new ≡ length bytes.old }
 {
-    let size = 32 * plan.mode.fibs();
-    let step = plan.mode.step();
+    let size = 32 * plan.layout.fibs();
+    let step = plan.layout.mode().step();
     let mut at = before_step(step, count);
     let mut number = count_later(count, at);
     while at < frames {

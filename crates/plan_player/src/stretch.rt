@@ -3,6 +3,7 @@
 ghost use Rattle.std.specs.Prelude.{◌≡◌, ℕ, ◌+◌, ◌≤◌, ◌<◌, ◌%◌, ◌==◌, ◌++◌, List, length, true, false, IfOk, IfErr, OnOk, OnErr};
 ghost use Rattle.std.specs.List.{concat};
 ghost use Rattle.std.specs.Io.KnownBytes.{Appends};
+ghost use Rattle.fib_codec.specs.Layouts.{layout_mode};
 ghost use Rattle.mux_entries.specs.Facts.{Marked};
 ghost use Rattle.fib_codec.specs.Modes.{count_step};
 ghost use Rattle.fib_codec.specs.Ranges.{IsEnsembleInformation};
@@ -23,25 +24,26 @@ use crate::sink::{Sink, put_all};
 use fib_carousel::KeptPage;
 use fib_codec::FibFrame;
 use mux_config::Store;
-use plan_code::{Mode, Plan};
+use plan_code::{FrameLayout, Plan};
 
 /// Appends a frame with this page, and with FIG 0/0 if the mode sends it at this count.
 fn push(
-    mode: Mode,
+    layout: FrameLayout,
     header: Header,
     count: u16,
     page: &KeptPage,
     headed: &mut FibFrame,
     batch: &mut Batch,
 )
-    requires within { (count % count_step mode == 0) ≡ true
+    requires within { (count % count_step (layout_mode layout) == 0) ≡ true
         → IsEnsembleInformation (ensemble_at header count) }
     requires room { length batch.old + 128 ≤ 16384 }
-    ensures bytes { (ms : List Marked) (k : ℕ) → IsKept mode ms k page.now
-        → batch.new ≡ batch.old ++ page_bytes mode (headed_at mode header count) k ms }
+    ensures bytes { (ms : List Marked) (k : ℕ) → IsKept layout ms k page.now
+        → batch.new
+        ≡ batch.old ++ page_bytes layout (headed_at (layout_mode layout) header count) k ms }
     ensures size { length batch.new ≤ length batch.old + 128 }
 {
-    if is_on_step(mode, count) {
+    if is_on_step(layout.mode(), count) {
         page.with_ensemble(header.at(count), headed);
         batch.append(headed.bytes());
     } else {
@@ -85,13 +87,13 @@ fn begin<S: Store>(
 {
     batch.clear();
     let rounds = usize::from(pages.made);
-    let mut headed = FibFrame::new(plan.mode);
+    let mut headed = FibFrame::new(plan.layout.mode());
     let mut page_index = machine.page_index();
     let mut number = machine.count();
     let mut done = 0u16;
     while done < count {
         let page = held(&pages.pages, page_index);
-        push(plan.mode, header, number, page, &mut headed, batch);
+        push(plan.layout, header, number, page, &mut headed, batch);
         page_index = page_after(rounds, page_index);
         number = count_after(number);
         done += 1;
@@ -112,7 +114,7 @@ fn repeat<S: Store>(
     requires few { count ≤ 128 }
     requires within { (1 ≤ cycle) × (cycle ≤ count) }
     requires pages { cycle % pages.now.made ≡ 0 }
-    requires steps { cycle % count_step plan.now.mode ≡ 0 }
+    requires steps { cycle % count_step (layout_mode plan.now.layout) ≡ 0 }
     requires stretch { IsStretch plan.now count (state_of S.content machine.now) pages.now }
     requires header { header ≡ header_of plan.now (state_of S.content machine.now) }
     requires begun { batch.old ≡
@@ -146,7 +148,7 @@ fn fill<S: Store>(
         concat (notice_frames plan.now count (state_of S.content machine.now)) }
 {
     let header = make_header(plan, machine, pages.change);
-    let cycle = whole_cycle(pages.made, plan.mode.step());
+    let cycle = whole_cycle(pages.made, plan.layout.mode().step());
     if count <= cycle {
         begin(plan, machine, pages, header, count, batch);
         return;
@@ -189,7 +191,7 @@ pub(crate) fn put_stretch<S: Store, K: Sink>(
             Ok(u32::from(count))
         }
         Err(taken) => {
-            let size = 32 * plan.mode.fibs();
+            let size = 32 * plan.layout.fibs();
             let frames = (taken / size) as u16;
             pass_many(pages.made, frames + 1, machine);
             Err(Cut {

@@ -3,6 +3,7 @@ use Rattle.std.specs.Prelude.{Contains, slice_get, ◌==◌}
 use Rattle.std.proofs.Common.{◌≡◌, ℕ, zero, suc, ◌+◌, ◌-◌, ◌*◌, ◌%◌, ◌<◌, ◌≤◌, Bool, true, false, cond, ltb, List, [], ◌∷◌, ◌++◌, Option, Some, None, refl, sym, ap, subst, append_assoc, ◌∙◌, arith}
 use Rattle.std.proofs.lemmas.Bool.{eq-eqb, ltb-true, lt-ltb}
 use Rattle.std.proofs.lemmas.List.Elements.{Contains-append_right}
+use Rattle.fib_codec.specs.Layouts.{layout_mode}
 use Rattle.mux_config.specs.Configuration.{Configuration, IsConfiguration}
 use Rattle.mux_entries.specs.Entries.{EnsembleInformation}
 use Rattle.mux_entries.specs.Facts.{Marked, facts_of}
@@ -73,7 +74,7 @@ pub record IsDue (plan : Plan) (c n : Configuration) (eid count : ℕ) : Type 0 
   pub next : IsConfiguration n
   pub on_air : IsOnAir plan c
   pub committed : IsCommitted plan c n
-  pub on_step : count % count_step plan.mode ≡ 0
+  pub on_step : count % count_step (layout_mode plan.layout) ≡ 0
 
 swap_base : (m : Mode) (notice count i : ℕ) → i < notice → notice ≤ 248 → count < 5000 → count % count_step m ≡ 0
     → (((count + 0 + 5000 - notice) % 5000 + i) % 5000 + (notice - i)) % count_step m ≡ 0
@@ -97,7 +98,7 @@ notice_airs plan c n eid count i d below =
       ahead = ahead;
       on_air = d.on_air;
       committed = d.committed;
-      swaps = swap_base plan.mode plan.notice count i below d.notice_to d.count_low d.on_step;
+      swaps = swap_base (layout_mode plan.layout) plan.notice count i below d.notice_to d.count_low d.on_step;
       page_index = record {
         within = λ inside. sym (ap (page_of (both_rounds plan c n)) back);
         before = λ past. absurd (omega (arith, past));
@@ -111,14 +112,14 @@ notice_entries plan c n eid base i below =
 
 -- an entry of the page in turn is heard
 notice_hears : PageLaws → (plan : Plan) (c n : Configuration) (eid count i : ℕ) → IsDue plan c n eid count → i < plan.notice → (m : Marked)
-    → Contains (page_entries plan.mode (page_of (both_rounds plan c n) i) (page_set c (Some n))) m → IsHeardInRow (notice_at plan c n eid (base_of plan count 0) i) m
+    → Contains (page_entries plan.layout (page_of (both_rounds plan c n) i) (page_set c (Some n))) m → IsHeardInRow (notice_at plan c n eid (base_of plan count 0) i) m
 notice_hears laws plan c n eid count i d below m inside =
     let base : ℕ = base_of plan count 0 in
     let st : State = noticed_state plan c n eid base i in
     let a = notice_airs plan c n eid count i d below in
-    let there : Contains (page_entries plan.mode st.page_index (sent_entries plan st)) m =
-    subst (λ (es : List Marked). Contains (page_entries plan.mode (page_of (both_rounds plan c n) i) es) m) (sym (notice_entries plan c n eid base i below)) inside in
-    let heard : IsHeardInRow (shown_bytes plan st) m = (laws.heard plan.mode (ensemble_sent plan st) st.page_index (sent_entries plan st) (pageable laws plan st a) m).1 there in
+    let there : Contains (page_entries plan.layout st.page_index (sent_entries plan st)) m =
+    subst (λ (es : List Marked). Contains (page_entries plan.layout (page_of (both_rounds plan c n) i) es) m) (sym (notice_entries plan c n eid base i below)) inside in
+    let heard : IsHeardInRow (shown_bytes plan st) m = (laws.heard plan.layout (ensemble_sent plan st) st.page_index (sent_entries plan st) (pageable laws plan st a) m).1 there in
     subst (λ (b : List ℕ). IsHeardInRow b m) (sym (notice_at_is plan c n eid base i)) heard
 
 -- ---- three parts
@@ -129,11 +130,11 @@ part_whole : PageLaws → (plan : Plan) (c n : Configuration) (eid count a k : �
 part_whole laws plan c n eid count a k d again long within m inside =
     let f : ℕ → List ℕ = notice_at plan c n eid (base_of plan count 0) in
     let pages : ℕ = both_rounds plan c n in
-    let there = laws.each plan.mode (page_set c (Some n)) m (Contains-append_right (facts_of c false) (facts_of n true) m inside) in
+    let there = laws.each plan.layout (page_set c (Some n)) m (Contains-append_right (facts_of c false) (facts_of n true) m inside) in
     let j : ℕ = there.0 in
     let page_index : page_of pages (a + j) ≡ j = again j ∙ page_up pages j there.1 in
-    let here : Contains (page_entries plan.mode (page_of pages (a + j)) (page_set c (Some n))) m =
-    subst (λ (x : ℕ). Contains (page_entries plan.mode x (page_set c (Some n))) m) (sym page_index) there.2 in
+    let here : Contains (page_entries plan.layout (page_of pages (a + j)) (page_set c (Some n))) m =
+    subst (λ (x : ℕ). Contains (page_entries plan.layout x (page_set c (Some n))) m) (sym page_index) there.2 in
     let below : a + j < plan.notice = omega (arith, there.1, long, within) in
     (f (a + j), contains_frame f a k (a + j) (omega arith) (omega (arith, there.1, long)), notice_hears laws plan c n eid count (a + j) d below m here)
 
@@ -153,17 +154,17 @@ step_low II = (omega arith, omega arith)
 step_low III = (omega arith, omega arith)
 step_low IV = (omega arith, omega arith)
 
-sent_here : (plan : Plan) (s : State) → s.count % count_step plan.mode ≡ 0 → ensemble_sent plan s ≡ Some (ensemble_of plan s)
-sent_here plan s e = ap (λ (b : Bool). cond b (Some (ensemble_of plan s)) None) (eq-eqb (s.count % count_step plan.mode) 0 e)
+sent_here : (plan : Plan) (s : State) → s.count % count_step (layout_mode plan.layout) ≡ 0 → ensemble_sent plan s ≡ Some (ensemble_of plan s)
+sent_here plan s e = ap (λ (b : Bool). cond b (Some (ensemble_of plan s)) None) (eq-eqb (s.count % count_step (layout_mode plan.layout)) 0 e)
 
-header_at : PageLaws → (plan : Plan) (c n : Configuration) (eid count i : ℕ) → IsDue plan c n eid count → i < plan.notice → (base_of plan count 0 + i) % 5000 % count_step plan.mode ≡ 0
+header_at : PageLaws → (plan : Plan) (c n : Configuration) (eid count i : ℕ) → IsDue plan c n eid count → i < plan.notice → (base_of plan count 0 + i) % 5000 % count_step (layout_mode plan.layout) ≡ 0
     → HasHeader (notice_at plan c n eid (base_of plan count 0) i)
 header_at laws plan c n eid count i d below whole =
     let base : ℕ = base_of plan count 0 in
     let st : State = noticed_state plan c n eid base i in
     let a = notice_airs plan c n eid count i d below in
     let heard : IsEnsembleHeardInRow (shown_bytes plan st) false (ensemble_of plan st) =
-    (laws.ensemble plan.mode (ensemble_sent plan st) st.page_index (sent_entries plan st) (pageable laws plan st a) false (ensemble_of plan st)).1 (refl, sent_here plan st whole) in
+    (laws.ensemble plan.layout (ensemble_sent plan st) st.page_index (sent_entries plan st) (pageable laws plan st a) false (ensemble_of plan st)).1 (refl, sent_here plan st whole) in
     (false, ensemble_of plan st, subst (λ (b : List ℕ). IsEnsembleHeardInRow b false (ensemble_of plan st)) (sym (notice_at_is plan c n eid base i)) heard)
 
 header_below : (m : Mode) (notice j : ℕ) → 1 ≤ j → 12 ≤ notice → notice - j * count_step m < notice
@@ -173,12 +174,12 @@ header_below III notice j some long = omega (arith, some, long)
 header_below IV notice j some long = omega (arith, some, long)
 
 headed_at : PageLaws → (plan : Plan) (c n : Configuration) (eid count j : ℕ) → IsDue plan c n eid count → 1 ≤ j → j ≤ 3
-    → IsHeaded (frames_from (notice_at plan c n eid (base_of plan count 0)) 0 plan.notice) (plan.notice - j * count_step plan.mode)
+    → IsHeaded (frames_from (notice_at plan c n eid (base_of plan count 0)) 0 plan.notice) (plan.notice - j * count_step (layout_mode plan.layout))
 headed_at laws plan c n eid count j d some three =
     let f : ℕ → List ℕ = notice_at plan c n eid (base_of plan count 0) in
-    let i : ℕ = plan.notice - j * count_step plan.mode in
-    let below : i < plan.notice = header_below plan.mode plan.notice j some d.notice_from in
-    let whole = header_count plan.mode plan.notice count j some three d.notice_from d.notice_to d.count_low d.on_step in
+    let i : ℕ = plan.notice - j * count_step (layout_mode plan.layout) in
+    let below : i < plan.notice = header_below (layout_mode plan.layout) plan.notice j some d.notice_from in
+    let whole = header_count (layout_mode plan.layout) plan.notice count j some three d.notice_from d.notice_to d.count_low d.on_step in
     let at : slice_get (frames_from f 0 plan.notice) i ≡ Some (f i) = frames_get f 0 plan.notice i below ∙ ap (λ (x : ℕ). Some (f x)) (omega arith) in
     (f i, at, header_at laws plan c n eid count i d below whole)
 
@@ -190,11 +191,11 @@ headers_rise IV notice long = (omega (arith, long), omega (arith, long))
 
 three_headers : PageLaws → (plan : Plan) (c n : Configuration) (eid count : ℕ) → IsDue plan c n eid count → HasThreeHeaders (frames_from (notice_at plan c n eid (base_of plan count 0)) 0 plan.notice)
 three_headers laws plan c n eid count d =
-    let rise = headers_rise plan.mode plan.notice d.notice_from in
+    let rise = headers_rise (layout_mode plan.layout) plan.notice d.notice_from in
     record {
-      first = plan.notice - 3 * count_step plan.mode;
-      second = plan.notice - 2 * count_step plan.mode;
-      third = plan.notice - 1 * count_step plan.mode;
+      first = plan.notice - 3 * count_step (layout_mode plan.layout);
+      second = plan.notice - 2 * count_step (layout_mode plan.layout);
+      third = plan.notice - 1 * count_step (layout_mode plan.layout);
       before_second = rise.0;
       before_third = rise.1;
       in_first = headed_at laws plan c n eid count 3 d (omega arith) (omega arith);
@@ -213,7 +214,7 @@ sent_by plan s e true h = cc h
 sent_by plan s e false h = absurd cc
 
 pub sent_is : (plan : Plan) (s : State) (e : EnsembleInformation) → ensemble_sent plan s ≡ Some e → ensemble_of plan s ≡ e
-sent_is plan s e h = sent_by plan s e (s.count % count_step plan.mode == 0) h
+sent_is plan s e h = sent_by plan s e (s.count % count_step (layout_mode plan.layout) == 0) h
 
 -- in a notice it has the change flags and the occurrence
 pub record IsNoticeInformation (s : State) (e : EnsembleInformation) : Type 0 where
@@ -237,7 +238,7 @@ flagged_at laws plan c n eid count i d below marked e heard =
     let st : State = noticed_state plan c n eid base i in
     let a = notice_airs plan c n eid count i d below in
     let there : IsEnsembleHeardInRow (shown_bytes plan st) marked e = subst (λ (b : List ℕ). IsEnsembleHeardInRow b marked e) (notice_at_is plan c n eid base i) heard in
-    let sent = (laws.ensemble plan.mode (ensemble_sent plan st) st.page_index (sent_entries plan st) (pageable laws plan st a) marked e).0 there in
+    let sent = (laws.ensemble plan.layout (ensemble_sent plan st) st.page_index (sent_entries plan st) (pageable laws plan st a) marked e).0 there in
     let same = sent_is plan st e sent.1 in
     let info = noticed_information plan st (noticed plan.notice (plan.notice - i) (omega (arith, below)) (omega arith)) in
     let low = swap_low plan.notice count i below d.notice_to d.count_low in
@@ -250,7 +251,7 @@ pub notice_announces : PageLaws → (plan : Plan) (c n : Configuration) (eid cou
 notice_announces laws plan c n eid count d =
     let f : ℕ → List ℕ = notice_at plan c n eid (base_of plan count 0) in
     let pages : ℕ = both_rounds plan c n in
-    let some = some_rounds plan.mode (page_set c (Some n)) in
+    let some = some_rounds plan.layout (page_set c (Some n)) in
     let room : 3 * pages ≤ plan.notice = d.committed.three_times in
     let rest : ℕ = plan.notice - (pages + pages) in
     let all : plan.notice ≡ pages + (pages + rest) = omega (arith, room) in
@@ -284,7 +285,7 @@ due_left (Some l) e = ap (λ (x : ℕ). Some x) (due_is l e)
 swap_announced : PageLaws → (p : Program) (ts : List Known) → IsCode p ts → (s : State) → Holds p ts s → is_due s.left ≡ true → IsAnnounced s.current s.next s.count (heard_of p.plan s)
 swap_announced laws p ts c s h due =
     let is = due_left s.left due in
-    let whole : (s.count + 0) % count_step p.plan.mode ≡ 0 = subst (λ (o : Option ℕ). SwapsOn p.plan s.count o) is h.tracked.swaps in
+    let whole : (s.count + 0) % count_step (layout_mode p.plan.layout) ≡ 0 = subst (λ (o : Option ℕ). SwapsOn p.plan s.count o) is h.tracked.swaps in
     let none : s.count + 0 ≡ s.count = omega arith in
     let all : p.plan.notice - 0 ≡ p.plan.notice = omega arith in
     let d : IsDue p.plan s.current s.next s.eid s.count =
@@ -297,7 +298,7 @@ swap_announced laws p ts c s h due =
       next = h.tracked.next;
       on_air = h.between.kept.on_air;
       committed = subst (λ (o : Option ℕ). CommittedBy p.plan o s.current s.next) is h.between.kept.committed;
-      on_step = subst (λ (x : ℕ). x % count_step p.plan.mode ≡ 0) none whole;
+      on_step = subst (λ (x : ℕ). x % count_step (layout_mode p.plan.layout) ≡ 0) none whole;
     } in
     let heard : heard_of p.plan s ≡ frames_from (notice_at p.plan s.current s.next s.eid (base_of p.plan s.count 0)) 0 p.plan.notice =
     heard_is p.plan s 0 is ∙ ap (frames_from (notice_at p.plan s.current s.next s.eid (base_of p.plan s.count 0)) 0) all in

@@ -1,5 +1,6 @@
 -- What instructions leave unchanged in any code: the current configuration, the counts, and a pending swap.
 use Rattle.std.proofs.Common.{◌≡◌, ℕ, zero, suc, ◌+◌, ◌%◌, ◌<◌, ◌≤◌, Bool, true, false, cond, Option, Some, None, refl, sym, subst, ◌∙◌, arith}
+use Rattle.fib_codec.specs.Layouts.{layout_mode}
 use Rattle.mux_config.specs.Configuration.{Configuration, IsConfiguration}
 use Rattle.mux_config.specs.Edits.{changed, IsInRange}
 use Rattle.mux_config.specs.declared.edit.Edit.{Edit}
@@ -20,7 +21,7 @@ use Rattle.plan_runs.proofs.Between.{line_formed, step_is}
 -- where no swap was pending there is none, or one was committed with the whole notice, to a count on the mode's step
 abbrev pub IsNewly : Plan → ℕ → Option ℕ → Type 0
 IsNewly plan count None = Unit {0}
-IsNewly plan count (Some l) = (plan.notice ≤ l) × ((count + l) % count_step plan.mode ≡ 0)
+IsNewly plan count (Some l) = (plan.notice ≤ l) × ((count + l) % count_step (layout_mode plan.layout) ≡ 0)
 
 abbrev pub LeftBy : Plan → ℕ → Option ℕ → Configuration → Option ℕ → Configuration → Type 0
 LeftBy plan count None n left m = IsNewly plan count left
@@ -105,10 +106,10 @@ effect_carries plan (Wait n) s f a = record { current = refl; count = refl; eid 
 effect_carries plan (Until d) s f a = record { current = refl; count = refl; eid = refl; page_index = refl; left = left_same plan s.count s.left s.next; next = λ c. c }
 effect_carries plan (WaitContact d closed) s f a = record { current = refl; count = refl; eid = refl; page_index = refl; left = left_same plan s.count s.left s.next; next = λ c. c }
 effect_carries plan (CommitIn k) s f a =
-    let new : IsNewly plan s.count (Some (left_in (count_step plan.mode) s.count k)) = (in_notice plan.mode s.count k plan.notice a.1, in_step plan.mode s.count k) in
-    record { current = refl; count = refl; eid = refl; page_index = refl; left = left_new plan s.count s.left (Some (left_in (count_step plan.mode) s.count k)) s.next s.next a.0.idle new; next = λ c. c }
+    let new : IsNewly plan s.count (Some (left_in (count_step (layout_mode plan.layout)) s.count k)) = (in_notice (layout_mode plan.layout) s.count k plan.notice a.1, in_step (layout_mode plan.layout) s.count k) in
+    record { current = refl; count = refl; eid = refl; page_index = refl; left = left_new plan s.count s.left (Some (left_in (count_step (layout_mode plan.layout)) s.count k)) s.next s.next a.0.idle new; next = λ c. c }
 effect_carries plan (CommitAt n) s f a =
-    let new : IsNewly plan s.count (Some (left_at s.count plan.notice n)) = (at_notice s.count plan.notice n, at_step plan.mode s.count plan.notice n a.1.1 a.1.0) in
+    let new : IsNewly plan s.count (Some (left_at s.count plan.notice n)) = (at_notice s.count plan.notice n, at_step (layout_mode plan.layout) s.count plan.notice n a.1.1 a.1.0) in
     record { current = refl; count = refl; eid = refl; page_index = refl; left = left_new plan s.count s.left (Some (left_at s.count plan.notice n)) s.next s.next a.0.idle new; next = λ c. c }
 effect_carries plan Join s f a = record { current = refl; count = refl; eid = refl; page_index = refl; left = left_same plan s.count s.left s.next; next = λ c. c }
 effect_carries plan Settle s f a = settle_carries plan s.left s

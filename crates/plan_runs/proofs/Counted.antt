@@ -57,7 +57,7 @@ announced_by plan u low false e o =
 
 pub of_notice : PageLaws → (plan : Plan) (u : State) (low : ℕ) → Airs plan u → IsAnnouncedIn (shown_bytes plan u) low → IsOfNotice plan u low
 of_notice laws plan u low a (next, e, heard, occurrence) =
-    let sent = (laws.ensemble plan.mode (ensemble_sent plan u) u.page_index (sent_entries plan u) (pageable laws plan u a) next e).0 heard in
+    let sent = (laws.ensemble plan.layout (ensemble_sent plan u) u.page_index (sent_entries plan u) (pageable laws plan u a) next e).0 heard in
     let same = sent_is plan u e sent.1 in
     let here : (ensemble_of plan u).occurrence ≡ Some low = ap (λ (x : EnsembleInformation). x.occurrence) same ∙ occurrence in
     announced_by plan u low (is_noticed plan.notice u.left) refl here

@@ -3,6 +3,7 @@ use Rattle.std.specs.Prelude.{nat_lt, slice_index, slice_set}
 use Rattle.std.proofs.Common.{◌≡◌, ◌≢◌, ℕ, ◌+◌, ◌-◌, ◌<◌, ◌≤◌, Bool, true, false, cond, eqb, List, length, set, Option, Some, None, is_some, refl, sym, ap, subst, ◌∙◌, arith, inl, inr}
 use Rattle.std.proofs.lemmas.Bool.{eqb-true, eqb-false, ltb-true}
 use Rattle.std.proofs.lemmas.List.{get_or-set_same, get_or-set_other, length-set}
+use Rattle.fib_codec.specs.Layouts.{layout_mode}
 use Rattle.mux_config.specs.Configuration.{Configuration}
 use Rattle.mux_config.specs.Sound.{IsSound}
 use Rattle.mux_config.specs.Edits.{edit_fault, changed}
@@ -253,9 +254,9 @@ commit_in p ts b s k t h =
     let idle = idle_agrees t s.left s.current s.next can.idle h.agrees in
     let ready = can_ready p s t can idle in
     let u : Known = leaves p.plan (CommitIn k) t in
-    let step : ℕ = count_step p.plan.mode in (
+    let step : ℕ = count_step (layout_mode p.plan.layout) in (
       (ready.0, h.safe.fine.1),
-      committing p ts h.typing b s t u (left_in step s.count k) k (k + (step - 1)) h.runs idle ready.1 h.kept refl refl refl (h.formed.0) (in_time p.plan.mode s.count k)
+      committing p ts h.typing b s t u (left_in step s.count k) k (k + (step - 1)) h.runs idle ready.1 h.kept refl refl refl (h.formed.0) (in_time (layout_mode p.plan.layout) s.count k)
           (h.safe.onward refl) (omega (arith, h.affords)) h.set,
     )
 

@@ -75,13 +75,13 @@ IsAhead (Some left) = 1 ≤ left
 -- a configuration that is on the air: sound, and sent in full in each period
 pub record IsOnAir (plan : Plan) (c : Configuration) : Type 0 where
   pub sound : IsSound c
-  pub within_period : rounds plan.mode (page_set c None) ≤ plan.period
+  pub within_period : rounds plan.layout (page_set c None) ≤ plan.period
 
 -- a reconfiguration that was committed
 pub record IsCommitted (plan : Plan) (c n : Configuration) : Type 0 where
   pub changes : n ≢ c
-  pub within_period : rounds plan.mode (page_set c (Some n)) ≤ plan.period
-  pub three_times : 3 * rounds plan.mode (page_set c (Some n)) ≤ plan.notice
+  pub within_period : rounds plan.layout (page_set c (Some n)) ≤ plan.period
+  pub three_times : 3 * rounds plan.layout (page_set c (Some n)) ≤ plan.notice
   pub after : IsOnAir plan n
 
 abbrev pub CommittedBy : Plan → Option ℕ → Configuration → Configuration → Type 0

@@ -21,6 +21,7 @@ pub mod Announcing
 pub mod Counted
 pub mod Periods
 pub mod Headline
+pub mod Reserved
 pub mod Clock
 pub mod Swaps
 pub mod Uncommitted

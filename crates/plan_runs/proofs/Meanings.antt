@@ -1,6 +1,7 @@
 -- For each definition of runs, an example that holds and one that fails.
 use Rattle.std.specs.Prelude.{Contains}
 use Rattle.std.proofs.Common.{◌≡◌, ℕ, zero, suc, ◌<◌, ◌≤◌, true, false, List, [], ◌∷◌, Some, None, replicate, refl, sym, ap, subst, arith, inl, inr}
+use Rattle.fib_codec.specs.declared.frame_layout.FrameLayout.TheVariants.{Whole}
 use Rattle.mux_config.specs.Configuration.{Configuration, nothing}
 use Rattle.mux_entries.specs.Facts.{Marked, facts_of}
 use Rattle.fib_codec.specs.declared.modes.Mode.TheVariants.{I}
@@ -26,7 +27,7 @@ use Rattle.plan_runs.specs.Listening.{IsTunedBy, IsNotice, MakesNoSwap, IsUntilN
 use Rattle.plan_runs.proofs.Reached.{starts_are_reached}
 
 abbrev plan_of : ℕ → Plan
-plan_of budget = record { eid = 0xe1c5; mode = I; period = 4; notice = 24; budget = budget }
+plan_of budget = record { eid = 0xe1c5; layout = Whole I; period = 4; notice = 24; budget = budget }
 
 abbrev no_counters : Counters
 no_counters = record { 0 = 0 }

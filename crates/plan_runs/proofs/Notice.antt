@@ -100,7 +100,7 @@ notice_state c n eid left count page_index =
     }
 
 abbrev pub both_rounds : Plan → Configuration → Configuration → ℕ
-both_rounds plan c n = rounds plan.mode (page_set c (Some n))
+both_rounds plan c n = rounds plan.layout (page_set c (Some n))
 
 -- frame i of the notice that begins at CIF count `base`
 abbrev pub noticed_state : Plan → Configuration → Configuration → ℕ → ℕ → ℕ → State
@@ -125,7 +125,7 @@ shown_as plan s base i left count page_index =
 rounds_noticed : (plan : Plan) (s : State) (l : ℕ) → s.left ≡ Some l → 1 ≤ l → l ≤ plan.notice → sent_rounds plan s ≡ both_rounds plan s.current s.next
 rounds_noticed plan s l is some within =
     let yes : is_noticed plan.notice s.left ≡ true = ap (is_noticed plan.notice) is ∙ noticed plan.notice l some within in
-    ap (λ (b : Bool). rounds plan.mode (page_set s.current (cond b (Some s.next) None))) yes
+    ap (λ (b : Bool). rounds plan.layout (page_set s.current (cond b (Some s.next) None))) yes
 
 count_up : (base a : ℕ) → ((base + a) % 5000 + 1) % 5000 ≡ (base + suc a) % 5000
 count_up base a = omega arith

@@ -144,10 +144,10 @@ sent_same plan count (Some l) left c n m ms a g other h =
 
 -- ---- hearing a frame
 
-heard_page : PageLaws → (plan : Plan) (u : State) → Airs plan u → (ms : List Marked) → sent_entries plan u ≡ ms → (m : Marked) → Contains (page_entries plan.mode u.page_index ms) m → IsHeardInRow (shown_bytes plan u) m
+heard_page : PageLaws → (plan : Plan) (u : State) → Airs plan u → (ms : List Marked) → sent_entries plan u ≡ ms → (m : Marked) → Contains (page_entries plan.layout u.page_index ms) m → IsHeardInRow (shown_bytes plan u) m
 heard_page laws plan u a ms e m inside =
-    let there : Contains (page_entries plan.mode u.page_index (sent_entries plan u)) m = subst (λ (es : List Marked). Contains (page_entries plan.mode u.page_index es) m) (sym e) inside in
-    (laws.heard plan.mode (ensemble_sent plan u) u.page_index (sent_entries plan u) (pageable laws plan u a) m).1 there
+    let there : Contains (page_entries plan.layout u.page_index (sent_entries plan u)) m = subst (λ (es : List Marked). Contains (page_entries plan.layout u.page_index es) m) (sym e) inside in
+    (laws.heard plan.layout (ensemble_sent plan u) u.page_index (sent_entries plan u) (pageable laws plan u a) m).1 there
 
 heard_first : (frame : List ℕ) (frames : List (List ℕ)) (m : Marked) → IsHeardInRow frame m → IsHeardInSome (frame ∷ frames) m
 heard_first frame frames m h = (frame, (0, omega arith, refl), h)
@@ -166,10 +166,10 @@ pub record Goes (plan : Plan) (s : State) (ms : List Marked) (page_index : ℕ) 
   pub sent : SentBy plan s.left s.current s.next ms
   pub turn_is : s.page_index ≡ page_index
 
-pub after_goes : (plan : Plan) (u : State) → Airs plan u → (ms : List Marked) → sent_entries plan u ≡ ms → Goes plan (with_next_counts plan u) ms (page_after (rounds plan.mode ms) u.page_index)
+pub after_goes : (plan : Plan) (u : State) → Airs plan u → (ms : List Marked) → sent_entries plan u ≡ ms → Goes plan (with_next_counts plan u) ms (page_after (rounds plan.layout ms) u.page_index)
 after_goes plan u a ms e = record {
   sent = sent_later plan u.left u.current u.next ms a.ahead e;
-  turn_is = ap (λ (es : List Marked). page_after (rounds plan.mode es) u.page_index) e;
+  turn_is = ap (λ (es : List Marked). page_after (rounds plan.layout es) u.page_index) e;
 }
 
 -- the state that the bytes of such a frame are made from
@@ -211,19 +211,19 @@ sends p ts c s h no_phase ms page_index g =
 
 -- a page that is in turn d frames later is heard
 comes : PageLaws → (p : Program) (ts : List Known) → IsCode p ts → (s : State) (es : List Event) → Holds p ts s → BeginsNoPhase p s es → (ms : List Marked) (page_index d page : ℕ) → Goes p.plan s ms page_index
-    → pages_on (rounds p.plan.mode ms) d page_index ≡ page → d < length (run_frames p s es) → (m : Marked) → Contains (page_entries p.plan.mode page ms) m → IsHeardInSome (run_frames p s es) m
+    → pages_on (rounds p.plan.layout ms) d page_index ≡ page → d < length (run_frames p s es) → (m : Marked) → Contains (page_entries p.plan.layout page ms) m → IsHeardInSome (run_frames p s es) m
 comes laws p ts c s [] h phase ms page_index d page g there below m inside = absurd (omega (arith, below))
 comes laws p ts c s (Contact k closed ∷ es) h phase ms page_index d page g there below m inside =
     comes laws p ts c (happens p s (Contact k closed)) es (happens_holds p ts c s (Contact k closed) h) phase ms page_index d page (record { sent = g.sent; turn_is = g.turn_is }) there below m inside
 comes laws p ts c s (Frame ∷ es) h phase ms page_index zero page g there below m inside =
     let u : State = shown p s in
     let sent = sends p ts c s h phase.0 ms page_index g in
-    let here : page ≡ u.page_index = sym there ∙ pages_none (rounds p.plan.mode ms) page_index ∙ sym sent.turn_is in
-    let now : Contains (page_entries p.plan.mode u.page_index ms) m = subst (λ (x : ℕ). Contains (page_entries p.plan.mode x ms) m) here inside in
+    let here : page ≡ u.page_index = sym there ∙ pages_none (rounds p.plan.layout ms) page_index ∙ sym sent.turn_is in
+    let now : Contains (page_entries p.plan.layout u.page_index ms) m = subst (λ (x : ℕ). Contains (page_entries p.plan.layout x ms) m) here inside in
     heard_first (frame_bytes p s) (run_frames p (after_frame p s) es) m (heard_page laws p.plan u (airs p ts c s h) ms sent.entries m now)
 comes laws p ts c s (Frame ∷ es) h phase ms page_index (suc d) page g there below m inside =
     let u : State = shown p s in
-    let pages : ℕ = rounds p.plan.mode ms in
+    let pages : ℕ = rounds p.plan.layout ms in
     let sent = sends p ts c s h phase.0 ms page_index g in
     let next = after_goes p.plan u (airs p ts c s h) ms sent.entries in
     let step : pages_on pages d (page_after pages u.page_index) ≡ page = ap (λ (x : ℕ). pages_on pages d (page_after pages x)) sent.turn_is ∙ sym (pages_one pages d page_index) ∙ there in
@@ -233,7 +233,7 @@ comes laws p ts c s (Frame ∷ es) h phase ms page_index (suc d) page g there be
 -- ---- a period
 
 -- what is sent has no more pages than the period has frames
-rounds_by : (plan : Plan) (left : Option ℕ) (c n : Configuration) (b : Bool) → b ≡ is_noticed plan.notice left → IsOnAir plan c → CommittedBy plan left c n → rounds plan.mode (page_set c (cond b (Some n) None)) ≤ plan.period
+rounds_by : (plan : Plan) (left : Option ℕ) (c n : Configuration) (b : Bool) → b ≡ is_noticed plan.notice left → IsOnAir plan c → CommittedBy plan left c n → rounds plan.layout (page_set c (cond b (Some n) None)) ≤ plan.period
 rounds_by plan left c n false e a h = a.within_period
 rounds_by plan None c n true e a h = absurd cc
 rounds_by plan (Some l) c n true e a h = h.within_period
@@ -250,14 +250,14 @@ contact_current s t true c n = n
 contact_current s t false c n = c
 
 way_heard : PageLaws → (p : Program) (ts : List Known) → IsCode p ts → (s : State) (es : List Event) → Holds p ts s → BeginsNoPhase p (after_frame p s) es → (u : State) → shown p s ≡ u → Airs p.plan (shown p s)
-    → (ms : List Marked) → sent_entries p.plan (shown p s) ≡ ms → (page d : ℕ) → pages_on (rounds p.plan.mode ms) d (shown p s).page_index ≡ page → d < length (run_frames p s (Frame ∷ es))
-    → (m : Marked) → Contains (page_entries p.plan.mode page ms) m → IsHeardInSome (run_frames p s (Frame ∷ es)) m
+    → (ms : List Marked) → sent_entries p.plan (shown p s) ≡ ms → (page d : ℕ) → pages_on (rounds p.plan.layout ms) d (shown p s).page_index ≡ page → d < length (run_frames p s (Frame ∷ es))
+    → (m : Marked) → Contains (page_entries p.plan.layout page ms) m → IsHeardInSome (run_frames p s (Frame ∷ es)) m
 way_heard laws p ts c s es h phase u is a ms e page zero there below m inside =
-    let here : page ≡ (shown p s).page_index = sym there ∙ pages_none (rounds p.plan.mode ms) (shown p s).page_index in
-    let now : Contains (page_entries p.plan.mode (shown p s).page_index ms) m = subst (λ (x : ℕ). Contains (page_entries p.plan.mode x ms) m) here inside in
+    let here : page ≡ (shown p s).page_index = sym there ∙ pages_none (rounds p.plan.layout ms) (shown p s).page_index in
+    let now : Contains (page_entries p.plan.layout (shown p s).page_index ms) m = subst (λ (x : ℕ). Contains (page_entries p.plan.layout x ms) m) here inside in
     heard_first (frame_bytes p s) (run_frames p (after_frame p s) es) m (heard_page laws p.plan (shown p s) a ms e m now)
 way_heard laws p ts c s es h phase u is a ms e page (suc d) there below m inside =
-    let pages : ℕ = rounds p.plan.mode ms in
+    let pages : ℕ = rounds p.plan.layout ms in
     let next = after_goes p.plan (shown p s) a ms e in
     let step : pages_on pages d (page_after pages (shown p s).page_index) ≡ page = sym (pages_one pages d (shown p s).page_index) ∙ there in
     heard_later (frame_bytes p s) (run_frames p (after_frame p s) es) m
@@ -278,10 +278,10 @@ whole laws p ts c s (Frame ∷ es) h phase long some m inside =
     let carried = frame_carries p c.program s goes.allowed.steps goes.allowed.executes in
     let current : u.current ≡ (with_due_swap s).current = current_kept v (is_first_noticed p.plan.notice v.left) ∙ carried.current in
     let ms : List Marked = sent_entries p.plan u in
-    let pages : ℕ = rounds p.plan.mode ms in
+    let pages : ℕ = rounds p.plan.layout ms in
     let mine : Contains (facts_of u.current false) m = subst (λ (x : Configuration). Contains (facts_of x false) m) (sym current) inside in
     let among : Contains ms m = current_inside u.current u.next (is_noticed p.plan.notice u.left) m mine in
-    let page = laws.each p.plan.mode ms m among in
+    let page = laws.each p.plan.layout ms m among in
     let way = reaches pages u.page_index page.0 (turn_is_page p.plan u a) page.1 in
     let short : pages ≤ p.plan.period = sent_period p.plan u a in
     way_heard laws p ts c s es h phase u refl a ms refl page.0 way.frames way.there (omega (arith, way.within, short, long)) m page.2

@@ -1,9 +1,12 @@
 -- The bytes of every frame are correct.
 use Rattle.std.specs.Prelude.{Contains, slice_get, map, take, drop, IfSome, ◌==◌, ◌&&◌, not}
-use Rattle.std.proofs.Common.{◌≡◌, ◌≢◌, ℕ, zero, suc, ◌+◌, ◌*◌, ◌/◌, ◌%◌, ◌<◌, ◌≤◌, Bool, true, false, cond, List, [], ◌∷◌, ◌++◌, length, Option, Some, None, refl, sym, ap, subst, ◌∙◌, arith, inl, inr, ◌⊎◌}
+use Rattle.std.proofs.Common.{◌≡◌, ◌≢◌, ℕ, zero, suc, ◌+◌, ◌*◌, ◌/◌, ◌%◌, ◌<◌, ◌≤◌, Bool, true, false, cond, List, [], ◌∷◌, ◌++◌, length, Option, Some, None, refl, sym, ap, subst, ◌∙◌, arith, inl, inr, ◌⊎◌, replicate}
 use Rattle.std.proofs.lemmas.List.{drop-drop}
 use Rattle.std.proofs.lemmas.List.Elements.{Contains-append_cases}
 use Rattle.std.proofs.lemmas.Bool.{eqb-true, eq-eqb}
+use Rattle.fib_codec.specs.Layouts.{layout_mode, frame_fibs, used_fibs, reserved_fibs}
+use Rattle.fib_codec.specs.declared.frame_layout.FrameLayout.{FrameLayout}
+use Rattle.fib_codec.specs.declared.frame_layout.FrameLayout.TheVariants.{Whole, ReserveOne, ReserveTwo}
 use Rattle.mux_config.specs.Configuration.{Configuration, IsConfiguration}
 use Rattle.std.specs.List.{AllByRecursion}
 use Rattle.mux_entries.specs.Entries.{EnsembleInformation}
@@ -24,7 +27,7 @@ use Rattle.fib_codec.specs.declared.head.Head.{Head}
 use Rattle.fib_carousel.specs.Packing.{same_head, entries_in_fib, entries_where}
 use Rattle.fib_carousel.specs.Pages.{page_set, page_entries, EachInAPage, first_fib, later_fibs}
 use Rattle.fib_carousel.specs.Greedy.{packing}
-use Rattle.fib_carousel.specs.Bytes.{page_figs, AreFibs, ensemble_figs, figs_of, with_entry_first}
+use Rattle.fib_carousel.specs.Bytes.{reserved_figs, page_figs, AreFibs, ensemble_figs, figs_of, with_entry_first}
 use Rattle.fib_carousel.specs.Carried.{IsPageable, IsSendable, AreSendable, PageSetsArePageable, PagesAreValid, PagesAreHeard, EnsembleIsCarried}
 use Rattle.plan_code.specs.declared.plan.Plan.{Plan}
 use Rattle.plan_code.specs.Machine.{State}
@@ -120,7 +123,7 @@ next_is plan s h false = tt
 -- what a state sends can be packed
 pub pageable : PageLaws → (plan : Plan) (s : State) → Airs plan s → IsPageable (ensemble_sent plan s) (sent_entries plan s)
 pageable laws plan s h =
-    laws.pageable s.current (announced_next plan s) (ensemble_sent plan s) h.current (next_is plan s h (is_noticed plan.notice s.left)) (sent_within_by plan s h (s.count % count_step plan.mode == 0))
+    laws.pageable s.current (announced_next plan s) (ensemble_sent plan s) h.current (next_is plan s h (is_noticed plan.notice s.left)) (sent_within_by plan s h (s.count % count_step (layout_mode plan.layout) == 0))
 
 -- ---- the entries of a page
 
@@ -140,8 +143,8 @@ where_inside test [] ns m h = h
 where_inside test (e ∷ es) [] m h = absurd (omega (arith, h.1))
 where_inside test (e ∷ es) (n ∷ ns) m h = where_by e es (entries_where test es ns) m (where_inside test es ns m) (test n) h
 
-pub page_inside : (mode : Mode) (k : ℕ) (es : List Marked) (m : Marked) → Contains (page_entries mode k es) m → Contains es m
-page_inside mode k es m h = where_inside (λ n. n / fib_count mode == k) es (packing mode es) m h
+pub page_inside : (layout : FrameLayout) (k : ℕ) (es : List Marked) (m : Marked) → Contains (page_entries layout k es) m → Contains es m
+page_inside layout k es m h = where_inside (λ n. n / used_fibs layout == k) es (packing layout es) m h
 
 set_by : (c n : Configuration) (b : Bool) (m : Marked) → Contains (page_set c (cond b (Some n) None)) m → Contains (facts_of c false) m ⊎ ((b ≡ true) × Contains (facts_of n true) m)
 set_by c n false m h = inl h
@@ -150,8 +153,8 @@ set_by c n true m h = elim (Contains-append_cases (facts_of c false) (facts_of n
 entries_right : PageLaws → (plan : Plan) (s : State) → Airs plan s → (m : Marked) → IsHeardInRow (shown_bytes plan s) m
     → Contains (facts_of s.current false) m ⊎ ((is_noticed plan.notice s.left ≡ true) × Contains (facts_of s.next true) m)
 entries_right laws plan s h m heard =
-    let inside = (laws.heard plan.mode (ensemble_sent plan s) s.page_index (sent_entries plan s) (pageable laws plan s h) m).0 heard in
-    set_by s.current s.next (is_noticed plan.notice s.left) m (page_inside plan.mode s.page_index (sent_entries plan s) m inside)
+    let inside = (laws.heard plan.layout (ensemble_sent plan s) s.page_index (sent_entries plan s) (pageable laws plan s h) m).0 heard in
+    set_by s.current s.next (is_noticed plan.notice s.left) m (page_inside plan.layout s.page_index (sent_entries plan s) m inside)
 
 -- ---- FIGs that are not FIG 0/0
 
@@ -228,31 +231,44 @@ fib_is (figs ∷ rest) bytes h (suc n) below =
     let places : drop (32 * n) (drop 32 bytes) ≡ drop (32 * suc n) bytes = drop-drop (32 * n) 32 bytes ∙ ap (λ k. drop k bytes) (omega arith) in
     record { figs = later.figs; there = later.there; valid = subst (λ (b : List ℕ). IsValid (take 32 b) (map fig_of later.figs)) places later.valid }
 
-page_length : (mode : Mode) (o : Option EnsembleInformation) (k : ℕ) (ms : List Marked) → length (page_figs mode o k ms) ≡ fib_count mode
-page_length I o k ms = refl
-page_length II o k ms = refl
-page_length III o k ms = refl
-page_length IV o k ms = refl
+page_length : (layout : FrameLayout) (o : Option EnsembleInformation) (k : ℕ) (ms : List Marked) → length (page_figs layout o k ms) ≡ frame_fibs layout
+page_length (Whole I) o k ms = refl
+page_length (Whole II) o k ms = refl
+page_length (Whole III) o k ms = refl
+page_length (Whole IV) o k ms = refl
+page_length (ReserveOne I) o k ms = refl
+page_length (ReserveOne II) o k ms = refl
+page_length (ReserveOne III) o k ms = refl
+page_length (ReserveOne IV) o k ms = refl
+page_length ReserveTwo o k ms = refl
 
-mapped_organized : (mode : Mode) (ms : List Marked) → AreSendable ms → (ns : List ℕ) (n : ℕ) (figs : List Written)
-    → slice_get (map (λ m. figs_of (entries_in_fib m ms (packing mode ms))) ns) n ≡ Some figs → AllByRecursion IsOrganized figs
-mapped_organized mode ms h [] n figs e = absurd cc
-mapped_organized mode ms h (m ∷ ns) zero figs e =
-    let same : figs_of (entries_in_fib m ms (packing mode ms)) ≡ figs = cc e in
-    subst (λ (f : List Written). AllByRecursion IsOrganized f) same (figs_organized (entries_in_fib m ms (packing mode ms)) (sendable_where (λ x. x == m) ms (packing mode ms) h))
-mapped_organized mode ms h (m ∷ ns) (suc n) figs e = mapped_organized mode ms h ns n figs e
+-- the reserved FIBs have no FIGs
+reserved_organized : (count n : ℕ) (figs : List Written) → (let none : List (List Written) = replicate count [] in slice_get none n) ≡ Some figs → AllByRecursion IsOrganized figs
+reserved_organized zero n figs e = absurd cc
+reserved_organized (suc count) zero figs e =
+    let same : [] ≡ figs = cc e in
+    subst (λ (f : List Written). AllByRecursion IsOrganized f) same tt
+reserved_organized (suc count) (suc n) figs e = reserved_organized count n figs e
 
-later_figs : (mode : Mode) (o : Option EnsembleInformation) (k : ℕ) (ms : List Marked) → AreSendable ms → (n : ℕ) (figs : List Written) → 1 ≤ n → slice_get (page_figs mode o k ms) n ≡ Some figs → AllByRecursion IsOrganized figs
-later_figs mode o k ms h zero figs some e = absurd (omega (arith, some))
-later_figs mode o k ms h (suc n) figs some e = mapped_organized mode ms h (later_fibs mode k) n figs e
+mapped_organized : (layout : FrameLayout) (ms : List Marked) → AreSendable ms → (ns : List ℕ) (n : ℕ) (figs : List Written)
+    → slice_get (map (λ m. figs_of (entries_in_fib m ms (packing layout ms))) ns ++ reserved_figs layout) n ≡ Some figs → AllByRecursion IsOrganized figs
+mapped_organized layout ms h [] n figs e = reserved_organized (reserved_fibs layout) n figs e
+mapped_organized layout ms h (m ∷ ns) zero figs e =
+    let same : figs_of (entries_in_fib m ms (packing layout ms)) ≡ figs = cc e in
+    subst (λ (f : List Written). AllByRecursion IsOrganized f) same (figs_organized (entries_in_fib m ms (packing layout ms)) (sendable_where (λ x. x == m) ms (packing layout ms) h))
+mapped_organized layout ms h (m ∷ ns) (suc n) figs e = mapped_organized layout ms h ns n figs e
+
+later_figs : (layout : FrameLayout) (o : Option EnsembleInformation) (k : ℕ) (ms : List Marked) → AreSendable ms → (n : ℕ) (figs : List Written) → 1 ≤ n → slice_get (page_figs layout o k ms) n ≡ Some figs → AllByRecursion IsOrganized figs
+later_figs layout o k ms h zero figs some e = absurd (omega (arith, some))
+later_figs layout o k ms h (suc n) figs some e = mapped_organized layout ms h (later_fibs layout k) n figs e
 
 -- ---- the frame
 
-valid_at : PageLaws → (plan : Plan) (s : State) → Airs plan s → (n : ℕ) → n < fib_count plan.mode → IsFibAt (page_figs plan.mode (ensemble_sent plan s) s.page_index (sent_entries plan s)) (shown_bytes plan s) n
+valid_at : PageLaws → (plan : Plan) (s : State) → Airs plan s → (n : ℕ) → n < frame_fibs plan.layout → IsFibAt (page_figs plan.layout (ensemble_sent plan s) s.page_index (sent_entries plan s)) (shown_bytes plan s) n
 valid_at laws plan s h n below =
-    let figs : List (List Written) = page_figs plan.mode (ensemble_sent plan s) s.page_index (sent_entries plan s) in
-    let long : length figs ≡ fib_count plan.mode = page_length plan.mode (ensemble_sent plan s) s.page_index (sent_entries plan s) in
-    let are = (laws.valid plan.mode (ensemble_sent plan s) s.page_index (sent_entries plan s) (pageable laws plan s h)).0 in
+    let figs : List (List Written) = page_figs plan.layout (ensemble_sent plan s) s.page_index (sent_entries plan s) in
+    let long : length figs ≡ frame_fibs plan.layout = page_length plan.layout (ensemble_sent plan s) s.page_index (sent_entries plan s) in
+    let are = (laws.valid plan.layout (ensemble_sent plan s) s.page_index (sent_entries plan s) (pageable laws plan s h)).0 in
     fib_is figs (shown_bytes plan s) are n (omega (arith, below, long))
 
 some_fibs : (mode : Mode) → 0 < fib_count mode
@@ -266,21 +282,21 @@ first_sendable laws plan s h = (pageable laws plan s h).entries
 
 -- the first FIB, with or without FIG 0/0
 abbrev FirstFigs : Plan → State → Option EnsembleInformation → List Written
-FirstFigs plan s o = ensemble_figs o ++ figs_of (entries_in_fib (first_fib plan.mode s.page_index) (sent_entries plan s) (packing plan.mode (sent_entries plan s)))
+FirstFigs plan s o = ensemble_figs o ++ figs_of (entries_in_fib (first_fib plan.layout s.page_index) (sent_entries plan s) (packing plan.layout (sent_entries plan s)))
 
 first_valid : PageLaws → (plan : Plan) (s : State) → Airs plan s → (o : Option EnsembleInformation) → ensemble_sent plan s ≡ o → IsValid (fib_at (shown_bytes plan s) 0) (map fig_of (FirstFigs plan s o))
 first_valid laws plan s h o e =
-    let at = valid_at laws plan s h 0 (some_fibs plan.mode) in
+    let at = valid_at laws plan s h 0 (some_fibs (layout_mode plan.layout)) in
     let there : Some (FirstFigs plan s (ensemble_sent plan s)) ≡ Some at.figs = at.there in
     let same : FirstFigs plan s (ensemble_sent plan s) ≡ at.figs = cc there in
     let now : FirstFigs plan s o ≡ at.figs = sym (ap (FirstFigs plan s) e) ∙ same in
     subst (λ (f : List Written). IsValid (fib_at (shown_bytes plan s) 0) (map fig_of f)) (sym now) at.valid
 
 others_organized : PageLaws → (plan : Plan) (s : State) → Airs plan s
-    → AllByRecursion IsOrganized (figs_of (entries_in_fib (first_fib plan.mode s.page_index) (sent_entries plan s) (packing plan.mode (sent_entries plan s))))
+    → AllByRecursion IsOrganized (figs_of (entries_in_fib (first_fib plan.layout s.page_index) (sent_entries plan s) (packing plan.layout (sent_entries plan s))))
 others_organized laws plan s h =
     let es : List Marked = sent_entries plan s in
-    figs_organized (entries_in_fib (first_fib plan.mode s.page_index) es (packing plan.mode es)) (sendable_where (λ x. x == first_fib plan.mode s.page_index) es (packing plan.mode es) (first_sendable laws plan s h))
+    figs_organized (entries_in_fib (first_fib plan.layout s.page_index) es (packing plan.layout es)) (sendable_where (λ x. x == first_fib plan.layout s.page_index) es (packing plan.layout es) (first_sendable laws plan s h))
 
 -- the content of FIG 0/0
 flagged_right : (plan : Plan) (s : State) (left : Option ℕ) → (e : EnsembleInformation) → is_noticed plan.notice left ≡ true
@@ -313,15 +329,15 @@ ensemble_right_by plan s false e =
 pub ensemble_right : (plan : Plan) (s : State) → IsEnsembleOf plan s (ensemble_of plan s)
 ensemble_right plan s = ensemble_right_by plan s (is_noticed plan.notice s.left) refl
 
-is_sent : (plan : Plan) (s : State) → s.count % count_step plan.mode ≡ 0 → ensemble_sent plan s ≡ Some (ensemble_of plan s)
-is_sent plan s e = ap (λ (b : Bool). cond b (Some (ensemble_of plan s)) None) (eq-eqb (s.count % count_step plan.mode) 0 e)
+is_sent : (plan : Plan) (s : State) → s.count % count_step (layout_mode plan.layout) ≡ 0 → ensemble_sent plan s ≡ Some (ensemble_of plan s)
+is_sent plan s e = ap (λ (b : Bool). cond b (Some (ensemble_of plan s)) None) (eq-eqb (s.count % count_step (layout_mode plan.layout)) 0 e)
 
-not_sent_by : (plan : Plan) (s : State) (b : Bool) → (s.count % count_step plan.mode == 0) ≡ b → s.count % count_step plan.mode ≢ 0 → cond b (Some (ensemble_of plan s)) None ≡ None
-not_sent_by plan s true e apart = absurd (apart (eqb-true (s.count % count_step plan.mode) 0 e))
+not_sent_by : (plan : Plan) (s : State) (b : Bool) → (s.count % count_step (layout_mode plan.layout) == 0) ≡ b → s.count % count_step (layout_mode plan.layout) ≢ 0 → cond b (Some (ensemble_of plan s)) None ≡ None
+not_sent_by plan s true e apart = absurd (apart (eqb-true (s.count % count_step (layout_mode plan.layout)) 0 e))
 not_sent_by plan s false e apart = refl
 
-not_sent : (plan : Plan) (s : State) → s.count % count_step plan.mode ≢ 0 → ensemble_sent plan s ≡ None
-not_sent plan s apart = not_sent_by plan s (s.count % count_step plan.mode == 0) refl apart
+not_sent : (plan : Plan) (s : State) → s.count % count_step (layout_mode plan.layout) ≢ 0 → ensemble_sent plan s ≡ None
+not_sent plan s apart = not_sent_by plan s (s.count % count_step (layout_mode plan.layout) == 0) refl apart
 
 says_it : (e : EnsembleInformation) → IsEnsembleInformation e → IsInFig (fig_of (record { head = head_of (marked false (EnsembleOf e)); entries = EnsembleOf e ∷ [] })) (marked false (EnsembleOf e))
 says_it e within = (
@@ -330,11 +346,11 @@ says_it e within = (
   record { ext = refl; next = refl; long = λ two. absurd (omega (arith, two)); spelled = refl; within = within },
 )
 
-headed : PageLaws → (plan : Plan) (s : State) → Airs plan s → s.count % count_step plan.mode ≡ 0 → IsHeadedBy plan s (fib_at (shown_bytes plan s) 0)
+headed : PageLaws → (plan : Plan) (s : State) → Airs plan s → s.count % count_step (layout_mode plan.layout) ≡ 0 → IsHeadedBy plan s (fib_at (shown_bytes plan s) 0)
 headed laws plan s h whole =
     let e : EnsembleInformation = ensemble_of plan s in
     let valid = first_valid laws plan s h (Some e) (is_sent plan s whole) in
-    let rest : List Written = figs_of (entries_in_fib (first_fib plan.mode s.page_index) (sent_entries plan s) (packing plan.mode (sent_entries plan s))) in
+    let rest : List Written = figs_of (entries_in_fib (first_fib plan.layout s.page_index) (sent_entries plan s) (packing plan.layout (sent_entries plan s))) in
     record {
       header = fig_of (record { head = head_of (marked false (EnsembleOf e)); entries = EnsembleOf e ∷ [] });
       others = map fig_of rest;
@@ -345,21 +361,21 @@ headed laws plan s h whole =
       alone = no_headers rest (others_organized laws plan s h);
     }
 
-unheaded : PageLaws → (plan : Plan) (s : State) → Airs plan s → s.count % count_step plan.mode ≢ 0 → IsUnheaded (fib_at (shown_bytes plan s) 0)
+unheaded : PageLaws → (plan : Plan) (s : State) → Airs plan s → s.count % count_step (layout_mode plan.layout) ≢ 0 → IsUnheaded (fib_at (shown_bytes plan s) 0)
 unheaded laws plan s h apart =
     let valid = first_valid laws plan s h None (not_sent plan s apart) in
-    let rest : List Written = figs_of (entries_in_fib (first_fib plan.mode s.page_index) (sent_entries plan s) (packing plan.mode (sent_entries plan s))) in
+    let rest : List Written = figs_of (entries_in_fib (first_fib plan.layout s.page_index) (sent_entries plan s) (packing plan.layout (sent_entries plan s))) in
     (map fig_of rest, valid.fib, no_headers rest (others_organized laws plan s h))
 
-others_unheaded : PageLaws → (plan : Plan) (s : State) → Airs plan s → (n : ℕ) → 1 ≤ n → n < fib_count plan.mode → IsUnheaded (fib_at (shown_bytes plan s) n)
+others_unheaded : PageLaws → (plan : Plan) (s : State) → Airs plan s → (n : ℕ) → 1 ≤ n → n < frame_fibs plan.layout → IsUnheaded (fib_at (shown_bytes plan s) n)
 others_unheaded laws plan s h n some below =
     let at = valid_at laws plan s h n below in
-    let organized = later_figs plan.mode (ensemble_sent plan s) s.page_index (sent_entries plan s) (first_sendable laws plan s h) n at.figs some at.there in
+    let organized = later_figs plan.layout (ensemble_sent plan s) s.page_index (sent_entries plan s) (first_sendable laws plan s h) n at.figs some at.there in
     (map fig_of at.figs, at.valid.fib, no_headers at.figs organized)
 
 pub frame_right : PageLaws → (plan : Plan) (s : State) → Airs plan s → IsRight plan s (shown_bytes plan s)
 frame_right laws plan s h = record {
-  length_of_fibs = (laws.valid plan.mode (ensemble_sent plan s) s.page_index (sent_entries plan s) (pageable laws plan s h)).1;
+  length_of_fibs = (laws.valid plan.layout (ensemble_sent plan s) s.page_index (sent_entries plan s) (pageable laws plan s h)).1;
   valid = λ n below. let at = valid_at laws plan s h n below in (map fig_of at.figs, at.valid);
   headed = headed laws plan s h;
   unheaded = unheaded laws plan s h;
@@ -368,4 +384,4 @@ frame_right laws plan s h = record {
 }
 
 pub sent_within : (plan : Plan) (s : State) → Airs plan s → IfSome (ensemble_sent plan s) IsEnsembleInformation
-sent_within plan s h = sent_within_by plan s h (s.count % count_step plan.mode == 0)
+sent_within plan s h = sent_within_by plan s h (s.count % count_step (layout_mode plan.layout) == 0)

@@ -8,4 +8,4 @@ use Rattle.plan_runs.proofs.Right.{PageLaws, pageable}
 pub headers_are_sent : PageLaws → HeadersAreSent
 headers_are_sent laws p s h next e =
     let u : State = shown p s in
-    laws.ensemble p.plan.mode (ensemble_sent p.plan u) u.page_index (sent_entries p.plan u) (pageable laws p.plan u (airs p h.typed.0 (code_of p s h) s (played_holds p s h))) next e
+    laws.ensemble p.plan.layout (ensemble_sent p.plan u) u.page_index (sent_entries p.plan u) (pageable laws p.plan u (airs p h.typed.0 (code_of p s h) s (played_holds p s h))) next e

@@ -1,5 +1,6 @@
 -- A swap is made in the frame that its commit requested, and changes the current configuration in that frame alone.
 use Rattle.std.proofs.Common.{◌≡◌, ℕ, zero, suc, ◌+◌, ◌-◌, ◌%◌, ◌<◌, ◌≤◌, Bool, true, false, cond, List, [], ◌∷◌, Option, Some, None, refl, sym, ap, subst, ◌∙◌, arith, inl, inr, ◌⊎◌}
+use Rattle.fib_codec.specs.Layouts.{layout_mode}
 use Rattle.fib_codec.specs.declared.modes.Mode.{Mode}
 use Rattle.fib_codec.specs.declared.modes.Mode.TheVariants.{I, II, III, IV}
 use Rattle.fib_codec.specs.Modes.{count_step}
@@ -25,12 +26,12 @@ use Rattle.plan_runs.proofs.Clock.{shown_current, shown_count}
 
 -- ---- on a step
 
-on_step_by : (plan : Plan) (count : ℕ) (left : Option ℕ) → is_due left ≡ true → SwapsOn plan count left → count % count_step plan.mode ≡ 0
+on_step_by : (plan : Plan) (count : ℕ) (left : Option ℕ) → is_due left ≡ true → SwapsOn plan count left → count % count_step (layout_mode plan.layout) ≡ 0
 on_step_by plan count None due h = absurd cc
 on_step_by plan count (Some l) due h =
     let none : l ≡ 0 = due_is l due in
     let same : count ≡ count + l = omega (arith, none) in
-    ap (λ (x : ℕ). x % count_step plan.mode) same ∙ h
+    ap (λ (x : ℕ). x % count_step (layout_mode plan.layout)) same ∙ h
 
 pub swaps_are_on_steps : SwapsAreOnSteps
 swaps_are_on_steps p s h due = on_step_by p.plan s.count s.left due (played_holds p s h).tracked.swaps
@@ -184,7 +185,7 @@ whole_turns IV a = omega arith
 
 comes_in_time : SwapsInTime → (p : Program) (ts : List Known) → IsCode p ts → (s : State) (k : ℕ) (events : List Event) → Holds p ts s → IsSwapAfterDelay k p s events
 comes_in_time least p ts c s k events h carries =
-    let mode : Mode = p.plan.mode in
+    let mode : Mode = layout_mode p.plan.layout in
     let m = committed p ts c s h (CommitIn k) (λ count. left_in (count_step mode) count k) (λ t. refl) carries in
     let r : ℕ = left_in (count_step mode) m.at.count k in
     let first = least mode m.at.count k in

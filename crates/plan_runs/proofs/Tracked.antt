@@ -2,6 +2,8 @@
 use Rattle.std.specs.Prelude.{nat_lt, nat_le, ◌&&◌}
 use Rattle.std.proofs.Common.{◌≡◌, ℕ, zero, suc, ◌+◌, ◌-◌, ◌%◌, ◌<◌, ◌≤◌, Bool, true, false, cond, leb, List, Option, Some, None, refl, sym, ap, subst, ◌∙◌, arith, inl, inr, ◌⊎◌}
 use Rattle.std.proofs.lemmas.Bool.{eqb-true, eqb-false, ltb-true, leb-true, leb-false}
+use Rattle.fib_codec.specs.Layouts.{layout_mode}
+use Rattle.fib_codec.specs.declared.frame_layout.FrameLayout.{FrameLayout}
 use Rattle.mux_config.specs.Configuration.{Configuration, IsConfiguration}
 use Rattle.mux_entries.specs.Facts.{Marked}
 use Rattle.fib_codec.specs.declared.modes.Mode.{Mode}
@@ -45,7 +47,7 @@ unfolding page_of
 page_of_below pages zero some = omega (arith, some)
 page_of_below pages (suc k) some = page_after_below pages (page_of pages k) some
 
-pub some_rounds : (m : Mode) (es : List Marked) → 1 ≤ rounds m es
+pub some_rounds : (m : FrameLayout) (es : List Marked) → 1 ≤ rounds m es
 some_rounds m es = omega arith
 
 -- ---- frames of a notice
@@ -69,24 +71,24 @@ not_noticed notice l past = grind (arith, past)
 
 abbrev pub SwapsOn : Plan → ℕ → Option ℕ → Type 0
 SwapsOn plan count None = Unit {0}
-SwapsOn plan count (Some l) = (count + l) % count_step plan.mode ≡ 0
+SwapsOn plan count (Some l) = (count + l) % count_step (layout_mode plan.layout) ≡ 0
 
 pub record IsTurn (plan : Plan) (l : ℕ) (c n : Configuration) (page_index : ℕ) : Type 0 where
-  pub within : l ≤ plan.notice → page_index ≡ page_of (rounds plan.mode (page_set c (Some n))) (plan.notice - l)
-  pub before : plan.notice < l → page_index < rounds plan.mode (page_set c None)
+  pub within : l ≤ plan.notice → page_index ≡ page_of (rounds plan.layout (page_set c (Some n))) (plan.notice - l)
+  pub before : plan.notice < l → page_index < rounds plan.layout (page_set c None)
 
 -- for the state that the bytes are made from
 abbrev pub TurnShown : Plan → Option ℕ → Configuration → Configuration → ℕ → Type 0
-TurnShown plan None c n page_index = page_index < rounds plan.mode (page_set c None)
+TurnShown plan None c n page_index = page_index < rounds plan.layout (page_set c None)
 TurnShown plan (Some l) c n page_index = IsTurn plan l c n page_index
 
 -- before a frame: if the notice has not yet begun, the page is one of the current configuration
 pub record IsTurnBefore (plan : Plan) (l : ℕ) (c n : Configuration) (page_index : ℕ) : Type 0 where
-  pub within : l < plan.notice → page_index ≡ page_of (rounds plan.mode (page_set c (Some n))) (plan.notice - l)
-  pub before : plan.notice ≤ l → page_index < rounds plan.mode (page_set c None)
+  pub within : l < plan.notice → page_index ≡ page_of (rounds plan.layout (page_set c (Some n))) (plan.notice - l)
+  pub before : plan.notice ≤ l → page_index < rounds plan.layout (page_set c None)
 
 abbrev pub TurnBefore : Plan → Option ℕ → Configuration → Configuration → ℕ → Type 0
-TurnBefore plan None c n page_index = page_index < rounds plan.mode (page_set c None)
+TurnBefore plan None c n page_index = page_index < rounds plan.layout (page_set c None)
 TurnBefore plan (Some l) c n page_index = IsTurnBefore plan l c n page_index
 
 pub record Tracked (plan : Plan) (s : State) : Type 0 where
@@ -110,11 +112,11 @@ pub record Airs (plan : Plan) (s : State) : Type 0 where
 
 -- ---- the page in turn is a valid page
 
-sent_alone : (plan : Plan) (c n : Configuration) (b : Bool) → b ≡ false → rounds plan.mode (page_set c (cond b (Some n) None)) ≡ rounds plan.mode (page_set c None)
-sent_alone plan c n b e = ap (λ (x : Bool). rounds plan.mode (page_set c (cond x (Some n) None))) e
+sent_alone : (plan : Plan) (c n : Configuration) (b : Bool) → b ≡ false → rounds plan.layout (page_set c (cond b (Some n) None)) ≡ rounds plan.layout (page_set c None)
+sent_alone plan c n b e = ap (λ (x : Bool). rounds plan.layout (page_set c (cond x (Some n) None))) e
 
-sent_both : (plan : Plan) (c n : Configuration) (b : Bool) → b ≡ true → rounds plan.mode (page_set c (cond b (Some n) None)) ≡ rounds plan.mode (page_set c (Some n))
-sent_both plan c n b e = ap (λ (x : Bool). rounds plan.mode (page_set c (cond x (Some n) None))) e
+sent_both : (plan : Plan) (c n : Configuration) (b : Bool) → b ≡ true → rounds plan.layout (page_set c (cond b (Some n) None)) ≡ rounds plan.layout (page_set c (Some n))
+sent_both plan c n b e = ap (λ (x : Bool). rounds plan.layout (page_set c (cond x (Some n) None))) e
 
 pub split_le : (a b : ℕ) → (a ≤ b) ⊎ (b < a)
 split_le a b = by (leb a b) refl
@@ -124,15 +126,15 @@ split_le a b = by (leb a b) refl
     by false e = inr (leb-false a b e)
 
 turn_below : (plan : Plan) (left : Option ℕ) (c n : Configuration) (page_index : ℕ) → IsAhead left → TurnShown plan left c n page_index
-    → page_index < rounds plan.mode (page_set c (cond (is_noticed plan.notice left) (Some n) None))
+    → page_index < rounds plan.layout (page_set c (cond (is_noticed plan.notice left) (Some n) None))
 turn_below plan None c n page_index a h = h
 turn_below plan (Some l) c n page_index a h =
     elim (split_le l plan.notice) [
       | inl within ↦
           let e = sent_both plan c n (is_noticed plan.notice (Some l)) (noticed plan.notice l a within) in
           let is = h.within within in
-          let below = page_of_below (rounds plan.mode (page_set c (Some n))) (plan.notice - l) (some_rounds plan.mode (page_set c (Some n))) in
-          subst (λ (x : ℕ). page_index < x) (sym e) (subst (λ (x : ℕ). x < rounds plan.mode (page_set c (Some n))) (sym is) below)
+          let below = page_of_below (rounds plan.layout (page_set c (Some n))) (plan.notice - l) (some_rounds plan.layout (page_set c (Some n))) in
+          subst (λ (x : ℕ). page_index < x) (sym e) (subst (λ (x : ℕ). x < rounds plan.layout (page_set c (Some n))) (sym is) below)
       | inr past ↦
           let e = sent_alone plan c n (is_noticed plan.notice (Some l)) (not_noticed plan.notice l past) in
           subst (λ (x : ℕ). page_index < x) (sym e) (h.before past)
@@ -154,7 +156,7 @@ swaps_later IV count l some h = omega (arith, some, h)
 
 swaps_on_later : (plan : Plan) (count : ℕ) (left : Option ℕ) → IsAhead left → SwapsOn plan count left → SwapsOn plan ((count + 1) % 5000) (left_after_frame left)
 swaps_on_later plan count None a h = tt
-swaps_on_later plan count (Some l) a h = swaps_later plan.mode count l a h
+swaps_on_later plan count (Some l) a h = swaps_later (layout_mode plan.layout) count l a h
 
 page_step : (pages l notice : ℕ) → 1 ≤ l → l ≤ notice → page_after pages (page_of pages (notice - l)) ≡ page_of pages (notice - (l - 1))
 page_step pages l notice some within =
@@ -162,12 +164,12 @@ page_step pages l notice some within =
     sym (ap (page_of pages) up ∙ page_of_next pages (notice - l))
 
 turn_later : (plan : Plan) (left : Option ℕ) (c n : Configuration) (page_index : ℕ) → IsAhead left → TurnShown plan left c n page_index
-    → TurnBefore plan (left_after_frame left) c n (page_after (rounds plan.mode (page_set c (cond (is_noticed plan.notice left) (Some n) None))) page_index)
-turn_later plan None c n page_index a h = page_after_below (rounds plan.mode (page_set c None)) page_index (some_rounds plan.mode (page_set c None))
+    → TurnBefore plan (left_after_frame left) c n (page_after (rounds plan.layout (page_set c (cond (is_noticed plan.notice left) (Some n) None))) page_index)
+turn_later plan None c n page_index a h = page_after_below (rounds plan.layout (page_set c None)) page_index (some_rounds plan.layout (page_set c None))
 turn_later plan (Some l) c n page_index a h =
-    let both : ℕ = rounds plan.mode (page_set c (Some n)) in
-    let alone : ℕ = rounds plan.mode (page_set c None) in
-    let sent : ℕ = rounds plan.mode (page_set c (cond (is_noticed plan.notice (Some l)) (Some n) None)) in
+    let both : ℕ = rounds plan.layout (page_set c (Some n)) in
+    let alone : ℕ = rounds plan.layout (page_set c None) in
+    let sent : ℕ = rounds plan.layout (page_set c (cond (is_noticed plan.notice (Some l)) (Some n) None)) in
     record {
       within = λ earlier.
           let inside : l ≤ plan.notice = omega (arith, earlier, a) in
@@ -176,7 +178,7 @@ turn_later plan (Some l) c n page_index a h =
       before = λ later.
           let past : plan.notice < l = omega (arith, later, a) in
           let e : sent ≡ alone = sent_alone plan c n (is_noticed plan.notice (Some l)) (not_noticed plan.notice l past) in
-          subst (λ (x : ℕ). page_after x page_index < alone) (sym e) (page_after_below alone page_index (some_rounds plan.mode (page_set c None)));
+          subst (λ (x : ℕ). page_after x page_index < alone) (sym e) (page_after_below alone page_index (some_rounds plan.layout (page_set c None)));
     }
 
 pub airs_later : (plan : Plan) (s : State) → Airs plan s → Tracked plan (with_next_counts plan s)
@@ -193,14 +195,14 @@ airs_later plan s h = record {
 
 -- before it is known whether a notice begins
 pub record IsTurnAfter (plan : Plan) (l : ℕ) (c n : Configuration) (page_index : ℕ) : Type 0 where
-  pub within : l < plan.notice → page_index ≡ page_of (rounds plan.mode (page_set c (Some n))) (plan.notice - l)
-  pub before : plan.notice < l → page_index < rounds plan.mode (page_set c None)
+  pub within : l < plan.notice → page_index ≡ page_of (rounds plan.layout (page_set c (Some n))) (plan.notice - l)
+  pub before : plan.notice < l → page_index < rounds plan.layout (page_set c None)
 
 abbrev pub TurnAfter : Plan → Option ℕ → Configuration → Configuration → ℕ → Type 0
-TurnAfter plan None c n page_index = page_index < rounds plan.mode (page_set c None)
+TurnAfter plan None c n page_index = page_index < rounds plan.layout (page_set c None)
 TurnAfter plan (Some l) c n page_index = IsTurnAfter plan l c n page_index
 
-newly_turn : (plan : Plan) (count : ℕ) (left : Option ℕ) (c n : Configuration) (page_index : ℕ) → IsNewly plan count left → page_index < rounds plan.mode (page_set c None) → TurnAfter plan left c n page_index
+newly_turn : (plan : Plan) (count : ℕ) (left : Option ℕ) (c n : Configuration) (page_index : ℕ) → IsNewly plan count left → page_index < rounds plan.layout (page_set c None) → TurnAfter plan left c n page_index
 newly_turn plan count None c n page_index new below = below
 newly_turn plan count (Some l) c n page_index new below = record { within = λ earlier. absurd (omega (arith, earlier, new.0)); before = λ past. below }
 
@@ -238,7 +240,7 @@ at_state plan u count page_index c a b d swaps t = (
 
 carried_by : (plan : Plan) (s u : State) (due : Bool) → Tracked plan s → Carries plan (cond due (with_swap s) s) u → Carried plan s u
 carried_by plan s u true h g =
-    let at = at_state plan u s.count 0 s.next g.count g.page_index g.current (newly_swaps plan s.count u.left g.left) (newly_turn plan s.count u.left s.next u.next 0 g.left (some_rounds plan.mode (page_set s.next None))) in
+    let at = at_state plan u s.count 0 s.next g.count g.page_index g.current (newly_swaps plan s.count u.left g.left) (newly_turn plan s.count u.left s.next u.next 0 g.left (some_rounds plan.layout (page_set s.next None))) in
     record { count = g.count; eid = g.eid; current = subst (λ (x : Configuration). IsConfiguration x) (sym g.current) h.next; next = g.next h.next; swaps = at.0; page_index = at.1 }
 carried_by plan s u false h g =
     let at = at_state plan u s.count s.page_index s.current g.count g.page_index g.current (swaps_carried plan s.count s.left u.left s.next u.next g.left h.swaps) (turn_carried plan s.count s.left u.left s.current s.next u.next s.page_index g.left h.page_index) in
@@ -251,7 +253,7 @@ first_turn plan (Some l) c n page_index e =
     let is : l ≡ plan.notice = eqb-true l plan.notice e in
     let none : plan.notice - l ≡ 0 = omega (arith, is) in
     record {
-      within = λ inside. sym (ap (page_of (rounds plan.mode (page_set c (Some n)))) none ∙ page_of_first (rounds plan.mode (page_set c (Some n))));
+      within = λ inside. sym (ap (page_of (rounds plan.layout (page_set c (Some n)))) none ∙ page_of_first (rounds plan.layout (page_set c (Some n))));
       before = λ past. absurd (omega (arith, past, is));
     }
 

@@ -1,5 +1,6 @@
 -- Small runs, computed by the checker: the bytes and counts are those of worked examples from practice.
 use Rattle.std.proofs.Common.{◌≡◌, ℕ, zero, suc, true, false, List, [], ◌∷◌, ◌++◌, Some, None, take, drop, replicate, refl}
+use Rattle.fib_codec.specs.declared.frame_layout.FrameLayout.TheVariants.{Whole}
 use Rattle.mux_eep.specs.declared.sizes.EepSet.TheVariants.{A}
 use Rattle.mux_types.specs.declared.parts.Sub.{Sub}
 use Rattle.mux_types.specs.declared.parts.Service.{Service}
@@ -25,7 +26,7 @@ use Rattle.plan_runs.specs.Frames.{is_due, frame_bytes, frame_steps}
 use Rattle.plan_runs.specs.Runs.{run}
 
 abbrev plan : Plan
-plan = record { eid = 0xe1c5; mode = I; period = 4; notice = 24; budget = 20 }
+plan = record { eid = 0xe1c5; layout = Whole I; period = 4; notice = 24; budget = 20 }
 
 abbrev no_counters : Counters
 no_counters = record { 0 = 0 }

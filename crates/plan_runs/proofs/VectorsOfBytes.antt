@@ -2,6 +2,7 @@
 use Rattle.std.proofs.Common.{◌≡◌, ℕ, zero, suc, ◌<◌, Bool, true, false, List, [], ◌∷◌, Contains, Option, Some, None, replicate, refl, sym, ap, subst, ◌∙◌, arith}
 use Rattle.std.proofs.lemmas.Option.{slice_get_within}
 use Rattle.std.specs.List.{AllByRecursion}
+use Rattle.fib_codec.specs.declared.frame_layout.FrameLayout.TheVariants.{Whole}
 use Rattle.mux_entries.specs.Entries.{EnsembleInformation}
 use Rattle.mux_entries.specs.Facts.{Marked, marked, sub_entry}
 use Rattle.mux_entries.specs.declared.entry.Entry.TheVariants.{Ensemble as EnsembleOf}
@@ -31,7 +32,7 @@ use Rattle.plan_runs.proofs.VectorsOfRuns.{sub, with_sub, all_open, configuratio
 
 -- FIG 0/0 is in every fourth frame of mode I, and in every frame of mode II
 abbrev plan : Mode → Plan
-plan mode = record { eid = 0xe1c5; mode = mode; period = 1; notice = 12; budget = 20 }
+plan mode = record { eid = 0xe1c5; layout = Whole mode; period = 1; notice = 12; budget = 20 }
 
 -- a code that has ended, on the air with 128 kbit/s; a pending swap changes it to 96 kbit/s
 abbrev code : Mode → Program
@@ -159,11 +160,11 @@ next_sub = marked true (sub_entry (sub 96))
 
 heard_in_headed : IsHeardInRow headed current_sub
 heard_in_headed =
-    (pages_are_heard I (ensemble_sent (plan I) (on_air None 8)) 0 (sent_entries (plan I) (on_air None 8)) with_header current_sub).1 (0, omega arith, refl)
+    (pages_are_heard (Whole I) (ensemble_sent (plan I) (on_air None 8)) 0 (sent_entries (plan I) (on_air None 8)) with_header current_sub).1 (0, omega arith, refl)
 
 nothing_more : (m : Marked) → IsHeardInRow headed m → m ≡ current_sub
-nothing_more m h = one (page_inside I 0 (sent_entries (plan I) (on_air None 8)) m
-    ((pages_are_heard I (ensemble_sent (plan I) (on_air None 8)) 0 (sent_entries (plan I) (on_air None 8)) with_header m).0 h))
+nothing_more m h = one (page_inside (Whole I) 0 (sent_entries (plan I) (on_air None 8)) m
+    ((pages_are_heard (Whole I) (ensemble_sent (plan I) (on_air None 8)) 0 (sent_entries (plan I) (on_air None 8)) with_header m).0 h))
   where
     one : Contains (current_sub ∷ []) m → m ≡ current_sub
     one (zero, lt, same) = sym same
@@ -192,14 +193,14 @@ not_the_next h = not_of_the_next (h next_sub (0, omega arith, refl))
 -- ---- FIG 0/0 in a frame
 
 its_header : IsEnsembleHeardInRow headed false (unflagged 8)
-its_header = (ensemble_is_heard I (ensemble_sent (plan I) (on_air None 8)) 0 (sent_entries (plan I) (on_air None 8)) with_header false (unflagged 8)).1 (refl, refl)
+its_header = (ensemble_is_heard (Whole I) (ensemble_sent (plan I) (on_air None 8)) 0 (sent_entries (plan I) (on_air None 8)) with_header false (unflagged 8)).1 (refl, refl)
 
 has_header : HasHeader headed
 has_header = (false, unflagged 8, its_header)
 
 has_no_header : HasHeader bare → ⊥
 has_no_header h =
-    let said = (ensemble_is_heard I (ensemble_sent (plan I) (on_air None 9)) 0 (sent_entries (plan I) (on_air None 9)) without_header h.0 h.1).0 h.2 in
+    let said = (ensemble_is_heard (Whole I) (ensemble_sent (plan I) (on_air None 9)) 0 (sent_entries (plan I) (on_air None 9)) without_header h.0 h.1).0 h.2 in
     let e : None ≡ Some h.1 = said.1 in
     absurd cc
 
@@ -287,7 +288,7 @@ not_for_count_12 : IsRight (plan I) (on_air None 12) headed → ⊥
 not_for_count_12 h =
     let top = h.headed refl in
     let heard : IsEnsembleHeardInRow headed false top.information = (0, (top.header ∷ top.others, top.header, top.first, (0, omega arith, refl), top.says)) in
-    let said = ((ensemble_is_heard I (ensemble_sent (plan I) (on_air None 8)) 0 (sent_entries (plan I) (on_air None 8)) with_header false top.information).0 heard).1 in
+    let said = ((ensemble_is_heard (Whole I) (ensemble_sent (plan I) (on_air None 8)) 0 (sent_entries (plan I) (on_air None 8)) with_header false top.information).0 heard).1 in
     let same : unflagged 8 ≡ top.information = some_information (unflagged 8) top.information said in
     let count : top.information.count ≡ 12 = top.right.count in
     let eight : 8 ≡ top.information.count = ap (λ (e : EnsembleInformation). e.count) same in
@@ -308,7 +309,7 @@ notice_frame count left = shown_bytes (plan II) (noticed count left)
 record IsNoticeFrame (count left : ℕ) : Type 0 where
   sendable : IsSendableBy (plan II) (noticed count left)
   header : ensemble_sent (plan II) (noticed count left) ≡ Some (flagged count 10)
-  next : Contains (page_entries II 0 (sent_entries (plan II) (noticed count left))) next_sub
+  next : Contains (page_entries (Whole II) 0 (sent_entries (plan II) (noticed count left))) next_sub
 
 three_before : IsNoticeFrame 7 3
 three_before = record {
@@ -336,12 +337,12 @@ some_same o x y e f = let both : Some x ≡ Some y = sym e ∙ f in cc
 
 header_of : (count left : ℕ) → IsNoticeFrame count left → IsEnsembleHeardInRow (notice_frame count left) false (flagged count 10)
 header_of count left h =
-    (ensemble_is_heard II (ensemble_sent (plan II) (noticed count left)) 0 (sent_entries (plan II) (noticed count left)) h.sendable false (flagged count 10)).1
+    (ensemble_is_heard (Whole II) (ensemble_sent (plan II) (noticed count left)) 0 (sent_entries (plan II) (noticed count left)) h.sendable false (flagged count 10)).1
     (refl, h.header)
 
 only_header : (count left : ℕ) → IsNoticeFrame count left → (next : Bool) (e : EnsembleInformation) → IsEnsembleHeardInRow (notice_frame count left) next e → flagged count 10 ≡ e
 only_header count left h next e heard =
-    let said = (ensemble_is_heard II (ensemble_sent (plan II) (noticed count left)) 0 (sent_entries (plan II) (noticed count left)) h.sendable next e).0 heard in
+    let said = (ensemble_is_heard (Whole II) (ensemble_sent (plan II) (noticed count left)) 0 (sent_entries (plan II) (noticed count left)) h.sendable next e).0 heard in
     some_same _ _ _ h.header said.1
 
 has_its_header : (count left : ℕ) → IsNoticeFrame count left → HasHeader (notice_frame count left)
@@ -351,7 +352,7 @@ next_in : (count left : ℕ) → IsNoticeFrame count left → IsHeardInSome (not
 next_in count left h = (
   notice_frame count left,
   (0, omega arith, refl),
-  (pages_are_heard II (ensemble_sent (plan II) (noticed count left)) 0 (sent_entries (plan II) (noticed count left)) h.sendable next_sub).1 h.next,
+  (pages_are_heard (Whole II) (ensemble_sent (plan II) (noticed count left)) 0 (sent_entries (plan II) (noticed count left)) h.sendable next_sub).1 h.next,
 )
 
 whole_next : (count left : ℕ) → IsNoticeFrame count left → IsHeardWhole (with_sub 96) true (notice_frame count left ∷ [])
@@ -431,7 +432,7 @@ announces_11 h = let e : 11 ≡ 10 = only_10 11 h in omega (arith, e)
 -- without a swap no count is announced
 announces_nothing : (low : ℕ) → IsAnnouncedIn headed low → ⊥
 announces_nothing low h =
-    let said = (ensemble_is_heard I (ensemble_sent (plan I) (on_air None 8)) 0 (sent_entries (plan I) (on_air None 8)) with_header h.0 h.1).0 h.2 in
+    let said = (ensemble_is_heard (Whole I) (ensemble_sent (plan I) (on_air None 8)) 0 (sent_entries (plan I) (on_air None 8)) with_header h.0 h.1).0 h.2 in
     no_count low (ap (λ (e : EnsembleInformation). e.occurrence) (some_same (Some (unflagged 8)) (unflagged 8) h.1 refl said.1) ∙ h.3)
 
 swap_at_10 : SwapsAt 10 (code II) (on_air (Some 0) 10) (Frame ∷ [])
@@ -459,7 +460,7 @@ names_the_second : IsAnnouncedIn (frame_bytes too_long (noticed 0 251)) 1
 names_the_second = (
   false,
   flagged 0 1,
-  (ensemble_is_heard II (ensemble_sent too_long.plan (noticed 0 251)) 0 (sent_entries too_long.plan (noticed 0 251)) first_of_251 false (flagged 0 1)).1 (refl, refl),
+  (ensemble_is_heard (Whole II) (ensemble_sent too_long.plan (noticed 0 251)) 0 (sent_entries too_long.plan (noticed 0 251)) first_of_251 false (flagged 0 1)).1 (refl, refl),
   refl,
 )
 

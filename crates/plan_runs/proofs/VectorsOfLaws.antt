@@ -1,6 +1,7 @@
 -- Swaps, waits, counts, contacts and what was heard: for each definition, examples that hold and examples that fail.
 use Rattle.std.specs.Prelude.{map, get_or}
 use Rattle.std.proofs.Common.{◌≡◌, ℕ, zero, suc, ◌<◌, ◌≤◌, ◌%◌, true, false, List, [], ◌∷◌, length, Some, None, refl, sym, ap, arith, inl, inr}
+use Rattle.fib_codec.specs.declared.frame_layout.FrameLayout.TheVariants.{Whole}
 use Rattle.mux_types.specs.declared.parts.Sub.{Sub}
 use Rattle.mux_config.specs.Configuration.{Configuration}
 use Rattle.mux_entries.specs.Entries.{EnsembleInformation}
@@ -29,7 +30,7 @@ use Rattle.plan_runs.proofs.VectorsOfRuns.{with_sub, all_open, waits, first, sec
 use Rattle.plan_runs.proofs.VectorsOfBytes.{laws}
 
 abbrev plan : Mode → ℕ → ℕ → Plan
-plan mode notice budget = record { eid = 0xe1c5; mode = mode; period = 1; notice = notice; budget = budget }
+plan mode notice budget = record { eid = 0xe1c5; layout = Whole mode; period = 1; notice = notice; budget = budget }
 
 abbrev line : Instr → Line
 line i = record { number = 1; instr = i }

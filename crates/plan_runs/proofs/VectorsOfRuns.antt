@@ -1,6 +1,7 @@
 -- Runs of a code that waits for a frame and ends: for each definition, an example that holds and one that fails.
 use Rattle.std.proofs.Common.{◌≡◌, ℕ, zero, suc, ◌<◌, ◌≤◌, Bool, true, false, cond, List, [], ◌∷◌, length, Some, None, ◌==◌, replicate, refl, sym, ap, subst, arith}
 use Rattle.std.proofs.lemmas.Bool.{false≢true}
+use Rattle.fib_codec.specs.declared.frame_layout.FrameLayout.TheVariants.{Whole}
 use Rattle.mux_eep.specs.declared.sizes.EepSet.TheVariants.{A}
 use Rattle.mux_types.specs.declared.parts.Sub.{Sub}
 use Rattle.mux_config.specs.Configuration.{Configuration, IsPlaced, IsConfiguration}
@@ -34,7 +35,7 @@ use Rattle.plan_runs.proofs.Reached.{starts_are_reached, reached_is_kept}
 -- ---- values shared by these vectors: one sub-channel, at 128 kbit/s and at 96 kbit/s
 
 abbrev pub plan : Plan
-plan = record { eid = 0xe1c5; mode = I; period = 4; notice = 24; budget = 20 }
+plan = record { eid = 0xe1c5; layout = Whole I; period = 4; notice = 24; budget = 20 }
 
 abbrev pub sub : ℕ → Sub
 sub kbits = record { id = 1; start = 0; protection = record { set = A; level = 3 }; kbits = kbits }

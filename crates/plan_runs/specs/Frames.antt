@@ -1,5 +1,6 @@
 -- One frame of the player, in four steps: a due swap, the instructions, the bytes, and the counts.
 use Rattle.std.specs.Prelude.{◌≡◌, ℕ, zero, suc, ◌+◌, ◌-◌, ◌%◌, ◌≤◌, ◌==◌, ◌&&◌, ◌||◌, Bool, true, false, if◌then◌else◌, nat_le, List, Option, Some, None}
+use Rattle.fib_codec.specs.Layouts.{layout_mode}
 use Rattle.mux_config.specs.Configuration.{Configuration}
 use Rattle.mux_entries.specs.Entries.{EnsembleInformation}
 use Rattle.mux_entries.specs.Facts.{Marked}
@@ -127,7 +128,7 @@ sent_entries plan s = page_set s.current (announced_next plan s)
 
 -- the number of pages of what is sent
 abbrev pub sent_rounds : Plan → State → ℕ
-sent_rounds plan s = rounds plan.mode (sent_entries plan s)
+sent_rounds plan s = rounds plan.layout (sent_entries plan s)
 
 -- the low part of the count of a swap that falls this many frames later
 abbrev pub low_of_swap : ℕ → Option ℕ → ℕ
@@ -143,10 +144,10 @@ ensemble_of plan s =
 
 -- it is sent if the count is a multiple of the mode's step
 abbrev pub ensemble_sent : Plan → State → Option EnsembleInformation
-ensemble_sent plan s = if s.count % count_step plan.mode == 0 then Some (ensemble_of plan s) else None
+ensemble_sent plan s = if s.count % count_step (layout_mode plan.layout) == 0 then Some (ensemble_of plan s) else None
 
 abbrev pub shown_bytes : Plan → State → List ℕ
-shown_bytes plan s = page_bytes plan.mode (ensemble_sent plan s) s.page_index (sent_entries plan s)
+shown_bytes plan s = page_bytes plan.layout (ensemble_sent plan s) s.page_index (sent_entries plan s)
 
 abbrev pub frame_bytes : Program → State → List ℕ
 frame_bytes p s = shown_bytes p.plan (shown p s)

@@ -12,4 +12,5 @@ pub mod SentHeaders
 pub mod RightBytes
 pub mod Settings
 pub mod Headline
+pub mod Reserved
 pub mod Listening

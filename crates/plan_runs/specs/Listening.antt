@@ -1,9 +1,10 @@
 -- What a listener knows after hearing the frames of a run, and when it knows the current configuration
 -- (EN 300 401 clause 6.5).
 use Rattle.std.specs.Prelude.{◌≡◌, ℕ, zero, suc, ◌+◌, ◌%◌, ◌≤◌, ◌⊎◌, true, false, List, [], ◌∷◌, ◌++◌, length, flat_map, take, Some}
+use Rattle.fib_codec.specs.Layouts.{layout_mode, frame_fibs}
+use Rattle.fib_codec.specs.declared.frame_layout.FrameLayout.{FrameLayout}
 use Rattle.fib_codec.specs.Grammar.{Fig, IsFib}
-use Rattle.fib_codec.specs.declared.modes.Mode.{Mode}
-use Rattle.fib_codec.specs.Modes.{fib_count, count_step}
+use Rattle.fib_codec.specs.Modes.{count_step}
 use Rattle.fib_codec.specs.Heard.{fib_at}
 use Rattle.fib_reader.specs.Listening.{Listening, untuned, hear_figs}
 use Rattle.fib_reader.specs.Picture.{Shows}
@@ -23,9 +24,9 @@ abbrev pub fibs_from : ℕ → ℕ → List ℕ → List (List ℕ)
 fibs_from zero n frame = []
 fibs_from (suc count) n frame = fib_at frame n ∷ fibs_from count (n + 1) frame
 
--- the FIBs of each frame in this mode, in order
-abbrev pub fibs_of : Mode → List (List ℕ) → List (List ℕ)
-fibs_of mode frames = flat_map (fibs_from (fib_count mode) 0) frames
+-- the FIBs of each frame of this layout, in order
+abbrev pub fibs_of : FrameLayout → List (List ℕ) → List (List ℕ)
+fibs_of layout frames = flat_map (fibs_from (frame_fibs layout) 0) frames
 
 -- a listener that knows `old` and hears this FIB then knows `new`
 abbrev pub HearsFib : List ℕ → Listening → Listening → Type 0
@@ -41,11 +42,11 @@ HearsAll (fib ∷ fibs) old new = (between : Listening) × HearsFib fib old betw
 abbrev pub HasCount : Program → State → List Event → Type 0
 HasCount p s [] = ⊥
 HasCount p s (Contact c closed ∷ es) = HasCount p (happens p s (Contact c closed)) es
-HasCount p s (Frame ∷ es) = (s.count % count_step p.plan.mode ≡ 0) ⊎ HasCount p (after_frame p s) es
+HasCount p s (Frame ∷ es) = (s.count % count_step (layout_mode p.plan.layout) ≡ 0) ⊎ HasCount p (after_frame p s) es
 
 -- FIG 0/0 was heard in these events, or is in the frame after them
 abbrev pub IsTunedBy : Program → State → List Event → Type 0
-IsTunedBy p s events = HasCount p s events ⊎ ((run p s events).count % count_step p.plan.mode ≡ 0)
+IsTunedBy p s events = HasCount p s events ⊎ ((run p s events).count % count_step (layout_mode p.plan.layout) ≡ 0)
 
 -- a new listener hears all frames of `waiting` and then those of `window`, which are P frames of one phase that begin
 -- when it is tuned: then it knows the current configuration
@@ -55,7 +56,7 @@ KnowsTheCurrent p s =
     → IsTunedBy p s waiting
     → IsOnePhase p (run p s waiting) window
     → length (run_frames p (run p s waiting) window) ≡ p.plan.period
-    → HearsAll (fibs_of p.plan.mode (run_frames p s (waiting ++ window))) untuned heard
+    → HearsAll (fibs_of p.plan.layout (run_frames p s (waiting ++ window))) untuned heard
     → Shows heard.current (with_due_swap (run p s waiting)).current
 
 -- ---- a swap that is heard
@@ -91,14 +92,14 @@ KnowsTheNew p s =
     → IsUntilNextSwap p (run p s (waiting ++ notice)) after
     → 1 ≤ fibs
     → HearsAll
-    (fibs_of p.plan.mode (run_frames p s (waiting ++ notice)) ++ take fibs (fibs_of p.plan.mode (run_frames p (run p s (waiting ++ notice)) after)))
+    (fibs_of p.plan.layout (run_frames p s (waiting ++ notice)) ++ take fibs (fibs_of p.plan.layout (run_frames p (run p s (waiting ++ notice)) after)))
     untuned
     heard
     → Shows heard.current (run p s (waiting ++ notice)).next
 
 -- a listener has room for whatever it hears of a typed code
 abbrev pub IsNeverFull : Program → State → Type 0
-IsNeverFull p s = (events : List Event) → (heard : Listening) × HearsAll (fibs_of p.plan.mode (run_frames p s events)) untuned heard
+IsNeverFull p s = (events : List Event) → (heard : Listening) × HearsAll (fibs_of p.plan.layout (run_frames p s events)) untuned heard
 
 pub record ListenersKnow (p : Program) (s : State) : Type 0 where
   pub room : IsNeverFull p s

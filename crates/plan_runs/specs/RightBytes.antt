@@ -1,11 +1,12 @@
 -- When the bytes of a frame, and the frames of a phase, are correct (EN 300 401 clauses 5.2.1, 6.4 and 6.5).
 use Rattle.std.specs.Prelude.{◌≡◌, ◌≢◌, ℕ, ◌+◌, ◌*◌, ◌%◌, ◌<◌, ◌≤◌, ◌⊎◌, true, false, List, [], ◌∷◌, length, Contains, Option, Some, None}
 use Rattle.std.specs.List.{AllByRecursion}
+use Rattle.fib_codec.specs.Layouts.{layout_mode, frame_fibs}
 use Rattle.mux_entries.specs.Entries.{EnsembleInformation}
 use Rattle.mux_entries.specs.Facts.{Marked, marked, facts_of}
 use Rattle.mux_entries.specs.declared.entry.Entry.TheVariants.{Ensemble as EnsembleOf}
 use Rattle.fib_codec.specs.Grammar.{Fig, Open, Other, IsFib, IsValid}
-use Rattle.fib_codec.specs.Modes.{fib_count, count_step}
+use Rattle.fib_codec.specs.Modes.{count_step}
 use Rattle.fib_codec.specs.Heard.{IsInFig, IsHeardInRow, fib_at}
 use Rattle.mux_entries.specs.declared.limits.TheConstants.{COUNTS}
 use Rattle.plan_code.specs.declared.plan.Plan.{Plan}
@@ -57,11 +58,11 @@ IsUnheaded bytes = (figs : List Fig) × IsFib bytes figs × AllByRecursion IsNoH
 
 -- the bytes are correct for the state that they are made from
 pub record IsRight (plan : Plan) (s : State) (bytes : List ℕ) : Type 0 where
-  pub length_of_fibs : length bytes ≡ 32 * fib_count plan.mode
-  pub valid : (n : ℕ) → n < fib_count plan.mode → (figs : List Fig) × IsValid (fib_at bytes n) figs
-  pub headed : s.count % count_step plan.mode ≡ 0 → IsHeadedBy plan s (fib_at bytes 0)
-  pub unheaded : s.count % count_step plan.mode ≢ 0 → IsUnheaded (fib_at bytes 0)
-  pub others_unheaded : (n : ℕ) → 1 ≤ n → n < fib_count plan.mode → IsUnheaded (fib_at bytes n)
+  pub length_of_fibs : length bytes ≡ 32 * frame_fibs plan.layout
+  pub valid : (n : ℕ) → n < frame_fibs plan.layout → (figs : List Fig) × IsValid (fib_at bytes n) figs
+  pub headed : s.count % count_step (layout_mode plan.layout) ≡ 0 → IsHeadedBy plan s (fib_at bytes 0)
+  pub unheaded : s.count % count_step (layout_mode plan.layout) ≢ 0 → IsUnheaded (fib_at bytes 0)
+  pub others_unheaded : (n : ℕ) → 1 ≤ n → n < frame_fibs plan.layout → IsUnheaded (fib_at bytes n)
   pub entries : (m : Marked) → IsHeardInRow bytes m
       → Contains (facts_of s.current false) m ⊎ ((is_noticed plan.notice s.left ≡ true) × Contains (facts_of s.next true) m)
 

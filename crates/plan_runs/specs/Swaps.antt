@@ -1,5 +1,6 @@
 -- When a swap is made, and what it changes (EN 300 401 clause 6.5).
 use Rattle.std.specs.Prelude.{◌≡◌, ◌⊎◌, ℕ, ◌%◌, ◌≤◌, true, false, List, None}
+use Rattle.fib_codec.specs.Layouts.{layout_mode}
 use Rattle.fib_codec.specs.Modes.{count_step}
 use Rattle.plan_code.specs.declared.plan.Plan.{Plan}
 use Rattle.plan_code.specs.declared.instr.Instr.{Instr}
@@ -13,7 +14,7 @@ use Rattle.plan_runs.specs.TypedRuns.{IsPlayed}
 
 -- a swap is due only in frames whose CIF count is a multiple of the mode's step
 abbrev pub IsOnStep : Plan → State → Type 0
-IsOnStep plan s = is_due s.left ≡ true → s.count % count_step plan.mode ≡ 0
+IsOnStep plan s = is_due s.left ≡ true → s.count % count_step (layout_mode plan.layout) ≡ 0
 
 -- from the state before a frame to another: where a swap is due the next configuration becomes the current one;
 -- otherwise the current one is unchanged
@@ -33,7 +34,7 @@ IsSwapAtCount n p s events =
 abbrev pub IsSwapAfterDelay : ℕ → Program → State → List Event → Type 0
 IsSwapAfterDelay k p s events =
     CarriesOut p s (CommitIn k)
-    → IsFirstWhere (λ t. is_due t.left) (λ later t. (k ≤ later) × (t.count % count_step p.plan.mode ≡ 0)) 1 p (after_frame p s) events
+    → IsFirstWhere (λ t. is_due t.left) (λ later t. (k ≤ later) × (t.count % count_step (layout_mode p.plan.layout) ≡ 0)) 1 p (after_frame p s) events
 
 abbrev pub IsCommit : Instr → Type 0
 IsCommit (Wait n) = ⊥

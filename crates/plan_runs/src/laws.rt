@@ -4,6 +4,7 @@
 ghost use Rattle.plan_runs.specs.Frames.{BurstsAreOne};
 ghost use Rattle.plan_runs.specs.TypedRuns.{StartsAreReached, ReachedIsKept, TypedCodeRuns, FramesCanBeSent};
 ghost use Rattle.plan_runs.specs.Headline.{FramesOfTypedCodeAreRight, PeriodsAreWhole, SwapsAreAnnounced, SwapsComeAsAnnounced, HeardIsKnown, HeadlineHolds};
+ghost use Rattle.plan_runs.specs.Reserved.{ReservesAreKept};
 ghost use Rattle.plan_runs.specs.Announced.{RunsJoin};
 ghost use Rattle.plan_runs.specs.Settings.{LastLevelsCount};
 ghost use Rattle.plan_runs.specs.LastSent.{HeardWasSent};
@@ -79,6 +80,15 @@ pub fn pages_in_turn()
 /// configuration and, in a notice, of the next one.
 pub fn frames()
     ensures { FramesOfTypedCodeAreRight }
+{
+    fib_carousel::laws::pages();
+    fib_carousel::laws::carried();
+}
+
+/// The law of the reserve: in every frame of every run of a typed code the reserved FIBs, the last of the frame, are
+/// empty. There is room in them for FIGs from elsewhere, whatever the code sends.
+pub fn reserved()
+    ensures { ReservesAreKept }
 {
     fib_carousel::laws::pages();
     fib_carousel::laws::carried();

@@ -6,7 +6,7 @@ use Rattle.std.proofs.lemmas.Bool.{leb-false}
 use Rattle.std.proofs.Math.Seq.{take-append-add, take-append_seam}
 use Rattle.std.proofs.Math.Nat.{suc-mul}
 use Rattle.std.specs.Io.KnownBytes.{Appends, Keeps, append_known}
-use Rattle.fib_codec.specs.Modes.{fib_count}
+use Rattle.fib_codec.specs.Layouts.{frame_fibs}
 use Rattle.plan_code.specs.Program.{Program, IsProgram}
 use Rattle.plan_code.specs.Machine.{State}
 use Rattle.plan_runs.specs.declared.event.Event.{Event}
@@ -37,7 +37,7 @@ record Cut (code : Program) (s : State) (events : List Event) (n frames bytes : 
   part : bytes < length (frame_bytes code (run code s done))
   text : take n (concat (run_frames code s events)) ≡ concat (run_frames code s done) ++ take bytes (frame_bytes code (run code s done))
 
-cut_at : (code : Program) (size : ℕ) (s : State) (events : List Event) (n frames bytes : ℕ) → size ≡ 32 * fib_count code.plan.mode → FramesAreRight code s events → n ≡ frames * size + bytes → bytes < size → n < length (concat (run_frames code s events)) → Cut code s events n frames bytes
+cut_at : (code : Program) (size : ℕ) (s : State) (events : List Event) (n frames bytes : ℕ) → size ≡ 32 * frame_fibs code.plan.layout → FramesAreRight code s events → n ≡ frames * size + bytes → bytes < size → n < length (concat (run_frames code s events)) → Cut code s events n frames bytes
 cut_at code size s [] n frames bytes sized right split part inside = absurd (omega (arith, inside))
 cut_at code size s (Contact c closed ∷ es) n frames bytes sized right split part inside =
     let later = cut_at code size (happens code s (Contact c closed)) es n frames bytes sized right split part inside in
@@ -84,7 +84,7 @@ cut_at code size s (Frame ∷ es) n (suc k) bytes sized right split part inside 
     }
 
 -- a playback that stopped after these bytes
-stopped_at : (p : Playing) (events : List Event) (size n frames bytes : ℕ) → size ≡ 32 * fib_count p.code.plan.mode → FramesAreRight p.code p.state events → n ≡ frames * size + bytes → bytes < size → n < length (played_bytes p events)
+stopped_at : (p : Playing) (events : List Event) (size n frames bytes : ℕ) → size ≡ 32 * frame_fibs p.code.plan.layout → FramesAreRight p.code p.state events → n ≡ frames * size + bytes → bytes < size → n < length (played_bytes p events)
     → (new : Playing) × Stopped p new events (Some []) (Some (take n (played_bytes p events))) frames bytes
 stopped_at p events size n frames bytes sized right split part inside =
     let c = cut_at p.code size p.state events n frames bytes sized right split part inside in (
@@ -128,7 +128,7 @@ right_frames headline reached code start text p steps program typed eid contacts
     })).right in
     subst (λ (c : Program). FramesAreRight c p.state events) (sym h.begins.code_is) right
 
-sized : (code : Program) (size : ℕ) (s : State) (events : List Event) → size ≡ 32 * fib_count code.plan.mode → FramesAreRight code s events → length (concat (run_frames code s events)) ≡ length (run_frames code s events) * size
+sized : (code : Program) (size : ℕ) (s : State) (events : List Event) → size ≡ 32 * frame_fibs code.plan.layout → FramesAreRight code s events → length (concat (run_frames code s events)) ≡ length (run_frames code s events) * size
 sized code size s [] is right = omega arith
 sized code size s (Contact c closed ∷ es) is right = sized code size (happens code s (Contact c closed)) es is right
 sized code size s (Frame ∷ es) is right =
@@ -170,7 +170,7 @@ handed_on before begun taken after [] text e k a m none =
     rw (e, x.1) (sym (append-nil x.0) ∙ x.2)
 handed_on before begun taken after (h ∷ hs) text e k a m none = absurd (omega (arith, none))
 
-cut_out : (p : Playing) (events : List Event) (size : ℕ) (x held rest : List ℕ) (frames bytes : ℕ) → size ≡ 32 * fib_count p.code.plan.mode → FramesAreRight p.code p.state events → played_bytes p events ≡ (x ++ held) ++ rest → 0 < length held + length rest
+cut_out : (p : Playing) (events : List Event) (size : ℕ) (x held rest : List ℕ) (frames bytes : ℕ) → size ≡ 32 * frame_fibs p.code.plan.layout → FramesAreRight p.code p.state events → played_bytes p events ≡ (x ++ held) ++ rest → 0 < length held + length rest
     → frames * size + bytes ≡ length x → bytes < size → (new : Playing) × Stopped p new events (Some []) (Some x) frames bytes
 cut_out p events size x held rest frames bytes is right all some count part =
     let split : played_bytes p events ≡ x ++ (held ++ rest) = all ∙ append_assoc x held rest in
@@ -185,7 +185,7 @@ stopped_in p new events frames bytes before after x e f s =
     subst (λ (o : Option (List ℕ)). Stopped p new events o after frames bytes) (sym e) (subst (λ (o : Option (List ℕ)). Stopped p new events (Some []) o frames bytes) (sym f) s)
 
 -- playback was complete, but its end was not delivered
-pub cut_at_end : (p : Playing) (events : List Event) (size total frames bytes : ℕ) (before begun taken after : Option (List ℕ)) (held : List ℕ) → size ≡ 32 * fib_count p.code.plan.mode → FramesAreRight p.code p.state events
+pub cut_at_end : (p : Playing) (events : List Event) (size total frames bytes : ℕ) (before begun taken after : Option (List ℕ)) (held : List ℕ) → size ≡ 32 * frame_fibs p.code.plan.layout → FramesAreRight p.code p.state events
     → before ≡ Some [] → Keeps before begun → total ≡ length (frames_of p events) → Appends begun taken (played_bytes p events) → Keeps taken (append_known after held) → 0 < length held
     → (length held ≤ total * size + 0 → frames * size + bytes + length held ≡ total * size + 0) → bytes < size
     → (new : Playing) × Stopped p new events before after frames bytes
@@ -199,7 +199,7 @@ cut_at_end p events size total frames bytes before begun taken after held is rig
     (stopped.0, stopped_in p stopped.0 events frames bytes before after x.0 e x.1 stopped.1)
 
 -- playback stopped
-pub cut_before : (p new : Playing) (events : List Event) (size total more frames bytes : ℕ) (before begun taken after : Option (List ℕ)) (held : List ℕ) → size ≡ 32 * fib_count p.code.plan.mode → FramesAreRight p.code p.state events
+pub cut_before : (p new : Playing) (events : List Event) (size total more frames bytes : ℕ) (before begun taken after : Option (List ℕ)) (held : List ℕ) → size ≡ 32 * frame_fibs p.code.plan.layout → FramesAreRight p.code p.state events
     → ((all : List Event) → FramesAreRight p.code p.state all)
     → before ≡ Some [] → Keeps before begun → Stopped p new events begun taken total more → Keeps taken (append_known after held)
     → (length held ≤ total * size + more → frames * size + bytes + length held ≡ total * size + more) → (more < size → bytes < size)

@@ -41,7 +41,7 @@ fn play_into<K: Sink>(
     ensures silent { IfErr result.0 (λ e. K.taken out ≡ Some []
         → IsSilent (K.taken out) (K.taken result.1) e) }
 {
-    let size = FIB * code.code().plan().mode.fibs();
+    let size = FIB * code.code().plan().layout.fibs();
     plan_runs::laws::headline();
     plan_runs::laws::reached();
     let mut buffer = Buffer::new(out);

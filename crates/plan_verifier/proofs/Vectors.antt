@@ -1,5 +1,6 @@
 -- Small codes: which are typed, and why and where others are refused.
 use Rattle.std.proofs.Common.{◌≡◌, ℕ, ◌<◌, ◌≤◌, true, List, [], ◌∷◌, length, refl, arith}
+use Rattle.fib_codec.specs.declared.frame_layout.FrameLayout.TheVariants.{Whole}
 use Rattle.mux_config.specs.Configuration.{IsConfiguration, IsAscending, nothing}
 use Rattle.std.specs.List.{AllByRecursion}
 use Rattle.mux_config.specs.declared.edit.Edit.TheVariants.{AddSub, DropSub, AddService}
@@ -24,7 +25,7 @@ use Rattle.plan_verifier.specs.Refusals.{IsRefused}
 use Rattle.plan_verifier.proofs.OneVerdict.{typed_if, refused_if, codes_have_one_verdict}
 
 abbrev plan : Plan
-plan = record { eid = 0xe1c5; mode = I; period = 4; notice = 24; budget = 20 }
+plan = record { eid = 0xe1c5; layout = Whole I; period = 4; notice = 24; budget = 20 }
 
 abbrev no_counters : Counters
 no_counters = record { 0 = 0 }

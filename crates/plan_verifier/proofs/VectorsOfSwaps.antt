@@ -1,5 +1,6 @@
 -- A swap in each transmission mode, and what is allowed where it may already have been made.
 use Rattle.std.proofs.Common.{◌≡◌, ◌<◌, ◌≤◌, true, [], ◌∷◌, inl, inr, refl, ap, arith}
+use Rattle.fib_codec.specs.declared.frame_layout.FrameLayout.TheVariants.{Whole}
 use Rattle.mux_config.specs.Configuration.{Configuration}
 use Rattle.mux_config.specs.declared.edit.Edit.TheVariants.{DropSub}
 use Rattle.mux_config.specs.declared.fault.EditFault.TheVariants.{IdAbsent}
@@ -15,7 +16,7 @@ use Rattle.plan_verifier.proofs.Deciding.{decides_room}
 use Rattle.plan_verifier.proofs.VectorsOfTyping.{plan, one_sub, sub, knows, joins, edited, committed, joined, one_sub_is_sound, not_the_current}
 
 abbrev in_mode : Mode → Plan
-in_mode mode = record plan { mode = mode }
+in_mode mode = record plan { layout = Whole mode }
 
 -- ---- the bounds that a commit leaves
 

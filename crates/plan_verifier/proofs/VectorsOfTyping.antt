@@ -1,6 +1,7 @@
 -- Typed codes on a small code: for each definition, an example that holds and one that fails.
 use Rattle.std.proofs.Common.{◌≡◌, ◌≢◌, ℕ, zero, suc, ◌+◌, ◌*◌, ◌<◌, ◌≤◌, true, false, List, [], ◌∷◌, slice_get, Contains, Option, Some, None, inl, inr, refl, ap, subst, ◌∙◌, arith}
 use Rattle.std.proofs.lemmas.Bool.{false≢true}
+use Rattle.fib_codec.specs.declared.frame_layout.FrameLayout.TheVariants.{Whole}
 use Rattle.mux_config.specs.Configuration.{Configuration, nothing}
 use Rattle.mux_config.specs.Sound.{IsSound}
 use Rattle.mux_config.specs.declared.edit.Edit.TheVariants.{AddSub, DropSub}
@@ -23,11 +24,11 @@ use Rattle.plan_verifier.proofs.Deciding.{decides_room, decides_includes, decide
 -- ---- values shared by these vectors: one sub-channel of 128 kbit/s, added to an empty multiplex
 
 abbrev pub plan : Plan
-plan = record { eid = 0xe1c5; mode = I; period = 4; notice = 24; budget = 20 }
+plan = record { eid = 0xe1c5; layout = Whole I; period = 4; notice = 24; budget = 20 }
 
 -- the same, but the whole configuration goes out in each frame
 abbrev pub each_frame : Plan
-each_frame = record { eid = 0xe1c5; mode = I; period = 1; notice = 24; budget = 20 }
+each_frame = record { eid = 0xe1c5; layout = Whole I; period = 1; notice = 24; budget = 20 }
 
 abbrev pub counters : ℕ → Counters
 counters set = record { 0 = set }

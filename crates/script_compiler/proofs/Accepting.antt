@@ -12,7 +12,7 @@ use Rattle.script_meaning.specs.declared.flow.UnpricedLabel.{UnpricedLabel}
 use Rattle.script_meaning.specs.Scheme.{unpriced_labels}
 use Rattle.script_meaning.specs.Judged.{IsJudged}
 use Rattle.script_meaning.specs.Need.{IsWithinBudget}
-use Rattle.script_meaning.specs.Compiled.{plan_of, opening_of, beginning, body_of, placed_instrs, lines_of_placed, instrs_of, nested, AreFine, Tabled, AreLabelsOf, IsCodeOf, IsAccepted}
+use Rattle.script_meaning.specs.Compiled.{opening_of, beginning, body_of, placed_instrs, lines_of_placed, instrs_of, nested, AreFine, Tabled, AreLabelsOf, IsCodeOf, IsAccepted}
 use Rattle.script_meaning.proofs.OneCode.{tabled_once}
 use Rattle.script_compiler.proofs.Emitted.{length_lines}
 
@@ -21,8 +21,8 @@ labels_length table [] ls h = ap length h
 labels_length table (m ∷ ms) [] h = absurd h
 labels_length table (m ∷ ms) (l ∷ ls) h = omega (arith, labels_length table ms ls h.1)
 
-pub is_accepted : (s : Tree) (code : Program) → IsProgram code → IsCodeOf s code → AreFine s.items nothing → IsSound (opening_of s) → pages_alone (plan_of s) (opening_of s) ≤ s.header.period
-    → IsJudged (plan_of s) (body_of s) (beginning (opening_of s)) → nested (body_of s) ≤ 8 → IsWithinBudget s.header.budget (instrs_of (lines_of_placed (placed_instrs s))) → IsAccepted s
+pub is_accepted : (s : Tree) (code : Program) → IsProgram code → IsCodeOf s code → AreFine s.items nothing → IsSound (opening_of s) → pages_alone s.header (opening_of s) ≤ s.header.period
+    → IsJudged s.header (body_of s) (beginning (opening_of s)) → nested (body_of s) ≤ 8 → IsWithinBudget s.header.budget (instrs_of (lines_of_placed (placed_instrs s))) → IsAccepted s
 is_accepted s code formed is made sound period judged repeats within = record {
   made = made;
   sound = sound;
@@ -37,7 +37,7 @@ is_accepted s code formed is made sound period judged repeats within = record {
 }
 
 -- the parts that the compiler made form the code of the script
-pub is_code_of : (s : Tree) (plan : Plan) (configs : List Configuration) (labels : List Label) (lines : List Line) (unpriced : List UnpricedLabel) → plan ≡ plan_of s → lines ≡ lines_of_placed (placed_instrs s) → unpriced ≡ unpriced_labels 0 (placed_instrs s) → Tabled [] unpriced configs
+pub is_code_of : (s : Tree) (plan : Plan) (configs : List Configuration) (labels : List Label) (lines : List Line) (unpriced : List UnpricedLabel) → plan ≡ s.header → lines ≡ lines_of_placed (placed_instrs s) → unpriced ≡ unpriced_labels 0 (placed_instrs s) → Tabled [] unpriced configs
     → AreLabelsOf configs unpriced labels → IsCodeOf s (record { plan = plan; configurations = configs; labels = labels; lines = lines })
 is_code_of s plan configs labels lines unpriced plan_is lines_are marks_are tabled labelled = record {
   plan = plan_is;

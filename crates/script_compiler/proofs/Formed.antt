@@ -15,12 +15,13 @@ use Rattle.plan_code.specs.declared.label.Label.{Label}
 use Rattle.plan_code.specs.declared.label.Swap.{Swap}
 use Rattle.plan_code.specs.declared.label.Swap.TheVariants.{Idle, Within, Perhaps}
 use Rattle.plan_code.specs.declared.plan.Plan.{Plan}
-use Rattle.script_front.specs.Tree.{Tree, IsHeader, IsScript}
+use Rattle.script_front.specs.Tree.{Tree, IsScript}
+use Rattle.plan_code.specs.Program.{IsPlan}
 use Rattle.script_meaning.specs.declared.flow.UnpricedLabel.{UnpricedLabel}
 use Rattle.script_meaning.specs.declared.flow.ProgramPoint.{ProgramPoint}
 use Rattle.script_meaning.specs.Scheme.{PlacedInstr, unpriced_label, unpriced_labels, point_after, alone, onward, places}
 use Rattle.script_meaning.specs.Judged.{IsJudged}
-use Rattle.script_meaning.specs.Compiled.{plan_of, body_of, beginning, opening_of, placed_instrs, lines_of_placed, instrs_of, first_counters, nested, Tabled, AreLabelsOf}
+use Rattle.script_meaning.specs.Compiled.{body_of, beginning, opening_of, placed_instrs, lines_of_placed, instrs_of, first_counters, nested, Tabled, AreLabelsOf}
 use Rattle.script_compiler.specs.declared.fault.CompileFault.{CompileFault}
 use Rattle.script_compiler.specs.declared.fault.CompileFault.TheVariants.{Refused, Limit, Memory}
 use Rattle.script_compiler.specs.Longest.{longest}
@@ -35,19 +36,6 @@ use Rattle.script_compiler.proofs.Emitted.{length_lines}
 use Rattle.script_compiler.proofs.Making.{Parts, code_from, places_are, lines_are}
 use Rattle.script_compiler.proofs.Paths.{one_least}
 use Rattle.script_compiler.proofs.Ranged.{IsRanged, AllRanged, instrs_from_lines, all_ranged}
-
--- ---- the plan
-
-plan_formed : (s : Tree) → IsHeader s.header → IsPlan (plan_of s)
-plan_formed s h = record {
-  ensemble = h.named;
-  period_from = h.period_from;
-  period_to = h.period_to;
-  notice_from = h.notice_from;
-  notice_to = h.notice_to;
-  budget_from = h.budget_from;
-  budget_to = h.budget_to;
-}
 
 -- ---- properties of all members of a list
 
@@ -111,20 +99,20 @@ are_bounds Idle h k = tt
 are_bounds (Within lo hi) h k = (h.0, h.1, k)
 are_bounds (Perhaps hi) h k = (h, k)
 
-module _ (s : Tree) (script : IsScript s) (judged : IsJudged (plan_of s) (body_of s) (beginning (opening_of s))) where
+module _ (s : Tree) (script : IsScript s) (judged : IsJudged s.header (body_of s) (beginning (opening_of s))) where
   abbrev start : ProgramPoint
   start = beginning (opening_of s)
 
   places_in_bounds : AllBounded (placed_instrs s)
   places_in_bounds =
-      let least : 1 ≤ (plan_of s).notice = let n = script.headed.notice_from in omega (arith, n) in
-      let plan = plan_of s in
+      let least : 1 ≤ s.header.notice = let n = script.headed.notice_from in omega (arith, n) in
+      let plan = s.header in
       let a = point_after plan (body_of s) start in
       bounded_both (places plan 0 0 (body_of s) start) (onward a [] (alone s.last_line End 0)) (places_bounded plan (body_of s) 0 0 start least judged tt)
       (bounded_alone a s.last_line End 0 (after_bounded plan (body_of s) start least judged tt))
 
   places_in_range : AllByRecursion IsLine (lines_of_placed (placed_instrs s)) → AllRanged (placed_instrs s)
-  places_in_range h = all_ranged (plan_of s) s.last_line (body_of s) start script.headed.notice_to (instrs_from_lines (placed_instrs s) h) tt
+  places_in_range h = all_ranged s.header s.last_line (body_of s) start script.headed.notice_to (instrs_from_lines (placed_instrs s) h) tt
 
 -- ---- counts
 
@@ -145,7 +133,7 @@ some_table n (l ∷ ls) h all = let c = all.0.current in omega (arith, c)
 
 -- the statements of a script are valid, and its code is within the limits
 pub record IsKept (s : Tree) (configs : List Configuration) : Type 0 where
-  pub judged : IsJudged (plan_of s) (body_of s) (beginning (opening_of s))
+  pub judged : IsJudged s.header (body_of s) (beginning (opening_of s))
   pub repeats : nested (body_of s) ≤ 8
   pub instructions : length (placed_instrs s) ≤ 4096
   pub labels : length (unpriced_labels 0 (placed_instrs s)) ≤ 1024
@@ -194,7 +182,7 @@ module _ (s : Tree) (plan : Plan) (config : Configuration) (lines : List Line) (
         current = slice_get_within configs l.cur at.place.point.flow.current at.is.current;
         following = slice_get_within configs l.next at.place.point.flow.next at.is.following;
         bounds = subst AreBounds (sym at.is.pending) (are_bounds at.place.point.flow.pending bounds.0 bounds.1);
-        set = each_at (λ (x : Label). x.counters.0 < 256) labels has.0 l l (counters_within configs (unpriced_labels 0 all) labels labels_of_all (nested_deep (plan_of s) s.last_line (body_of s) (beginning (opening_of s)) kept.repeats)) has.1 has.2;
+        set = each_at (λ (x : Label). x.counters.0 < 256) labels has.0 l l (counters_within configs (unpriced_labels 0 all) labels labels_of_all (nested_deep s.header s.last_line (body_of s) (beginning (opening_of s)) kept.repeats)) has.1 has.2;
         cost_from = cost.0;
         cost_to = cost.1;
       }
@@ -202,7 +190,7 @@ module _ (s : Tree) (plan : Plan) (config : Configuration) (lines : List Line) (
   -- given that configurations and lines are in range
   pub parts_formed : AllByRecursion IsConfiguration configs → AllByRecursion IsLine lines → IsProgram (code_from plan configs labels lines)
   parts_formed made formed =
-      let first = first_of_all (plan_of s) s.last_line (body_of s) (beginning (opening_of s)) in
+      let first = first_of_all s.header s.last_line (body_of s) (beginning (opening_of s)) in
       let labels_are = each_from (IsLabel (length configs)) labels (label_formed formed) in
       let count = labels_length configs (unpriced_labels 0 all) labels labels_of_all in
       let some = some_marks first.place first.rest all first.is (first.labelled refl) in
@@ -213,7 +201,7 @@ module _ (s : Tree) (plan : Plan) (config : Configuration) (lines : List Line) (
       let some_lines = some_places first.place first.rest all first.is in
       let few_lines = kept.instructions in
       record {
-        planned = subst IsPlan (sym p.plan_is) (plan_formed s script.headed);
+        planned = subst IsPlan (sym p.plan_is) script.headed;
         configurations_from = some_table (length configs) labels some_labels labels_are;
         configurations_to = kept.configurations;
         configurations_formed = made;

@@ -13,6 +13,7 @@ mod Labelling
 mod Whole
 mod Accepting
 mod Refusing
+mod Opened
 mod Reasons
 mod Sound
 mod Connected

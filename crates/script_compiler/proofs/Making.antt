@@ -13,7 +13,7 @@ use Rattle.script_meaning.specs.declared.flow.UnpricedLabel.{UnpricedLabel}
 use Rattle.script_meaning.specs.Scheme.{all_places, unpriced_labels}
 use Rattle.script_meaning.specs.Judged.{IsJudged}
 use Rattle.script_meaning.specs.Need.{IsWithinBudget}
-use Rattle.script_meaning.specs.Compiled.{plan_of, body_of, beginning, opening_of, placed_instrs, lines_of_placed, instrs_of, nested, AreFine, Tabled, AreLabelsOf, IsCodeOf, CostsItsNeeds, IsAccepted}
+use Rattle.script_meaning.specs.Compiled.{body_of, beginning, opening_of, placed_instrs, lines_of_placed, instrs_of, nested, AreFine, Tabled, AreLabelsOf, IsCodeOf, CostsItsNeeds, IsAccepted}
 use Rattle.script_compiler.specs.Space.{Keeps}
 use Rattle.script_compiler.specs.Limits.{IsWithin}
 use Rattle.script_compiler.specs.declared.fault.CodeLimit.{CodeLimit}
@@ -25,7 +25,7 @@ use Rattle.script_compiler.proofs.Tabling.{costs_needs}
 
 -- the lines of a script, their needs within the budget, and the labels with their table
 pub record Parts (s : Tree) (plan : Plan) (config : Configuration) (lines : List Line) (unpriced : List UnpricedLabel) (needs : List ℕ) (configs : List Configuration) (labels : List Label) : Type 0 where
-  pub plan_is : plan ≡ plan_of s
+  pub plan_is : plan ≡ s.header
   pub config_is : config ≡ opening_of s
   pub emitted : lines ≡ lines_of_placed (all_places plan s.last_line (body_of s) (beginning config))
   pub marked : unpriced ≡ unpriced_labels 0 (all_places plan s.last_line (body_of s) (beginning config))
@@ -40,7 +40,7 @@ code_from plan configs labels lines = record { plan = plan; configurations = con
 
 module _ (s : Tree) (plan : Plan) (config : Configuration) (lines : List Line) (unpriced : List UnpricedLabel) (needs : List ℕ) (configs : List Configuration) (labels : List Label) (p : Parts s plan config lines unpriced needs configs labels) where
   pub places_are : all_places plan s.last_line (body_of s) (beginning config) ≡ placed_instrs s
-  places_are = ap (λ (q : Plan). all_places q s.last_line (body_of s) (beginning config)) p.plan_is ∙ ap (λ x. all_places (plan_of s) s.last_line (body_of s) (beginning x)) p.config_is
+  places_are = ap (λ (q : Plan). all_places q s.last_line (body_of s) (beginning config)) p.plan_is ∙ ap (λ x. all_places s.header s.last_line (body_of s) (beginning x)) p.config_is
 
   pub lines_are : lines ≡ lines_of_placed (placed_instrs s)
   lines_are = p.emitted ∙ ap lines_of_placed places_are
@@ -61,15 +61,15 @@ module _ (s : Tree) (plan : Plan) (config : Configuration) (lines : List Line) (
       IsProgram (code_from plan configs labels lines) → AreFine s.items nothing → IsSound config → pages_alone plan config ≤ plan.period → IsJudged plan (body_of s) (beginning config) → nested (body_of s) ≤ 8 → IsAccepted s
   parts_accepted formed fine sound period judged deep =
       is_accepted s (code_from plan configs labels lines) formed parts_code fine (subst IsSound p.config_is sound)
-      (subst (λ (x : Configuration). pages_alone (plan_of s) x ≤ s.header.period) p.config_is (subst (λ (q : Plan). pages_alone q config ≤ q.period) p.plan_is period))
-      (subst (λ (x : Configuration). IsJudged (plan_of s) (body_of s) (beginning x)) p.config_is (subst (λ (q : Plan). IsJudged q (body_of s) (beginning config)) p.plan_is judged)) deep parts_within
+      (subst (λ (x : Configuration). pages_alone s.header x ≤ s.header.period) p.config_is (subst (λ (q : Plan). pages_alone q config ≤ q.period) p.plan_is period))
+      (subst (λ (x : Configuration). IsJudged s.header (body_of s) (beginning x)) p.config_is (subst (λ (q : Plan). IsJudged q (body_of s) (beginning config)) p.plan_is judged)) deep parts_within
 
-module _ (s : Tree) (plan : Plan) (config : Configuration) (plan_is : plan ≡ plan_of s) (config_is : config ≡ opening_of s) where
+module _ (s : Tree) (plan : Plan) (config : Configuration) (plan_is : plan ≡ s.header) (config_is : config ≡ opening_of s) where
   same_places : placed_instrs s ≡ all_places plan s.last_line (body_of s) (beginning config)
   same_places = ap (λ (q : Plan). all_places q s.last_line (body_of s) (beginning (opening_of s))) (sym plan_is) ∙ ap (λ x. all_places plan s.last_line (body_of s) (beginning x)) (sym config_is)
 
   pub laid_few : (k : CodeLimit) → IsWithin k s → Keeps k (nested (body_of s)) (all_places plan s.last_line (body_of s) (beginning config))
   laid_few k h = subst (λ ps. Keeps k (nested (body_of s)) ps) same_places (within_keeps k s h)
 
-  pub laid_judged : IsJudged (plan_of s) (body_of s) (beginning (opening_of s)) → IsJudged plan (body_of s) (beginning config)
+  pub laid_judged : IsJudged s.header (body_of s) (beginning (opening_of s)) → IsJudged plan (body_of s) (beginning config)
   laid_judged j = subst (λ x. IsJudged plan (body_of s) (beginning x)) (sym config_is) (subst (λ (q : Plan). IsJudged q (body_of s) (beginning (opening_of s))) (sym plan_is) j)

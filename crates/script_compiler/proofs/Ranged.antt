@@ -3,6 +3,7 @@ use Rattle.std.proofs.Common.{ℕ, ◌+◌, ◌-◌, ◌≤◌, ◌<◌, inl, in
 use Rattle.std.proofs.lemmas.Bool.{lt-ltb, le-ltb, cases_lt}
 use Rattle.fib_codec.specs.declared.modes.Mode.{Mode}
 use Rattle.fib_codec.specs.declared.modes.Mode.TheVariants.{I, II, III, IV}
+use Rattle.fib_codec.specs.Layouts.{layout_mode}
 use Rattle.fib_codec.specs.Modes.{count_step}
 use Rattle.std.specs.List.{AllByRecursion}
 use Rattle.plan_code.specs.Program.{IsInstr, IsLine}
@@ -59,7 +60,7 @@ settled_ranged (Perhaps hi) t k = tt
 
 moved_ranged : (plan : Plan) (i : Instr) (t : Flow) → plan.notice ≤ 248 → IsInstr i → IsRanged t.pending → IsRanged (after_instr plan i t).pending
 moved_ranged plan (Edit edit) t most is h = h
-moved_ranged plan (CommitIn delay) t most is h = let step = step_few plan.mode in omega (arith, is.1, step)
+moved_ranged plan (CommitIn delay) t most is h = let step = step_few (layout_mode plan.layout) in omega (arith, is.1, step)
 moved_ranged plan (CommitAt count) t most is h = omega (arith, most)
 moved_ranged plan (Wait frames) t most is h = waited_ranged frames t.pending (known_at t) h h
 moved_ranged plan (Until day) t most is h = paused_ranged t.pending (known_at t) h h

@@ -12,7 +12,7 @@ use Rattle.plan_flow.specs.Rules.{pages_alone}
 use Rattle.mux_config.specs.Configuration.{Configuration}
 use Rattle.mux_config.specs.Sound.{IsSound}
 use Rattle.script_front.specs.Tree.{Tree}
-use Rattle.script_meaning.specs.Compiled.{plan_of, opening_of}
+use Rattle.script_meaning.specs.Compiled.{opening_of}
 use Rattle.script_front.specs.declared.tree.Act.{Act}
 use Rattle.script_front.specs.declared.tree.Statement.{Statement}
 use Rattle.script_front.specs.Block.{Block, nothing, basic, when, either, repeat, forever, apply, before, block_of}
@@ -171,6 +171,6 @@ module _ (plan : Plan) (r : ℕ) (table : List Block) (ss : List Statement) (k :
 
 -- ---- a script
 
-pub opening_fine : (s : Tree) (plan : Plan) (config : Configuration) → plan ≡ plan_of s → config ≡ opening_of s → IsSound config × (pages_alone plan config ≤ plan.period) → IsSound (opening_of s) × (pages_alone (plan_of s) (opening_of s) ≤ s.header.period)
+pub opening_fine : (s : Tree) (plan : Plan) (config : Configuration) → plan ≡ s.header → config ≡ opening_of s → IsSound config × (pages_alone plan config ≤ plan.period) → IsSound (opening_of s) × (pages_alone s.header (opening_of s) ≤ s.header.period)
 opening_fine s plan config plan_is config_is h =
     subst (λ (p : Plan). IsSound (opening_of s) × (pages_alone p (opening_of s) ≤ p.period)) plan_is (subst (λ (x : Configuration). IsSound x × (pages_alone plan x ≤ plan.period)) config_is h)

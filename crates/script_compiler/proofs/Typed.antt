@@ -25,7 +25,7 @@ use Rattle.script_meaning.specs.declared.flow.ProgramPoint.{ProgramPoint}
 use Rattle.script_meaning.specs.Scheme.{PlacedInstr, without_label, all_places, unpriced_label, unpriced_labels}
 use Rattle.script_meaning.specs.Judged.{IsJudged}
 use Rattle.script_meaning.specs.Need.{StepsTo, IsNeed, IsWithinBudget}
-use Rattle.script_meaning.specs.Compiled.{beginning, plan_of, opening_of, body_of, placed_instrs, lines_of_placed, instrs_of, first_counters, nested, IsLabelOf, AreLabelsOf, IsCodeOf, CostsItsNeeds, IsAccepted}
+use Rattle.script_meaning.specs.Compiled.{beginning, opening_of, body_of, placed_instrs, lines_of_placed, instrs_of, first_counters, nested, IsLabelOf, AreLabelsOf, IsCodeOf, CostsItsNeeds, IsAccepted}
 use Rattle.script_compiler.specs.Longest.{longest}
 use Rattle.script_compiler.proofs.Paths.{one_least, need_most, need_onward, is_need}
 use Rattle.script_compiler.proofs.Emitted.{length_lines}
@@ -396,7 +396,7 @@ pub accepted_typed : (s : Tree) (code : Program) → IsAccepted s → IsCodeOf s
 accepted_typed s code a is costs =
     let b = body_of s in
     let c = opening_of s in
-    let e : plan_of s ≡ code.plan = sym is.plan in
+    let e : s.header ≡ code.plan = sym is.plan in
     let places_are : placed_instrs s ≡ all_places code.plan s.last_line b (beginning c) = ap (λ (p : Plan). all_places p s.last_line b (beginning c)) e in
     let deep : nested b ≤ 8 = a.repeats in
     typed_from code s.last_line b c (is.lines ∙ ap lines_of_placed places_are) (subst (λ ps. AreLabelsOf code.configurations (unpriced_labels 0 ps) code.labels) places_are is.labels) costs a.sound

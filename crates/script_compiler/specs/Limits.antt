@@ -5,7 +5,7 @@ use Rattle.plan_code.specs.declared.limits.TheConstants.{MOST_CONFIGURATIONS, MO
 use Rattle.script_front.specs.Tree.{Tree}
 use Rattle.script_meaning.specs.Scheme.{unpriced_labels}
 use Rattle.script_meaning.specs.Judged.{IsJudged}
-use Rattle.script_meaning.specs.Compiled.{plan_of, body_of, beginning, opening_of, placed_instrs, nested, Tabled}
+use Rattle.script_meaning.specs.Compiled.{body_of, beginning, opening_of, placed_instrs, nested, Tabled}
 use Rattle.script_compiler.specs.declared.fault.CodeLimit.{CodeLimit}
 use Rattle.script_compiler.specs.declared.fault.CodeLimit.TheVariants.{Instructions, Labels, Configurations, Counters}
 
@@ -19,4 +19,4 @@ IsWithin Counters s = nested (body_of s) ≤ COUNTERS
 
 -- if each statement of the script is valid where it is, its code exceeds this limit
 abbrev pub Passes : CodeLimit → Tree → Type 0
-Passes limit s = IsJudged (plan_of s) (body_of s) (beginning (opening_of s)) → IsWithin limit s → ⊥
+Passes limit s = IsJudged s.header (body_of s) (beginning (opening_of s)) → IsWithin limit s → ⊥

@@ -5,7 +5,7 @@ ghost use Rattle.script_compiler.specs.Costs.{HasCostAt, IsCostRefused};
 ghost use Rattle.script_compiler.specs.Longest.{longest};
 ghost use Rattle.plan_flow.specs.Rules.{pages_alone};
 ghost use Rattle.script_meaning.specs.Scheme.{all_places, unpriced_labels};
-ghost use Rattle.script_meaning.specs.Compiled.{plan_of, lines_of_placed, body_of, beginning, opening_of, placed_instrs, instrs_of, nested, AreFine, Tabled, IsCodeOf, CostsItsNeeds, IsAccepted};
+ghost use Rattle.script_meaning.specs.Compiled.{lines_of_placed, body_of, beginning, opening_of, placed_instrs, instrs_of, nested, AreFine, Tabled, IsCodeOf, CostsItsNeeds, IsAccepted};
 ghost use Rattle.script_meaning.specs.Judged.{IsJudged};
 ghost use Rattle.script_meaning.specs.Need.{IsWithinBudget};
 ghost use Rattle.mux_config.specs.Configuration.{nothing};
@@ -50,20 +50,6 @@ fn facts_of(alloc: Global, blocks: &[Vec<Statement>]) -> Result<Vec<BlockFacts>,
         })?;
     }
     Ok(facts)
-}
-
-/// The plan of a script, from its header.
-fn plan_of(script: &Script) -> Plan
-    ensures { result ≡ plan_of script.now }
-{
-    let header = script.header();
-    Plan {
-        eid: header.eid,
-        mode: header.mode,
-        period: header.period,
-        notice: header.notice,
-        budget: header.budget,
-    }
 }
 
 /// Compiles the statements of a script that begins with this configuration; the labels are still unpriced.
@@ -179,7 +165,7 @@ pub fn compile(alloc: Global, script: &Script) -> Result<Code, CompileFault>
     ensures accepted { IsOk result → IsAccepted script.now }
     ensures made { IsOk result → AreFine script.now.items nothing }
     ensures sound { IsOk result → IsSound (opening_of script.now) }
-    ensures within_period { IsOk result → pages_alone (plan_of script.now)
+    ensures within_period { IsOk result → pages_alone script.now.header
         (opening_of script.now) ≤ script.now.header.period }
     ensures within_budget { IsOk result → IsWithinBudget script.now.header.budget
         (instrs_of (lines_of_placed (placed_instrs script.now))) }
@@ -192,7 +178,7 @@ pub fn compile(alloc: Global, script: &Script) -> Result<Code, CompileFault>
         → IsCostRefused script.now line)) }
     ensures limit { IfErr result (λ e. IfLimit e (λ _ limit. Passes limit script.now)) }
 {
-    let plan = plan_of(script);
+    let plan = script.header();
     let config = built(script.items())?;
     test(&plan, &config, script.begin_line())?;
     let work = emit(alloc, &plan, script, &config)?;

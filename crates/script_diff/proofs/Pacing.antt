@@ -9,8 +9,9 @@ use Rattle.mux_config.specs.declared.edit.Edit.{Edit}
 use Rattle.plan_code.specs.Program.{IsEdit}
 use Rattle.script_front.specs.declared.tree.Act.{Act}
 use Rattle.script_front.specs.declared.tree.Act.TheVariants.{Edit as Edits, Wait}
-use Rattle.script_front.specs.declared.tree.Header.{Header}
-use Rattle.script_front.specs.Tree.{IsAct, IsHeader}
+use Rattle.plan_code.specs.declared.plan.Plan.{Plan}
+use Rattle.script_front.specs.Tree.{IsAct}
+use Rattle.plan_code.specs.Program.{IsPlan}
 use Rattle.mux_types.specs.Configuration.{Configuration, IsConfiguration}
 use Rattle.mux_edits.specs.Differences.{edits_between}
 use Rattle.mux_edits.specs.Sequences.{Transform}
@@ -97,7 +98,7 @@ each_is P [] h k d lt = absurd (omega (arith, lt))
 each_is P (x ∷ xs) h zero d lt = h.0
 each_is P (x ∷ xs) h (suc k) d lt = each_is P xs h.1 k d (omega (arith, lt))
 
-pub acts_formed : (header : Header) (full n : ℕ) (es : List Edit) → IsHeader header → AllByRecursion IsEdit es → All IsAct (paced full n es ++ committed header)
+pub acts_formed : (header : Plan) (full n : ℕ) (es : List Edit) → IsPlan header → AllByRecursion IsEdit es → All IsAct (paced full n es ++ committed header)
 acts_formed header full n es headed h =
     let from = headed.notice_from in
     let to = headed.notice_to in
@@ -129,7 +130,7 @@ used_next full m some e =
           step ∙ mod-eq_of_lt less ∙ suc-eq-add-one (m % full)
     ]
 
-pub fits : (full m : ℕ) (es : List Edit) (header : Header) → 0 < full → FitFrames (full + 1) ((full + 1) - m % full) (paced full (m + 1) es ++ committed header)
+pub fits : (full m : ℕ) (es : List Edit) (header : Plan) → 0 < full → FitFrames (full + 1) ((full + 1) - m % full) (paced full (m + 1) es ++ committed header)
 fits full m [] header some =
     let below : m % full < full = mod-lt m some in
     (omega (arith, below), (omega (arith, below), tt))
@@ -151,24 +152,24 @@ fits full m (e ∷ es) header some =
 
 -- ---- a whole plan
 
-pub plan_formed : (header : Header) (from to : Configuration) → IsHeader header → IsConfiguration from → IsConfiguration to → All IsAct (plan_acts header from to)
+pub plan_formed : (header : Plan) (from to : Configuration) → IsPlan header → IsConfiguration from → IsConfiguration to → All IsAct (plan_acts header from to)
 plan_formed header from to headed is_from is_to =
     acts_formed header (header.budget - 1) 1 (edits_between from to) headed (between_formed from to is_from is_to)
 
-pub plan_few : (header : Header) (from to : Configuration) → IsConfiguration from → IsConfiguration to → length (plan_acts header from to) ≤ 7000
+pub plan_few : (header : Plan) (from to : Configuration) → IsConfiguration from → IsConfiguration to → length (plan_acts header from to) ≤ 7000
 plan_few header from to is_from is_to =
     let edits = between_few from to is_from is_to in
     let few = few_paced (header.budget - 1) 1 (edits_between from to) in
     let size = length-append (paced (header.budget - 1) 1 (edits_between from to)) (committed header) in
     omega (arith, edits, few, size)
 
-pub plan_leads : (header : Header) (from to : Configuration) → Transform (edits_between from to) from to → Transform (edits_in (plan_acts header from to)) from to
+pub plan_leads : (header : Plan) (from to : Configuration) → Transform (edits_between from to) from to → Transform (edits_in (plan_acts header from to)) from to
 plan_leads header from to h =
     let same : edits_in (plan_acts header from to) ≡ edits_between from to =
     edits_paced (header.budget - 1) 1 (edits_between from to) (committed header) ∙ append-nil (edits_between from to) in
     subst (λ (es : List Edit). Transform es from to) (sym same) h
 
-pub plan_fits : (header : Header) (from to : Configuration) → 2 ≤ header.budget → FitFrames header.budget header.budget (plan_acts header from to)
+pub plan_fits : (header : Plan) (from to : Configuration) → 2 ≤ header.budget → FitFrames header.budget header.budget (plan_acts header from to)
 plan_fits header from to two =
     let full = header.budget - 1 in
     let some : 0 < full = omega (arith, two) in

@@ -3,10 +3,11 @@ use Rattle.std.proofs.Common.{◌≡◌, ◌≢◌, ℕ, List, [], ◌∷◌, re
 use Rattle.mux_config.specs.declared.edit.Edit.{Edit}
 use Rattle.mux_config.specs.declared.edit.Edit.TheVariants.{DropSub}
 use Rattle.mux_types.specs.Configuration.{nothing}
-use Rattle.fib_codec.specs.declared.modes.Mode.TheVariants.{I}
+use Rattle.fib_codec.specs.declared.frame_layout.FrameLayout.{FrameLayout}
+use Rattle.fib_codec.specs.declared.frame_layout.FrameLayout.TheVariants.{Whole, ReserveOne}
+use Rattle.fib_codec.specs.declared.modes.Mode.TheVariants.{I, II}
 use Rattle.script_front.specs.declared.tree.Act.TheVariants.{Edit as Edits, Wait, CommitIn, Join}
-use Rattle.script_front.specs.declared.tree.Header.{Header}
-use Rattle.script_front.specs.Tree.{IsHeader}
+use Rattle.plan_code.specs.declared.plan.Plan.{Plan}
 use Rattle.script_diff.specs.declared.opening.Opening.{Opening}
 use Rattle.script_diff.specs.declared.refusal.DiffFault.TheVariants.{AnotherEnsemble, NoChange}
 use Rattle.script_diff.specs.Frames.{edits_in, FitFrames}
@@ -44,8 +45,8 @@ too_many h = let third = h.1.1.0 in absurd (omega (arith, third))
 
 -- ---- openings
 
-abbrev header : ℕ → ℕ → Header
-header eid budget = record { eid = eid; mode = I; period = 4; notice = 24; budget = budget }
+abbrev header : ℕ → ℕ → Plan
+header eid budget = record { eid = eid; layout = Whole I; period = 4; notice = 24; budget = budget }
 
 abbrev empty : ℕ → ℕ → Opening
 empty eid budget = record { header = header eid budget; begin_line = 3; config = nothing }
@@ -61,6 +62,16 @@ the_same = (record { eid = refl; mode = refl }, refl)
 
 not_another : IsInTheWay (empty 1 20) (empty 1 20) AnotherEnsemble → ⊥
 not_another h = h (record { eid = refl; mode = refl })
+
+-- reserved FIBs make no other ensemble; another mode does
+abbrev laid_out : FrameLayout → Opening
+laid_out layout = record { header = record { eid = 1; layout = layout; period = 4; notice = 24; budget = 20 }; begin_line = 3; config = nothing }
+
+of_another_reserve : IsOneEnsemble (laid_out (Whole I)) (laid_out (ReserveOne I))
+of_another_reserve = record { eid = refl; mode = refl }
+
+of_another_mode : IsOneEnsemble (laid_out (Whole I)) (laid_out (Whole II)) → ⊥
+of_another_mode h = let same : I ≡ II = h.mode in absurd (cc)
 
 leads_nowhere : CanBePlanned (empty 1 20) (empty 1 20) → ⊥
 leads_nowhere h = h.changes refl

@@ -3,7 +3,8 @@ use Rattle.std.specs.Prelude.{◌≡◌, ℕ, List, Ok, Err}
 use Rattle.mux_types.specs.Configuration.{Configuration, nothing}
 use Rattle.mux_config.specs.Sound.{IsSound, sound_or_fault}
 use Rattle.script_front.specs.Denoting.{IsScriptOf, IsNoScript}
-use Rattle.script_front.specs.Tree.{Tree, IsScript, IsHeader}
+use Rattle.script_front.specs.Tree.{Tree, IsScript}
+use Rattle.plan_code.specs.Program.{IsPlan}
 use Rattle.script_opening.specs.Openings.{made_by}
 use Rattle.script_diff.specs.declared.opening.Opening.{Opening}
 use Rattle.script_diff.specs.declared.opening.OpeningFault.{OpeningFault}
@@ -11,7 +12,7 @@ use Rattle.script_diff.specs.declared.opening.OpeningFault.TheVariants.{Script a
 
 -- its header is in range, and its configuration is sound
 pub record IsOpening (o : Opening) : Type 0 where
-  pub headed : IsHeader o.header
+  pub headed : IsPlan o.header
   pub sound : IsSound o.config
 
 -- it is the opening of the script in this text

@@ -5,7 +5,7 @@ use Rattle.mux_types.specs.Configuration.{Configuration}
 use Rattle.mux_edits.specs.Differences.{edits_between}
 use Rattle.script_front.specs.declared.tree.Act.{Act}
 use Rattle.script_front.specs.declared.tree.Act.TheVariants.{Edit as Edits, Wait, CommitIn, Join}
-use Rattle.script_front.specs.declared.tree.Header.{Header}
+use Rattle.plan_code.specs.declared.plan.Plan.{Plan}
 
 -- the wait after the edit with this number, counted from 1, if `full` edits fill a frame
 abbrev pub pause_after : (full number : ℕ) → List Act
@@ -17,9 +17,9 @@ paced full number [] = []
 paced full number (e ∷ es) = Edits e ∷ (pause_after full number ++ paced full (number + 1) es)
 
 -- announces the swap one notice ahead and waits for it
-abbrev pub committed : Header → List Act
+abbrev pub committed : Plan → List Act
 committed header = CommitIn header.notice ∷ Join ∷ []
 
 -- each frame leaves one instruction for the wait, and the last one two for `commit` and `join`
-abbrev pub plan_acts : Header → Configuration → Configuration → List Act
+abbrev pub plan_acts : Plan → Configuration → Configuration → List Act
 plan_acts header from to = paced (header.budget - 1) 1 (edits_between from to) ++ committed header

@@ -1,5 +1,6 @@
 -- Why there is no plan from one opening to another.
 use Rattle.std.specs.Prelude.{◌≡◌, ◌≢◌, ◌*◌, ◌≤◌, Some, None}
+use Rattle.fib_codec.specs.Layouts.{layout_mode}
 use Rattle.fib_carousel.specs.Pages.{page_set, rounds}
 use Rattle.script_diff.specs.declared.opening.Opening.{Opening}
 use Rattle.script_diff.specs.declared.refusal.DiffFault.{DiffFault}
@@ -7,16 +8,17 @@ use Rattle.script_diff.specs.declared.refusal.DiffFault.TheVariants.{AnotherEnse
 
 -- the pages of the configuration go out within the opening's own period
 abbrev pub FitsPeriod : Opening → Type 0
-FitsPeriod o = rounds o.header.mode (page_set o.config None) ≤ o.header.period
+FitsPeriod o = rounds o.header.layout (page_set o.config None) ≤ o.header.period
 
 pub record IsOneEnsemble (from to : Opening) : Type 0 where
   pub eid : from.header.eid ≡ to.header.eid
-  pub mode : from.header.mode ≡ to.header.mode
+  pub mode : layout_mode from.header.layout ≡ layout_mode to.header.layout
 
--- the pages of both go out once within the period of the second opening, and three times within its notice
+-- the pages of both, with the layout of the second opening, go out once within its period, and three times within its
+-- notice
 pub record HaveRoom (from to : Opening) : Type 0 where
-  pub within_period : rounds to.header.mode (page_set from.config (Some to.config)) ≤ to.header.period
-  pub three_times : 3 * rounds to.header.mode (page_set from.config (Some to.config)) ≤ to.header.notice
+  pub within_period : rounds to.header.layout (page_set from.config (Some to.config)) ≤ to.header.period
+  pub three_times : 3 * rounds to.header.layout (page_set from.config (Some to.config)) ≤ to.header.notice
 
 -- nothing prevents a plan
 pub record CanBePlanned (from to : Opening) : Type 0 where

@@ -4,7 +4,8 @@ ghost use Rattle.std.specs.Prelude.{IfOk, IfErr};
 ghost use Rattle.script_diff.specs.Openings.{IsOpening, Opens, HasNoOpening};
 
 use mux_config::{Config, ConfigFault, soundness};
-use script_front::{Header, ScriptFault, parse};
+use plan_code::Plan;
+use script_front::{ScriptFault, parse};
 use script_opening::{ItemFault, opening_of};
 use std::alloc::Global;
 use thiserror::Error;
@@ -13,7 +14,7 @@ use thiserror::Error;
 #[derive(Drop)]
 pub struct Opening {
     /// The header of the script.
-    pub header: Header,
+    pub header: Plan,
     /// The line of `begin`, 1 to 65,535.
     pub begin_line: u16,
     /// The configuration that its items make.

@@ -6,15 +6,15 @@ ghost use Rattle.mux_edits.specs.Making.{edits_that_make};
 ghost use Rattle.mux_edits.specs.Sequences.{Transform};
 ghost use Rattle.script_front.specs.declared.tree.Act.TheVariants as act;
 ghost use Rattle.script_front.specs.Alike.{added_by};
-ghost use Rattle.script_front.specs.Tree.{IsHeader};
+ghost use Rattle.plan_code.specs.Program.{IsPlan};
 ghost use Rattle.script_opening.specs.Plain.{IsPlain};
 ghost use Rattle.script_diff.specs.Frames.{FitFrames, edits_in};
 ghost use Rattle.script_diff.specs.Plan.{pause_after, paced, plan_acts};
 
 use mux_config::{Config, Edit};
 use mux_edits::edits_between;
-use plan_code::{Delay, Frames};
-use script_front::{Act, Header, Script};
+use plan_code::{Delay, Frames, Plan};
+use script_front::{Act, Script};
 use script_opening::script_of;
 use std::alloc::{AllocError, Global};
 
@@ -59,11 +59,11 @@ fn paced(alloc: Global, full: u16, edits: &[Edit]) -> Result<Vec<Act>, AllocErro
 /// The acts of the plan.
 fn acts_between(
     alloc: Global,
-    header: Header,
+    header: Plan,
     from: &Config,
     to: &Config,
 ) -> Result<Vec<Act>, AllocError>
-    requires headed { IsHeader header }
+    requires headed { IsPlan header }
     requires room { 2 ≤ header.budget }
     ensures { IfOk result (λ v. v.items ≡ plan_acts header from.now to.now) }
 {
@@ -81,11 +81,11 @@ fn acts_between(
 /// is a multiple of the budget less one, so that no frame has more instructions than the budget.
 pub fn plan_between(
     alloc: Global,
-    header: Header,
+    header: Plan,
     from: &Config,
     to: &Config,
 ) -> Result<Script, AllocError>
-    requires headed { IsHeader header }
+    requires headed { IsPlan header }
     requires room { 2 ≤ header.budget }
     ensures plain { IfOk result (λ s. IsPlain header (edits_that_make from.now)
         (plan_acts header from.now to.now) s) }

@@ -31,21 +31,21 @@ pub fn fits_period(opening: &Opening) -> bool
     ensures { IsTrue result ↔ FitsPeriod opening.now }
 {
     let alone: Option<&Config> = None;
-    pages(opening.header.mode, &opening.config, alone) <= usize::from(opening.header.period)
+    pages(opening.header.layout, &opening.config, alone) <= usize::from(opening.header.period)
 }
 
-/// Whether two openings have the same ensemble and transmission mode.
+/// Whether two openings have the same ensemble and transmission mode, whatever FIBs they reserve.
 fn is_one_ensemble(from: &Opening, to: &Opening) -> bool
     ensures { IsTrue result ↔ IsOneEnsemble from.now to.now }
 {
-    from.header.eid == to.header.eid && from.header.mode == to.header.mode
+    from.header.eid == to.header.eid && from.header.layout.mode() == to.header.layout.mode()
 }
 
 /// Whether the pages of both go out once within the period of the second opening, and three times within its notice.
 fn have_room(from: &Opening, to: &Opening) -> bool
     ensures { IsTrue result ↔ HaveRoom from.now to.now }
 {
-    let both = pages(to.header.mode, &from.config, Some(&to.config));
+    let both = pages(to.header.layout, &from.config, Some(&to.config));
     both <= usize::from(to.header.period) && both <= usize::from(to.header.notice) / 3
 }
 

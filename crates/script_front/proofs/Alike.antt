@@ -4,23 +4,28 @@ use Rattle.std.specs.Fmt.{decimal}
 use Rattle.std.specs.List.{All}
 use Rattle.std.proofs.lemmas.Bool.{cases_lt}
 use Rattle.mux_config.specs.declared.edit.Edit.{Edit}
+use Rattle.fib_codec.specs.Layouts.{layout_mode}
+use Rattle.fib_codec.specs.declared.frame_layout.FrameLayout.{FrameLayout}
+use Rattle.fib_codec.specs.declared.frame_layout.FrameLayout.TheVariants.{Whole, ReserveOne, ReserveTwo}
 use Rattle.fib_codec.specs.declared.modes.Mode.{Mode}
 use Rattle.fib_codec.specs.declared.modes.Mode.TheVariants.{I, II, III, IV}
-use Rattle.script_front.specs.declared.tree.Header.{Header}
+use Rattle.plan_code.specs.declared.plan.Plan.{Plan}
 use Rattle.script_front.specs.declared.tree.Item.{Item}
 use Rattle.script_front.specs.declared.tree.Statement.{Statement}
 use Rattle.script_tokens.specs.declared.keyword.Keyword.TheVariants as the
 use Rattle.script_tokens.specs.Keywords.{Lexeme, the as grammar, letters}
 use Rattle.script_tokens.specs.Spelling.{hex_text}
 use Rattle.script_front.specs.Block.{Block, nothing, basic, stop, when, either, repeat, forever, apply, block_of}
-use Rattle.script_front.specs.Tree.{IsHeader, IsItem, AreNamedApart, IsInBounds}
-use Rattle.script_front.specs.Spelled.{name_at, act_lexemes, braced, block_lexemes, mode_lexemes, header_lexemes, items_lexemes, defined_lexemes, begin_lexemes}
-use Rattle.script_front.specs.Parsing.{Stops, BeginsNoItem, CanDefine}
+use Rattle.script_front.specs.Tree.{IsItem, AreNamedApart, IsInBounds}
+use Rattle.plan_code.specs.Program.{IsPlan}
+use Rattle.script_front.specs.Spelled.{name_at, act_lexemes, braced, block_lexemes, mode_lexemes, reserve_lexemes, header_lexemes, items_lexemes, defined_lexemes, begin_lexemes}
+use Rattle.script_front.specs.Parsing.{Stops, BeginsNoItem, BeginsNoReserve, CanDefine}
 use Rattle.script_front.specs.Alike.{unlined, said_by, added_by, ScriptsHaveTheirOwnTokens}
 use Rattle.script_tokens.proofs.Keys.{word_the, first_is, rest_is}
 use Rattle.script_front.proofs.Finding.{number, number_decimal, four_of, four_again}
 use Rattle.script_front.proofs.Edits.{Same, both_same, number_at, key_at, same_edit, same_act}
-use Rattle.script_front.proofs.Refusing.{act_key, act_begins, mode_front}
+use Rattle.script_front.proofs.Refusing.{act_key, act_begins}
+use Rattle.script_front.proofs.Headers.{mode_front, ends_header}
 use Rattle.script_front.proofs.ItemLists.{item_first, all_later, none_here}
 use Rattle.script_front.proofs.Definitions.{name_front}
 use Rattle.script_front.proofs.Blocks.{act_key_begins, key_is, all_read, after_act, after_stop, after_apply, in_braces, braced_then, after_forever, after_repeat, after_if, no_else}
@@ -48,27 +53,43 @@ mode_again II rest = let a = number_decimal 2 (omega arith) in rw (word_the the.
 mode_again III rest = let a = number_decimal 3 (omega arith) in rw (word_the the.Mode, a) refl
 mode_again IV rest = let a = number_decimal 4 (omega arith) in rw (word_the the.Mode, a) refl
 
-same_mode : (m n : Mode) (xs ys : Spelled) → mode_lexemes m ++ letters the.Period ∷ xs ≡ mode_lexemes n ++ letters the.Period ∷ ys
+pub same_mode : (m n : Mode) (xs ys : Spelled) → mode_lexemes m ++ letters the.Period ∷ xs ≡ mode_lexemes n ++ letters the.Period ∷ ys
     → Same Mode m n (letters the.Period ∷ xs) (letters the.Period ∷ ys)
 same_mode m n xs ys e = both_same m n _ _ _ (mode_again m xs) (ap (λ (ws : Spelled). mode_by (key_at ws 0) ws) e ∙ mode_again n ys)
 
-abbrev header_of : ℕ → Mode → (period notice budget : ℕ) → Header
-header_of eid mode period notice budget = record { eid = eid; mode = mode; period = period; notice = notice; budget = budget }
+two_of_one : decimal 1 ≡ decimal 2 → ⊥
+two_of_one e = let f = same_decimal 1 2 (omega arith) (omega arith) e in absurd (omega (arith, f))
 
-same_header : (h k : Header) (xs ys : Spelled) → IsHeader h → IsHeader k → header_lexemes h ++ xs ≡ header_lexemes k ++ ys → Same Header h k xs ys
-same_header h k xs ys x y e =
+same_layout : (l m : FrameLayout) (xs ys : Spelled) → layout_mode l ≡ layout_mode m → BeginsNoReserve xs → BeginsNoReserve ys → reserve_lexemes l ++ xs ≡ reserve_lexemes m ++ ys
+    → Same FrameLayout l m xs ys
+same_layout (Whole a) (Whole b) xs ys is h k e = record { one = ap (λ (x : Mode). Whole x) is; rest = e }
+same_layout (Whole a) (ReserveOne b) xs ys is h k e = absurd (h _ e)
+same_layout (Whole a) ReserveTwo xs ys is h k e = absurd (h _ e)
+same_layout (ReserveOne a) (Whole b) xs ys is h k e = absurd (k _ (sym e))
+same_layout (ReserveOne a) (ReserveOne b) xs ys is h k e = record { one = ap (λ (x : Mode). ReserveOne x) is; rest = rest_is _ _ _ _ (rest_is _ _ _ _ e) }
+same_layout (ReserveOne a) ReserveTwo xs ys is h k e = absurd (two_of_one (first_is _ _ _ _ (rest_is _ _ _ _ e)))
+same_layout ReserveTwo (Whole b) xs ys is h k e = absurd (k _ (sym e))
+same_layout ReserveTwo (ReserveOne b) xs ys is h k e = absurd (two_of_one (sym (first_is _ _ _ _ (rest_is _ _ _ _ e))))
+same_layout ReserveTwo ReserveTwo xs ys is h k e = record { one = refl; rest = rest_is _ _ _ _ (rest_is _ _ _ _ e) }
+
+abbrev header_of : ℕ → FrameLayout → (period notice budget : ℕ) → Plan
+header_of eid layout period notice budget = record { eid = eid; layout = layout; period = period; notice = notice; budget = budget }
+
+same_header : (h k : Plan) (xs ys : Spelled) → IsPlan h → IsPlan k → BeginsNoReserve xs → BeginsNoReserve ys → header_lexemes h ++ xs ≡ header_lexemes k ++ ys → Same Plan h k xs ys
+same_header h k xs ys x y no_more no_other e =
     let a = rest_is _ _ _ _ e in
-    let eid = same_eid h.eid k.eid x.named y.named (first_is _ _ _ _ a) in
+    let eid = same_eid h.eid k.eid x.ensemble y.ensemble (first_is _ _ _ _ a) in
     let b = sym (mode_front _ h xs refl) ∙ rest_is _ _ _ _ a ∙ mode_front _ k ys refl in
-    let m = same_mode h.mode k.mode _ _ b in
+    let m = same_mode (layout_mode h.layout) (layout_mode k.layout) _ _ b in
     let c = rest_is _ _ _ _ m.rest in
     let period = same_decimal h.period k.period (let z = x.period_to in omega (arith, z)) (let z = y.period_to in omega (arith, z)) (first_is _ _ _ _ c) in
     let d = rest_is _ _ _ _ (rest_is _ _ _ _ c) in
     let notice = same_decimal h.notice k.notice (let z = x.notice_to in omega (arith, z)) (let z = y.notice_to in omega (arith, z)) (first_is _ _ _ _ d) in
     let f = rest_is _ _ _ _ (rest_is _ _ _ _ d) in
     let budget = same_decimal h.budget k.budget (let z = x.budget_to in omega (arith, z)) (let z = y.budget_to in omega (arith, z)) (first_is _ _ _ _ f) in
-    let all : header_of h.eid h.mode h.period h.notice h.budget ≡ header_of k.eid k.mode k.period k.notice k.budget = rw (eid, m.one, period, notice, budget) refl in
-    record { one = all; rest = rest_is _ _ _ _ f }
+    let l = same_layout h.layout k.layout xs ys m.one no_more no_other (rest_is _ _ _ _ f) in
+    let all : header_of h.eid h.layout h.period h.notice h.budget ≡ header_of k.eid k.layout k.period k.notice k.budget = rw (eid, l.one, period, notice, budget) refl in
+    record { one = all; rest = l.rest }
 
 -- ---- items
 
@@ -210,7 +231,7 @@ same_defined names lexemes ns (m ∷ ms) bs [] xs ys p q = let e = q.each in abs
 
 pub scripts_alike : ScriptsHaveTheirOwnTokens
 scripts_alike s t x y e =
-    let a = same_header s.header t.header _ _ x.headed y.headed e in
+    let a = same_header s.header t.header _ _ x.headed y.headed (ends_header s x) (ends_header t y) e in
     let i = same_items s.items t.items (after_items s) (after_items t) x.adding y.adding (items_end s) (items_end t) a.rest in
     let d = same_defined [] (after_items s) s.names t.names s.blocks t.blocks (begin_lexemes s) (begin_lexemes t) (can_define s (after_items s) x refl) (can_define t (after_items s) y i.rest) in
     let b : Block = block_of [] s.statements in

@@ -5,11 +5,12 @@ use Rattle.std.specs.Global.{Global}
 use Rattle.std.specs.List.{All}
 use Rattle.std.proofs.lemmas.List.Elements.{All-push, All-nil}
 use Rattle.std.proofs.lemmas.List.Quantifiers.{all_pairs_push}
-use Rattle.script_front.specs.declared.tree.Header.{Header}
+use Rattle.plan_code.specs.declared.plan.Plan.{Plan}
 use Rattle.script_front.specs.declared.tree.Item.{Item}
 use Rattle.script_front.specs.declared.tree.Statement.{Statement}
 use Rattle.script_front.specs.Block.{nothing, block_of, and_then}
-use Rattle.script_front.specs.Tree.{Tree, IsScript, IsHeader, IsItem, IsInBounds, AllFit, counted, counted_in}
+use Rattle.script_front.specs.Tree.{Tree, IsScript, IsItem, IsInBounds, AllFit, counted, counted_in}
+use Rattle.plan_code.specs.Program.{IsPlan}
 use Rattle.script_tokens.specs.declared.keyword.Keyword.TheVariants as the
 use Rattle.script_tokens.specs.Keywords.{letters, IsName}
 use Rattle.script_tokens.specs.Reading.{Spelled, Input, Passes, line_of_left, line_of}
@@ -126,8 +127,8 @@ all_others (n ∷ names) name new zero d lt e = new 0 (ap Some e)
 all_others (n ∷ names) name new (suc k) d lt e = all_others names name (λ i. new (suc i)) k d (omega arith) e
 
 -- the parts of a script are within their limits
-pub script_formed : (h : Header) (items : List Item) (names : List (List ℕ)) (blocks : List (Vec Statement Global)) (begin last : ℕ) (ss : List Statement) (a b c : ℕ) (i j k l : Input)
-    → IsHeader h → All IsItem items → length items + a ≡ 8192 → AreDefined names a b i j blocks → IsRead names 16 b c k l (and_then [] ss)
+pub script_formed : (h : Plan) (items : List Item) (names : List (List ℕ)) (blocks : List (Vec Statement Global)) (begin last : ℕ) (ss : List Statement) (a b c : ℕ) (i j k l : Input)
+    → IsPlan h → All IsItem items → length items + a ≡ 8192 → AreDefined names a b i j blocks → IsRead names 16 b c k l (and_then [] ss)
     → IsScript (record { header = h; items = items; names = names; blocks = bodies blocks; begin_line = begin; statements = ss; last_line = last })
 script_formed h items names blocks begin last ss a b c i j k l head all counts d r =
     let same : length names ≡ length (bodies blocks) = d.defined ∙ sym (bodies_length blocks) in
@@ -144,7 +145,7 @@ script_formed h items names blocks begin last ss a b c i j k l head all counts d
     }
 
 -- the parts of a script have its tokens, in order
-pub script_spelled : (h : Header) (items : List Item) (names : List (List ℕ)) (blocks : List (Vec Statement Global)) (begin last : ℕ) (ss : List Statement) (a b c : ℕ) (o i j k l m : Input)
+pub script_spelled : (h : Plan) (items : List Item) (names : List (List ℕ)) (blocks : List (Vec Statement Global)) (begin last : ℕ) (ss : List Statement) (a b c : ℕ) (o i j k l m : Input)
     → Passes (header_lexemes h) o i → AreItems items i j → AreDefined names a b j k blocks → begin ≡ line_of k.lines k.lexemes → Passes (letters the.Begin ∷ []) k l
     → IsRead names 16 b c l m (and_then [] ss) → m.lexemes ≡ [] → last ≡ line_of_left o.lines 1
     → SpellsTree (record { header = h; items = items; names = names; blocks = bodies blocks; begin_line = begin; statements = ss; last_line = last }) o

@@ -10,20 +10,24 @@ use Rattle.mux_types.specs.declared.parts.Component.{Component}
 use Rattle.mux_types.specs.declared.parts.Component.TheVariants.{Sound, Stream, Packet as InPackets}
 use Rattle.mux_types.specs.declared.numbers.Sid.{Sid}
 use Rattle.mux_config.specs.Configuration.{IsSid, IsComponent}
+use Rattle.fib_codec.specs.Layouts.{layout_mode}
+use Rattle.fib_codec.specs.declared.frame_layout.FrameLayout.{FrameLayout}
+use Rattle.fib_codec.specs.declared.frame_layout.FrameLayout.TheVariants.{Whole, ReserveOne, ReserveTwo}
 use Rattle.fib_codec.specs.declared.modes.Mode.{Mode}
 use Rattle.fib_codec.specs.declared.modes.Mode.TheVariants.{I, II, III, IV}
 use Rattle.plan_code.specs.Program.{IsEdit, IsCarrier}
 use Rattle.script_front.specs.declared.tree.Act.{Act}
 use Rattle.script_front.specs.declared.tree.Act.TheVariants.{Edit as Edits, Wait, WaitContact, Until, CommitIn, CommitAt, Join, Settle}
-use Rattle.script_front.specs.declared.tree.Header.{Header}
+use Rattle.plan_code.specs.declared.plan.Plan.{Plan}
 use Rattle.script_front.specs.declared.tree.Item.{Item}
 use Rattle.script_front.specs.declared.tree.Statement.{Statement}
 use Rattle.script_tokens.specs.declared.keyword.Keyword.TheVariants as the
 use Rattle.script_tokens.specs.Keywords.{letters, IsName}
 use Rattle.script_front.specs.Block.{Block, nothing, basic, stop, when, either, repeat, forever, apply, block_of}
-use Rattle.script_front.specs.Tree.{Tree, IsHeader, IsAct, IsItem, IsScript, IsInBounds, AllFit}
-use Rattle.script_tokens.specs.Spelling.{level_text}
-use Rattle.script_front.specs.Spelled.{carrier_lexemes, within_lexemes, groups_text, edit_lexemes, act_lexemes, name_at, block_lexemes, mode_lexemes, header_lexemes, items_lexemes, defined_lexemes, tree_lexemes}
+use Rattle.script_front.specs.Tree.{Tree, IsAct, IsItem, IsScript, IsInBounds, AllFit}
+use Rattle.plan_code.specs.Program.{IsPlan}
+use Rattle.script_tokens.specs.Spelling.{hex_text, level_text}
+use Rattle.script_front.specs.Spelled.{carrier_lexemes, within_lexemes, groups_text, edit_lexemes, act_lexemes, name_at, block_lexemes, mode_lexemes, reserve_lexemes, limits_lexemes, header_lexemes, items_lexemes, defined_lexemes, tree_lexemes}
 use Rattle.script_front.specs.Printing.{Line, line, text_of_lines, closing, block_lines, header_lines, items_lines, defined_lines, tree_lines}
 use Rattle.script_front.specs.Denoting.{HasLexemes, Denotes}
 use Rattle.script_front.proofs.Lined.{IsLine, AreLines, all_words, lines_have}
@@ -154,8 +158,13 @@ mode_are II = (keyword_text the.Mode, (decimal_word 2 (omega arith), tt))
 mode_are III = (keyword_text the.Mode, (decimal_word 3 (omega arith), tt))
 mode_are IV = (keyword_text the.Mode, (decimal_word 4 (omega arith), tt))
 
-header_are : (h : Header) → IsHeader h → AreLines (header_lines h)
-header_are h is = ((keyword_text the.Ensemble, (hex_word_word h.eid is.named, mode_are h.mode)), ((keyword_text the.Period, (decimal_word h.period (let x = is.period_to in omega (arith, x)), (keyword_text the.Notice, (decimal_word h.notice (let x = is.notice_to in omega (arith, x)), (keyword_text the.Budget, (decimal_word h.budget (let x = is.budget_to in omega (arith, x)), tt)))))), tt))
+reserve_are : (l : FrameLayout) → AreWords (reserve_lexemes l)
+reserve_are (Whole mode) = tt
+reserve_are (ReserveOne mode) = (keyword_text the.Reserve, (decimal_word 1 (omega arith), tt))
+reserve_are ReserveTwo = (keyword_text the.Reserve, (decimal_word 2 (omega arith), tt))
+
+header_are : (h : Plan) → IsPlan h → AreLines (header_lines h)
+header_are h is = ((keyword_text the.Ensemble, (hex_word_word h.eid is.ensemble, mode_are (layout_mode h.layout))), ((keyword_text the.Period, (decimal_word h.period (let x = is.period_to in omega (arith, x)), (keyword_text the.Notice, (decimal_word h.notice (let x = is.notice_to in omega (arith, x)), (keyword_text the.Budget, (decimal_word h.budget (let x = is.budget_to in omega (arith, x)), reserve_are h.layout)))))), tt))
 
 all_rest : (x : Item) (xs : List Item) → All IsItem (x ∷ xs) → All IsItem xs
 all_rest x xs h k d lt = h (suc k) d (omega arith)
@@ -181,14 +190,20 @@ defined_all names n (b ∷ bs) =
     ap (λ (ws : Spelled). letters the.Define ∷ name_at names n ∷ letters the.OpenBrace ∷ ws)
     (body_all (block_lines names 1 (block_of [] b)) (defined_lines names (n + 1) bs) _ _ 0 (block_all names 1 (block_of [] b)) (defined_all names (n + 1) bs))
 
-header_all : (h : Header) → all_words (header_lines h) ≡ header_lexemes h
-header_all h = refl
+reserve_all : (l : FrameLayout) → reserve_lexemes l ++ [] ≡ reserve_lexemes l
+reserve_all (Whole mode) = refl
+reserve_all (ReserveOne mode) = refl
+reserve_all ReserveTwo = refl
+
+header_all : (h : Plan) → all_words (header_lines h) ≡ header_lexemes h
+header_all h = ap (λ (ws : Spelled). letters the.Ensemble ∷ hex_text h.eid ∷ (mode_lexemes (layout_mode h.layout) ++ limits_lexemes h ws)) (reserve_all h.layout)
 
 tree_all : (t : Tree) → all_words (tree_lines t) ≡ tree_lexemes t
 tree_all t =
     let body : List Line = line 0 (letters the.Begin ∷ []) ∷ block_lines t.names 0 (block_of [] t.statements) in
     let later : List Line = defined_lines t.names 0 t.blocks ++ body in
-    all_both (header_lines t.header) (items_lines t.items ++ later) ∙ ap (λ (ws : Spelled). header_lexemes t.header ++ ws) (
+    all_both (header_lines t.header) (items_lines t.items ++ later) ∙ ap (λ (ws : Spelled). ws ++ all_words (items_lines t.items ++ later)) (header_all t.header)
+    ∙ ap (λ (ws : Spelled). header_lexemes t.header ++ ws) (
     all_both (items_lines t.items) later ∙ ap (λ (ws : Spelled). ws ++ all_words later) (items_all t.items)
     ∙ ap (λ (ws : Spelled). items_lexemes t.items ++ ws) (
     all_both (defined_lines t.names 0 t.blocks) body ∙ ap (λ (ws : Spelled). ws ++ all_words body) (defined_all t.names 0 t.blocks)

@@ -51,7 +51,7 @@ item_first i is after = append_assoc (edit_lexemes i.edit) (items_lexemes is) af
 pub all_later : (x : Item) (xs : List Item) → All IsItem (x ∷ xs) → All IsItem xs
 all_later x xs h k d lt = h (suc k) d (omega (arith, lt))
 
-adds_first : (e : Edit) → Adds e → begins_item (edit_key e) ≡ true
+pub adds_first : (e : Edit) → Adds e → begins_item (edit_key e) ≡ true
 adds_first (AddSub s) h = refl
 adds_first (AddService sid) h = refl
 adds_first (AddComponent sid (Sound ty sub)) h = refl

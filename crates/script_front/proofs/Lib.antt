@@ -6,6 +6,7 @@ mod Denoted
 mod Denoting
 mod Edits
 mod Finding
+mod Headers
 mod ItemLists
 mod Lined
 mod Listing

@@ -13,14 +13,15 @@ use Rattle.mux_types.specs.declared.parts.Carrier.{Carrier}
 use Rattle.mux_config.specs.declared.edit.Edit.TheVariants.{AddComponent, DropComponent}
 use Rattle.script_front.specs.declared.tree.Act.{Act}
 use Rattle.script_front.specs.declared.tree.Act.TheVariants.{Until}
-use Rattle.script_front.specs.declared.tree.Header.{Header}
+use Rattle.fib_codec.specs.Layouts.{layout_mode}
+use Rattle.plan_code.specs.declared.plan.Plan.{Plan}
 use Rattle.script_front.specs.declared.tree.Item.{Item}
 use Rattle.script_front.specs.declared.tree.Statement.{Statement}
 use Rattle.script_tokens.specs.declared.keyword.Keyword.TheVariants as the
 use Rattle.script_tokens.specs.Keywords.{letters}
 use Rattle.script_tokens.specs.Spelling.{hex_byte, hex_text, time_text}
 use Rattle.script_front.specs.Block.{Block, Before, nothing, basic, stop, when, either, repeat, forever, apply, before, block_of}
-use Rattle.script_front.specs.Spelled.{carried_lexemes, carrier_lexemes, within_lexemes, edit_lexemes, act_lexemes, name_at, mode_lexemes}
+use Rattle.script_front.specs.Spelled.{carried_lexemes, carrier_lexemes, within_lexemes, edit_lexemes, act_lexemes, name_at, mode_lexemes, reserve_lexemes, limits_lexemes}
 use Rattle.script_front.specs.Tree.{Tree}
 use Rattle.script_front.specs.Parsing.{bodies}
 use Rattle.script_front.specs.Printing.{Line, line, indent, each_after, spaced, line_text, text_of_lines, closing, block_lines, limits_line, header_lines, items_lines, definition_lines, defined_lines, tree_lines, IsPut}
@@ -232,12 +233,22 @@ pub until_put : (old one new : List ℕ) (t : ℕ) → one ≡ old ++ codes "unt
 unfolding letters
 until_put old one new t e f = f ∙ ap (λ (x : List ℕ). x ++ time_text t) e ∙ append_assoc old (codes "until ") (time_text t)
 
-pub header_put : (old one two three four new : List ℕ) (h : Header) → one ≡ old ++ codes "ensemble " → two ≡ one ++ hex_text h.eid → three ≡ two ++ each_after (mode_lexemes h.mode)
+pub limits_put : (old one two new : List ℕ) (h : Plan) → one ≡ old ++ spaced (limits_lexemes h []) → two ≡ one ++ each_after (reserve_lexemes h.layout) → new ≡ two ++ 10 ∷ []
+    → new ≡ old ++ line_text (limits_line h)
+limits_put old one two new h e f g =
+    let limits : List ℕ = spaced (limits_lexemes h []) in
+    let reserve : List ℕ = each_after (reserve_lexemes h.layout) in
+    let tokens : Spelled = decimal h.period ∷ letters the.Notice ∷ decimal h.notice ∷ letters the.Budget ∷ decimal h.budget ∷ [] in
+    g ∙ ap (λ (t : List ℕ). t ++ 10 ∷ []) (f ∙ ap (λ (t : List ℕ). t ++ reserve) e ∙ append_assoc old limits reserve
+    ∙ ap (λ (t : List ℕ). old ++ t) (sym (spaced_both (letters the.Period) tokens (reserve_lexemes h.layout))))
+    ∙ append_assoc old (spaced (limits_lexemes h (reserve_lexemes h.layout))) (10 ∷ [])
+
+pub header_put : (old one two three four new : List ℕ) (h : Plan) → one ≡ old ++ codes "ensemble " → two ≡ one ++ hex_text h.eid → three ≡ two ++ each_after (mode_lexemes (layout_mode h.layout))
     → four ≡ three ++ 10 ∷ [] → new ≡ four ++ line_text (limits_line h) → new ≡ old ++ text_of_lines (header_lines h)
 unfolding letters text_of_lines
 header_put old one two three four new h e f g i j =
-    let mode : List ℕ = each_after (mode_lexemes h.mode) in
-    let first : Line = line 0 (letters the.Ensemble ∷ hex_text h.eid ∷ mode_lexemes h.mode) in
+    let mode : List ℕ = each_after (mode_lexemes (layout_mode h.layout)) in
+    let first : Line = line 0 (letters the.Ensemble ∷ hex_text h.eid ∷ mode_lexemes (layout_mode h.layout)) in
     let head : four ≡ old ++ line_text first =
     i ∙ ap (λ (x : List ℕ). x ++ 10 ∷ []) (g ∙ ap (λ (x : List ℕ). x ++ mode) (f ∙ ap (λ (x : List ℕ). x ++ hex_text h.eid) e ∙ append_assoc old (codes "ensemble ") (hex_text h.eid))
     ∙ append_assoc old (codes "ensemble " ++ hex_text h.eid) mode) ∙ append_assoc old ((codes "ensemble " ++ hex_text h.eid) ++ mode) (10 ∷ []) in
@@ -249,7 +260,7 @@ pub sliced : (names : List (List ℕ)) (old new : List ℕ) (d : ℕ) (slice ite
 sliced names old new d slice items is e = e ∙ ap (λ (ss : List Statement). old ++ text_of_lines (block_lines names (d + 1) (block_of [] ss))) is
 
 -- a whole script
-pub script_put : (t : Tree) (one two three four new : List ℕ) (h : Header) (is : List Item) (names : List (List ℕ)) (bs : List (List Statement)) (ss : List Statement)
+pub script_put : (t : Tree) (one two three four new : List ℕ) (h : Plan) (is : List Item) (names : List (List ℕ)) (bs : List (List Statement)) (ss : List Statement)
     → h ≡ t.header → is ≡ t.items → names ≡ t.names → bs ≡ t.blocks → ss ≡ t.statements
     → one ≡ text_of_lines (header_lines h) → two ≡ one ++ text_of_lines (items_lines is) → three ≡ two ++ text_of_lines (defined_lines names 0 bs)
     → four ≡ three ++ codes "begin\n" → new ≡ four ++ text_of_lines (block_lines names 0 (block_of [] ss)) → new ≡ text_of_lines (tree_lines t)
@@ -260,7 +271,7 @@ script_put t one two three four new h is names bs ss a b c d e f g i j k =
     let whole : new ≡ text_of_lines (header_lines h ++ (items_lines is ++ (defined_lines names 0 bs ++ begin ∷ body))) =
     k ∙ line_then three four begin body j ∙ lines_then two three (defined_lines names 0 bs) (begin ∷ body) i
     ∙ lines_then one two (items_lines is) (defined_lines names 0 bs ++ begin ∷ body) g ∙ lines_then [] one (header_lines h) (items_lines is ++ (defined_lines names 0 bs ++ begin ∷ body)) f in
-    whole ∙ ap (λ (x : Header). text_of_lines (header_lines x ++ (items_lines is ++ (defined_lines names 0 bs ++ begin ∷ body)))) a
+    whole ∙ ap (λ (x : Plan). text_of_lines (header_lines x ++ (items_lines is ++ (defined_lines names 0 bs ++ begin ∷ body)))) a
     ∙ ap (λ (x : List Item). text_of_lines (header_lines t.header ++ (items_lines x ++ (defined_lines names 0 bs ++ begin ∷ body)))) b
     ∙ ap (λ (x : List (List ℕ)). text_of_lines (header_lines t.header ++ (items_lines t.items ++ (defined_lines x 0 bs ++ begin ∷ block_lines x 0 (block_of [] ss))))) c
     ∙ ap (λ (x : List (List Statement)). text_of_lines (header_lines t.header ++ (items_lines t.items ++ (defined_lines t.names 0 x ++ begin ∷ block_lines t.names 0 (block_of [] ss))))) d

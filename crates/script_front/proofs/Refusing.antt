@@ -30,10 +30,7 @@ use Rattle.script_front.specs.declared.tree.Act.{Act}
 use Rattle.script_front.specs.declared.tree.Act.TheVariants.{Edit as Edits, Wait, WaitContact, Until, CommitIn, CommitAt, Join, Settle}
 use Rattle.script_front.specs.Tree.{IsAct, Adds}
 use Rattle.script_tokens.specs.Reading.{Spelled, Input, Passes, preceded_by}
-use Rattle.script_front.specs.declared.tree.Header.{Header}
-use Rattle.fib_codec.specs.declared.modes.Mode.{Mode}
-use Rattle.fib_codec.specs.declared.modes.Mode.TheVariants.{I, II, III, IV}
-use Rattle.script_front.specs.Spelled.{mode_lexemes, within_lexemes, groups_text, carried_lexemes, carrier_lexemes, edit_lexemes, act_lexemes}
+use Rattle.script_front.specs.Spelled.{within_lexemes, groups_text, carried_lexemes, carrier_lexemes, edit_lexemes, act_lexemes}
 use Rattle.script_front.specs.Parsing.{NoneOf}
 use Rattle.script_tokens.proofs.Keys.{word_the, rest_is, same_key}
 use Rattle.script_front.proofs.Edits.{same_carried, same_carrier, edit_in, edit_by, edit_again, act_in, act_by, act_again, wait_by, commit_by}
@@ -419,44 +416,6 @@ no_other_act k ws none (CommitIn delay) rest h eq = no_edit_key k the.Commit ref
 no_other_act k ws none (CommitAt count) rest h eq = no_edit_key k the.Commit refl (key_of_act (edit_keyword k) ws (CommitAt count) rest eq)
 no_other_act k ws none Join rest h eq = no_edit_key k the.Join refl (key_of_act (edit_keyword k) ws Join rest eq)
 no_other_act k ws none Settle rest h eq = no_edit_key k the.Settle refl (key_of_act (edit_keyword k) ws Settle rest eq)
-
--- ---- modes
-
-two_words : (m : Mode) → m ≢ I → length (mode_lexemes m) ≡ 2
-two_words I some = absurd (some refl)
-two_words II some = refl
-two_words III some = refl
-two_words IV some = refl
-
-pub no_mode : (i : Input) (lexemes : Spelled) → NoneOf Mode (λ m. m ≢ I) mode_lexemes (preceded_by the.Mode i) → lexemes ≡ letters the.Mode ∷ i.lexemes
-    → (m : Mode) (rest : Spelled) → lexemes ≡ (mode_lexemes m ++ letters the.Period ∷ []) ++ rest → ⊥
-no_mode i lexemes none p I rest e = let f = same_key the.Mode the.Period _ _ (sym p ∙ e) in absurd cc
-no_mode i lexemes none p II rest e = none II (letters the.Period ∷ rest) (λ f. cc) (sym p ∙ e)
-no_mode i lexemes none p III rest e = none III (letters the.Period ∷ rest) (λ f. cc) (sym p ∙ e)
-no_mode i lexemes none p IV rest e = none IV (letters the.Period ∷ rest) (λ f. cc) (sym p ∙ e)
-
-pub later_only : (i j : Input) (lexemes : Spelled) (n : Mode) → n ≢ I → Passes (mode_lexemes n) (preceded_by the.Mode i) j → lexemes ≡ letters the.Mode ∷ i.lexemes
-    → (m : Mode) (rest : Spelled) → lexemes ≡ mode_lexemes m ++ letters the.Period ∷ rest → j.lexemes ≡ letters the.Period ∷ rest
-later_only i j lexemes n some p begins I rest e = let f = same_key the.Mode the.Period _ _ (sym begins ∙ e) in absurd cc
-later_only i j lexemes n some p begins II rest e = left_over (mode_lexemes n) (mode_lexemes II) (preceded_by the.Mode i) j (letters the.Period ∷ rest) (two_words n some) p (sym begins ∙ e)
-later_only i j lexemes n some p begins III rest e = left_over (mode_lexemes n) (mode_lexemes III) (preceded_by the.Mode i) j (letters the.Period ∷ rest) (two_words n some) p (sym begins ∙ e)
-later_only i j lexemes n some p begins IV rest e = left_over (mode_lexemes n) (mode_lexemes IV) (preceded_by the.Mode i) j (letters the.Period ∷ rest) (two_words n some) p (sym begins ∙ e)
-
-pub first_only : (lexemes : Spelled) → ((rest : Spelled) → lexemes ≢ letters the.Mode ∷ rest) → (m : Mode) (rest : Spelled) → lexemes ≡ mode_lexemes m ++ letters the.Period ∷ rest → lexemes ≡ letters the.Period ∷ rest
-first_only lexemes other I rest e = e
-first_only lexemes other II rest e = absurd (other _ e)
-first_only lexemes other III rest e = absurd (other _ e)
-first_only lexemes other IV rest e = absurd (other _ e)
-
--- the tokens of a header after its EId and mode
-abbrev pub limits_words : Header → Spelled → Spelled
-limits_words h rest = letters the.Period ∷ decimal h.period ∷ letters the.Notice ∷ decimal h.notice ∷ letters the.Budget ∷ decimal h.budget ∷ rest
-
-pub mode_front : (lexemes : Spelled) (h : Header) (rest : Spelled) → lexemes ≡ (mode_lexemes h.mode ++ limits_words h []) ++ rest → lexemes ≡ mode_lexemes h.mode ++ limits_words h rest
-mode_front lexemes h rest e = e ∙ append_assoc (mode_lexemes h.mode) (limits_words h []) rest
-
-pub mode_alone : (lexemes : Spelled) (h : Header) (rest : Spelled) → lexemes ≡ (mode_lexemes h.mode ++ limits_words h []) ++ rest → lexemes ≡ (mode_lexemes h.mode ++ letters the.Period ∷ []) ++ drop 1 (limits_words h rest)
-mode_alone lexemes h rest e = mode_front lexemes h rest e ∙ sym (append_assoc (mode_lexemes h.mode) (letters the.Period ∷ []) (drop 1 (limits_words h rest)))
 
 -- ---- where the result of a call is returned
 

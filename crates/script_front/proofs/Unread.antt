@@ -62,6 +62,7 @@ key_begins (basic line act r) some = through (key (basic line act r)) (act_key_b
     through the.Period e = e
     through the.Notice e = e
     through the.Budget e = e
+    through the.Reserve e = e
     through the.Define e = e
     through the.Begin e = e
     through the.At e = e

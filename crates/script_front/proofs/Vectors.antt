@@ -1,20 +1,34 @@
 -- Short scripts that have the same tokens, and some that have not.
-use Rattle.std.proofs.Common.{◌≡◌, ◌≢◌, ℕ, ◌≤◌, List, [], refl, sym, ap, ◌∙◌, arith}
+use Rattle.std.proofs.Common.{◌≡◌, ◌≢◌, ℕ, ◌≤◌, List, [], ◌∷◌, ◌++◌, refl, sym, ap, ◌∙◌, arith}
+use Rattle.std.specs.Fmt.{decimal}
+use Rattle.fib_codec.specs.Layouts.{reserved_fibs}
+use Rattle.fib_codec.specs.declared.frame_layout.FrameLayout.{FrameLayout}
+use Rattle.fib_codec.specs.declared.frame_layout.FrameLayout.TheVariants.{Whole, ReserveOne, ReserveTwo}
 use Rattle.fib_codec.specs.declared.modes.Mode.TheVariants.{I}
 use Rattle.script_front.specs.declared.tree.Act.TheVariants.{Wait}
-use Rattle.script_front.specs.declared.tree.Header.{Header}
+use Rattle.plan_code.specs.declared.plan.Plan.{Plan}
 use Rattle.script_front.specs.Block.{nothing, basic, block_of}
-use Rattle.script_front.specs.Tree.{Tree, IsHeader, IsScript}
-use Rattle.script_front.specs.Spelled.{tree_lexemes}
+use Rattle.script_front.specs.Tree.{Tree, IsScript}
+use Rattle.plan_code.specs.Program.{IsPlan}
+use Rattle.script_tokens.specs.declared.keyword.Keyword.TheVariants as the
+use Rattle.script_tokens.specs.Keywords.{letters}
+use Rattle.script_tokens.specs.Reading.{Input}
+use Rattle.script_tokens.proofs.Keys.{same_key}
+use Rattle.script_front.specs.Spelled.{reserve_lexemes, header_lexemes, tree_lexemes}
+use Rattle.script_front.specs.Parsing.{BeginsNoReserve, NoHeader}
 use Rattle.script_front.specs.Alike.{unlined}
 use Rattle.script_front.specs.Denoting.{IsScriptOf}
 use Rattle.script_front.proofs.Alike.{scripts_alike}
 use Rattle.script_front.proofs.OneScript.{one_script}
 
--- `ensemble E1C5 period 4 notice 24 budget 20 begin`, with this period and `begin` on this line
-abbrev brief : (period line : ℕ) → Tree
-brief period line = record {
-  header = record { eid = 57797; mode = I; period = period; notice = 24; budget = 20 };
+-- `ensemble E1C5 period 4 notice 24 budget 20`, with this layout and period
+abbrev headed : FrameLayout → (period : ℕ) → Plan
+headed layout period = record { eid = 57797; layout = layout; period = period; notice = 24; budget = 20 }
+
+-- such a header, and `begin` on this line
+abbrev laid_out : FrameLayout → (period line : ℕ) → Tree
+laid_out layout period line = record {
+  header = headed layout period;
   items = [];
   names = [];
   blocks = [];
@@ -23,9 +37,12 @@ brief period line = record {
   last_line = line;
 }
 
-brief_header : (period line : ℕ) → 1 ≤ period → period ≤ 60 → IsHeader (brief period line).header
-brief_header period line low high = record {
-  named = omega arith;
+abbrev brief : (period line : ℕ) → Tree
+brief period line = laid_out (Whole I) period line
+
+headed_is : (layout : FrameLayout) (period : ℕ) → 1 ≤ period → period ≤ 60 → IsPlan (headed layout period)
+headed_is layout period low high = record {
+  ensemble = omega arith;
   period_from = low;
   period_to = high;
   notice_from = omega arith;
@@ -34,9 +51,9 @@ brief_header period line low high = record {
   budget_to = omega arith;
 }
 
-brief_is : (period line : ℕ) → 1 ≤ period → period ≤ 60 → IsScript (brief period line)
-brief_is period line low high = record {
-  headed = brief_header period line low high;
+laid_out_is : (layout : FrameLayout) (period line : ℕ) → 1 ≤ period → period ≤ 60 → IsScript (laid_out layout period line)
+laid_out_is layout period line low high = record {
+  headed = headed_is layout period low high;
   adding = λ k d lt. absurd (omega (arith, lt));
   named = λ k d lt. absurd (omega (arith, lt));
   different = λ i j d lt less. absurd (omega (arith, less));
@@ -47,6 +64,9 @@ brief_is period line low high = record {
   few = omega arith;
 }
 
+brief_is : (period line : ℕ) → 1 ≤ period → period ≤ 60 → IsScript (brief period line)
+brief_is period line low high = laid_out_is (Whole I) period line low high
+
 -- lines do not change the tokens
 on_other_lines : tree_lexemes (brief 4 2) ≡ tree_lexemes (brief 4 3)
 on_other_lines = refl
@@ -55,7 +75,32 @@ on_other_lines = refl
 of_other_periods : tree_lexemes (brief 4 2) ≢ tree_lexemes (brief 5 2)
 of_other_periods e =
     let a = scripts_alike (brief 4 2) (brief 5 2) (brief_is 4 2 (omega arith) (omega arith)) (brief_is 5 2 (omega arith) (omega arith)) e in
-    let p : 4 ≡ 5 = ap (λ (h : Header). h.period) a.header in omega (arith, p)
+    let p : 4 ≡ 5 = ap (λ (h : Plan). h.period) a.header in omega (arith, p)
+
+-- and a reserve, which is written where there is one
+of_a_reserve : tree_lexemes (laid_out (Whole I) 4 2) ≢ tree_lexemes (laid_out (ReserveOne I) 4 2)
+of_a_reserve e =
+    let a = scripts_alike (laid_out (Whole I) 4 2) (laid_out (ReserveOne I) 4 2) (laid_out_is (Whole I) 4 2 (omega arith) (omega arith)) (laid_out_is (ReserveOne I) 4 2 (omega arith) (omega arith)) e in
+    let same : 0 ≡ 1 = ap (λ (h : Plan). reserved_fibs h.layout) a.header in omega (arith, same)
+
+reserved : header_lexemes (headed (ReserveOne I) 4) ≡ header_lexemes (headed (Whole I) 4) ++ letters the.Reserve ∷ decimal 1 ∷ []
+reserved = refl
+
+two_reserved : reserve_lexemes ReserveTwo ≡ letters the.Reserve ∷ decimal 2 ∷ []
+two_reserved = refl
+
+begins_no_reserve : BeginsNoReserve (letters the.Begin ∷ [])
+begins_no_reserve rest e = let f = same_key the.Begin the.Reserve _ _ e in absurd cc
+
+begins_with_reserve : BeginsNoReserve (letters the.Reserve ∷ []) → ⊥
+begins_with_reserve h = h [] refl
+
+-- a header is next, or is not
+no_header_before_begin : (i : Input) → i.lexemes ≡ header_lexemes (headed (Whole I) 4) ++ letters the.Begin ∷ [] → NoHeader i → ⊥
+no_header_before_begin i e none = none (headed (Whole I) 4) (letters the.Begin ∷ []) (headed_is (Whole I) 4 (omega arith) (omega arith)) begins_no_reserve e
+
+no_header_of_begin : (i : Input) → i.lexemes ≡ letters the.Begin ∷ [] → NoHeader i
+no_header_of_begin i e p rest is ends f = let g = same_key the.Begin the.Ensemble _ _ (sym e ∙ f) in absurd cc
 
 -- and so does another wait
 of_other_waits : (s t : Tree) → IsScript s → IsScript t → block_of [] s.statements ≡ basic 3 (Wait 1) nothing → block_of [] t.statements ≡ basic 3 (Wait 2) nothing → tree_lexemes s ≢ tree_lexemes t

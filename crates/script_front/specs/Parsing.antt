@@ -3,6 +3,8 @@ use Rattle.std.specs.Prelude.{◌≡◌, ◌≢◌, true, ℕ, ◌+◌, ◌-◌,
 use Rattle.std.specs.List.{All}
 use Rattle.std.specs.Prelude.{Vec}
 use Rattle.std.specs.Global.{Global}
+use Rattle.plan_code.specs.declared.plan.Plan.{Plan}
+use Rattle.plan_code.specs.Program.{IsPlan}
 use Rattle.script_front.specs.declared.tree.Item.{Item}
 use Rattle.script_front.specs.declared.tree.Statement.{Statement}
 use Rattle.script_front.specs.Block.{Block, Before, nothing, apply}
@@ -15,12 +17,20 @@ use Rattle.script_tokens.specs.declared.first_keyword.ActKeyword.{ActKeyword}
 use Rattle.script_tokens.specs.First.{component_keyword, item_keyword, edit_keyword, act_keyword}
 use Rattle.script_tokens.specs.Keywords.{letters, begins_item, IsName}
 use Rattle.script_tokens.specs.Reading.{Spelled, Input, Passes, preceded_by, line_of}
-use Rattle.script_front.specs.Spelled.{edit_lexemes, items_lexemes, name_at, block_lexemes, defined_lexemes, tree_lexemes, ItemsOn, BlockOn, DefinedOn, HasLines}
+use Rattle.script_front.specs.Spelled.{edit_lexemes, header_lexemes, items_lexemes, name_at, block_lexemes, defined_lexemes, tree_lexemes, ItemsOn, BlockOn, DefinedOn, HasLines}
 use Rattle.script_front.specs.Tree.{Tree, IsScript, IsItem, IsInBounds, AllFit, AreNamedApart, counted, counted_in}
 
 -- the remaining tokens do not begin with those of any such value
 abbrev pub NoneOf : (A : Type 0) → (A → Type 0) → (A → Spelled) → Input → Type 0
 NoneOf A In lexemes input = (a : A) (rest : Spelled) → In a → input.lexemes ≢ lexemes a ++ rest
+
+-- `reserve` is not the next token
+abbrev pub BeginsNoReserve : Spelled → Type 0
+BeginsNoReserve lexemes = (rest : Spelled) → lexemes ≢ letters the.Reserve ∷ rest
+
+-- the remaining tokens do not begin with those of any such header, followed by no `reserve`
+abbrev pub NoHeader : Input → Type 0
+NoHeader input = (p : Plan) (rest : Spelled) → IsPlan p → BeginsNoReserve rest → input.lexemes ≢ header_lexemes p ++ rest
 
 -- the input from the first keyword of a component, an item, an edit or an act on
 abbrev pub from_component : ComponentKeyword → Input → Input

@@ -1,7 +1,8 @@
 -- The layout of a printed script: lines of tokens, indented, with one space between two tokens.
 use Rattle.std.specs.Prelude.{◌≡◌, ℕ, zero, suc, ◌+◌, List, [], ◌∷◌, ◌++◌}
 use Rattle.std.specs.Fmt.{decimal}
-use Rattle.script_front.specs.declared.tree.Header.{Header}
+use Rattle.fib_codec.specs.Layouts.{layout_mode}
+use Rattle.plan_code.specs.declared.plan.Plan.{Plan}
 use Rattle.script_front.specs.declared.tree.Item.{Item}
 use Rattle.script_front.specs.declared.tree.Statement.{Statement}
 use Rattle.script_tokens.specs.declared.keyword.Keyword.TheVariants as the
@@ -9,7 +10,7 @@ use Rattle.script_tokens.specs.Keywords.{letters}
 use Rattle.script_tokens.specs.Spelling.{hex_text}
 use Rattle.script_front.specs.Block.{Block, Before, nothing, basic, stop, when, either, repeat, forever, apply, block_of}
 use Rattle.script_front.specs.Tree.{Tree}
-use Rattle.script_front.specs.Spelled.{edit_lexemes, act_lexemes, name_at, mode_lexemes}
+use Rattle.script_front.specs.Spelled.{edit_lexemes, act_lexemes, name_at, mode_lexemes, reserve_lexemes, limits_lexemes}
 use Rattle.script_tokens.specs.Reading.{Spelled}
 
 -- the tokens of a line, and the number of braces around it
@@ -61,11 +62,11 @@ block_lines names d (forever n body rest) =
     line d (letters the.Forever ∷ letters the.OpenBrace ∷ []) ∷ (block_lines names (d + 1) body ++ closing d ∷ block_lines names d rest)
 block_lines names d (apply n number named rest) = line d (letters the.Apply ∷ name_at names number ∷ []) ∷ block_lines names d rest
 
-abbrev pub limits_line : Header → Line
-limits_line h = line 0 (letters the.Period ∷ decimal h.period ∷ letters the.Notice ∷ decimal h.notice ∷ letters the.Budget ∷ decimal h.budget ∷ [])
+abbrev pub limits_line : Plan → Line
+limits_line h = line 0 (limits_lexemes h (reserve_lexemes h.layout))
 
-abbrev pub header_lines : Header → List Line
-header_lines h = line 0 (letters the.Ensemble ∷ hex_text h.eid ∷ mode_lexemes h.mode) ∷ limits_line h ∷ []
+abbrev pub header_lines : Plan → List Line
+header_lines h = line 0 (letters the.Ensemble ∷ hex_text h.eid ∷ mode_lexemes (layout_mode h.layout)) ∷ limits_line h ∷ []
 
 abbrev pub items_lines : List Item → List Line
 items_lines [] = []

@@ -8,11 +8,14 @@ use Rattle.mux_types.specs.declared.parts.Carrier.TheVariants.{Sub as BySub, Pac
 use Rattle.mux_types.specs.declared.parts.Component.{Component}
 use Rattle.mux_types.specs.declared.parts.Component.TheVariants.{Sound, Stream, Packet as InPackets}
 use Rattle.mux_types.specs.declared.numbers.Sid.{Sid}
+use Rattle.fib_codec.specs.declared.frame_layout.FrameLayout.{FrameLayout}
+use Rattle.fib_codec.specs.declared.frame_layout.FrameLayout.TheVariants.{Whole, ReserveOne, ReserveTwo}
+use Rattle.fib_codec.specs.Layouts.{layout_mode}
 use Rattle.fib_codec.specs.declared.modes.Mode.{Mode}
 use Rattle.fib_codec.specs.declared.modes.Mode.TheVariants.{I, II, III, IV}
 use Rattle.script_front.specs.declared.tree.Act.{Act}
 use Rattle.script_front.specs.declared.tree.Act.TheVariants.{Edit as Edits, Wait, WaitContact, Until, CommitIn, CommitAt, Join, Settle}
-use Rattle.script_front.specs.declared.tree.Header.{Header}
+use Rattle.plan_code.specs.declared.plan.Plan.{Plan}
 use Rattle.script_front.specs.declared.tree.Item.{Item}
 use Rattle.script_front.specs.declared.tree.Statement.{Statement}
 use Rattle.script_tokens.specs.declared.keyword.Keyword.TheVariants as the
@@ -100,10 +103,20 @@ mode_lexemes II = letters the.Mode ∷ decimal 2 ∷ []
 mode_lexemes III = letters the.Mode ∷ decimal 3 ∷ []
 mode_lexemes IV = letters the.Mode ∷ decimal 4 ∷ []
 
-abbrev pub header_lexemes : Header → Spelled
+-- no reserved FIB is not written
+abbrev pub reserve_lexemes : FrameLayout → Spelled
+reserve_lexemes (Whole mode) = []
+reserve_lexemes (ReserveOne mode) = letters the.Reserve ∷ decimal 1 ∷ []
+reserve_lexemes ReserveTwo = letters the.Reserve ∷ decimal 2 ∷ []
+
+-- the second line of a header, up to `reserve`
+abbrev pub limits_lexemes : Plan → Spelled → Spelled
+limits_lexemes h rest =
+    letters the.Period ∷ decimal h.period ∷ letters the.Notice ∷ decimal h.notice ∷ letters the.Budget ∷ decimal h.budget ∷ rest
+
+abbrev pub header_lexemes : Plan → Spelled
 header_lexemes h =
-    letters the.Ensemble ∷ hex_text h.eid ∷ (mode_lexemes h.mode
-    ++ letters the.Period ∷ decimal h.period ∷ letters the.Notice ∷ decimal h.notice ∷ letters the.Budget ∷ decimal h.budget ∷ [])
+    letters the.Ensemble ∷ hex_text h.eid ∷ (mode_lexemes (layout_mode h.layout) ++ limits_lexemes h (reserve_lexemes h.layout))
 
 abbrev pub items_lexemes : List Item → Spelled
 items_lexemes [] = []

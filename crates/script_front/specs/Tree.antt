@@ -3,17 +3,17 @@ use Rattle.std.specs.Prelude.{◌≡◌, ◌≢◌, ℕ, ◌+◌, ◌-◌, ◌<�
 use Rattle.std.specs.List.{All, AllPairs}
 use Rattle.mux_config.specs.declared.edit.Edit.{Edit}
 use Rattle.mux_config.specs.declared.edit.Edit.TheVariants.{AddSub, AddService, AddComponent, AddPacket}
-use Rattle.plan_code.specs.Program.{IsEdit}
+use Rattle.plan_code.specs.Program.{IsPlan, IsEdit}
 use Rattle.script_front.specs.declared.tree.Act.{Act}
 use Rattle.script_front.specs.declared.tree.Act.TheVariants.{Edit as Edits, Wait, WaitContact, Until, CommitIn, CommitAt, Join, Settle}
-use Rattle.script_front.specs.declared.tree.Header.{Header}
+use Rattle.plan_code.specs.declared.plan.Plan.{Plan}
 use Rattle.script_front.specs.declared.tree.Item.{Item}
 use Rattle.script_front.specs.declared.tree.Statement.{Statement}
 use Rattle.script_front.specs.Block.{Block, nothing, basic, stop, when, either, repeat, forever, apply, block_of}
 use Rattle.script_tokens.specs.Keywords.{IsName}
 
 pub record Tree : Type 0 where
-  pub header : Header
+  pub header : Plan
   pub items : List Item
   -- the names of the defined blocks and the blocks, in the order of their definitions
   pub names : List (List ℕ)
@@ -25,15 +25,6 @@ pub record Tree : Type 0 where
   pub last_line : ℕ
 
 -- ---- ranges
-
-pub record IsHeader (h : Header) : Type 0 where
-  pub named : h.eid < 65536
-  pub period_from : 1 ≤ h.period
-  pub period_to : h.period ≤ 60
-  pub notice_from : 12 ≤ h.notice
-  pub notice_to : h.notice ≤ 248
-  pub budget_from : 1 ≤ h.budget
-  pub budget_to : h.budget ≤ 255
 
 abbrev pub IsAct : Act → Type 0
 IsAct (Edits edit) = IsEdit edit
@@ -99,7 +90,7 @@ counted_in (b ∷ bs) = counted (block_of [] b) + counted_in bs
 
 -- a script: every number in range, names well formed and different, and within all limits
 pub record IsScript (t : Tree) : Type 0 where
-  pub headed : IsHeader t.header
+  pub headed : IsPlan t.header
   pub adding : All IsItem t.items
   pub named : All IsName t.names
   pub different : AreNamedApart t.names

@@ -1,18 +1,18 @@
 //! Printing the header, items and statements without a block; items and statements without indentation and line end.
 
-ghost use Rattle.std.specs.Prelude.{◌≡◌, ◌++◌, ◌<◌, OnOk, string_bytes};
+ghost use Rattle.std.specs.Prelude.{◌≡◌, ◌++◌, ◌<◌, [], OnOk, string_bytes};
 ghost use Rattle.std.specs.Fmt.{decimal};
 ghost use Rattle.mux_config.specs.declared.edit.Edit.TheVariants.{AddSub, AddPacket, AddComponent, DropComponent};
 ghost use Rattle.script_front.specs.declared.tree.Act.TheVariants.{Until, WaitContact};
 ghost use Rattle.script_tokens.specs.Spelling.{hex_byte, hex_text, sid_text, profile_text, two_digits, time_text};
-ghost use Rattle.script_front.specs.Spelled.{carried_lexemes, carrier_lexemes, within_lexemes, edit_lexemes, act_lexemes, mode_lexemes};
+ghost use Rattle.script_front.specs.Spelled.{carried_lexemes, carrier_lexemes, within_lexemes, edit_lexemes, act_lexemes, mode_lexemes, reserve_lexemes, limits_lexemes};
 ghost use Rattle.script_front.specs.Printing.{spaced, each_after, limits_line, header_lines, line_text, text_of_lines};
 
-use crate::tree::{Act, Header};
-use fib_codec::Mode;
+use crate::tree::Act;
+use fib_codec::{FrameLayout, Mode};
 use mux_config::{Carrier, Component, Edit, NewSub, Packet, ScTy, Sid, SubId};
 use mux_eep::{EepSet, Protection};
-use plan_code::ContactId;
+use plan_code::{ContactId, Plan};
 use script_tokens::time::TimeOfDay;
 use std::alloc::AllocError;
 use std::fmt::Write;
@@ -302,27 +302,52 @@ fn put_mode(out: &mut String, mode: Mode) -> Result<(), AllocError>
     }
 }
 
-/// `period P notice W budget B`, with the line end.
+/// A space, then `reserve R`; nothing where no FIB is reserved.
+#[tactic(auto, unfolding(script_tokens::specs::Keywords::letters), using(crate::proofs::Printed::digit))]
+fn put_reserve(out: &mut String, layout: FrameLayout) -> Result<(), AllocError>
+    ensures { OnOk result (string_bytes out.new ≡ string_bytes out.old ++ each_after
+        (reserve_lexemes layout)) }
+{
+    match layout {
+        FrameLayout::Whole(_) => Ok(()),
+        FrameLayout::ReserveOne(_) => out.push_str(" reserve 1"),
+        FrameLayout::ReserveTwo => out.push_str(" reserve 2"),
+    }
+}
+
+/// `period P notice W budget B`
 #[tactic(auto, unfolding(script_tokens::specs::Keywords::letters))]
-fn put_limits(out: &mut String, header: Header) -> Result<(), AllocError>
-    ensures { OnOk result (string_bytes out.new ≡ string_bytes out.old ++ line_text (limits_line
-        header)) }
+fn put_limits(out: &mut String, header: Plan) -> Result<(), AllocError>
+    ensures { OnOk result (string_bytes out.new ≡ string_bytes out.old ++ spaced (limits_lexemes
+        header [])) }
 {
     let period = header.period;
     let notice = header.notice;
     let budget = header.budget;
-    write!(out, "period {period} notice {notice} budget {budget}\n")
+    write!(out, "period {period} notice {notice} budget {budget}")
+}
+
+/// `period P notice W budget B [reserve R]`, with the line end.
+#[tactic(auto, using(crate::proofs::Printed::limits_put))]
+fn put_limits_line(out: &mut String, header: Plan) -> Result<(), AllocError>
+    ensures { OnOk result (string_bytes out.new ≡ string_bytes out.old ++ line_text (limits_line
+        header)) }
+{
+    put_limits(out, header)?;
+    put_reserve(out, header.layout)?;
+    out.push_str("\n")?;
+    Ok(())
 }
 
 /// The two lines of a header.
-pub fn put_header(out: &mut String, header: Header) -> Result<(), AllocError>
+pub fn put_header(out: &mut String, header: Plan) -> Result<(), AllocError>
     ensures { OnOk result (string_bytes out.new ≡ string_bytes out.old ++ text_of_lines
         (header_lines header)) }
 {
     out.push_str("ensemble ")?;
     put_hex_u16(out, header.eid)?;
-    put_mode(out, header.mode)?;
+    put_mode(out, header.layout.mode())?;
     out.push_str("\n")?;
-    put_limits(out, header)?;
+    put_limits_line(out, header)?;
     Ok(())
 }

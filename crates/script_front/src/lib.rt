@@ -20,10 +20,11 @@ pub mod tree;
 pub use fib_codec::Mode;
 pub use names::Names;
 pub use parser::parse;
+pub use plan_code::Plan;
 pub use printer::print;
 pub use script::Script;
 pub use script_tokens::{
     Keyword, Limits, Position, ScriptFault, TimeOfDay, Token, cut, fault, keyword, lex, lexer,
     number, reader, time, token, values,
 };
-pub use tree::{Act, BlockId, Header, Item, Statement};
+pub use tree::{Act, BlockId, Item, Statement};

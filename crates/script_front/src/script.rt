@@ -3,14 +3,15 @@
 ghost use Rattle.std.specs.Prelude.{◌≡◌, map};
 
 use crate::names::Names;
-use crate::tree::{Header, Item, Statement};
+use crate::tree::{Item, Statement};
+use plan_code::Plan;
 use std::marker::Model;
 
 /// A script. Every number is in range, every name is well formed and defined once, at most 64 blocks are defined, each
 /// applies only those before it, braces are at most 16 deep, and there are at most 8,192 items and statements.
 #[derive(Drop)]
 pub struct Script {
-    header: Header,
+    header: Plan,
     items: Vec<Item>,
     names: Names,
     blocks: Vec<Vec<Statement>>,
@@ -55,7 +56,7 @@ impl Script {
 
     /// A script of these parts.
     pub fn new(
-        header: Header,
+        header: Plan,
         items: Vec<Item>,
         names: Names,
         blocks: Vec<Vec<Statement>>,
@@ -93,8 +94,8 @@ impl Script {
         }
     }
 
-    /// Its header.
-    pub fn header(&self) -> Header
+    /// Its header: the plan that it declares, within its limits.
+    pub fn header(&self) -> Plan
         ensures value { result ≡ self.now.header }
         ensures formed { IsScript self.now }
     {

@@ -1,27 +1,11 @@
-//! The tree of a script: its header, its items and its statements.
+//! The tree of a script: its items and its statements.
 
 ghost use Rattle.std.specs.Prelude.{◌≡◌, ◌<◌, ◌↔◌, IsSome, IfSome};
 
-use fib_codec::Mode;
 use mux_config::Edit;
 use plan_code::{ContactId, Delay, Frames, Times};
 use script_tokens::time::TimeOfDay;
 use std::marker::Model;
-
-/// What a script declares for its whole run.
-#[derive(Clone, Copy, Debug, PartialEq, Eq)]
-pub struct Header {
-    /// The identifier of the ensemble, EId (EN 300 401 clause 6.4).
-    pub eid: u16,
-    /// The transmission mode; mode I is not written in a script.
-    pub mode: Mode,
-    /// The period, in frames, 1 to 60 in a script.
-    pub period: u8,
-    /// The notice, in frames, 12 to 248 in a script.
-    pub notice: u8,
-    /// The budget, in instructions per frame, 1 to 255 in a script.
-    pub budget: u8,
-}
 
 /// An item: an edit of the opening configuration that, in a script, adds a sub-channel, a service, a component or a
 /// packet component.

@@ -12,7 +12,7 @@ use Rattle.script_front.specs.Block.{Block, nothing, basic, stop, when, either, 
 use Rattle.script_front.specs.Tree.{Tree}
 use Rattle.script_meaning.specs.declared.flow.ProgramPoint.{ProgramPoint}
 use Rattle.script_meaning.specs.Scheme.{PlacedInstr, onward, head, falls_out, point_after, alone, places, all_places, unpriced_label, unpriced_labels}
-use Rattle.script_meaning.specs.Compiled.{IsCodeOf, AreLabelsOf, plan_of, body_of, opening_of, placed_instrs, beginning}
+use Rattle.script_meaning.specs.Compiled.{IsCodeOf, AreLabelsOf, body_of, opening_of, placed_instrs, beginning}
 
 -- instructions of which the first has a label where this is known
 abbrev BeginsAt : Flow → List PlacedInstr → Type 0
@@ -94,4 +94,4 @@ first_label table ls t (p ∷ ps) h labels l e = by ls (subst (λ b. AreLabelsOf
 
 pub opening_first : (s : Tree) (code : Program) (l : Label) → IsCodeOf s code → label_at code 0 ≡ Some l → slice_get code.configurations l.cur ≡ Some (opening_of s)
 opening_first s code l h e =
-    first_label code.configurations code.labels (beginning (opening_of s)).flow (placed_instrs s) (all_begin (plan_of s) s.last_line (body_of s) (beginning (opening_of s)) refl) h.labels l e
+    first_label code.configurations code.labels (beginning (opening_of s)).flow (placed_instrs s) (all_begin s.header s.last_line (body_of s) (beginning (opening_of s)) refl) h.labels l e

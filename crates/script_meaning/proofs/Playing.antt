@@ -21,7 +21,7 @@ use Rattle.script_front.specs.Block.{Block, nothing, basic, stop, when, either, 
 use Rattle.script_front.specs.Tree.{Tree}
 use Rattle.script_meaning.specs.declared.flow.ProgramPoint.{ProgramPoint}
 use Rattle.script_meaning.specs.Scheme.{PlacedInstr, placed_instr, alone, onward, point_after, places, all_places}
-use Rattle.script_meaning.specs.Compiled.{IsCodeOf, plan_of, body_of, opening_of, lines_of_placed, beginning}
+use Rattle.script_meaning.specs.Compiled.{IsCodeOf, body_of, opening_of, lines_of_placed, beginning}
 use Rattle.script_meaning.specs.Meaning.{Scene, Reading, reading, scene_of, followed, first_done, Performs, opens, closes, PerformsFrame, PerformsEvent, PerformsAll, begins, ScriptsPlayAsTheyRead}
 use Rattle.script_meaning.proofs.Scenes.{ready_scene, ready_place, shown_scene}
 use Rattle.script_meaning.proofs.Places.{Stand, stand_front, stand_back, stand_all}
@@ -157,12 +157,12 @@ scripts_play s p formed typed code start first events in_range started within =
     subst (λ pc. Follows p n pc first.counters (body_of s)) (sym started.pc) (code_follows p s.last_line (body_of s) (beginning (opening_of s)) formed lines n first.counters eight) in
     let r = events_play p events first (body_of s) allowed follows in
     let there = reading r.0 (scene_of (run p first events)) in
-    let comes : PerformsAll (plan_of s) (begins s start) events there =
-    subst (λ x. PerformsAll (plan_of s) (reading (body_of s) x) events there) (starts_alike s p start first code started)
+    let comes : PerformsAll s.header (begins s start) events there =
+    subst (λ x. PerformsAll s.header (reading (body_of s) x) events there) (starts_alike s p start first code started)
     (subst (λ plan. PerformsAll plan (reading (body_of s) (scene_of first)) events there) code.plan r.1) in
     record {
       end = there;
       comes = comes;
-      only = λ other h. all_one (plan_of s) events (begins s start) there other comes h;
+      only = λ other h. all_one s.header events (begins s start) there other comes h;
       same = refl;
     }

@@ -4,6 +4,7 @@ use Rattle.std.proofs.lemmas.Bool.{false≢true}
 use Rattle.mux_config.specs.declared.edit.Edit.TheVariants.{DropSub}
 use Rattle.mux_config.specs.declared.fault.EditFault.TheVariants.{IdAbsent}
 use Rattle.mux_config.specs.Configuration.{nothing as no_configuration}
+use Rattle.fib_codec.specs.declared.frame_layout.FrameLayout.TheVariants.{Whole}
 use Rattle.fib_codec.specs.declared.modes.Mode.TheVariants.{I}
 use Rattle.plan_code.specs.declared.flags.Contacts.{Contacts}
 use Rattle.plan_code.specs.declared.hold.Hold.{Hold}
@@ -30,7 +31,7 @@ use Rattle.script_meaning.proofs.Playing.{performs_one, all_one, scripts_play}
 -- ---- values shared by these vectors
 
 abbrev plan : Plan
-plan = record { eid = 0xe1c5; mode = I; period = 4; notice = 24; budget = 20 }
+plan = record { eid = 0xe1c5; layout = Whole I; period = 4; notice = 24; budget = 20 }
 
 abbrev all_open : Contacts
 all_open = record { 0 = 0 }
@@ -197,7 +198,7 @@ rest_comes_first todo h = let e = held_same (reading todo (after 1 third_closed 
 abbrev silent : Tree
 silent =
     record {
-      header = record { eid = 0xe1c5; mode = I; period = 4; notice = 24; budget = 20 };
+      header = record { eid = 0xe1c5; layout = Whole I; period = 4; notice = 24; budget = 20 };
       items = [];
       names = [];
       blocks = [];

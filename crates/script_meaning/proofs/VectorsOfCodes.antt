@@ -6,6 +6,7 @@ use Rattle.mux_config.specs.declared.fault.EditFault.TheVariants.{IdUsed}
 use Rattle.mux_types.specs.declared.parts.Sub.{Sub}
 use Rattle.mux_config.proofs.Sounding.{sound_told}
 use Rattle.mux_eep.specs.declared.sizes.EepSet.TheVariants.{A}
+use Rattle.fib_codec.specs.declared.frame_layout.FrameLayout.TheVariants.{Whole}
 use Rattle.fib_codec.specs.declared.modes.Mode.TheVariants.{I}
 use Rattle.plan_code.specs.declared.plan.Plan.{Plan}
 use Rattle.plan_code.specs.declared.label.Label.{Label}
@@ -31,7 +32,7 @@ use Rattle.script_meaning.specs.Compiled.{AreFine, IsInTable, Added, Tabled, IsL
 -- ---- values shared by these vectors
 
 abbrev plan : Plan
-plan = record { eid = 0xe1c5; mode = I; period = 4; notice = 24; budget = 20 }
+plan = record { eid = 0xe1c5; layout = Whole I; period = 4; notice = 24; budget = 20 }
 
 abbrev sub : Sub
 sub = record { id = 1; start = 0; protection = record { set = A; level = 3 }; kbits = 128 }
@@ -261,7 +262,7 @@ used_twice h = let e : Some IdUsed ≡ None = h.1.0 in absurd cc
 -- a script with these items that ends at once
 abbrev ends : List Item → ℕ → Tree
 ends items budget = record {
-  header = record { eid = 0xe1c5; mode = I; period = 4; notice = 24; budget = budget };
+  header = record { eid = 0xe1c5; layout = Whole I; period = 4; notice = 24; budget = budget };
   items = items;
   names = [];
   blocks = [];

@@ -6,6 +6,7 @@ use Rattle.mux_config.specs.declared.fault.EditFault.TheVariants.{IdUsed}
 use Rattle.mux_config.specs.declared.fault.ConfigFault.TheVariants.{Overlap}
 use Rattle.mux_types.specs.declared.parts.Sub.{Sub}
 use Rattle.mux_eep.specs.declared.sizes.EepSet.TheVariants.{A}
+use Rattle.fib_codec.specs.declared.frame_layout.FrameLayout.TheVariants.{Whole}
 use Rattle.fib_codec.specs.declared.modes.Mode.TheVariants.{I}
 use Rattle.plan_code.specs.declared.plan.Plan.{Plan}
 use Rattle.plan_flow.specs.declared.cause.Cause.{Cause}
@@ -21,7 +22,7 @@ use Rattle.script_meaning.specs.Compiled.{beginning}
 use Rattle.script_meaning.specs.Refused.{IsUnreached, IsMismatch, IsRefusedAfter, IsRefusedIn, IsItemRefused, IsOpeningRefused, IsRefused}
 
 abbrev plan : Plan
-plan = record { eid = 0xe1c5; mode = I; period = 4; notice = 24; budget = 20 }
+plan = record { eid = 0xe1c5; layout = Whole I; period = 4; notice = 24; budget = 20 }
 
 abbrev sub : Sub
 sub = record { id = 1; start = 0; protection = record { set = A; level = 3 }; kbits = 128 }
@@ -92,7 +93,7 @@ an_opening_of_nothing cause (inr h) = absurd (omega (arith, h.1.0))
 
 abbrev ends : List Item → Tree
 ends items = record {
-  header = record { eid = 0xe1c5; mode = I; period = 4; notice = 24; budget = 20 };
+  header = record { eid = 0xe1c5; layout = Whole I; period = 4; notice = 24; budget = 20 };
   items = items;
   names = [];
   blocks = [];

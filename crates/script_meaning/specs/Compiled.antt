@@ -4,7 +4,6 @@ use Rattle.mux_config.specs.Configuration.{Configuration, nothing as no_configur
 use Rattle.mux_config.specs.Edits.{edit_fault, changed}
 use Rattle.mux_config.specs.Sound.{IsSound}
 use Rattle.plan_code.specs.declared.limits.TheConstants.{MOST_CONFIGURATIONS, MOST_LABELS, MOST_INSTRUCTIONS, COUNTERS}
-use Rattle.plan_code.specs.declared.plan.Plan.{Plan}
 use Rattle.plan_code.specs.declared.flags.Counters.{Counters}
 use Rattle.plan_code.specs.declared.label.Label.{Label}
 use Rattle.plan_code.specs.declared.label.Swap.TheVariants.{Idle}
@@ -23,16 +22,6 @@ use Rattle.script_meaning.specs.Judged.{IsJudged}
 use Rattle.script_meaning.specs.Need.{IsWithinBudget, IsNeed}
 
 -- ---- the parts of a script
-
-abbrev pub plan_of : Tree → Plan
-plan_of s =
-    record {
-      eid = s.header.eid;
-      mode = s.header.mode;
-      period = s.header.period;
-      notice = s.header.notice;
-      budget = s.header.budget;
-    }
 
 -- the items applied to a configuration, in order
 abbrev pub with_items : List Item → Configuration → Configuration
@@ -55,7 +44,7 @@ abbrev pub body_of : Tree → Block
 body_of s = block_of (table_of [] s.blocks) s.statements
 
 abbrev pub placed_instrs : Tree → List PlacedInstr
-placed_instrs s = all_places (plan_of s) s.last_line (body_of s) (beginning (opening_of s))
+placed_instrs s = all_places s.header s.last_line (body_of s) (beginning (opening_of s))
 
 abbrev pub lines_of_placed : List PlacedInstr → List Line
 lines_of_placed ps = map (λ p. record { number = p.line; instr = p.instr }) ps
@@ -98,7 +87,7 @@ AreLabelsOf table (m ∷ ms) (l ∷ ls) = IsLabelOf table m l × AreLabelsOf tab
 
 -- the code of a script, except for the costs of its labels
 pub record IsCodeOf (s : Tree) (code : Program) : Type 0 where
-  pub plan : code.plan ≡ plan_of s
+  pub plan : code.plan ≡ s.header
   pub lines : code.lines ≡ lines_of_placed (placed_instrs s)
   pub table : Tabled [] (unpriced_labels 0 (placed_instrs s)) code.configurations
   pub labels : AreLabelsOf code.configurations (unpriced_labels 0 (placed_instrs s)) code.labels
@@ -127,8 +116,8 @@ nested (apply line number named rest) = max (nested named) (nested rest)
 pub record IsAccepted (s : Tree) : Type 0 where
   pub made : AreFine s.items no_configuration
   pub sound : IsSound (opening_of s)
-  pub within_period : pages_alone (plan_of s) (opening_of s) ≤ s.header.period
-  pub judged : IsJudged (plan_of s) (body_of s) (beginning (opening_of s))
+  pub within_period : pages_alone s.header (opening_of s) ≤ s.header.period
+  pub judged : IsJudged s.header (body_of s) (beginning (opening_of s))
   pub instructions : length (placed_instrs s) ≤ MOST_INSTRUCTIONS
   pub labels : length (unpriced_labels 0 (placed_instrs s)) ≤ MOST_LABELS
   pub configurations :

@@ -23,7 +23,7 @@ use Rattle.script_front.specs.declared.tree.Act.TheVariants.{Edit, Wait, WaitCon
 use Rattle.script_front.specs.Block.{Block, nothing, basic, stop, when, either, repeat, forever, apply}
 use Rattle.script_front.specs.Times.{frame_at}
 use Rattle.script_front.specs.Tree.{Tree}
-use Rattle.script_meaning.specs.Compiled.{IsCodeOf, plan_of, body_of, opening_of}
+use Rattle.script_meaning.specs.Compiled.{IsCodeOf, body_of, opening_of}
 
 -- ---- the state of a script
 
@@ -196,8 +196,8 @@ begins s start =
 -- over these events the script reaches exactly one reading, whose scene is that of the state
 pub record PlaysAlong (s : Tree) (start : Start) (events : List Event) (state : State) : Type 0 where
   pub end : Reading
-  pub comes : PerformsAll (plan_of s) (begins s start) events end
-  pub only : (other : Reading) → PerformsAll (plan_of s) (begins s start) events other → other ≡ end
+  pub comes : PerformsAll s.header (begins s start) events end
+  pub only : (other : Reading) → PerformsAll s.header (begins s start) events other → other ≡ end
   pub same : scene_of state ≡ end.scene
 
 -- the code plays as the script reads: from every start in range, after every list of events

@@ -16,7 +16,7 @@ use Rattle.script_meaning.specs.declared.flow.ProgramPoint.{ProgramPoint}
 use Rattle.script_meaning.specs.Scheme.{at_label, without_label, meet, join, head, instr_of_act, point_after}
 use Rattle.script_meaning.specs.Judged.{IsJudged, WaysAgree, BranchesAgree, FitsEntry}
 use Rattle.script_meaning.specs.Need.{IsWithinBudget}
-use Rattle.script_meaning.specs.Compiled.{AreFine, plan_of, opening_of, body_of, beginning, placed_instrs, lines_of_placed, instrs_of}
+use Rattle.script_meaning.specs.Compiled.{AreFine, opening_of, body_of, beginning, placed_instrs, lines_of_placed, instrs_of}
 
 -- ---- statements
 
@@ -101,9 +101,9 @@ abbrev pub IsRefused : Tree → ℕ → Cause → Type 0
 IsRefused s at given =
     IsItemRefused s.items no_configuration at given
     ⊎ (AreFine s.items no_configuration
-    × (((at ≡ s.begin_line) × IsOpeningRefused (plan_of s) (opening_of s) given)
-    ⊎ (IsSound (opening_of s) × (pages_alone (plan_of s) (opening_of s) ≤ s.header.period)
-    × (IsRefusedIn (plan_of s) (body_of s) (beginning (opening_of s)) at given
-    ⊎ (IsJudged (plan_of s) (body_of s) (beginning (opening_of s))
+    × (((at ≡ s.begin_line) × IsOpeningRefused s.header (opening_of s) given)
+    ⊎ (IsSound (opening_of s) × (pages_alone s.header (opening_of s) ≤ s.header.period)
+    × (IsRefusedIn s.header (body_of s) (beginning (opening_of s)) at given
+    ⊎ (IsJudged s.header (body_of s) (beginning (opening_of s))
     × (IsWithinBudget s.header.budget (instrs_of (lines_of_placed (placed_instrs s))) → ⊥)
     × (given ≡ Cost))))))

@@ -17,11 +17,12 @@ use Rattle.mux_edits.specs.Making.{sub_added, components_added, service_added, p
 use Rattle.plan_code.specs.Program.{IsEdit}
 use Rattle.script_front.specs.declared.tree.Act.{Act}
 use Rattle.script_front.specs.declared.tree.Item.{Item}
-use Rattle.script_front.specs.declared.tree.Header.{Header}
+use Rattle.plan_code.specs.declared.plan.Plan.{Plan}
 use Rattle.script_front.specs.declared.tree.Statement.{Statement}
 use Rattle.script_front.specs.Block.{Block, nothing, basic, before, and_then, block_of}
 use Rattle.script_front.specs.Alike.{added_by}
-use Rattle.script_front.specs.Tree.{Tree, IsScript, IsHeader, IsAct, IsItem, Adds, IsInBounds, AllFit, AreNamedApart, counted, counted_in}
+use Rattle.script_front.specs.Tree.{Tree, IsScript, IsAct, IsItem, Adds, IsInBounds, AllFit, AreNamedApart, counted, counted_in}
+use Rattle.plan_code.specs.Program.{IsPlan}
 use Rattle.script_front.specs.Keywords.{IsName}
 use Rattle.script_opening.specs.Plain.{items_from, acts_from}
 
@@ -195,7 +196,7 @@ apart_none i j d lt below = absurd (omega (arith, below))
 none_formed : {X : Type 0} (P : X → Type 0) → All P []
 none_formed P k d lt = absurd (omega (arith, lt))
 
-pub is_script : (h : Header) (es : List Edit) (acts : List Act) (t : Tree) → IsHeader h → AllByRecursion IsAdding es → All IsAct acts → length es ≤ 960 → length acts ≤ 7000
+pub is_script : (h : Plan) (es : List Edit) (acts : List Act) (t : Tree) → IsPlan h → AllByRecursion IsAdding es → All IsAct acts → length es ≤ 960 → length acts ≤ 7000
     → t.header ≡ h → t.items ≡ items_from 3 es → t.names ≡ [] → t.blocks ≡ [] → (line : ℕ) → block_of [] t.statements ≡ acts_from line acts nothing → IsScript t
 is_script h es acts t headed adding ranged few_items few_acts header items names blocks line statements =
     let counts = acts_counted line acts in
@@ -205,7 +206,7 @@ is_script h es acts t headed adding ranged few_items few_acts header items names
     let no_blocks : length t.blocks ≡ 0 = ap length blocks in
     let no_names : length t.names ≡ 0 = ap length names in
     record {
-      headed = subst IsHeader (sym header) headed;
+      headed = subst IsPlan (sym header) headed;
       adding = subst (All IsItem) (sym items) (items_formed 3 es adding);
       named = subst (All IsName) (sym names) (none_formed IsName);
       different = subst AreNamedApart (sym names) (apart_none);

@@ -3,7 +3,7 @@
 use Rattle.std.specs.Prelude.{◌≡◌, ℕ, ◌+◌, List, [], ◌∷◌, length}
 use Rattle.mux_config.specs.declared.edit.Edit.{Edit}
 use Rattle.script_front.specs.declared.tree.Act.{Act}
-use Rattle.script_front.specs.declared.tree.Header.{Header}
+use Rattle.plan_code.specs.declared.plan.Plan.{Plan}
 use Rattle.script_front.specs.declared.tree.Item.{Item}
 use Rattle.script_front.specs.Block.{Block, nothing, basic, block_of}
 use Rattle.script_front.specs.Tree.{Tree}
@@ -19,7 +19,7 @@ acts_from line [] rest = rest
 acts_from line (a ∷ acts) rest = basic line a (acts_from (line + 1) acts rest)
 
 -- the script with this header, these edits as items and these acts; the header has two lines, and `begin` one
-pub record IsPlain (header : Header) (edits : List Edit) (acts : List Act) (s : Tree) : Type 0 where
+pub record IsPlain (header : Plan) (edits : List Edit) (acts : List Act) (s : Tree) : Type 0 where
   pub heads : s.header ≡ header
   pub items : s.items ≡ items_from 3 edits
   pub names : s.names ≡ []

@@ -5,10 +5,8 @@
 //! `specs/Plain.antt`.
 #![tactic(auto)]
 
-pub mod headers;
 pub mod opening;
 pub mod plain;
 
-pub use headers::header_of;
 pub use opening::{ItemFault, opening_of};
 pub use plain::{MOST_ACTS, script_of};

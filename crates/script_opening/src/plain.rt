@@ -7,13 +7,15 @@ ghost use Rattle.mux_edits.specs.Making.{edits_that_make};
 ghost use Rattle.mux_edits.specs.Sequences.{Transform};
 ghost use Rattle.script_front.specs.Alike.{added_by};
 ghost use Rattle.script_front.specs.Block.{Block, and_then};
-ghost use Rattle.script_front.specs.Tree.{IsHeader, IsAct};
+ghost use Rattle.script_front.specs.Tree.{IsAct};
+ghost use Rattle.plan_code.specs.Program.{IsPlan};
 ghost use Rattle.script_opening.specs.Plain.{items_from, acts_from, IsPlain};
 
 use mux_config::{Config, Edit};
 use mux_edits::edits_that_make;
+use plan_code::Plan;
 use script_front::make::acting;
-use script_front::{Act, Header, Item, Names, Script, Statement};
+use script_front::{Act, Item, Names, Script, Statement};
 use std::alloc::{AllocError, Global};
 
 /// The maximum number of acts in such a script.
@@ -62,11 +64,11 @@ fn statements_from(alloc: Global, first: u16, acts: &[Act]) -> Result<Vec<Statem
 /// that make the configuration are its items and the acts its statements, on the lines on which `print` prints them.
 pub fn script_of(
     alloc: Global,
-    header: Header,
+    header: Plan,
     config: &Config,
     acts: &[Act],
 ) -> Result<Script, AllocError>
-    requires headed { IsHeader header }
+    requires headed { IsPlan header }
     requires acts { All IsAct acts.now }
     requires few { length acts.now ≤ MOST_ACTS }
     ensures plain { IfOk result (λ s. IsPlain header (edits_that_make config.now) acts.now s) }

@@ -10,6 +10,7 @@ item_is_statement the.Mode e = e
 item_is_statement the.Period e = e
 item_is_statement the.Notice e = e
 item_is_statement the.Budget e = e
+item_is_statement the.Reserve e = e
 item_is_statement the.Define e = e
 item_is_statement the.Begin e = e
 item_is_statement the.Sub e = refl

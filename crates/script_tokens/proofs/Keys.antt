@@ -12,7 +12,7 @@ use Rattle.std.proofs.lemmas.Fmt.{digits_decimal}
 use Rattle.script_tokens.proofs.Digits.{own}
 use Rattle.std.specs.Fmt.{decimal}
 use Rattle.script_tokens.specs.declared.keyword.Keyword.{Keyword}
-use Rattle.script_tokens.specs.declared.keyword.Keyword.TheVariants.{Ensemble, Mode, Period, Notice, Budget, Define, Begin, Sub, At, Eep, Service, Audio, In, Data, Carry, Packet, Groups, Raw, TypeWord, Address, Drop, Component, Move, Rate, Wait, Contact, Closed, Open, Until, Commit, Join, Settle, End, If, Else, Repeat, Forever, Apply, OpenBrace, CloseBrace}
+use Rattle.script_tokens.specs.declared.keyword.Keyword.TheVariants.{Ensemble, Mode, Period, Notice, Budget, Reserve, Define, Begin, Sub, At, Eep, Service, Audio, In, Data, Carry, Packet, Groups, Raw, TypeWord, Address, Drop, Component, Move, Rate, Wait, Contact, Closed, Open, Until, Commit, Join, Settle, End, If, Else, Repeat, Forever, Apply, OpenBrace, CloseBrace}
 use Rattle.script_tokens.specs.Keywords.{the, text, letters, head_keywords, item_keywords, packet_keywords, change_keywords, wait_keywords, flow_keywords, keywords, lexeme_among, word_of, IsNoneOf, IsNoKeyword}
 use Rattle.script_tokens.specs.Reading.{Spelled}
 use Rattle.script_tokens.specs.Spelling.{level_text}
@@ -24,6 +24,7 @@ word_the Mode = refl
 word_the Period = refl
 word_the Notice = refl
 word_the Budget = refl
+word_the Reserve = refl
 word_the Define = refl
 word_the Begin = refl
 word_the Sub = refl
@@ -97,6 +98,7 @@ no_digits Mode = refl
 no_digits Period = refl
 no_digits Notice = refl
 no_digits Budget = refl
+no_digits Reserve = refl
 no_digits Define = refl
 no_digits Begin = refl
 no_digits Sub = refl
@@ -163,8 +165,9 @@ no_keyword w h i p c t f Mode = h.1.0
 no_keyword w h i p c t f Period = h.1.1.0
 no_keyword w h i p c t f Notice = h.1.1.1.0
 no_keyword w h i p c t f Budget = h.1.1.1.1.0
-no_keyword w h i p c t f Define = h.1.1.1.1.1.0
-no_keyword w h i p c t f Begin = h.1.1.1.1.1.1.0
+no_keyword w h i p c t f Reserve = h.1.1.1.1.1.0
+no_keyword w h i p c t f Define = h.1.1.1.1.1.1.0
+no_keyword w h i p c t f Begin = h.1.1.1.1.1.1.1.0
 no_keyword w h i p c t f Sub = i.0
 no_keyword w h i p c t f At = i.1.0
 no_keyword w h i p c t f Eep = i.1.1.0

@@ -10,7 +10,7 @@ use Rattle.std.proofs.lemmas.Fmt.{digits_decimal, decimal_nonempty}
 use Rattle.script_tokens.specs.declared.token.Kind.{Kind}
 use Rattle.script_tokens.specs.declared.token.Kind.TheVariants.{Blank, LineEnd, Hash, Brace, Letter, Bad}
 use Rattle.script_tokens.specs.declared.keyword.Keyword.{Keyword}
-use Rattle.script_tokens.specs.declared.keyword.Keyword.TheVariants.{Ensemble, Mode, Period, Notice, Budget, Define, Begin, Sub, At, Eep, Service, Audio, In, Data, Carry, Packet, Groups, Raw, TypeWord, Address, Drop, Component, Move, Rate, Wait, Contact, Closed, Open, Until, Commit, Join, Settle, End, If, Else, Repeat, Forever, Apply, OpenBrace, CloseBrace}
+use Rattle.script_tokens.specs.declared.keyword.Keyword.TheVariants.{Ensemble, Mode, Period, Notice, Budget, Reserve, Define, Begin, Sub, At, Eep, Service, Audio, In, Data, Carry, Packet, Groups, Raw, TypeWord, Address, Drop, Component, Move, Rate, Wait, Contact, Closed, Open, Until, Commit, Join, Settle, End, If, Else, Repeat, Forever, Apply, OpenBrace, CloseBrace}
 use Rattle.script_tokens.specs.Bytes.{kind_of}
 use Rattle.script_tokens.specs.Texts.{AreLetters}
 use Rattle.script_tokens.specs.Keywords.{letters, is_lower, is_name_byte, IsName}
@@ -179,6 +179,7 @@ keyword_text Mode = atom_word (letters Mode) (omega arith) refl
 keyword_text Period = atom_word (letters Period) (omega arith) refl
 keyword_text Notice = atom_word (letters Notice) (omega arith) refl
 keyword_text Budget = atom_word (letters Budget) (omega arith) refl
+keyword_text Reserve = atom_word (letters Reserve) (omega arith) refl
 keyword_text Define = atom_word (letters Define) (omega arith) refl
 keyword_text Begin = atom_word (letters Begin) (omega arith) refl
 keyword_text Sub = atom_word (letters Sub) (omega arith) refl

@@ -3,7 +3,7 @@ use Rattle.std.specs.Prelude.{◌≡◌, ◌≢◌, ℕ, ◌≤◌, ◌||◌, �
 use Rattle.std.specs.List.{list_all, AllByRecursion}
 use Rattle.std.specs.Str.{bytes_eq}
 use Rattle.script_tokens.specs.declared.keyword.Keyword.{Keyword}
-use Rattle.script_tokens.specs.declared.keyword.Keyword.TheVariants.{Ensemble, Mode, Period, Notice, Budget, Define, Begin, Sub, At, Eep, Service, Audio, In, Data, Carry, Packet, Groups, Raw, TypeWord, Address, Drop, Component, Move, Rate, Wait, Contact, Closed, Open, Until, Commit, Join, Settle, End, If, Else, Repeat, Forever, Apply, OpenBrace, CloseBrace}
+use Rattle.script_tokens.specs.declared.keyword.Keyword.TheVariants.{Ensemble, Mode, Period, Notice, Budget, Reserve, Define, Begin, Sub, At, Eep, Service, Audio, In, Data, Carry, Packet, Groups, Raw, TypeWord, Address, Drop, Component, Move, Rate, Wait, Contact, Closed, Open, Until, Commit, Join, Settle, End, If, Else, Repeat, Forever, Apply, OpenBrace, CloseBrace}
 
 unfoldable pub letters : Keyword → List ℕ
 letters Ensemble = codes "ensemble"
@@ -11,6 +11,7 @@ letters Mode = codes "mode"
 letters Period = codes "period"
 letters Notice = codes "notice"
 letters Budget = codes "budget"
+letters Reserve = codes "reserve"
 letters Define = codes "define"
 letters Begin = codes "begin"
 letters Sub = codes "sub"
@@ -54,7 +55,7 @@ pub data Lexeme : Type 0 where
 
 -- the keywords by subject: the head of a script, its items, packet components, changes, waiting, and control flow
 abbrev pub head_keywords : List Keyword
-head_keywords = Ensemble ∷ Mode ∷ Period ∷ Notice ∷ Budget ∷ Define ∷ Begin ∷ []
+head_keywords = Ensemble ∷ Mode ∷ Period ∷ Notice ∷ Budget ∷ Reserve ∷ Define ∷ Begin ∷ []
 
 abbrev pub item_keywords : List Keyword
 item_keywords = Sub ∷ At ∷ Eep ∷ Service ∷ Audio ∷ In ∷ Data ∷ Carry ∷ []

@@ -97,6 +97,7 @@ impl Keyword {
             | Keyword::Period
             | Keyword::Notice
             | Keyword::Budget
+            | Keyword::Reserve
             | Keyword::Define
             | Keyword::Begin
             | Keyword::At

@@ -16,6 +16,8 @@ pub enum Keyword {
     Notice,
     /// `budget`
     Budget,
+    /// `reserve`
+    Reserve,
     /// `define`
     Define,
     /// `begin`
@@ -131,6 +133,7 @@ fn find_head(bytes: &[u8]) -> Option<Keyword>
         b"period" => Some(Keyword::Period),
         b"notice" => Some(Keyword::Notice),
         b"budget" => Some(Keyword::Budget),
+        b"reserve" => Some(Keyword::Reserve),
         b"define" => Some(Keyword::Define),
         b"begin" => Some(Keyword::Begin),
         _ => None,

@@ -2,7 +2,8 @@
 use Rattle.std.specs.Prelude.{◌≡◌, ℕ, ◌+◌, ◌*◌, List, [], if◌then◌else◌, nat_lt}
 use Rattle.mux_config.specs.Configuration.{Configuration, nothing}
 use Rattle.mux_edits.specs.Sequences.{Transform}
-use Rattle.script_front.specs.declared.tree.Header.{Header}
+use Rattle.plan_code.specs.declared.limits.TheConstants.{LONGEST_PERIOD}
+use Rattle.plan_code.specs.declared.plan.Plan.{Plan}
 use Rattle.script_front.specs.Alike.{added_by}
 use Rattle.script_front.specs.Block.{block_of, nothing as no_statement}
 use Rattle.script_front.specs.Denoting.{Denotes}
@@ -11,7 +12,7 @@ use Rattle.script_front.specs.Tree.{Tree, IsScript}
 
 -- the text denotes a script with this header, formatted as scripts are printed; its items make the configuration from
 -- the empty one without a fault; it has no blocks and no statements
-pub record IsTextOf (header : Header) (c : Configuration) (text : List ℕ) : Type 0 where
+pub record IsTextOf (header : Plan) (c : Configuration) (text : List ℕ) : Type 0 where
   pub tree : Tree
   pub script : IsScript tree
   pub heads : tree.header ≡ header
@@ -22,6 +23,6 @@ pub record IsTextOf (header : Header) (c : Configuration) (text : List ℕ) : Ty
   pub denotes : Denotes text tree
   pub layout : text ≡ text_of_lines (tree_lines tree)
 
--- room for twice the pages, and one frame more; at least 4 frames and at most 60
+-- room for twice the pages, and one frame more; at least 4 frames and at most the longest period
 abbrev pub usual_period : (pages : ℕ) → ℕ
-usual_period pages = if nat_lt (2 * pages + 1) 4 then 4 else if nat_lt 60 (2 * pages + 1) then 60 else 2 * pages + 1
+usual_period pages = if nat_lt (2 * pages + 1) 4 then 4 else if nat_lt LONGEST_PERIOD (2 * pages + 1) then LONGEST_PERIOD else 2 * pages + 1

@@ -2,6 +2,7 @@
 use Rattle.std.proofs.Common.{◌≡◌, ◌≢◌, ℕ, ◌+◌, ◌-◌, ◌*◌, ◌<◌, ◌≤◌, ◌%◌, ◌==◌, ◌&&◌, ◌||◌, not, Bool, true, false, cond, List, [], ◌∷◌, ◌++◌, Contains, Option, Some, None, refl, sym, ap, ◌∙◌, subst, arith, inl, inr, ◌⊎◌, lt-ltb, le-ltb}
 use Rattle.std.proofs.lemmas.Bool.{false≢true, cases_lt, eqb-true, eqb-false, ne_eqb}
 use Rattle.std.proofs.lemmas.List.Elements.{Contains-append_left}
+use Rattle.fib_codec.specs.Layouts.{layout_mode}
 use Rattle.mux_types.proofs.Elements.{contains_cases}
 use Rattle.mux_config.specs.Configuration.{Configuration}
 use Rattle.mux_entries.specs.Entries.{EnsembleInformation}
@@ -91,24 +92,24 @@ some_ext n some = ne_eqb n 0 (λ e. omega (arith, some, e))
 
 -- an entry with C/N 0 of the page in turn
 pub heard_now : FrameLaws → (r : Reading) (p : Program) (ts : List Known) → IsCode p ts → (s : State) → Holds p ts s → (past : List Moment) → IsBefore p.plan past s → (after : Listening)
-    → listening (said (frame_items (read_frame r p.plan.mode (frame_bytes p s))) past) ≡ Some after → (m : Marked) → m.next ≡ false
-    → Contains (page_entries p.plan.mode (shown p s).page_index (sent_entries p.plan (shown p s))) m
-    → last_heard (key_of (raw_entry m.entry)) (said (frame_items (read_frame r p.plan.mode (frame_bytes p s))) past) ≡ frames_ended past + 1
+    → listening (said (frame_items (read_frame r p.plan.layout (frame_bytes p s))) past) ≡ Some after → (m : Marked) → m.next ≡ false
+    → Contains (page_entries p.plan.layout (shown p s).page_index (sent_entries p.plan (shown p s))) m
+    → last_heard (key_of (raw_entry m.entry)) (said (frame_items (read_frame r p.plan.layout (frame_bytes p s))) past) ≡ frames_ended past + 1
 heard_now laws r p ts c s holds past before after all m current inside =
     let plan : Plan = p.plan in
     let u : State = shown p s in
     let a = airs p ts c s holds in
-    let frame : List Fib = read_frame r plan.mode (frame_bytes p s) in
+    let frame : List Fib = read_frame r plan.layout (frame_bytes p s) in
     let key : ℕ = key_of (raw_entry m.entry) in
     let able = pageable laws.heard.pages plan u a in
-    let row : IsHeardInRow (shown_bytes plan u) m = (laws.heard.pages.heard plan.mode (ensemble_sent plan u) u.page_index (sent_entries plan u) able m).1 inside in
-    let long = (laws.heard.pages.valid plan.mode (ensemble_sent plan u) u.page_index (sent_entries plan u) able).1 in
-    let it : IsSaidOf (frame_items frame) m = row_said laws.one laws.size r plan.mode (shown_bytes plan u) m long row in
+    let row : IsHeardInRow (shown_bytes plan u) m = (laws.heard.pages.heard plan.layout (ensemble_sent plan u) u.page_index (sent_entries plan u) able m).1 inside in
+    let long = (laws.heard.pages.valid plan.layout (ensemble_sent plan u) u.page_index (sent_entries plan u) able).1 in
+    let it : IsSaidOf (frame_items frame) m = row_said laws.one laws.size r plan.layout (shown_bytes plan u) m long row in
     let none : is_ensemble it.item ≡ false = ap (λ (x : Raw). x.ext == 0) it.raw ∙ some_ext _ row.1.organization in
     let next : it.item.next ≡ false = it.next ∙ current in
     let keys : key_of it.item.raw ≡ key = ap key_of it.raw in
     let fs = frame_said laws.one laws.heard r plan u a in
-    elim (zero_or_not (u.count % count_step plan.mode)) [
+    elim (zero_or_not (u.count % count_step (layout_mode plan.layout))) [
       | inl on ↦
           let head = subst (λ (o : Option EnsembleInformation). IsHeadOf o fs.heads) (is_sent plan u on) fs.header in
           let h : Item = head.0 in
@@ -131,23 +132,23 @@ heard_now laws r p ts c s holds past before after all m current inside =
           ∙ last_member key fs.members past tuned.0 after tuned.1 tuned.2 whole it.item (subst (λ (is : List Item). Contains is it.item) items it.inside) none next keys
     ]
   where
-    tuned_off : IsBefore p.plan past s → (shown p s).count % count_step p.plan.mode ≢ 0 → (l : Listening) × (listening past ≡ Some l) × (l.tuned ≡ true)
-    tuned_off (inl (none, on)) off = absurd (off (ap (λ n. n % count_step p.plan.mode) (links p ts c s holds).count ∙ on))
+    tuned_off : IsBefore p.plan past s → (shown p s).count % count_step (layout_mode p.plan.layout) ≢ 0 → (l : Listening) × (listening past ≡ Some l) × (l.tuned ≡ true)
+    tuned_off (inl (none, on)) off = absurd (off (ap (λ n. n % count_step (layout_mode p.plan.layout)) (links p ts c s holds).count ∙ on))
     tuned_off (inr b) off = (b.heard, b.is, tuned_by p.plan s.left s.current s.next s.count b.heard b.knows)
 
 -- in the frame of a swap, all entries count as heard
 swap_now : FrameLaws → (r : Reading) (p : Program) (ts : List Known) → IsCode p ts → (s : State) → Holds p ts s → (past : List Moment) → IsBetween p.plan past s → is_due s.left ≡ true → (key : ℕ)
-    → last_heard key (said (frame_items (read_frame r p.plan.mode (frame_bytes p s))) past) ≡ frames_ended past + 1
+    → last_heard key (said (frame_items (read_frame r p.plan.layout (frame_bytes p s))) past) ≡ frames_ended past + 1
 swap_now laws r p ts c s holds past b due key =
     let plan : Plan = p.plan in
     let u : State = shown p s in
     let a = airs p ts c s holds in
     let link = links p ts c s holds in
-    let frame : List Fib = read_frame r plan.mode (frame_bytes p s) in
+    let frame : List Fib = read_frame r plan.layout (frame_bytes p s) in
     let fs = frame_said laws.one laws.heard r plan u a in
-    let step : (s.count + 0) % count_step plan.mode ≡ 0 = subst (λ (o : Option ℕ). SwapsOn plan s.count o) (due_left s.left due) holds.tracked.swaps in
+    let step : (s.count + 0) % count_step (layout_mode plan.layout) ≡ 0 = subst (λ (o : Option ℕ). SwapsOn plan s.count o) (due_left s.left due) holds.tracked.swaps in
     let none : u.count ≡ s.count + 0 = link.count ∙ (let same : s.count ≡ s.count + 0 = omega arith in same) in
-    let on : u.count % count_step plan.mode ≡ 0 = ap (λ n. n % count_step plan.mode) none ∙ step in
+    let on : u.count % count_step (layout_mode plan.layout) ≡ 0 = ap (λ n. n % count_step (layout_mode plan.layout)) none ∙ step in
     let head = subst (λ (o : Option EnsembleInformation). IsHeadOf o fs.heads) (is_sent plan u on) fs.header in
     let h : Item = head.0 in
     let items : frame_items frame ≡ h ∷ fs.members = fs.are ∙ ap (λ hs. hs ++ fs.members) head.1 in
@@ -164,13 +165,13 @@ pub record AreAged (plan : Plan) (past : List Moment) (s : State) : Type 0 where
   pub page_index : ℕ
   pub bound : ℕ
   pub goes : Goes plan s ms page_index
-  pub few : rounds plan.mode ms ≤ plan.period
-  pub below : page_index < rounds plan.mode ms
+  pub few : rounds plan.layout ms ≤ plan.period
+  pub below : page_index < rounds plan.layout ms
   pub has : (m : Marked) → Contains (facts_of s.current false) m → Contains ms m
   pub from : plan.period ≤ bound + 1
   pub to : bound + 2 ≤ 2 * plan.period
   pub outside : ((k : ℕ) → s.left ≡ Some k → k < plan.notice → ⊥) → bound + 1 ≤ plan.period
-  pub aged : (m : Marked) → Contains (facts_of s.current false) m → (page : ℕ) → page < rounds plan.mode ms → Contains (page_entries plan.mode page ms) m → (d : ℕ) → ComesIn (rounds plan.mode ms) page_index page d
+  pub aged : (m : Marked) → Contains (facts_of s.current false) m → (page : ℕ) → page < rounds plan.layout ms → Contains (page_entries plan.layout page ms) m → (d : ℕ) → ComesIn (rounds plan.layout ms) page_index page d
       → frames_ended past + d ≤ last_heard (key_of (raw_entry m.entry)) past + bound
 
 pub current_inside : (c n : Configuration) (b : Bool) (m : Marked) → Contains (facts_of c false) m → Contains (page_set c (cond b (Some n) None)) m
@@ -179,19 +180,19 @@ current_inside c n true m h = Contains-append_left (facts_of c false) (facts_of 
 
 -- one frame later, given what was heard before it
 aged_after : FrameLaws → (r : Reading) (p : Program) (ts : List Known) → IsCode p ts → (s : State) → Holds p ts s → (past : List Moment) → IsBefore p.plan past s → (after : Listening)
-    → listening (said (frame_items (read_frame r p.plan.mode (frame_bytes p s))) past) ≡ Some after
+    → listening (said (frame_items (read_frame r p.plan.layout (frame_bytes p s))) past) ≡ Some after
     → (bound : ℕ) → p.plan.period ≤ bound + 1 → bound + 2 ≤ 2 * p.plan.period
     → (((k : ℕ) → left_after_frame (shown p s).left ≡ Some k → k < p.plan.notice → ⊥) → bound + 1 ≤ p.plan.period)
-    → ((m : Marked) → Contains (facts_of (shown p s).current false) m → (page : ℕ) → page < sent_rounds p.plan (shown p s) → Contains (page_entries p.plan.mode page (sent_entries p.plan (shown p s))) m → (d : ℕ)
+    → ((m : Marked) → Contains (facts_of (shown p s).current false) m → (page : ℕ) → page < sent_rounds p.plan (shown p s) → Contains (page_entries p.plan.layout page (sent_entries p.plan (shown p s))) m → (d : ℕ)
     → ComesIn (sent_rounds p.plan (shown p s)) (shown p s).page_index page d
-    → (last_heard (key_of (raw_entry m.entry)) (said (frame_items (read_frame r p.plan.mode (frame_bytes p s))) past) ≡ frames_ended past + 1)
+    → (last_heard (key_of (raw_entry m.entry)) (said (frame_items (read_frame r p.plan.layout (frame_bytes p s))) past) ≡ frames_ended past + 1)
     ⊎ (frames_ended past + d ≤ last_heard (key_of (raw_entry m.entry)) past + bound))
-    → AreAged p.plan (after_read (count_step p.plan.mode) past (read_frame r p.plan.mode (frame_bytes p s))) (after_frame p s)
+    → AreAged p.plan (after_read (count_step (layout_mode p.plan.layout)) past (read_frame r p.plan.layout (frame_bytes p s))) (after_frame p s)
 aged_after laws r p ts c s holds past before after all bound from to outside old =
     let plan : Plan = p.plan in
     let u : State = shown p s in
     let a = airs p ts c s holds in
-    let items : List Item = frame_items (read_frame r plan.mode (frame_bytes p s)) in
+    let items : List Item = frame_items (read_frame r plan.layout (frame_bytes p s)) in
     let ms : List Marked = sent_entries plan u in
     let pages : ℕ = sent_rounds plan u in
     let few : pages ≤ plan.period = sent_period plan u a in
@@ -202,7 +203,7 @@ aged_after laws r p ts c s holds past before after all bound from to outside old
       bound = bound;
       goes = after_goes plan u a ms refl;
       few = few;
-      below = page_after_below pages u.page_index (some_rounds plan.mode ms);
+      below = page_after_below pages u.page_index (some_rounds plan.layout ms);
       has = λ m inside. current_inside u.current u.next (is_noticed plan.notice u.left) m inside;
       from = from;
       to = to;
@@ -215,7 +216,7 @@ aged_after laws r p ts c s holds past before after all bound from to outside old
           λ is. omega (arith, is, ended, short, few, from) in
           elim (comes_before pages u.page_index page d within last comes) [
             | inl same ↦ now (heard_now laws r p ts c s holds past before after all m (sym (fact_in false (entries_of u.current) m (contains_in (facts_of u.current false) m inside)).0)
-                (subst (λ (k : ℕ). Contains (page_entries plan.mode k ms) m) same page_in))
+                (subst (λ (k : ℕ). Contains (page_entries plan.layout k ms) m) same page_in))
             | inr further ↦ elim (old m inside page last page_in (d + 1) further) [
               | inl is ↦ now is
               | inr aged ↦ (let grows = last_grows key items past in omega (arith, aged, grows, ended))
@@ -227,7 +228,7 @@ aged_after laws r p ts c s holds past before after all bound from to outside old
 
 -- nothing was heard, and the next frame has FIG 0/0; or frames were heard
 abbrev pub IsAging : Plan → List Moment → State → Type 0
-IsAging plan past s = ((past ≡ []) × (s.count % count_step plan.mode ≡ 0)) ⊎ (IsBetween plan past s × AreAged plan past s)
+IsAging plan past s = ((past ≡ []) × (s.count % count_step (layout_mode plan.layout) ≡ 0)) ⊎ (IsBetween plan past s × AreAged plan past s)
 
 pub before_of : (plan : Plan) (past : List Moment) (s : State) → IsAging plan past s → IsBefore plan past s
 before_of plan past s (inl first) = inl first
@@ -256,7 +257,7 @@ left_on plan count k None left n m e g = absurd cc
 left_on plan count k (Some j) left n m e g = g.0 ∙ e
 
 pub ages : FrameLaws → (r : Reading) (period : ℕ) (p : Program) (ts : List Known) → IsCode p ts → (s : State) → Holds p ts s → (past : List Moment) → IsAging p.plan past s
-    → AreAged p.plan (after_read (count_step p.plan.mode) past (read_frame r p.plan.mode (frame_bytes p s))) (after_frame p s)
+    → AreAged p.plan (after_read (count_step (layout_mode p.plan.layout)) past (read_frame r p.plan.layout (frame_bytes p s))) (after_frame p s)
 ages laws r period p ts c s holds past aging =
     let now = agrees_by laws.one laws.heard r period p ts c s holds past (before_of p.plan past s aging) in
     by aging now.after.heard now.after.is
@@ -267,8 +268,8 @@ ages laws r period p ts c s holds past aging =
     some : 1 ≤ p.plan.period
     some = omega (arith, c.program.planned.period_from)
 
-    goes_on : AreAged p.plan past s → IsBetween p.plan past s → (after : Listening) → listening (said (frame_items (read_frame r p.plan.mode (frame_bytes p s))) past) ≡ Some after → is_due s.left ≡ false
-        → (b : Bool) → is_first_noticed p.plan.notice (shown p s).left ≡ b → AreAged p.plan (after_read (count_step p.plan.mode) past (read_frame r p.plan.mode (frame_bytes p s))) (after_frame p s)
+    goes_on : AreAged p.plan past s → IsBetween p.plan past s → (after : Listening) → listening (said (frame_items (read_frame r p.plan.layout (frame_bytes p s))) past) ≡ Some after → is_due s.left ≡ false
+        → (b : Bool) → is_first_noticed p.plan.notice (shown p s).left ≡ b → AreAged p.plan (after_read (count_step (layout_mode p.plan.layout)) past (read_frame r p.plan.layout (frame_bytes p s))) (after_frame p s)
     goes_on g b after all due true first =
         let plan : Plan = p.plan in
         let u : State = shown p s in
@@ -279,8 +280,8 @@ ages laws r period p ts c s holds past aging =
         (λ none. absurd (none (plan.notice - 1) (ap left_after_frame begun) (omega (arith, c.program.planned.notice_from))))
         (λ m inside page last page_in d comes.
         let mine : Contains (facts_of s.current false) m = subst (λ (x : Configuration). Contains (facts_of x false) m) (link.current due) inside in
-        let there = laws.heard.pages.each plan.mode g.ms m (g.has m mine) in
-        let way = comes_in (rounds plan.mode g.ms) g.page_index there.0 g.below there.1 in
+        let there = laws.heard.pages.each plan.layout g.ms m (g.has m mine) in
+        let way = comes_in (rounds plan.layout g.ms) g.page_index there.0 g.below there.1 in
         let aged = g.aged m mine there.0 there.1 there.2 way.0 way.1 in
         inr (omega (arith, aged, small, few, comes.0)))
     goes_on g b after all due false first =
@@ -296,20 +297,20 @@ ages laws r period p ts c s holds past aging =
         none (k - 1) (ap left_after_frame left) (omega (arith, below))))
         (λ m inside page last page_in d comes.
         let mine : Contains (facts_of s.current false) m = subst (λ (x : Configuration). Contains (facts_of x false) m) (link.current due) inside in
-        let page_last : page < rounds plan.mode g.ms = subst (λ (ms : List Marked). page < rounds plan.mode ms) sent.entries last in
-        let page_mine : Contains (page_entries plan.mode page g.ms) m = subst (λ (ms : List Marked). Contains (page_entries plan.mode page ms) m) sent.entries page_in in
-        let to : ComesIn (rounds plan.mode g.ms) u.page_index page d = subst (λ (ms : List Marked). ComesIn (rounds plan.mode ms) u.page_index page d) sent.entries comes in
-        inr (g.aged m mine page page_last page_mine d (subst (λ (t : ℕ). ComesIn (rounds plan.mode g.ms) t page d) sent.turn_is to)))
+        let page_last : page < rounds plan.layout g.ms = subst (λ (ms : List Marked). page < rounds plan.layout ms) sent.entries last in
+        let page_mine : Contains (page_entries plan.layout page g.ms) m = subst (λ (ms : List Marked). Contains (page_entries plan.layout page ms) m) sent.entries page_in in
+        let to : ComesIn (rounds plan.layout g.ms) u.page_index page d = subst (λ (ms : List Marked). ComesIn (rounds plan.layout ms) u.page_index page d) sent.entries comes in
+        inr (g.aged m mine page page_last page_mine d (subst (λ (t : ℕ). ComesIn (rounds plan.layout g.ms) t page d) sent.turn_is to)))
 
-    by_due : AreAged p.plan past s → IsBetween p.plan past s → (after : Listening) → listening (said (frame_items (read_frame r p.plan.mode (frame_bytes p s))) past) ≡ Some after
-        → (b : Bool) → is_due s.left ≡ b → AreAged p.plan (after_read (count_step p.plan.mode) past (read_frame r p.plan.mode (frame_bytes p s))) (after_frame p s)
+    by_due : AreAged p.plan past s → IsBetween p.plan past s → (after : Listening) → listening (said (frame_items (read_frame r p.plan.layout (frame_bytes p s))) past) ≡ Some after
+        → (b : Bool) → is_due s.left ≡ b → AreAged p.plan (after_read (count_step (layout_mode p.plan.layout)) past (read_frame r p.plan.layout (frame_bytes p s))) (after_frame p s)
     by_due g b after all true due =
         aged_after laws r p ts c s holds past (inr b) after all (p.plan.period - 1) (omega (arith, some)) (omega (arith, some)) (λ none. omega (arith, some))
         (λ m inside page last page_in d comes. inl (swap_now laws r p ts c s holds past b due (key_of (raw_entry m.entry))))
     by_due g b after all false due = goes_on g b after all due (is_first_noticed p.plan.notice (shown p s).left) refl
 
-    by : IsAging p.plan past s → (after : Listening) → listening (said (frame_items (read_frame r p.plan.mode (frame_bytes p s))) past) ≡ Some after
-        → AreAged p.plan (after_read (count_step p.plan.mode) past (read_frame r p.plan.mode (frame_bytes p s))) (after_frame p s)
+    by : IsAging p.plan past s → (after : Listening) → listening (said (frame_items (read_frame r p.plan.layout (frame_bytes p s))) past) ≡ Some after
+        → AreAged p.plan (after_read (count_step (layout_mode p.plan.layout)) past (read_frame r p.plan.layout (frame_bytes p s))) (after_frame p s)
     by (inl (none, on)) after all =
         aged_after laws r p ts c s holds past (inl (none, on)) after all (p.plan.period - 1) (omega (arith, some)) (omega (arith, some)) (λ left. omega (arith, some))
         (λ m inside page last page_in d comes.

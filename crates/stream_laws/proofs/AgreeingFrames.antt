@@ -3,10 +3,11 @@ use Rattle.std.proofs.Common.{◌≡◌, ◌≢◌, ℕ, ◌+◌, ◌-◌, ◌�
 use Rattle.std.specs.Prelude.{map, unwrap_or}
 use Rattle.std.specs.List.{AllByRecursion}
 use Rattle.std.proofs.lemmas.Bool.{false≢true, eq-eqb, ne_eqb}
+use Rattle.fib_codec.specs.Layouts.{layout_mode, frame_fibs}
 use Rattle.mux_config.specs.Change.{change_of, bits_of}
 use Rattle.mux_entries.specs.Entries.{EnsembleInformation}
 use Rattle.fib_codec.specs.Grammar.{OneList}
-use Rattle.fib_codec.specs.Modes.{fib_count, count_step}
+use Rattle.fib_codec.specs.Modes.{count_step}
 use Rattle.fib_reader.specs.Listening.{Listening, untuned, is_made, at_ensemble}
 use Rattle.stream_check.specs.declared.finding.What.{What}
 use Rattle.stream_check.specs.declared.finding.Finding.{Finding}
@@ -47,15 +48,15 @@ use Rattle.stream_laws.proofs.AgreeingRuns.{IsBetween, IsHeadOk, head_ok, head_f
 -- ---- a FIG 0/0
 
 record HeadFine (period : ℕ) (plan : Plan) (u : State) (awaited : Option ℕ) (past : List Moment) (i : Item) : Type 0 where
-  found : IsFine (findings_at (known_of (count_step plan.mode) period past) i)
-  room : has_no_room (known_of (count_step plan.mode) period past) i ≡ false
+  found : IsFine (findings_at (known_of (count_step (layout_mode plan.layout)) period past) i)
+  room : has_no_room (known_of (count_step (layout_mode plan.layout)) period past) i ≡ false
   after : IsInside plan u awaited (Said i ∷ past)
 
 -- its rules, given what the listener knows
 rules_by : (period : ℕ) (plan : Plan) (u : State) → Airs plan u → (past : List Moment) (l : Listening) (e : EnsembleInformation) → e ≡ ensemble_of plan u → listener_after past ≡ l
-    → IsHeadOk plan u l (last_flags past) (began_early past) → IsHeadFine (known_of (count_step plan.mode) period past) e
+    → IsHeadOk plan u l (last_flags past) (began_early past) → IsHeadFine (known_of (count_step (layout_mode plan.layout)) period past) e
 rules_by period plan u a past l e same is h =
-    subst (λ (x : EnsembleInformation). IsHeadFine (known_of (count_step plan.mode) period past) x) (sym same)
+    subst (λ (x : EnsembleInformation). IsHeadFine (known_of (count_step (layout_mode plan.layout)) period past) x) (sym same)
     (record {
       made = λ made. ap (λ (x : Listening). (ensemble_of plan u).count % 250 == unwrap_or x.awaited 0) is ∙ h.made (sym (ap (λ (x : Listening). is_made x.awaited (ensemble_of plan u)) is) ∙ made);
       again = λ made.
@@ -71,7 +72,7 @@ rules_by period plan u a past l e same is h =
 head_step : (period : ℕ) (plan : Plan) (u : State) → Airs plan u → (past : List Moment) (l : Listening) (i : Item) → listening past ≡ Some l → is_ensemble i ≡ true → said_ensemble i ≡ ensemble_of plan u
     → IsHeadOk plan u l (last_flags past) (began_early past) → (f : InFrame plan u Nothing Nothing (at_ensemble (ensemble_of plan u) l)) → HeadFine period plan u f.awaited past i
 head_step period plan u a past l i is ens says h f =
-    let k : Knowledge = known_of (count_step plan.mode) period past in
+    let k : Knowledge = known_of (count_step (layout_mode plan.layout)) period past in
     let same : listener_after past ≡ l = after_is past l is in
     let found = head_fine k i.first (said_ensemble i) (rules_by period plan u a past l (said_ensemble i) says same h) in
     record {
@@ -107,7 +108,7 @@ head_step period plan u a past l i is ens says h f =
 
 -- ---- without FIG 0/0
 
-no_header : (plan : Plan) (s u : State) (past : List Moment) → (h : IsBetween plan past s) → Airs plan u → Links plan s u → SwapsOn plan s.count s.left → s.count % count_step plan.mode ≢ 0
+no_header : (plan : Plan) (s u : State) (past : List Moment) → (h : IsBetween plan past s) → Airs plan u → Links plan s u → SwapsOn plan s.count s.left → s.count % count_step (layout_mode plan.layout) ≢ 0
     → (f : InFrame plan u Nothing Nothing h.heard) → IsInside plan u f.awaited past
 no_header plan s u past h a link swaps off f = record {
   heard = h.heard;
@@ -126,9 +127,9 @@ no_header plan s u past h a link swaps off f = record {
     more : (k : ℕ) → s.left ≡ Some k → 1 ≤ k
     more k is = elim (zero_or_some k) [
       | inl none ↦ (
-          let on : (s.count + k) % count_step plan.mode ≡ 0 = subst (λ (o : Option ℕ). SwapsOn plan s.count o) is swaps in
+          let on : (s.count + k) % count_step (layout_mode plan.layout) ≡ 0 = subst (λ (o : Option ℕ). SwapsOn plan s.count o) is swaps in
           let same : s.count + k ≡ s.count = omega (arith, none) in
-          absurd (off (sym (ap (λ n. n % count_step plan.mode) same) ∙ on))
+          absurd (off (sym (ap (λ n. n % count_step (layout_mode plan.layout)) same) ∙ on))
           )
       | inr some ↦ some
     ]
@@ -136,9 +137,9 @@ no_header plan s u past h a link swaps off f = record {
 -- ---- a frame
 
 pub record FrameAgrees (period : ℕ) (p : Program) (s : State) (past : List Moment) (frame : List Fib) : Type 0 where
-  pub found : IsFine (findings_at_items (count_step p.plan.mode) period past (frame_items frame))
-  pub room : runs_full (count_step p.plan.mode) period past (frame_items frame) ≡ false
-  pub after : IsBetween p.plan (after_read (count_step p.plan.mode) past frame) (after_frame p s)
+  pub found : IsFine (findings_at_items (count_step (layout_mode p.plan.layout)) period past (frame_items frame))
+  pub room : runs_full (count_step (layout_mode p.plan.layout)) period past (frame_items frame) ≡ false
+  pub after : IsBetween p.plan (after_read (count_step (layout_mode p.plan.layout)) past frame) (after_frame p s)
 
 -- after all entries of the frame
 ends : (p : Program) (s : State) (past : List Moment) (count : ℕ) → Airs p.plan (shown p s) → (l : Listening) (f : InFrame p.plan (shown p s) Nothing Nothing l) → IsInside p.plan (shown p s) f.awaited past
@@ -160,20 +161,20 @@ ends p s past count a l f h =
       flags = λ low some. h.flags low (sym h.knows.awaits ∙ some);
     }
 
-pub is_sent : (plan : Plan) (u : State) → u.count % count_step plan.mode ≡ 0 → ensemble_sent plan u ≡ Some (ensemble_of plan u)
-is_sent plan u e = ap (λ (b : Bool). cond b (Some (ensemble_of plan u)) None) (eq-eqb (u.count % count_step plan.mode) 0 e)
+pub is_sent : (plan : Plan) (u : State) → u.count % count_step (layout_mode plan.layout) ≡ 0 → ensemble_sent plan u ≡ Some (ensemble_of plan u)
+is_sent plan u e = ap (λ (b : Bool). cond b (Some (ensemble_of plan u)) None) (eq-eqb (u.count % count_step (layout_mode plan.layout)) 0 e)
 
-pub not_sent : (plan : Plan) (u : State) → u.count % count_step plan.mode ≢ 0 → ensemble_sent plan u ≡ None
-not_sent plan u apart = ap (λ (b : Bool). cond b (Some (ensemble_of plan u)) None) (ne_eqb (u.count % count_step plan.mode) 0 apart)
+pub not_sent : (plan : Plan) (u : State) → u.count % count_step (layout_mode plan.layout) ≢ 0 → ensemble_sent plan u ≡ None
+not_sent plan u apart = ap (λ (b : Bool). cond b (Some (ensemble_of plan u)) None) (ne_eqb (u.count % count_step (layout_mode plan.layout)) 0 apart)
 
 -- with FIG 0/0
-headed_agrees : (period : ℕ) (p : Program) (s : State) (past : List Moment) (frame : List Fib) → Airs p.plan (shown p s) → IsFrameSaid p.plan (shown p s) frame → (shown p s).count % count_step p.plan.mode ≡ 0
+headed_agrees : (period : ℕ) (p : Program) (s : State) (past : List Moment) (frame : List Fib) → Airs p.plan (shown p s) → IsFrameSaid p.plan (shown p s) frame → (shown p s).count % count_step (layout_mode p.plan.layout) ≡ 0
     → (l : Listening) → listening past ≡ Some l → IsHeadOk p.plan (shown p s) l (last_flags past) (began_early past) → InFrame p.plan (shown p s) Nothing Nothing (at_ensemble (ensemble_of p.plan (shown p s)) l)
     → FrameAgrees period p s past frame
 headed_agrees period p s past frame a fs on l is ok f =
     let plan : Plan = p.plan in
     let u : State = shown p s in
-    let step : ℕ = count_step plan.mode in
+    let step : ℕ = count_step (layout_mode plan.layout) in
     let head = subst (λ (o : Option EnsembleInformation). IsHeadOf o fs.heads) (is_sent plan u on) fs.header in
     let items : frame_items frame ≡ head.0 ∷ fs.members = fs.are ∙ ap (λ hs. hs ++ fs.members) head.1 in
     let one = head_step period plan u a past l head.0 is head.2 head.3 ok f in
@@ -187,12 +188,12 @@ headed_agrees period p s past frame a fs on l is ok f =
     }
 
 -- without it
-bare_agrees : (period : ℕ) (p : Program) (s : State) (past : List Moment) (frame : List Fib) → Airs p.plan (shown p s) → IsFrameSaid p.plan (shown p s) frame → (shown p s).count % count_step p.plan.mode ≢ 0
+bare_agrees : (period : ℕ) (p : Program) (s : State) (past : List Moment) (frame : List Fib) → Airs p.plan (shown p s) → IsFrameSaid p.plan (shown p s) frame → (shown p s).count % count_step (layout_mode p.plan.layout) ≢ 0
     → (l : Listening) (f : InFrame p.plan (shown p s) Nothing Nothing l) → IsInside p.plan (shown p s) f.awaited past → FrameAgrees period p s past frame
 bare_agrees period p s past frame a fs off l f h =
     let plan : Plan = p.plan in
     let u : State = shown p s in
-    let step : ℕ = count_step plan.mode in
+    let step : ℕ = count_step (layout_mode plan.layout) in
     let none : fs.heads ≡ [] = subst (λ (o : Option EnsembleInformation). IsHeadOf o fs.heads) (not_sent plan u off) fs.header in
     let items : frame_items frame ≡ fs.members = fs.are ∙ ap (λ hs. hs ++ fs.members) none in
     let rest = members_fine step period plan u f.awaited past fs.members h fs.sent a.current a.next in
@@ -217,23 +218,23 @@ frame_found size step period past frame items =
 
 -- nothing was heard, and the next frame has FIG 0/0; or frames were heard
 abbrev pub IsBefore : Plan → List Moment → State → Type 0
-IsBefore plan past s = ((past ≡ []) × (s.count % count_step plan.mode ≡ 0)) ⊎ IsBetween plan past s
+IsBefore plan past s = ((past ≡ []) × (s.count % count_step (layout_mode plan.layout) ≡ 0)) ⊎ IsBetween plan past s
 
 first_ok : (plan : Plan) (u : State) → IsHeadOk plan u untuned 0 false
 first_ok plan u = record { made = λ made. absurd (false≢true made); again = λ made. refl; flagged = λ early. absurd (false≢true early); units = λ made. absurd (false≢true made) }
 
 pub agrees_by : OneList → Laws → (r : Reading) (period : ℕ) (p : Program) (ts : List Known) → IsCode p ts → (s : State) → Holds p ts s → (past : List Moment) → IsBefore p.plan past s
-    → FrameAgrees period p s past (read_frame r p.plan.mode (frame_bytes p s))
+    → FrameAgrees period p s past (read_frame r p.plan.layout (frame_bytes p s))
 agrees_by one laws r period p ts c s holds past (inl (none, on)) =
     let plan : Plan = p.plan in
     let u : State = shown p s in
     let a = airs p ts c s holds in
     let link = links p ts c s holds in
-    let here : u.count % count_step plan.mode ≡ 0 = ap (λ n. n % count_step plan.mode) link.count ∙ on in
+    let here : u.count % count_step (layout_mode plan.layout) ≡ 0 = ap (λ n. n % count_step (layout_mode plan.layout)) link.count ∙ on in
     let f : InFrame plan u Nothing Nothing (at_ensemble (ensemble_of plan u) untuned) =
     subst (λ (o : Option EnsembleInformation). InFrame plan u Nothing Nothing (headed o untuned)) (is_sent plan u here) (enters_untuned p ts c s holds on) in
-    subst (λ (l : List Moment). FrameAgrees period p s l (read_frame r plan.mode (frame_bytes p s))) (sym none)
-    (headed_agrees period p s [] (read_frame r plan.mode (frame_bytes p s)) a (frame_said one laws r plan u a) here untuned refl (first_ok plan u) f)
+    subst (λ (l : List Moment). FrameAgrees period p s l (read_frame r plan.layout (frame_bytes p s))) (sym none)
+    (headed_agrees period p s [] (read_frame r plan.layout (frame_bytes p s)) a (frame_said one laws r plan u a) here untuned refl (first_ok plan u) f)
 agrees_by one laws r period p ts c s holds past (inr h) =
     let plan : Plan = p.plan in
     let u : State = shown p s in
@@ -241,18 +242,18 @@ agrees_by one laws r period p ts c s holds past (inr h) =
     let link = links p ts c s holds in
     let fs = frame_said one laws r plan u a in
     let known = enters_known p ts c s holds h.heard h.knows in
-    elim (zero_or_not (u.count % count_step plan.mode)) [
-      | inl on ↦ headed_agrees period p s past (read_frame r plan.mode (frame_bytes p s)) a fs on h.heard h.is (head_ok p ts c s holds past h)
+    elim (zero_or_not (u.count % count_step (layout_mode plan.layout))) [
+      | inl on ↦ headed_agrees period p s past (read_frame r plan.layout (frame_bytes p s)) a fs on h.heard h.is (head_ok p ts c s holds past h)
           (subst (λ (o : Option EnsembleInformation). InFrame plan u Nothing Nothing (headed o h.heard)) (is_sent plan u on) known)
       | inr off ↦
           let f : InFrame plan u Nothing Nothing h.heard = subst (λ (o : Option EnsembleInformation). InFrame plan u Nothing Nothing (headed o h.heard)) (not_sent plan u off) known in
-          let before : s.count % count_step plan.mode ≢ 0 = λ e. off (ap (λ n. n % count_step plan.mode) link.count ∙ e) in
-          bare_agrees period p s past (read_frame r plan.mode (frame_bytes p s)) a fs off h.heard f (no_header plan s u past h a link holds.tracked.swaps before f)
+          let before : s.count % count_step (layout_mode plan.layout) ≢ 0 = λ e. off (ap (λ n. n % count_step (layout_mode plan.layout)) link.count ∙ e) in
+          bare_agrees period p s past (read_frame r plan.layout (frame_bytes p s)) a fs off h.heard f (no_header plan s u past h a link holds.tracked.swaps before f)
     ]
 
 record RunFine (r : Reading) (period : ℕ) (p : Program) (s : State) (events : List Event) (past : List Moment) : Type 0 where
-  room : frames_full (count_step p.plan.mode) period past (read_frames r (frames_of p.plan.mode (run_frames p s events))) ≡ false
-  plain : AllByRecursion (λ (found : Finding). KeepsWord found.what) (findings_of (fib_count p.plan.mode) (count_step p.plan.mode) period past (read_frames r (frames_of p.plan.mode (run_frames p s events))))
+  room : frames_full (count_step (layout_mode p.plan.layout)) period past (read_frames r (frames_of p.plan.layout (run_frames p s events))) ≡ false
+  plain : AllByRecursion (λ (found : Finding). KeepsWord found.what) (findings_of (frame_fibs p.plan.layout) (count_step (layout_mode p.plan.layout)) period past (read_frames r (frames_of p.plan.layout (run_frames p s events))))
 
 along : OneList → Laws → (r : Reading) (period : ℕ) (p : Program) (ts : List Known) → IsCode p ts → (s : State) (events : List Event) → Holds p ts s → (past : List Moment) → IsBefore p.plan past s → RunFine r period p s events past
 along one laws r period p ts c s [] holds past h = record { room = refl; plain = tt }
@@ -264,14 +265,14 @@ along one laws r period p ts c s (Contact d closed ∷ es) holds past h =
     moved (inl first) = inl first
     moved (inr b) = inr (record { heard = b.heard; is = b.is; knows = b.knows; fresh = b.fresh; pending = b.pending; early = b.early; flags = b.flags })
 along one laws r period p ts c s (Frame ∷ es) holds past h =
-    let step : ℕ = count_step p.plan.mode in
-    let frame : List Fib = read_frame r p.plan.mode (frame_bytes p s) in
+    let step : ℕ = count_step (layout_mode p.plan.layout) in
+    let frame : List Fib = read_frame r p.plan.layout (frame_bytes p s) in
     let now = agrees_by one laws r period p ts c s holds past h in
     let rest = along one laws r period p ts c (after_frame p s) es (frame_holds p ts c s holds) (after_read step past frame) (inr now.after) in
     record {
-      room = ap (λ b. cond b true (frames_full step period (after_read step past frame) (read_frames r (frames_of p.plan.mode (run_frames p (after_frame p s) es))))) now.room ∙ rest.room;
-      plain = all_append (λ (found : Finding). KeepsWord found.what) (findings_in (fib_count p.plan.mode) step period past frame) _ (frame_found (fib_count p.plan.mode) step period past frame now.found)
-          (subst (λ (b : Bool). AllByRecursion (λ (found : Finding). KeepsWord found.what) (cond b [] (findings_of (fib_count p.plan.mode) step period (after_read step past frame) (read_frames r (frames_of p.plan.mode (run_frames p (after_frame p s) es)))))) (sym now.room) rest.plain);
+      room = ap (λ b. cond b true (frames_full step period (after_read step past frame) (read_frames r (frames_of p.plan.layout (run_frames p (after_frame p s) es))))) now.room ∙ rest.room;
+      plain = all_append (λ (found : Finding). KeepsWord found.what) (findings_in (frame_fibs p.plan.layout) step period past frame) _ (frame_found (frame_fibs p.plan.layout) step period past frame now.found)
+          (subst (λ (b : Bool). AllByRecursion (λ (found : Finding). KeepsWord found.what) (cond b [] (findings_of (frame_fibs p.plan.layout) step period (after_read step past frame) (read_frames r (frames_of p.plan.layout (run_frames p (after_frame p s) es)))))) (sym now.room) rest.plain);
     }
 
 pub runs_agree : OneList → Laws → RunsAgree

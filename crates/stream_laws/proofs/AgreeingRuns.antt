@@ -2,6 +2,7 @@
 use Rattle.std.proofs.Common.{◌≡◌, ℕ, zero, suc, ◌+◌, ◌-◌, ◌<◌, ◌≤◌, ◌%◌, ◌==◌, ◌&&◌, ◌||◌, Bool, true, false, not, List, Option, Some, None, is_some, refl, sym, ap, ◌∙◌, subst, arith, inl, inr, ◌⊎◌, lt-ltb}
 use Rattle.std.specs.Prelude.{unwrap_or}
 use Rattle.std.proofs.lemmas.Bool.{false≢true, eq-eqb, ne_eqb}
+use Rattle.fib_codec.specs.Layouts.{layout_mode}
 use Rattle.mux_config.specs.Configuration.{Configuration}
 use Rattle.mux_config.specs.Change.{change_of, bits_of}
 use Rattle.mux_config.specs.Sound.{IsSound}
@@ -77,7 +78,7 @@ due_awaits plan (Some k) c n count l long is h none =
     let at = h.inside (omega (arith, zero_left, long)) in
     let same : at.awaited ≡ None = sym at.knows.awaits ∙ none in
     let waits : Waits plan 0 count None = subst (λ (o : Option ℕ). Waits plan 0 count o) same (subst (λ (j : ℕ). Waits plan j count at.awaited) zero_left at.waits) in
-    long_notice plan.mode plan.notice count long waits
+    long_notice (layout_mode plan.layout) plan.notice count long waits
 
 -- ---- the state of the frame
 
@@ -142,16 +143,16 @@ pub left_of : (plan : Plan) (left : Option ℕ) → is_noticed plan.notice left 
 left_of plan None e = absurd (false≢true e)
 left_of plan (Some k) e = (let both = noticed_from plan.notice k e in (k, refl, both.0, both.1))
 
-pub head_falls : (plan : Plan) (u : State) → Airs plan u → has_flags (ensemble_of plan u) ≡ true → can_fall_at (count_step plan.mode) (occurrence_of (ensemble_of plan u)) ≡ true
+pub head_falls : (plan : Plan) (u : State) → Airs plan u → has_flags (ensemble_of plan u) ≡ true → can_fall_at (count_step (layout_mode plan.layout)) (occurrence_of (ensemble_of plan u)) ≡ true
 head_falls plan u a flags = by (on_air plan u) refl
   where
-    by : (b : Bool) → on_air plan u ≡ b → can_fall_at (count_step plan.mode) (occurrence_of (ensemble_of plan u)) ≡ true
+    by : (b : Bool) → on_air plan u ≡ b → can_fall_at (count_step (layout_mode plan.layout)) (occurrence_of (ensemble_of plan u)) ≡ true
     by true on =
         let info = noticed_information plan u on in
         let there = left_of plan u.left on in
-        let swaps : (u.count + there.0) % count_step plan.mode ≡ 0 = subst (λ (o : Option ℕ). SwapsOn plan u.count o) there.1 a.swaps in
+        let swaps : (u.count + there.0) % count_step (layout_mode plan.layout) ≡ 0 = subst (λ (o : Option ℕ). SwapsOn plan u.count o) there.1 a.swaps in
         let low : occurrence_of (ensemble_of plan u) ≡ (u.count + there.0) % 5000 % 250 = ap (λ o. unwrap_or o 0) info.occurrence ∙ ap (low_of_swap u.count) there.1 in
-        ap (can_fall_at (count_step plan.mode)) low ∙ falls_by plan.mode (u.count + there.0) swaps
+        ap (can_fall_at (count_step (layout_mode plan.layout))) low ∙ falls_by (layout_mode plan.layout) (u.count + there.0) swaps
     by false off =
         let none : (ensemble_of plan u).change ≡ 0 = ((ensemble_right plan u).unflagged off).0 in
         absurd (false≢true (sym (ap not (eq-eqb (ensemble_of plan u).change 0 none)) ∙ flags))

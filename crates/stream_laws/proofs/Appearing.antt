@@ -1,6 +1,7 @@
 -- In the frames of a run no entry of the current configuration appears once it is settled.
 use Rattle.std.proofs.Common.{◌≡◌, ℕ, ◌+◌, ◌-◌, ◌*◌, ◌<◌, ◌≤◌, ◌%◌, ◌||◌, Bool, true, false, cond, nat_le, List, [], Contains, Option, Some, refl, sym, ap, ◌∙◌, subst, arith, inl, inr, ◌⊎◌}
 use Rattle.std.proofs.lemmas.Bool.{leb-true}
+use Rattle.fib_codec.specs.Layouts.{layout_mode}
 use Rattle.mux_config.specs.Configuration.{Configuration}
 use Rattle.mux_entries.specs.declared.entry.Entry.{Entry}
 use Rattle.mux_entries.specs.Facts.{Marked, marked, facts_of}
@@ -52,10 +53,10 @@ pub record Due (plan : Plan) (period : ℕ) (past : List Moment) (s : State) (ms
   pub is : raw_entry m.entry ≡ x
   pub fact : Contains (facts_of s.current false) m
   pub page : ℕ
-  pub below : page < rounds plan.mode ms
-  pub inside : Contains (page_entries plan.mode page ms) m
+  pub below : page < rounds plan.layout ms
+  pub inside : Contains (page_entries plan.layout page ms) m
   pub d : ℕ
-  pub comes : ComesIn (rounds plan.mode ms) page_index page d
+  pub comes : ComesIn (rounds plan.layout ms) page_index page d
   pub late : settles_at period past + bound < frames_ended past + d + period
 
 pub record Settles (plan : Plan) (period : ℕ) (past : List Moment) (s : State) : Type 0 where
@@ -63,7 +64,7 @@ pub record Settles (plan : Plan) (period : ℕ) (past : List Moment) (s : State)
   pub page_index : ℕ
   pub bound : ℕ
   pub goes : Goes plan s ms page_index
-  pub below : page_index < rounds plan.mode ms
+  pub below : page_index < rounds plan.layout ms
   pub has : (m : Marked) → Contains (facts_of s.current false) m → Contains ms m
   pub to : bound + 2 ≤ 2 * plan.period
   pub outside : ((k : ℕ) → s.left ≡ Some k → k < plan.notice → ⊥) → bound + 1 ≤ plan.period
@@ -81,17 +82,17 @@ at_most a b e = leb-true a b e
 settles_after : FrameLaws → (r : Reading) (period : ℕ) (p : Program) (ts : List Known) → IsCode p ts → (s : State) → Holds p ts s → (past : List Moment) (C N : Raw → Type 0) → Enters period r p s past C N
     → (bound : ℕ) → bound + 2 ≤ 2 * p.plan.period
     → (((k : ℕ) → left_after_frame (shown p s).left ≡ Some k → k < p.plan.notice → ⊥) → bound + 1 ≤ p.plan.period)
-    → ((m : Marked) → Contains (facts_of (shown p s).current false) m → (page : ℕ) → page < sent_rounds p.plan (shown p s) → Contains (page_entries p.plan.mode page (sent_entries p.plan (shown p s))) m → (d : ℕ)
+    → ((m : Marked) → Contains (facts_of (shown p s).current false) m → (page : ℕ) → page < sent_rounds p.plan (shown p s) → Contains (page_entries p.plan.layout page (sent_entries p.plan (shown p s))) m → (d : ℕ)
     → ComesIn (sent_rounds p.plan (shown p s)) (shown p s).page_index page d
-    → settles_at period (said (frame_items (read_frame r p.plan.mode (frame_bytes p s))) past) + bound < frames_ended past + d + period → C (raw_entry m.entry))
-    → Settles p.plan period (after_read (count_step p.plan.mode) past (read_frame r p.plan.mode (frame_bytes p s))) (after_frame p s)
+    → settles_at period (said (frame_items (read_frame r p.plan.layout (frame_bytes p s))) past) + bound < frames_ended past + d + period → C (raw_entry m.entry))
+    → Settles p.plan period (after_read (count_step (layout_mode p.plan.layout)) past (read_frame r p.plan.layout (frame_bytes p s))) (after_frame p s)
 settles_after laws r period p ts c s holds past C N en bound to outside old =
     let plan : Plan = p.plan in
     let u : State = shown p s in
     let t : State = after_frame p s in
     let a = airs p ts c s holds in
-    let items : List Item = frame_items (read_frame r plan.mode (frame_bytes p s)) in
-    let later : List Moment = after_read (count_step plan.mode) past (read_frame r plan.mode (frame_bytes p s)) in
+    let items : List Item = frame_items (read_frame r plan.layout (frame_bytes p s)) in
+    let later : List Moment = after_read (count_step (layout_mode plan.layout)) past (read_frame r plan.layout (frame_bytes p s)) in
     let ms : List Marked = sent_entries plan u in
     let pages : ℕ = sent_rounds plan u in
     let within : u.page_index < pages = turn_is_page plan u a in
@@ -102,8 +103,8 @@ settles_after laws r period p ts c s holds past C N en bound to outside old =
     let had : (x : Raw) → Due plan period later t ms (page_after pages u.page_index) bound x → D x = λ x due.
     elim (comes_before pages u.page_index due.page due.d within due.below due.comes) [
       | inl same ↦ (
-          let now : Contains (page_entries plan.mode u.page_index ms) due.m = subst (λ (k : ℕ). Contains (page_entries plan.mode k ms) due.m) same due.inside in
-          let row : IsHeardInRow (shown_bytes plan u) due.m = (laws.heard.pages.heard plan.mode (ensemble_sent plan u) u.page_index ms (pageable laws.heard.pages plan u a) due.m).1 now in
+          let now : Contains (page_entries plan.layout u.page_index ms) due.m = subst (λ (k : ℕ). Contains (page_entries plan.layout k ms) due.m) same due.inside in
+          let row : IsHeardInRow (shown_bytes plan u) due.m = (laws.heard.pages.heard plan.layout (ensemble_sent plan u) u.page_index ms (pageable laws.heard.pages plan u a) due.m).1 now in
           let flag : due.m.next ≡ false = sym (fact_in false (entries_of u.current) due.m (contains_in (facts_of u.current false) due.m due.fact)).0 in
           inr (due.m.entry, due.is, subst (λ (b : Bool). IsHeardInRow (shown_bytes plan u) (record { next = b; entry = due.m.entry })) flag row)
           )
@@ -119,7 +120,7 @@ settles_after laws r period p ts c s holds past C N en bound to outside old =
       page_index = page_after pages u.page_index;
       bound = bound;
       goes = after_goes plan u a ms refl;
-      below = page_after_below pages u.page_index (some_rounds plan.mode ms);
+      below = page_after_below pages u.page_index (some_rounds plan.layout ms);
       has = λ m inside. current_inside u.current u.next (is_noticed plan.notice u.left) m inside;
       to = to;
       outside = outside;
@@ -130,21 +131,21 @@ settles_after laws r period p ts c s holds past C N en bound to outside old =
 
 -- the findings in a frame, and what is known after it
 record Step (r : Reading) (period : ℕ) (p : Program) (s : State) (past : List Moment) : Type 0 where
-  found : AreFreeOf is_of_appearance (findings_at_items (count_step p.plan.mode) period past (frame_items (read_frame r p.plan.mode (frame_bytes p s))))
-  after : Settles p.plan period (after_read (count_step p.plan.mode) past (read_frame r p.plan.mode (frame_bytes p s))) (after_frame p s)
+  found : AreFreeOf is_of_appearance (findings_at_items (count_step (layout_mode p.plan.layout)) period past (frame_items (read_frame r p.plan.layout (frame_bytes p s))))
+  after : Settles p.plan period (after_read (count_step (layout_mode p.plan.layout)) past (read_frame r p.plan.layout (frame_bytes p s))) (after_frame p s)
 
 some_period : (p : Program) (ts : List Known) → IsCode p ts → 1 ≤ p.plan.period
 some_period p ts c = omega (arith, c.program.planned.period_from)
 
 -- the first frame of the stream
-first_step : FrameLaws → (r : Reading) (period : ℕ) (p : Program) (ts : List Known) → IsCode p ts → (s : State) → Holds p ts s → s.count % count_step p.plan.mode ≡ 0 → 2 * p.plan.period ≤ period + 1 → Step r period p s []
+first_step : FrameLaws → (r : Reading) (period : ℕ) (p : Program) (ts : List Known) → IsCode p ts → (s : State) → Holds p ts s → s.count % count_step (layout_mode p.plan.layout) ≡ 0 → 2 * p.plan.period ≤ period + 1 → Step r period p s []
 first_step laws r period p ts c s holds on long =
     let plan : Plan = p.plan in
     let u : State = shown p s in
-    let items : List Item = frame_items (read_frame r plan.mode (frame_bytes p s)) in
+    let items : List Item = frame_items (read_frame r plan.layout (frame_bytes p s)) in
     let some = some_period p ts c in
     let few : sent_rounds plan u ≤ plan.period = sent_period plan u (airs p ts c s holds) in
-    let here : u.count % count_step plan.mode ≡ 0 = ap (λ n. n % count_step plan.mode) (links p ts c s holds).count ∙ on in
+    let here : u.count % count_step (layout_mode plan.layout) ≡ 0 = ap (λ n. n % count_step (layout_mode plan.layout)) (links p ts c s holds).count ∙ on in
     let settles : settles_at period (said items []) ≡ period = headed_settles laws r period p ts c s holds [] here false (λ h ens says. ensemble_made [] h ens) in
     let ended = said_ended items [] in
     let en : Enters period r p s [] Nothing Nothing = record {
@@ -165,12 +166,12 @@ swap_step : FrameLaws → (r : Reading) (period : ℕ) (p : Program) (ts : List 
 swap_step laws r period p ts c s holds past between g due long b cut =
     let plan : Plan = p.plan in
     let u : State = shown p s in
-    let items : List Item = frame_items (read_frame r plan.mode (frame_bytes p s)) in
+    let items : List Item = frame_items (read_frame r plan.layout (frame_bytes p s)) in
     let some = some_period p ts c in
     let few : sent_rounds plan u ≤ plan.period = sent_period plan u (airs p ts c s holds) in
-    let step : (s.count + 0) % count_step plan.mode ≡ 0 = subst (λ (o : Option ℕ). SwapsOn plan s.count o) (due_left s.left due) holds.tracked.swaps in
+    let step : (s.count + 0) % count_step (layout_mode plan.layout) ≡ 0 = subst (λ (o : Option ℕ). SwapsOn plan s.count o) (due_left s.left due) holds.tracked.swaps in
     let none : u.count ≡ s.count + 0 = (links p ts c s holds).count ∙ (let same : s.count ≡ s.count + 0 = omega arith in same) in
-    let on : u.count % count_step plan.mode ≡ 0 = ap (λ n. n % count_step plan.mode) none ∙ step in
+    let on : u.count % count_step (layout_mode plan.layout) ≡ 0 = ap (λ n. n % count_step (layout_mode plan.layout)) none ∙ step in
     let settles : settles_at period (said items past) ≡ cond b (frames_ended past + period) 0 =
     headed_settles laws r period p ts c s holds past on true (swap_where_due p ts c s holds past between true due) ∙ ap (λ t. cond t (frames_ended past + period) 0) cut in
     let ended = said_ended items past in
@@ -190,15 +191,15 @@ swap_step laws r period p ts c s holds past between g due long b cut =
           (λ m fact page below inside d comes late. known_by b cut settles d late known few comes.0 m.entry (fact_in false (entries_of u.current) m (contains_in (facts_of u.current false) m fact)).1);
     }
   where
-    by : (b : Bool) → is_cut_off past ≡ b → settles_at period (said (frame_items (read_frame r p.plan.mode (frame_bytes p s))) past) ≤ frames_ended (said (frame_items (read_frame r p.plan.mode (frame_bytes p s))) past)
-        → settles_at period (said (frame_items (read_frame r p.plan.mode (frame_bytes p s))) past) ≡ cond b (frames_ended past + period) 0
-        → frames_ended (said (frame_items (read_frame r p.plan.mode (frame_bytes p s))) past) ≡ frames_ended past
+    by : (b : Bool) → is_cut_off past ≡ b → settles_at period (said (frame_items (read_frame r p.plan.layout (frame_bytes p s))) past) ≤ frames_ended (said (frame_items (read_frame r p.plan.layout (frame_bytes p s))) past)
+        → settles_at period (said (frame_items (read_frame r p.plan.layout (frame_bytes p s))) past) ≡ cond b (frames_ended past + period) 0
+        → frames_ended (said (frame_items (read_frame r p.plan.layout (frame_bytes p s))) past) ≡ frames_ended past
         → (is_cut_off past ≡ false → HasAll (shown p s).current (Had p.plan past s true)) → 1 ≤ p.plan.period → 2 * p.plan.period ≤ period + 1 → HasAll (shown p s).current (Had p.plan past s true)
     by true cut le settles ended known some long = absurd (omega (arith, le, settles, ended, some, long))
     by false cut le settles ended known some long = known cut
 
-    known_by : (b : Bool) → is_cut_off past ≡ b → settles_at period (said (frame_items (read_frame r p.plan.mode (frame_bytes p s))) past) ≡ cond b (frames_ended past + period) 0
-        → (d : ℕ) → settles_at period (said (frame_items (read_frame r p.plan.mode (frame_bytes p s))) past) + (p.plan.period - 1) < frames_ended past + d + period
+    known_by : (b : Bool) → is_cut_off past ≡ b → settles_at period (said (frame_items (read_frame r p.plan.layout (frame_bytes p s))) past) ≡ cond b (frames_ended past + period) 0
+        → (d : ℕ) → settles_at period (said (frame_items (read_frame r p.plan.layout (frame_bytes p s))) past) + (p.plan.period - 1) < frames_ended past + d + period
         → (is_cut_off past ≡ false → HasAll (shown p s).current (Had p.plan past s true)) → sent_rounds p.plan (shown p s) ≤ p.plan.period → d < sent_rounds p.plan (shown p s)
         → (e : Entry) → In e (entries_of (shown p s).current) → Had p.plan past s true (raw_entry e)
     known_by true cut settles d late known few short e inside = absurd (omega (arith, settles, late, few, short))
@@ -207,7 +208,7 @@ swap_step laws r period p ts c s holds past between g due long b cut =
 -- what is known after a frame without a swap
 plain_after : FrameLaws → (r : Reading) (period : ℕ) (p : Program) (ts : List Known) → IsCode p ts → (s : State) → Holds p ts s → (past : List Moment) → IsBetween p.plan past s → (g : Settles p.plan period past s) → is_due s.left ≡ false
     → Enters period r p s past (Due p.plan period past s g.ms g.page_index g.bound) (Still p.plan (shown p s).left Nothing) → (b : Bool) → is_first_noticed p.plan.notice (shown p s).left ≡ b
-    → Settles p.plan period (after_read (count_step p.plan.mode) past (read_frame r p.plan.mode (frame_bytes p s))) (after_frame p s)
+    → Settles p.plan period (after_read (count_step (layout_mode p.plan.layout)) past (read_frame r p.plan.layout (frame_bytes p s))) (after_frame p s)
 plain_after laws r period p ts c s holds past between g due en true first =
     let plan : Plan = p.plan in
     let u : State = shown p s in
@@ -221,8 +222,8 @@ plain_after laws r period p ts c s holds past between g due en true first =
     (λ none. absurd (none (plan.notice - 1) (ap left_after_frame begun) (omega (arith, c.program.planned.notice_from))))
     (λ m fact page below inside d comes late.
     let mine : Contains (facts_of s.current false) m = subst (λ (x : Configuration). Contains (facts_of x false) m) (link.current due) fact in
-    let there = laws.heard.pages.each plan.mode g.ms m (g.has m mine) in
-    let way = comes_in (rounds plan.mode g.ms) g.page_index there.0 g.below there.1 in
+    let there = laws.heard.pages.each plan.layout g.ms m (g.has m mine) in
+    let way = comes_in (rounds plan.layout g.ms) g.page_index there.0 g.below there.1 in
     let short = comes.0 in
     record {
       m = m;
@@ -249,9 +250,9 @@ plain_after laws r period p ts c s holds past between g due en false first =
     none (k - 1) (ap left_after_frame left) (omega (arith, below))))
     (λ m fact page below inside d comes late.
     let mine : Contains (facts_of s.current false) m = subst (λ (x : Configuration). Contains (facts_of x false) m) (link.current due) fact in
-    let page_below : page < rounds plan.mode g.ms = subst (λ (ms : List Marked). page < rounds plan.mode ms) sent.entries below in
-    let page_in : Contains (page_entries plan.mode page g.ms) m = subst (λ (ms : List Marked). Contains (page_entries plan.mode page ms) m) sent.entries inside in
-    let to : ComesIn (rounds plan.mode g.ms) u.page_index page d = subst (λ (ms : List Marked). ComesIn (rounds plan.mode ms) u.page_index page d) sent.entries comes in
+    let page_below : page < rounds plan.layout g.ms = subst (λ (ms : List Marked). page < rounds plan.layout ms) sent.entries below in
+    let page_in : Contains (page_entries plan.layout page g.ms) m = subst (λ (ms : List Marked). Contains (page_entries plan.layout page ms) m) sent.entries inside in
+    let to : ComesIn (rounds plan.layout g.ms) u.page_index page d = subst (λ (ms : List Marked). ComesIn (rounds plan.layout ms) u.page_index page d) sent.entries comes in
     record {
       m = m;
       is = refl;
@@ -260,7 +261,7 @@ plain_after laws r period p ts c s holds past between g due en false first =
       below = page_below;
       inside = page_in;
       d = d;
-      comes = subst (λ (t : ℕ). ComesIn (rounds plan.mode g.ms) t page d) sent.turn_is to;
+      comes = subst (λ (t : ℕ). ComesIn (rounds plan.layout g.ms) t page d) sent.turn_is to;
       late = omega (arith, late, settles);
     })
 
@@ -270,7 +271,7 @@ plain_step : FrameLaws → (r : Reading) (period : ℕ) (p : Program) (ts : List
 plain_step laws r period p ts c s holds past between g due long b first =
     let plan : Plan = p.plan in
     let u : State = shown p s in
-    let items : List Item = frame_items (read_frame r plan.mode (frame_bytes p s)) in
+    let items : List Item = frame_items (read_frame r plan.layout (frame_bytes p s)) in
     let link = links p ts c s holds in
     let settles = still_settles laws r period p ts c s holds past between due in
     let ended = said_ended items past in
@@ -285,8 +286,8 @@ plain_step laws r period p ts c s holds past between g due long b first =
           let le = at_most _ _ settled in
           let there : In e (entries_of s.current) = subst (λ (x : Configuration). In e (entries_of x)) (link.current due) inside in
           let fact : Contains (facts_of s.current false) (marked false e) = in_contains (facts_of s.current false) (marked false e) (in_fact false (entries_of s.current) e there) in
-          let page = laws.heard.pages.each plan.mode g.ms (marked false e) (g.has (marked false e) fact) in
-          let way = comes_in (rounds plan.mode g.ms) g.page_index page.0 g.below page.1 in
+          let page = laws.heard.pages.each plan.layout g.ms (marked false e) (g.has (marked false e) fact) in
+          let way = comes_in (rounds plan.layout g.ms) g.page_index page.0 g.below page.1 in
           record {
             m = marked false e;
             is = refl;
@@ -307,7 +308,7 @@ plain_step laws r period p ts c s holds past between g due long b first =
 -- ---- along a run
 
 abbrev IsSettling : ℕ → Plan → List Moment → State → Type 0
-IsSettling period plan past s = ((past ≡ []) × (s.count % count_step plan.mode ≡ 0)) ⊎ (IsBetween plan past s × Follows plan past s × Settles plan period past s)
+IsSettling period plan past s = ((past ≡ []) × (s.count % count_step (layout_mode plan.layout) ≡ 0)) ⊎ (IsBetween plan past s × Follows plan past s × Settles plan period past s)
 
 following : (period : ℕ) (plan : Plan) (past : List Moment) (s : State) → IsSettling period plan past s → IsFollowing plan past s
 following period plan past s (inl first) = inl first

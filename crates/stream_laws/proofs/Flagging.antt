@@ -2,6 +2,7 @@
 use Rattle.std.proofs.Common.{◌≡◌, ℕ, ◌%◌, ◌==◌, ◌&&◌, Bool, true, false, cond, not, List, [], ◌∷◌, ◌++◌, Option, None, refl, sym, ap, ◌∙◌, subst, arith, inl, inr}
 use Rattle.std.specs.Prelude.{map}
 use Rattle.std.proofs.lemmas.Bool.{false≢true, eq-eqb}
+use Rattle.fib_codec.specs.Layouts.{layout_mode}
 use Rattle.mux_config.specs.Configuration.{Configuration}
 use Rattle.mux_config.specs.Change.{ChangeIsUnique, change_of, bits_of}
 use Rattle.mux_entries.specs.Entries.{EnsembleInformation}
@@ -122,24 +123,24 @@ with_head sort n appeared step period past i items ens none h =
 -- the entries of a frame, given that none of these faults is found at a swap
 pub items_free : (sort : Fault → Bool) → IsNarrow sort → ((name : EntryName) → sort (faults.Appeared name) ≡ false) → OneList → Laws → (r : Reading) (period : ℕ) (p : Program) (ts : List Known) → IsCode p ts → (s : State) → Holds p ts s
     → (past : List Moment)
-    → ((e : EnsembleInformation) → e ≡ ensemble_of p.plan (shown p s) → makes_swap (known_of (count_step p.plan.mode) period past) e ≡ true → IsSwapSpared sort (known_of (count_step p.plan.mode) period past))
-    → AreFreeOf sort (findings_at_items (count_step p.plan.mode) period past (frame_items (read_frame r p.plan.mode (frame_bytes p s))))
+    → ((e : EnsembleInformation) → e ≡ ensemble_of p.plan (shown p s) → makes_swap (known_of (count_step (layout_mode p.plan.layout)) period past) e ≡ true → IsSwapSpared sort (known_of (count_step (layout_mode p.plan.layout)) period past))
+    → AreFreeOf sort (findings_at_items (count_step (layout_mode p.plan.layout)) period past (frame_items (read_frame r p.plan.layout (frame_bytes p s))))
 items_free sort n appeared one laws r period p ts c s holds past h =
     let plan : Plan = p.plan in
     let u : State = shown p s in
-    let step : ℕ = count_step plan.mode in
+    let step : ℕ = count_step (layout_mode plan.layout) in
     let a = airs p ts c s holds in
     let fs = frame_said one laws r plan u a in
     let none = none_of (on_air plan u) u fs.members fs.sent in
     elim (zero_or_not (u.count % step)) [
       | inl on ↦
           let head = subst (λ (o : Option EnsembleInformation). IsHeadOf o fs.heads) (is_sent plan u on) fs.header in
-          let items : frame_items (read_frame r plan.mode (frame_bytes p s)) ≡ head.0 ∷ fs.members = fs.are ∙ ap (λ hs. hs ++ fs.members) head.1 in
+          let items : frame_items (read_frame r plan.layout (frame_bytes p s)) ≡ head.0 ∷ fs.members = fs.are ∙ ap (λ hs. hs ++ fs.members) head.1 in
           subst (λ (is : List Item). AreFreeOf sort (findings_at_items step period past is)) (sym items)
           (with_head sort n appeared step period past head.0 fs.members head.2 none (h (said_ensemble head.0) head.3))
       | inr off ↦
           let bare : fs.heads ≡ [] = subst (λ (o : Option EnsembleInformation). IsHeadOf o fs.heads) (not_sent plan u off) fs.header in
-          let items : frame_items (read_frame r plan.mode (frame_bytes p s)) ≡ fs.members = fs.are ∙ ap (λ hs. hs ++ fs.members) bare in
+          let items : frame_items (read_frame r plan.layout (frame_bytes p s)) ≡ fs.members = fs.are ∙ ap (λ hs. hs ++ fs.members) bare in
           subst (λ (is : List Item). AreFreeOf sort (findings_at_items step period past is)) (sym items) (members_free sort n appeared step period fs.members past none)
     ]
 
@@ -165,7 +166,7 @@ follows_contact p past s d closed (inr (b, g)) =
     )
 
 pub follows_frame : OneList → Laws → (r : Reading) (period : ℕ) (p : Program) (ts : List Known) → IsCode p ts → (s : State) → Holds p ts s → (past : List Moment) → IsFollowing p.plan past s
-    → IsFollowing p.plan (after_read (count_step p.plan.mode) past (read_frame r p.plan.mode (frame_bytes p s))) (after_frame p s)
+    → IsFollowing p.plan (after_read (count_step (layout_mode p.plan.layout)) past (read_frame r p.plan.layout (frame_bytes p s))) (after_frame p s)
 follows_frame one laws r period p ts c s holds past f =
     inr ((agrees_by one laws r period p ts c s holds past (before f)).after, follows one laws r p ts c s holds past f)
   where
@@ -203,7 +204,7 @@ none_made : {X : Type 0} (e : EnsembleInformation) (o : Option ℕ) → o ≡ No
 none_made e o none made = absurd (false≢true (sym (ap (λ x. is_made x e) none) ∙ made))
 
 flags_spared : SwapLaws → (period : ℕ) (p : Program) (ts : List Known) → IsCode p ts → (s : State) → Holds p ts s → (past : List Moment) → IsFollowing p.plan past s → (e : EnsembleInformation) → e ≡ ensemble_of p.plan (shown p s)
-    → makes_swap (known_of (count_step p.plan.mode) period past) e ≡ true → IsSwapSpared is_of_flags (known_of (count_step p.plan.mode) period past)
+    → makes_swap (known_of (count_step (layout_mode p.plan.layout)) period past) e ≡ true → IsSwapSpared is_of_flags (known_of (count_step (layout_mode p.plan.layout)) period past)
 flags_spared laws period p ts c s holds past (inl (none, on)) e says made =
     none_made e (listener_after past).awaited (ap (λ (l : List Moment). (listener_after l).awaited) none) made
 flags_spared laws period p ts c s holds past (inr (b, g)) e says made =

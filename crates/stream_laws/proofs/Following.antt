@@ -3,6 +3,7 @@ use Rattle.std.proofs.Common.{◌≡◌, ℕ, zero, suc, ◌-◌, ◌%◌, Bool,
 use Rattle.std.specs.Prelude.{map}
 use Rattle.std.proofs.lemmas.Bool.{false≢true, eqb-true}
 use Rattle.std.proofs.lemmas.List.Elements.{Contains-append_cases}
+use Rattle.fib_codec.specs.Layouts.{layout_mode}
 use Rattle.mux_config.specs.Configuration.{Configuration}
 use Rattle.mux_entries.specs.Entries.{EnsembleInformation}
 use Rattle.mux_entries.specs.Facts.{marked}
@@ -158,24 +159,24 @@ pub record Follows (plan : Plan) (past : List Moment) (s : State) : Type 0 where
 
 -- nothing was heard, and the next frame has FIG 0/0; or frames were heard
 abbrev pub IsFollowing : Plan → List Moment → State → Type 0
-IsFollowing plan past s = ((past ≡ []) × (s.count % count_step plan.mode ≡ 0)) ⊎ (IsBetween plan past s × Follows plan past s)
+IsFollowing plan past s = ((past ≡ []) × (s.count % count_step (layout_mode plan.layout) ≡ 0)) ⊎ (IsBetween plan past s × Follows plan past s)
 
 -- ---- whether the beginning of the notice was not heard
 
 -- a frame without a swap does not change this
 pub cut_still : OneList → Laws → (r : Reading) (p : Program) (ts : List Known) → IsCode p ts → (s : State) → Holds p ts s → (past : List Moment) → IsBetween p.plan past s → is_due s.left ≡ false
-    → is_cut_off (said (frame_items (read_frame r p.plan.mode (frame_bytes p s))) past) ≡ is_cut_off past
+    → is_cut_off (said (frame_items (read_frame r p.plan.layout (frame_bytes p s))) past) ≡ is_cut_off past
 cut_still one laws r p ts c s holds past h due =
     let plan : Plan = p.plan in
     let u : State = shown p s in
     let a = airs p ts c s holds in
     let fs = frame_said one laws r plan u a in
     let none = none_of (on_air plan u) u fs.members fs.sent in
-    elim (zero_or_not (u.count % count_step plan.mode)) [
+    elim (zero_or_not (u.count % count_step (layout_mode plan.layout))) [
       | inl on ↦
           let head = subst (λ (o : Option EnsembleInformation). IsHeadOf o fs.heads) (is_sent plan u on) fs.header in
           let i : Item = head.0 in
-          let items : frame_items (read_frame r plan.mode (frame_bytes p s)) ≡ i ∷ fs.members = fs.are ∙ ap (λ hs. hs ++ fs.members) head.1 in
+          let items : frame_items (read_frame r plan.layout (frame_bytes p s)) ≡ i ∷ fs.members = fs.are ∙ ap (λ hs. hs ++ fs.members) head.1 in
           let same : listener_after past ≡ h.heard = after_is past h.heard h.is in
           let made : is_made (listener_after past).awaited (said_ensemble i) ≡ is_due s.left =
           ap (λ (x : Listening). is_made x.awaited (said_ensemble i)) same ∙ ap (is_made h.heard.awaited) head.3 ∙ made_where_due p ts c s holds past h in
@@ -188,8 +189,8 @@ cut_still one laws r p ts c s holds past h due =
     ]
 
 -- where the first FIG 0/0 of the stream is flagged, the beginning was not heard
-pub cut_first : OneList → Laws → (r : Reading) (p : Program) (ts : List Known) → IsCode p ts → (s : State) → Holds p ts s → (shown p s).count % count_step p.plan.mode ≡ 0 → on_air p.plan (shown p s) ≡ true
-    → is_cut_off (said (frame_items (read_frame r p.plan.mode (frame_bytes p s))) []) ≡ true
+pub cut_first : OneList → Laws → (r : Reading) (p : Program) (ts : List Known) → IsCode p ts → (s : State) → Holds p ts s → (shown p s).count % count_step (layout_mode p.plan.layout) ≡ 0 → on_air p.plan (shown p s) ≡ true
+    → is_cut_off (said (frame_items (read_frame r p.plan.layout (frame_bytes p s))) []) ≡ true
 cut_first one laws r p ts c s holds on air =
     let plan : Plan = p.plan in
     let u : State = shown p s in
@@ -198,21 +199,21 @@ cut_first one laws r p ts c s holds on air =
     let none = none_of (on_air plan u) u fs.members fs.sent in
     let head = subst (λ (o : Option EnsembleInformation). IsHeadOf o fs.heads) (is_sent plan u on) fs.header in
     let i : Item = head.0 in
-    let items : frame_items (read_frame r plan.mode (frame_bytes p s)) ≡ i ∷ fs.members = fs.are ∙ ap (λ hs. hs ++ fs.members) head.1 in
+    let items : frame_items (read_frame r plan.layout (frame_bytes p s)) ≡ i ∷ fs.members = fs.are ∙ ap (λ hs. hs ++ fs.members) head.1 in
     ap (λ is. is_cut_off (said is [])) items ∙ said_cut fs.members (Said i ∷ []) none ∙ cut_is [] i false head.2 (ensemble_made [] i head.2) ∙ flagged_where plan u a i head.2 head.3 air
 
 -- ---- one more frame
 
-first_follows : OneList → Laws → (r : Reading) (p : Program) (ts : List Known) → IsCode p ts → (s : State) → Holds p ts s → s.count % count_step p.plan.mode ≡ 0
-    → Follows p.plan (after_read (count_step p.plan.mode) [] (read_frame r p.plan.mode (frame_bytes p s))) (after_frame p s)
+first_follows : OneList → Laws → (r : Reading) (p : Program) (ts : List Known) → IsCode p ts → (s : State) → Holds p ts s → s.count % count_step (layout_mode p.plan.layout) ≡ 0
+    → Follows p.plan (after_read (count_step (layout_mode p.plan.layout)) [] (read_frame r p.plan.layout (frame_bytes p s))) (after_frame p s)
 first_follows one laws r p ts c s holds whole =
     let plan : Plan = p.plan in
     let u : State = shown p s in
     let t : State = after_frame p s in
     let a = airs p ts c s holds in
     let link = links p ts c s holds in
-    let here : u.count % count_step plan.mode ≡ 0 = ap (λ n. n % count_step plan.mode) link.count ∙ whole in
-    let later : List Moment = after_read (count_step plan.mode) [] (read_frame r plan.mode (frame_bytes p s)) in
+    let here : u.count % count_step (layout_mode plan.layout) ≡ 0 = ap (λ n. n % count_step (layout_mode plan.layout)) link.count ∙ whole in
+    let later : List Moment = after_read (count_step (layout_mode plan.layout)) [] (read_frame r plan.layout (frame_bytes p s)) in
     let entered : InFrame plan u Nothing Nothing (headed (ensemble_sent plan u) untuned) = enters_untuned p ts c s holds whole in
     let h = frame_heard laws plan u a Nothing Nothing untuned entered in
     let D : Raw → Type 0 = Or Nothing (RowSaid (shown_bytes plan u) false) in
@@ -224,20 +225,20 @@ first_follows one laws r p ts c s holds whole =
       knows = knows_weaker plan t.left t.current t.next t.count D (Had plan later t false) M (Had plan later t true) h.after (had a here (on_air plan u) refl false) (had a here (on_air plan u) refl true) next;
     }
   where
-    had : Airs p.plan (shown p s) → (shown p s).count % count_step p.plan.mode ≡ 0 → (b : Bool) → on_air p.plan (shown p s) ≡ b → (flag : Bool) (x : Raw)
-        → Had p.plan (after_read (count_step p.plan.mode) [] (read_frame r p.plan.mode (frame_bytes p s))) (after_frame p s) flag x → Or Nothing (RowSaid (frame_bytes p s) flag) x
+    had : Airs p.plan (shown p s) → (shown p s).count % count_step (layout_mode p.plan.layout) ≡ 0 → (b : Bool) → on_air p.plan (shown p s) ≡ b → (flag : Bool) (x : Raw)
+        → Had p.plan (after_read (count_step (layout_mode p.plan.layout)) [] (read_frame r p.plan.layout (frame_bytes p s))) (after_frame p s) flag x → Or Nothing (RowSaid (frame_bytes p s) flag) x
     had a here true on flag x (cut, said) = absurd (false≢true (sym cut ∙ cut_first one laws r p ts c s holds here on))
     had a here false off flag x (cut, said) =
         absurd (none_said flag x (subst (λ (xs : List (List ℕ)). SomeSaid xs flag x) (quiet_heard p.plan (shown p s) (shown p s).left refl a.ahead off) said))
 
 next_follows : OneList → Laws → (r : Reading) (p : Program) (ts : List Known) → IsCode p ts → (s : State) → Holds p ts s → (past : List Moment) → IsBetween p.plan past s → Follows p.plan past s → (b : Bool) → is_due s.left ≡ b
-    → Follows p.plan (after_read (count_step p.plan.mode) past (read_frame r p.plan.mode (frame_bytes p s))) (after_frame p s)
+    → Follows p.plan (after_read (count_step (layout_mode p.plan.layout)) past (read_frame r p.plan.layout (frame_bytes p s))) (after_frame p s)
 next_follows one laws r p ts c s holds past between g true due =
     let plan : Plan = p.plan in
     let u : State = shown p s in
     let t : State = after_frame p s in
     let a = airs p ts c s holds in
-    let later : List Moment = after_read (count_step plan.mode) past (read_frame r plan.mode (frame_bytes p s)) in
+    let later : List Moment = after_read (count_step (layout_mode plan.layout)) past (read_frame r plan.layout (frame_bytes p s)) in
     let C : Raw → Type 0 = Had plan past s false in
     let N : Raw → Type 0 = Had plan past s true in
     let h = frame_heard laws plan u a N Nothing g.heard (enters_swap p ts c s holds C N g.heard due g.knows) in
@@ -257,7 +258,7 @@ next_follows one laws r p ts c s holds past between g false due =
     let u : State = shown p s in
     let t : State = after_frame p s in
     let a = airs p ts c s holds in
-    let later : List Moment = after_read (count_step plan.mode) past (read_frame r plan.mode (frame_bytes p s)) in
+    let later : List Moment = after_read (count_step (layout_mode plan.layout)) past (read_frame r plan.layout (frame_bytes p s)) in
     let C : Raw → Type 0 = Had plan past s false in
     let N : Raw → Type 0 = Had plan past s true in
     let S : Raw → Type 0 = Still plan u.left N in
@@ -282,7 +283,7 @@ next_follows one laws r p ts c s holds past between g false due =
     }
 
 pub follows : OneList → Laws → (r : Reading) (p : Program) (ts : List Known) → IsCode p ts → (s : State) → Holds p ts s → (past : List Moment) → IsFollowing p.plan past s
-    → Follows p.plan (after_read (count_step p.plan.mode) past (read_frame r p.plan.mode (frame_bytes p s))) (after_frame p s)
+    → Follows p.plan (after_read (count_step (layout_mode p.plan.layout)) past (read_frame r p.plan.layout (frame_bytes p s))) (after_frame p s)
 follows one laws r p ts c s holds past (inl (none, on)) =
-    subst (λ (l : List Moment). Follows p.plan (after_read (count_step p.plan.mode) l (read_frame r p.plan.mode (frame_bytes p s))) (after_frame p s)) (sym none) (first_follows one laws r p ts c s holds on)
+    subst (λ (l : List Moment). Follows p.plan (after_read (count_step (layout_mode p.plan.layout)) l (read_frame r p.plan.layout (frame_bytes p s))) (after_frame p s)) (sym none) (first_follows one laws r p ts c s holds on)
 follows one laws r p ts c s holds past (inr (between, g)) = next_follows one laws r p ts c s holds past between g (is_due s.left) refl

@@ -5,6 +5,9 @@ use Rattle.std.specs.List.{AllByRecursion}
 use Rattle.std.proofs.lemmas.Bool.{eq-eqb, ne_eqb}
 use Rattle.std.proofs.lemmas.List.{append_assoc, append-nil, map-append, length-map}
 use Rattle.std.proofs.lemmas.List.Concat.{flat_map-append}
+use Rattle.fib_codec.specs.Layouts.{layout_mode, frame_fibs}
+use Rattle.fib_codec.specs.declared.frame_layout.FrameLayout.{FrameLayout}
+use Rattle.fib_codec.specs.declared.frame_layout.FrameLayout.TheVariants.{Whole, ReserveOne, ReserveTwo}
 use Rattle.mux_types.proofs.Elements.{contains_cases, contains_none}
 use Rattle.mux_entries.specs.Entries.{EnsembleInformation}
 use Rattle.mux_entries.specs.Facts.{marked}
@@ -145,14 +148,19 @@ heading_fib one heard r plan u bytes h =
 
 -- ---- a frame
 
-abbrev pub later_fibs : Mode → List ℕ → List (List ℕ)
-later_fibs mode frame = fibs_from (fib_count mode - 1) 1 frame
+abbrev pub later_fibs : FrameLayout → List ℕ → List (List ℕ)
+later_fibs layout frame = fibs_from (frame_fibs layout - 1) 1 frame
 
-pub first_of_fibs : (mode : Mode) (frame : List ℕ) → fibs_from (fib_count mode) 0 frame ≡ fib_at frame 0 ∷ later_fibs mode frame
-first_of_fibs I frame = refl
-first_of_fibs II frame = refl
-first_of_fibs III frame = refl
-first_of_fibs IV frame = refl
+pub first_of_fibs : (layout : FrameLayout) (frame : List ℕ) → fibs_from (frame_fibs layout) 0 frame ≡ fib_at frame 0 ∷ later_fibs layout frame
+first_of_fibs (Whole I) frame = refl
+first_of_fibs (Whole II) frame = refl
+first_of_fibs (Whole III) frame = refl
+first_of_fibs (Whole IV) frame = refl
+first_of_fibs (ReserveOne I) frame = refl
+first_of_fibs (ReserveOne II) frame = refl
+first_of_fibs (ReserveOne III) frame = refl
+first_of_fibs (ReserveOne IV) frame = refl
+first_of_fibs ReserveTwo frame = refl
 
 few_fibs : (mode : Mode) → 1 ≤ fib_count mode
 few_fibs I = omega arith
@@ -171,10 +179,10 @@ quiet_from one r frame (suc count) n all = (
   quiet_from one r frame count (n + 1) (λ k low high. all k (omega (arith, low)) (omega (arith, high))),
 )
 
-pub later_quiet : OneList → (r : Reading) (plan : Plan) (u : State) (frame : List ℕ) → IsRight plan u frame → AllByRecursion IsQuiet (map r.read (later_fibs plan.mode frame))
+pub later_quiet : OneList → (r : Reading) (plan : Plan) (u : State) (frame : List ℕ) → IsRight plan u frame → AllByRecursion IsQuiet (map r.read (later_fibs plan.layout frame))
 later_quiet one r plan u frame h =
-    let few = few_fibs plan.mode in
-    quiet_from one r frame (fib_count plan.mode - 1) 1 (λ k low high. h.others_unheaded k low (omega (arith, high, few)))
+    let few = few_fibs (layout_mode plan.layout) in
+    quiet_from one r frame (frame_fibs plan.layout - 1) 1 (λ k low high. h.others_unheaded k low (omega (arith, high, few)))
 
 no_later : (fibs : List Fib) → AllByRecursion IsQuiet fibs → AllByRecursion (λ later. begins_with_ensemble later ≡ false) fibs
 no_later [] all = tt
@@ -185,19 +193,19 @@ none_held [] all = tt
 none_held (f ∷ fs) all = (ap is_there all.0.holds, none_held fs all.1)
 
 -- the frame of a state, as read
-abbrev pub read_frame : Reading → Mode → List ℕ → List Fib
-read_frame r mode frame = map r.read (fibs_from (fib_count mode) 0 frame)
+abbrev pub read_frame : Reading → FrameLayout → List ℕ → List Fib
+read_frame r layout frame = map r.read (fibs_from (frame_fibs layout) 0 frame)
 
-one_frame : OneList → (r : Reading) (plan : Plan) (u : State) (frame : List ℕ) → IsRight plan u frame → IsOneFrame (read_frame r plan.mode frame)
-one_frame one r plan u frame h = subst (λ (fs : List (List ℕ)). IsOneFrame (map r.read fs)) (sym (first_of_fibs plan.mode frame)) (no_later (map r.read (later_fibs plan.mode frame)) (later_quiet one r plan u frame h))
+one_frame : OneList → (r : Reading) (plan : Plan) (u : State) (frame : List ℕ) → IsRight plan u frame → IsOneFrame (read_frame r plan.layout frame)
+one_frame one r plan u frame h = subst (λ (fs : List (List ℕ)). IsOneFrame (map r.read fs)) (sym (first_of_fibs plan.layout frame)) (no_later (map r.read (later_fibs plan.layout frame)) (later_quiet one r plan u frame h))
 
-pub frame_size : (r : Reading) (mode : Mode) (frame : List ℕ) → length (read_frame r mode frame) ≡ fib_count mode
-frame_size r mode frame = length-map (fibs_from (fib_count mode) 0 frame) r.read ∙ fibs_length (fib_count mode) 0 frame
+pub frame_size : (r : Reading) (layout : FrameLayout) (frame : List ℕ) → length (read_frame r layout frame) ≡ frame_fibs layout
+frame_size r layout frame = length-map (fibs_from (frame_fibs layout) 0 frame) r.read ∙ fibs_length (frame_fibs layout) 0 frame
 
 -- a frame at a count that is not a multiple of the step
-pub all_quiet : OneList → (r : Reading) (plan : Plan) (u : State) (frame : List ℕ) → IsRight plan u frame → u.count % count_step plan.mode ≢ 0 → AllByRecursion IsQuiet (read_frame r plan.mode frame)
+pub all_quiet : OneList → (r : Reading) (plan : Plan) (u : State) (frame : List ℕ) → IsRight plan u frame → u.count % count_step (layout_mode plan.layout) ≢ 0 → AllByRecursion IsQuiet (read_frame r plan.layout frame)
 all_quiet one r plan u frame h off =
-    subst (λ (fs : List (List ℕ)). AllByRecursion IsQuiet (map r.read fs)) (sym (first_of_fibs plan.mode frame))
+    subst (λ (fs : List (List ℕ)). AllByRecursion IsQuiet (map r.read fs)) (sym (first_of_fibs plan.layout frame))
     (quiet_fib one r (fib_at frame 0) (h.unheaded off), later_quiet one r plan u frame h)
 
 pub all_append : {X : Type 0} (P : X → Type 0) (xs ys : List X) → AllByRecursion P xs → AllByRecursion P ys → AllByRecursion P (xs ++ ys)
@@ -207,11 +215,11 @@ all_append P (x ∷ xs) ys a b = (a.0, all_append P xs ys a.1 b)
 -- ---- frames of a run
 
 are_frames : OneList → (r : Reading) (p : Program) (s : State) (events : List Event) → FramesAreRight p s events
-    → AreFrames (fib_count p.plan.mode) (read_frames r (frames_of p.plan.mode (run_frames p s events))) []
+    → AreFrames (frame_fibs p.plan.layout) (read_frames r (frames_of p.plan.layout (run_frames p s events))) []
 are_frames one r p s [] all = tt
 are_frames one r p s (Contact c closed ∷ es) all = are_frames one r p (happens p s (Contact c closed)) es all
 are_frames one r p s (Frame ∷ es) all =
-    let size = frame_size r p.plan.mode (frame_bytes p s) in (
+    let size = frame_size r p.plan.layout (frame_bytes p s) in (
       one_frame one r p.plan (shown p s) (frame_bytes p s) all.0,
       omega (arith, size),
       (λ short. absurd (omega (arith, size, short))),
@@ -230,13 +238,13 @@ right_before p s (Frame ∷ es) events all = (all.0, right_before p (after_frame
 
 -- before the first FIG 0/0
 are_quiet : OneList → (r : Reading) (p : Program) (s : State) (waiting : List Event) → FramesAreRight p s waiting → (HasCount p s waiting → ⊥)
-    → AllByRecursion IsQuiet (map r.read (fibs_of p.plan.mode (run_frames p s waiting)))
+    → AllByRecursion IsQuiet (map r.read (fibs_of p.plan.layout (run_frames p s waiting)))
 are_quiet one r p s [] all off = tt
 are_quiet one r p s (Contact c closed ∷ es) all off = are_quiet one r p (happens p s (Contact c closed)) es all off
 are_quiet one r p s (Frame ∷ es) all off =
-    let not_now : (shown p s).count % count_step p.plan.mode ≢ 0 = λ e. off (inl (ap (λ n. n % count_step p.plan.mode) (sym (shown_count p s)) ∙ e)) in
-    subst (AllByRecursion IsQuiet) (sym (map-append r.read (fibs_from (fib_count p.plan.mode) 0 (frame_bytes p s)) (fibs_of p.plan.mode (run_frames p (after_frame p s) es))))
-    (all_append IsQuiet (read_frame r p.plan.mode (frame_bytes p s)) (map r.read (fibs_of p.plan.mode (run_frames p (after_frame p s) es)))
+    let not_now : (shown p s).count % count_step (layout_mode p.plan.layout) ≢ 0 = λ e. off (inl (ap (λ n. n % count_step (layout_mode p.plan.layout)) (sym (shown_count p s)) ∙ e)) in
+    subst (AllByRecursion IsQuiet) (sym (map-append r.read (fibs_from (frame_fibs p.plan.layout) 0 (frame_bytes p s)) (fibs_of p.plan.layout (run_frames p (after_frame p s) es))))
+    (all_append IsQuiet (read_frame r p.plan.layout (frame_bytes p s)) (map r.read (fibs_of p.plan.layout (run_frames p (after_frame p s) es)))
     (all_quiet one r p.plan (shown p s) (frame_bytes p s) all.0 not_now)
     (are_quiet one r p (after_frame p s) es all.1 (λ h. off (inr h))))
 
@@ -245,39 +253,39 @@ holds_more : (xs ys : List Fib) → 1 ≤ length xs → HoldsFirst xs → HoldsF
 holds_more [] ys some h = absurd (omega (arith, some))
 holds_more (x ∷ xs) ys some h = h
 
-heads : OneList → EnsembleIsHeard → (r : Reading) (plan : Plan) (u : State) (frame : List ℕ) → IsRight plan u frame → u.count % count_step plan.mode ≡ 0 → HoldsFirst (read_frame r plan.mode frame)
+heads : OneList → EnsembleIsHeard → (r : Reading) (plan : Plan) (u : State) (frame : List ℕ) → IsRight plan u frame → u.count % count_step (layout_mode plan.layout) ≡ 0 → HoldsFirst (read_frame r plan.layout frame)
 heads one heard r plan u frame h on =
     let first = heading_fib one heard r plan u (fib_at frame 0) (h.headed on) in
-    subst (λ (fs : List (List ℕ)). HoldsFirst (map r.read fs)) (sym (first_of_fibs plan.mode frame)) (ap is_there first.holds)
+    subst (λ (fs : List (List ℕ)). HoldsFirst (map r.read fs)) (sym (first_of_fibs plan.layout frame)) (ap is_there first.holds)
 
-begins : OneList → EnsembleIsHeard → (r : Reading) (p : Program) (s : State) (events : List Event) → FramesAreRight p s events → s.count % count_step p.plan.mode ≡ 0
-    → HoldsFirst (flat_map (λ f. f) (read_frames r (frames_of p.plan.mode (run_frames p s events))) ++ [])
+begins : OneList → EnsembleIsHeard → (r : Reading) (p : Program) (s : State) (events : List Event) → FramesAreRight p s events → s.count % count_step (layout_mode p.plan.layout) ≡ 0
+    → HoldsFirst (flat_map (λ f. f) (read_frames r (frames_of p.plan.layout (run_frames p s events))) ++ [])
 begins one heard r p s [] all on = tt
 begins one heard r p s (Contact c closed ∷ es) all on = begins one heard r p (happens p s (Contact c closed)) es all on
 begins one heard r p s (Frame ∷ es) all on =
-    let on_now : (shown p s).count % count_step p.plan.mode ≡ 0 = ap (λ n. n % count_step p.plan.mode) (shown_count p s) ∙ on in
-    let size = frame_size r p.plan.mode (frame_bytes p s) in
-    let few = few_fibs p.plan.mode in
-    let rest : List Fib = flat_map (λ f. f) (read_frames r (frames_of p.plan.mode (run_frames p (after_frame p s) es))) in
-    subst HoldsFirst (sym (append_assoc (read_frame r p.plan.mode (frame_bytes p s)) rest []))
-    (holds_more (read_frame r p.plan.mode (frame_bytes p s)) (rest ++ []) (omega (arith, size, few)) (heads one heard r p.plan (shown p s) (frame_bytes p s) all.0 on_now))
+    let on_now : (shown p s).count % count_step (layout_mode p.plan.layout) ≡ 0 = ap (λ n. n % count_step (layout_mode p.plan.layout)) (shown_count p s) ∙ on in
+    let size = frame_size r p.plan.layout (frame_bytes p s) in
+    let few = few_fibs (layout_mode p.plan.layout) in
+    let rest : List Fib = flat_map (λ f. f) (read_frames r (frames_of p.plan.layout (run_frames p (after_frame p s) es))) in
+    subst HoldsFirst (sym (append_assoc (read_frame r p.plan.layout (frame_bytes p s)) rest []))
+    (holds_more (read_frame r p.plan.layout (frame_bytes p s)) (rest ++ []) (omega (arith, size, few)) (heads one heard r p.plan (shown p s) (frame_bytes p s) all.0 on_now))
 
-flat_read : (r : Reading) (mode : Mode) (frames : List (List ℕ)) → map r.read (fibs_of mode frames) ≡ flat_map (λ f. f) (read_frames r (frames_of mode frames))
-flat_read r mode [] = refl
-flat_read r mode (f ∷ fs) = map-append r.read (fibs_from (fib_count mode) 0 f) (fibs_of mode fs) ∙ ap (λ xs. read_frame r mode f ++ xs) (flat_read r mode fs)
+flat_read : (r : Reading) (layout : FrameLayout) (frames : List (List ℕ)) → map r.read (fibs_of layout frames) ≡ flat_map (λ f. f) (read_frames r (frames_of layout frames))
+flat_read r layout [] = refl
+flat_read r layout (f ∷ fs) = map-append r.read (fibs_from (frame_fibs layout) 0 f) (fibs_of layout fs) ∙ ap (λ xs. read_frame r layout f ++ xs) (flat_read r layout fs)
 
 pub runs_are_framed : OneList → EnsembleIsHeard → HeadlineHolds → RunsJoin → RunsAreFramed
 runs_are_framed one heard headline joins r p s waiting events played off on =
-    let mode : Mode = p.plan.mode in
+    let layout : FrameLayout = p.plan.layout in
     let t : State = run p s waiting in
     let all : FramesAreRight p s (waiting ++ events) = (headline p s (waiting ++ events) played).right in
     let after : FramesAreRight p t events = right_after p s waiting events all in
     record {
-      whole = ap (λ fs. map r.read (fibs_of mode fs)) (joins p s [] waiting events).frames
-          ∙ ap (map r.read) (flat_map-append (fibs_from (fib_count mode) 0) (run_frames p s waiting) (run_frames p t events))
-          ∙ map-append r.read (fibs_of mode (run_frames p s waiting)) (fibs_of mode (run_frames p t events))
-          ∙ ap (λ xs. map r.read (fibs_of mode (run_frames p s waiting)) ++ xs) (flat_read r mode (run_frames p t events) ∙ sym (append-nil (flat_map (λ f. f) (read_frames r (frames_of mode (run_frames p t events))))));
-      before = none_held (map r.read (fibs_of mode (run_frames p s waiting))) (are_quiet one r p s waiting (right_before p s waiting events all) off);
+      whole = ap (λ fs. map r.read (fibs_of layout fs)) (joins p s [] waiting events).frames
+          ∙ ap (map r.read) (flat_map-append (fibs_from (frame_fibs layout) 0) (run_frames p s waiting) (run_frames p t events))
+          ∙ map-append r.read (fibs_of layout (run_frames p s waiting)) (fibs_of layout (run_frames p t events))
+          ∙ ap (λ xs. map r.read (fibs_of layout (run_frames p s waiting)) ++ xs) (flat_read r layout (run_frames p t events) ∙ sym (append-nil (flat_map (λ f. f) (read_frames r (frames_of layout (run_frames p t events))))));
+      before = none_held (map r.read (fibs_of layout (run_frames p s waiting))) (are_quiet one r p s waiting (right_before p s waiting events all) off);
       begun = begins one heard r p t events after on;
       cut = are_frames one r p t events after;
     }

@@ -4,10 +4,11 @@ use Rattle.std.specs.Prelude.{map, unwrap_or}
 use Rattle.std.specs.List.{AllByRecursion}
 use Rattle.std.proofs.lemmas.Bool.{false≢true, eq-eqb, ne_eqb, le-ltb}
 use Rattle.std.proofs.lemmas.Bool.Decides.{eqb_tells}
+use Rattle.fib_codec.specs.Layouts.{layout_mode, frame_fibs}
 use Rattle.mux_entries.specs.Entries.{EnsembleInformation}
 use Rattle.fib_codec.specs.Grammar.{Open, OneList, is_next, is_long}
 use Rattle.fib_codec.specs.Heard.{fib_at}
-use Rattle.fib_codec.specs.Modes.{fib_count, count_step}
+use Rattle.fib_codec.specs.Modes.{count_step}
 use Rattle.fib_reader.specs.Raw.{Raw, raw_of}
 use Rattle.fib_reader.specs.Laws.{EnsembleIsHeard}
 use Rattle.fib_reader.specs.Listening.{identifier_of}
@@ -188,16 +189,16 @@ none_damaged : (fibs : List Fib) → AllByRecursion IsQuiet fibs → damaged_in 
 none_damaged [] all = refl
 none_damaged (f ∷ fs) all = ap (λ b. cond b 1 0 + damaged_in fs) all.0.whole ∙ ap (λ n. 0 + n) (none_damaged fs all.1)
 
-pub headed_frame : OneList → EnsembleIsHeard → (r : Reading) (plan : Plan) (u : State) (frame : List ℕ) → IsRight plan u frame → (h : IsHeadedBy plan u (fib_at frame 0)) → IsHeaded (read_frame r plan.mode frame) h.information
+pub headed_frame : OneList → EnsembleIsHeard → (r : Reading) (plan : Plan) (u : State) (frame : List ℕ) → IsRight plan u frame → (h : IsHeadedBy plan u (fib_at frame 0)) → IsHeaded (read_frame r plan.layout frame) h.information
 headed_frame one heard r plan u frame right h =
     let first : List ℕ = fib_at frame 0 in
-    let later : List Fib = map r.read (later_fibs plan.mode frame) in
+    let later : List Fib = map r.read (later_fibs plan.layout frame) in
     let quiet = later_quiet one r plan u frame right in
     let heads = heading_fib one heard r plan u first h in
     let fig = header_of heard plan u first h in
     let read : r.read first ≡ Some (Open fig.second (fig.bytes ∷ []) ∷ h.others) = is_read one r first (h.header ∷ h.others) h.first ∙ ap (λ f. Some (f ∷ h.others)) fig.is in
-    let begin : read_frame r plan.mode frame ≡ r.read first ∷ later = ap (map r.read) (first_of_fibs plan.mode frame) in
-    let fibs : read_frame r plan.mode frame ≡ Some (Open fig.second (fig.bytes ∷ []) ∷ h.others) ∷ later = begin ∙ ap (λ f. f ∷ later) read in
+    let begin : read_frame r plan.layout frame ≡ r.read first ∷ later = ap (map r.read) (first_of_fibs plan.layout frame) in
+    let fibs : read_frame r plan.layout frame ≡ Some (Open fig.second (fig.bytes ∷ []) ∷ h.others) ∷ later = begin ∙ ap (λ f. f ∷ later) read in
     record {
       head = record { first = true; next = is_next fig.second; raw = raw_of (fig.second % 32) (is_long fig.second) fig.bytes };
       rest = _;
@@ -332,38 +333,38 @@ either_found false xs all = all
 abbrev IsBegun : ℕ → List Moment → State → Type 0
 IsBegun step past s = ((due past ≡ None) × (last_eid step past ≡ None) × (s.count % step ≡ 0)) ⊎ ((due past ≡ Some s.count) × (last_eid step past ≡ Some s.eid))
 
-frame_right : OneList → EnsembleIsHeard → (r : Reading) (p : Program) (s : State) (period : ℕ) (past : List Moment) → IsRight p.plan (shown p s) (frame_bytes p s) → IsBegun (count_step p.plan.mode) past s
-    → IsRightFrame (fib_count p.plan.mode) (count_step p.plan.mode) period past (read_frame r p.plan.mode (frame_bytes p s)) s.count s.eid
+frame_right : OneList → EnsembleIsHeard → (r : Reading) (p : Program) (s : State) (period : ℕ) (past : List Moment) → IsRight p.plan (shown p s) (frame_bytes p s) → IsBegun (count_step (layout_mode p.plan.layout)) past s
+    → IsRightFrame (frame_fibs p.plan.layout) (count_step (layout_mode p.plan.layout)) period past (read_frame r p.plan.layout (frame_bytes p s)) s.count s.eid
 frame_right one heard r p s period past right known =
-    let step : ℕ = count_step p.plan.mode in
-    let size = frame_size r p.plan.mode (frame_bytes p s) in
+    let step : ℕ = count_step (layout_mode p.plan.layout) in
+    let size = frame_size r p.plan.layout (frame_bytes p s) in
     let count = shown_count p s in
     elim (eqb_tells (s.count % step) 0) [
       | inl on ↦
           let on_now : (shown p s).count % step ≡ 0 = ap (λ n. n % step) count ∙ on.1 in
           let h = right.headed on_now in
           let before : IsDue step past s = elim known [ inl none ↦ inl (none.0, none.1) | inr some ↦ inr some ] in
-          with_header (fib_count p.plan.mode) step period past s (read_frame r p.plan.mode (frame_bytes p s)) h.information size
+          with_header (frame_fibs p.plan.layout) step period past s (read_frame r p.plan.layout (frame_bytes p s)) h.information size
           (headed_frame one heard r p.plan (shown p s) (frame_bytes p s) right h) before (h.right.count ∙ count) (h.right.eid ∙ shown_eid p s) on.1
       | inr off ↦
           let off_now : (shown p s).count % step ≢ 0 = λ e. off.1 (ap (λ n. n % step) (sym count) ∙ e) in
           let before : (due past ≡ Some s.count) × (last_eid step past ≡ Some s.eid) = elim known [ inl none ↦ absurd (off.1 none.2) | inr some ↦ some ] in
-          without_header (fib_count p.plan.mode) step period past s (read_frame r p.plan.mode (frame_bytes p s)) size
+          without_header (frame_fibs p.plan.layout) step period past s (read_frame r p.plan.layout (frame_bytes p s)) size
           (all_quiet one r p.plan (shown p s) (frame_bytes p s) right off_now) before off.1
     ]
 
-along : OneList → EnsembleIsHeard → (r : Reading) (p : Program) (s : State) (period : ℕ) (events : List Event) (past : List Moment) → FramesAreRight p s events → IsBegun (count_step p.plan.mode) past s
-    → AllByRecursion (λ (f : Finding). IsInPlace f.what) (findings_of (fib_count p.plan.mode) (count_step p.plan.mode) period past (read_frames r (frames_of p.plan.mode (run_frames p s events))))
+along : OneList → EnsembleIsHeard → (r : Reading) (p : Program) (s : State) (period : ℕ) (events : List Event) (past : List Moment) → FramesAreRight p s events → IsBegun (count_step (layout_mode p.plan.layout)) past s
+    → AllByRecursion (λ (f : Finding). IsInPlace f.what) (findings_of (frame_fibs p.plan.layout) (count_step (layout_mode p.plan.layout)) period past (read_frames r (frames_of p.plan.layout (run_frames p s events))))
 along one heard r p s period [] past all known = tt
 along one heard r p s period (Contact c closed ∷ es) past all known = along one heard r p (happens p s (Contact c closed)) period es past all known
 along one heard r p s period (Frame ∷ es) past all known =
-    let step : ℕ = count_step p.plan.mode in
-    let frame : List Fib = read_frame r p.plan.mode (frame_bytes p s) in
+    let step : ℕ = count_step (layout_mode p.plan.layout) in
+    let frame : List Fib = read_frame r p.plan.layout (frame_bytes p s) in
     let now = frame_right one heard r p s period past all.0 known in
     let count : (after_frame p s).count ≡ (s.count + 1) % 5000 = ap (λ n. (n + 1) % 5000) (shown_count p s) in
     let due_now : due (after_read step past frame) ≡ Some (after_frame p s).count = ap (λ n. Some ((n + 1) % 5000)) now.counted ∙ ap Some (sym count) in
     let same_now : last_eid step (after_read step past frame) ≡ Some (after_frame p s).eid = now.same ∙ ap Some (sym (shown_eid p s)) in
-    all_append (λ (f : Finding). IsInPlace f.what) (findings_in (fib_count p.plan.mode) step period past frame) _ now.found
+    all_append (λ (f : Finding). IsInPlace f.what) (findings_in (frame_fibs p.plan.layout) step period past frame) _ now.found
     (either_found (runs_full step period past (frame_items frame)) _ (along one heard r p (after_frame p s) period es (after_read step past frame) all.1 (inr (due_now, same_now))))
 
 pub runs_are_in_place : OneList → EnsembleIsHeard → HeadlineHolds → RunsAreInPlace

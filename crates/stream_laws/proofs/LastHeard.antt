@@ -3,16 +3,16 @@ use Rattle.std.proofs.Common.{◌≡◌, ℕ, zero, suc, ◌+◌, ◌*◌, ◌<�
 use Rattle.std.specs.Prelude.{take}
 use Rattle.std.proofs.lemmas.Bool.{cases_lt, eq-eqb, eqb-true}
 use Rattle.std.proofs.lemmas.List.{drop_all}
+use Rattle.fib_codec.specs.Layouts.{frame_fibs}
+use Rattle.fib_codec.specs.declared.frame_layout.FrameLayout.{FrameLayout}
 use Rattle.mux_types.proofs.Elements.{contains_cases, contains_first, contains_later, contains_none}
 use Rattle.mux_entries.specs.Entries.{EnsembleInformation}
 use Rattle.mux_entries.specs.Facts.{Marked}
 use Rattle.mux_entries.specs.declared.entry.Entry.{Entry}
 use Rattle.mux_entries.specs.declared.entry.Entry.TheVariants.{Ensemble as EnsembleOf, Sub as SubOf, Short as ShortOf, Service as ServiceOf, Packet as PacketOf}
-use Rattle.fib_codec.specs.declared.modes.Mode.{Mode}
 use Rattle.fib_codec.specs.Grammar.{Fig, Open, Other, IsFib, OneList, is_next, is_long}
 use Rattle.fib_codec.specs.Heard.{fib_at, IsSaid, IsInFig, IsHeardInRow}
 use Rattle.fib_codec.specs.Laws.{FibHas32Bytes}
-use Rattle.fib_codec.specs.Modes.{fib_count}
 use Rattle.fib_codec.specs.Spelling.{entry_bytes, ext_of, is_long_entry}
 use Rattle.fib_reader.specs.Raw.{Raw, raw_of, raw_entry, ensemble_in}
 use Rattle.fib_reader.specs.Listening.{Pictured, Listening, pictured, picture_of, into, is_made, swapped, at_ensemble, hear_entry, where_heard}
@@ -145,8 +145,8 @@ from_contains (suc count) n place frame from to = elim (cases_lt n place) [
       )
 ]
 
-place_below : FibHas32Bytes → (mode : Mode) (frame : List ℕ) (place : ℕ) (figs : List Fig) → length frame ≡ 32 * fib_count mode → IsFib (fib_at frame place) figs → place < fib_count mode
-place_below size mode frame place figs long is = elim (cases_lt place (fib_count mode)) [
+place_below : FibHas32Bytes → (layout : FrameLayout) (frame : List ℕ) (place : ℕ) (figs : List Fig) → length frame ≡ 32 * frame_fibs layout → IsFib (fib_at frame place) figs → place < frame_fibs layout
+place_below size layout frame place figs long is = elim (cases_lt place (frame_fibs layout)) [
   | inl lt ↦ lt
   | inr ge ↦ (
       let far : length frame ≤ 32 * place = omega (arith, long, ge) in
@@ -174,11 +174,11 @@ raw_said second bytes m h =
     let with_long : Bool → Raw = λ b. record { ext = ext_of m.entry; long = b; bytes = entry_bytes m.entry } in
     ap (λ n. raw_of n (is_long second) bytes) h.ext ∙ ap (raw_of (ext_of m.entry) (is_long second)) h.spelled ∙ ap with_long long
 
-fig_said : OneList → (r : Reading) (mode : Mode) (frame : List ℕ) (place : ℕ) (figs : List Fig) (fig : Fig) (m : Marked) → place < fib_count mode → IsFib (fib_at frame place) figs → Contains figs fig → IsInFig fig m
-    → IsSaidOf (frame_items (read_frame r mode frame)) m
-fig_said one r mode frame place figs (Other given) m below is f h = absurd h
-fig_said one r mode frame place figs (Open second es) m below is f h =
-    let there = fibs_said r true (fibs_from (fib_count mode) 0 frame) (fib_at frame place) figs second es h.0 (from_contains (fib_count mode) 0 place frame (omega arith) (omega (arith, below)))
+fig_said : OneList → (r : Reading) (layout : FrameLayout) (frame : List ℕ) (place : ℕ) (figs : List Fig) (fig : Fig) (m : Marked) → place < frame_fibs layout → IsFib (fib_at frame place) figs → Contains figs fig → IsInFig fig m
+    → IsSaidOf (frame_items (read_frame r layout frame)) m
+fig_said one r layout frame place figs (Other given) m below is f h = absurd h
+fig_said one r layout frame place figs (Open second es) m below is f h =
+    let there = fibs_said r true (fibs_from (frame_fibs layout) 0 frame) (fib_at frame place) figs second es h.0 (from_contains (frame_fibs layout) 0 place frame (omega arith) (omega (arith, below)))
     (is_read one r (fib_at frame place) figs is) f h.1 in
     record {
       item = record { first = there.0; next = is_next second; raw = raw_of (second % 32) (is_long second) h.0 };
@@ -187,7 +187,7 @@ fig_said one r mode frame place figs (Open second es) m below is f h =
       raw = raw_said second h.0 m h.2;
     }
 
-pub row_said : OneList → FibHas32Bytes → (r : Reading) (mode : Mode) (frame : List ℕ) (m : Marked) → length frame ≡ 32 * fib_count mode → IsHeardInRow frame m → IsSaidOf (frame_items (read_frame r mode frame)) m
-row_said one size r mode frame m long (place, heard) =
+pub row_said : OneList → FibHas32Bytes → (r : Reading) (layout : FrameLayout) (frame : List ℕ) (m : Marked) → length frame ≡ 32 * frame_fibs layout → IsHeardInRow frame m → IsSaidOf (frame_items (read_frame r layout frame)) m
+row_said one size r layout frame m long (place, heard) =
     let inside = heard.inside in
-    fig_said one r mode frame place inside.0 inside.1 m (place_below size mode frame place inside.0 long inside.2) inside.2 inside.3 inside.4
+    fig_said one r layout frame place inside.0 inside.1 m (place_below size layout frame place inside.0 long inside.2) inside.2 inside.3 inside.4

@@ -4,9 +4,10 @@ use Rattle.std.specs.Prelude.{map, unwrap_or}
 use Rattle.std.specs.List.{AllByRecursion}
 use Rattle.std.proofs.lemmas.Bool.{false≢true, eq-eqb, ne_eqb}
 use Rattle.std.proofs.lemmas.List.{append-nil}
+use Rattle.fib_codec.specs.Layouts.{layout_mode, frame_fibs}
 use Rattle.mux_entries.specs.Entries.{EnsembleInformation}
 use Rattle.fib_codec.specs.Grammar.{OneList}
-use Rattle.fib_codec.specs.Modes.{fib_count, count_step}
+use Rattle.fib_codec.specs.Modes.{count_step}
 use Rattle.fib_reader.specs.Raw.{Raw}
 use Rattle.fib_reader.specs.Listening.{Listening, is_made}
 use Rattle.stream_check.specs.declared.finding.Fault.{Fault}
@@ -242,11 +243,11 @@ made_where_due p ts c s holds past h = by (none_or_some h.heard.awaited) (due_or
 
 -- the swaps reported in a frame
 items_named : OneList → Laws → (r : Reading) (n period : ℕ) (p : Program) (ts : List Known) → IsCode p ts → (s : State) → Holds p ts s → (past : List Moment) → IsBetween p.plan past s
-    → named n (findings_at_items (count_step p.plan.mode) period past (frame_items (read_frame r p.plan.mode (frame_bytes p s)))) ≡ cond (is_due s.left) (n ∷ []) []
+    → named n (findings_at_items (count_step (layout_mode p.plan.layout)) period past (frame_items (read_frame r p.plan.layout (frame_bytes p s)))) ≡ cond (is_due s.left) (n ∷ []) []
 items_named one laws r n period p ts c s holds past h =
     let plan : Plan = p.plan in
     let u : State = shown p s in
-    let step : ℕ = count_step plan.mode in
+    let step : ℕ = count_step (layout_mode plan.layout) in
     let a = airs p ts c s holds in
     let link = links p ts c s holds in
     let fs = frame_said one laws r plan u a in
@@ -254,7 +255,7 @@ items_named one laws r n period p ts c s holds past h =
     elim (zero_or_not (u.count % step)) [
       | inl on ↦
           let head = subst (λ (o : Option EnsembleInformation). IsHeadOf o fs.heads) (is_sent plan u on) fs.header in
-          let items : frame_items (read_frame r plan.mode (frame_bytes p s)) ≡ head.0 ∷ fs.members = fs.are ∙ ap (λ hs. hs ++ fs.members) head.1 in
+          let items : frame_items (read_frame r plan.layout (frame_bytes p s)) ≡ head.0 ∷ fs.members = fs.are ∙ ap (λ hs. hs ++ fs.members) head.1 in
           ap (λ is. named n (findings_at_items step period past is)) items
           ∙ with_head n step period past head.0 fs.members head.2 none
           ∙ ap (λ (x : Listening). cond (is_made x.awaited (said_ensemble head.0)) (n ∷ []) []) (after_is past h.heard h.is)
@@ -262,16 +263,16 @@ items_named one laws r n period p ts c s holds past h =
           ∙ ap (λ b. cond b (n ∷ []) []) (made_where_due p ts c s holds past h)
       | inr off ↦
           let bare : fs.heads ≡ [] = subst (λ (o : Option EnsembleInformation). IsHeadOf o fs.heads) (not_sent plan u off) fs.header in
-          let items : frame_items (read_frame r plan.mode (frame_bytes p s)) ≡ fs.members = fs.are ∙ ap (λ hs. hs ++ fs.members) bare in
+          let items : frame_items (read_frame r plan.layout (frame_bytes p s)) ≡ fs.members = fs.are ∙ ap (λ hs. hs ++ fs.members) bare in
           let apart : s.count % step ≢ 0 = λ e. off (ap (λ k. k % step) link.count ∙ e) in
           ap (λ is. named n (findings_at_items step period past is)) items
           ∙ quiet_named n _ (items_quiet step period fs.members past none)
           ∙ ap (λ b. cond b (n ∷ []) []) (sym (not_due s.left apart holds.tracked.swaps))
     ]
   where
-    not_due : (left : Option ℕ) → s.count % count_step p.plan.mode ≢ 0 → SwapsOn p.plan s.count left → is_due left ≡ false
+    not_due : (left : Option ℕ) → s.count % count_step (layout_mode p.plan.layout) ≢ 0 → SwapsOn p.plan s.count left → is_due left ≡ false
     not_due None apart swaps = refl
-    not_due (Some k) apart swaps = ne_eqb k 0 (λ none. apart (ap (λ n. n % count_step p.plan.mode) (plus k none) ∙ swaps))
+    not_due (Some k) apart swaps = ne_eqb k 0 (λ none. apart (ap (λ n. n % count_step (layout_mode p.plan.layout)) (plus k none) ∙ swaps))
       where
         plus : (j : ℕ) → j ≡ 0 → s.count ≡ s.count + j
         plus j none = omega (arith, none)
@@ -283,16 +284,16 @@ ended_more [] past = refl
 ended_more (i ∷ is) past = ended_more is (Said i ∷ past)
 
 along : OneList → Laws → (r : Reading) (period : ℕ) (p : Program) (ts : List Known) → IsCode p ts → (s : State) (events : List Event) → Holds p ts s → (past : List Moment) → IsBetween p.plan past s
-    → swap_frames (findings_of (fib_count p.plan.mode) (count_step p.plan.mode) period past (read_frames r (frames_of p.plan.mode (run_frames p s events)))) ≡ due_frames p (frames_ended past) s events
+    → swap_frames (findings_of (frame_fibs p.plan.layout) (count_step (layout_mode p.plan.layout)) period past (read_frames r (frames_of p.plan.layout (run_frames p s events)))) ≡ due_frames p (frames_ended past) s events
 along one laws r period p ts c s [] holds past h = refl
 along one laws r period p ts c s (Contact d closed ∷ es) holds past h =
     along one laws r period p ts c (happens p s (Contact d closed)) es (happens_holds p ts c s (Contact d closed) holds) past
     (record { heard = h.heard; is = h.is; knows = h.knows; fresh = h.fresh; pending = h.pending; early = h.early; flags = h.flags })
 along one laws r period p ts c s (Frame ∷ es) holds past h =
-    let size : ℕ = fib_count p.plan.mode in
-    let step : ℕ = count_step p.plan.mode in
-    let frame : List Fib = read_frame r p.plan.mode (frame_bytes p s) in
-    let later : List Finding = findings_of size step period (after_read step past frame) (read_frames r (frames_of p.plan.mode (run_frames p (after_frame p s) es))) in
+    let size : ℕ = frame_fibs p.plan.layout in
+    let step : ℕ = count_step (layout_mode p.plan.layout) in
+    let frame : List Fib = read_frame r p.plan.layout (frame_bytes p s) in
+    let later : List Finding = findings_of size step period (after_read step past frame) (read_frames r (frames_of p.plan.layout (run_frames p (after_frame p s) es))) in
     let now = agrees_by one laws r period p ts c s holds past (inr h) in
     let rest = along one laws r period p ts c (after_frame p s) es (frame_holds p ts c s holds) (after_read step past frame) now.after in
     let here : swap_frames (findings_in size step period past frame) ≡ cond (is_due s.left) (frames_ended past ∷ []) [] =
@@ -310,30 +311,30 @@ along one laws r period p ts c s (Frame ∷ es) holds past h =
     joined false = refl
 
 -- in the first frame no swap is awaited
-first_named : OneList → Laws → (r : Reading) (period : ℕ) (p : Program) (ts : List Known) → IsCode p ts → (s : State) → Holds p ts s → s.count % count_step p.plan.mode ≡ 0
-    → named 0 (findings_at_items (count_step p.plan.mode) period [] (frame_items (read_frame r p.plan.mode (frame_bytes p s)))) ≡ []
+first_named : OneList → Laws → (r : Reading) (period : ℕ) (p : Program) (ts : List Known) → IsCode p ts → (s : State) → Holds p ts s → s.count % count_step (layout_mode p.plan.layout) ≡ 0
+    → named 0 (findings_at_items (count_step (layout_mode p.plan.layout)) period [] (frame_items (read_frame r p.plan.layout (frame_bytes p s)))) ≡ []
 first_named one laws r period p ts c s holds on =
     let plan : Plan = p.plan in
     let u : State = shown p s in
-    let step : ℕ = count_step plan.mode in
+    let step : ℕ = count_step (layout_mode plan.layout) in
     let a = airs p ts c s holds in
     let link = links p ts c s holds in
     let fs = frame_said one laws r plan u a in
     let none = none_of (on_air plan u) u fs.members fs.sent in
     let here : u.count % step ≡ 0 = ap (λ n. n % step) link.count ∙ on in
     let head = subst (λ (o : Option EnsembleInformation). IsHeadOf o fs.heads) (is_sent plan u here) fs.header in
-    let items : frame_items (read_frame r plan.mode (frame_bytes p s)) ≡ head.0 ∷ fs.members = fs.are ∙ ap (λ hs. hs ++ fs.members) head.1 in
+    let items : frame_items (read_frame r plan.layout (frame_bytes p s)) ≡ head.0 ∷ fs.members = fs.are ∙ ap (λ hs. hs ++ fs.members) head.1 in
     ap (λ is. named 0 (findings_at_items step period [] is)) items ∙ with_head 0 step period [] head.0 fs.members head.2 none
 
-from_first : OneList → Laws → (r : Reading) (period : ℕ) (p : Program) (ts : List Known) → IsCode p ts → (s : State) (events : List Event) → Holds p ts s → s.count % count_step p.plan.mode ≡ 0
-    → swap_frames (findings_of (fib_count p.plan.mode) (count_step p.plan.mode) period [] (read_frames r (frames_of p.plan.mode (run_frames p s events)))) ≡ due_after_first p s events
+from_first : OneList → Laws → (r : Reading) (period : ℕ) (p : Program) (ts : List Known) → IsCode p ts → (s : State) (events : List Event) → Holds p ts s → s.count % count_step (layout_mode p.plan.layout) ≡ 0
+    → swap_frames (findings_of (frame_fibs p.plan.layout) (count_step (layout_mode p.plan.layout)) period [] (read_frames r (frames_of p.plan.layout (run_frames p s events)))) ≡ due_after_first p s events
 from_first one laws r period p ts c s [] holds on = refl
 from_first one laws r period p ts c s (Contact d closed ∷ es) holds on = from_first one laws r period p ts c (happens p s (Contact d closed)) es (happens_holds p ts c s (Contact d closed) holds) on
 from_first one laws r period p ts c s (Frame ∷ es) holds on =
-    let size : ℕ = fib_count p.plan.mode in
-    let step : ℕ = count_step p.plan.mode in
-    let frame : List Fib = read_frame r p.plan.mode (frame_bytes p s) in
-    let later : List Finding = findings_of size step period (after_read step [] frame) (read_frames r (frames_of p.plan.mode (run_frames p (after_frame p s) es))) in
+    let size : ℕ = frame_fibs p.plan.layout in
+    let step : ℕ = count_step (layout_mode p.plan.layout) in
+    let frame : List Fib = read_frame r p.plan.layout (frame_bytes p s) in
+    let later : List Finding = findings_of size step period (after_read step [] frame) (read_frames r (frames_of p.plan.layout (run_frames p (after_frame p s) es))) in
     let now = agrees_by one laws r period p ts c s holds [] (inl (refl, on)) in
     let rest = along one laws r period p ts c (after_frame p s) es (frame_holds p ts c s holds) (after_read step [] frame) now.after in
     let here : swap_frames (findings_in size step period [] frame) ≡ [] = frame_named size step period [] frame ∙ first_named one laws r period p ts c s holds on in

@@ -2,6 +2,7 @@
 use Rattle.std.proofs.Common.{◌≡◌, ◌≢◌, ℕ, ◌+◌, ◌≤◌, ◌%◌, ◌==◌, ◌||◌, Bool, true, false, cond, not, List, [], ◌∷◌, ◌++◌, Contains, Option, Some, None, refl, sym, ap, ◌∙◌, subst, arith, inl, inr}
 use Rattle.std.specs.List.{AllByRecursion}
 use Rattle.std.proofs.lemmas.Bool.{false≢true, eq-eqb, ne_eqb}
+use Rattle.fib_codec.specs.Layouts.{layout_mode}
 use Rattle.mux_types.proofs.Elements.{contains_cases}
 use Rattle.mux_entries.specs.Entries.{EnsembleInformation}
 use Rattle.mux_entries.specs.Facts.{Marked}
@@ -55,7 +56,7 @@ pub record IsOpened (plan : Plan) (u : State) (due : Bool) (past : List Moment) 
   pub tuned : heard.tuned ≡ true
   pub among : (i : Item) → Contains items i → is_ensemble i ≡ false → Contains members i
   pub rows_left : rows opening ≡ cond due [] (rows past)
-  pub flagged : u.count % count_step plan.mode ≡ 0 → on_air plan u ≡ true → has_begun opening ≡ true
+  pub flagged : u.count % count_step (layout_mode plan.layout) ≡ 0 → on_air plan u ≡ true → has_begun opening ≡ true
   pub unflagged : on_air plan u ≡ false → has_begun opening ≡ cond due false (has_begun past)
 
 flags_air : (plan : Plan) (u : State) → Airs plan u → (i : Item) → is_ensemble i ≡ true → said_ensemble i ≡ ensemble_of plan u → is_flagged i ≡ on_air plan u
@@ -100,7 +101,7 @@ headed_opens plan u a due past i members ens says sent l is made =
       unflagged = λ off. begun_is past i due false ens swap (flags ∙ off) ∙ begun_no due (has_begun past);
     }
 
-bare_opens : (plan : Plan) (u : State) (past : List Moment) (members : List Item) → u.count % count_step plan.mode ≢ 0
+bare_opens : (plan : Plan) (u : State) (past : List Moment) (members : List Item) → u.count % count_step (layout_mode plan.layout) ≢ 0
     → AllByRecursion (IsSentItem (on_air plan u) u.current u.next) members → (l : Listening) → listening past ≡ Some l → l.tuned ≡ true → IsOpened plan u false past members
 bare_opens plan u past members off sent l is tuned = record {
   opening = past;
@@ -118,46 +119,46 @@ bare_opens plan u past members off sent l is tuned = record {
 }
 
 -- a due swap comes with FIG 0/0
-due_on : (p : Program) (ts : List Known) → IsCode p ts → (s : State) → Holds p ts s → is_due s.left ≡ true → (shown p s).count % count_step p.plan.mode ≡ 0
+due_on : (p : Program) (ts : List Known) → IsCode p ts → (s : State) → Holds p ts s → is_due s.left ≡ true → (shown p s).count % count_step (layout_mode p.plan.layout) ≡ 0
 due_on p ts c s holds due =
-    let step : (s.count + 0) % count_step p.plan.mode ≡ 0 = subst (λ (o : Option ℕ). SwapsOn p.plan s.count o) (due_left s.left due) holds.tracked.swaps in
+    let step : (s.count + 0) % count_step (layout_mode p.plan.layout) ≡ 0 = subst (λ (o : Option ℕ). SwapsOn p.plan s.count o) (due_left s.left due) holds.tracked.swaps in
     let none : (shown p s).count ≡ s.count + 0 = (links p ts c s holds).count ∙ (let same : s.count ≡ s.count + 0 = omega arith in same) in
-    ap (λ n. n % count_step p.plan.mode) none ∙ step
+    ap (λ n. n % count_step (layout_mode p.plan.layout)) none ∙ step
 
 pub next_opened : FrameLaws → (r : Reading) (p : Program) (ts : List Known) → IsCode p ts → (s : State) → Holds p ts s → (past : List Moment) → IsBetween p.plan past s
-    → IsOpened p.plan (shown p s) (is_due s.left) past (frame_items (read_frame r p.plan.mode (frame_bytes p s)))
+    → IsOpened p.plan (shown p s) (is_due s.left) past (frame_items (read_frame r p.plan.layout (frame_bytes p s)))
 next_opened laws r p ts c s holds past h =
     let plan : Plan = p.plan in
     let u : State = shown p s in
     let a = airs p ts c s holds in
     let fs = frame_said laws.one laws.heard r plan u a in
-    elim (zero_or_not (u.count % count_step plan.mode)) [
+    elim (zero_or_not (u.count % count_step (layout_mode plan.layout))) [
       | inl on ↦
           let head = subst (λ (o : Option EnsembleInformation). IsHeadOf o fs.heads) (is_sent plan u on) fs.header in
-          let items : frame_items (read_frame r plan.mode (frame_bytes p s)) ≡ head.0 ∷ fs.members = fs.are ∙ ap (λ hs. hs ++ fs.members) head.1 in
+          let items : frame_items (read_frame r plan.layout (frame_bytes p s)) ≡ head.0 ∷ fs.members = fs.are ∙ ap (λ hs. hs ++ fs.members) head.1 in
           subst (IsOpened plan u (is_due s.left) past) (sym items) (headed_opens plan u a (is_due s.left) past head.0 fs.members head.2 head.3 fs.sent h.heard h.is (made_where_due p ts c s holds past h))
       | inr off ↦
           let bare : fs.heads ≡ [] = subst (λ (o : Option EnsembleInformation). IsHeadOf o fs.heads) (not_sent plan u off) fs.header in
-          let items : frame_items (read_frame r plan.mode (frame_bytes p s)) ≡ fs.members = fs.are ∙ ap (λ hs. hs ++ fs.members) bare in
+          let items : frame_items (read_frame r plan.layout (frame_bytes p s)) ≡ fs.members = fs.are ∙ ap (λ hs. hs ++ fs.members) bare in
           let plain = bare_opens plan u past fs.members off fs.sent h.heard h.is (tuned_by plan s.left s.current s.next s.count h.heard h.knows) in
           subst (IsOpened plan u (is_due s.left) past) (sym items) (subst (λ (b : Bool). IsOpened plan u b past fs.members) (sym (not_due off (is_due s.left) refl)) plain)
     ]
   where
-    not_due : (shown p s).count % count_step p.plan.mode ≢ 0 → (b : Bool) → is_due s.left ≡ b → is_due s.left ≡ false
+    not_due : (shown p s).count % count_step (layout_mode p.plan.layout) ≢ 0 → (b : Bool) → is_due s.left ≡ b → is_due s.left ≡ false
     not_due off true due = absurd (off (due_on p ts c s holds due))
     not_due off false due = due
 
 -- before the first frame nothing was heard
-pub first_opened : FrameLaws → (r : Reading) (p : Program) (ts : List Known) → IsCode p ts → (s : State) → Holds p ts s → s.count % count_step p.plan.mode ≡ 0
-    → IsOpened p.plan (shown p s) false [] (frame_items (read_frame r p.plan.mode (frame_bytes p s)))
+pub first_opened : FrameLaws → (r : Reading) (p : Program) (ts : List Known) → IsCode p ts → (s : State) → Holds p ts s → s.count % count_step (layout_mode p.plan.layout) ≡ 0
+    → IsOpened p.plan (shown p s) false [] (frame_items (read_frame r p.plan.layout (frame_bytes p s)))
 first_opened laws r p ts c s holds whole =
     let plan : Plan = p.plan in
     let u : State = shown p s in
     let a = airs p ts c s holds in
-    let on : u.count % count_step plan.mode ≡ 0 = ap (λ n. n % count_step plan.mode) (links p ts c s holds).count ∙ whole in
+    let on : u.count % count_step (layout_mode plan.layout) ≡ 0 = ap (λ n. n % count_step (layout_mode plan.layout)) (links p ts c s holds).count ∙ whole in
     let fs = frame_said laws.one laws.heard r plan u a in
     let head = subst (λ (o : Option EnsembleInformation). IsHeadOf o fs.heads) (is_sent plan u on) fs.header in
-    let items : frame_items (read_frame r plan.mode (frame_bytes p s)) ≡ head.0 ∷ fs.members = fs.are ∙ ap (λ hs. hs ++ fs.members) head.1 in
+    let items : frame_items (read_frame r plan.layout (frame_bytes p s)) ≡ head.0 ∷ fs.members = fs.are ∙ ap (λ hs. hs ++ fs.members) head.1 in
     subst (IsOpened plan u false []) (sym items) (headed_opens plan u a false [] head.0 fs.members head.2 head.3 fs.sent untuned refl refl)
 
 -- ---- after the frame
@@ -184,15 +185,15 @@ pub rows_after : (plan : Plan) (u : State) (due : Bool) (past : List Moment) (it
 rows_after plan u due past items o = ap rows o.are ∙ rows_stay o.members o.opening o.none ∙ o.rows_left
 
 -- an entry with C/N 1 that is heard in the bytes of the frame
-pub next_noted : FrameLaws → (r : Reading) (plan : Plan) (u : State) → Airs plan u → (due : Bool) (past : List Moment) → IsOpened plan u due past (frame_items (read_frame r plan.mode (shown_bytes plan u))) → (after : Listening)
-    → listening (said (frame_items (read_frame r plan.mode (shown_bytes plan u))) past) ≡ Some after → (m : Marked) → m.next ≡ true → IsHeardInRow (shown_bytes plan u) m
-    → IsNoted (key_of (raw_entry m.entry)) (said (frame_items (read_frame r plan.mode (shown_bytes plan u))) past)
+pub next_noted : FrameLaws → (r : Reading) (plan : Plan) (u : State) → Airs plan u → (due : Bool) (past : List Moment) → IsOpened plan u due past (frame_items (read_frame r plan.layout (shown_bytes plan u))) → (after : Listening)
+    → listening (said (frame_items (read_frame r plan.layout (shown_bytes plan u))) past) ≡ Some after → (m : Marked) → m.next ≡ true → IsHeardInRow (shown_bytes plan u) m
+    → IsNoted (key_of (raw_entry m.entry)) (said (frame_items (read_frame r plan.layout (shown_bytes plan u))) past)
 next_noted laws r plan u a due past o after all m next row =
-    let frame : List Fib = read_frame r plan.mode (shown_bytes plan u) in
+    let frame : List Fib = read_frame r plan.layout (shown_bytes plan u) in
     let key : ℕ = key_of (raw_entry m.entry) in
     let able = pageable laws.heard.pages plan u a in
-    let long = (laws.heard.pages.valid plan.mode (ensemble_sent plan u) u.page_index (sent_entries plan u) able).1 in
-    let it : IsSaidOf (frame_items frame) m = row_said laws.one laws.size r plan.mode (shown_bytes plan u) m long row in
+    let long = (laws.heard.pages.valid plan.layout (ensemble_sent plan u) u.page_index (sent_entries plan u) able).1 in
+    let it : IsSaidOf (frame_items frame) m = row_said laws.one laws.size r plan.layout (shown_bytes plan u) m long row in
     let other : is_ensemble it.item ≡ false = ap (λ (x : Raw). x.ext == 0) it.raw ∙ some_ext row.1.organization in
     let whole : listening (said o.members o.opening) ≡ Some after = sym (ap listening o.are) ∙ all in
     subst (IsNoted key) (sym o.are)
@@ -201,18 +202,18 @@ next_noted laws r plan u a due past o after all m next row =
     some_ext : 1 ≤ ext_of m.entry → (ext_of m.entry == 0) ≡ false
     some_ext some = ne_eqb (ext_of m.entry) 0 (λ e. omega (arith, some, e))
 
-pub frame_next : FrameLaws → (r : Reading) (plan : Plan) (u : State) → Airs plan u → (due : Bool) (past : List Moment) → IsOpened plan u due past (frame_items (read_frame r plan.mode (shown_bytes plan u))) → (after : Listening)
-    → listening (said (frame_items (read_frame r plan.mode (shown_bytes plan u))) past) ≡ Some after
-    → HasNext (shown_bytes plan u) (row_at_hand (said (frame_items (read_frame r plan.mode (shown_bytes plan u))) past))
+pub frame_next : FrameLaws → (r : Reading) (plan : Plan) (u : State) → Airs plan u → (due : Bool) (past : List Moment) → IsOpened plan u due past (frame_items (read_frame r plan.layout (shown_bytes plan u))) → (after : Listening)
+    → listening (said (frame_items (read_frame r plan.layout (shown_bytes plan u))) past) ≡ Some after
+    → HasNext (shown_bytes plan u) (row_at_hand (said (frame_items (read_frame r plan.layout (shown_bytes plan u))) past))
 frame_next laws r plan u a due past o after all m next row = (next_noted laws r plan u a due past o after all m next row).row
 
 -- if no notice has begun after a frame on the air, nothing in the frame belongs to one
-pub frame_silent : FrameLaws → (r : Reading) (plan : Plan) (u : State) → Airs plan u → (due : Bool) (past : List Moment) → IsOpened plan u due past (frame_items (read_frame r plan.mode (shown_bytes plan u))) → (after : Listening)
-    → listening (said (frame_items (read_frame r plan.mode (shown_bytes plan u))) past) ≡ Some after → on_air plan u ≡ true
-    → has_begun (said (frame_items (read_frame r plan.mode (shown_bytes plan u))) past) ≡ false → SaysNothing (shown_bytes plan u)
+pub frame_silent : FrameLaws → (r : Reading) (plan : Plan) (u : State) → Airs plan u → (due : Bool) (past : List Moment) → IsOpened plan u due past (frame_items (read_frame r plan.layout (shown_bytes plan u))) → (after : Listening)
+    → listening (said (frame_items (read_frame r plan.layout (shown_bytes plan u))) past) ≡ Some after → on_air plan u ≡ true
+    → has_begun (said (frame_items (read_frame r plan.layout (shown_bytes plan u))) past) ≡ false → SaysNothing (shown_bytes plan u)
 frame_silent laws r plan u a due past o after all on quiet = record {
   none = λ m next row. false≢true (sym quiet ∙ (next_noted laws r plan u a due past o after all m next row).begun);
-  bare = λ header. elim (zero_or_not (u.count % count_step plan.mode)) [
+  bare = λ header. elim (zero_or_not (u.count % count_step (layout_mode plan.layout))) [
     | inl here ↦ false≢true (sym quiet ∙ ap has_begun o.are ∙ begun_stays o.members o.opening o.none (o.flagged here on))
     | inr off ↦ not_headed header off
   ];
@@ -221,8 +222,8 @@ frame_silent laws r plan u a due past o after all on quiet = record {
     none_some : (e : EnsembleInformation) → None ≡ Some e → ⊥
     none_some e is = cc is
 
-    not_headed : HasHeader (shown_bytes plan u) → u.count % count_step plan.mode ≢ 0 → ⊥
+    not_headed : HasHeader (shown_bytes plan u) → u.count % count_step (layout_mode plan.layout) ≢ 0 → ⊥
     not_headed (marked, e, heard) off =
         let able = pageable laws.heard.pages plan u a in
-        let sent = (laws.heard.pages.ensemble plan.mode (ensemble_sent plan u) u.page_index (sent_entries plan u) able marked e).0 heard in
+        let sent = (laws.heard.pages.ensemble plan.layout (ensemble_sent plan u) u.page_index (sent_entries plan u) able marked e).0 heard in
         none_some e (sym (not_sent plan u off) ∙ sent.1)

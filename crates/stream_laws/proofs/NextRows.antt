@@ -1,6 +1,7 @@
 -- The rows of a notice along a run: for each frame heard of it, the entries with C/N 1.
 use Rattle.std.proofs.Common.{◌≡◌, ℕ, ◌%◌, Bool, true, false, cond, List, [], ◌∷◌, ◌++◌, Some, refl, sym, ap, ◌∙◌, subst, inl, inr}
 use Rattle.std.proofs.lemmas.Bool.{false≢true}
+use Rattle.fib_codec.specs.Layouts.{layout_mode}
 use Rattle.fib_codec.specs.Modes.{count_step}
 use Rattle.fib_reader.specs.Listening.{Listening}
 use Rattle.stream_check.specs.Frames.{Reading}
@@ -34,17 +35,17 @@ some_frames (f ∷ fs) frame e = cc e
 
 -- one more frame, given its entries after FIG 0/0
 after_opened : FrameLaws → (r : Reading) (p : Program) (s : State) → Airs p.plan (shown p s) → (due : Bool) (past : List Moment) (count : ℕ) (heard : List (List ℕ))
-    → IsOpened p.plan (shown p s) due past (frame_items (read_frame r p.plan.mode (frame_bytes p s)))
-    → (after : Listening) → listening (said (frame_items (read_frame r p.plan.mode (frame_bytes p s))) past) ≡ Some after
+    → IsOpened p.plan (shown p s) due past (frame_items (read_frame r p.plan.layout (frame_bytes p s)))
+    → (after : Listening) → listening (said (frame_items (read_frame r p.plan.layout (frame_bytes p s))) past) ≡ Some after
     → heard_of p.plan (after_frame p s) ≡ more_heard (on_air p.plan (shown p s)) due heard (frame_bytes p s)
     → (heard ≡ [] → has_begun past ≡ false)
-    → (on_air p.plan (shown p s) ≡ true → is_cut_off (said (frame_items (read_frame r p.plan.mode (frame_bytes p s))) past) ≡ false → IsRowed (cond due [] heard) (cond due [] (rows past)))
+    → (on_air p.plan (shown p s) ≡ true → is_cut_off (said (frame_items (read_frame r p.plan.layout (frame_bytes p s))) past) ≡ false → IsRowed (cond due [] heard) (cond due [] (rows past)))
     → (b : Bool) → on_air p.plan (shown p s) ≡ b
-    → IsNoticing p.plan (Ended count ∷ said (frame_items (read_frame r p.plan.mode (frame_bytes p s))) past) (after_frame p s)
+    → IsNoticing p.plan (Ended count ∷ said (frame_items (read_frame r p.plan.layout (frame_bytes p s))) past) (after_frame p s)
 after_opened laws r p s a due past count heard o after all more fresh old false off =
     let plan : Plan = p.plan in
     let u : State = shown p s in
-    let items : List Item = frame_items (read_frame r plan.mode (frame_bytes p s)) in
+    let items : List Item = frame_items (read_frame r plan.layout (frame_bytes p s)) in
     let none : heard_of plan (after_frame p s) ≡ [] = quiet_heard plan u u.left refl a.ahead off in
     let before : cond due [] heard ≡ [] = sym (more ∙ ap (λ b. more_heard b due heard (frame_bytes p s)) off) ∙ none in
     let quiet : has_begun (said items past) ≡ false = still_quiet plan u due past items o off ∙ by due before in
@@ -60,7 +61,7 @@ after_opened laws r p s a due past count heard o after all more fresh old false 
 after_opened laws r p s a due past count heard o after all more fresh old true on =
     let plan : Plan = p.plan in
     let u : State = shown p s in
-    let items : List Item = frame_items (read_frame r plan.mode (frame_bytes p s)) in
+    let items : List Item = frame_items (read_frame r plan.layout (frame_bytes p s)) in
     let now : heard_of plan (after_frame p s) ≡ cond due [] heard ++ frame_bytes p s ∷ [] = more ∙ ap (λ b. more_heard b due heard (frame_bytes p s)) on in
     record {
       fresh = λ e. absurd (some_frames (cond due [] heard) (frame_bytes p s) (sym now ∙ e));
@@ -69,15 +70,15 @@ after_opened laws r p s a due past count heard o after all more fresh old true o
           subst (λ (hs : List (List ℕ)). IsRowed hs (rows (Ended count ∷ said items past))) (sym now) (grow before (has_begun (said items past)) refl);
     }
   where
-    grow : IsRowed (cond due [] heard) (rows (said (frame_items (read_frame r p.plan.mode (frame_bytes p s))) past))
-        → (b : Bool) → has_begun (said (frame_items (read_frame r p.plan.mode (frame_bytes p s))) past) ≡ b
-        → IsRowed (cond due [] heard ++ frame_bytes p s ∷ []) (rows (Ended count ∷ said (frame_items (read_frame r p.plan.mode (frame_bytes p s))) past))
+    grow : IsRowed (cond due [] heard) (rows (said (frame_items (read_frame r p.plan.layout (frame_bytes p s))) past))
+        → (b : Bool) → has_begun (said (frame_items (read_frame r p.plan.layout (frame_bytes p s))) past) ≡ b
+        → IsRowed (cond due [] heard ++ frame_bytes p s ∷ []) (rows (Ended count ∷ said (frame_items (read_frame r p.plan.layout (frame_bytes p s))) past))
     grow before true begun =
-        let later : List Moment = said (frame_items (read_frame r p.plan.mode (frame_bytes p s))) past in
+        let later : List Moment = said (frame_items (read_frame r p.plan.layout (frame_bytes p s))) past in
         subst (IsRowed (cond due [] heard ++ frame_bytes p s ∷ [])) (sym (ap (λ t. cond t (rows later ++ row_at_hand later ∷ []) []) begun))
         (rowed_more (cond due [] heard) (rows later) (frame_bytes p s) (row_at_hand later) before (frame_next laws r p.plan (shown p s) a due past o after all))
     grow before false quiet =
-        let later : List Moment = said (frame_items (read_frame r p.plan.mode (frame_bytes p s))) past in
+        let later : List Moment = said (frame_items (read_frame r p.plan.layout (frame_bytes p s))) past in
         subst (IsRowed (cond due [] heard ++ frame_bytes p s ∷ [])) (sym (ap (λ t. cond t (rows later ++ row_at_hand later ∷ []) []) quiet))
         (rowed_silent (cond due [] heard) (rows later) (frame_bytes p s) before (begun_rows later quiet) (frame_silent laws r p.plan (shown p s) a due past o after all on quiet))
 
@@ -86,36 +87,36 @@ before_of plan past s (inl first) = inl first
 before_of plan past s (inr (b, g)) = inr b
 
 next_noticing : FrameLaws → (r : Reading) (p : Program) (ts : List Known) → IsCode p ts → (s : State) → Holds p ts s → (past : List Moment) → IsBetween p.plan past s → IsNoticing p.plan past s → (count : ℕ) (after : Listening)
-    → listening (said (frame_items (read_frame r p.plan.mode (frame_bytes p s))) past) ≡ Some after
-    → IsNoticing p.plan (Ended count ∷ said (frame_items (read_frame r p.plan.mode (frame_bytes p s))) past) (after_frame p s)
+    → listening (said (frame_items (read_frame r p.plan.layout (frame_bytes p s))) past) ≡ Some after
+    → IsNoticing p.plan (Ended count ∷ said (frame_items (read_frame r p.plan.layout (frame_bytes p s))) past) (after_frame p s)
 next_noticing laws r p ts c s holds past b g count after all =
     after_opened laws r p s (airs p ts c s holds) (is_due s.left) past count (heard_of p.plan s) (next_opened laws r p ts c s holds past b) after all (heard_then p ts c s holds) g.fresh
     (λ on cut. by (is_due s.left) refl cut) (on_air p.plan (shown p s)) refl
   where
-    by : (d : Bool) → is_due s.left ≡ d → is_cut_off (said (frame_items (read_frame r p.plan.mode (frame_bytes p s))) past) ≡ false → IsRowed (cond d [] (heard_of p.plan s)) (cond d [] (rows past))
+    by : (d : Bool) → is_due s.left ≡ d → is_cut_off (said (frame_items (read_frame r p.plan.layout (frame_bytes p s))) past) ≡ false → IsRowed (cond d [] (heard_of p.plan s)) (cond d [] (rows past))
     by true due cut = none_rowed
     by false due cut = g.rowed (sym (cut_still laws.one laws.heard r p ts c s holds past b due) ∙ cut)
 
-first_noticing : FrameLaws → (r : Reading) (p : Program) (ts : List Known) → IsCode p ts → (s : State) → Holds p ts s → s.count % count_step p.plan.mode ≡ 0 → (count : ℕ) (after : Listening)
-    → listening (said (frame_items (read_frame r p.plan.mode (frame_bytes p s))) []) ≡ Some after
-    → IsNoticing p.plan (Ended count ∷ said (frame_items (read_frame r p.plan.mode (frame_bytes p s))) []) (after_frame p s)
+first_noticing : FrameLaws → (r : Reading) (p : Program) (ts : List Known) → IsCode p ts → (s : State) → Holds p ts s → s.count % count_step (layout_mode p.plan.layout) ≡ 0 → (count : ℕ) (after : Listening)
+    → listening (said (frame_items (read_frame r p.plan.layout (frame_bytes p s))) []) ≡ Some after
+    → IsNoticing p.plan (Ended count ∷ said (frame_items (read_frame r p.plan.layout (frame_bytes p s))) []) (after_frame p s)
 first_noticing laws r p ts c s holds whole count after all =
     let plan : Plan = p.plan in
-    let here : (shown p s).count % count_step plan.mode ≡ 0 = ap (λ n. n % count_step plan.mode) (links p ts c s holds).count ∙ whole in
+    let here : (shown p s).count % count_step (layout_mode plan.layout) ≡ 0 = ap (λ n. n % count_step (layout_mode plan.layout)) (links p ts c s holds).count ∙ whole in
     after_opened laws r p s (airs p ts c s holds) false [] count (cond (is_due s.left) [] (heard_of plan s)) (first_opened laws r p ts c s holds whole) after all (heard_then p ts c s holds) (λ e. refl)
     (λ on cut. absurd (false≢true (sym cut ∙ cut_first laws.one laws.heard r p ts c s holds here on))) (on_air plan (shown p s)) refl
 
 pub noticing : FrameLaws → (r : Reading) (period : ℕ) (p : Program) (ts : List Known) → IsCode p ts → (s : State) → Holds p ts s → (past : List Moment) → IsReading p.plan past s
-    → IsReading p.plan (after_read (count_step p.plan.mode) past (read_frame r p.plan.mode (frame_bytes p s))) (after_frame p s)
+    → IsReading p.plan (after_read (count_step (layout_mode p.plan.layout)) past (read_frame r p.plan.layout (frame_bytes p s))) (after_frame p s)
 noticing laws r period p ts c s holds past reading =
     let now = agrees_by laws.one laws.heard r period p ts c s holds past (before_of p.plan past s reading) in
     inr (now.after, by reading now.after.heard now.after.is)
   where
-    by : IsReading p.plan past s → (after : Listening) → listening (said (frame_items (read_frame r p.plan.mode (frame_bytes p s))) past) ≡ Some after
-        → IsNoticing p.plan (after_read (count_step p.plan.mode) past (read_frame r p.plan.mode (frame_bytes p s))) (after_frame p s)
+    by : IsReading p.plan past s → (after : Listening) → listening (said (frame_items (read_frame r p.plan.layout (frame_bytes p s))) past) ≡ Some after
+        → IsNoticing p.plan (after_read (count_step (layout_mode p.plan.layout)) past (read_frame r p.plan.layout (frame_bytes p s))) (after_frame p s)
     by (inl (none, on)) after all =
-        subst (λ (l : List Moment). listening (said (frame_items (read_frame r p.plan.mode (frame_bytes p s))) l) ≡ Some after
-        → IsNoticing p.plan (after_read (count_step p.plan.mode) l (read_frame r p.plan.mode (frame_bytes p s))) (after_frame p s))
+        subst (λ (l : List Moment). listening (said (frame_items (read_frame r p.plan.layout (frame_bytes p s))) l) ≡ Some after
+        → IsNoticing p.plan (after_read (count_step (layout_mode p.plan.layout)) l (read_frame r p.plan.layout (frame_bytes p s))) (after_frame p s))
         (sym none) (λ heard. first_noticing laws r p ts c s holds on _ after heard) all
     by (inr (b, g)) after all = next_noticing laws r p ts c s holds past b g _ after all
 

@@ -2,6 +2,7 @@
 use Rattle.std.proofs.Common.{◌≡◌, ℕ, zero, suc, ◌+◌, ◌-◌, ◌%◌, ◌<◌, ◌≤◌, Bool, true, false, cond, List, Contains, Option, Some, None, refl, sym, ap, ◌∙◌, subst, arith}
 use Rattle.std.proofs.lemmas.Bool.{lt-ltb}
 use Rattle.std.proofs.lemmas.List.Elements.{Contains-append_left, Contains-append_right}
+use Rattle.fib_codec.specs.Layouts.{layout_mode}
 use Rattle.mux_config.specs.Configuration.{Configuration}
 use Rattle.mux_entries.specs.Facts.{Marked, marked, facts_of}
 use Rattle.fib_codec.specs.declared.modes.Mode.{Mode}
@@ -56,7 +57,7 @@ notice_airs plan c n eid count i d below =
       ahead = ahead;
       on_air = d.on_air;
       committed = d.committed;
-      swaps = swap_base plan.mode plan.notice count i below d.notice_to d.count_low d.on_step;
+      swaps = swap_base (layout_mode plan.layout) plan.notice count i below d.notice_to d.count_low d.on_step;
       page_index = record {
         within = λ inside. sym (ap (page_of (both_rounds plan c n)) back);
         before = λ past. absurd (omega (arith, past));
@@ -65,16 +66,16 @@ notice_airs plan c n eid count i d below =
 
 -- an entry of the page in turn is heard
 notice_hears : PageLaws → (plan : Plan) (c n : Configuration) (eid count i : ℕ) → IsDue plan c n eid count → i < plan.notice → (m : Marked)
-    → Contains (page_entries plan.mode (page_of (both_rounds plan c n) i) (page_set c (Some n))) m → IsHeardInRow (notice_at plan c n eid (base_of plan count 0) i) m
+    → Contains (page_entries plan.layout (page_of (both_rounds plan c n) i) (page_set c (Some n))) m → IsHeardInRow (notice_at plan c n eid (base_of plan count 0) i) m
 notice_hears laws plan c n eid count i d below m inside =
     let base : ℕ = base_of plan count 0 in
     let st : State = noticed_state plan c n eid base i in
     let a = notice_airs plan c n eid count i d below in
     let yes = noticed plan.notice (plan.notice - i) (omega (arith, below)) (omega arith) in
     let entries : sent_entries plan st ≡ page_set c (Some n) = ap (λ (b : Bool). page_set c (cond b (Some n) None)) yes in
-    let there : Contains (page_entries plan.mode st.page_index (sent_entries plan st)) m =
-    subst (λ (es : List Marked). Contains (page_entries plan.mode (page_of (both_rounds plan c n) i) es) m) (sym entries) inside in
-    let heard : IsHeardInRow (shown_bytes plan st) m = (laws.heard plan.mode (ensemble_sent plan st) st.page_index (sent_entries plan st) (pageable laws plan st a) m).1 there in
+    let there : Contains (page_entries plan.layout st.page_index (sent_entries plan st)) m =
+    subst (λ (es : List Marked). Contains (page_entries plan.layout (page_of (both_rounds plan c n) i) es) m) (sym entries) inside in
+    let heard : IsHeardInRow (shown_bytes plan st) m = (laws.heard plan.layout (ensemble_sent plan st) st.page_index (sent_entries plan st) (pageable laws plan st a) m).1 there in
     subst (λ (b : List ℕ). IsHeardInRow b m) (sym (notice_at_is plan c n eid base i)) heard
 
 pub due_left : (left : Option ℕ) → is_due left ≡ true → left ≡ Some 0
@@ -85,7 +86,7 @@ notice_has : PageLaws → (p : Program) (ts : List Known) → IsCode p ts → (s
 notice_has laws p ts c s h due m inside =
     let plan : Plan = p.plan in
     let is = due_left s.left due in
-    let whole : (s.count + 0) % count_step plan.mode ≡ 0 = subst (λ (o : Option ℕ). SwapsOn plan s.count o) is h.tracked.swaps in
+    let whole : (s.count + 0) % count_step (layout_mode plan.layout) ≡ 0 = subst (λ (o : Option ℕ). SwapsOn plan s.count o) is h.tracked.swaps in
     let none : s.count + 0 ≡ s.count = omega arith in
     let all : plan.notice - 0 ≡ plan.notice = omega arith in
     let d : IsDue plan s.current s.next s.eid s.count =
@@ -98,14 +99,14 @@ notice_has laws p ts c s h due m inside =
       next = h.tracked.next;
       on_air = h.between.kept.on_air;
       committed = subst (λ (o : Option ℕ). CommittedBy plan o s.current s.next) is h.between.kept.committed;
-      on_step = subst (λ (x : ℕ). x % count_step plan.mode ≡ 0) none whole;
+      on_step = subst (λ (x : ℕ). x % count_step (layout_mode plan.layout) ≡ 0) none whole;
     } in
     let f : ℕ → List ℕ = notice_at plan s.current s.next s.eid (base_of plan s.count 0) in
     let pages : ℕ = both_rounds plan s.current s.next in
-    let there = laws.each plan.mode (page_set s.current (Some s.next)) m inside in
+    let there = laws.each plan.layout (page_set s.current (Some s.next)) m inside in
     let j : ℕ = there.0 in
-    let here : Contains (page_entries plan.mode (page_of pages j) (page_set s.current (Some s.next))) m =
-    subst (λ (x : ℕ). Contains (page_entries plan.mode x (page_set s.current (Some s.next))) m) (sym (page_up pages j there.1)) there.2 in
+    let here : Contains (page_entries plan.layout (page_of pages j) (page_set s.current (Some s.next))) m =
+    subst (λ (x : ℕ). Contains (page_entries plan.layout x (page_set s.current (Some s.next))) m) (sym (page_up pages j there.1)) there.2 in
     let below : j < plan.notice = omega (arith, there.1, d.committed.three_times) in
     let heard : heard_of plan s ≡ frames_from f 0 plan.notice = heard_is plan s 0 is ∙ ap (frames_from f 0) all in
     subst (λ (xs : List (List ℕ)). IsHeardInSome xs m) (sym heard)

@@ -1,6 +1,7 @@
 -- The rows of a notice and its frames.
 use Rattle.std.proofs.Common.{◌≡◌, ℕ, ◌%◌, true, false, List, [], ◌∷◌, ◌++◌, Contains, ◌⊎◌}
 use Rattle.std.specs.List.{AllByRecursion}
+use Rattle.fib_codec.specs.Layouts.{layout_mode}
 use Rattle.mux_entries.specs.Facts.{Marked}
 use Rattle.fib_codec.specs.Heard.{IsHeardInRow}
 use Rattle.fib_codec.specs.Modes.{count_step}
@@ -46,4 +47,4 @@ pub record IsNoticing (plan : Plan) (past : List Moment) (s : State) : Type 0 wh
 
 -- nothing was heard, and the next frame has FIG 0/0; or frames were heard
 abbrev pub IsReading : Plan → List Moment → State → Type 0
-IsReading plan past s = ((past ≡ []) × (s.count % count_step plan.mode ≡ 0)) ⊎ (IsBetween plan past s × IsNoticing plan past s)
+IsReading plan past s = ((past ≡ []) × (s.count % count_step (layout_mode plan.layout) ≡ 0)) ⊎ (IsBetween plan past s × IsNoticing plan past s)

@@ -2,6 +2,7 @@
 use Rattle.std.proofs.Common.{◌≡◌, ℕ, ◌≤◌, ◌&&◌, Bool, true, false, not, nat_lt, List, [], ◌∷◌, Contains, Option, None, refl, sym, ap, ◌∙◌, subst, arith, inl, inr, le-ltb}
 use Rattle.std.specs.Prelude.{map}
 use Rattle.std.proofs.lemmas.Bool.{false≢true}
+use Rattle.fib_codec.specs.Layouts.{layout_mode}
 use Rattle.mux_config.specs.Configuration.{Configuration}
 use Rattle.mux_entries.specs.Entries.{EnsembleInformation}
 use Rattle.mux_entries.specs.Facts.{Marked, marked, facts_of}
@@ -85,7 +86,7 @@ none_made : {X : Type 0} (e : EnsembleInformation) (o : Option ℕ) → o ≡ No
 none_made e o none made = absurd (false≢true (sym (ap (λ x. is_made x e) none) ∙ made))
 
 repeated : IsTheMost → FrameLaws → (period : ℕ) (p : Program) (ts : List Known) → IsCode p ts → (s : State) → Holds p ts s → (past : List Moment) → IsReading p.plan past s → (e : EnsembleInformation) → e ≡ ensemble_of p.plan (shown p s)
-    → makes_swap (known_of (count_step p.plan.mode) period past) e ≡ true → IsSwapSpared is_of_repetition (known_of (count_step p.plan.mode) period past)
+    → makes_swap (known_of (count_step (layout_mode p.plan.layout)) period past) e ≡ true → IsSwapSpared is_of_repetition (known_of (count_step (layout_mode p.plan.layout)) period past)
 repeated most laws period p ts c s holds past (inl (none, on)) e says made =
     none_made e (listener_after past).awaited (ap (λ (l : List Moment). (listener_after l).awaited) none) made
 repeated most laws period p ts c s holds past (inr (b, g)) e says made =

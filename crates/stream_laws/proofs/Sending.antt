@@ -1,21 +1,22 @@
 -- The entries of a frame of a run, as the checker hears them.
-use Rattle.std.proofs.Common.{◌≡◌, ℕ, ◌+◌, ◌-◌, ◌*◌, ◌/◌, ◌%◌, ◌≤◌, ◌==◌, Bool, true, false, cond, List, [], ◌∷◌, ◌++◌, length, drop, Option, Some, None, refl, sym, ap, ◌∙◌, subst, arith, inl, inr}
+use Rattle.std.proofs.Common.{◌≡◌, ℕ, ◌+◌, ◌-◌, ◌*◌, ◌/◌, ◌%◌, ◌≤◌, ◌==◌, Bool, true, false, cond, List, [], ◌∷◌, ◌++◌, length, drop, Option, Some, None, refl, sym, ap, ◌∙◌, subst, arith, inl, inr, replicate, zero, suc}
 use Rattle.std.specs.Prelude.{map, IfSome}
 use Rattle.std.specs.List.{AllByRecursion}
 use Rattle.std.proofs.lemmas.List.{append_assoc, drop-drop}
+use Rattle.fib_codec.specs.Layouts.{frame_fibs, reserved_fibs}
+use Rattle.fib_codec.specs.declared.frame_layout.FrameLayout.{FrameLayout}
+use Rattle.fib_codec.specs.declared.frame_layout.FrameLayout.TheVariants.{Whole, ReserveOne, ReserveTwo}
 use Rattle.mux_config.specs.Configuration.{Configuration}
 use Rattle.mux_entries.specs.Entries.{EnsembleInformation}
 use Rattle.mux_entries.specs.Facts.{Marked, marked, facts_of}
 use Rattle.mux_entries.specs.declared.entry.Entry.{Entry}
 use Rattle.mux_entries.specs.declared.entry.Entry.TheVariants.{Ensemble as EnsembleOf, Sub as SubOf, Short as ShortOf, Service as ServiceOf, Packet as PacketOf}
 use Rattle.fib_codec.specs.declared.head.Head.{Head}
-use Rattle.fib_codec.specs.declared.modes.Mode.{Mode}
 use Rattle.fib_codec.specs.declared.modes.Mode.TheVariants.{I, II, III, IV}
 use Rattle.fib_codec.specs.Ranges.{IsEnsembleInformation}
 use Rattle.fib_codec.specs.Spelling.{Written, head_of, head_byte, bit_of, entry_bytes, ext_of, is_long_entry}
 use Rattle.fib_codec.specs.Grammar.{OneList, fig_of, is_next, is_long}
 use Rattle.fib_codec.specs.Heard.{fib_at}
-use Rattle.fib_codec.specs.Modes.{fib_count}
 use Rattle.fib_carousel.specs.Packing.{same_head, entries_where}
 use Rattle.fib_carousel.specs.Greedy.{packing}
 use Rattle.fib_carousel.specs.Pages.{page_set, fib_entries, first_fib, later_fibs}
@@ -145,17 +146,33 @@ head_items heard (Some e) within ws =
     let raw : h.raw ≡ raw_entry (EnsembleOf e) = raw_is m in
     (h ∷ [], false, refl, (h, refl, ap (λ (x : Raw). x.ext == 0) raw, ap ensemble_in raw ∙ heard e within))
 
-fibs_later : OneList → (r : Reading) (on : Bool) (c n : Configuration) (mode : Mode) (es : List Marked) (ns : List ℕ) (place : ℕ) (frame : List ℕ)
-    → AreFibs (map (λ k. figs_of (fib_entries mode k es)) ns) (drop (32 * place) frame) → AreSentOf on c n (map (λ k. fib_entries mode k es) ns)
-    → AllByRecursion (IsSentItem on c n) (fibs_items false (map r.read (fibs_from (length ns) place frame)))
-fibs_later one r on c n mode es [] place frame are sent = tt
-fibs_later one r on c n mode es (k ∷ ks) place frame are sent =
+-- FIBs without FIGs, the reserved ones
+none_later : OneList → (r : Reading) (on : Bool) (c n : Configuration) (count place : ℕ) (frame : List ℕ)
+    → AreFibs (replicate count []) (drop (32 * place) frame) → AllByRecursion (IsSentItem on c n) (fibs_items false (map r.read (fibs_from count place frame)))
+none_later one r on c n zero place frame are = tt
+none_later one r on c n (suc count) place frame are =
     let next : drop 32 (drop (32 * place) frame) ≡ drop (32 * (place + 1)) frame = drop-drop 32 (32 * place) frame ∙ ap (λ d. drop d frame) (omega arith) in
-    let rest : AreFibs (map (λ j. figs_of (fib_entries mode j es)) ks) (drop (32 * (place + 1)) frame) = subst (λ (b : List ℕ). AreFibs (map (λ j. figs_of (fib_entries mode j es)) ks) b) next are.1 in
-    let read : r.read (fib_at frame place) ≡ Some (map fig_of (figs_of (fib_entries mode k es))) = is_read one r (fib_at frame place) (map fig_of (figs_of (fib_entries mode k es))) are.0.fib in
+    let rest : AreFibs (replicate count []) (drop (32 * (place + 1)) frame) = subst (λ (b : List ℕ). AreFibs (replicate count []) b) next are.1 in
+    let read : r.read (fib_at frame place) ≡ Some [] = is_read one r (fib_at frame place) [] are.0.fib in
     all_append (IsSentItem on c n) (fib_items false (r.read (fib_at frame place))) _
-    (subst (λ (fib : Fib). AllByRecursion (IsSentItem on c n) (fib_items false fib)) (sym read) (items_sent on c n (figs_of (fib_entries mode k es)) false (figs_sent on c n (fib_entries mode k es) sent.0)))
-    (fibs_later one r on c n mode es ks (place + 1) frame rest sent.1)
+    (subst (λ (fib : Fib). AllByRecursion (IsSentItem on c n) (fib_items false fib)) (sym read) tt)
+    (none_later one r on c n count (place + 1) frame rest)
+
+fibs_later : OneList → (r : Reading) (on : Bool) (c n : Configuration) (layout : FrameLayout) (es : List Marked) (ns : List ℕ) (count place : ℕ) (frame : List ℕ)
+    → AreFibs (map (λ k. figs_of (fib_entries layout k es)) ns ++ replicate count []) (drop (32 * place) frame) → AreSentOf on c n (map (λ k. fib_entries layout k es) ns)
+    → AllByRecursion (IsSentItem on c n) (fibs_items false (map r.read (fibs_from (length ns + count) place frame)))
+fibs_later one r on c n layout es [] count place frame are sent =
+    let same : 0 + count ≡ count = omega arith in
+    subst (λ (k : ℕ). AllByRecursion (IsSentItem on c n) (fibs_items false (map r.read (fibs_from k place frame)))) (sym same) (none_later one r on c n count place frame are)
+fibs_later one r on c n layout es (k ∷ ks) count place frame are sent =
+    let next : drop 32 (drop (32 * place) frame) ≡ drop (32 * (place + 1)) frame = drop-drop 32 (32 * place) frame ∙ ap (λ d. drop d frame) (omega arith) in
+    let rest : AreFibs (map (λ j. figs_of (fib_entries layout j es)) ks ++ replicate count []) (drop (32 * (place + 1)) frame) = subst (λ (b : List ℕ). AreFibs (map (λ j. figs_of (fib_entries layout j es)) ks ++ replicate count []) b) next are.1 in
+    let longer : suc (length ks) + count ≡ suc (length ks + count) = omega arith in
+    let read : r.read (fib_at frame place) ≡ Some (map fig_of (figs_of (fib_entries layout k es))) = is_read one r (fib_at frame place) (map fig_of (figs_of (fib_entries layout k es))) are.0.fib in
+    subst (λ (j : ℕ). AllByRecursion (IsSentItem on c n) (fibs_items false (map r.read (fibs_from j place frame)))) (sym longer)
+    (all_append (IsSentItem on c n) (fib_items false (r.read (fib_at frame place))) _
+    (subst (λ (fib : Fib). AllByRecursion (IsSentItem on c n) (fib_items false fib)) (sym read) (items_sent on c n (figs_of (fib_entries layout k es)) false (figs_sent on c n (fib_entries layout k es) sent.0)))
+    (fibs_later one r on c n layout es ks count (place + 1) frame rest sent.1))
 
 -- the entries that are sent
 
@@ -180,36 +197,42 @@ sent_by c n true m h =
       | inr there ↦ (let fact = fact_in true (entries_of n) m there in inr (refl, sym fact.0, fact.1))
     ]
 
-fib_sent : (plan : Plan) (u : State) (k : ℕ) → AllByRecursion (IsSentOf (is_noticed plan.notice u.left) u.current u.next) (fib_entries plan.mode k (sent_entries plan u))
+fib_sent : (plan : Plan) (u : State) (k : ℕ) → AllByRecursion (IsSentOf (is_noticed plan.notice u.left) u.current u.next) (fib_entries plan.layout k (sent_entries plan u))
 fib_sent plan u k =
-    each_where (IsSentOf (is_noticed plan.notice u.left) u.current u.next) (λ j. j == k) (sent_entries plan u) (packing plan.mode (sent_entries plan u))
+    each_where (IsSentOf (is_noticed plan.notice u.left) u.current u.next) (λ j. j == k) (sent_entries plan u) (packing plan.layout (sent_entries plan u))
     (each_from (IsSentOf (is_noticed plan.notice u.left) u.current u.next) (sent_entries plan u) (sent_by u.current u.next (is_noticed plan.notice u.left)))
 
-fibs_sent : (plan : Plan) (u : State) (ns : List ℕ) → AreSentOf (is_noticed plan.notice u.left) u.current u.next (map (λ k. fib_entries plan.mode k (sent_entries plan u)) ns)
+fibs_sent : (plan : Plan) (u : State) (ns : List ℕ) → AreSentOf (is_noticed plan.notice u.left) u.current u.next (map (λ k. fib_entries plan.layout k (sent_entries plan u)) ns)
 fibs_sent plan u [] = tt
 fibs_sent plan u (k ∷ ks) = (fib_sent plan u k, fibs_sent plan u ks)
 
-later_count : (mode : Mode) (k : ℕ) → fib_count mode - 1 ≡ length (later_fibs mode k)
-later_count I k = refl
-later_count II k = refl
-later_count III k = refl
-later_count IV k = refl
+later_count : (layout : FrameLayout) (k : ℕ) → frame_fibs layout - 1 ≡ length (later_fibs layout k) + reserved_fibs layout
+later_count (Whole I) k = refl
+later_count (Whole II) k = refl
+later_count (Whole III) k = refl
+later_count (Whole IV) k = refl
+later_count (ReserveOne I) k = refl
+later_count (ReserveOne II) k = refl
+later_count (ReserveOne III) k = refl
+later_count (ReserveOne IV) k = refl
+later_count ReserveTwo k = refl
 
-pub frame_said : OneList → Laws → (r : Reading) (plan : Plan) (u : State) → Airs plan u → IsFrameSaid plan u (read_frame r plan.mode (shown_bytes plan u))
+pub frame_said : OneList → Laws → (r : Reading) (plan : Plan) (u : State) → Airs plan u → IsFrameSaid plan u (read_frame r plan.layout (shown_bytes plan u))
 frame_said one laws r plan u a =
-    let mode : Mode = plan.mode in
+    let layout : FrameLayout = plan.layout in
     let on : Bool = is_noticed plan.notice u.left in
     let es : List Marked = sent_entries plan u in
     let o : Option EnsembleInformation = ensemble_sent plan u in
     let frame : List ℕ = shown_bytes plan u in
-    let ns : List ℕ = later_fibs mode u.page_index in
-    let first : List Marked = fib_entries mode (first_fib mode u.page_index) es in
-    let are = (laws.pages.valid mode o u.page_index es (pageable laws.pages plan u a)).0 in
+    let ns : List ℕ = later_fibs layout u.page_index in
+    let first : List Marked = fib_entries layout (first_fib layout u.page_index) es in
+    let are = (laws.pages.valid layout o u.page_index es (pageable laws.pages plan u a)).0 in
     let read : r.read (fib_at frame 0) ≡ Some (map fig_of (ensemble_figs o ++ figs_of first)) = is_read one r (fib_at frame 0) (map fig_of (ensemble_figs o ++ figs_of first)) are.0.fib in
     let head = head_items laws.ensemble o (sent_within plan u a) (figs_of first) in
-    let later : List Item = fibs_items false (map r.read (fibs_from (length ns) 1 frame)) in
-    let fibs : read_frame r mode frame ≡ r.read (fib_at frame 0) ∷ map r.read (fibs_from (length ns) 1 frame) =
-    ap (map r.read) (first_of_fibs mode frame) ∙ ap (λ k. r.read (fib_at frame 0) ∷ map r.read (fibs_from k 1 frame)) (later_count mode u.page_index) in
+    let reserved : ℕ = reserved_fibs layout in
+    let later : List Item = fibs_items false (map r.read (fibs_from (length ns + reserved) 1 frame)) in
+    let fibs : read_frame r layout frame ≡ r.read (fib_at frame 0) ∷ map r.read (fibs_from (length ns + reserved) 1 frame) =
+    ap (map r.read) (first_of_fibs layout frame) ∙ ap (λ k. r.read (fib_at frame 0) ∷ map r.read (fibs_from k 1 frame)) (later_count layout u.page_index) in
     record {
       heads = head.0;
       members = figs_items head.1 (map fig_of (figs_of first)) ++ later;
@@ -217,6 +240,6 @@ frame_said one laws r plan u a =
           ∙ append_assoc head.0 (figs_items head.1 (map fig_of (figs_of first))) later;
       header = head.3;
       sent = all_append (IsSentItem on u.current u.next) (figs_items head.1 (map fig_of (figs_of first))) later
-          (items_sent on u.current u.next (figs_of first) head.1 (figs_sent on u.current u.next first (fib_sent plan u (first_fib mode u.page_index))))
-          (fibs_later one r on u.current u.next mode es ns 1 frame are.1 (fibs_sent plan u ns));
+          (items_sent on u.current u.next (figs_of first) head.1 (figs_sent on u.current u.next first (fib_sent plan u (first_fib layout u.page_index))))
+          (fibs_later one r on u.current u.next layout es ns reserved 1 frame are.1 (fibs_sent plan u ns));
     }

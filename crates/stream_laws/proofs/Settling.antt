@@ -2,6 +2,7 @@
 use Rattle.std.proofs.Common.{◌≡◌, ℕ, ◌%◌, ◌==◌, ◌&&◌, Bool, true, false, cond, nat_le, List, [], ◌∷◌, ◌++◌, length, Option, Some, None, refl, sym, ap, ◌∙◌, subst, inl, inr, ◌+◌}
 use Rattle.std.specs.List.{AllByRecursion}
 use Rattle.std.proofs.lemmas.Bool.{false≢true, eq-eqb}
+use Rattle.fib_codec.specs.Layouts.{layout_mode}
 use Rattle.mux_config.specs.Configuration.{Configuration, IsConfiguration}
 use Rattle.mux_config.specs.Tables.{entry_at}
 use Rattle.mux_entries.specs.Entries.{EnsembleInformation}
@@ -150,7 +151,7 @@ pub record Enters (period : ℕ) (r : Reading) (p : Program) (s : State) (past :
   pub heard : Listening
   pub is : listening past ≡ Some heard
   pub entered : InFrame p.plan (shown p s) C N (headed (ensemble_sent p.plan (shown p s)) heard)
-  pub whole : IsSettledAt period (said (frame_items (read_frame r p.plan.mode (frame_bytes p s))) past) → HasAll (shown p s).current C
+  pub whole : IsSettledAt period (said (frame_items (read_frame r p.plan.layout (frame_bytes p s))) past) → HasAll (shown p s).current C
 
 pub said_settles : (period : ℕ) (on : Bool) (c n : Configuration) (items : List Item) (past : List Moment) → AllByRecursion (IsSentItem on c n) items → settles_at period (said items past) ≡ settles_at period past
 said_settles period on c n [] past all = refl
@@ -164,15 +165,15 @@ ended_same [] past = refl
 ended_same (i ∷ is) past = ended_same is (Said i ∷ past)
 
 pub frame_settled : FrameLaws → (r : Reading) (period : ℕ) (p : Program) (ts : List Known) → IsCode p ts → (s : State) → Holds p ts s → (past : List Moment) (C N : Raw → Type 0) → Enters period r p s past C N
-    → AreFreeOf is_of_appearance (findings_at_items (count_step p.plan.mode) period past (frame_items (read_frame r p.plan.mode (frame_bytes p s))))
+    → AreFreeOf is_of_appearance (findings_at_items (count_step (layout_mode p.plan.layout)) period past (frame_items (read_frame r p.plan.layout (frame_bytes p s))))
 frame_settled laws r period p ts c s holds past C N en =
     let plan : Plan = p.plan in
     let u : State = shown p s in
-    let step : ℕ = count_step plan.mode in
+    let step : ℕ = count_step (layout_mode plan.layout) in
     let on_it : Bool = on_air plan u in
     let a = airs p ts c s holds in
     let fs = frame_said laws.one laws.heard r plan u a in
-    let frame : List Item = frame_items (read_frame r plan.mode (frame_bytes p s)) in
+    let frame : List Item = frame_items (read_frame r plan.layout (frame_bytes p s)) in
     elim (zero_or_not (u.count % step)) [
       | inl on ↦
           let head = subst (λ (o : Option EnsembleInformation). IsHeadOf o fs.heads) (is_sent plan u on) fs.header in
@@ -203,15 +204,15 @@ frame_settled laws r period p ts c s holds past C N en =
 
 -- ---- when the current configuration is settled, one frame later
 
-pub headed_settles : FrameLaws → (r : Reading) (period : ℕ) (p : Program) (ts : List Known) → IsCode p ts → (s : State) → Holds p ts s → (past : List Moment) → (shown p s).count % count_step p.plan.mode ≡ 0 → (b : Bool)
+pub headed_settles : FrameLaws → (r : Reading) (period : ℕ) (p : Program) (ts : List Known) → IsCode p ts → (s : State) → Holds p ts s → (past : List Moment) → (shown p s).count % count_step (layout_mode p.plan.layout) ≡ 0 → (b : Bool)
     → ((h : Item) → is_ensemble h ≡ true → said_ensemble h ≡ ensemble_of p.plan (shown p s) → is_swap past h ≡ b)
-    → settles_at period (said (frame_items (read_frame r p.plan.mode (frame_bytes p s))) past) ≡ cond b (cond (is_cut_off past) (frames_ended past + period) 0) (settles_at period past)
+    → settles_at period (said (frame_items (read_frame r p.plan.layout (frame_bytes p s))) past) ≡ cond b (cond (is_cut_off past) (frames_ended past + period) 0) (settles_at period past)
 headed_settles laws r period p ts c s holds past on b swap =
     let plan : Plan = p.plan in
     let u : State = shown p s in
     let fs = frame_said laws.one laws.heard r plan u (airs p ts c s holds) in
     let head = subst (λ (o : Option EnsembleInformation). IsHeadOf o fs.heads) (is_sent plan u on) fs.header in
-    let items : frame_items (read_frame r plan.mode (frame_bytes p s)) ≡ head.0 ∷ fs.members = fs.are ∙ ap (λ hs. hs ++ fs.members) head.1 in
+    let items : frame_items (read_frame r plan.layout (frame_bytes p s)) ≡ head.0 ∷ fs.members = fs.are ∙ ap (λ hs. hs ++ fs.members) head.1 in
     ap (λ is. settles_at period (said is past)) items
     ∙ said_settles period (on_air plan u) u.current u.next fs.members (Said head.0 ∷ past) fs.sent
     ∙ ap (λ t. cond t (cond (is_cut_off past) (frames_ended past + period) 0) (settles_at period past)) (swap head.0 head.2 head.3)
@@ -223,12 +224,12 @@ swap_where_due p ts c s holds past between b due h ens says =
     ∙ made_where_due p ts c s holds past between ∙ due
 
 pub still_settles : FrameLaws → (r : Reading) (period : ℕ) (p : Program) (ts : List Known) → IsCode p ts → (s : State) → Holds p ts s → (past : List Moment) → IsBetween p.plan past s → is_due s.left ≡ false
-    → settles_at period (said (frame_items (read_frame r p.plan.mode (frame_bytes p s))) past) ≡ settles_at period past
+    → settles_at period (said (frame_items (read_frame r p.plan.layout (frame_bytes p s))) past) ≡ settles_at period past
 still_settles laws r period p ts c s holds past between due =
     let plan : Plan = p.plan in
     let u : State = shown p s in
     let fs = frame_said laws.one laws.heard r plan u (airs p ts c s holds) in
-    elim (zero_or_not (u.count % count_step plan.mode)) [
+    elim (zero_or_not (u.count % count_step (layout_mode plan.layout))) [
       | inl on ↦ headed_settles laws r period p ts c s holds past on false (swap_where_due p ts c s holds past between false due)
       | inr off ↦
           let bare : fs.heads ≡ [] = subst (λ (o : Option EnsembleInformation). IsHeadOf o fs.heads) (not_sent plan u off) fs.header in

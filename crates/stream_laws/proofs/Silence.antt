@@ -68,11 +68,11 @@ none_silent sort test (r ∷ rs) h =
 
 -- at the end of a frame, given the ages after it
 pub silent_free : (sort : Fault → Bool) → FrameLaws → (r : Reading) (period : ℕ) (p : Program) (ts : List Known) → IsCode p ts → (s : State) → Holds p ts s → (past : List Moment) → IsAging p.plan past s → 2 * p.plan.period ≤ period + 1
-    → AreFreeOf sort (silent_findings period (said (frame_items (read_frame r p.plan.mode (frame_bytes p s))) past))
+    → AreFreeOf sort (silent_findings period (said (frame_items (read_frame r p.plan.layout (frame_bytes p s))) past))
 silent_free sort laws r period p ts c s holds past aging long =
     let plan : Plan = p.plan in
     let t : State = after_frame p s in
-    let later : List Moment = said (frame_items (read_frame r plan.mode (frame_bytes p s))) past in
+    let later : List Moment = said (frame_items (read_frame r plan.layout (frame_bytes p s))) past in
     let b = (agrees_by laws.one laws.heard r period p ts c s holds past (before_of plan past s aging)).after in
     let g = ages laws r period p ts c s holds past aging in
     let same : listener_after later ≡ b.heard = after_is later b.heard b.is in
@@ -82,8 +82,8 @@ silent_free sort laws r period p ts c s holds past aging long =
     let it = entry_of t.current Nothing b.heard.current x part here in
     let m : Marked = marked false it.0 in
     let mine : Contains (facts_of t.current false) m = in_contains (facts_of t.current false) m (in_fact false (entries_of t.current) it.0 it.2) in
-    let there = laws.heard.pages.each plan.mode g.ms m (g.has m mine) in
-    let way = comes_in (rounds plan.mode g.ms) g.page_index there.0 g.below there.1 in
+    let there = laws.heard.pages.each plan.layout g.ms m (g.has m mine) in
+    let way = comes_in (rounds plan.layout g.ms) g.page_index there.0 g.below there.1 in
     let aged : frames_ended later + 1 + way.0 ≤ last_heard (key_of (raw_entry it.0)) later + g.bound = g.aged m mine there.0 there.1 there.2 way.0 way.1 in
     let bound = g.to in
     let keys : last_heard (key_of (raw_entry it.0)) later ≡ last_heard (key_of x) later = ap (λ (y : Raw). last_heard (key_of y) later) it.1 in

@@ -3,8 +3,9 @@ use Rattle.std.proofs.Common.{◌≡◌, ℕ, ◌%◌, ◌==◌, ◌&&◌, Bool,
 use Rattle.std.specs.Prelude.{map, unwrap_or}
 use Rattle.std.specs.List.{AllByRecursion}
 use Rattle.std.proofs.lemmas.Bool.{false≢true}
+use Rattle.fib_codec.specs.Layouts.{layout_mode, frame_fibs}
 use Rattle.mux_entries.specs.Entries.{EnsembleInformation}
-use Rattle.fib_codec.specs.Modes.{fib_count, count_step}
+use Rattle.fib_codec.specs.Modes.{count_step}
 use Rattle.fib_reader.specs.Raw.{Raw}
 use Rattle.fib_reader.specs.Listening.{identifier_of}
 use Rattle.stream_check.specs.declared.finding.EntryName.{EntryName}
@@ -183,14 +184,14 @@ silences_free sort silent (r ∷ rs) = (silent (name_of r), silences_free sort s
 
 -- what is known before a frame, and the findings in it
 pub record IsFrameFree (sort : Fault → Bool) (period : ℕ) (p : Program) (Inv : List Moment → State → Type 0) (s : State) (past : List Moment) (frame : List Fib) : Type 0 where
-  pub items : AreFreeOf sort (findings_at_items (count_step p.plan.mode) period past (frame_items frame))
+  pub items : AreFreeOf sort (findings_at_items (count_step (layout_mode p.plan.layout)) period past (frame_items frame))
   pub last : AreFreeOf sort (silent_findings period (said (frame_items frame) past))
-  pub after : Inv (after_read (count_step p.plan.mode) past frame) (after_frame p s)
+  pub after : Inv (after_read (count_step (layout_mode p.plan.layout)) past frame) (after_frame p s)
 
 -- the invariant is kept by each event
 pub record IsKeptUp (sort : Fault → Bool) (r : Reading) (period : ℕ) (p : Program) (ts : List Known) (Inv : List Moment → State → Type 0) : Type 0 where
   pub contact : (past : List Moment) (s : State) (d : ℕ) (closed : Bool) → Holds p ts s → Inv past s → Inv past (happens p s (Contact d closed))
-  pub frame : (past : List Moment) (s : State) → Holds p ts s → IsBefore p.plan past s → Inv past s → IsFrameFree sort period p Inv s past (read_frame r p.plan.mode (frame_bytes p s))
+  pub frame : (past : List Moment) (s : State) → Holds p ts s → IsBefore p.plan past s → Inv past s → IsFrameFree sort period p Inv s past (read_frame r p.plan.layout (frame_bytes p s))
 
 map_free : (sort : Fault → Bool) (at : FrameAt) (ws : List What) → AreFreeOf sort ws → AllByRecursion (λ (found : Finding). IsFreeOf sort found.what) (map (in_frame at) ws)
 map_free sort at [] all = tt
@@ -206,15 +207,15 @@ before_contact p past s d closed (inr b) = inr (record { heard = b.heard; is = b
 
 along : (sort : Fault → Bool) → IsNarrow sort → OneList → Laws → (r : Reading) (period : ℕ) (p : Program) (ts : List Known) (c : IsCode p ts) (Inv : List Moment → State → Type 0) → IsKeptUp sort r period p ts Inv → (s : State) (events : List Event) (holds : Holds p ts s)
     → (past : List Moment) → IsBefore p.plan past s → Inv past s
-    → AllByRecursion (λ (found : Finding). IsFreeOf sort found.what) (findings_of (fib_count p.plan.mode) (count_step p.plan.mode) period past (read_frames r (frames_of p.plan.mode (run_frames p s events))))
+    → AllByRecursion (λ (found : Finding). IsFreeOf sort found.what) (findings_of (frame_fibs p.plan.layout) (count_step (layout_mode p.plan.layout)) period past (read_frames r (frames_of p.plan.layout (run_frames p s events))))
 along sort n one laws r period p ts c Inv kept s [] holds past before inv = tt
 along sort n one laws r period p ts c Inv kept s (Contact d closed ∷ es) holds past before inv =
     along sort n one laws r period p ts c Inv kept (happens p s (Contact d closed)) es (happens_holds p ts c s (Contact d closed) holds) past
     (before_contact p past s d closed before) (kept.contact past s d closed holds inv)
 along sort n one laws r period p ts c Inv kept s (Frame ∷ es) holds past before inv =
-    let step : ℕ = count_step p.plan.mode in
-    let size : ℕ = fib_count p.plan.mode in
-    let frame : List Fib = read_frame r p.plan.mode (frame_bytes p s) in
+    let step : ℕ = count_step (layout_mode p.plan.layout) in
+    let size : ℕ = frame_fibs p.plan.layout in
+    let frame : List Fib = read_frame r p.plan.layout (frame_bytes p s) in
     let now = agrees_by one laws r period p ts c s holds past before in
     let free = kept.frame past s holds before inv in
     all_append (λ (found : Finding). IsFreeOf sort found.what) (findings_in size step period past frame) _
@@ -227,7 +228,7 @@ along sort n one laws r period p ts c Inv kept s (Frame ∷ es) holds past befor
 
 -- from the first frame with a FIG 0/0 on
 pub runs_free : (sort : Fault → Bool) → IsNarrow sort → OneList → Laws → (r : Reading) (p : Program) (s : State) (period : ℕ) (waiting events : List Event) (played : IsPlayed p s)
-    → (run p s waiting).count % count_step p.plan.mode ≡ 0 → (Inv : List Moment → State → Type 0) → IsKeptUp sort r period p played.typed.0 Inv → Inv [] (run p s waiting) → RunIsFreeOf sort r p (run p s waiting) period events
+    → (run p s waiting).count % count_step (layout_mode p.plan.layout) ≡ 0 → (Inv : List Moment → State → Type 0) → IsKeptUp sort r period p played.typed.0 Inv → Inv [] (run p s waiting) → RunIsFreeOf sort r p (run p s waiting) period events
 runs_free sort n one laws r p s period waiting events played on Inv kept inv =
     let ts : List Known = played.typed.0 in
     let code = code_of p s played in

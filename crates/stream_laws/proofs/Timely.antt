@@ -3,11 +3,12 @@ use Rattle.std.proofs.Common.{◌≡◌, ◌≢◌, ℕ, ◌+◌, ◌-◌, ◌/�
 use Rattle.std.specs.Prelude.{map}
 use Rattle.std.specs.List.{AllByRecursion}
 use Rattle.std.proofs.lemmas.Bool.{false≢true, eqb-true, ne_eqb}
+use Rattle.fib_codec.specs.Layouts.{layout_mode, frame_fibs}
 use Rattle.mux_entries.specs.Entries.{EnsembleInformation}
 use Rattle.fib_codec.specs.Grammar.{OneList}
 use Rattle.fib_codec.specs.declared.modes.Mode.{Mode}
 use Rattle.fib_codec.specs.declared.modes.Mode.TheVariants.{I, II, III, IV}
-use Rattle.fib_codec.specs.Modes.{fib_count, count_step}
+use Rattle.fib_codec.specs.Modes.{count_step}
 use Rattle.fib_reader.specs.Listening.{Listening, is_made}
 use Rattle.stream_check.specs.declared.finding.What.{What}
 use Rattle.stream_check.specs.declared.finding.Finding.{Finding}
@@ -53,11 +54,11 @@ use Rattle.stream_laws.proofs.Named.{none_of, made_where_due}
 -- a notice that was heard from its beginning has been announced as often as its frames so far require
 abbrev IsCounted : Plan → List Moment → Option ℕ → Type 0
 IsCounted plan past left =
-    is_cut_off past ≡ false → (k : ℕ) → left ≡ Some k → k < plan.notice → plan.notice / count_step plan.mode ≤ times_announced past + k / count_step plan.mode
+    is_cut_off past ≡ false → (k : ℕ) → left ≡ Some k → k < plan.notice → plan.notice / count_step (layout_mode plan.layout) ≤ times_announced past + k / count_step (layout_mode plan.layout)
 
 -- the same in a frame, before and after FIG 0/0
 abbrev IsCountedAt : Plan → List Moment → ℕ → Type 0
-IsCountedAt plan past k = plan.notice / count_step plan.mode ≤ times_announced past + k / count_step plan.mode
+IsCountedAt plan past k = plan.notice / count_step (layout_mode plan.layout) ≤ times_announced past + k / count_step (layout_mode plan.layout)
 
 said_times : (items : List Item) (past : List Moment) → HasNone items → times_announced (said items past) ≡ times_announced past
 said_times [] past none = refl
@@ -104,11 +105,11 @@ pub tuned_by : (plan : Plan) (left : Option ℕ) (c n : Configuration) (count : 
 tuned_by plan None c n count l h = h.is_tuned
 tuned_by plan (Some k) c n count l h = elim (split_le plan.notice k) [ inl late ↦ (h.outside late).is_tuned | inr below ↦ (h.inside below).knows.is_tuned ]
 
-newly_whole : (plan : Plan) (count : ℕ) (left : Option ℕ) (k t : ℕ) → IsNewly plan count left → left ≡ Some k → k ≤ plan.notice → plan.notice / count_step plan.mode ≤ t + k / count_step plan.mode
+newly_whole : (plan : Plan) (count : ℕ) (left : Option ℕ) (k t : ℕ) → IsNewly plan count left → left ≡ Some k → k ≤ plan.notice → plan.notice / count_step (layout_mode plan.layout) ≤ t + k / count_step (layout_mode plan.layout)
 newly_whole plan count None k t new is to = no_counts k is
 newly_whole plan count (Some j) k t new is to =
     let same : j ≡ k = inner j k is in
-    whole_notice plan.mode plan.notice t k (omega (arith, new.0, same)) to
+    whole_notice (layout_mode plan.layout) plan.notice t k (omega (arith, new.0, same)) to
 
 -- in a frame of the notice, where no swap is due
 counted_at : (plan : Plan) (s u : State) (past : List Moment) (left : Option ℕ) (k : ℕ) → s.left ≡ left → LeftBy plan s.count left s.next u.left u.next → IsCounted plan past s.left → is_cut_off past ≡ false → u.left ≡ Some k → k ≤ plan.notice
@@ -117,7 +118,7 @@ counted_at plan s u past None k is by h cut at to = newly_whole plan s.count u.l
 counted_at plan s u past (Some j) k is by h cut at to =
     let same : j ≡ k = inner j k (sym by.0 ∙ at) in
     elim (split_le plan.notice k) [
-      | inl from ↦ whole_notice plan.mode plan.notice (times_announced past) k from to
+      | inl from ↦ whole_notice (layout_mode plan.layout) plan.notice (times_announced past) k from to
       | inr below ↦ h cut k (is ∙ ap Some same) below
     ]
 
@@ -127,8 +128,8 @@ after_left None k e ahead = no_counts k e
 after_left (Some j) k e ahead = (j, refl, ahead, inner k (j - 1) (sym e))
 
 record FrameTimely (period : ℕ) (p : Program) (s : State) (past : List Moment) (frame : List Fib) : Type 0 where
-  found : AreTimely (findings_at_items (count_step p.plan.mode) period past (frame_items frame))
-  after : IsCounted p.plan (after_read (count_step p.plan.mode) past frame) (after_frame p s).left
+  found : AreTimely (findings_at_items (count_step (layout_mode p.plan.layout)) period past (frame_items frame))
+  after : IsCounted p.plan (after_read (count_step (layout_mode p.plan.layout)) past frame) (after_frame p s).left
 
 pub cut_is : (past : List Moment) (i : Item) (b : Bool) → is_ensemble i ≡ true → is_swap past i ≡ b → is_cut_off (Said i ∷ past) ≡ cond b false (cond (not (listener_after past).tuned) (is_flagged i) (is_cut_off past))
 cut_is past i b e sw =
@@ -140,14 +141,14 @@ flagged_where plan u a i ens says on = ensemble_flags i ens ∙ ap has_flags say
 
 -- the frame, from its entries
 with_head : (period : ℕ) (plan : Plan) (past : List Moment) (i : Item) (items : List Item) → is_ensemble i ≡ true → HasNone items
-    → (makes_swap (known_of (count_step plan.mode) period past) (said_ensemble i) ≡ true → (not (is_cut_off past) && nat_lt (at_most 3 (times_announced past)) 3) ≡ false)
-    → AreTimely (findings_at_items (count_step plan.mode) period past (i ∷ items))
+    → (makes_swap (known_of (count_step (layout_mode plan.layout)) period past) (said_ensemble i) ≡ true → (not (is_cut_off past) && nat_lt (at_most 3 (times_announced past)) 3) ≡ false)
+    → AreTimely (findings_at_items (count_step (layout_mode plan.layout)) period past (i ∷ items))
 with_head period plan past i items ens none h =
-    let k : Knowledge = known_of (count_step plan.mode) period past in
+    let k : Knowledge = known_of (count_step (layout_mode plan.layout)) period past in
     either (has_no_room k i) [] _ tt
     (both (findings_at k i) _
     (subst AreTimely (sym (ap (λ t. cond t (ensemble_findings k i.first (said_ensemble i)) (member_findings k i.next i.raw)) ens)) (head_timely k i.first (said_ensemble i) h))
-    (items_other (count_step plan.mode) period items (Said i ∷ past) none))
+    (items_other (count_step (layout_mode plan.layout)) period items (Said i ∷ past) none))
 
 soon_not : (cut : Bool) (n : ℕ) → (cut ≡ false → 3 ≤ n) → (not cut && nat_lt (at_most 3 n) 3) ≡ false
 soon_not true n h = refl
@@ -172,9 +173,9 @@ headed_timely period p ts c s holds past h counts frame i items are ens says non
     let later : List Moment = said items (Said i ∷ past) in
     let cut_later : is_cut_off later ≡ cond (is_due s.left) false (is_cut_off past) = said_cut items (Said i ∷ past) none ∙ cut in
     record {
-      found = subst (λ (is : List Item). AreTimely (findings_at_items (count_step plan.mode) period past is)) (sym are)
+      found = subst (λ (is : List Item). AreTimely (findings_at_items (count_step (layout_mode plan.layout)) period past is)) (sym are)
           (with_head period plan past i items ens none (λ is. soon_not (is_cut_off past) (times_announced past) (λ whole. enough whole s.left refl (sym made ∙ is))));
-      after = subst (λ (is : List Item). is_cut_off (said is past) ≡ false → (k : ℕ) → left_after_frame u.left ≡ Some k → k < plan.notice → plan.notice / count_step plan.mode ≤ times_announced (said is past) + k / count_step plan.mode) (sym are)
+      after = subst (λ (is : List Item). is_cut_off (said is past) ≡ false → (k : ℕ) → left_after_frame u.left ≡ Some k → k < plan.notice → plan.notice / count_step (layout_mode plan.layout) ≤ times_announced (said is past) + k / count_step (layout_mode plan.layout)) (sym are)
           (λ whole k is below.
           let there = after_left u.left k is a.ahead in
           let to : there.0 ≤ plan.notice = omega (arith, below, there.3, there.2) in
@@ -189,48 +190,48 @@ headed_timely period p ts c s holds past h counts frame i items are ens says non
     enough whole (Some j) is due =
         let none_left : j ≡ 0 = eqb-true j 0 due in
         let long : 12 ≤ p.plan.notice = omega (arith, c.program.planned.notice_from) in
-        long_enough p.plan.mode p.plan.notice (times_announced past) j long none_left (counts whole j is (omega (arith, none_left, long)))
+        long_enough (layout_mode p.plan.layout) p.plan.notice (times_announced past) j long none_left (counts whole j is (omega (arith, none_left, long)))
 
     by_due : (d : Bool) → is_due s.left ≡ d → Links p.plan s (shown p s) → (j : ℕ) → (shown p s).left ≡ Some j → 1 ≤ j → j ≤ p.plan.notice → (k : ℕ) → k ≡ j - 1 → cond d false (is_cut_off past) ≡ false
-        → times_announced (said items (Said i ∷ past)) ≡ cond d 1 (times_announced past + 1) → p.plan.notice / count_step p.plan.mode ≤ times_announced (said items (Said i ∷ past)) + k / count_step p.plan.mode
+        → times_announced (said items (Said i ∷ past)) ≡ cond d 1 (times_announced past + 1) → p.plan.notice / count_step (layout_mode p.plan.layout) ≤ times_announced (said items (Said i ∷ past)) + k / count_step (layout_mode p.plan.layout)
     by_due true due link j at some to k less cut times =
-        let whole : p.plan.notice / count_step p.plan.mode ≤ 0 + j / count_step p.plan.mode = newly_whole p.plan s.count (shown p s).left j 0 (link.due due) at to in
-        let one : p.plan.notice / count_step p.plan.mode ≤ (0 + 1) + (j - 1) / count_step p.plan.mode = with_one p.plan.mode p.plan.notice 0 j some whole in
-        subst (λ (n : ℕ). p.plan.notice / count_step p.plan.mode ≤ n + k / count_step p.plan.mode) (sym times) (subst (λ (n : ℕ). p.plan.notice / count_step p.plan.mode ≤ 1 + n / count_step p.plan.mode) (sym less) one)
+        let whole : p.plan.notice / count_step (layout_mode p.plan.layout) ≤ 0 + j / count_step (layout_mode p.plan.layout) = newly_whole p.plan s.count (shown p s).left j 0 (link.due due) at to in
+        let one : p.plan.notice / count_step (layout_mode p.plan.layout) ≤ (0 + 1) + (j - 1) / count_step (layout_mode p.plan.layout) = with_one (layout_mode p.plan.layout) p.plan.notice 0 j some whole in
+        subst (λ (n : ℕ). p.plan.notice / count_step (layout_mode p.plan.layout) ≤ n + k / count_step (layout_mode p.plan.layout)) (sym times) (subst (λ (n : ℕ). p.plan.notice / count_step (layout_mode p.plan.layout) ≤ 1 + n / count_step (layout_mode p.plan.layout)) (sym less) one)
     by_due false due link j at some to k less cut times =
         let whole = counted_at p.plan s (shown p s) past s.left j refl (link.left due) counts cut at to in
-        let one = with_one p.plan.mode p.plan.notice (times_announced past) j some whole in
-        subst (λ (n : ℕ). p.plan.notice / count_step p.plan.mode ≤ n + k / count_step p.plan.mode) (sym times) (subst (λ (n : ℕ). p.plan.notice / count_step p.plan.mode ≤ (times_announced past + 1) + n / count_step p.plan.mode) (sym less) one)
+        let one = with_one (layout_mode p.plan.layout) p.plan.notice (times_announced past) j some whole in
+        subst (λ (n : ℕ). p.plan.notice / count_step (layout_mode p.plan.layout) ≤ n + k / count_step (layout_mode p.plan.layout)) (sym times) (subst (λ (n : ℕ). p.plan.notice / count_step (layout_mode p.plan.layout) ≤ (times_announced past + 1) + n / count_step (layout_mode p.plan.layout)) (sym less) one)
 
 bare_timely : (period : ℕ) (p : Program) (ts : List Known) (c : IsCode p ts) (s : State) (holds : Holds p ts s) (past : List Moment) → IsCounted p.plan past s.left
-    → (frame : List Fib) → HasNone (frame_items frame) → (shown p s).count % count_step p.plan.mode ≢ 0 → FrameTimely period p s past frame
+    → (frame : List Fib) → HasNone (frame_items frame) → (shown p s).count % count_step (layout_mode p.plan.layout) ≢ 0 → FrameTimely period p s past frame
 bare_timely period p ts c s holds past counts frame none off =
     let plan : Plan = p.plan in
     let u : State = shown p s in
     let a = airs p ts c s holds in
     let link = links p ts c s holds in
     record {
-      found = items_other (count_step plan.mode) period (frame_items frame) past none;
+      found = items_other (count_step (layout_mode plan.layout)) period (frame_items frame) past none;
       after = λ whole k is below.
           let there = after_left u.left k is a.ahead in
           let to : there.0 ≤ plan.notice = omega (arith, below, there.3, there.2) in
           let not_due : is_due s.left ≡ false = apart s.left refl link in
           let at = counted_at plan s u past s.left there.0 refl (link.left not_due) counts (sym (said_cut (frame_items frame) past none) ∙ whole) there.1 to in
-          let swaps : (u.count + there.0) % count_step plan.mode ≡ 0 = subst (λ (o : Option ℕ). SwapsOn plan u.count o) there.1 a.swaps in
-          let fewer = with_none plan.mode plan.notice (times_announced past) there.0 u.count there.2 swaps off at in
-          subst (λ (n : ℕ). plan.notice / count_step plan.mode ≤ n + k / count_step plan.mode) (sym (said_times (frame_items frame) past none))
-          (subst (λ (n : ℕ). plan.notice / count_step plan.mode ≤ times_announced past + n / count_step plan.mode) (sym there.3) fewer);
+          let swaps : (u.count + there.0) % count_step (layout_mode plan.layout) ≡ 0 = subst (λ (o : Option ℕ). SwapsOn plan u.count o) there.1 a.swaps in
+          let fewer = with_none (layout_mode plan.layout) plan.notice (times_announced past) there.0 u.count there.2 swaps off at in
+          subst (λ (n : ℕ). plan.notice / count_step (layout_mode plan.layout) ≤ n + k / count_step (layout_mode plan.layout)) (sym (said_times (frame_items frame) past none))
+          (subst (λ (n : ℕ). plan.notice / count_step (layout_mode plan.layout) ≤ times_announced past + n / count_step (layout_mode plan.layout)) (sym there.3) fewer);
     }
   where
     apart : (left : Option ℕ) → s.left ≡ left → Links p.plan s (shown p s) → is_due left ≡ false
     apart None is link = refl
     apart (Some j) is link = ne_eqb j 0 (λ none_left. off (sym_count j none_left is link))
       where
-        sym_count : (j : ℕ) → j ≡ 0 → s.left ≡ Some j → Links p.plan s (shown p s) → (shown p s).count % count_step p.plan.mode ≡ 0
+        sym_count : (j : ℕ) → j ≡ 0 → s.left ≡ Some j → Links p.plan s (shown p s) → (shown p s).count % count_step (layout_mode p.plan.layout) ≡ 0
         sym_count j none_left is link =
-            let on : (s.count + j) % count_step p.plan.mode ≡ 0 = subst (λ (o : Option ℕ). SwapsOn p.plan s.count o) is holds.tracked.swaps in
+            let on : (s.count + j) % count_step (layout_mode p.plan.layout) ≡ 0 = subst (λ (o : Option ℕ). SwapsOn p.plan s.count o) is holds.tracked.swaps in
             let same : s.count + j ≡ s.count = omega (arith, none_left) in
-            ap (λ n. n % count_step p.plan.mode) link.count ∙ ap (λ n. n % count_step p.plan.mode) (sym same) ∙ on
+            ap (λ n. n % count_step (layout_mode p.plan.layout)) link.count ∙ ap (λ n. n % count_step (layout_mode p.plan.layout)) (sym same) ∙ on
 
 first_timely : (period : ℕ) (p : Program) (ts : List Known) (c : IsCode p ts) (s : State) (holds : Holds p ts s)
     → (frame : List Fib) (i : Item) (items : List Item) → frame_items frame ≡ i ∷ items → is_ensemble i ≡ true → said_ensemble i ≡ ensemble_of p.plan (shown p s) → HasNone items → FrameTimely period p s [] frame
@@ -240,8 +241,8 @@ first_timely period p ts c s holds frame i items are ens says none =
     let a = airs p ts c s holds in
     let cut : is_cut_off (said items (Said i ∷ [])) ≡ is_flagged i = said_cut items (Said i ∷ []) none ∙ cut_is [] i false ens (ensemble_made [] i ens) in
     record {
-      found = subst (λ (is : List Item). AreTimely (findings_at_items (count_step plan.mode) period [] is)) (sym are) (with_head period plan [] i items ens none (λ is. absurd (false≢true is)));
-      after = subst (λ (is : List Item). is_cut_off (said is []) ≡ false → (k : ℕ) → left_after_frame u.left ≡ Some k → k < plan.notice → plan.notice / count_step plan.mode ≤ times_announced (said is []) + k / count_step plan.mode) (sym are)
+      found = subst (λ (is : List Item). AreTimely (findings_at_items (count_step (layout_mode plan.layout)) period [] is)) (sym are) (with_head period plan [] i items ens none (λ is. absurd (false≢true is)));
+      after = subst (λ (is : List Item). is_cut_off (said is []) ≡ false → (k : ℕ) → left_after_frame u.left ≡ Some k → k < plan.notice → plan.notice / count_step (layout_mode plan.layout) ≤ times_announced (said is []) + k / count_step (layout_mode plan.layout)) (sym are)
           (λ whole k is below.
           let there = after_left u.left k is a.ahead in
           let to : there.0 ≤ plan.notice = omega (arith, below, there.3, there.2) in
@@ -263,21 +264,21 @@ frame_found size step period past frame items =
     (both (findings_at_items step period past (frame_items frame)) _ items (last_other (runs_full step period past (frame_items frame)) period (said (frame_items frame) past))))
 
 timely_by : OneList → Laws → (r : Reading) (period : ℕ) (p : Program) (ts : List Known) (c : IsCode p ts) (s : State) (holds : Holds p ts s) (past : List Moment) (h : IsBetween p.plan past s) → IsCounted p.plan past s.left
-    → FrameTimely period p s past (read_frame r p.plan.mode (frame_bytes p s))
+    → FrameTimely period p s past (read_frame r p.plan.layout (frame_bytes p s))
 timely_by one laws r period p ts c s holds past h counts =
     let plan : Plan = p.plan in
     let u : State = shown p s in
     let a = airs p ts c s holds in
     let fs = frame_said one laws r plan u a in
     let none = none_of (on_air plan u) u fs.members fs.sent in
-    elim (zero_or_not (u.count % count_step plan.mode)) [
+    elim (zero_or_not (u.count % count_step (layout_mode plan.layout))) [
       | inl on ↦
           let head = subst (λ (o : Option EnsembleInformation). IsHeadOf o fs.heads) (is_sent plan u on) fs.header in
-          headed_timely period p ts c s holds past h counts (read_frame r plan.mode (frame_bytes p s)) head.0 fs.members (fs.are ∙ ap (λ hs. hs ++ fs.members) head.1) head.2 head.3 none
+          headed_timely period p ts c s holds past h counts (read_frame r plan.layout (frame_bytes p s)) head.0 fs.members (fs.are ∙ ap (λ hs. hs ++ fs.members) head.1) head.2 head.3 none
       | inr off ↦
           let bare : fs.heads ≡ [] = subst (λ (o : Option EnsembleInformation). IsHeadOf o fs.heads) (not_sent plan u off) fs.header in
-          let items : frame_items (read_frame r plan.mode (frame_bytes p s)) ≡ fs.members = fs.are ∙ ap (λ hs. hs ++ fs.members) bare in
-          bare_timely period p ts c s holds past counts (read_frame r plan.mode (frame_bytes p s)) (subst HasNone (sym items) none) off
+          let items : frame_items (read_frame r plan.layout (frame_bytes p s)) ≡ fs.members = fs.are ∙ ap (λ hs. hs ++ fs.members) bare in
+          bare_timely period p ts c s holds past counts (read_frame r plan.layout (frame_bytes p s)) (subst HasNone (sym items) none) off
     ]
 
 either_found : (b : Bool) (xs : List Finding) → AllByRecursion (λ (f : Finding). IsTimely f.what) xs → AllByRecursion (λ (f : Finding). IsTimely f.what) (cond b [] xs)
@@ -285,28 +286,28 @@ either_found true xs all = tt
 either_found false xs all = all
 
 along : OneList → Laws → (r : Reading) (period : ℕ) (p : Program) (ts : List Known) (c : IsCode p ts) (s : State) (events : List Event) (holds : Holds p ts s) (past : List Moment) (h : IsBetween p.plan past s) → IsCounted p.plan past s.left
-    → AllByRecursion (λ (found : Finding). IsTimely found.what) (findings_of (fib_count p.plan.mode) (count_step p.plan.mode) period past (read_frames r (frames_of p.plan.mode (run_frames p s events))))
+    → AllByRecursion (λ (found : Finding). IsTimely found.what) (findings_of (frame_fibs p.plan.layout) (count_step (layout_mode p.plan.layout)) period past (read_frames r (frames_of p.plan.layout (run_frames p s events))))
 along one laws r period p ts c s [] holds past h counts = tt
 along one laws r period p ts c s (Contact d closed ∷ es) holds past h counts =
     along one laws r period p ts c (happens p s (Contact d closed)) es (happens_holds p ts c s (Contact d closed) holds) past
     (record { heard = h.heard; is = h.is; knows = h.knows; fresh = h.fresh; pending = h.pending; early = h.early; flags = h.flags }) counts
 along one laws r period p ts c s (Frame ∷ es) holds past h counts =
-    let step : ℕ = count_step p.plan.mode in
-    let frame : List Fib = read_frame r p.plan.mode (frame_bytes p s) in
+    let step : ℕ = count_step (layout_mode p.plan.layout) in
+    let frame : List Fib = read_frame r p.plan.layout (frame_bytes p s) in
     let now = agrees_by one laws r period p ts c s holds past (inr h) in
     let one_frame = timely_by one laws r period p ts c s holds past h counts in
-    all_append (λ (found : Finding). IsTimely found.what) (findings_in (fib_count p.plan.mode) step period past frame) _ (frame_found (fib_count p.plan.mode) step period past frame one_frame.found)
+    all_append (λ (found : Finding). IsTimely found.what) (findings_in (frame_fibs p.plan.layout) step period past frame) _ (frame_found (frame_fibs p.plan.layout) step period past frame one_frame.found)
     (either_found (runs_full step period past (frame_items frame)) _ (along one laws r period p ts c (after_frame p s) es (frame_holds p ts c s holds) (after_read step past frame) now.after one_frame.after))
 
-from_first : OneList → Laws → (r : Reading) (period : ℕ) (p : Program) (ts : List Known) (c : IsCode p ts) (s : State) (events : List Event) (holds : Holds p ts s) → s.count % count_step p.plan.mode ≡ 0
-    → AllByRecursion (λ (found : Finding). IsTimely found.what) (findings_of (fib_count p.plan.mode) (count_step p.plan.mode) period [] (read_frames r (frames_of p.plan.mode (run_frames p s events))))
+from_first : OneList → Laws → (r : Reading) (period : ℕ) (p : Program) (ts : List Known) (c : IsCode p ts) (s : State) (events : List Event) (holds : Holds p ts s) → s.count % count_step (layout_mode p.plan.layout) ≡ 0
+    → AllByRecursion (λ (found : Finding). IsTimely found.what) (findings_of (frame_fibs p.plan.layout) (count_step (layout_mode p.plan.layout)) period [] (read_frames r (frames_of p.plan.layout (run_frames p s events))))
 from_first one laws r period p ts c s [] holds on = tt
 from_first one laws r period p ts c s (Contact d closed ∷ es) holds on = from_first one laws r period p ts c (happens p s (Contact d closed)) es (happens_holds p ts c s (Contact d closed) holds) on
 from_first one laws r period p ts c s (Frame ∷ es) holds on =
     let plan : Plan = p.plan in
     let u : State = shown p s in
-    let step : ℕ = count_step plan.mode in
-    let frame : List Fib = read_frame r plan.mode (frame_bytes p s) in
+    let step : ℕ = count_step (layout_mode plan.layout) in
+    let frame : List Fib = read_frame r plan.layout (frame_bytes p s) in
     let a = airs p ts c s holds in
     let link = links p ts c s holds in
     let here : u.count % step ≡ 0 = ap (λ n. n % step) link.count ∙ on in
@@ -315,7 +316,7 @@ from_first one laws r period p ts c s (Frame ∷ es) holds on =
     let head = subst (λ (o : Option EnsembleInformation). IsHeadOf o fs.heads) (is_sent plan u here) fs.header in
     let first = first_timely period p ts c s holds frame head.0 fs.members (fs.are ∙ ap (λ hs. hs ++ fs.members) head.1) head.2 head.3 none in
     let now = agrees_by one laws r period p ts c s holds [] (inl (refl, on)) in
-    all_append (λ (found : Finding). IsTimely found.what) (findings_in (fib_count plan.mode) step period [] frame) _ (frame_found (fib_count plan.mode) step period [] frame first.found)
+    all_append (λ (found : Finding). IsTimely found.what) (findings_in (frame_fibs plan.layout) step period [] frame) _ (frame_found (frame_fibs plan.layout) step period [] frame first.found)
     (either_found (runs_full step period [] (frame_items frame)) _ (along one laws r period p ts c (after_frame p s) es (frame_holds p ts c s holds) (after_read step [] frame) now.after first.after))
 
 pub runs_are_timely : OneList → Laws → RunsAreTimely

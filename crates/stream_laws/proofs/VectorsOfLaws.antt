@@ -1,6 +1,7 @@
 -- The terms of the laws in small cases, computed by the checker from the definitions: examples that hold and that fail.
 use Rattle.std.proofs.Common.{◌≡◌, ℕ, zero, suc, ◌<◌, true, false, List, [], ◌∷◌, ◌++◌, length, replicate, flat_map, Some, refl, sym, ap, ◌∙◌, arith}
 use Rattle.std.specs.Prelude.{map, slice_get, take, drop, cond, ◌*◌, ◌==◌}
+use Rattle.fib_codec.specs.declared.frame_layout.FrameLayout.TheVariants.{Whole}
 use Rattle.mux_config.specs.Tables.{entry_at}
 use Rattle.stream_laws.specs.Keeping.{entry_like}
 use Rattle.std.specs.List.{AllByRecursion}
@@ -63,7 +64,7 @@ more_than_given r fib c = none c.before c.whole c.skips
     none [] whole skips = absurd cc
     none (b ∷ bs) whole skips = absurd cc
 
-a_frame : frames_of II ((1 ∷ 2 ∷ []) ∷ []) ≡ ((1 ∷ 2 ∷ []) ∷ [] ∷ [] ∷ []) ∷ []
+a_frame : frames_of (Whole II) ((1 ∷ 2 ∷ []) ∷ []) ≡ ((1 ∷ 2 ∷ []) ∷ [] ∷ [] ∷ []) ∷ []
 a_frame = refl
 
 -- ---- announcements

@@ -1,7 +1,8 @@
 -- The entries and the announcements of a run, as the checker judges them (EN 300 401 clause 6.5).
 use Rattle.std.specs.Prelude.{◌≡◌, ℕ, ◌%◌, Bool, true, false, List, []}
 use Rattle.std.specs.List.{AllByRecursion}
-use Rattle.fib_codec.specs.Modes.{fib_count, count_step}
+use Rattle.fib_codec.specs.Layouts.{layout_mode, frame_fibs}
+use Rattle.fib_codec.specs.Modes.{count_step}
 use Rattle.stream_check.specs.declared.finding.Fault.{Fault}
 use Rattle.stream_check.specs.declared.finding.Fault.TheVariants as faults
 use Rattle.stream_check.specs.declared.finding.What.{What}
@@ -47,12 +48,12 @@ KeepsWord (whats.Fault f) = is_of_word f ≡ false
 -- the frames of a run from one with a FIG 0/0 on: each picture has room for its entries, and none of these faults
 -- is found
 pub record RunAgrees (r : Reading) (p : Program) (s : State) (period : ℕ) (events : List Event) : Type 0 where
-  pub room : frames_full (count_step p.plan.mode) period [] (read_frames r (frames_of p.plan.mode (run_frames p s events))) ≡ false
+  pub room : frames_full (count_step (layout_mode p.plan.layout)) period [] (read_frames r (frames_of p.plan.layout (run_frames p s events))) ≡ false
   pub plain : AllByRecursion (λ found. KeepsWord found.what)
-      (findings_of (fib_count p.plan.mode) (count_step p.plan.mode) period [] (read_frames r (frames_of p.plan.mode (run_frames p s events))))
+      (findings_of (frame_fibs p.plan.layout) (count_step (layout_mode p.plan.layout)) period [] (read_frames r (frames_of p.plan.layout (run_frames p s events))))
 
 -- the law of entries and announcements
 abbrev pub RunsAgree : Type 0
 RunsAgree =
     (r : Reading) (p : Program) (s : State) (period : ℕ) (waiting events : List Event) → IsPlayed p s
-    → (run p s waiting).count % count_step p.plan.mode ≡ 0 → RunAgrees r p (run p s waiting) period events
+    → (run p s waiting).count % count_step (layout_mode p.plan.layout) ≡ 0 → RunAgrees r p (run p s waiting) period events

@@ -1,6 +1,7 @@
 -- The checker gives no false alarm: it finds no fault in the frames of a run.
 use Rattle.std.specs.Prelude.{◌≡◌, ℕ, ◌+◌, ◌*◌, ◌%◌, ◌≤◌, List}
-use Rattle.fib_codec.specs.Modes.{fib_count, count_step}
+use Rattle.fib_codec.specs.Layouts.{layout_mode, frame_fibs}
+use Rattle.fib_codec.specs.Modes.{count_step}
 use Rattle.stream_check.specs.Frames.{Reading}
 use Rattle.plan_code.specs.Program.{Program}
 use Rattle.plan_code.specs.Machine.{State}
@@ -16,5 +17,5 @@ use Rattle.stream_laws.specs.Framing.{frames_of}
 abbrev pub RunsAreFaultless : Type 0
 RunsAreFaultless =
     (r : Reading) (p : Program) (s : State) (period : ℕ) (waiting events : List Event) → IsPlayed p s
-    → (run p s waiting).count % count_step p.plan.mode ≡ 0 → 2 * p.plan.period ≤ period + 1
-    → IsFaultless (fib_count p.plan.mode) (count_step p.plan.mode) period (read_frames r (frames_of p.plan.mode (run_frames p (run p s waiting) events)))
+    → (run p s waiting).count % count_step (layout_mode p.plan.layout) ≡ 0 → 2 * p.plan.period ≤ period + 1
+    → IsFaultless (frame_fibs p.plan.layout) (count_step (layout_mode p.plan.layout)) period (read_frames r (frames_of p.plan.layout (run_frames p (run p s waiting) events)))

@@ -1,7 +1,8 @@
 -- The frames of a run and the FIG 0/0 in them, as the checker judges them (EN 300 401 clauses 5.1 and 6.4).
 use Rattle.std.specs.Prelude.{◌≡◌, ℕ, ◌%◌, Bool, true, false, List, []}
 use Rattle.std.specs.List.{AllByRecursion}
-use Rattle.fib_codec.specs.Modes.{fib_count, count_step}
+use Rattle.fib_codec.specs.Layouts.{layout_mode, frame_fibs}
+use Rattle.fib_codec.specs.Modes.{count_step}
 use Rattle.stream_check.specs.declared.finding.Fault.{Fault}
 use Rattle.stream_check.specs.declared.finding.Fault.TheVariants as faults
 use Rattle.stream_check.specs.declared.finding.What.{What}
@@ -46,6 +47,6 @@ IsInPlace (whats.Fault f) = is_of_frame f ≡ false
 abbrev pub RunsAreInPlace : Type 0
 RunsAreInPlace =
     (r : Reading) (p : Program) (s : State) (period : ℕ) (waiting events : List Event) → IsPlayed p s
-    → (run p s waiting).count % count_step p.plan.mode ≡ 0
+    → (run p s waiting).count % count_step (layout_mode p.plan.layout) ≡ 0
     → AllByRecursion (λ found. IsInPlace found.what)
-    (findings_of (fib_count p.plan.mode) (count_step p.plan.mode) period [] (read_frames r (frames_of p.plan.mode (run_frames p (run p s waiting) events))))
+    (findings_of (frame_fibs p.plan.layout) (count_step (layout_mode p.plan.layout)) period [] (read_frames r (frames_of p.plan.layout (run_frames p (run p s waiting) events))))

@@ -1,6 +1,7 @@
 -- The swaps that the checker reports, and those of a run.
 use Rattle.std.specs.Prelude.{◌≡◌, ℕ, ◌+◌, ◌%◌, Bool, true, false, if◌then◌else◌, List, [], ◌∷◌}
-use Rattle.fib_codec.specs.Modes.{fib_count, count_step}
+use Rattle.fib_codec.specs.Layouts.{layout_mode, frame_fibs}
+use Rattle.fib_codec.specs.Modes.{count_step}
 use Rattle.stream_check.specs.declared.finding.Finding.{Finding}
 use Rattle.stream_check.specs.declared.finding.Event.TheVariants as named_events
 use Rattle.stream_check.specs.declared.finding.What.{What}
@@ -50,6 +51,6 @@ due_after_first p s (Frame ∷ es) = due_frames p 1 (after_frame p s) es
 abbrev pub SwapsAreNamed : Type 0
 SwapsAreNamed =
     (r : Reading) (p : Program) (s : State) (period : ℕ) (waiting events : List Event) → IsPlayed p s
-    → (run p s waiting).count % count_step p.plan.mode ≡ 0
-    → swap_frames (findings_of (fib_count p.plan.mode) (count_step p.plan.mode) period [] (read_frames r (frames_of p.plan.mode (run_frames p (run p s waiting) events))))
+    → (run p s waiting).count % count_step (layout_mode p.plan.layout) ≡ 0
+    → swap_frames (findings_of (frame_fibs p.plan.layout) (count_step (layout_mode p.plan.layout)) period [] (read_frames r (frames_of p.plan.layout (run_frames p (run p s waiting) events))))
     ≡ due_after_first p (run p s waiting) events

@@ -1,7 +1,8 @@
 -- Findings that are free of one sort of faults.
 use Rattle.std.specs.Prelude.{◌≡◌, ℕ, ◌+◌, ◌*◌, ◌%◌, ◌≤◌, Bool, true, false, List, []}
 use Rattle.std.specs.List.{AllByRecursion}
-use Rattle.fib_codec.specs.Modes.{fib_count, count_step}
+use Rattle.fib_codec.specs.Layouts.{layout_mode, frame_fibs}
+use Rattle.fib_codec.specs.Modes.{count_step}
 use Rattle.stream_check.specs.declared.finding.Fault.{Fault}
 use Rattle.stream_check.specs.declared.finding.Fault.TheVariants as faults
 use Rattle.stream_check.specs.declared.finding.What.{What}
@@ -25,7 +26,7 @@ IsFreeOf sort (whats.Fault f) = sort f ≡ false
 abbrev pub RunIsFreeOf : (Fault → Bool) → Reading → Program → State → ℕ → List Event → Type 0
 RunIsFreeOf sort r p s period events =
     AllByRecursion (λ found. IsFreeOf sort found.what)
-    (findings_of (fib_count p.plan.mode) (count_step p.plan.mode) period [] (read_frames r (frames_of p.plan.mode (run_frames p s events))))
+    (findings_of (frame_fibs p.plan.layout) (count_step (layout_mode p.plan.layout)) period [] (read_frames r (frames_of p.plan.layout (run_frames p s events))))
 
 -- flags other than those of the change that is made
 abbrev pub is_of_flags : Fault → Bool
@@ -54,7 +55,7 @@ is_of_flags (faults.Silent name) = false
 abbrev pub RunsFlagTheChange : Type 0
 RunsFlagTheChange =
     (r : Reading) (p : Program) (s : State) (period : ℕ) (waiting events : List Event) → IsPlayed p s
-    → (run p s waiting).count % count_step p.plan.mode ≡ 0 → RunIsFreeOf is_of_flags r p (run p s waiting) period events
+    → (run p s waiting).count % count_step (layout_mode p.plan.layout) ≡ 0 → RunIsFreeOf is_of_flags r p (run p s waiting) period events
 
 -- an entry of the current configuration that was not sent for a period
 abbrev pub is_of_silence : Fault → Bool
@@ -83,7 +84,7 @@ is_of_silence (faults.Silent name) = true
 abbrev pub RunsAreNeverSilent : Type 0
 RunsAreNeverSilent =
     (r : Reading) (p : Program) (s : State) (period : ℕ) (waiting events : List Event) → IsPlayed p s
-    → (run p s waiting).count % count_step p.plan.mode ≡ 0 → 2 * p.plan.period ≤ period + 1 → RunIsFreeOf is_of_silence r p (run p s waiting) period events
+    → (run p s waiting).count % count_step (layout_mode p.plan.layout) ≡ 0 → 2 * p.plan.period ≤ period + 1 → RunIsFreeOf is_of_silence r p (run p s waiting) period events
 
 -- an entry of the current configuration that was not known although all should be known
 abbrev pub is_of_appearance : Fault → Bool
@@ -112,7 +113,7 @@ is_of_appearance (faults.Silent name) = false
 abbrev pub RunsAreKnown : Type 0
 RunsAreKnown =
     (r : Reading) (p : Program) (s : State) (period : ℕ) (waiting events : List Event) → IsPlayed p s
-    → (run p s waiting).count % count_step p.plan.mode ≡ 0 → 2 * p.plan.period ≤ period + 1 → RunIsFreeOf is_of_appearance r p (run p s waiting) period events
+    → (run p s waiting).count % count_step (layout_mode p.plan.layout) ≡ 0 → 2 * p.plan.period ≤ period + 1 → RunIsFreeOf is_of_appearance r p (run p s waiting) period events
 
 -- a swap before which the next configuration could be read fewer than three times
 abbrev pub is_of_repetition : Fault → Bool
@@ -141,4 +142,4 @@ is_of_repetition (faults.Silent name) = false
 abbrev pub RunsRepeatTheNext : Type 0
 RunsRepeatTheNext =
     (r : Reading) (p : Program) (s : State) (period : ℕ) (waiting events : List Event) → IsPlayed p s
-    → (run p s waiting).count % count_step p.plan.mode ≡ 0 → RunIsFreeOf is_of_repetition r p (run p s waiting) period events
+    → (run p s waiting).count % count_step (layout_mode p.plan.layout) ≡ 0 → RunIsFreeOf is_of_repetition r p (run p s waiting) period events

@@ -29,7 +29,8 @@ A script:
   period 4 notice 24 budget 20
                               # period: the frames in which everything is sent once; notice: the
                               # frames that a swap is announced for; budget: the most instructions
-                              # in a frame
+                              # in a frame; 'reserve 1' after it leaves a FIB of each frame empty,
+                              # for labels
   sub 1 at 0 eep 3-A 128      # sub-channel 1 at capacity unit 0, protection 3-A, 128 kbit/s
   service C221
   audio 63 sub 1 in C221      # audio of type (ASCTy) 63, DAB+, on sub-channel 1

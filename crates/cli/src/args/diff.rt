@@ -24,8 +24,8 @@ a commit and a join. 'dabplan compile' accepts it.";
 const USAGE: &str = "dabplan diff <FROM> <TO>";
 
 const AFTER: &str = "\
-The plan has the header of TO, and announces the swap for the notice of TO. No frame has more
-instructions than the budget of TO.
+The plan has the header of TO, its reserve included, and announces the swap for the notice of TO. No
+frame has more instructions than the budget of TO.
 
 The line of a refusal:
   now.plan:7:7: NameUnknown     line 7, column 7 of FROM or TO: no script, as 'dabplan help compile'

@@ -1,7 +1,7 @@
 //! The command line of `frame`, for a record or a script.
 
 use crate::args::parser::{Argument, Grammar, Kind, Page, Rule, Values};
-use crate::args::shared::{file, flag, mode, mode_of, number, with_rule};
+use crate::args::shared::{file, flag, layout_of, mode, number, reserve, with_rule};
 use crate::args::{Request, UsageError};
 use cli_scripts::frame_script::FrameScriptRequest;
 use cli_streams::frame::FrameRequest;
@@ -26,7 +26,8 @@ CRC included: three FIBs, in transmission mode 3 four. Where the entries of the 
 more than one frame, --page picks the frame.";
 
 const USAGE: &str = "\
-dabplan frame <CONFIG> --ensemble <HHHH> --count <N> [--page <K>] [--mode <M>] [--raw]
+dabplan frame <CONFIG> --ensemble <HHHH> --count <N> [--page <K>] [--mode <M>]
+                     [--reserve <R>] [--raw]
        dabplan frame <SCRIPT> --script --count <N> [--page <K>] [--raw]";
 
 const AFTER: &str = "\
@@ -44,9 +45,12 @@ The record, field by field (in brackets the bytes of a field, its high byte firs
 Sub-channels, services (those of kind 0 first) and packet components ascend by identifier.
 The first component of a service is its primary one.
 
-With --script the frame is one of the configuration that a script begins with, for the ensemble and
-in the transmission mode of the script. With --raw the FIBs are written as bytes, which
-'dabplan listen -' reads.
+With --reserve the last FIBs of the frame stay empty, for labels and other FIGs of a multiplexer
+('dabplan help merge'); the entries then may take more frames.
+
+With --script the frame is one of the configuration that a script begins with, for the ensemble, in
+the transmission mode and with the reserve of the script. With --raw the FIBs are written as bytes,
+which 'dabplan listen -' reads.
 
 The line of a refusal:
   record: Field 4               the field that begins at byte 4, counted from 0, is out of range;
@@ -82,6 +86,7 @@ pub(crate) fn grammar<'a>(alloc: Global) -> Result<Grammar<'a>, AllocError> {
         .argument(count())?
         .argument(number("page", "K", 0, 65535, Some("0"), page_help))?
         .argument(mode())?
+        .argument(with_rule(reserve(), Rule::Excludes("script")))?
         .argument(script())?
         .argument(flag("raw", "Writes the FIBs as bytes, not as hexadecimal digits"))
 }
@@ -124,11 +129,11 @@ pub(crate) fn request<'a>(values: &Values<'_, 'a>) -> Result<Request<'a>, UsageE
     let config = values.some_text("config")?;
     let count = values.some_u16("count")?;
     let page = values.some_u16("page")?;
-    let mode = mode_of(values.some_number("mode")?).ok_or(UsageError::Nothing)?;
+    let layout = layout_of(values)?;
     let ensemble = Ensemble::new(eid, 0, false, count, None).ok_or(UsageError::Nothing)?;
     Ok(Request::Frame(FrameRequest {
         config,
-        mode,
+        layout,
         ensemble,
         page,
         raw: values.flag("raw"),

@@ -1,10 +1,11 @@
 //! The command line of `listen`, whose result is a listing or a script.
 
 use crate::args::parser::{Argument, Grammar, Page, Rule, Values};
-use crate::args::shared::{file, flag, mode_of, number, with_rule};
+use crate::args::shared::{file, flag, layout_of, number, reserve, with_rule};
 use crate::args::{Request, UsageError};
 use cli_scripts::listen_script::ListenScriptRequest;
 use cli_streams::listen::ListenRequest;
+use plan_code::limits::{LONGEST_NOTICE, LONGEST_PERIOD, SHORTEST_NOTICE};
 use std::alloc::{AllocError, Global};
 
 const PAGE: Page = Page {
@@ -25,7 +26,8 @@ is announced.";
 
 const USAGE: &str = "\
 dabplan listen <FILE> [--json]
-       dabplan listen <FILE> --script [--mode <M>] [--period <P>] [--notice <W>] [--budget <B>]";
+       dabplan listen <FILE> --script [--mode <M>] [--period <P>] [--notice <W>] [--budget <B>]
+                     [--reserve <R>]";
 
 const AFTER: &str = "\
 The lines:
@@ -47,8 +49,8 @@ kbit/s there, where it has one:
   \"next\":[],\"swap_at\":null}           on one line; a refusal is {\"kind\":\"refused\",\"cause\":\"Full\"}
 
 With --script the current configuration is printed as a script, which 'dabplan frame --script' turns
-into FIBs again. Its EId is that of the last FIG 0/0; mode, period, notice and budget are those of
-the options.
+into FIBs again. Its EId is that of the last FIG 0/0; mode, period, notice, budget and reserve are
+those of the options.
 
 The line of a refusal:
   refused: not whole FIBs             the length of the file is not a multiple of 32 bytes
@@ -81,7 +83,8 @@ pub(crate) fn grammar<'a>(alloc: Global) -> Result<Grammar<'a>, AllocError> {
         .argument(mode())?
         .argument(period())?
         .argument(notice())?
-        .argument(budget())
+        .argument(budget())?
+        .argument(with_rule(reserve(), Rule::NeedsWithout("script", "json")))
 }
 
 /// The transmission mode of the printed script.
@@ -89,7 +92,7 @@ fn mode() -> Argument {
     let help = "The transmission mode of the script, 1 to 4, which FIBs do not carry";
     with_rule(
         number("mode", "M", 1, 4, Some("1"), help),
-        Rule::Needs("script"),
+        Rule::NeedsWithout("script", "json"),
     )
 }
 
@@ -98,17 +101,19 @@ fn period() -> Argument {
     let help =
         "The period of the script in frames, 1 to 60 [default: room for two such configurations]";
     with_rule(
-        number("period", "P", 1, 60, None, help),
-        Rule::Needs("script"),
+        number("period", "P", 1, i64::from(LONGEST_PERIOD), None, help),
+        Rule::NeedsWithout("script", "json"),
     )
 }
 
 /// The notice of the printed script.
 fn notice() -> Argument {
     let help = "The notice of the script in frames, 12 to 248";
+    let shortest = i64::from(SHORTEST_NOTICE);
+    let longest = i64::from(LONGEST_NOTICE);
     with_rule(
-        number("notice", "W", 12, 248, Some("240"), help),
-        Rule::Needs("script"),
+        number("notice", "W", shortest, longest, Some("240"), help),
+        Rule::NeedsWithout("script", "json"),
     )
 }
 
@@ -117,7 +122,7 @@ fn budget() -> Argument {
     let help = "The budget of the script in instructions per frame, 1 to 255";
     with_rule(
         number("budget", "B", 1, 255, Some("20"), help),
-        Rule::Needs("script"),
+        Rule::NeedsWithout("script", "json"),
     )
 }
 
@@ -135,14 +140,14 @@ pub(crate) fn request<'a>(values: &Values<'_, 'a>) -> Result<Request<'a>, UsageE
 /// Reads the arguments of `listen --script`.
 fn script_request<'a>(values: &Values<'_, 'a>) -> Result<Request<'a>, UsageError<'a>> {
     let file = values.some_text("file")?;
-    let mode = mode_of(values.some_number("mode")?).ok_or(UsageError::Nothing)?;
+    let layout = layout_of(values)?;
     let period = match values.number("period") {
         Some(_) => Some(values.some_u8("period")?),
         None => None,
     };
     Ok(Request::ListenScript(ListenScriptRequest {
         file,
-        mode,
+        layout,
         period,
         notice: values.some_u8("notice")?,
         budget: values.some_u8("budget")?,

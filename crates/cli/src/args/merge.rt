@@ -20,8 +20,8 @@ Carries the labels and other FIGs of a multiplexer in the frames of a plan.
 A plan sends FIG 0/0 to 0/3 alone, and a receiver shows no service without its label. PLAN has the
 frames of a plan, as 'dabplan play' and 'dabplan live' write them; OTHER has the frames of the
 multiplexer's FIC, in the same mode. The frames of PLAN go to standard output with FIGs of OTHER
-behind their own, where the FIBs have room. A receiver, and 'dabplan check', find in them what they
-find in PLAN.
+behind their own, where the FIBs have room; 'reserve 1' in the header of the script leaves a FIB of
+each frame free for them. A receiver, and 'dabplan check', find in them what they find in PLAN.
 
 For each frame of PLAN one of OTHER is read, as long as there is one. Its FIGs wait until there is
 room for them, the one that has waited longest first, 256 at most. FIG 0/0 to 0/3 and FIG 0/7 of

@@ -44,8 +44,9 @@ pub(crate) enum Rule {
     Required,
     /// It is required unless this one is present.
     RequiredUnless(&'static str),
-    /// It requires this one.
-    Needs(&'static str),
+    /// It requires the first, and conflicts with the second. Where those two conflict with each other, the parser would
+    /// else waive the first.
+    NeedsWithout(&'static str, &'static str),
     /// It conflicts with this one.
     Excludes(&'static str),
     /// It conflicts with both of these.
@@ -182,7 +183,7 @@ fn with_rule<'a>(arg: Arg<'a>, rule: Rule) -> Result<Arg<'a>, AllocError> {
         Rule::Free => Ok(arg),
         Rule::Required => Ok(arg.required(true)),
         Rule::RequiredUnless(other) => arg.required_unless_present(other),
-        Rule::Needs(other) => arg.requires_arg(other),
+        Rule::NeedsWithout(one, other) => arg.requires_arg(one)?.conflicts_with(other),
         Rule::Excludes(other) => arg.conflicts_with(other),
         Rule::ExcludesBoth(one, other) => arg.conflicts_with(one)?.conflicts_with(other),
     }

@@ -4,8 +4,8 @@ ghost use Rattle.std.specs.Prelude.{◌≡◌};
 ghost use Rattle.cli.specs.Numbers.{mode_of_number};
 
 use crate::args::UsageError;
-use crate::args::parser::{Argument, Kind, Rule};
-use fib_codec::Mode;
+use crate::args::parser::{Argument, Kind, Rule, Values};
+use fib_codec::{FrameLayout, Mode};
 
 /// An argument without an option: the path of a file.
 pub(crate) fn file(name: &'static str, value_name: &'static str, help: &'static str) -> Argument {
@@ -77,6 +77,24 @@ pub(crate) fn mode_of(number: u32) -> Option<Mode>
         4 => Some(Mode::IV),
         _ => None,
     }
+}
+
+/// The number of FIBs of a frame that the configuration leaves free.
+pub(crate) fn reserve() -> Argument {
+    let help =
+        "How many FIBs of a frame stay empty, for labels and other FIGs: 1, or in mode 3 1 or 2";
+    number("reserve", "R", 1, 2, None, help)
+}
+
+/// The layout of a frame: the transmission mode, and the reserve, if there is one. `Reserve` if it is not one of the
+/// mode.
+pub(crate) fn layout_of<'a>(values: &Values<'_, 'a>) -> Result<FrameLayout, UsageError<'a>> {
+    let mode = mode_of(values.some_number("mode")?).ok_or(UsageError::Nothing)?;
+    if values.number("reserve").is_none() {
+        return Ok(FrameLayout::Whole(mode));
+    }
+    let reserve = values.some_u8("reserve")?;
+    FrameLayout::new(mode, reserve).ok_or(UsageError::Reserve(reserve))
 }
 
 /// Checks that the path of an output is not that of an input, whose file would be written over; else `SameFile`. An

@@ -55,7 +55,7 @@ The causes of a refusal:
                  loop does not restore what it began with
   Cost           more instructions may run in one frame than the budget or a label allows
   Round          the configurations take too many frames to be sent within the period, or three
-                 times within the notice
+                 times within the notice, in the FIBs that the plan does not reserve
   FallsOff       the plan does not end with an instruction that ends it
 
 Example: a plan that lowers a rate while contact 3 is closed

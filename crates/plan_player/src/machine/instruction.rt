@@ -26,7 +26,7 @@ fn commit_in<S: Store>(plan: &Plan, delay: Delay, machine: &mut Machine<S>)
     ensures { state_of S.content machine.new ≡ effect plan.now (CommitIn delay)
         (state_of S.content machine.old) }
 {
-    machine.left = Some(left_in(plan.mode.step(), machine.count, delay.get()));
+    machine.left = Some(left_in(plan.layout.mode().step(), machine.count, delay.get()));
     machine.pc += 1;
 }
 

@@ -146,7 +146,7 @@ pub(crate) fn ensemble<S: Store>(plan: &Plan, machine: &Machine<S>, change: u8) 
         (S.content machine.now.next)) }
     ensures { result ≡ ensemble_sent plan.now (state_of S.content machine.now) }
 {
-    if !is_on_step(plan.mode, machine.count) {
+    if !is_on_step(plan.layout.mode(), machine.count) {
         return None;
     }
     if is_noticed(plan.notice, machine.left) {

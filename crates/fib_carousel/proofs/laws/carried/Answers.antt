@@ -1,4 +1,4 @@
-use Rattle.fib_carousel.proofs.Hearing.{page_sets_are_pageable, pages_are_valid, pages_are_heard, ensemble_is_heard}
+use Rattle.fib_carousel.proofs.Hearing.{page_sets_are_pageable, pages_are_valid, pages_are_heard, ensemble_is_heard, pages_keep_reserve}
 use Rattle.fib_carousel.proofs.laws.carried.Goals as goal
 
 pub returns-clause-pageable : goal.returns-clause-pageable
@@ -12,3 +12,6 @@ returns-clause-heard c = pages_are_heard
 
 pub returns-clause-ensemble : goal.returns-clause-ensemble
 returns-clause-ensemble c = ensemble_is_heard
+
+pub returns-clause-reserved : goal.returns-clause-reserved
+returns-clause-reserved c = pages_keep_reserve

@@ -11,6 +11,6 @@ invariant-loop-index g l =
       used : l.state.used ≤ 30;
       fib : l.state.fib ≤ l.fn.before.fib + 2 * l.index;
       rest :
-          all_placed l.mode (map (λ s. marked l.next (service_entry s)) (drop l.index c.services)) l.state
-          ≡ all_placed l.mode (map (λ s. marked l.next (service_entry s)) c.services) l.fn.before;
+          all_placed l.layout (map (λ s. marked l.next (service_entry s)) (drop l.index c.services)) l.state
+          ≡ all_placed l.layout (map (λ s. marked l.next (service_entry s)) c.services) l.fn.before;
     }

@@ -17,12 +17,12 @@ pub returns-in-None-clause-bytes : goal.returns-in-None-clause-bytes
 returns-in-None-clause-bytes g c =
     let at : IsShapeAt (g.L.EntryList.entries c.args.list.now) c.entries.position.index c.shape-shape.result = c.shape-shape.ensures.value in
     filled_all _ _ _ _ _ _ _ c.entries.invariant
-    (walked_over _ _ _ _ _ _ (passed_entry c.args.mode _ _ _ c.entries.position.state at) (c.then_within.ensures.behind c.in-None.is at.entry at.head at.size) c.entries.invariant.walked)
+    (walked_over _ _ _ _ _ _ (passed_entry c.args.layout _ _ _ c.entries.position.state at) (c.then_within.ensures.behind c.in-None.is at.entry at.head at.size) c.entries.invariant.walked)
 
 pub returns-in-None-clause-passed : goal.returns-in-None-clause-passed
 returns-in-None-clause-passed g c =
     let at : IsShapeAt (g.L.EntryList.entries c.args.list.now) c.entries.position.index c.shape-shape.result = c.shape-shape.ensures.value in
-    passed_by _ _ _ _ _ _ (passed_entry c.args.mode _ _ _ c.entries.position.state at) (c.then_within.ensures.behind c.in-None.is at.entry at.head at.size) c.entries.invariant.walked
+    passed_by _ _ _ _ _ _ (passed_entry c.args.layout _ _ _ c.entries.position.state at) (c.then_within.ensures.behind c.in-None.is at.entry at.head at.size) c.entries.invariant.walked
 
 pub fig_for-fig-requires-clause-room : goal.fig_for-fig-requires-clause-room
 fig_for-fig-requires-clause-room g c =
@@ -42,8 +42,8 @@ pub put_run-count-requires-clause-room : goal.put_run-count-requires-clause-room
 put_run-count-requires-clause-room g c =
     let e : Position = record { index = c.entries.position.index + 1; state = c.in-Some.state } in
     let step = passed _ _ _ _ _ _ c.shape-shape.ensures.value c.in-Some.ensures.within.is in
-    let known : c.args.place.room ≡ room c.args.mode c.args.place.number = c.requires.known in
-    let r : Room c.args.mode c.args.place.number c.in-Some.state c.shape-shape.result _ = record {
+    let known : c.args.place.room ≡ room c.args.layout c.args.place.number = c.requires.known in
+    let r : Room c.args.layout c.args.place.number c.in-Some.state c.shape-shape.result _ = record {
       first = first_of_run _ _ _ _ _ _ c.shape-shape.ensures.value c.shape-shape.ensures.small step;
       into = c.if-state-number.true;
       is = ap (λ k. c.shape-shape.result.size + (k - c.in-Some.state.used)) known;
@@ -68,7 +68,7 @@ overflow_sub-more g c =
     let at : IsShapeAt (g.L.EntryList.entries c.args.list.now) c.entries.position.index shape = c.shape-shape.ensures.value in
     let q : PackState = c.in-Some.state in
     let step = passed _ _ _ _ _ _ at c.in-Some.ensures.within.is in
-    let r : Room c.args.mode c.args.place.number q shape (shape.size + (c.args.place.room - q.used)) = record {
+    let r : Room c.args.layout c.args.place.number q shape (shape.size + (c.args.place.room - q.used)) = record {
       first = first_of_run _ _ _ _ _ _ at c.shape-shape.ensures.small step;
       into = c.if-state-number.true;
       is = ap (λ k. shape.size + (k - q.used)) c.requires.known;
@@ -82,14 +82,14 @@ overflow_mul-more g c =
     let at : IsShapeAt (g.L.EntryList.entries c.args.list.now) c.entries.position.index shape = c.shape-shape.ensures.value in
     let q : PackState = c.in-Some.state in
     let step = passed _ _ _ _ _ _ at c.in-Some.ensures.within.is in
-    let r : Room c.args.mode c.args.place.number q shape (shape.size + (c.args.place.room - q.used)) = record {
+    let r : Room c.args.layout c.args.place.number q shape (shape.size + (c.args.place.room - q.used)) = record {
       first = first_of_run _ _ _ _ _ _ at c.shape-shape.ensures.small step;
       into = c.if-state-number.true;
       is = ap (λ k. shape.size + (k - q.used)) c.requires.known;
     } in
     let put = c.put_run-count.ensures shape at in
     let many = counted _ _ _ _ _ _ _ _ _ _ r put in
-    omega (arith, many.fits, room_high c.args.mode c.args.place.number)
+    omega (arith, many.fits, room_high c.args.layout c.args.place.number)
 
 pub lengthen_fig-requires-clause-place : goal.lengthen_fig-requires-clause-place
 lengthen_fig-requires-clause-place g c =
@@ -97,7 +97,7 @@ lengthen_fig-requires-clause-place g c =
     let at : IsShapeAt (g.L.EntryList.entries c.args.list.now) c.entries.position.index shape = c.shape-shape.ensures.value in
     let q : PackState = c.in-Some.state in
     let step = passed _ _ _ _ _ _ at c.in-Some.ensures.within.is in
-    let r : Room c.args.mode c.args.place.number q shape (shape.size + (c.args.place.room - q.used)) = record {
+    let r : Room c.args.layout c.args.place.number q shape (shape.size + (c.args.place.room - q.used)) = record {
       first = first_of_run _ _ _ _ _ _ at c.shape-shape.ensures.small step;
       into = c.if-state-number.true;
       is = ap (λ k. shape.size + (k - q.used)) c.requires.known;
@@ -108,7 +108,7 @@ lengthen_fig-requires-clause-place g c =
       index = c.entries.position.index + c.put_run-count.result;
       state = record { fib = q.fib; used = q.used + (c.put_run-count.result - 1) * shape.size; head = q.head };
     } in
-    let entered : Entered c.args.mode (g.L.EntryList.entries c.args.list.now) c.args.place.number c.args.fib.now c.entries.position e = record {
+    let entered : Entered c.args.layout (g.L.EntryList.entries c.args.list.now) c.args.place.number c.args.fib.now c.entries.position e = record {
       step = step;
       at = refl;
       into = c.if-state-number.true;
@@ -128,7 +128,7 @@ lengthen_fig-requires-clause-fits g c =
     let at : IsShapeAt (g.L.EntryList.entries c.args.list.now) c.entries.position.index shape = c.shape-shape.ensures.value in
     let q : PackState = c.in-Some.state in
     let step = passed _ _ _ _ _ _ at c.in-Some.ensures.within.is in
-    let r : Room c.args.mode c.args.place.number q shape (shape.size + (c.args.place.room - q.used)) = record {
+    let r : Room c.args.layout c.args.place.number q shape (shape.size + (c.args.place.room - q.used)) = record {
       first = first_of_run _ _ _ _ _ _ at c.shape-shape.ensures.small step;
       into = c.if-state-number.true;
       is = ap (λ k. shape.size + (k - q.used)) c.requires.known;
@@ -139,7 +139,7 @@ lengthen_fig-requires-clause-fits g c =
       index = c.entries.position.index + c.put_run-count.result;
       state = record { fib = q.fib; used = q.used + (c.put_run-count.result - 1) * shape.size; head = q.head };
     } in
-    let entered : Entered c.args.mode (g.L.EntryList.entries c.args.list.now) c.args.place.number c.args.fib.now c.entries.position e = record {
+    let entered : Entered c.args.layout (g.L.EntryList.entries c.args.list.now) c.args.place.number c.args.fib.now c.entries.position e = record {
       step = step;
       at = refl;
       into = c.if-state-number.true;
@@ -159,7 +159,7 @@ overflow_add-position g c =
     let at : IsShapeAt (g.L.EntryList.entries c.args.list.now) c.entries.position.index shape = c.shape-shape.ensures.value in
     let q : PackState = c.in-Some.state in
     let step = passed _ _ _ _ _ _ at c.in-Some.ensures.within.is in
-    let r : Room c.args.mode c.args.place.number q shape (shape.size + (c.args.place.room - q.used)) = record {
+    let r : Room c.args.layout c.args.place.number q shape (shape.size + (c.args.place.room - q.used)) = record {
       first = first_of_run _ _ _ _ _ _ at c.shape-shape.ensures.small step;
       into = c.if-state-number.true;
       is = ap (λ k. shape.size + (k - q.used)) c.requires.known;
@@ -173,14 +173,14 @@ overflow_add-position-then-state-number g c =
     let at : IsShapeAt (g.L.EntryList.entries c.args.list.now) c.entries.position.index shape = c.shape-shape.ensures.value in
     let q : PackState = c.in-Some.state in
     let step = passed _ _ _ _ _ _ at c.in-Some.ensures.within.is in
-    let r : Room c.args.mode c.args.place.number q shape (shape.size + (c.args.place.room - q.used)) = record {
+    let r : Room c.args.layout c.args.place.number q shape (shape.size + (c.args.place.room - q.used)) = record {
       first = first_of_run _ _ _ _ _ _ at c.shape-shape.ensures.small step;
       into = c.if-state-number.true;
       is = ap (λ k. shape.size + (k - q.used)) c.requires.known;
     } in
     let put = c.put_run-count.ensures shape at in
     let many = counted _ _ _ _ _ _ _ _ _ _ r put in
-    omega (arith, many.fits, room_high c.args.mode c.args.place.number)
+    omega (arith, many.fits, room_high c.args.layout c.args.place.number)
 
 pub entries-smaller-else-left-more-lt-SHORTEST : goal.entries-smaller-else-left-more-lt-SHORTEST
 entries-smaller-else-left-more-lt-SHORTEST g c =
@@ -188,7 +188,7 @@ entries-smaller-else-left-more-lt-SHORTEST g c =
     let at : IsShapeAt (g.L.EntryList.entries c.args.list.now) c.entries.position.index shape = c.shape-shape.ensures.value in
     let q : PackState = c.in-Some.state in
     let step = passed _ _ _ _ _ _ at c.in-Some.ensures.within.is in
-    let r : Room c.args.mode c.args.place.number q shape (shape.size + (c.args.place.room - q.used)) = record {
+    let r : Room c.args.layout c.args.place.number q shape (shape.size + (c.args.place.room - q.used)) = record {
       first = first_of_run _ _ _ _ _ _ at c.shape-shape.ensures.small step;
       into = c.if-state-number.true;
       is = ap (λ k. shape.size + (k - q.used)) c.requires.known;
@@ -202,7 +202,7 @@ entries-preserved-else-left-more-lt-SHORTEST g c =
     let at : IsShapeAt (g.L.EntryList.entries c.args.list.now) c.entries.position.index shape = c.shape-shape.ensures.value in
     let q : PackState = c.in-Some.state in
     let step = passed _ _ _ _ _ _ at c.in-Some.ensures.within.is in
-    let r : Room c.args.mode c.args.place.number q shape (shape.size + (c.args.place.room - q.used)) = record {
+    let r : Room c.args.layout c.args.place.number q shape (shape.size + (c.args.place.room - q.used)) = record {
       first = first_of_run _ _ _ _ _ _ at c.shape-shape.ensures.small step;
       into = c.if-state-number.true;
       is = ap (λ k. shape.size + (k - q.used)) c.requires.known;
@@ -213,7 +213,7 @@ entries-preserved-else-left-more-lt-SHORTEST g c =
       index = c.entries.position.index + c.put_run-count.result;
       state = record { fib = q.fib; used = q.used + (c.put_run-count.result - 1) * shape.size; head = q.head };
     } in
-    let entered : Entered c.args.mode (g.L.EntryList.entries c.args.list.now) c.args.place.number c.args.fib.now c.entries.position e = record {
+    let entered : Entered c.args.layout (g.L.EntryList.entries c.args.list.now) c.args.place.number c.args.fib.now c.entries.position e = record {
       step = step;
       at = refl;
       into = c.if-state-number.true;
@@ -227,8 +227,8 @@ entries-preserved-else-left-more-lt-SHORTEST g c =
     (record { index = refl; fib = refl; used = refl; head = refl }) in
     let after : List ℕ = slice_set c.put_run-count.new.fib c.fig_for-fig.result.place (slice_index_or c.put_run-count.new.fib c.fig_for-fig.result.place 0 + (c.put_run-count.result - 1) * shape.size) in
     let same : d.index ≡ c.entries.position.index + c.from.result = ap (λ n. c.entries.position.index + n) (sym c.from.ensures) in
-    subst (λ (bs : List ℕ). FilledTo c.args.mode (g.L.EntryList.entries c.args.list.now) c.args.place.number c.args.fib.now (record { index = c.entries.position.index + c.from.result; state = d.state }) (Some c.fig_for-fig.result) bs) (sym c.lengthen_fig.ensures)
-    (subst (λ n. FilledTo c.args.mode (g.L.EntryList.entries c.args.list.now) c.args.place.number c.args.fib.now (record { index = n; state = d.state }) (Some c.fig_for-fig.result) after) same done.filled)
+    subst (λ (bs : List ℕ). FilledTo c.args.layout (g.L.EntryList.entries c.args.list.now) c.args.place.number c.args.fib.now (record { index = c.entries.position.index + c.from.result; state = d.state }) (Some c.fig_for-fig.result) bs) (sym c.lengthen_fig.ensures)
+    (subst (λ n. FilledTo c.args.layout (g.L.EntryList.entries c.args.list.now) c.args.place.number c.args.fib.now (record { index = n; state = d.state }) (Some c.fig_for-fig.result) after) same done.filled)
 
 pub entries-preserved : goal.entries-preserved
 entries-preserved g c =
@@ -240,7 +240,7 @@ entries-preserved g c =
 pub returns-in-None-clause-past : goal.returns-in-None-clause-past
 returns-in-None-clause-past g c =
     let at : IsShapeAt (g.L.EntryList.entries c.args.list.now) c.entries.position.index c.shape-shape.result = c.shape-shape.ensures.value in
-    past_entry c.args.mode (g.L.EntryList.entries c.args.list.now) c.args.place.number c.entries.position _ (passed_entry c.args.mode _ _ _ c.entries.position.state at)
+    past_entry c.args.layout (g.L.EntryList.entries c.args.list.now) c.args.place.number c.entries.position _ (passed_entry c.args.layout _ _ _ c.entries.position.state at)
     (c.then_within.ensures.behind c.in-None.is at.entry at.head at.size)
 
 pub overflow_sub-left-then-state-number : goal.overflow_sub-left-then-state-number
@@ -249,14 +249,14 @@ overflow_sub-left-then-state-number g c =
     let at : IsShapeAt (g.L.EntryList.entries c.args.list.now) c.entries.position.index shape = c.shape-shape.ensures.value in
     let q : PackState = c.in-Some.state in
     let step = passed _ _ _ _ _ _ at c.in-Some.ensures.within.is in
-    let r : Room c.args.mode c.args.place.number q shape (shape.size + (c.args.place.room - q.used)) = record {
+    let r : Room c.args.layout c.args.place.number q shape (shape.size + (c.args.place.room - q.used)) = record {
       first = first_of_run _ _ _ _ _ _ at c.shape-shape.ensures.small step;
       into = c.if-state-number.true;
       is = ap (λ k. shape.size + (k - q.used)) c.requires.known;
     } in
     let put = c.put_run-count.ensures shape at in
     let many = counted _ _ _ _ _ _ _ _ _ _ r put in
-    let known : c.args.place.room ≡ room c.args.mode c.args.place.number = c.requires.known in
+    let known : c.args.place.room ≡ room c.args.layout c.args.place.number = c.requires.known in
     omega (arith, many.fits, known)
 
 pub returns-then-left-more-lt-SHORTEST-clause-bytes : goal.returns-then-left-more-lt-SHORTEST-clause-bytes
@@ -265,7 +265,7 @@ returns-then-left-more-lt-SHORTEST-clause-bytes g c =
     let at : IsShapeAt (g.L.EntryList.entries c.args.list.now) c.entries.position.index shape = c.shape-shape.ensures.value in
     let q : PackState = c.in-Some.state in
     let step = passed _ _ _ _ _ _ at c.in-Some.ensures.within.is in
-    let r : Room c.args.mode c.args.place.number q shape (shape.size + (c.args.place.room - q.used)) = record {
+    let r : Room c.args.layout c.args.place.number q shape (shape.size + (c.args.place.room - q.used)) = record {
       first = first_of_run _ _ _ _ _ _ at c.shape-shape.ensures.small step;
       into = c.if-state-number.true;
       is = ap (λ k. shape.size + (k - q.used)) c.requires.known;
@@ -276,7 +276,7 @@ returns-then-left-more-lt-SHORTEST-clause-bytes g c =
       index = c.entries.position.index + c.put_run-count.result;
       state = record { fib = q.fib; used = q.used + (c.put_run-count.result - 1) * shape.size; head = q.head };
     } in
-    let entered : Entered c.args.mode (g.L.EntryList.entries c.args.list.now) c.args.place.number c.args.fib.now c.entries.position e = record {
+    let entered : Entered c.args.layout (g.L.EntryList.entries c.args.list.now) c.args.place.number c.args.fib.now c.entries.position e = record {
       step = step;
       at = refl;
       into = c.if-state-number.true;
@@ -291,15 +291,15 @@ returns-then-left-more-lt-SHORTEST-clause-bytes g c =
     let same : d.index ≡ c.entries.position.index + c.from.result = ap (λ n. c.entries.position.index + n) (sym c.from.ensures) in
     let p : Position = record { index = c.entries.position.index + c.from.result; state = d.state } in
     let after : List ℕ = slice_set c.put_run-count.new.fib c.fig_for-fig.result.place (slice_index_or c.put_run-count.new.fib c.fig_for-fig.result.place 0 + (c.put_run-count.result - 1) * shape.size) in
-    let filled : FilledTo c.args.mode (g.L.EntryList.entries c.args.list.now) c.args.place.number c.args.fib.now p (Some c.fig_for-fig.result) after =
-    subst (λ n. FilledTo c.args.mode (g.L.EntryList.entries c.args.list.now) c.args.place.number c.args.fib.now (record { index = n; state = d.state }) (Some c.fig_for-fig.result) after) same done.filled in
+    let filled : FilledTo c.args.layout (g.L.EntryList.entries c.args.list.now) c.args.place.number c.args.fib.now p (Some c.fig_for-fig.result) after =
+    subst (λ n. FilledTo c.args.layout (g.L.EntryList.entries c.args.list.now) c.args.place.number c.args.fib.now (record { index = n; state = d.state }) (Some c.fig_for-fig.result) after) same done.filled in
     let many = counted _ _ _ _ _ _ _ _ _ _ r put in
-    let within : q.used ≤ room c.args.mode c.args.place.number = omega (arith, many.fits) in
-    let known : c.args.place.room ≡ room c.args.mode c.args.place.number = c.requires.known in
-    let tight : room c.args.mode c.args.place.number < q.used + (c.put_run-count.result - 1) * shape.size + 3 =
+    let within : q.used ≤ room c.args.layout c.args.place.number = omega (arith, many.fits) in
+    let known : c.args.place.room ≡ room c.args.layout c.args.place.number = c.requires.known in
+    let tight : room c.args.layout c.args.place.number < q.used + (c.put_run-count.result - 1) * shape.size + 3 =
     omega (arith, many.fits, known, c.if-left-more-lt-SHORTEST.true) in
-    let past : NextIsAfter c.args.mode (g.L.EntryList.entries c.args.list.now) c.args.place.number p =
-    past_full c.args.mode _ c.args.place.number p c.requires.sendable c.if-state-number.true tight in
+    let past : NextIsAfter c.args.layout (g.L.EntryList.entries c.args.list.now) c.args.place.number p =
+    past_full c.args.layout _ c.args.place.number p c.requires.sendable c.if-state-number.true tight in
     c.lengthen_fig.ensures ∙ filled_all _ _ _ _ _ p _ filled (walked_past _ _ _ _ p past filled.walked)
 
 pub returns-then-left-more-lt-SHORTEST-clause-next : goal.returns-then-left-more-lt-SHORTEST-clause-next
@@ -308,7 +308,7 @@ returns-then-left-more-lt-SHORTEST-clause-next g c =
     let at : IsShapeAt (g.L.EntryList.entries c.args.list.now) c.entries.position.index shape = c.shape-shape.ensures.value in
     let q : PackState = c.in-Some.state in
     let step = passed _ _ _ _ _ _ at c.in-Some.ensures.within.is in
-    let r : Room c.args.mode c.args.place.number q shape (shape.size + (c.args.place.room - q.used)) = record {
+    let r : Room c.args.layout c.args.place.number q shape (shape.size + (c.args.place.room - q.used)) = record {
       first = first_of_run _ _ _ _ _ _ at c.shape-shape.ensures.small step;
       into = c.if-state-number.true;
       is = ap (λ k. shape.size + (k - q.used)) c.requires.known;
@@ -319,7 +319,7 @@ returns-then-left-more-lt-SHORTEST-clause-next g c =
       index = c.entries.position.index + c.put_run-count.result;
       state = record { fib = q.fib; used = q.used + (c.put_run-count.result - 1) * shape.size; head = q.head };
     } in
-    let entered : Entered c.args.mode (g.L.EntryList.entries c.args.list.now) c.args.place.number c.args.fib.now c.entries.position e = record {
+    let entered : Entered c.args.layout (g.L.EntryList.entries c.args.list.now) c.args.place.number c.args.fib.now c.entries.position e = record {
       step = step;
       at = refl;
       into = c.if-state-number.true;
@@ -334,8 +334,8 @@ returns-then-left-more-lt-SHORTEST-clause-next g c =
     let same : d.index ≡ c.entries.position.index + c.from.result = ap (λ n. c.entries.position.index + n) (sym c.from.ensures) in
     let p : Position = record { index = c.entries.position.index + c.from.result; state = d.state } in
     let after : List ℕ = slice_set c.put_run-count.new.fib c.fig_for-fig.result.place (slice_index_or c.put_run-count.new.fib c.fig_for-fig.result.place 0 + (c.put_run-count.result - 1) * shape.size) in
-    let filled : FilledTo c.args.mode (g.L.EntryList.entries c.args.list.now) c.args.place.number c.args.fib.now p (Some c.fig_for-fig.result) after =
-    subst (λ n. FilledTo c.args.mode (g.L.EntryList.entries c.args.list.now) c.args.place.number c.args.fib.now (record { index = n; state = d.state }) (Some c.fig_for-fig.result) after) same done.filled in
+    let filled : FilledTo c.args.layout (g.L.EntryList.entries c.args.list.now) c.args.place.number c.args.fib.now p (Some c.fig_for-fig.result) after =
+    subst (λ n. FilledTo c.args.layout (g.L.EntryList.entries c.args.list.now) c.args.place.number c.args.fib.now (record { index = n; state = d.state }) (Some c.fig_for-fig.result) after) same done.filled in
     filled.walked.later
 
 pub returns-then-left-more-lt-SHORTEST-clause-passed : goal.returns-then-left-more-lt-SHORTEST-clause-passed
@@ -344,7 +344,7 @@ returns-then-left-more-lt-SHORTEST-clause-passed g c =
     let at : IsShapeAt (g.L.EntryList.entries c.args.list.now) c.entries.position.index shape = c.shape-shape.ensures.value in
     let q : PackState = c.in-Some.state in
     let step = passed _ _ _ _ _ _ at c.in-Some.ensures.within.is in
-    let r : Room c.args.mode c.args.place.number q shape (shape.size + (c.args.place.room - q.used)) = record {
+    let r : Room c.args.layout c.args.place.number q shape (shape.size + (c.args.place.room - q.used)) = record {
       first = first_of_run _ _ _ _ _ _ at c.shape-shape.ensures.small step;
       into = c.if-state-number.true;
       is = ap (λ k. shape.size + (k - q.used)) c.requires.known;
@@ -355,7 +355,7 @@ returns-then-left-more-lt-SHORTEST-clause-passed g c =
       index = c.entries.position.index + c.put_run-count.result;
       state = record { fib = q.fib; used = q.used + (c.put_run-count.result - 1) * shape.size; head = q.head };
     } in
-    let entered : Entered c.args.mode (g.L.EntryList.entries c.args.list.now) c.args.place.number c.args.fib.now c.entries.position e = record {
+    let entered : Entered c.args.layout (g.L.EntryList.entries c.args.list.now) c.args.place.number c.args.fib.now c.entries.position e = record {
       step = step;
       at = refl;
       into = c.if-state-number.true;
@@ -370,15 +370,15 @@ returns-then-left-more-lt-SHORTEST-clause-passed g c =
     let same : d.index ≡ c.entries.position.index + c.from.result = ap (λ n. c.entries.position.index + n) (sym c.from.ensures) in
     let p : Position = record { index = c.entries.position.index + c.from.result; state = d.state } in
     let after : List ℕ = slice_set c.put_run-count.new.fib c.fig_for-fig.result.place (slice_index_or c.put_run-count.new.fib c.fig_for-fig.result.place 0 + (c.put_run-count.result - 1) * shape.size) in
-    let filled : FilledTo c.args.mode (g.L.EntryList.entries c.args.list.now) c.args.place.number c.args.fib.now p (Some c.fig_for-fig.result) after =
-    subst (λ n. FilledTo c.args.mode (g.L.EntryList.entries c.args.list.now) c.args.place.number c.args.fib.now (record { index = n; state = d.state }) (Some c.fig_for-fig.result) after) same done.filled in
+    let filled : FilledTo c.args.layout (g.L.EntryList.entries c.args.list.now) c.args.place.number c.args.fib.now p (Some c.fig_for-fig.result) after =
+    subst (λ n. FilledTo c.args.layout (g.L.EntryList.entries c.args.list.now) c.args.place.number c.args.fib.now (record { index = n; state = d.state }) (Some c.fig_for-fig.result) after) same done.filled in
     let many = counted _ _ _ _ _ _ _ _ _ _ r put in
-    let within : q.used ≤ room c.args.mode c.args.place.number = omega (arith, many.fits) in
-    let known : c.args.place.room ≡ room c.args.mode c.args.place.number = c.requires.known in
-    let tight : room c.args.mode c.args.place.number < q.used + (c.put_run-count.result - 1) * shape.size + 3 =
+    let within : q.used ≤ room c.args.layout c.args.place.number = omega (arith, many.fits) in
+    let known : c.args.place.room ≡ room c.args.layout c.args.place.number = c.requires.known in
+    let tight : room c.args.layout c.args.place.number < q.used + (c.put_run-count.result - 1) * shape.size + 3 =
     omega (arith, many.fits, known, c.if-left-more-lt-SHORTEST.true) in
-    let past : NextIsAfter c.args.mode (g.L.EntryList.entries c.args.list.now) c.args.place.number p =
-    past_full c.args.mode _ c.args.place.number p c.requires.sendable c.if-state-number.true tight in
+    let past : NextIsAfter c.args.layout (g.L.EntryList.entries c.args.list.now) c.args.place.number p =
+    past_full c.args.layout _ c.args.place.number p c.requires.sendable c.if-state-number.true tight in
     passed_past _ _ _ _ p past filled.walked
 
 pub returns-then-left-more-lt-SHORTEST-clause-past : goal.returns-then-left-more-lt-SHORTEST-clause-past
@@ -387,7 +387,7 @@ returns-then-left-more-lt-SHORTEST-clause-past g c =
     let at : IsShapeAt (g.L.EntryList.entries c.args.list.now) c.entries.position.index shape = c.shape-shape.ensures.value in
     let q : PackState = c.in-Some.state in
     let step = passed _ _ _ _ _ _ at c.in-Some.ensures.within.is in
-    let r : Room c.args.mode c.args.place.number q shape (shape.size + (c.args.place.room - q.used)) = record {
+    let r : Room c.args.layout c.args.place.number q shape (shape.size + (c.args.place.room - q.used)) = record {
       first = first_of_run _ _ _ _ _ _ at c.shape-shape.ensures.small step;
       into = c.if-state-number.true;
       is = ap (λ k. shape.size + (k - q.used)) c.requires.known;
@@ -398,10 +398,10 @@ returns-then-left-more-lt-SHORTEST-clause-past g c =
       state = record { fib = q.fib; used = q.used + (c.put_run-count.result - 1) * shape.size; head = q.head };
     } in
     let many = counted _ _ _ _ _ _ _ _ _ _ r put in
-    let within : q.used ≤ room c.args.mode c.args.place.number = omega (arith, many.fits) in
-    let known : c.args.place.room ≡ room c.args.mode c.args.place.number = c.requires.known in
-    let tight : room c.args.mode c.args.place.number < q.used + (c.put_run-count.result - 1) * shape.size + 3 =
+    let within : q.used ≤ room c.args.layout c.args.place.number = omega (arith, many.fits) in
+    let known : c.args.place.room ≡ room c.args.layout c.args.place.number = c.requires.known in
+    let tight : room c.args.layout c.args.place.number < q.used + (c.put_run-count.result - 1) * shape.size + 3 =
     omega (arith, many.fits, known, c.if-left-more-lt-SHORTEST.true) in
-    let past : NextIsAfter c.args.mode (g.L.EntryList.entries c.args.list.now) c.args.place.number p =
-    past_full c.args.mode _ c.args.place.number p c.requires.sendable c.if-state-number.true tight in
+    let past : NextIsAfter c.args.layout (g.L.EntryList.entries c.args.list.now) c.args.place.number p =
+    past_full c.args.layout _ c.args.place.number p c.requires.sendable c.if-state-number.true tight in
     past

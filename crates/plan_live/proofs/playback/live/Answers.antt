@@ -6,6 +6,7 @@ use Rattle.plan_runs.specs.declared.event.Start.{Start}
 use Rattle.plan_player.specs.Playing.{Playing}
 use Rattle.plan_session.specs.Playback.{Request, asked, start_of}
 use Rattle.plan_live.specs.Living.{Streamed, streamed, Reached, StoppedBy, IsPrompt}
+use Rattle.plan_live.proofs.Growing.{grows_none}
 use Rattle.plan_live.proofs.Starts.{one_player}
 use Rattle.plan_live.proofs.playback.live.Goals as goal
 
@@ -56,3 +57,7 @@ returns-clause-prompt g c = λ p h.
     let codes : verified ≡ p.code = c.in-Ok.ensures.only p.code h.ready.file in
     let same : c.in-Ok-new.player ≡ p = one_player r verified start p c.in-Ok-new.player h codes starts c.in-Ok-new.ensures.begins in
     subst (λ (x : Playing). IsPrompt c.args.options.skip c.args.options.wanted x old (moments c.args.ends.now) (moments c.drive.new.ends)) same c.drive.ensures.prompt
+
+-- nothing was read
+pub returns-in-Err-clause-prompt : goal.returns-in-Err-clause-prompt
+returns-in-Err-clause-prompt g c = λ p h. record { moments = []; grows = grows_none (g.E.Ends.moments c.args.ends.now); done = tt }

@@ -14,14 +14,14 @@ show-requires g c =
     let made = c.make_page_to_send.ensures in
     let pages = c.make_page_to_send.new.pages.pages in
     let page = made.keeps.each s.page_index made.made in
-    (plan.mode, sent_entries plan s, subst (λ (n : ℕ). HasPage plan.mode (sent_entries plan s) n pages) (sym c.page_index-page_index.ensures) page)
+    (plan.layout, sent_entries plan s, subst (λ (n : ℕ). HasPage plan.layout (sent_entries plan s) n pages) (sym c.page_index-page_index.ensures) page)
 
 pub returns-clause-keeps : goal.returns-clause-keeps
 returns-clause-keeps g c =
     let plan = c.args.plan.now in
     let s = state_of g.S.Store.content c.args.machine.now in
     let made = c.make_page_to_send.ensures in
-    c.show.ensures.keeps _ _ _ (turned plan.mode (sent_entries plan s) s.page_index (sent_rounds plan s) c.make_page_to_send.new.pages made.keeps made.made)
+    c.show.ensures.keeps _ _ _ (turned plan.layout (sent_entries plan s) s.page_index (sent_rounds plan s) c.make_page_to_send.new.pages made.keeps made.made)
 
 pub returns-clause-state : goal.returns-clause-state
 returns-clause-state g c =
@@ -30,5 +30,5 @@ returns-clause-state g c =
     let made = c.make_page_to_send.ensures in
     let pages = c.show.new.pages in
     let page_index : s.page_index < pages.made = omega (arith, made.made, c.show.ensures.made) in
-    let next = next_page plan.mode (sent_entries plan s) s.page_index c.count.result pages (c.show.ensures.keeps _ _ _ made.keeps) page_index c.count.ensures.whole c.count.ensures.more in
+    let next = next_page plan.layout (sent_entries plan s) s.page_index c.count.result pages (c.show.ensures.keeps _ _ _ made.keeps) page_index c.count.ensures.whole c.count.ensures.more in
     c.pass.ensures plan ∙ ap (λ (t : ℕ). let r : State = record (with_next_counts plan s) { page_index = t } in r) (c.page_after.ensures ∙ ap (λ (n : ℕ). page_after c.count.result n) c.page_index-page_index.ensures ∙ next)

@@ -8,12 +8,12 @@ use Rattle.plan_player.proofs.phase_pages.make.Goals as goal
 
 pub returns-clause-keeps : goal.returns-clause-keeps
 returns-clause-keeps g c =
-    let mode = c.args.mode in
+    let layout = c.args.layout in
     let ms = page_set_of g.S.Store.content c.args.current.now (option_copied c.args.next) in
     let at = (c.requires.keeps.cursor c.requires.within).1 in
     let page = c.kept_page-page.result in
     let cursor = c.kept_page-page.new.self in
-    one_more mode ms c.args.pages.now c.from-place.result page c.number.result cursor c.requires.keeps c.from-place.ensures c.requires.few c.requires.within
-    (subst (λ (k : ℕ). IsKept mode ms k page) at c.kept_page-page.ensures.kept)
-    (subst (λ (k : ℕ). IsAtPage mode ms (page_after (rounds mode ms) k) cursor) at c.kept_page-page.ensures.next)
+    one_more layout ms c.args.pages.now c.from-place.result page c.number.result cursor c.requires.keeps c.from-place.ensures c.requires.few c.requires.within
+    (subst (λ (k : ℕ). IsKept layout ms k page) at c.kept_page-page.ensures.kept)
+    (subst (λ (k : ℕ). IsAtPage layout ms (page_after (rounds layout ms) k) cursor) at c.kept_page-page.ensures.next)
     c.number.ensures

@@ -1,5 +1,6 @@
 use Rattle.std.proofs.Common.{◌≡◌, ◌+◌, ◌-◌, ◌%◌, ◌≤◌, length}
 use Rattle.std.specs.List.{concat}
+use Rattle.fib_codec.specs.Layouts.{layout_mode}
 use Rattle.mux_entries.specs.declared.limits.TheConstants.{COUNTS}
 use Rattle.fib_codec.specs.Modes.{count_step}
 use Rattle.plan_code.specs.Machine.{State}
@@ -12,7 +13,7 @@ abbrev pub invariant-loop-at : goal.invariant-loop-at
 invariant-loop-at l = record {
   near : l.at ≤ l.frames + 4;
   number : l.number ≡ (l.count + l.at) % COUNTS;
-  on_step : l.number % count_step l.plan.mode ≡ 0;
+  on_step : l.number % count_step (layout_mode l.plan.layout) ≡ 0;
   whole : length l.bytes ≡ length l.initial.bytes;
   bytes : (s t : State) → AreAlike l.plan l.header l.frames s t → t.count ≡ l.count → l.initial.bytes ≡ concat (notice_frames l.plan l.frames s)
       → l.bytes ≡ mixed l.plan l.frames (l.frames - (l.frames - l.at)) s t;

@@ -19,7 +19,7 @@ held-page-requires g c =
     let t : State = counted_on plan k s in
     let pages = c.args.pages.now in
     let has = stretch_page plan c.args.count k s pages c.requires.stretch c.loop-done-test.true in
-    let here = subst (λ (x : ℕ). HasPage plan.mode (sent_entries plan t) x pages.pages) (sym c.loop-done.invariant.page_index) has in
+    let here = subst (λ (x : ℕ). HasPage plan.layout (sent_entries plan t) x pages.pages) (sym c.loop-done.invariant.page_index) has in
     (here.page, here.held)
 
 pub push-requires-clause-within : goal.push-requires-clause-within

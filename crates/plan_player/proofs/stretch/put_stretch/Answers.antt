@@ -1,7 +1,7 @@
 use Rattle.std.proofs.Common.{◌≡◌, ◌+◌, ◌<◌, ◌*◌, ◌/◌, ◌%◌, ℕ, suc, List, length, take, sym, ap, subst, ◌∙◌, arith}
 use Rattle.std.specs.List.{concat}
 use Rattle.std.specs.Io.KnownBytes.{Appends}
-use Rattle.fib_codec.specs.Modes.{fib_count}
+use Rattle.fib_codec.specs.Layouts.{frame_fibs}
 use Rattle.plan_code.specs.Machine.{State}
 use Rattle.plan_runs.specs.Announced.{notice_frames}
 use Rattle.plan_player.specs.Positions.{state_of}
@@ -18,7 +18,7 @@ overflow_cast-frames g c =
     let size : ℕ = 32 * c.fibs-size.result in
     let text = c.as_slice.ensures ∙ c.fill.ensures in
     let inside : c.in-Err.taken < length (concat (notice_frames plan n s)) = subst (λ (l : List ℕ). c.in-Err.taken < length l) text c.in-Err.ensures.bound in
-    let is : size ≡ 32 * fib_count plan.mode = ap (λ (k : ℕ). 32 * k) c.fibs-size.ensures.value in
+    let is : size ≡ 32 * frame_fibs plan.layout = ap (λ (k : ℕ). 32 * k) c.fibs-size.ensures.value in
     let cut = stretch_cut plan n s c.args.pages.now size c.in-Err.taken c.requires.stretch is (omega (arith, c.fibs-size.ensures.in_range)) inside in
     omega (arith, cut.few, c.requires.few)
 
@@ -30,7 +30,7 @@ overflow_add-frames g c =
     let size : ℕ = 32 * c.fibs-size.result in
     let text = c.as_slice.ensures ∙ c.fill.ensures in
     let inside : c.in-Err.taken < length (concat (notice_frames plan n s)) = subst (λ (l : List ℕ). c.in-Err.taken < length l) text c.in-Err.ensures.bound in
-    let is : size ≡ 32 * fib_count plan.mode = ap (λ (k : ℕ). 32 * k) c.fibs-size.ensures.value in
+    let is : size ≡ 32 * frame_fibs plan.layout = ap (λ (k : ℕ). 32 * k) c.fibs-size.ensures.value in
     let cut = stretch_cut plan n s c.args.pages.now size c.in-Err.taken c.requires.stretch is (omega (arith, c.fibs-size.ensures.in_range)) inside in
     omega (arith, cut.few, c.requires.few)
 
@@ -46,7 +46,7 @@ returns-in-Err-clause-cut g c =
     let bytes : ℕ = c.in-Err.taken % size in
     let text = c.as_slice.ensures ∙ c.fill.ensures in
     let inside : c.in-Err.taken < length (concat (notice_frames plan n s)) = subst (λ (l : List ℕ). c.in-Err.taken < length l) text c.in-Err.ensures.bound in
-    let is : size ≡ 32 * fib_count plan.mode = ap (λ (k : ℕ). 32 * k) c.fibs-size.ensures.value in
+    let is : size ≡ 32 * frame_fibs plan.layout = ap (λ (k : ℕ). 32 * k) c.fibs-size.ensures.value in
     let cut = stretch_cut plan n s c.args.pages.now size c.in-Err.taken c.requires.stretch is (omega (arith, c.fibs-size.ensures.in_range)) inside in
     let rounds = fewer_rounds plan (frames + 1) n s c.args.pages.now.made (omega (arith, cut.few)) (stretch_rounds plan n s c.args.pages.now c.requires.stretch) in
     let next : frames + 1 ≡ suc frames = omega arith in
@@ -77,7 +77,7 @@ returns-in-Err-clause-counted g c =
     let frames : ℕ = c.in-Err.taken / size in
     let text = c.as_slice.ensures ∙ c.fill.ensures in
     let inside : c.in-Err.taken < length (concat (notice_frames plan n s)) = subst (λ (l : List ℕ). c.in-Err.taken < length l) text c.in-Err.ensures.bound in
-    let is : size ≡ 32 * fib_count plan.mode = ap (λ (k : ℕ). 32 * k) c.fibs-size.ensures.value in
+    let is : size ≡ 32 * frame_fibs plan.layout = ap (λ (k : ℕ). 32 * k) c.fibs-size.ensures.value in
     let cut = stretch_cut plan n s c.args.pages.now size c.in-Err.taken c.requires.stretch is (omega (arith, c.fibs-size.ensures.in_range)) inside in
     let rounds = fewer_rounds plan (frames + 1) n s c.args.pages.now.made (omega (arith, cut.few)) (stretch_rounds plan n s c.args.pages.now c.requires.stretch) in
     (frames + 1, omega (arith, cut.few), c.pass_many-in-Err.ensures plan rounds)

@@ -1,7 +1,8 @@
 use Rattle.std.proofs.Common.{◌≡◌, ℕ, List, ◌+◌, ◌*◌, ◌%◌, ◌≤◌, ◌<◌, ap, ◌∙◌, arith, length}
 use Rattle.std.proofs.Math.Nat.{mul-le-mul_right}
+use Rattle.fib_codec.specs.Layouts.{layout_mode, frame_fibs}
 use Rattle.mux_entries.specs.declared.limits.TheConstants.{COUNTS}
-use Rattle.fib_codec.specs.Modes.{fib_count, count_step}
+use Rattle.fib_codec.specs.Modes.{count_step}
 use Rattle.plan_code.specs.Machine.{State}
 use Rattle.plan_player.specs.Positions.{state_of}
 use Rattle.plan_player.proofs.Cycles.{bytes_long, turn_on_turn, twice_whole, room}
@@ -13,7 +14,7 @@ repeat-requires-clause-there g c =
     let s : State = state_of g.S.Store.content c.args.machine.now in
     let done : ℕ = c.loop-done.done in
     let more : ℕ = c.min-more.result in
-    let size : ℕ = 32 * fib_count plan.mode in
+    let size : ℕ = 32 * frame_fibs plan.layout in
     let long : length c.loop-done.batch ≡ done * size =
     ap (λ (l : List ℕ). length l) c.loop-done.invariant.bytes ∙ bytes_long plan c.args.count done s c.args.pages.now c.requires.stretch c.loop-done.invariant.within in
     let few : more ≤ done = omega (arith, c.min-more.ensures) in
@@ -26,11 +27,11 @@ repeat-requires-clause-room g c =
     let s : State = state_of g.S.Store.content c.args.machine.now in
     let done : ℕ = c.loop-done.done in
     let more : ℕ = c.min-more.result in
-    let size : ℕ = 32 * fib_count plan.mode in
+    let size : ℕ = 32 * frame_fibs plan.layout in
     let long : length c.loop-done.batch ≡ done * size =
     ap (λ (l : List ℕ). length l) c.loop-done.invariant.bytes ∙ bytes_long plan c.args.count done s c.args.pages.now c.requires.stretch c.loop-done.invariant.within in
     let all : done + more ≤ 128 = omega (arith, c.min-more.ensures, c.loop-done-test.true, c.requires.few) in
-    let most : done * size + more * size ≤ 16384 = room plan.mode done more all in
+    let most : done * size + more * size ≤ 16384 = room (layout_mode plan.layout) done more all in
     omega (arith, long, most)
 
 pub loop-done-preserved : goal.loop-done-preserved
@@ -53,7 +54,7 @@ loop-done-preserved g c =
       some = omega (arith, before.some);
       within = le;
       pages = λ below. ap (λ (x : ℕ). x % pages.made) (twice below) ∙ twice_whole done pages.made (before.pages lt);
-      steps = λ below. ap (λ (x : ℕ). x % count_step plan.mode) (twice below) ∙ twice_whole done (count_step plan.mode) (before.steps lt);
+      steps = λ below. ap (λ (x : ℕ). x % count_step (layout_mode plan.layout)) (twice below) ∙ twice_whole done (count_step (layout_mode plan.layout)) (before.steps lt);
       bytes = turn_on_turn plan count done more c.count_later.result s pages c.args.header c.loop-done.batch c.repeat.new.self made.0 c.requires.stretch c.requires.header
           (before.pages lt) (before.steps lt) some few le number before.bytes made.1 made.2;
     }

@@ -1,5 +1,6 @@
 use Rattle.std.proofs.Common.{◌≡◌, ◌-◌, ◌%◌, ◌<◌, ◌≤◌}
 use Rattle.std.specs.List.{concat}
+use Rattle.fib_codec.specs.Layouts.{layout_mode}
 use Rattle.fib_codec.specs.Modes.{count_step}
 use Rattle.plan_code.specs.Machine.{State}
 use Rattle.plan_runs.specs.Announced.{notice_frames}
@@ -13,7 +14,7 @@ invariant-loop-done g l =
       some : 1 ≤ l.done;
       within : l.done ≤ l.count;
       pages : l.done < l.count → l.done % l.pages.made ≡ 0;
-      steps : l.done < l.count → l.done % count_step l.plan.mode ≡ 0;
+      steps : l.done < l.count → l.done % count_step (layout_mode l.plan.layout) ≡ 0;
       bytes : l.batch ≡ concat (notice_frames l.plan l.done s);
     }
 

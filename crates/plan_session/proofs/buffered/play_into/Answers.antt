@@ -1,5 +1,5 @@
 use Rattle.std.proofs.Common.{rules, ◌≡◌, ℕ, ◌+◌, ◌*◌, ◌≤◌, Err, subst, arith}
-use Rattle.fib_codec.specs.Modes.{fib_count}
+use Rattle.fib_codec.specs.Layouts.{frame_fibs}
 use Rattle.plan_player.specs.Delivery.{played_bytes}
 use Rattle.plan_session.specs.Events.{events_of}
 use Rattle.plan_session.specs.Buffering.{taken_by}
@@ -25,7 +25,7 @@ returns-else-deliver-clause-played g c = λ p steps h e.
     let frames : ℕ = c.delivered-frames.result.0 in
     let bytes : ℕ = c.delivered-frames.result.1 in
     let right = right_frames c.headline.ensures c.reached.ensures.start c.args.code.now c.args.start c.args.events.now p steps c.code.ensures.formed c.code.ensures.typed (search rules) (search rules) h in
-    let is : size ≡ 32 * fib_count p.code.plan.mode = cc (c.fibs-size.ensures.value, c.plan.ensures.value, c.code.ensures.value, h.begins.code_is) in
+    let is : size ≡ 32 * frame_fibs p.code.plan.layout = cc (c.fibs-size.ensures.value, c.plan.ensures.value, c.code.ensures.value, h.begins.code_is) in
     let back = subst (λ (n : ℕ). n ≤ total * size + 0 → frames * size + bytes + n ≡ total * size + 0) c.held.ensures.value c.delivered-frames.ensures.whole in
     rw c.into_inner-in-Ok.ensures (cut_at_end p (events_of steps) size total frames bytes (g.K.Sink.taken c.args.out) (taken c.new-buffer.result) (taken c.play.new.out) (g.K.Sink.taken last.out) last.held is (right (events_of steps))
     e c.new-buffer.ensures.taken d.0 d.1 c.deliver.ensures.bytes (c.deliver.ensures.left c.if-deliver.false) back (c.delivered-frames.ensures.part (omega (arith, c.fibs-size.ensures.in_range))))
@@ -41,7 +41,7 @@ returns-in-Err-Write-clause-played g c = λ p steps h e.
     let frames : ℕ = c.delivered-frames-in-Err-Write.result.0 in
     let bytes : ℕ = c.delivered-frames-in-Err-Write.result.1 in
     let right = right_frames c.headline.ensures c.reached.ensures.start c.args.code.now c.args.start c.args.events.now p steps c.code.ensures.formed c.code.ensures.typed (search rules) (search rules) h in
-    let is : size ≡ 32 * fib_count p.code.plan.mode = cc (c.fibs-size.ensures.value, c.plan.ensures.value, c.code.ensures.value, h.begins.code_is) in
+    let is : size ≡ 32 * frame_fibs p.code.plan.layout = cc (c.fibs-size.ensures.value, c.plan.ensures.value, c.code.ensures.value, h.begins.code_is) in
     let back = subst (λ (n : ℕ). n ≤ total * size + more → frames * size + bytes + n ≡ total * size + more) c.held-in-Err-Write.ensures.value c.delivered-frames-in-Err-Write.ensures.whole in
     rw c.into_inner-in-Err-Write.ensures (cut_before p d.0 (events_of steps) size total more frames bytes (g.K.Sink.taken c.args.out) (taken c.new-buffer.result) (taken last) (g.K.Sink.taken last.out) last.held is (right (events_of steps)) right
     e c.new-buffer.ensures.taken d.1 (kept_same (taken last)) back c.delivered-frames-in-Err-Write.ensures.part)

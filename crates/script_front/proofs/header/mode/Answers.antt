@@ -1,7 +1,7 @@
 use Rattle.script_tokens.specs.declared.keyword.Keyword.TheVariants as the
 use Rattle.script_tokens.specs.Keywords.{letters}
 use Rattle.script_tokens.proofs.Atoms.{told}
-use Rattle.script_front.proofs.Refusing.{no_mode, later_only, first_only}
+use Rattle.script_front.proofs.Headers.{no_mode, later_only, first_only}
 use Rattle.script_front.proofs.header.mode.Goals as goal
 
 pub returns-in_err-mode-clause-none : goal.returns-in_err-mode-clause-none

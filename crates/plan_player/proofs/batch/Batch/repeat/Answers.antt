@@ -1,5 +1,5 @@
 use Rattle.std.proofs.Common.{◌≡◌, ℕ, List, ◌+◌, ◌-◌, ◌*◌, ◌≤◌, ◌++◌, sym, ap, ap₂, ◌∙◌, arith, length, take, drop, length-take-le}
-use Rattle.fib_codec.specs.Modes.{fib_count}
+use Rattle.fib_codec.specs.Layouts.{frame_fibs}
 use Rattle.plan_player.proofs.Cycles.{copied, appended}
 use Rattle.plan_player.proofs.batch.Batch.repeat.Goals as goal
 
@@ -13,7 +13,7 @@ returns c =
     let copy : List ℕ = c.copy_front.new.bytes in
     let text : List ℕ = c.recount_frames.new.bytes in
     let view : old ≡ take offset b = sym c.self.view_is in
-    let is_len : len ≡ c.args.frames * (32 * fib_count c.args.plan.now.mode) = ap₂ (λ (m n : ℕ). m * (32 * n)) c.from.ensures c.fibs.ensures.value in
+    let is_len : len ≡ c.args.frames * (32 * frame_fibs c.args.plan.now.layout) = ap₂ (λ (m n : ℕ). m * (32 * n)) c.from.ensures c.fibs.ensures.value in
     let whole : length b ≡ 16384 = c.self.invariant.1 in
     let within : offset ≤ 16384 = c.self.invariant.0 in
     let long : length old ≡ offset = ap (λ (l : List ℕ). length l) view ∙ length-take-le offset b (omega (arith, whole, within)) in
@@ -33,7 +33,7 @@ copy_front-requires-clause-before c =
     let b : List ℕ = c.self.inside.bytes in
     let offset : ℕ = c.self.inside.len in
     let len : ℕ = c.from.result * (32 * c.fibs.result) in
-    let is_len : len ≡ c.args.frames * (32 * fib_count c.args.plan.now.mode) = ap₂ (λ (m n : ℕ). m * (32 * n)) c.from.ensures c.fibs.ensures.value in
+    let is_len : len ≡ c.args.frames * (32 * frame_fibs c.args.plan.now.layout) = ap₂ (λ (m n : ℕ). m * (32 * n)) c.from.ensures c.fibs.ensures.value in
     let whole : length b ≡ 16384 = c.self.invariant.1 in
     let within : offset ≤ 16384 = c.self.invariant.0 in
     let long : length c.args.self.now ≡ offset =
