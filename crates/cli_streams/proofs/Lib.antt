@@ -1,5 +1,7 @@
+mod Checked
 mod Appending
 pub mod Hearing
 mod JsonObjects
 mod OneAnswer
 mod PictureLines
+mod VectorsOfChecks

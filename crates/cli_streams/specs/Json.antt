@@ -1,5 +1,5 @@
 -- Entries of FIG 0/1 to 0/3 as objects of JSON, and the object of a listing.
-use Rattle.std.specs.Prelude.{◌≡◌, ◌⊎◌, ℕ, ◌+◌, ◌==◌, Bool, true, false, if◌then◌else◌, List, [], ◌∷◌, ◌++◌, codes, Option, Some, None}
+use Rattle.std.specs.Prelude.{◌≡◌, ℕ, ◌+◌, ◌==◌, Bool, true, false, if◌then◌else◌, List, [], ◌∷◌, ◌++◌, codes, Option, Some, None}
 use Rattle.std.specs.Fmt.{decimal}
 use Rattle.mux_eep.specs.Sizes.{Profile, IsSize}
 use Rattle.mux_eep.specs.declared.sizes.EepSet.{EepSet}

@@ -1,3 +1,4 @@
+pub mod Checking
 pub mod Frame
 pub mod Json
 pub mod JsonListing

@@ -1,5 +1,13 @@
 //! `dabplan check`: checks that a stream of FIBs announces each reconfiguration as EN 300 401 clause 6.5 requires.
 
+ghost use Rattle.std.specs.Prelude.{◌≡◌, ◌≢◌, ◌++◌, ℕ, List, Option, IfOk, IfSome, OnOk, codes};
+ghost use Rattle.std.specs.Io.KnownBytes.{Appends};
+ghost use Rattle.console.specs.Printed.{printed};
+ghost use Rattle.stream_check.specs.Frames.{Reading};
+ghost use Rattle.stream_monitor.specs.Lines.{line_of};
+ghost use Rattle.stream_monitor.specs.Outcome.{ChecksInput};
+ghost use Rattle.cli_streams.specs.Checking.{HasStatus, last_line, status_of};
+
 use console::exit::{Failure, Status, pieces_of};
 use console::files::Files;
 use console::output::Output;
@@ -20,17 +28,32 @@ pub struct CheckRequest<'a> {
 }
 
 /// Runs `check`: prints the findings in the file, or in standard input if the path is `-`, as its bytes come, and the
-/// totals. The stream is checked piece by piece, so that memory use does not depend on its length.
+/// totals. The stream is checked piece by piece, so that memory use does not depend on its length. The status is 0
+/// without a fault, 3 with one, and 1 if the stream is refused, which is the last line then.
+///
+/// # Errors
+///
+/// `Read` if the file can't be read, behind the lines of the findings before; `Memory` if out of memory for a piece, or if
+/// a frame has more than 1,024 findings; `Output` if the output failed, after which nothing is printed.
 pub fn show_check<'a, F: Files, W: Write>(
     alloc: Global,
     request: &CheckRequest<'a>,
     files: &mut F,
     out: &mut Output<'_, W>,
-) -> Result<Status, Failure<'a>> {
+) -> Result<Status, Failure<'a>>
+    ensures input { request.now.file.now ≡ codes "-" → IfSome (F.known_input files.old) (λ stream.
+        IfOk result (λ status. (r : Reading) → HasStatus r request.now.options stream status)) }
+    ensures file { request.now.file.now ≢ codes "-"
+        → IfSome (F.known files.old request.now.file.now) (λ stream.
+        IfOk result (λ status. (r : Reading) → HasStatus r request.now.options stream status)) }
+{
     let pieces = pieces_of(alloc, files, request.file)?;
     let hints = Hints::new(files, request.file);
     match check_pieces(request.options, hints, pieces, out) {
-        Ok(ending) => print_ending(request.options.form, ending, out),
+        Ok(ending) => match print_ending(request.options.form, ending, out) {
+            Ok(status) => Ok(status),
+            Err(failure) => Err(failure),
+        },
         Err(stop) => Err(failure_of(stop, request.file)),
     }
 }
@@ -41,9 +64,15 @@ fn check_pieces<F: Files, R: Read + Drop, W: Write>(
     hints: Hints<'_, F>,
     pieces: Pieces<R>,
     out: &mut Output<'_, W>,
-) -> Result<Ending, Stop> {
+) -> Result<Ending, Stop>
+    ensures { IfOk result (λ ending. (r : Reading) → (left : Option (List ℕ)) × (text : List ℕ)
+        × ChecksInput r options pieces.left left text ending) }
+{
     let mut ends = Streams::new(hints, pieces, out);
-    check_stream(options, &mut ends)
+    match check_stream(options, &mut ends) {
+        Ok(ending) => Ok(ending),
+        Err(stop) => Err(stop),
+    }
 }
 
 /// The failure for a check that did not come to its end.
@@ -59,8 +88,12 @@ fn failure_of<'a>(stop: Stop, path: &'a str) -> Failure<'a> {
 fn print_ending<'a, W: Write>(
     form: Form,
     ending: Ending,
-    out: &mut W,
-) -> Result<Status, Failure<'a>> {
+    out: &mut Output<'_, W>,
+) -> Result<Status, Failure<'a>>
+    ensures printed { OnOk result (Appends (printed W.contents out.old) (printed W.contents out.new)
+        (line_of form (last_line ending))) }
+    ensures status { IfOk result (λ status. status ≡ status_of ending) }
+{
     let (line, status) = last_of(ending);
     match print_line(form, &line, out) {
         Ok(()) => Ok(status),
@@ -69,7 +102,10 @@ fn print_ending<'a, W: Write>(
 }
 
 /// The last line, and the exit status.
-fn last_of(ending: Ending) -> (Line, Status) {
+fn last_of(ending: Ending) -> (Line, Status)
+    ensures line { result.0 ≡ last_line ending }
+    ensures status { result.1 ≡ status_of ending }
+{
     match ending {
         Ending::Counted(totals) => {
             let status = if totals.faults > 0 {

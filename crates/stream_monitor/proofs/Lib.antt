@@ -1,4 +1,13 @@
 mod Appending
 mod Counting
+mod Frames
+mod Steps
+mod Endings
+mod Pieces
+mod Requests
+mod Framings
+mod Fronts
+mod OneOutcome
 mod Stopping
 mod Vectors
+mod VectorsOfChecks

@@ -2,9 +2,13 @@ pub mod Checking
 pub mod Clock
 pub mod Decided
 pub mod Findings
+pub mod Frames
+pub mod Going
 pub mod Hints
 pub mod Json
 pub mod Lines
 pub mod Moments
+pub mod Outcome
+pub mod Outcomes
 pub mod Streaming
 pub mod Text

@@ -13,7 +13,11 @@ use std::io;
 /// before the output has all lines.
 pub trait Ends {
     ghost use Rattle.std.specs.Prelude.{ℕ, List, Option};
+    ghost use Rattle.std.specs.Borrow.{GName};
     ghost use Rattle.stream_monitor.specs.Moments.{Moment};
+
+    /// The output, by the name of the borrow of it: it is the same one throughout.
+    ghost output: { Self → GName };
 
     /// The remaining bytes of the input, if known.
     ghost left: { Self → Option (List ℕ) };
@@ -44,7 +48,8 @@ pub trait Ends {
         ensures moments { Grows (moments self.old) (moments self.new)
             (moment (left self.old) (written self.old) ∷ []) }
         ensures printed { printed self.new ≡ printed self.old }
-        ensures written { written self.new ≡ written self.old };
+        ensures written { written self.new ≡ written self.old }
+        ensures output { output self.new ≡ output self.old };
 
     /// The bytes of the last piece.
     fn piece(&self) -> &[u8]
@@ -62,6 +67,7 @@ pub trait Ends {
             (Appends (printed self.old) (printed self.new) (line_of form line.now)) }
         ensures left { left self.new ≡ left self.old }
         ensures piece { piece self.new ≡ piece self.old }
+        ensures output { output self.new ≡ output self.old }
         ensures moments { moments self.new ≡ moments self.old };
 
     /// Gives a hint on standard error once the pieces so far are no FIBs. One that can't be written is lost.
@@ -70,6 +76,7 @@ pub trait Ends {
         ensures written { written self.new ≡ written self.old }
         ensures left { left self.new ≡ left self.old }
         ensures piece { piece self.new ≡ piece self.old }
+        ensures output { output self.new ≡ output self.old }
         ensures moments { moments self.new ≡ moments self.old };
 
     /// Gives a hint if the stream ends here, and had no FIB.
@@ -78,6 +85,7 @@ pub trait Ends {
         ensures written { written self.new ≡ written self.old }
         ensures left { left self.new ≡ left self.old }
         ensures piece { piece self.new ≡ piece self.old }
+        ensures output { output self.new ≡ output self.old }
         ensures moments { moments self.new ≡ moments self.old };
 
     /// Hands all lines so far to the output.
@@ -86,5 +94,6 @@ pub trait Ends {
         ensures printed { Keeps (printed self.old) (printed self.new) }
         ensures left { left self.new ≡ left self.old }
         ensures piece { piece self.new ≡ piece self.old }
+        ensures output { output self.new ≡ output self.old }
         ensures moments { moments self.new ≡ moments self.old };
 }

@@ -9,6 +9,7 @@ pub mod ending;
 pub mod ends;
 pub mod hint;
 pub mod json;
+pub mod laws;
 pub mod line;
 pub mod monitor;
 pub mod options;

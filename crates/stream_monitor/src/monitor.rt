@@ -7,6 +7,10 @@ ghost use Rattle.stream_check.specs.Following.{Follows};
 ghost use Rattle.stream_check.specs.Reported.{Unknown};
 ghost use Rattle.stream_monitor.specs.Checking.{HasReadAll, StopsAtFib, StopsAtPiece};
 ghost use Rattle.stream_monitor.specs.Decided.{finding_lines, is_due};
+ghost use Rattle.stream_monitor.specs.Going.{IsAfter, EndsFrameFrom, cause_of, due_text, end_of, ChecksFib, ChecksPiece};
+ghost use Rattle.stream_monitor.specs.declared.ending.Ending.TheVariants.{Refused};
+ghost use Rattle.stream_monitor.specs.declared.options.CheckOptions.{CheckOptions as OptionsOf};
+ghost use Rattle.stream_monitor.specs.Outcome.{ArePrompt, ChecksInput, StopsAtEnd};
 
 use crate::ending::Ending;
 use crate::ends::Ends;
@@ -40,9 +44,7 @@ pub(crate) struct State {
 
 /// Before the first FIB.
 fn start(options: CheckOptions) -> State
-    ensures checker { (r : Reading)
-        → Follows r options.mode options.period [] Unknown Unknown result.checker }
-    ensures tally { result.tally ≡ record { swaps = 0; faults = 0 } }
+    ensures { (r : Reading) → IsAfter r options [] [] result }
 {
     State {
         checker: Checker::new(options.mode, options.period),
@@ -71,15 +73,24 @@ fn totals_of(tally: Tally, summary: Summary) -> Totals
 /// more than 1,024 findings, which none has.
 #[tactic(auto, using(crate::proofs::Stopping::stopped_reading))]
 pub fn check_stream<E: Ends>(options: CheckOptions, ends: &mut E) -> Result<Ending, Stop>
+    // What is printed, and how the check ends.
+    ensures checked { IfOk result (λ ending. (r : Reading) → (text : List ℕ)
+        × ChecksInput r options (E.left ends.old) (E.left ends.new) text ending
+        × Appends (E.printed ends.old) (E.printed ends.new) text) }
+    // Each time input is requested, the output has taken the lines of all FIBs before.
+    ensures prompt { ArePrompt options (E.left ends.old) (E.printed ends.old)
+        (E.moments ends.old) (E.moments ends.new) }
     ensures all { IfOk result (λ ending. HasReadAll options ending (E.left ends.new)) }
+    // The output is the same one.
+    ensures output { E.output ends.new ≡ E.output ends.old }
 {
     let mut state = start(options);
     let mut stash = Stash::new();
-    match ends.flush() {
-        Ok(()) => {}
-        Err(_) => return Err(Stop::Write),
-    }
     for _ in 0..MOST_PIECES {
+        match ends.flush() {
+            Ok(()) => {}
+            Err(_) => return Err(Stop::Write),
+        }
         match ends.next() {
             Ok(true) => {}
             Ok(false) => {
@@ -97,10 +108,6 @@ pub fn check_stream<E: Ends>(options: CheckOptions, ends: &mut E) -> Result<Endi
             }
             Err(stop) => return Err(stop),
         }
-        match ends.flush() {
-            Ok(()) => {}
-            Err(_) => return Err(Stop::Write),
-        }
     }
     Err(Stop::Read(FileFault::Failed))
 }
@@ -113,8 +120,12 @@ fn check_piece<E: Ends>(
     stash: &mut Stash,
     ends: &mut E,
 ) -> Result<Option<Ending>, Stop>
+    ensures checked { IfOk result (λ e. ChecksPiece options (E.piece ends.old)
+        state.old state.new (E.printed ends.old) (E.printed ends.new) e) }
     ensures ended { IfOk result (λ e. IfSome e (StopsAtPiece options (E.piece ends.old))) }
     ensures left { E.left ends.new ≡ E.left ends.old }
+    ensures output { E.output ends.new ≡ E.output ends.old }
+    ensures moments { E.moments ends.new ≡ E.moments ends.old }
 {
     let len = ends.piece().len();
     let mut number = 0;
@@ -141,9 +152,13 @@ fn check_fib<E: Ends>(
     fib: &[u8; 32],
     ends: &mut E,
 ) -> Result<Option<Ending>, Stop>
+    ensures checked { IfOk result (λ e. ChecksFib options fib.now
+        state.old state.new (E.printed ends.old) (E.printed ends.new) e) }
     ensures ended { IfOk result (λ e. IfSome e (StopsAtFib options)) }
     ensures left { E.left ends.new ≡ E.left ends.old }
     ensures piece { E.piece ends.new ≡ E.piece ends.old }
+    ensures output { E.output ends.new ≡ E.output ends.old }
+    ensures moments { E.moments ends.new ≡ E.moments ends.old }
 {
     stash.clear();
     let heard = state.checker.hear(fib, stash);
@@ -156,9 +171,22 @@ fn check_fib<E: Ends>(
     }
     match heard {
         Ok(false) => Ok(None),
-        Ok(true) => end_frame(options, state, ends),
-        Err(CheckFault::Full) => Ok(Some(Ending::Refused(Cause::Full))),
-        Err(CheckFault::TooLong) => Ok(Some(Ending::Refused(Cause::TooLong))),
+        Ok(true) => match end_frame(options, state, ends) {
+            Ok(ending) => Ok(ending),
+            Err(stop) => Err(stop),
+        },
+        Err(fault) => Ok(Some(Ending::Refused(cause_of(fault)))),
+    }
+}
+
+/// The cause of a refusal by the checker.
+fn cause_of(fault: CheckFault) -> Cause
+    ensures value { result ≡ cause_of fault }
+    ensures ended { (o : OptionsOf) → StopsAtFib o (Refused result) }
+{
+    match fault {
+        CheckFault::Full => Cause::Full,
+        CheckFault::TooLong => Cause::TooLong,
     }
 }
 
@@ -168,6 +196,8 @@ fn print_findings<E: Ends>(form: Form, findings: &[Finding], ends: &mut E) -> Re
         (Appends (E.printed ends.old) (E.printed ends.new) (finding_lines form findings.now)) }
     ensures left { E.left ends.new ≡ E.left ends.old }
     ensures piece { E.piece ends.new ≡ E.piece ends.old }
+    ensures output { E.output ends.new ≡ E.output ends.old }
+    ensures moments { E.moments ends.new ≡ E.moments ends.old }
 {
     let mut rest = findings;
     while let Some((finding, after)) = rest.split_first() {
@@ -192,6 +222,36 @@ fn is_due(every: Option<u32>, frames: u64) -> bool
     }
 }
 
+/// Prints the totals so far, if they are due.
+fn print_due<E: Ends>(options: CheckOptions, totals: Totals, ends: &mut E) -> Result<(), Stop>
+    ensures printed { OnOk result
+        (Appends (E.printed ends.old) (E.printed ends.new) (due_text options totals)) }
+    ensures left { E.left ends.new ≡ E.left ends.old }
+    ensures piece { E.piece ends.new ≡ E.piece ends.old }
+    ensures output { E.output ends.new ≡ E.output ends.old }
+    ensures moments { E.moments ends.new ≡ E.moments ends.old }
+{
+    if !is_due(options.every, totals.summary.frames) {
+        return Ok(());
+    }
+    match ends.print(options.form, &Line::Alive(totals)) {
+        Ok(()) => Ok(()),
+        Err(_) => Err(Stop::Write),
+    }
+}
+
+/// The end of a check with a frame, if it ends with a fault that was found.
+fn end_of(options: CheckOptions, totals: Totals) -> Option<Ending>
+    ensures value { result ≡ end_of options totals }
+    ensures ended { IfSome result (StopsAtFib options) }
+{
+    if options.until_fault && totals.faults > 0 {
+        Some(Ending::Counted(totals))
+    } else {
+        None
+    }
+}
+
 /// Ends a frame: prints the totals so far, if they are due, and returns the end of the check if it ends with a fault
 /// that was found.
 fn end_frame<E: Ends>(
@@ -199,26 +259,26 @@ fn end_frame<E: Ends>(
     state: &State,
     ends: &mut E,
 ) -> Result<Option<Ending>, Stop>
+    ensures ends { IfOk result (EndsFrameFrom options state.now
+        (E.printed ends.old) (E.printed ends.new)) }
     ensures ended { IfOk result (λ e. IfSome e (StopsAtFib options)) }
     ensures left { E.left ends.new ≡ E.left ends.old }
     ensures piece { E.piece ends.new ≡ E.piece ends.old }
+    ensures output { E.output ends.new ≡ E.output ends.old }
+    ensures moments { E.moments ends.new ≡ E.moments ends.old }
 {
     let totals = totals_of(state.tally, state.checker.decided());
-    if is_due(options.every, totals.summary.frames) {
-        match ends.print(options.form, &Line::Alive(totals)) {
-            Ok(()) => {}
-            Err(_) => return Err(Stop::Write),
-        }
+    match print_due(options, totals, ends) {
+        Ok(()) => Ok(end_of(options, totals)),
+        Err(stop) => Err(stop),
     }
-    if options.until_fault && totals.faults > 0 {
-        return Ok(Some(Ending::Counted(totals)));
-    }
-    Ok(None)
 }
 
 /// The end of a check at the end of its stream.
 fn finish(options: CheckOptions, state: &State) -> Ending
-    ensures { (left : Option (List ℕ)) → IsAtEnd left → HasReadAll options result left }
+    ensures all { (left : Option (List ℕ)) → IsAtEnd left → HasReadAll options result left }
+    ensures ends { (r : Reading) (fibs : List (List ℕ)) (text : List ℕ)
+        → IsAfter r options fibs text state.now → StopsAtEnd r options fibs [] text result }
 {
     match state.checker.finish() {
         Some(summary) => Ending::Counted(totals_of(state.tally, summary)),

@@ -27,6 +27,7 @@ impl<'f, 'o, 'b, F: Files, R: Read + Drop, W: Write> Streams<'f, 'o, 'b, F, R, W
     pub fn new(hints: Hints<'f, F>, pieces: Pieces<R>, out: &'o mut Output<'b, W>) -> Self
         ensures pieces { result.pieces ≡ pieces }
         ensures out { output_of result ≡ out.old }
+        ensures output { result.out.ghost_name ≡ out.entry.ghost_name }
     {
         Streams { hints, pieces, out }
     }
@@ -35,6 +36,8 @@ impl<'f, 'o, 'b, F: Files, R: Read + Drop, W: Write> Streams<'f, 'o, 'b, F, R, W
 impl<F: Files, R: Read + Drop, W: Write> Ends for Streams<'_, '_, '_, F, R, W> {
     ghost use Rattle.console.specs.Printed.{printed, writer_of};
     ghost use Rattle.stream_monitor.specs.Streaming.{output_of};
+
+    ghost output = { λ s. s.out.ghost_name };
 
     ghost left = { λ s. s.pieces.left };
 

@@ -1,6 +1,5 @@
-use Rattle.std.proofs.Common.{◌≡◌, ◌++◌, List, [], ◌∙◌, true, subst}
+use Rattle.std.proofs.Common.{◌++◌, true, subst}
 use Rattle.std.proofs.KnownBytes.{Appends-trans}
-use Rattle.fib_reader.specs.Listening.{all_entries}
 use Rattle.cli_streams.specs.Json.{comma}
 use Rattle.cli_streams.specs.JsonListing.{AreObjectsOf}
 use Rattle.cli_streams.proofs.JsonObjects.{one_more, all_of}

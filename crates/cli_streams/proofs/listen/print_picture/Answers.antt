@@ -1,6 +1,5 @@
-use Rattle.std.proofs.Common.{◌≡◌, ◌++◌, List, [], ◌∙◌, subst}
+use Rattle.std.proofs.Common.{◌++◌, subst}
 use Rattle.std.proofs.KnownBytes.{Appends-trans}
-use Rattle.fib_reader.specs.Listening.{all_entries}
 use Rattle.cli_streams.specs.Listing.{AreLinesOf}
 use Rattle.cli_streams.specs.Lines.{entry_lines}
 use Rattle.cli_streams.proofs.PictureLines.{one_more, all_of}

@@ -15,4 +15,6 @@ loop-finding-preserved g c =
       append_assoc so_far.0 one (finding_lines c.args.form c.in-Some.after.now) ∙ ap (λ l. so_far.0 ++ finding_lines c.args.form l) (sym cut) ∙ so_far.2,
       c.print.ensures.left ∙ so_far.3,
       c.print.ensures.piece ∙ so_far.4,
+      c.print.ensures.moments ∙ so_far.5,
+      c.print.ensures.output ∙ so_far.6,
     )

@@ -9,6 +9,8 @@ invariant-loop-finding g l =
     (text : List ℕ) × Appends (g.E.Ends.printed l.initial.ends) (g.E.Ends.printed l.ends) text
     × (text ++ finding_lines l.form l.rest ≡ finding_lines l.form l.findings)
     × (g.E.Ends.left l.ends ≡ g.E.Ends.left l.initial.ends) × (g.E.Ends.piece l.ends ≡ g.E.Ends.piece l.initial.ends)
+    × (g.E.Ends.moments l.ends ≡ g.E.Ends.moments l.initial.ends)
+    × (g.E.Ends.output l.ends ≡ g.E.Ends.output l.initial.ends)
 
 abbrev pub decreases-loop-finding : goal.decreases-loop-finding
 decreases-loop-finding g l = length l.rest

@@ -1,0 +1,40 @@
+-- A check of a stream that is known.
+use Rattle.std.proofs.Common.{◌≡◌, ℕ, List, ◌++◌, Option, None, Some, IfSome, inl, inr, sym, ap, ◌∙◌, subst}
+use Rattle.std.proofs.lemmas.List.{append_assoc, append-nil}
+use Rattle.std.specs.List.{concat}
+use Rattle.std.specs.Io.KnownBytes.{Keeps}
+use Rattle.console.specs.declared.exit.Status.{Status}
+use Rattle.stream_check.specs.Frames.{Reading}
+use Rattle.stream_monitor.specs.declared.ending.Ending.{Ending}
+use Rattle.stream_monitor.specs.declared.options.CheckOptions.{CheckOptions}
+use Rattle.stream_monitor.specs.Outcome.{Checks, ChecksInput}
+use Rattle.cli_streams.specs.Checking.{HasStatus, status_of}
+
+-- what follows the bytes that were read does not matter
+checks_known : (r : Reading) (o : CheckOptions) (stream : List ℕ) (old left : Option (List ℕ)) (text : List ℕ) (e : Ending) → Keeps (Some stream) old → ChecksInput r o old left text e → Checks r o stream text e
+checks_known r o stream None left text e kept h = absurd kept
+checks_known r o stream (Some xs) None text e kept (inl h) = absurd h.2
+checks_known r o stream (Some xs) None text e kept (inr h) = absurd h.3
+checks_known r o stream (Some xs) (Some ys) text e kept (inl h) =
+    inl (h.0, h.1, sym kept ∙ h.2 ∙ ap (λ l. (concat h.0 ++ h.1) ++ l) h.3 ∙ append-nil (concat h.0 ++ h.1), h.4)
+checks_known r o stream (Some xs) (Some ys) text e kept (inr h) =
+    inr (h.0, h.1, h.2 ++ ys, sym kept ∙ h.3 ∙ append_assoc (concat h.0) (h.1 ++ h.2) ys ∙ ap (λ l. concat h.0 ++ l) (append_assoc h.1 h.2 ys), h.4)
+
+-- the status is that of the stream
+pub has_status : (o : CheckOptions) (known old : Option (List ℕ)) (e : Ending) (status : Status) → Keeps known old
+    → ((r : Reading) → (left : Option (List ℕ)) × (text : List ℕ) × ChecksInput r o old left text e) → status ≡ status_of e
+    → IfSome known (λ stream. (r : Reading) → HasStatus r o stream status)
+has_status o None old e status kept checked is = tt
+has_status o (Some stream) old e status kept checked is = λ r.
+    let one = checked r in
+    record {
+      ending = e;
+      text = one.1;
+      checks = checks_known r o stream old one.0 one.1 e kept one.2;
+      status_is = is;
+    }
+
+-- a check from the state in which the streams were made
+pub checks_from : (r : Reading) (o : CheckOptions) (old same left : Option (List ℕ)) (text : List ℕ) (e : Ending) → old ≡ same → ChecksInput r o old left text e
+    → (left : Option (List ℕ)) × (text : List ℕ) × ChecksInput r o same left text e
+checks_from r o old same left text e a h = (left, text, subst (λ (x : Option (List ℕ)). ChecksInput r o x left text e) a h)

@@ -1,0 +1,28 @@
+-- The last line of `check`, and its exit status.
+use Rattle.std.specs.Prelude.{◌≡◌, ℕ, if◌then◌else◌, nat_lt, List}
+use Rattle.console.specs.declared.exit.Status.{Status}
+use Rattle.console.specs.declared.exit.Status.TheVariants.{Done, Refused, Faulty}
+use Rattle.stream_check.specs.Frames.{Reading}
+use Rattle.stream_monitor.specs.Outcome.{Checks}
+use Rattle.stream_monitor.specs.declared.ending.Ending.{Ending}
+use Rattle.stream_monitor.specs.declared.ending.Ending.TheVariants as endings
+use Rattle.stream_monitor.specs.declared.line.Line.{Line}
+use Rattle.stream_monitor.specs.declared.line.Line.TheVariants as lines
+use Rattle.stream_monitor.specs.declared.options.CheckOptions.{CheckOptions}
+
+-- the last line: the totals, or why there are none
+abbrev pub last_line : Ending → Line
+last_line (endings.Counted totals) = lines.Ended totals
+last_line (endings.Refused cause) = lines.Refused cause
+
+-- the exit status: 0 without a fault, 3 with one, and 1 if the stream is refused, whatever was found before
+abbrev pub status_of : Ending → Status
+status_of (endings.Counted totals) = if nat_lt 0 totals.faults then Faulty else Done
+status_of (endings.Refused cause) = Refused
+
+-- a check of the stream ends so that this is its status
+pub record HasStatus (r : Reading) (o : CheckOptions) (stream : List ℕ) (status : Status) : Type 0 where
+  pub ending : Ending
+  pub text : List ℕ
+  pub checks : Checks r o stream text ending
+  pub status_is : status ≡ status_of ending

@@ -1,0 +1,102 @@
+-- The beginning of a check, and its end with the stream.
+use Rattle.std.proofs.Common.{◌≡◌, ℕ, ◌||◌, ◌&&◌, nat_lt, Bool, true, false, not, List, [], ◌∷◌, ◌++◌, length, map, flat_map, refl, sym, ap, ◌∙◌, arith, subst}
+use Rattle.std.proofs.lemmas.Bool.{false≢true}
+use Rattle.std.proofs.lemmas.List.{append-nil}
+use Rattle.fib_codec.specs.Modes.{fib_count, count_step}
+use Rattle.stream_check.specs.declared.checker.Summary.{Summary}
+use Rattle.stream_check.specs.Following.{Follows, IsSummary, is_begun, is_empty}
+use Rattle.stream_check.specs.Frames.{Fib, Reading, HoldsFirst, AreFrames}
+use Rattle.stream_check.specs.Reported.{Unknown}
+use Rattle.stream_check.proofs.Followed.{frame_count, unbegun}
+use Rattle.stream_monitor.specs.declared.ending.Ending.TheVariants as endings
+use Rattle.stream_monitor.specs.declared.line.Cause.TheVariants as causes
+use Rattle.stream_monitor.specs.declared.line.Totals.{Totals}
+use Rattle.stream_monitor.specs.declared.monitor.State.{State}
+use Rattle.stream_monitor.specs.declared.options.CheckOptions.{CheckOptions}
+use Rattle.stream_monitor.specs.declared.tally.Tally.{Tally}
+use Rattle.stream_monitor.specs.Frames.{is_stopped, tally_after, summary_after, totals_after, frames_text}
+use Rattle.stream_monitor.specs.Going.{IsAfter}
+use Rattle.stream_monitor.specs.Outcome.{HasNoEnsemble, StopsAtEnd}
+use Rattle.stream_monitor.proofs.Steps.{goes_on, summary_is}
+
+flat : List (List Fib) → List Fib
+flat frames = flat_map (λ f. f) frames
+
+-- ---- nothing is framed
+
+pub none_framed : (size : ℕ) (frames : List (List Fib)) (rest : List Fib) → AreFrames size frames rest → flat_map (λ f. f) frames ++ rest ≡ [] → (frames ≡ []) × (rest ≡ [])
+none_framed size [] rest cut none = (refl, none)
+none_framed size ([] ∷ frames) rest cut none = absurd cut.0
+none_framed size ((x ∷ xs) ∷ frames) rest cut none = absurd cc
+
+pub none_there : (xs ys : List Fib) → xs ++ ys ≡ [] → ys ≡ []
+none_there [] ys e = e
+none_there (x ∷ xs) ys e = absurd cc
+
+none_mapped : (r : Reading) (fibs : List (List ℕ)) → map r.read fibs ≡ [] → fibs ≡ []
+none_mapped r [] e = refl
+none_mapped r (x ∷ xs) e = absurd cc
+
+none_held : (skipped later : List Fib) → HasNoEnsemble (skipped ++ later) → HoldsFirst later → later ≡ []
+none_held [] [] none first = refl
+none_held [] (x ∷ xs) none first = absurd (false≢true (sym none.0 ∙ first))
+none_held (x ∷ xs) later none first = none_held xs later none.1 first
+
+no_frames : (frames : List (List Fib)) → 0 ≡ length frames → frames ≡ []
+no_frames [] e = refl
+no_frames (f ∷ fs) e = absurd (omega (arith, e))
+
+-- ---- before the first FIB
+
+pub starts : (r : Reading) (o : CheckOptions) (s : State) → Follows r o.mode o.period [] Unknown Unknown s.checker → s.tally ≡ record { swaps = 0; faults = 0 } → IsAfter r o [] [] s
+starts r o s f tally =
+    let empty = none_framed (fib_count o.mode) f.frames (map r.read s.checker.held) f.framed.cut (none_there f.skipped (flat_map (λ g. g) f.frames ++ map r.read s.checker.held) (sym f.framed.whole)) in
+    let none : f.frames ≡ [] = empty.0 in
+    record {
+      sizes = tt;
+      stream = [];
+      read = refl;
+      follows = f;
+      tally = tally ∙ sym (ap (tally_after o) none);
+      no_fault = ap (is_stopped o) none ∙ nothing o.until_fault;
+      lines = sym (ap (frames_text o f.skipped []) none);
+    }
+  where
+    nothing : (b : Bool) → b && false ≡ false
+    nothing true = refl
+    nothing false = refl
+
+-- ---- at the end
+
+abbrev pub totals_with : Summary → Tally → Totals
+totals_with summary tally = record { summary = summary; swaps = tally.swaps; faults = tally.faults }
+
+pub ends_counted : (r : Reading) (o : CheckOptions) (fibs : List (List ℕ)) (text : List ℕ) (s : State) (sum : Summary) (t : Totals) (h : IsAfter r o fibs text s) → is_begun s.checker ≡ true
+    → IsSummary h.follows.skipped h.follows.frames (map r.read s.checker.held) sum → t ≡ totals_with sum s.tally
+    → StopsAtEnd r o fibs [] text (endings.Counted t)
+ends_counted r o fibs text s sum t h begun summary is =
+    let f = h.follows in
+    let rest = map r.read s.checker.held in
+    let totals : t ≡ totals_after o f.skipped f.frames rest =
+    is ∙ ap (λ x. totals_with x s.tally) (summary_is f.skipped f.frames rest sum summary) ∙ ap (totals_with (summary_after f.skipped f.frames rest)) h.tally in
+    (goes_on r o fibs text s h, refl, some, totals)
+  where
+    some : HasNoEnsemble (map r.read fibs) → ⊥
+    some none =
+        let f = h.follows in
+        let later = flat_map (λ g. g) f.frames ++ map r.read s.checker.held in
+        let whole = subst HasNoEnsemble (sym h.read ∙ f.framed.whole) none in
+        let empty = none_framed (fib_count o.mode) f.frames (map r.read s.checker.held) f.framed.cut (none_held f.skipped later whole f.framed.begun) in
+        let count : s.checker.memory.frames ≡ 0 = frame_count (count_step o.mode) o.period f.frames s.checker.memory f.knows ∙ ap length empty.0 in
+        let held : s.checker.held ≡ [] = none_mapped r s.checker.held empty.1 in
+        false≢true (sym (ap (λ n. nat_lt 0 n || not (is_empty s.checker.held)) count ∙ ap (λ l. nat_lt 0 0 || not (is_empty l)) held) ∙ begun)
+
+pub ends_without : (r : Reading) (o : CheckOptions) (fibs : List (List ℕ)) (text : List ℕ) (s : State) → IsAfter r o fibs text s → is_begun s.checker ≡ false
+    → StopsAtEnd r o fibs [] text (endings.Refused causes.NoEnsemble)
+ends_without r o fibs text s h begun =
+    let f = h.follows in
+    let un = unbegun s.checker begun in
+    let none : f.frames ≡ [] = no_frames f.frames (sym un.none ∙ frame_count (count_step o.mode) o.period f.frames s.checker.memory f.knows) in
+    let all : map r.read fibs ≡ f.skipped =
+    sym h.read ∙ f.framed.whole ∙ ap (λ l. f.skipped ++ (flat_map (λ g. g) l ++ map r.read s.checker.held)) none ∙ ap (λ l. f.skipped ++ map r.read l) un.empty ∙ append-nil f.skipped in
+    (goes_on r o fibs text s h, refl, subst HasNoEnsemble (sym all) f.framed.before)
