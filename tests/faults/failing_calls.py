@@ -5,8 +5,9 @@ to standard output.
 If a call for a file fails, the command prints only the line of that file, or `no memory` if the system reports that,
 ends with 1, makes no other such call, and leaves no file; `check`, which prints as it reads, may have printed a
 part of its lines before. `live` reports that line on standard error, `cannot read -` for its lines, and may have written
-frames before. An interrupted call is retried. If a write fails, takes nothing or is
-interrupted, nothing is written after it, and the status is 1; `live` reports how much was written.
+frames before; so does `merge`, which goes on without its second file if that was opened. An interrupted call is retried.
+If a write fails, takes nothing or is interrupted, nothing is written after it, and the status is 1; `live` and `merge`
+report how much was written.
 The last line is 'N passed, M failed'.
 """
 import os
@@ -37,6 +38,12 @@ LIVE = "live x.code --status"
 LINES = b"frames 1\ncontact 3 closed\nframes 29\n"
 FRAME = 96
 
+# These frames with FIGs of a multiplexer: its calls, and for each the file that it opens or reads. The first read of each
+# is of no bytes.
+MERGE = "merge x.fib y.fib"
+MERGE_CALLS = [("o", "x.fib"), ("r", "x.fib"), ("o", "y.fib"), ("r", "y.fib"), ("r", "x.fib"), ("r", "y.fib"), ("r", "x.fib")]
+REAL = common.TOP / "bench" / "samples" / "real_fic.fib"
+
 
 class Failing:
     """The program over its files, with a library that makes its calls fail."""
@@ -53,6 +60,7 @@ class Failing:
         common.write(folder, "x.events", "contact 3 closed frames 30")
         common.write(folder, "x.commands", "contact 3 closed run 30 show")
         common.run([self.program, "play", "x.code", "x.events", "x.fib"], folder)
+        common.write(folder, "y.fib", REAL.read_bytes()[:30 * FRAME])
 
     def run(self, line, stdin=None, **settings):
         """How a command ends, and the calls that it made, a letter each. A setting is the end of the name of a variable.
@@ -153,6 +161,37 @@ def try_live_writes(tally, failing):
             tally.same(f"{what}: writes", number + 1, calls.count("w"))
 
 
+def try_merge_reads(tally, failing):
+    """Each call of `merge` that opens or reads fails, or is interrupted. Only a later read of the second file lets it go
+    on."""
+    whole, calls = failing.run(MERGE)
+    plan = pathlib.Path(failing.folder, "x.fib").read_bytes()
+    tally.same(MERGE, (0, len(plan), "".join(call for call, _ in MERGE_CALLS)),
+               (whole.status, len(whole.printed), calls.replace("w", "")))
+    tally.hold(whole.printed != plan, f"{MERGE}: nothing is carried")
+    for number, (_, file) in enumerate(MERGE_CALLS, 1):
+        goes_on, is_last = number == 6, number == 7
+        printed = plan if goes_on else whole.printed if is_last else b""
+        wanted = f"cannot read {file}\n" + ("frames 30 carried 0 waiting 0 dropped 0 damaged 0\n" if goes_on else "")
+        ended, _ = failing.run(MERGE, at=number, **{"as": EIO})
+        tally.same(f"{MERGE}: call {number} fails", (1, printed, wanted.encode()), (*ended.lines(), ended.messages))
+        ended, _ = failing.run(MERGE, at=number, **{"as": EINTR})
+        tally.same(f"{MERGE}: call {number} is interrupted", (0, whole.printed, whole.messages), (*ended.lines(), ended.messages))
+
+
+def try_merge_writes(tally, failing):
+    """Each write of merged frames fails, with at most 40 bytes per write, so that a frame takes three."""
+    whole, _ = failing.run(MERGE)
+    for number in range(90):
+        frames, part = number // 3, number % 3 * 40
+        reported = f"write failed after {frames} frames and {part} bytes\n".encode()
+        for error in (EIO, EINTR, 0):
+            ended, calls = failing.run(MERGE, takes=40, after=number, **{"as": error})
+            what = f"{MERGE}: write {number + 1} fails as {error}"
+            tally.same(what, (1, whole.printed[:FRAME * frames + part], reported), (*ended.lines(), ended.messages))
+            tally.same(f"{what}: writes", number + 1, calls.count("w"))
+
+
 def main():
     """Runs all of it."""
     tally = common.Tally()
@@ -161,6 +200,8 @@ def main():
         try_files(tally, failing)
         try_live_reads(tally, failing)
         try_live_writes(tally, failing)
+        try_merge_reads(tally, failing)
+        try_merge_writes(tally, failing)
         for line in [line for line, _ in ROWS] + ["help", "--version", "help live", "live --help"]:
             try_writes(tally, failing, line, 16)
         # a refusal that is explained: its status is 1 anyway

@@ -101,6 +101,40 @@ def try_input(tally, program, folder):
     tally.same("frame - from a pipe", 0, ended.status)
 
 
+def try_merge(tally, program, folder):
+    """`merge`: standard output that fails, is closed or is a small disk; files that can't be opened, or not be read on."""
+    common.write(folder, "a.events", "frames 3000")
+    common.run([program, "play", CODE, "a.events", "m.fib"], folder)
+    plan = pathlib.Path(folder, "m.fib").read_bytes()
+    told = b"frames 3000 carried 0 waiting 0 dropped 0 damaged 0\n"
+    tally.same("merge", (0, plan, told), merged(program, folder, "m.fib m.fib"))
+    for redirection in (">/dev/full", ">&-"):
+        wanted = (1, b"", b"write failed after 0 frames and 0 bytes\n")
+        tally.same(f"merge {redirection}", wanted, merged(program, folder, f"m.fib m.fib {redirection}"))
+
+    def limit_to(most):
+        return lambda: resource.setrlimit(resource.RLIMIT_FSIZE, (most, most))
+
+    for most in (0, 1, 95, 96, 97, 98_303, 98_304, 98_305, 287_999):
+        pathlib.Path(folder, "b.fib").unlink(missing_ok=True)
+        ended = merged(program, folder, "m.fib m.fib >b.fib", limit_to(most))
+        line = f"write failed after {most // 96} frames and {most % 96} bytes\n".encode()
+        tally.same(f"merge into {most} bytes of disk", (1, b"", line), ended)
+        tally.same(f"merge into {most} bytes of disk: what is written", plan[:most], pathlib.Path(folder, "b.fib").read_bytes())
+    for words, path in (("absent m.fib", "absent"), ("m.fib absent", "absent"), (". m.fib", "."), ("m.fib .", "."),
+                        ("/proc/self/mem m.fib", "/proc/self/mem")):
+        tally.same(f"merge {words}", (1, b"", f"cannot read {path}\n".encode()), merged(program, folder, words))
+    wanted = (1, plan, b"cannot read /proc/self/mem\n" + told)
+    tally.same("merge m.fib /proc/self/mem", wanted, merged(program, folder, "m.fib /proc/self/mem"))
+
+
+def merged(program, folder, words, before=None):
+    """The status, the output and the messages of `merge`."""
+    ended = subprocess.run(["bash", "-c", f"trap '' XFSZ; exec '{program}' merge {words}"], cwd=folder, capture_output=True,
+                           preexec_fn=before)
+    return ended.returncode, ended.stdout, ended.stderr
+
+
 def try_address_space(tally, program, folder):
     """Less and less address space: the result, or `no memory`, and nothing between."""
     common.write(folder, "big.fib", bytes(4_000_000))
@@ -124,7 +158,7 @@ def main():
     tally = common.Tally()
     program = common.dabplan()
     with tempfile.TemporaryDirectory() as folder:
-        for part in (try_outputs, try_pipes, try_small_disk, try_files, try_input, try_address_space):
+        for part in (try_outputs, try_pipes, try_small_disk, try_files, try_input, try_merge, try_address_space):
             part(tally, program, folder)
     tally.end()
 

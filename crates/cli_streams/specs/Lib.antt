@@ -4,4 +4,6 @@ pub mod Json
 pub mod JsonListing
 pub mod Lines
 pub mod Listing
+pub mod Merged
+pub mod Merging
 pub mod Stream

@@ -1,7 +1,12 @@
 //! `dabplan merge`: carries the other FIGs of a multiplexer in the frames of a plan.
 
-ghost use Rattle.std.specs.Prelude.{◌≡◌, ◌+◌, ◌≤◌, length, IfOk};
-ghost use Rattle.std.specs.Io.KnownBytes.{Keeps};
+ghost use Rattle.std.specs.Prelude.{◌≡◌, ◌≢◌, ◌+◌, ◌*◌, ◌%◌, ◌<◌, ◌≤◌, ◌-◌, ◌^◌, ℕ, List, Option, length, take, codes, IfOk, OnErr, true, false};
+ghost use Rattle.std.specs.Io.Buffered.{reader_remaining};
+ghost use Rattle.std.specs.Io.KnownBytes.{Appends, Consumes, IsAtEnd, Keeps};
+ghost use Rattle.fib_codec.specs.Modes.{fib_count};
+ghost use Rattle.stream_check.specs.Frames.{Reading};
+ghost use Rattle.cli_streams.specs.Merged.{AreTwo, FillsFib, Merges, MergesFiles, ReadsFrame, TakesAs, TakesFrames, TakesNext, WritesFrame, after_frame_filled, after_frame_taken, frame_filled, known_at, summary_of};
+ghost use Rattle.console.specs.declared.exit.Status.TheVariants.{Done};
 
 use console::escaped::Escaped;
 use console::exit::{Failure, Status, open_input};
@@ -90,34 +95,30 @@ pub fn show_merged<'a, F: Files, W: Write>(
     request: &MergeRequest<'a>,
     files: &mut F,
     out: &mut W,
-) -> Result<Status, MergeFault<'a>> {
-    let mut plan = frames_of(alloc, files, request.plan)?;
-    let mut other = frames_of(alloc, files, request.other)?;
-    let size = request.mode.fibs() * 32;
-    let mut merger = Merger::new();
-    let mut is_open = true;
-    let mut status = Status::Done;
+) -> Result<Status, MergeFault<'a>>
+    ensures { AreTwo request.now.plan.now request.now.other.now
+        → MergesFiles request.now.plan.now (fib_count request.now.mode * 32)
+        (known_at (F.known files.old) (F.known_input files.old) request.now.plan.now)
+        (known_at (F.known files.old) (F.known_input files.old) request.now.other.now)
+        (W.contents out.old) (W.contents out.new) result }
+{
+    let mut plan = match frames_of(alloc, files, request.plan) {
+        Ok(source) => source,
+        Err(failure) => return Err(MergeFault::Failed(failure)),
+    };
+    let mut other = match frames_of(alloc, files, request.other) {
+        Ok(source) => OtherFrames::new(source, request.other),
+        Err(failure) => return Err(MergeFault::Failed(failure)),
+    };
     let mut buffer = [0; LONGEST];
-    let frame = &mut buffer[..size];
-    for frames in 0..MOST_FRAMES {
-        if !read_frame(&mut plan, frame, request.plan)? {
-            files.report(summary_of(frames, &merger));
-            return Ok(status);
+    let frame = &mut buffer[..request.mode.fibs() * 32];
+    match merge_frames(&mut plan, request.plan, &mut other, frame, files, out) {
+        Ok(summary) => {
+            files.report(summary);
+            Ok(other.status)
         }
-        if is_open {
-            match take_next(&mut other, request.mode, &mut merger, request.other) {
-                Ok(more) => is_open = more,
-                Err(fault) => {
-                    files.report(fault);
-                    is_open = false;
-                    status = Status::Refused;
-                }
-            }
-        }
-        fill_frame(frame, &mut merger);
-        put_frame(frame, frames, out)?;
+        Err(fault) => Err(fault),
     }
-    Ok(status)
 }
 
 /// The frames of the file of this path, or of standard input if the path is `-`.
@@ -125,12 +126,19 @@ fn frames_of<'a, F: Files>(
     alloc: Global,
     files: &mut F,
     path: &'a str,
-) -> Result<BufReader<F::In>, MergeFault<'a>> {
-    let mut source = open_input(files, path).map_err(|failure| MergeFault::Failed(failure))?;
+) -> Result<BufReader<F::In>, Failure<'a>>
+    ensures bytes { IfOk result (λ source.
+        Keeps (known_at (F.known files.old) (F.known_input files.old) path.now)
+        (reader_remaining F.In.remaining source)) }
+    ensures kept { (other : List ℕ) → AreTwo path.now other
+        → Keeps (known_at (F.known files.old) (F.known_input files.old) other)
+        (known_at (F.known files.new) (F.known_input files.new) other) }
+{
+    let mut source = open_input(files, path)?;
     if !can_be_read(&mut source) {
-        return Err(MergeFault::Failed(Failure::Read(path)));
+        return Err(Failure::Read(path));
     }
-    BufReader::new(alloc, source).map_err(|_| MergeFault::Failed(Failure::Memory))
+    BufReader::new(alloc, source).map_err(|_| Failure::Memory)
 }
 
 /// Whether a source can be read. A folder can be opened, and not read: a read of no bytes fails there, and takes nothing
@@ -144,13 +152,132 @@ fn can_be_read<R: Read>(source: &mut R) -> bool
     }
 }
 
+/// Merges the plan's frames, one after the other, with those of the multiplexer, to the plan's end, and returns what is
+/// to be reported then. `frame` has the size of a frame.
+fn merge_frames<'a, P: Read, O: Read, F: Files, W: Write>(
+    plan: &mut P,
+    path: &'a str,
+    other: &mut OtherFrames<'a, O>,
+    frame: &mut [u8],
+    files: &mut F,
+    out: &mut W,
+) -> Result<MergeSummary, MergeFault<'a>>
+    requires size { (0 < length frame.old) × (length frame.old % 32 ≡ 0)
+        × (length frame.old ≤ 128) }
+    requires open { (other.old.is_open ≡ true) × (other.old.status ≡ Done) }
+    ensures { Merges path.now (length frame.old) (P.remaining plan.old)
+        (O.remaining other.old.source) (W.contents out.old) (W.contents out.new)
+        other.new.status result }
+{
+    let mut merger = Merger::new();
+    for frames in 0..MOST_FRAMES {
+        match read_frame(plan, frame, path) {
+            Ok(true) => {}
+            Ok(false) => return Ok(summary_of(frames, &merger)),
+            Err(fault) => return Err(fault),
+        }
+        other.take_next(frame.len(), &mut merger, files);
+        fill_frame(frame, &mut merger);
+        match put_frame(frame, frames, out) {
+            Ok(()) => {}
+            Err(fault) => return Err(fault),
+        }
+    }
+    Err(MergeFault::Failed(Failure::Read(path)))
+}
+
+/// The frames of a multiplexer, as far as they are read.
+#[derive(Drop)]
+struct OtherFrames<'a, R> {
+    source: R,
+    path: &'a str,
+    /// Whether there may be more of them.
+    is_open: bool,
+    /// `Refused` if they can't be read on.
+    status: Status,
+}
+
+impl<'a, R> OtherFrames<'a, R> {
+    /// None read so far.
+    fn new(source: R, path: &'a str) -> Self
+        ensures source { result.source ≡ source }
+        ensures open { (result.is_open ≡ true) × (result.status ≡ Done) }
+    {
+        OtherFrames {
+            source,
+            path,
+            is_open: true,
+            status: Status::Done,
+        }
+    }
+}
+
+impl<'a, R: Read> OtherFrames<'a, R> {
+    /// Takes the FIGs of the next frame of this size, while there is one. That there is less than a frame, or that it
+    /// can't be read, is reported at once, and no more is read.
+    fn take_next<F: Files>(&mut self, size: usize, merger: &mut Merger, files: &mut F)
+        requires size { (0 < size) × (size % 32 ≡ 0) × (size ≤ 128) }
+        ensures { (before : Option (List ℕ)) (count : ℕ) (taken : List (List ℕ))
+            → TakesFrames size before (R.remaining self.old.source) self.old.is_open
+            self.old.status count taken
+            → TakesNext size before (R.remaining self.new.source) self.new.is_open
+            self.new.status count taken merger.old merger.new }
+    {
+        if !self.is_open {
+            return;
+        }
+        match take_frame(&mut self.source, size, merger, self.path) {
+            Ok(more) => self.is_open = more,
+            Err(fault) => {
+                files.report(fault);
+                self.is_open = false;
+                self.status = Status::Refused;
+            }
+        }
+    }
+}
+
+/// Takes the FIGs of the next frame of this size of the file of this path, and returns whether there is one. Those of a
+/// frame that is not whole are not taken.
+fn take_frame<'a, R: Read>(
+    source: &mut R,
+    size: usize,
+    merger: &mut Merger,
+    path: &'a str,
+) -> Result<bool, MergeFault<'a>>
+    requires size { (0 < size) × (size % 32 ≡ 0) × (size ≤ 128) }
+    ensures { (frame : List ℕ) × (length frame ≡ size)
+        × ReadsFrame path.now size (R.remaining source.old) (R.remaining source.new) frame result
+        × TakesAs frame result merger.old merger.new }
+{
+    let mut buffer = [0; LONGEST];
+    let frame = &mut buffer[..size];
+    let result = read_frame(source, frame, path);
+    if let Ok(true) = result {
+        take_fibs(frame, merger);
+    }
+    result
+}
+
+/// Takes the FIGs of a frame.
+fn take_fibs(frame: &[u8], merger: &mut Merger)
+    ensures { (r : Reading) → merger.new ≡ after_frame_taken r frame.now merger.old }
+{
+    for fib in frame.as_chunks::<32>().0 {
+        merger.take(fib);
+    }
+}
+
 /// Reads the next frame of the file of this path, and returns whether there is one.
 fn read_frame<'a, R: Read>(
     source: &mut R,
     frame: &mut [u8],
     path: &'a str,
 ) -> Result<bool, MergeFault<'a>>
-    ensures { length frame.new ≡ length frame.old }
+    requires { 0 < length frame.old }
+    ensures whole { length frame.new ≡ length frame.old }
+    ensures reads { ReadsFrame path.now (length frame.old) (R.remaining source.old)
+        (R.remaining source.new) frame.new result }
 {
     match read_up_to(source, frame) {
         Ok(0) => Ok(false),
@@ -160,17 +287,24 @@ fn read_frame<'a, R: Read>(
     }
 }
 
-/// Reads until a buffer is full or the source ends, and returns the number of bytes.
+/// Reads until a buffer is full or the source ends, and returns the number of bytes. Where the source fails, what was
+/// read of it is lost.
 fn read_up_to<R: Read>(source: &mut R, buffer: &mut [u8]) -> io::Result<usize>
     ensures whole { length buffer.new ≡ length buffer.old }
     ensures bound { IfOk result (λ count. count ≤ length buffer.new) }
+    ensures bytes { IfOk result (λ count. Consumes (R.remaining source.old)
+        (R.remaining source.new) (take count buffer.new)) }
+    ensures last { IfOk result (λ count. count < length buffer.new
+        → IsAtEnd (R.remaining source.new)) }
+    ensures failed { OnErr result ((part : List ℕ)
+        × Consumes (R.remaining source.old) (R.remaining source.new) part) }
 {
     let mut filled = 0;
     for _ in 0..u64::MAX {
         if filled >= buffer.len() {
             return Ok(filled);
         }
-        match source.read(&mut buffer[filled..]) {
+        match read_behind(source, buffer, filled) {
             Ok(0) => return Ok(filled),
             Ok(count) => filled += count,
             Err(error) => {
@@ -183,27 +317,29 @@ fn read_up_to<R: Read>(source: &mut R, buffer: &mut [u8]) -> io::Result<usize>
     Err(Error::from(ErrorKind::Other))
 }
 
-/// Takes the FIGs of the multiplexer's next frame, and returns whether there is one. Those of a frame that is not
-/// whole are not taken.
-fn take_next<'a, R: Read>(
-    other: &mut R,
-    mode: Mode,
-    merger: &mut Merger,
-    path: &'a str,
-) -> Result<bool, MergeFault<'a>> {
-    let mut buffer = [0; LONGEST];
-    let frame = &mut buffer[..mode.fibs() * 32];
-    let is_there = read_frame(other, frame, path)?;
-    if is_there {
-        for fib in frame.as_chunks::<32>().0 {
-            merger.take(fib);
-        }
-    }
-    Ok(is_there)
+/// Reads once, behind the first `filled` bytes of a buffer, into its rest.
+fn read_behind<R: Read>(source: &mut R, buffer: &mut [u8], filled: usize) -> io::Result<usize>
+    requires room { filled < length buffer.old }
+    ensures whole { length buffer.new ≡ length buffer.old }
+    ensures bound { IfOk result (λ count. filled + count ≤ length buffer.new) }
+    ensures bytes { IfOk result (λ count. (before : Option (List ℕ))
+        → Consumes before (R.remaining source.old) (take filled buffer.old)
+        → Consumes before (R.remaining source.new) (take (filled + count) buffer.new)) }
+    ensures failed { OnErr result ((before : Option (List ℕ))
+        → Consumes before (R.remaining source.old) (take filled buffer.old)
+        → Consumes before (R.remaining source.new) (take filled buffer.new)) }
+    ensures last { IfOk result (λ count. count ≡ 0 → IsAtEnd (R.remaining source.new)) }
+{
+    source.read(&mut buffer[filled..])
 }
 
 /// Fills the FIBs of a frame.
-fn fill_frame(frame: &mut [u8], merger: &mut Merger) {
+fn fill_frame(frame: &mut [u8], merger: &mut Merger)
+    requires { length frame.old % 32 ≡ 0 }
+    ensures bytes { (r : Reading) → frame.new ≡ frame_filled r frame.old merger.old }
+    ensures merger { (r : Reading) → merger.new ≡ after_frame_filled r frame.old merger.old }
+    ensures whole { length frame.new ≡ length frame.old }
+{
     for index in 0..frame.len() / 32 {
         fill_fib(frame, index * 32, merger);
     }
@@ -212,7 +348,8 @@ fn fill_frame(frame: &mut [u8], merger: &mut Merger) {
 /// Fills the FIB at an offset of a frame.
 fn fill_fib(frame: &mut [u8], offset: usize, merger: &mut Merger)
     requires { offset + 32 ≤ length frame.old }
-    ensures { length frame.new ≡ length frame.old }
+    ensures fills { FillsFib offset frame.old frame.new merger.old merger.new }
+    ensures whole { length frame.new ≡ length frame.old }
 {
     let mut fib = [0; 32];
     fib.copy_from_slice(&frame[offset..offset + 32]);
@@ -221,7 +358,10 @@ fn fill_fib(frame: &mut [u8], offset: usize, merger: &mut Merger)
 }
 
 /// Writes a frame behind this many.
-fn put_frame<'a, W: Write>(frame: &[u8], frames: u64, out: &mut W) -> Result<(), MergeFault<'a>> {
+fn put_frame<'a, W: Write>(frame: &[u8], frames: u64, out: &mut W) -> Result<(), MergeFault<'a>>
+    requires { frames < 2 ^ 64 - 1 }
+    ensures { WritesFrame frames frame.now (W.contents out.old) (W.contents out.new) result }
+{
     let (taken, result) = write_out(frame, out);
     if result.is_err() {
         return Err(MergeFault::Write {
@@ -232,14 +372,16 @@ fn put_frame<'a, W: Write>(frame: &[u8], frames: u64, out: &mut W) -> Result<(),
     match out.flush() {
         Ok(()) => Ok(()),
         Err(_) => Err(MergeFault::Write {
-            frames: frames.saturating_add(1),
+            frames: frames + 1,
             bytes: 0,
         }),
     }
 }
 
 /// What was merged in this many frames.
-fn summary_of(frames: u64, merger: &Merger) -> MergeSummary {
+fn summary_of(frames: u64, merger: &Merger) -> MergeSummary
+    ensures { result ≡ summary_of frames merger.now }
+{
     MergeSummary {
         frames,
         carried: merger.carried(),

@@ -1,6 +1,6 @@
 //! Exit statuses, and failures to access a file.
 
-ghost use Rattle.std.specs.Prelude.{◌≡◌, ◌≢◌, [], take, codes, IfOk, IfSome};
+ghost use Rattle.std.specs.Prelude.{◌≡◌, ◌≢◌, ℕ, List, [], take, codes, IfOk, IfSome};
 ghost use Rattle.std.specs.Io.KnownBytes.{Keeps};
 
 use crate::escaped::Escaped;
@@ -114,12 +114,17 @@ impl From<io::Error> for Failure<'_> {
     }
 }
 
-/// Opens the file of this path, or standard input if the path is `-`.
+/// Opens the file of this path, or standard input if the path is `-`. Other files keep their bytes, and so does standard
+/// input where a file is opened.
 pub fn open_input<'a, F: Files>(files: &mut F, path: &'a str) -> Result<F::In, Failure<'a>>
     ensures input { path.now ≡ codes "-" → IfOk result (λ source.
         Keeps (F.known_input files.old) (F.In.remaining source)) }
     ensures file { path.now ≢ codes "-" → IfOk result (λ source.
         Keeps (F.known files.old path.now) (F.In.remaining source)) }
+    ensures files { (other : List ℕ)
+        → Keeps (F.known files.old other) (F.known files.new other) }
+    ensures kept { path.now ≢ codes "-"
+        → Keeps (F.known_input files.old) (F.known_input files.new) }
 {
     let source = if path == "-" {
         files.input()

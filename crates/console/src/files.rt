@@ -34,15 +34,19 @@ pub trait Files {
     /// A file opened for writing.
     type Out: Write + Drop;
 
-    /// Opens the file of this path for reading, from its first byte; `Failed` on a system error.
+    /// Opens the file of this path for reading, from its first byte; `Failed` on a system error. Other files, and
+    /// standard input, keep their bytes.
     fn open(&mut self, path: &str) -> Result<Self::In, FileFault>
         ensures bytes { IfOk result (λ file. Keeps (known self.old path.now)
-            (Self.In.remaining file)) };
+            (Self.In.remaining file)) }
+        ensures files { (other : List ℕ) → Keeps (known self.old other) (known self.new other) }
+        ensures input { Keeps (known_input self.old) (known_input self.new) };
 
-    /// Standard input, from its current position; `Failed` on a system error.
+    /// Standard input, from its current position; `Failed` on a system error. Files keep their bytes.
     fn input(&mut self) -> Result<Self::In, FileFault>
         ensures bytes { IfOk result (λ file. Keeps (known_input self.old)
-            (Self.In.remaining file)) };
+            (Self.In.remaining file)) }
+        ensures files { (other : List ℕ) → Keeps (known self.old other) (known self.new other) };
 
     /// Creates the file of this path for writing, or truncates it. `Failed` on a system error.
     fn create(&mut self, path: &str) -> Result<Self::Out, FileFault>;

@@ -115,15 +115,15 @@ items_alike first None carried = refl
 items_alike first (Some figs) carried = items_others first figs carried
 
 -- ---- of a frame
-record IsAlike (before after : List Fib) : Type 0 where
-  long : length after ≡ length before
-  damaged : damaged_in after ≡ damaged_in before
-  first : first_of_frame after ≡ first_of_frame before
-  opens : first_opening after ≡ first_opening before
-  lacks : lacks_opening after ≡ lacks_opening before
-  items : (b : Bool) → fibs_items b after ≡ fibs_items b before
+pub record IsAlike (before after : List Fib) : Type 0 where
+  pub long : length after ≡ length before
+  pub damaged : damaged_in after ≡ damaged_in before
+  pub first : first_of_frame after ≡ first_of_frame before
+  pub opens : first_opening after ≡ first_opening before
+  pub lacks : lacks_opening after ≡ lacks_opening before
+  pub items : (b : Bool) → fibs_items b after ≡ fibs_items b before
 
-frame_alike : (frame sent : List Fib) → AreFilled frame sent → IsAlike frame sent
+pub frame_alike : (frame sent : List Fib) → AreFilled frame sent → IsAlike frame sent
 frame_alike [] sent h =
     subst (λ (xs : List Fib). IsAlike [] xs) (sym h)
     (record { long = refl; damaged = refl; first = refl; opens = refl; lacks = refl; items = λ b. refl })
@@ -170,7 +170,7 @@ in_alike size step period past frame sent a =
     (ap₂ joined (whole_alike size step (due past) frame sent a)
     (ap (λ (items : List Item). findings_at_items step period past items ++ last_findings (runs_full step period past items) period (said items past)) (a.items true)))
 
-after_alike : (step : ℕ) (past : List Moment) (frame sent : List Fib) → IsAlike frame sent → after_frame step past sent ≡ after_frame step past frame
+pub after_alike : (step : ℕ) (past : List Moment) (frame sent : List Fib) → IsAlike frame sent → after_frame step past sent ≡ after_frame step past frame
 after_alike step past frame sent a =
     ap₂ (λ (n : ℕ) (items : List Item). Ended n ∷ said items past) (count_alike step (due past) frame sent a) (a.items true)
 

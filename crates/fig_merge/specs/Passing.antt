@@ -1,9 +1,11 @@
 -- What a listener and the checker of streams know of FIBs that were filled.
-use Rattle.std.specs.Prelude.{◌≡◌, ℕ, List, [], ◌∷◌, ◌++◌, map, Option, Some, None}
+use Rattle.std.specs.Prelude.{◌≡◌, ◌↔◌, ℕ, List, [], ◌∷◌, ◌++◌, length, map, Option, Some, None}
+use Rattle.mux_entries.specs.Facts.{Marked}
 use Rattle.fib_codec.specs.Grammar.{Other}
+use Rattle.fib_codec.specs.Heard.{IsInFib}
 use Rattle.stream_check.specs.Listening.{Listening, hear_figs}
 use Rattle.stream_check.specs.Frames.{Fib, Reading, IsFramed}
-use Rattle.stream_check.specs.Stream.{findings_of}
+use Rattle.stream_check.specs.Stream.{findings_of, frames_full}
 use Rattle.fig_merge.specs.Taking.{Merging, IsMerging, nothing_taken, after_take}
 use Rattle.fig_merge.specs.Filling.{merged, carried_by, after_fill}
 use Rattle.fig_merge.specs.Steps.{Step, Take, Fill}
@@ -30,6 +32,16 @@ abbrev pub FilledIsHeardAlike : Type 0
 FilledIsHeardAlike =
     (r : Reading) (bytes : List ℕ) (m : Merging) (l : Listening) → IsMerging m
     → hear_fib (r.read (merged bytes (r.read bytes) m)) l ≡ hear_fib (r.read bytes) l
+
+-- the law of entries: the tagged entries of this ensemble in the filled FIB are those in the plan's, by the bytes alone
+abbrev pub FilledHasTheEntries : Type 0
+FilledHasTheEntries =
+    (r : Reading) (bytes : List ℕ) (m : Merging) (entry : Marked) → IsMerging m
+    → IsInFib (merged bytes (r.read bytes) m) entry ↔ IsInFib bytes entry
+
+-- the law of lengths
+abbrev pub FilledIsAsLong : Type 0
+FilledIsAsLong = (r : Reading) (bytes : List ℕ) (m : Merging) → IsMerging m → length (merged bytes (r.read bytes) m) ≡ length bytes
 
 -- ---- streams
 
@@ -66,6 +78,12 @@ abbrev pub FilledIsCheckedAlike : Type 0
 FilledIsCheckedAlike =
     (size step period : ℕ) (frames sent : List (List Fib)) → AreFilledFrames frames sent
     → findings_of size step period [] sent ≡ findings_of size step period [] frames
+
+-- the law of room: the checker has room for all entries of both, or of neither
+abbrev pub FilledIsFullAlike : Type 0
+FilledIsFullAlike =
+    (step period : ℕ) (frames sent : List (List Fib)) → AreFilledFrames frames sent
+    → frames_full step period [] sent ≡ frames_full step period [] frames
 
 -- a stream filled so
 pub record IsFramedAlike (size : ℕ) (skipped : List Fib) (frames : List (List Fib)) (rest sent : List Fib) : Type 0 where

@@ -1,22 +1,29 @@
 //! Laws of merging. Each law is a function that does nothing; its contract is the law.
 
 ghost use Rattle.fig_merge.specs.Steps.{AllAreAccounted, AllAreCarried, TheLongestWaitingGoes};
-ghost use Rattle.fig_merge.specs.Passing.{AllAreFilled, FilledIsRead, FilledIsHeardAlike, FilledIsCheckedAlike, FilledIsFramedAlike};
+ghost use Rattle.fig_merge.specs.Passing.{AllAreFilled, FilledHasTheEntries, FilledIsAsLong, FilledIsRead, FilledIsHeardAlike};
+ghost use Rattle.fig_merge.specs.Passing.{FilledIsCheckedAlike, FilledIsFramedAlike, FilledIsFullAlike};
 
 /// The law of filling: a filled FIB is damaged where the plan's FIB is. Otherwise its FIGs are the plan's, in order,
-/// followed by those that are carried. From every state a listener knows the same after it as after the plan's FIB.
-/// So are all FIBs that a new merger fills, in any sequence of calls.
+/// followed by those that are carried. From every state a listener knows the same after it as after the plan's FIB, and
+/// the entries of this ensemble in it are those in the plan's. It has as many bytes. So are all FIBs that a new merger
+/// fills, in any sequence of calls.
 pub fn filled()
     ensures read { FilledIsRead }
     ensures heard { FilledIsHeardAlike }
+    ensures entries { FilledHasTheEntries }
+    ensures length { FilledIsAsLong }
     ensures stream { AllAreFilled }
-{}
+{
+    fib_codec::laws::fib_length();
+}
 
 /// The law of checking: a stream whose FIBs have FIGs carried behind their own is cut into frames at the same places, and
 /// the checker finds the same in these frames.
 pub fn checked()
     ensures framed { FilledIsFramedAlike }
     ensures findings { FilledIsCheckedAlike }
+    ensures room { FilledIsFullAlike }
 {}
 
 /// The law of accounts: after any sequence of calls, each FIG that was taken was carried with its bytes, waits, had the

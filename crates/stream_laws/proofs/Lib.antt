@@ -41,5 +41,6 @@ pub mod NextFrames
 pub mod NextRows
 pub mod Repeating
 pub mod NoFault
+pub mod Merging
 mod Vectors
 mod VectorsOfLaws

@@ -10,3 +10,4 @@ pub mod Naming
 pub mod Times
 pub mod Sorts
 pub mod Faults
+pub mod Merging

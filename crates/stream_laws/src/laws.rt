@@ -8,6 +8,8 @@ ghost use Rattle.stream_laws.specs.Faults.{RunsAreFaultless};
 ghost use Rattle.stream_laws.specs.Framing.{RunsAreFramed};
 ghost use Rattle.stream_laws.specs.InPlace.{RunsAreInPlace};
 ghost use Rattle.stream_laws.specs.Keeping.{CurrentIsKept};
+ghost use Rattle.stream_laws.specs.Merging.{MergedAreHeardAlike, MergedHaveTheEntries};
+ghost use Rattle.stream_laws.specs.Merging.{MergedListenersAreRight, MergedRunsAreFaultless, MergedSwapsAreAnnounced};
 ghost use Rattle.stream_laws.specs.Naming.{SwapsAreNamed};
 ghost use Rattle.stream_laws.specs.Notices.{FramesAreOfBytes};
 ghost use Rattle.stream_laws.specs.Sorts.{RunsAreKnown, RunsAreNeverSilent, RunsFlagTheChange};
@@ -183,4 +185,26 @@ pub fn no_false_alarm()
     mux_config::laws::changes();
     plan_runs::laws::headline();
     stream_check::laws::parts();
+}
+
+/// The law of merged frames: a merger fills the FIBs of a run of a typed code in order, with FIGs of any other FIBs that
+/// it takes before each. The merged FIBs have the entries of those of the run, each in its place, and from every state a
+/// listener hears them as those of the run. So what the law of listeners says of the frames of a run holds of them merged;
+/// and the checker cuts them into as many frames, and finds in these what it finds in those of the run: no fault. At each
+/// swap the bytes of the notice's merged frames announce the change, as the law of swaps says.
+pub fn merged()
+    ensures heard { MergedAreHeardAlike }
+    ensures entries { MergedHaveTheEntries }
+    ensures listeners { MergedListenersAreRight }
+    ensures findings { MergedRunsAreFaultless }
+    ensures swaps { MergedSwapsAreAnnounced }
+{
+    fib_codec::laws::one_list();
+    fig_merge::laws::filled();
+    fig_merge::laws::checked();
+    plan_listeners::laws::listener();
+    frames();
+    cutting();
+    no_false_alarm();
+    swaps();
 }

@@ -1,6 +1,7 @@
-use Rattle.std.proofs.Common.{◌≡◌, length}
+use Rattle.std.proofs.Common.{◌/◌, length}
+use Rattle.cli_streams.proofs.Merging.{FilledSoFar}
 use Rattle.cli_streams.proofs.merge.fill_frame.Given as goal
 
--- the frame keeps its length
+-- the first FIBs are filled
 abbrev pub invariant-loop-index : goal.invariant-loop-index
-invariant-loop-index l = length l.frame ≡ length l.fn.frame
+invariant-loop-index l = FilledSoFar l.index (length l.initial.frame / 32) l.initial.frame l.frame l.initial.merger l.merger

@@ -1,4 +1,5 @@
 use Rattle.fig_merge.proofs.Alike.{framed_alike, checked_alike}
+use Rattle.fig_merge.proofs.Heard.{full_alike}
 use Rattle.fig_merge.proofs.laws.checked.Goals as goal
 
 pub returns-clause-framed : goal.returns-clause-framed
@@ -6,3 +7,6 @@ returns-clause-framed c = framed_alike
 
 pub returns-clause-findings : goal.returns-clause-findings
 returns-clause-findings c = checked_alike
+
+pub returns-clause-room : goal.returns-clause-room
+returns-clause-room c = full_alike

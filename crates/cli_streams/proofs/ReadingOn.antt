@@ -1,0 +1,124 @@
+-- A buffer filled from the front by reads, and the multiplexer's next frame.
+use Rattle.std.proofs.Common.{◌≡◌, ℕ, ◌+◌, ◌-◌, ◌<◌, ◌≤◌, Bool, true, false, inl, inr, List, [], ◌∷◌, ◌++◌, Option, arith, length, take, slice_range, refl, sym, ap, ◌∙◌, subst, le_refl, drop_at, length-take-le, length-append, append_assoc, append-nil}
+use Rattle.std.specs.Prelude.{Result, Ok, Err, IfOk}
+use Rattle.std.specs.Io.{ReadsAtMost}
+use Rattle.std.specs.List.{concat}
+use Rattle.std.proofs.lemmas.List.Folds.{concat-append}
+use Rattle.std.proofs.lemmas.Slice.{take-put_mid_below}
+use Rattle.std.specs.Io.KnownBytes.{ReadConsumes, Consumes}
+use Rattle.std.proofs.KnownBytes.{Consumes-trans}
+use Rattle.fib_codec.proofs.Lengths.{AllByRecursion-append}
+use Rattle.fig_merge.specs.Taking.{Merging}
+use Rattle.console.specs.declared.exit.Status.{Status}
+use Rattle.console.specs.declared.exit.Status.TheVariants.{Done, Refused, Misused, Faulty}
+use Rattle.cli_streams.specs.Merged.{ReadsFrame, TakesAs, TakesFrames, TakesNext}
+use Rattle.cli_streams.specs.declared.merge.MergeFault.{MergeFault}
+use Rattle.cli_streams.specs.declared.merge.MergeFault.TheVariants.{Failed, NotWhole, Write}
+use borrow.Rule.Slice.PartMut.{put_mid, post_of}
+use lib.Seq.{take-add, take-append-le}
+
+-- ---- one more read
+
+take_split : (a b : ℕ) (old new : List ℕ) → a ≤ b → take a new ≡ take a old → take a old ++ slice_range new a b ≡ take b new
+take_split a b old new h front =
+    let same : a + (b - a) ≡ b = omega arith in
+    ap (λ l. l ++ slice_range new a b) (sym front) ∙ sym (take-add a (b - a) new) ∙ ap (λ n. take n new) same
+
+slice_range-put_mid : (a k n : ℕ) (xs ys : List ℕ) → a ≤ length xs → n ≤ length ys → slice_range (put_mid a k xs ys) a (a + n) ≡ take n ys
+slice_range-put_mid a k n xs ys within fits =
+    let same : (a + n) - a ≡ n = omega arith in
+    let after = post_of a k xs in
+    ap (take ((a + n) - a)) (drop_at (take a xs) (ys ++ after) a (length-take-le a xs within)) ∙ ap (λ m. take m (ys ++ after)) same ∙ take-append-le n ys after fits
+
+-- bytes that are read into the rest of a buffer follow those before them
+pub read_more : (a b c : Option (List ℕ)) (at room n : ℕ) (buffer part : List ℕ) → at ≤ length buffer → n ≤ length part → Consumes a b (take at buffer) → Consumes b c (take n part) → Consumes a c (take (at + n) (put_mid at room buffer part))
+read_more a b c at room n buffer part within fits before read =
+    let some = slice_range-put_mid at room n buffer part within fits in
+    let joined = take_split at (at + n) buffer (put_mid at room buffer part) (omega arith) (take-put_mid_below _ _ _ _ _ (le_refl _) within) in
+    subst (Consumes a c) (ap (λ l. take at buffer ++ l) (sym some) ∙ joined) (Consumes-trans a b c _ _ before read)
+
+pub ok_reads : {E : Type 0} (b c : Option (List ℕ)) (at room : ℕ) (buffer part : List ℕ) (result : Result ℕ E) → at ≤ length buffer → ReadsAtMost result part → ReadConsumes b c result part
+    → IfOk result (λ n. (a : Option (List ℕ)) → Consumes a b (take at buffer) → Consumes a c (take (at + n) (put_mid at room buffer part)))
+ok_reads b c at room buffer part (Ok n) within bound bytes = λ a before. read_more a b c at room n buffer part within bound.0 before bytes.0
+ok_reads b c at room buffer part (Err e) within bound bytes = tt
+
+-- ---- the multiplexer's next frame
+
+none_next : {size count : ℕ} {before left : Option (List ℕ)} {is_open : Bool} {status : Status} {taken : List (List ℕ)} {old new : Merging}
+    → length taken ≤ count → TakesFrames size before left is_open status (count + 1) taken → new ≡ old → TakesNext size before left is_open status count taken old new
+none_next {size} {count} {before} {left} {is_open} {status} {taken} few takes same = record {
+  next = [];
+  takes = subst (TakesFrames size before left is_open status (count + 1)) (sym (append-nil taken)) takes;
+  in_turn = inr (few, refl);
+  after = λ r. same;
+}
+
+-- none is read after the last
+pub closed_next : (size : ℕ) (before left : Option (List ℕ)) (is_open : Bool) (status : Status) (count : ℕ) (taken : List (List ℕ)) (m : Merging) → is_open ≡ false
+    → TakesFrames size before left is_open status count taken → TakesNext size before left is_open status count taken m m
+closed_next size before left true status count taken m closed t = absurd (cc)
+closed_next size before left false Done count taken m closed t =
+    let few : length taken < count = t.ends.0 in
+    none_next (omega arith) (record { cut = t.cut; whole = t.whole; bytes = t.bytes; ends = (omega arith, t.ends.1, t.ends.2) }) refl
+closed_next size before left false Refused count taken m closed t =
+    let few : length taken < count = t.ends in
+    none_next (omega arith) (record { cut = t.cut; whole = t.whole; bytes = t.bytes; ends = omega arith }) refl
+closed_next size before left false Misused count taken m closed t = absurd t.ends
+closed_next size before left false Faulty count taken m closed t = absurd t.ends
+
+-- there is one, or no more
+pub read_next : (path : List ℕ) (size : ℕ) (before left now : Option (List ℕ)) (is_open more : Bool) (status : Status) (count : ℕ) (taken : List (List ℕ)) (frame : List ℕ) (old new : Merging)
+    → is_open ≡ true → length frame ≡ size → ReadsFrame path size left now frame (Ok more) → TakesAs frame (Ok more) old new
+    → TakesFrames size before left is_open status count taken → TakesNext size before now more status count taken old new
+read_next path size before left now false more status count taken frame old new opened same reads takes t = absurd (cc)
+read_next path size before left now true true Done count taken frame old new opened same reads takes t =
+    let many : length taken ≡ count = t.ends.0 in
+    let all : concat taken ++ t.cut ≡ concat taken = ap (λ (l : List ℕ). concat taken ++ l) t.ends.1 ∙ append-nil (concat taken) in
+    let joined : concat (taken ++ frame ∷ []) ++ [] ≡ concat taken ++ frame =
+    append-nil (concat (taken ++ frame ∷ [])) ∙ concat-append taken (frame ∷ []) ∙ ap (λ (l : List ℕ). concat taken ++ l) (append-nil frame) in
+    record {
+      next = frame ∷ [];
+      takes = record {
+        cut = [];
+        whole = AllByRecursion-append (λ f. length f ≡ size) taken (frame ∷ []) t.whole (same, tt);
+        bytes = subst (Consumes before now) (sym joined) (Consumes-trans before left now (concat taken) frame (subst (Consumes before left) all t.bytes) reads);
+        ends = (omega (arith, many, length-append taken (frame ∷ [])), refl);
+      };
+      in_turn = inl many;
+      after = takes;
+    }
+read_next path size before left now true false Done count taken frame old new opened same reads takes t =
+    let many : length taken ≡ count = t.ends.0 in
+    none_next (omega (arith, many)) (record {
+      cut = [];
+      whole = t.whole;
+      bytes = subst (Consumes before now) (append-nil (concat taken ++ t.cut) ∙ ap (λ (l : List ℕ). concat taken ++ l) t.ends.1) (Consumes-trans before left now (concat taken ++ t.cut) [] t.bytes reads.0);
+      ends = (omega (arith, many), refl, reads.1);
+    }) takes
+read_next path size before left now true more Refused count taken frame old new opened same reads takes t = absurd t.ends
+read_next path size before left now true more Misused count taken frame old new opened same reads takes t = absurd t.ends
+read_next path size before left now true more Faulty count taken frame old new opened same reads takes t = absurd t.ends
+
+-- they can't be read on
+part_of : (path : List ℕ) (size : ℕ) (left now : Option (List ℕ)) (frame : List ℕ) (fault : MergeFault) → ReadsFrame path size left now frame (Err fault)
+    → (part : List ℕ) × Consumes left now part
+part_of path size left now frame (NotWhole p) (is, (cut, some, less, consumed, end)) = (cut, consumed)
+part_of path size left now frame (Failed f) (unread, read) = read
+part_of path size left now frame (Write frames bytes) wrong = absurd wrong
+
+pub failed_next : (path : List ℕ) (size : ℕ) (before left now : Option (List ℕ)) (is_open : Bool) (status : Status) (count : ℕ) (taken : List (List ℕ)) (frame : List ℕ) (fault : MergeFault) (old new : Merging)
+    → is_open ≡ true → ReadsFrame path size left now frame (Err fault) → new ≡ old
+    → TakesFrames size before left is_open status count taken → TakesNext size before now false Refused count taken old new
+failed_next path size before left now false status count taken frame fault old new opened reads same t = absurd (cc)
+failed_next path size before left now true Done count taken frame fault old new opened reads same t =
+    let many : length taken ≡ count = t.ends.0 in
+    let part = part_of path size left now frame fault reads in
+    none_next (omega (arith, many)) (record {
+      cut = t.cut ++ part.0;
+      whole = t.whole;
+      bytes = subst (Consumes before now) (append_assoc (concat taken) t.cut part.0) (Consumes-trans before left now (concat taken ++ t.cut) part.0 t.bytes part.1);
+      ends = omega (arith, many);
+    }) same
+failed_next path size before left now true Refused count taken frame fault old new opened reads same t = absurd t.ends
+failed_next path size before left now true Misused count taken frame fault old new opened reads same t = absurd t.ends
+failed_next path size before left now true Faulty count taken frame fault old new opened reads same t = absurd t.ends

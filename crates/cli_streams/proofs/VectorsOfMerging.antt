@@ -1,0 +1,94 @@
+-- The terms of merging in small cases, computed by the checker from the definitions: examples that hold and that fail.
+use Rattle.std.proofs.Common.{◌≡◌, ℕ, true, false, List, [], ◌∷◌, codes, refl, arith}
+use Rattle.std.specs.Prelude.{Some, None, Err}
+use Rattle.fig_merge.specs.Taking.{nothing_taken}
+use Rattle.fig_merge.specs.Steps.{Take, Fill}
+use Rattle.console.specs.declared.exit.Status.TheVariants.{Done, Refused, Misused}
+use Rattle.cli_streams.specs.Merging.{next_of, bytes_of, calls_of}
+use Rattle.cli_streams.specs.Merged.{IsTaken, TakesFrames, summary_of, written_of, known_at, AreTwo}
+use Rattle.cli_streams.specs.declared.merge.MergeFault.TheVariants.{Write}
+
+-- ---- frames and calls
+
+abbrev a : List ℕ
+a = 1 ∷ []
+
+abbrev b : List ℕ
+b = 2 ∷ []
+
+abbrev c : List ℕ
+c = 3 ∷ []
+
+first_is_next : next_of ((a ∷ []) ∷ (b ∷ []) ∷ []) ≡ a ∷ []
+first_is_next = refl
+
+none_is_next : next_of [] ≡ []
+none_is_next = refl
+
+taken_before_filled : calls_of ((a ∷ b ∷ []) ∷ []) ((c ∷ []) ∷ []) ≡ Take c ∷ Fill a ∷ Fill b ∷ []
+taken_before_filled = refl
+
+-- a frame of the multiplexer for each of the plan's
+one_for_each : calls_of ((a ∷ []) ∷ (b ∷ []) ∷ []) ((c ∷ []) ∷ []) ≡ Take c ∷ Fill a ∷ Fill b ∷ []
+one_for_each = refl
+
+-- none is taken after the plan's end
+not_after_the_end : calls_of [] ((c ∷ []) ∷ []) ≡ []
+not_after_the_end = refl
+
+bytes_in_order : bytes_of ((a ∷ b ∷ []) ∷ (c ∷ []) ∷ []) ≡ 1 ∷ 2 ∷ 3 ∷ []
+bytes_in_order = refl
+
+-- ---- the multiplexer's frames
+
+as_many : IsTaken true Done 2 2 [] None
+as_many = (refl, refl)
+
+too_few_while_open : IsTaken true Done 2 1 [] None → ⊥
+too_few_while_open h = (let same : 1 ≡ 2 = h.0 in omega (arith, same))
+
+at_its_end : IsTaken false Done 2 1 [] (Some [])
+at_its_end = (omega arith, refl, refl)
+
+before_its_end : IsTaken false Done 2 1 [] (Some (7 ∷ [])) → ⊥
+before_its_end h = absurd (let none : 7 ∷ [] ≡ [] = h.2 in cc)
+
+cut_is_refused : IsTaken false Refused 2 1 (7 ∷ []) (Some [])
+cut_is_refused = omega arith
+
+cut_is_not_done : IsTaken false Done 2 1 (7 ∷ []) (Some []) → ⊥
+cut_is_not_done h = absurd (let none : 7 ∷ [] ≡ [] = h.1 in cc)
+
+not_misused : IsTaken false Misused 2 1 [] (Some []) → ⊥
+not_misused h = h
+
+two_bytes_each : TakesFrames 2 (Some (1 ∷ 2 ∷ 3 ∷ 4 ∷ [])) (Some (3 ∷ 4 ∷ [])) true Done 1 ((1 ∷ 2 ∷ []) ∷ [])
+two_bytes_each = record { cut = []; whole = (refl, tt); bytes = refl; ends = (refl, refl) }
+
+not_three_bytes : TakesFrames 3 (Some (1 ∷ 2 ∷ [])) (Some []) true Done 1 ((1 ∷ 2 ∷ []) ∷ []) → ⊥
+not_three_bytes h = (let long : 2 ≡ 3 = h.whole.0 in omega (arith, long))
+
+-- ---- what is written, and reported
+
+part_of_the_second : written_of (Err (Write 1 1)) ((a ∷ []) ∷ (b ∷ c ∷ []) ∷ []) ≡ 1 ∷ 2 ∷ []
+part_of_the_second = refl
+
+all_but_the_flush : written_of (Err (Write 2 0)) ((a ∷ []) ∷ (b ∷ []) ∷ []) ≡ 1 ∷ 2 ∷ []
+all_but_the_flush = refl
+
+nothing_merged : summary_of 3 nothing_taken ≡ record { frames = 3; carried = 0; waiting = 0; dropped = 0; damaged = 0 }
+nothing_merged = refl
+
+-- ---- paths
+
+a_dash_is_standard_input : known_at (λ path. None) (Some (7 ∷ [])) (codes "-") ≡ Some (7 ∷ [])
+a_dash_is_standard_input = refl
+
+a_path_is_a_file : known_at (λ path. Some path) None (codes "--") ≡ Some (codes "--")
+a_path_is_a_file = refl
+
+not_both : AreTwo (codes "-") (codes "-") → ⊥
+not_both h = h refl refl
+
+one_is_enough : AreTwo (codes "-") (codes "a")
+one_is_enough = λ first second. absurd (cc)

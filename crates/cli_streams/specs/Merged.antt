@@ -1,0 +1,162 @@
+-- What `merge` writes of two streams of frames, as far as their bytes are known, and how it ends.
+use Rattle.std.specs.Prelude.{◌≡◌, ◌≢◌, ℕ, ◌+◌, ◌<◌, ◌≤◌, ◌⊎◌, if◌then◌else◌, codes, Bool, true, false, List, [], ◌++◌, length, map, take, drop, Option, Result, Ok, Err, ⊤}
+use Rattle.std.specs.List.{AllByRecursion, concat}
+use Rattle.std.specs.Str.{bytes_eq}
+use Rattle.std.specs.Io.KnownBytes.{Appends, Consumes, IsAtEnd}
+use Rattle.stream_check.specs.Frames.{Reading}
+use Rattle.fig_merge.specs.Taking.{Merging, nothing_taken}
+use Rattle.fig_merge.specs.Filling.{merged, after_fill}
+use Rattle.console.specs.declared.exit.Failure.{Failure}
+use Rattle.console.specs.declared.exit.Failure.TheVariants.{Memory, Read, Create, Output}
+use Rattle.console.specs.declared.exit.Status.{Status}
+use Rattle.console.specs.declared.exit.Status.TheVariants.{Done, Refused, Misused, Faulty}
+use Rattle.cli_streams.specs.Stream.{fibs_of_stream}
+use Rattle.cli_streams.specs.Merging.{after_taking, after_filling, filled_frame, next_of, merged_frames, after_merging, bytes_of}
+use Rattle.cli_streams.specs.declared.merge.MergeFault.{MergeFault}
+use Rattle.cli_streams.specs.declared.merge.MergeFault.TheVariants.{Failed, NotWhole, Write}
+use Rattle.cli_streams.specs.declared.merge.MergeSummary.{MergeSummary}
+
+-- ---- one frame, by its bytes
+
+-- after the FIGs of a frame of the multiplexer were taken, and after a frame of the plan was filled
+abbrev pub after_frame_taken : Reading → List ℕ → Merging → Merging
+after_frame_taken r frame m = after_taking r (fibs_of_stream frame) m
+
+abbrev pub after_frame_filled : Reading → List ℕ → Merging → Merging
+after_frame_filled r frame m = after_filling r (fibs_of_stream frame) m
+
+-- the bytes of the filled frame
+abbrev pub frame_filled : Reading → List ℕ → Merging → List ℕ
+frame_filled r frame m = concat (filled_frame r (fibs_of_stream frame) m)
+
+-- the FIB at this offset of a frame is filled, in place
+abbrev pub fib_from : ℕ → List ℕ → List ℕ
+fib_from offset frame = take 32 (drop offset frame)
+
+pub record FillsFib (offset : ℕ) (old new : List ℕ) (before after : Merging) : Type 0 where
+  pub fib : List ℕ
+  pub size : length fib ≡ 32
+  pub bytes : new ≡ take offset old ++ (fib ++ drop (offset + 32) old)
+  pub filled : (r : Reading) → fib ≡ merged (fib_from offset old) (r.read (fib_from offset old)) before
+  pub merger : (r : Reading) → after ≡ after_fill (r.read (fib_from offset old)) before
+
+-- the file of this path can't be read
+abbrev pub IsUnread : List ℕ → Failure → Type 0
+IsUnread path Memory = ⊥
+IsUnread path (Read p) = p.now ≡ path
+IsUnread path (Create p) = ⊥
+IsUnread path Output = ⊥
+
+-- a frame of this size is read from the file of this path: a whole one; or there is none; or less than a frame is left;
+-- or the file can't be read on
+abbrev pub ReadsFrame : (path : List ℕ) (size : ℕ) (before left : Option (List ℕ)) → List ℕ → Result Bool MergeFault → Type 0
+ReadsFrame path size before left frame (Ok true) = Consumes before left frame
+ReadsFrame path size before left frame (Ok false) = Consumes before left [] × IsAtEnd left
+ReadsFrame path size before left frame (Err (NotWhole p)) =
+    (p.now ≡ path) × ((cut : List ℕ) × (0 < length cut) × (length cut < size) × Consumes before left cut × IsAtEnd left)
+ReadsFrame path size before left frame (Err (Failed f)) = IsUnread path f × ((part : List ℕ) × Consumes before left part)
+ReadsFrame path size before left frame (Err (Write frames bytes)) = ⊥
+
+-- ---- the multiplexer's frames
+
+-- the FIGs of a frame are taken if it is whole
+abbrev pub TakesAs : List ℕ → Result Bool MergeFault → (old new : Merging) → Type 0
+TakesAs frame (Ok true) old new = (r : Reading) → new ≡ after_frame_taken r frame old
+TakesAs frame (Ok false) old new = new ≡ old
+TakesAs frame (Err fault) old new = new ≡ old
+
+-- how many were taken while so many of the plan's were read: as many as long as there may be more; fewer once none is
+-- left; fewer, and `Refused`, where what is left is less than a frame or can't be read
+abbrev pub IsTaken : (is_open : Bool) → Status → (count taken : ℕ) → (cut : List ℕ) → (left : Option (List ℕ)) → Type 0
+IsTaken true Done count taken cut left = (taken ≡ count) × (cut ≡ [])
+IsTaken false Done count taken cut left = (taken < count) × (cut ≡ []) × IsAtEnd left
+IsTaken true Refused count taken cut left = ⊥
+IsTaken false Refused count taken cut left = taken < count
+IsTaken is_open Misused count taken cut left = ⊥
+IsTaken is_open Faulty count taken cut left = ⊥
+
+-- whole frames of this size were taken, in order, and the bytes behind them that were read give none
+pub record TakesFrames (size : ℕ) (before left : Option (List ℕ)) (is_open : Bool) (status : Status) (count : ℕ) (taken : List (List ℕ)) : Type 0 where
+  pub cut : List ℕ
+  pub whole : AllByRecursion (λ frame. length frame ≡ size) taken
+  pub bytes : Consumes before left (concat taken ++ cut)
+  pub ends : IsTaken is_open status count (length taken) cut left
+
+-- after the next frame is taken, if there is one
+pub record TakesNext (size : ℕ) (before left : Option (List ℕ)) (is_open : Bool) (status : Status) (count : ℕ) (taken : List (List ℕ)) (old new : Merging) : Type 0 where
+  pub next : List (List ℕ)
+  pub takes : TakesFrames size before left is_open status (count + 1) (taken ++ next)
+  pub in_turn : (length taken ≡ count) ⊎ ((length taken ≤ count) × (next ≡ []))
+  pub after : (r : Reading) → new ≡ after_taking r (next_of (map fibs_of_stream next)) old
+
+-- ---- the plan's frames
+
+-- what is reported at the end, after so many frames
+abbrev pub summary_of : ℕ → Merging → MergeSummary
+summary_of frames m = record {
+  frames = frames;
+  carried = m.carried;
+  waiting = length m.waiting;
+  dropped = m.dropped;
+  damaged = m.damaged;
+}
+
+-- a frame is written behind so many, or the first bytes of it, or all of it and the flush fails
+abbrev pub WritesFrame : ℕ → List ℕ → (old new : Option (List ℕ)) → Result ⊤ MergeFault → Type 0
+WritesFrame count frame old new (Ok done) = Appends old new frame
+WritesFrame count frame old new (Err (Write frames bytes)) =
+    ((frames ≡ count) × (bytes < length frame) × Appends old new (take bytes frame)) ⊎ ((frames ≡ count + 1) × (bytes ≡ 0) × Appends old new frame)
+WritesFrame count frame old new (Err (NotWhole p)) = ⊥
+WritesFrame count frame old new (Err (Failed f)) = ⊥
+
+-- how the run ends after so many frames of the plan were read: with the summary, if no more are left; refused, if less
+-- than a frame is left, if a file can't be read, or if so many frames and so many bytes of the next one were written
+abbrev pub EndsAs : (path : List ℕ) (size count : ℕ) (cut : List ℕ) (left : Option (List ℕ)) → Merging → Result MergeSummary MergeFault → Type 0
+EndsAs path size count cut left m (Ok summary) = (cut ≡ []) × IsAtEnd left × (summary ≡ summary_of count m)
+EndsAs path size count cut left m (Err (NotWhole p)) = (p.now ≡ path) × (0 < length cut) × (length cut < size) × IsAtEnd left
+EndsAs path size count cut left m (Err (Failed f)) = Unit {0}
+EndsAs path size count cut left m (Err (Write frames bytes)) =
+    (cut ≡ []) × (((frames ≡ count) × (bytes ≡ 0)) ⊎ ((frames + 1 ≡ count) × (bytes < size)))
+
+-- what is written of the merged frames
+abbrev pub written_of : Result MergeSummary MergeFault → List (List (List ℕ)) → List ℕ
+written_of (Ok summary) merged = bytes_of merged
+written_of (Err (NotWhole p)) merged = bytes_of merged
+written_of (Err (Failed f)) merged = bytes_of merged
+written_of (Err (Write frames bytes)) merged = bytes_of (take frames merged) ++ take bytes (bytes_of (drop frames merged))
+
+-- these frames of the plan, read from the file of this path, are merged with those that are taken of the multiplexer's,
+-- and written; `plan` and `other` are the bytes of both, and `old` and `new` the writer's bytes before and after
+pub record Merges (path : List ℕ) (size : ℕ) (plan other old new : Option (List ℕ)) (status : Status) (result : Result MergeSummary MergeFault) : Type 0 where
+  pub frames : List (List ℕ)
+  pub taken : List (List ℕ)
+  pub cut : List ℕ
+  pub plan_left : Option (List ℕ)
+  pub other_left : Option (List ℕ)
+  pub is_open : Bool
+  pub whole : AllByRecursion (λ frame. length frame ≡ size) frames
+  pub bytes : Consumes plan plan_left (concat frames ++ cut)
+  pub takes : TakesFrames size other other_left is_open status (length frames) taken
+  pub ends : (r : Reading) → EndsAs path size (length frames) cut plan_left (after_merging r (map fibs_of_stream frames) (map fibs_of_stream taken) nothing_taken) result
+  pub written : (r : Reading) → Appends old new (written_of result (merged_frames r (map fibs_of_stream frames) (map fibs_of_stream taken) nothing_taken))
+
+-- ---- files
+
+-- the bytes of the file of a path, or of standard input if the path is `-`
+abbrev pub known_at : (List ℕ → Option (List ℕ)) → (input : Option (List ℕ)) → List ℕ → Option (List ℕ)
+known_at known input path = if bytes_eq path (codes "-") then input else known path
+
+-- they are not both standard input
+abbrev pub AreTwo : List ℕ → List ℕ → Type 0
+AreTwo path other = path ≡ codes "-" → other ≢ codes "-"
+
+-- the summary is reported at the end, with this status; other results are handed on
+abbrev pub Returns : Status → Result MergeSummary MergeFault → Result Status MergeFault → Type 0
+Returns status (Ok summary) result = result ≡ Ok status
+Returns status (Err fault) result = result ≡ Err fault
+
+pub record MergesFiles (path : List ℕ) (size : ℕ) (plan other old new : Option (List ℕ)) (result : Result Status MergeFault) : Type 0 where
+  pub status : Status
+  pub outcome : Result MergeSummary MergeFault
+  pub merges : Merges path size plan other old new status outcome
+  pub returns : Returns status outcome result

@@ -1,0 +1,184 @@
+-- Merged FIBs are heard and checked as the plan's.
+use Rattle.std.proofs.Common.{◌≡◌, ◌↔◌, ℕ, List, [], ◌∷◌, ◌++◌, map, flat_map, refl, sym, ap, subst, ◌∙◌, arith}
+use Rattle.std.specs.Prelude.{Some, None}
+use Rattle.std.specs.List.{AllByRecursion}
+use Rattle.fib_codec.specs.Grammar.{Fig, Other, IsFib, OneList}
+use Rattle.fib_codec.specs.Layouts.{layout_mode, frame_fibs}
+use Rattle.fib_codec.specs.Modes.{count_step}
+use Rattle.fib_reader.specs.Listening.{Listening, untuned, hear_figs}
+use Rattle.stream_check.specs.Frames.{Fib, Reads, Reading, IsFramed}
+use Rattle.stream_check.specs.Stream.{findings_of}
+use Rattle.stream_check.specs.declared.finding.Finding.{Finding}
+use Rattle.fig_merge.specs.Taking.{Merging, IsMerging, nothing_taken, after_take}
+use Rattle.fig_merge.specs.Filling.{merged, carried_by, after_fill}
+use Rattle.fig_merge.specs.Steps.{Step, Take, Fill}
+use Rattle.fig_merge.specs.Passing.{with_carried, FilledIsRead, hear_fib, FilledIsHeardAlike, FilledHasTheEntries, FilledIsAsLong, AreFilled, fibs_in, sent_in, AllAreFilled, FilledIsCheckedAlike, FilledIsFullAlike, FilledIsFramedAlike}
+use Rattle.fig_merge.proofs.Carried.{merging_step}
+use Rattle.plan_runs.specs.Runs.{run, run_frames}
+use Rattle.plan_runs.specs.Listening.{fibs_of, HearsFib, HearsAll, ListenersAreRight}
+use Rattle.stream_laws.specs.Announcing.{SwapsAreAnnounced}
+use Rattle.stream_laws.specs.Faultless.{IsNoFault, IsFaultless, IsSaidIn}
+use Rattle.stream_laws.specs.Faults.{RunsAreFaultless}
+use Rattle.stream_laws.specs.Framing.{frames_of, RunsAreFramed}
+use Rattle.stream_laws.specs.Merging.{filled_in, IsMergedOf, HaveSameEntries, MergedHaveTheEntries, MergedAreHeardAlike, MergedListenersAreRight, MergedRunsAreFaultless, MergedSwapsAreAnnounced}
+use Rattle.stream_laws.specs.Notices.{IsFibBytes, AreFibBytes, read_frames, FramesAreOfBytes}
+
+-- ---- one FIB
+
+read_as : (bytes : List ℕ) (figs : List Fig) → OneList → IsFib bytes figs → (fib : Fib) → Reads bytes fib → fib ≡ Some figs
+read_as bytes figs one is None damaged = absurd (damaged figs is)
+read_as bytes figs one is (Some others) read = ap (λ (fs : List Fig). Some fs) (one bytes others figs read is)
+
+-- a listener hears a FIB as it is read
+record HearsRead (r : Reading) (bytes : List ℕ) (old new : Listening) : Type 0 where
+  figs : List Fig
+  is : r.read bytes ≡ Some figs
+  heard : hear_figs figs old ≡ Some new
+
+heard_read : OneList → (r : Reading) (bytes : List ℕ) (old new : Listening) → HearsFib bytes old new → HearsRead r bytes old new
+heard_read one r bytes old new h = record { figs = h.0; is = read_as bytes h.0 one h.1 (r.read bytes) (r.right bytes); heard = h.2 }
+
+read_heard : (r : Reading) (bytes : List ℕ) (old new : Listening) → HearsRead r bytes old new → HearsFib bytes old new
+read_heard r bytes old new h = (h.figs, subst (λ (f : Fib). Reads bytes f) h.is (r.right bytes), h.heard)
+
+plan_figs : (fib : Fib) (carried : List (List ℕ)) (figs : List Fig) → with_carried fib carried ≡ Some figs → (own : List Fig) × (fib ≡ Some own)
+plan_figs None carried figs e = absurd (cc)
+plan_figs (Some own) carried figs e = (own, refl)
+
+fib_alike : OneList → FilledIsRead → FilledIsHeardAlike → (r : Reading) (bytes : List ℕ) (m : Merging) (old new : Listening) → IsMerging m
+    → HearsFib (merged bytes (r.read bytes) m) old new ↔ HearsFib bytes old new
+fib_alike one read heard r bytes m old new valid =
+    let sent = merged bytes (r.read bytes) m in
+    let carried = carried_by (r.read bytes) m in (
+      λ there.
+          let h = heard_read one r sent old new there in
+          let own = plan_figs (r.read bytes) carried h.figs (sym (read r bytes m valid) ∙ h.is) in
+          read_heard r bytes old new (record {
+            figs = own.0;
+            is = own.1;
+            heard = ap (λ (f : Fib). hear_fib f old) (sym own.1) ∙ sym (heard r bytes m old valid) ∙ ap (λ (f : Fib). hear_fib f old) h.is ∙ h.heard;
+          }),
+      λ there.
+          let h = heard_read one r bytes old new there in
+          let is : r.read sent ≡ Some (h.figs ++ map Other carried) = read r bytes m valid ∙ ap (λ (f : Fib). with_carried f carried) h.is in
+          read_heard r sent old new (record {
+            figs = h.figs ++ map Other carried;
+            is = is;
+            heard = ap (λ (f : Fib). hear_fib f old) (sym is) ∙ heard r bytes m old valid ∙ ap (λ (f : Fib). hear_fib f old) h.is ∙ h.heard;
+          }),
+    )
+
+-- ---- entries
+
+calls_have : FilledHasTheEntries → FilledIsAsLong → (r : Reading) (calls : List Step) (m : Merging) → IsMerging m → HaveSameEntries (filled_in calls) (sent_in r calls m)
+calls_have entries long r [] m valid = refl
+calls_have entries long r (Take fib ∷ calls) m valid = calls_have entries long r calls (after_take (r.read fib) m) (merging_step r (Take fib) m valid)
+calls_have entries long r (Fill fib ∷ calls) m valid =
+    let later = after_fill (r.read fib) m in (
+      merged fib (r.read fib) m,
+      sent_in r calls later,
+      refl,
+      long r fib m valid,
+      (λ entry. entries r fib m entry valid),
+      calls_have entries long r calls later (merging_step r (Fill fib) m valid),
+    )
+
+pub merged_have_the_entries : FilledHasTheEntries → FilledIsAsLong → MergedHaveTheEntries
+merged_have_the_entries entries long r fibs sent w =
+    subst (λ (xs : List (List ℕ)). HaveSameEntries fibs xs) w.sends
+    (subst (λ (xs : List (List ℕ)). HaveSameEntries xs (sent_in r w.calls nothing_taken)) w.fills
+    (calls_have entries long r w.calls nothing_taken (record { few = omega arith; passed_over = tt })))
+
+-- ---- listeners
+
+calls_alike : OneList → FilledIsRead → FilledIsHeardAlike → (r : Reading) (calls : List Step) (m : Merging) (old new : Listening) → IsMerging m
+    → HearsAll (sent_in r calls m) old new ↔ HearsAll (filled_in calls) old new
+calls_alike one read heard r [] m old new valid = (λ h. h, λ h. h)
+calls_alike one read heard r (Take fib ∷ calls) m old new valid =
+    calls_alike one read heard r calls (after_take (r.read fib) m) old new (merging_step r (Take fib) m valid)
+calls_alike one read heard r (Fill fib ∷ calls) m old new valid =
+    let later = after_fill (r.read fib) m in
+    let still = merging_step r (Fill fib) m valid in (
+      λ h. (h.0, (fib_alike one read heard r fib m old h.0 valid).0 h.1, (calls_alike one read heard r calls later h.0 new still).0 h.2),
+      λ h. (h.0, (fib_alike one read heard r fib m old h.0 valid).1 h.1, (calls_alike one read heard r calls later h.0 new still).1 h.2),
+    )
+
+pub merged_are_heard_alike : OneList → FilledIsRead → FilledIsHeardAlike → MergedAreHeardAlike
+merged_are_heard_alike one read heard r fibs sent old new w =
+    let base = calls_alike one read heard r w.calls nothing_taken old new (record { few = omega arith; passed_over = tt }) in
+    subst (λ (xs : List (List ℕ)). HearsAll xs old new ↔ HearsAll fibs old new) w.sends
+    (subst (λ (xs : List (List ℕ)). HearsAll (sent_in r w.calls nothing_taken) old new ↔ HearsAll xs old new) w.fills base)
+
+pub merged_listeners : MergedAreHeardAlike → ListenersAreRight → MergedListenersAreRight
+merged_listeners alike right r p s played =
+    let known = right p s played in
+    record {
+      room = λ events sent w.
+          let there = known.room events in
+          (there.0, (alike r (fibs_of p.plan.layout (run_frames p s events)) sent untuned there.0 w).1 there.1);
+      current = λ waiting window sent heard tuned phase long w h. known.current waiting window heard tuned phase long ((alike r _ sent untuned heard w).0 h);
+      after_swap = λ waiting notice after fibs sent heard tuned is_notice until some w h.
+          known.after_swap waiting notice after fibs heard tuned is_notice until some ((alike r _ sent untuned heard w).0 h);
+    }
+
+-- ---- the checker
+
+fibs_read : (r : Reading) (calls : List Step) → fibs_in r calls ≡ map r.read (filled_in calls)
+fibs_read r [] = refl
+fibs_read r (Take fib ∷ calls) = fibs_read r calls
+fibs_read r (Fill fib ∷ calls) = ap (λ (fs : List Fib). r.read fib ∷ fs) (fibs_read r calls)
+
+are_filled : AllAreFilled → (r : Reading) (fibs sent : List (List ℕ)) → IsMergedOf r fibs sent → AreFilled (map r.read fibs) (map r.read sent)
+are_filled all r fibs sent w =
+    subst (λ (xs : List (List ℕ)). AreFilled (map r.read fibs) (map r.read xs)) w.sends
+    (subst (λ (xs : List Fib). AreFilled xs (map r.read (sent_in r w.calls nothing_taken))) (fibs_read r w.calls ∙ ap (map r.read) w.fills) (all r w.calls))
+
+pub merged_faultless : AllAreFilled → FilledIsFramedAlike → FilledIsCheckedAlike → FilledIsFullAlike → RunsAreFramed → FramesAreOfBytes → RunsAreFaultless → MergedRunsAreFaultless
+merged_faultless all framed checked full runs cuts faultless r p s period waiting events sent played untold on_step w =
+    let size = frame_fibs p.plan.layout in
+    let step = count_step (layout_mode p.plan.layout) in
+    let fibs = fibs_of p.plan.layout (run_frames p s (waiting ++ events)) in
+    let skipped = map r.read (fibs_of p.plan.layout (run_frames p s waiting)) in
+    let frames = read_frames r (frames_of p.plan.layout (run_frames p (run p s waiting) events)) in
+    let a = framed size (map r.read fibs) (map r.read sent) skipped frames [] (are_filled all r fibs sent w) (runs r p s waiting events played untold on_step) in
+    let same : findings_of size step period [] a.frames_sent ≡ findings_of size step period [] frames = checked size step period frames a.frames_sent a.frames_alike in
+    let cut : IsFramed size (map r.read sent) a.skipped_sent a.frames_sent [] = subst (λ (rest : List Fib). IsFramed size (map r.read sent) a.skipped_sent a.frames_sent rest) a.rest_alike a.framed in
+    record {
+      skipped = a.skipped_sent;
+      frames = a.frames_sent;
+      framed = cut;
+      cut = cuts r size sent a.skipped_sent a.frames_sent [] cut;
+      findings = same;
+      faultless = λ long.
+          let none = faultless r p s period waiting events played on_step long in
+          record {
+            room = full step period frames a.frames_sent a.frames_alike ∙ none.room;
+            plain = subst (λ (found : List Finding). AllByRecursion (λ f. IsNoFault f.what) found) (sym same) none.plain;
+          };
+    }
+
+-- ---- swaps
+
+later_all : (P : List ℕ → Type 0) (xs ys : List (List ℕ)) → AllByRecursion P (xs ++ ys) → AllByRecursion P ys
+later_all P [] ys h = h
+later_all P (x ∷ xs) ys h = later_all P xs ys h.1
+
+first_all : (P : List ℕ → Type 0) (xs ys : List (List ℕ)) → AllByRecursion P (xs ++ ys) → AllByRecursion P xs
+first_all P [] ys h = tt
+first_all P (x ∷ xs) ys h = (h.0, first_all P xs ys h.1)
+
+frames_all : (P : List ℕ → Type 0) (frames : List (List (List ℕ))) → AllByRecursion P (flat_map (λ frame. frame) frames) → AllByRecursion (AllByRecursion P) frames
+frames_all P [] h = tt
+frames_all P (f ∷ fs) h = (first_all P f (flat_map (λ frame. frame) fs) h, frames_all P fs (later_all P f (flat_map (λ frame. frame) fs) h))
+
+pub merged_announced : SwapsAreAnnounced → MergedSwapsAreAnnounced
+merged_announced swaps r p s period events sent checked long bytes past i now next said swap whole is_now is_next shows_now shows_next =
+    let size = frame_fibs p.plan.layout in
+    let step = count_step (layout_mode p.plan.layout) in
+    let cut = checked.cut in
+    let framed = later_all IsFibBytes cut.before (flat_map (λ frame. frame) cut.bytes ++ cut.after) (subst (λ (xs : List (List ℕ)). AllByRecursion IsFibBytes xs) cut.whole bytes) in
+    let all : AllByRecursion AreFibBytes cut.bytes = frames_all IsFibBytes cut.bytes (first_all IsFibBytes (flat_map (λ frame. frame) cut.bytes) cut.after framed) in
+    swaps r size step period cut.bytes past i now next all
+    (subst (λ (fs : List (List Fib)). IsFaultless size step period fs) (sym cut.reads) (checked.faultless long))
+    (subst (λ (fs : List (List Fib)). IsSaidIn step fs past i) (sym cut.reads) said)
+    swap whole is_now is_next shows_now shows_next
