@@ -2,7 +2,7 @@
 """Every command at the limits of its input, within a stack of 1 MB.
 
 Scripts, codes, configurations and nesting at their limits and one past them; texts of 1,048,576 bytes of each kind of
-token, in scripts, events and commands; and events and commands of half a gigabyte in little memory. The expected
+token, in scripts, events and commands; events and commands of half a gigabyte, and 20 MB of valid ones, in little memory. The expected
 lines are those of docs/guide/COMMANDS.md, derived next to each text. At the end it prints the smallest stack with which each command works. The last line is 'N passed, M failed'.
 """
 import os
@@ -256,6 +256,25 @@ def try_zeros(tally, program, folder):
             tally.same(f"{name}, zeros behind {start}", (1, f"{name} {wanted}: Byte\n".encode()), ended.lines())
 
 
+def try_long_texts(tally, program, folder):
+    """20 MB of steps and of commands in 128 MB of memory: their text is kept, and no list of them. A fault at the end comes first."""
+    common.write(folder, "small.code", (common.SAMPLES / "contact_lowers_a_rate.code").read_bytes())
+    step = b"frames 1\n"
+    count = 20_000_000 // len(step)
+    common.write(folder, "long.events", step * count)
+    ended = common.run([program, "play", "small.code", "long.events", "/dev/null"], folder, memory=131_072)
+    tally.same("20 MB of events", (0, f"played {count} frames\n".encode()), ended.lines())
+    common.write(folder, "long.events", step * count + b"frames 0")
+    ended = common.run([program, "play", "small.code", "long.events", "long.fib"], folder, memory=131_072)
+    tally.same("20 MB of events and a fault", (1, f"events {count + 1}:8: Number\n".encode()), ended.lines())
+    tally.same("its frames", 0, os.path.getsize(f"{folder}/long.fib"))
+    command = b"contact 3 open\n"
+    count = 20_000_000 // len(command)
+    common.write(folder, "long.commands", command * count)
+    line = f"set -o pipefail; '{program}' debug small.code long.commands | wc -l"
+    tally.same("20 MB of commands", (0, f"{count}\n".encode()), common.run(["bash", "-c", line], folder, memory=131_072).lines())
+
+
 def try_stacks(tally, program, folder):
     """The smallest stack with which each command works, in steps of 16 KB, over the files that the other parts left."""
     common.write(folder, "a.plan", PLAN + "wait 1 " * 4095)
@@ -277,7 +296,7 @@ def main():
     tally = common.Tally()
     program = common.dabplan()
     with tempfile.TemporaryDirectory() as folder:
-        for part in (try_scripts, try_codes, try_frames, try_texts, try_zeros, try_stacks):
+        for part in (try_scripts, try_codes, try_frames, try_texts, try_zeros, try_long_texts, try_stacks):
             part(tally, program, folder)
     tally.end()
 

@@ -6,6 +6,7 @@ import fcntl
 import os
 import pathlib
 import resource
+import select
 import shutil
 import signal
 import subprocess
@@ -230,16 +231,44 @@ def standard_output(tally, program, folder):
 
 
 def messages_after_frames(tally, program, folder):
-    """A message comes right after its frame, where both go to one pipe."""
-    done = subprocess.run([program, "live", CODE, "--every", "1"], cwd=folder, input=b"frames 3\nframe\nframes 1\n",
-                          stdout=subprocess.PIPE, stderr=subprocess.STDOUT, check=False)
-    wanted = []
-    before = 0
-    for line, frames in ((b"frame 0 count 0\n", 1), (b"frame 1 count 1\n", 2), (b"frame 2 count 2\n", 3),
-                         (b"line 2: 1: Expected\n", 3), (b"frame 3 count 3\n", 4)):
-        wanted.append((line, FRAME * frames + before))
-        before += len(line)
-    tally.same("places of messages", wanted, [(line, done.stdout.find(line)) for line, _ in wanted])
+    """Where both go to one pipe, messages come after the frames of their line; 61 at a time if there are more."""
+    def of_frame(frame):
+        return b"frame %d count %d\n" % (frame, frame)
+
+    for lines, places in ((b"frames 3\nframe\nframes 1\n",
+                           [*((of_frame(frame), 3) for frame in range(3)), (b"line 2: 1: Expected\n", 3), (of_frame(3), 4)]),
+                          (b"frames 200\n", [(of_frame(frame), min(200, 61 * (frame // 61 + 1))) for frame in range(200)])):
+        done = subprocess.run([program, "live", CODE, "--every", "1"], cwd=folder, input=lines,
+                              stdout=subprocess.PIPE, stderr=subprocess.STDOUT, check=False)
+        wanted, found, before, at = [], [], 0, 0
+        for message, frames in places:
+            wanted.append((message, FRAME * frames + before))
+            at = done.stdout.find(message, at)
+            found.append((message, at))
+            before += len(message)
+        tally.same(f"places of messages, {lines}", wanted, found)
+
+
+def messages_that_nobody_reads(tally, program, folder):
+    """The frames of a line come out where standard error takes no more."""
+    taken, given = os.pipe()
+    set_non_blocking(given)
+    try:
+        while True:
+            os.write(given, b"x" * 4096)
+    except BlockingIOError:
+        pass
+    os.set_blocking(given, True)
+    found = b""
+    with subprocess.Popen([program, "live", CODE, "--every", "1", "--status"], cwd=folder, stdin=subprocess.PIPE,
+                          stdout=subprocess.PIPE, stderr=given, bufsize=0) as job:
+        os.close(given)
+        job.stdin.write(b"frames 50\n")
+        while len(found) < 50 * FRAME and select.select([job.stdout], [], [], 20)[0]:
+            found += job.stdout.read(65536)
+        os.close(taken)
+        job.stdin.close()
+    tally.same("frames of a line whose messages nobody reads", 50 * FRAME, len(found))
 
 
 def main():
@@ -247,7 +276,8 @@ def main():
     tally = common.Tally()
     program = common.dabplan()
     for part in (streams_that_do_not_block, messages_that_do_not_block, equal_paths, refusals, size_limits, hostile_names,
-                 a_folder_that_is_no_text, standard_output, messages_after_frames):
+                 a_folder_that_is_no_text, standard_output, messages_after_frames,
+                 messages_that_nobody_reads):
         with tempfile.TemporaryDirectory() as folder:
             part(tally, program, folder)
     tally.end()

@@ -1,10 +1,13 @@
 //! `dabplan debug`: steps through a plan code by the commands of a file.
 
-ghost use Rattle.std.specs.Prelude.{ℕ, List, OnOk, IfErr};
+ghost use Rattle.std.specs.Prelude.{ℕ, List, ◌++◌, OnOk, IfErr};
 ghost use Rattle.std.specs.List.{flat_map};
 ghost use Rattle.std.specs.Io.KnownBytes.{Appends};
 ghost use Rattle.plan_player.specs.Playing.{Playing};
+ghost use Rattle.plan_debug.specs.declared.report.Report.{Report};
+ghost use Rattle.plan_debug.specs.Commands.{Answers};
 ghost use Rattle.plan_session.specs.declared.command.Command.{Command};
+ghost use Rattle.plan_session.specs.Listing.{ListsCommands};
 ghost use Rattle.plan_session.specs.Playback.{asked};
 ghost use Rattle.cli_plans.specs.Transcript.{place_text, swap_text, break_line, report_lines, announcement_line, shown_lines, Transcript, IsSession, Prints, IsDebugFault, IsUnprinted};
 
@@ -17,7 +20,7 @@ use mux_tables::Tables;
 use plan_code::CodeFault;
 use plan_debug::{Announcement, Command, Debugger, Report};
 use plan_player::{Player, Start};
-use plan_session::{EventFault, RunFault, laws, read_commands, typed_code};
+use plan_session::{CommandList, EventFault, RunFault, laws, typed_code};
 use std::alloc::Global;
 use std::io::{self, Write};
 use thiserror::Error;
@@ -114,7 +117,7 @@ pub fn debug<W: Write>(
         Ok(player) => player,
         Err(fault) => return Err(DebugFault::Playback(RunFault::Start(fault))),
     };
-    let commands = match read_commands(alloc, text) {
+    let mut commands = match CommandList::new(text) {
         Ok(commands) => commands,
         Err(fault) => return Err(DebugFault::Commands(fault)),
     };
@@ -122,28 +125,44 @@ pub fn debug<W: Write>(
         Ok(debugger) => debugger,
         Err(_player) => return Err(DebugFault::Memory),
     };
-    match drive(&mut debugger, commands.as_slice(), out) {
+    match drive(&mut debugger, &mut commands, out) {
         Ok(()) => Ok(()),
         Err(_) => Err(DebugFault::Output),
     }
 }
 
-/// Executes the commands in order, and prints the lines of each.
+/// Executes the commands of a list in order, and prints the lines of each.
 fn drive<W: Write>(
     debugger: &mut Debugger<'_, Tables>,
-    commands: &[Command],
+    commands: &mut CommandList<'_>,
     out: &mut W,
 ) -> io::Result<()>
-    ensures { OnOk result ((lines : List ℕ)
-        × Transcript debugger.old commands.now lines debugger.new
+    ensures { OnOk result ((all : List Command) → ListsCommands commands.old all → (lines : List ℕ)
+        × Transcript debugger.old all lines debugger.new
         × Appends (W.contents out.old) (W.contents out.new) lines) }
 {
-    for command in commands {
-        let report = debugger.command(*command);
-        print_report(&report, out)?;
-        print_shown(*command, debugger, out)?;
+    while let Some(command) = commands.next() {
+        match run_command(debugger, &command, out) {
+            Ok(()) => {}
+            Err(error) => return Err(error),
+        }
     }
     Ok(())
+}
+
+/// Executes a command, and prints its lines.
+fn run_command<W: Write>(
+    debugger: &mut Debugger<'_, Tables>,
+    command: &Command,
+    out: &mut W,
+) -> io::Result<()>
+    ensures { OnOk result ((r : Report) × Answers debugger.old command.now debugger.new r
+        × Appends (W.contents out.old) (W.contents out.new)
+        (report_lines r ++ shown_lines command.now debugger.new.announcements)) }
+{
+    let report = debugger.command(*command);
+    print_report(&report, out)?;
+    print_shown(*command, debugger, out)
 }
 
 /// Prints the line of a report, and `break` if the break line was reached.

@@ -65,12 +65,41 @@ impl Display for JsonEnding<'_, '_> {
     }
 }
 
-/// Standard error as a message sink. Its model records no message, and one that can't be written is lost. Each message
-/// is written at once.
+/// The most messages that are held.
+const MOST_HELD: usize = 64;
+
+/// A message in place of one that is not held yet.
+const NO_MESSAGE: Message = Message::Passed { frame: 0, count: 0 };
+
+/// Standard error as a message sink. Its model records no message, and one that can't be written is lost. Messages are
+/// written when they are released.
 #[derive(Drop)]
 struct StandardError<'a, F> {
     files: &'a mut F,
     json: bool,
+    messages: [Message; 64],
+    held: usize,
+}
+
+impl<'a, F: Files> StandardError<'a, F> {
+    /// Standard error, with no message held.
+    fn new(files: &'a mut F, json: bool) -> Self {
+        StandardError {
+            files,
+            json,
+            messages: [NO_MESSAGE; MOST_HELD],
+            held: 0,
+        }
+    }
+
+    /// Writes a message.
+    fn show(&mut self, message: Message) {
+        if self.json {
+            self.files.report(JsonMessage(message));
+        } else {
+            self.files.report(message);
+        }
+    }
 }
 
 impl<F: Files> Messages for StandardError<'_, F> {
@@ -78,19 +107,29 @@ impl<F: Files> Messages for StandardError<'_, F> {
 
     ghost reported = { λ _. None };
 
-    fn report(&mut self, message: Message) {
-        if self.json {
-            self.files.report(JsonMessage(message));
-        } else {
-            self.files.report(message);
-        }
+    ghost held = { λ s. s.held };
+
+    fn has_room(&self) -> bool {
+        self.held <= MOST_HELD - 4
     }
 
-    fn release(&mut self) {}
+    fn report(&mut self, message: Message) {
+        self.messages[self.held] = message;
+        self.held += 1;
+    }
+
+    fn release(&mut self) {
+        let messages = self.messages;
+        for message in messages.iter().take(self.held) {
+            self.show(*message);
+        }
+        self.held = 0;
+    }
 }
 
 /// Plays the code over standard input, line by line, to its end. The frames are written to `out` and flushed before
-/// the next line is read, as in [`live`](plan_live::live); messages go to standard error.
+/// the next line is read, as in [`live`](plan_live::live); messages go to standard error after the frames of their line,
+/// and those of a line that is not played to its end after the run.
 ///
 /// # Errors
 ///
@@ -118,12 +157,13 @@ pub fn play_live<'a, F: Files, W: Write>(
     let Ok(reader) = BufReader::new(alloc, input) else {
         return Err(LiveEnding::Failed(Failure::Memory));
     };
-    let mut messages = StandardError {
-        files,
-        json: request.json,
+    let mut messages = StandardError::new(files, request.json);
+    let ended = {
+        let mut ends = Streams::new(reader, out, &mut messages);
+        drive_code(alloc, code.as_slice(), request, &mut ends)
     };
-    let mut ends = Streams::new(reader, out, &mut messages);
-    match drive_code(alloc, code.as_slice(), request, &mut ends) {
+    messages.release();
+    match ended {
         Ok(()) => Ok(()),
         Err(fault) => {
             if has_no_code_memory(&fault) {

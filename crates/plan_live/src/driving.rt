@@ -1,6 +1,6 @@
 //! Drives a player line by line.
 
-ghost use Rattle.std.specs.Prelude.{◌≡◌, ◌≤◌, length, true, OnOk, IfErr};
+ghost use Rattle.std.specs.Prelude.{◌≡◌, ◌<◌, ◌≤◌, length, true, OnOk, IfErr};
 ghost use Rattle.plan_live.specs.Going.{LineWent, LineStops};
 ghost use Rattle.plan_live.specs.Living.{streamed, Whole, StoppedBy, IsPrompt, HasFailed};
 
@@ -28,6 +28,7 @@ fn take_line<'a, S: Store, E: Ends>(
 ) -> Result<(), Stop>
     requires short { length line.now ≤ 65536 }
     requires flushed { E.is_flushed ends.old ≡ true }
+    requires room { E.held ends.old < 64 }
     ensures done { OnOk result (LineWent options.skip options.wanted
         player.old made.old number line.now player.new made.new
         (streamed (E.left ends.old) (E.written ends.old) (E.reported ends.old))
@@ -58,7 +59,9 @@ fn take_line<'a, S: Store, E: Ends>(
 
 /// Drives a player with the lines of an input to its end. The steps that a line lists are played before the next line
 /// is read: the bytes of their frames are written, except the first `skip` frames of the run, and flushed. A line that
-/// lists no steps does nothing and is reported. No more memory is allocated than the steps of one line need.
+/// lists no steps does nothing and is reported. No more memory is allocated than the steps of one line need. Messages are
+/// delivered after the frames of their line; if they are too many to be held, the earlier ones after the frames up to
+/// there, which are flushed first. Those held when the run ends are left to the caller to release.
 ///
 /// # Errors
 ///

@@ -1,6 +1,6 @@
 //! The three streams of a live run, as traits: lines in, bytes out, and messages.
 
-ghost use Rattle.std.specs.Prelude.{◌≡◌, ◌<◌, ◌≤◌, ℕ, List, ◌∷◌, [], length, take, true, false, OnOk, OnErr, IfErr};
+ghost use Rattle.std.specs.Prelude.{◌≡◌, ◌+◌, ◌<◌, ◌≤◌, ℕ, List, ◌∷◌, [], length, take, true, false, OnOk, OnErr, IfErr};
 ghost use Rattle.std.specs.Io.KnownBytes.{Appends, Keeps, IsAtEnd};
 ghost use Rattle.console.specs.Lines.{GivesLine};
 ghost use Rattle.console.specs.declared.lines.Heard.TheVariants.{Line as IsLine, Long as IsLong, End as IsEnd, Failed as IsFailed};
@@ -11,25 +11,35 @@ use crate::message::Message;
 use arrayvec::ArrayVec;
 use console::lines::Heard;
 
-/// A message sink. A message that can't be delivered is lost.
+/// A message sink, which holds up to 64 messages. A message that can't be delivered is lost.
 pub trait Messages {
-    ghost use Rattle.std.specs.Prelude.{◌≡◌, List, Option};
+    ghost use Rattle.std.specs.Prelude.{ℕ, ◌≡◌, ◌+◌, ◌<◌, ◌≤◌, true, List, Option};
     ghost use Rattle.plan_live.specs.declared.message.Message.{Message};
 
     /// The messages so far, if known.
     ghost reported: { Self → Option (List Message) };
 
-    /// Takes a message. It may be delivered later, up to the next release.
-    fn report(&mut self, message: Message)
-        ensures { Grows (reported self.old) (reported self.new) (message ∷ []) };
+    /// The number of messages that are held.
+    ghost held: { Self → ℕ };
 
-    /// Delivers all messages taken so far.
+    /// Whether four more messages can be held, the most of a frame.
+    fn has_room(&self) -> bool
+        ensures { result ≡ true → held self.now + 4 ≤ 64 };
+
+    /// Holds a message until the next release.
+    fn report(&mut self, message: Message)
+        requires room { held self.old < 64 }
+        ensures reported { Grows (reported self.old) (reported self.new) (message ∷ []) }
+        ensures held { held self.new ≡ held self.old + 1 };
+
+    /// Delivers all messages held, in order.
     fn release(&mut self)
-        ensures { reported self.new ≡ reported self.old };
+        ensures reported { reported self.new ≡ reported self.old }
+        ensures none { held self.new ≡ 0 };
 }
 
-/// The three streams of a live run: an input of lines, an output of bytes, and a sink of messages. No line is read
-/// before the output is flushed.
+/// The three streams of a live run: an input of lines, an output of bytes, and a sink of messages. Messages are held,
+/// and neither are they delivered nor is a line read before the output is flushed.
 pub trait Ends {
     ghost use Rattle.std.specs.Prelude.{ℕ, List, Option, Bool};
     ghost use Rattle.plan_live.specs.declared.message.Message.{Message};
@@ -44,6 +54,9 @@ pub trait Ends {
     /// The messages so far, if known.
     ghost reported: { Self → Option (List Message) };
 
+    /// The number of messages that are held.
+    ghost held: { Self → ℕ };
+
     /// Whether the output is flushed.
     ghost is_flushed: { Self → Bool };
 
@@ -56,8 +69,8 @@ pub trait Ends {
     /// Whether a write to the output or a flush of it has failed.
     ghost output_failed: { Self → Bool };
 
-    /// Reads up to the next line feed and no byte further, and puts the line, without its line feed, into `line`. With
-    /// any result but `Line` the content of `line` is unspecified.
+    /// Delivers all messages held; then reads up to the next line feed and no byte further, and puts the line, without
+    /// its line feed, into `line`. With any result but `Line` the content of `line` is unspecified.
     fn next(&mut self, line: &mut ArrayVec<u8, 65536>) -> Heard
         requires flushed { is_flushed self.old ≡ true }
         ensures line { result ≡ IsLine → GivesLine (left self.old) line.new.items (left self.new) }
@@ -70,6 +83,7 @@ pub trait Ends {
         ensures moments { Grows (moments self.old) (moments self.new)
             (streamed (left self.old) (written self.old) (reported self.old) ∷ []) }
         ensures flushed { is_flushed self.new ≡ true }
+        ensures none { held self.new ≡ 0 }
         ensures written { written self.new ≡ written self.old }
         ensures reported { reported self.new ≡ reported self.old };
 
@@ -82,6 +96,7 @@ pub trait Ends {
         ensures failed { OnErr result (output_failed self.new ≡ true) }
         ensures moments { moments self.new ≡ moments self.old }
         ensures left { left self.new ≡ left self.old }
+        ensures held { held self.new ≡ held self.old }
         ensures reported { reported self.new ≡ reported self.old };
 
     /// Flushes the output, and returns whether that succeeded.
@@ -91,13 +106,30 @@ pub trait Ends {
         ensures written { Keeps (written self.old) (written self.new) }
         ensures moments { moments self.new ≡ moments self.old }
         ensures left { left self.new ≡ left self.old }
+        ensures held { held self.new ≡ held self.old }
         ensures reported { reported self.new ≡ reported self.old };
 
-    /// Takes a message.
+    /// Whether four more messages can be held, the most of a frame.
+    fn has_room(&self) -> bool
+        ensures { result ≡ true → held self.now + 4 ≤ 64 };
+
+    /// Holds a message until the next release.
     fn report(&mut self, message: Message)
+        requires room { held self.old < 64 }
         ensures reported { Grows (reported self.old) (reported self.new) (message ∷ []) }
+        ensures held { held self.new ≡ held self.old + 1 }
         ensures moments { moments self.new ≡ moments self.old }
         ensures flushed { is_flushed self.new ≡ is_flushed self.old }
+        ensures written { written self.new ≡ written self.old }
+        ensures left { left self.new ≡ left self.old };
+
+    /// Delivers all messages held, in order.
+    fn release(&mut self)
+        requires flushed { is_flushed self.old ≡ true }
+        ensures none { held self.new ≡ 0 }
+        ensures reported { reported self.new ≡ reported self.old }
+        ensures moments { moments self.new ≡ moments self.old }
+        ensures flushed { is_flushed self.new ≡ true }
         ensures written { written self.new ≡ written self.old }
         ensures left { left self.new ≡ left self.old };
 }

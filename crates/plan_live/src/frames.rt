@@ -1,6 +1,6 @@
 //! Makes and writes the frames of steps.
 
-ghost use Rattle.std.specs.Prelude.{◌≡◌, ◌-◌, ◌<◌, ◌≤◌, [], ◌∷◌, length, take, true, replicate, OnOk, OnErr, IfErr};
+ghost use Rattle.std.specs.Prelude.{◌≡◌, ◌+◌, ◌-◌, ◌<◌, ◌≤◌, [], ◌∷◌, length, take, true, replicate, OnOk, OnErr, IfErr};
 ghost use Rattle.std.specs.List.{AllByRecursion};
 ghost use Rattle.std.specs.Io.KnownBytes.{Appends, Keeps};
 ghost use Rattle.plan_runs.specs.declared.event.Event.TheVariants.{Frame};
@@ -38,6 +38,7 @@ fn put<E: Ends>(bytes: &[u8], number: u64, skip: u32, ends: &mut E) -> Result<()
     ensures failed { OnErr result (E.output_failed ends.new ≡ true) }
     ensures moments { E.moments ends.new ≡ E.moments ends.old }
     ensures left { E.left ends.new ≡ E.left ends.old }
+    ensures held { E.held ends.new ≡ E.held ends.old }
     ensures reported { E.reported ends.new ≡ E.reported ends.old }
 {
     if number < u64::from(skip) {
@@ -58,6 +59,7 @@ fn write_frame<E: Ends>(bytes: &[u8], made: &mut u64, skip: u32, ends: &mut E) -
     ensures failed { IfErr result (λ stop.
         HasFailed stop (E.input_failed ends.new) (E.output_failed ends.new)) }
     ensures moments { E.moments ends.new ≡ E.moments ends.old }
+    ensures held { E.held ends.new ≡ E.held ends.old }
 {
     let number = *made;
     if number == u64::MAX {
@@ -83,13 +85,59 @@ fn make_frame<'a, S: Store>(player: &mut Player<'a, S>) -> FibFrame
     player.frame()
 }
 
+/// Flushes the output. `Err`: that failed after this many frames were made.
+fn flush_line<E: Ends>(made: u64, skip: u32, ends: &mut E) -> Result<(), Stop>
+    ensures flushed { OnOk result (E.is_flushed ends.new ≡ true) }
+    ensures fault { IfErr result (λ stop. stop ≡ Write (made - skip) 0) }
+    ensures failed { IfErr result (λ stop.
+        HasFailed stop (E.input_failed ends.new) (E.output_failed ends.new)) }
+    ensures moments { E.moments ends.new ≡ E.moments ends.old }
+    ensures written { Keeps (E.written ends.old) (E.written ends.new) }
+    ensures left { E.left ends.new ≡ E.left ends.old }
+    ensures reported { E.reported ends.new ≡ E.reported ends.old }
+{
+    if ends.flush() {
+        Ok(())
+    } else {
+        Err(Stop::Write {
+            frames: written_of(made, skip),
+            bytes: 0,
+        })
+    }
+}
+
+/// Makes room for the messages of a frame: if there is none, the output is flushed, and the messages held are delivered.
+/// `Err`: the flush failed after this many frames were made.
+fn make_room<E: Ends>(made: u64, skip: u32, ends: &mut E) -> Result<(), Stop>
+    ensures room { OnOk result (E.held ends.new + 4 ≤ 64) }
+    ensures fault { IfErr result (λ stop. stop ≡ Write (made - skip) 0) }
+    ensures failed { IfErr result (λ stop.
+        HasFailed stop (E.input_failed ends.new) (E.output_failed ends.new)) }
+    ensures moments { E.moments ends.new ≡ E.moments ends.old }
+    ensures written { Keeps (E.written ends.old) (E.written ends.new) }
+    ensures left { E.left ends.new ≡ E.left ends.old }
+    ensures reported { E.reported ends.new ≡ E.reported ends.old }
+{
+    if ends.has_room() {
+        return Ok(());
+    }
+    match flush_line(made, skip, ends) {
+        Ok(()) => {
+            ends.release();
+            Ok(())
+        }
+        Err(stop) => Err(stop),
+    }
+}
+
 /// Makes the next frame, writes it, and reports its notes.
-fn play_frame<'a, S: Store, E: Ends>(
+fn send_frame<'a, S: Store, E: Ends>(
     player: &mut Player<'a, S>,
     made: &mut u64,
     options: LiveOptions,
     ends: &mut E,
 ) -> Result<(), Stop>
+    requires room { E.held ends.old + 4 ≤ 64 }
     ensures done { OnOk result (Went options.skip options.wanted
         player.old made.old (Frame ∷ []) player.new made.new
         (streamed (E.left ends.old) (E.written ends.old) (E.reported ends.old))
@@ -110,6 +158,34 @@ fn play_frame<'a, S: Store, E: Ends>(
             report_frame(player, before, number, options.wanted, ends);
             Ok(())
         }
+        Err(stop) => Err(stop),
+    }
+}
+
+/// Makes the next frame, writes it, and reports its notes, after those before where there is no room for more.
+fn play_frame<'a, S: Store, E: Ends>(
+    player: &mut Player<'a, S>,
+    made: &mut u64,
+    options: LiveOptions,
+    ends: &mut E,
+) -> Result<(), Stop>
+    ensures done { OnOk result (Went options.skip options.wanted
+        player.old made.old (Frame ∷ []) player.new made.new
+        (streamed (E.left ends.old) (E.written ends.old) (E.reported ends.old))
+        (streamed (E.left ends.new) (E.written ends.new) (E.reported ends.new))) }
+    ensures stopped { IfErr result (λ stop. StopsIn options.skip options.wanted
+        player.old made.old (Frame ∷ [])
+        (streamed (E.left ends.old) (E.written ends.old) (E.reported ends.old))
+        (streamed (E.left ends.new) (E.written ends.new) (E.reported ends.new)) stop) }
+    ensures failed { IfErr result (λ stop.
+        HasFailed stop (E.input_failed ends.new) (E.output_failed ends.new)) }
+    ensures moments { E.moments ends.new ≡ E.moments ends.old }
+{
+    match make_room(*made, options.skip, ends) {
+        Ok(()) => match send_frame(player, made, options, ends) {
+            Ok(()) => Ok(()),
+            Err(stop) => Err(stop),
+        },
         Err(stop) => Err(stop),
     }
 }
@@ -200,27 +276,6 @@ fn play_steps<'a, S: Store, E: Ends>(
         }
     }
     Ok(())
-}
-
-/// Flushes the output. `Err`: that failed after this many frames were made.
-fn flush_line<E: Ends>(made: u64, skip: u32, ends: &mut E) -> Result<(), Stop>
-    ensures flushed { OnOk result (E.is_flushed ends.new ≡ true) }
-    ensures fault { IfErr result (λ stop. stop ≡ Write (made - skip) 0) }
-    ensures failed { IfErr result (λ stop.
-        HasFailed stop (E.input_failed ends.new) (E.output_failed ends.new)) }
-    ensures moments { E.moments ends.new ≡ E.moments ends.old }
-    ensures written { Keeps (E.written ends.old) (E.written ends.new) }
-    ensures left { E.left ends.new ≡ E.left ends.old }
-    ensures reported { E.reported ends.new ≡ E.reported ends.old }
-{
-    if ends.flush() {
-        Ok(())
-    } else {
-        Err(Stop::Write {
-            frames: written_of(made, skip),
-            bytes: 0,
-        })
-    }
 }
 
 /// Plays the steps of a line, and flushes the output.

@@ -1,6 +1,6 @@
 //! The notes of a frame: a swap, the start of a notice, the end, and how far the run is.
 
-ghost use Rattle.std.specs.Prelude.{◌≡◌, ◌<◌, ℕ, ◌∷◌, [], Option, if◌then◌else◌};
+ghost use Rattle.std.specs.Prelude.{◌≡◌, ◌+◌, ◌<◌, ◌≤◌, ℕ, ◌∷◌, [], Option, if◌then◌else◌};
 ghost use Rattle.plan_code.specs.Machine.{State};
 ghost use Rattle.plan_runs.specs.declared.event.Event.TheVariants.{Frame};
 ghost use Rattle.plan_runs.specs.Frames.{is_first_noticed, left_after_frame, with_next_counts};
@@ -54,8 +54,10 @@ pub(crate) fn look_at<S: Store>(player: &Player<'_, S>) -> Look
 
 /// Reports a swap, if one is due.
 fn report_swap<E: Ends>(before: Look, frame: u64, ends: &mut E)
+    requires room { E.held ends.old < 64 }
     ensures reported { (s : State) → before ≡ look_of s →
         Grows (E.reported ends.old) (E.reported ends.new) (swap_note frame s) }
+    ensures held { E.held ends.new ≤ E.held ends.old + 1 }
     ensures flushed { E.is_flushed ends.new ≡ E.is_flushed ends.old }
     ensures moments { E.moments ends.new ≡ E.moments ends.old }
     ensures written { E.written ends.new ≡ E.written ends.old }
@@ -83,8 +85,10 @@ fn begins_notice(notice: u8, left: Option<u16>) -> bool
 
 /// Reports that a notice begins with the last frame, which had this count.
 fn report_notice<S: Store, E: Ends>(player: &Player<'_, S>, count: u16, frame: u64, ends: &mut E)
+    requires room { E.held ends.old < 64 }
     ensures reported { let p = player.now in (t : State) → p.state ≡ with_next_counts p.code.plan t →
         Grows (E.reported ends.old) (E.reported ends.new) (notice_note frame count p.code.plan t) }
+    ensures held { E.held ends.new ≤ E.held ends.old + 1 }
     ensures flushed { E.is_flushed ends.new ≡ E.is_flushed ends.old }
     ensures moments { E.moments ends.new ≡ E.moments ends.old }
     ensures written { E.written ends.new ≡ E.written ends.old }
@@ -104,8 +108,10 @@ fn report_notice<S: Store, E: Ends>(player: &Player<'_, S>, count: u16, frame: u
 
 /// Reports the end of the plan, if it came with the last frame.
 fn report_end<E: Ends>(before: Look, hold: Hold, frame: u64, ends: &mut E)
+    requires room { E.held ends.old < 64 }
     ensures reported { (s t : State) → before ≡ look_of s → hold ≡ t.hold →
         Grows (E.reported ends.old) (E.reported ends.new) (end_note frame s t) }
+    ensures held { E.held ends.new ≤ E.held ends.old + 1 }
     ensures flushed { E.is_flushed ends.new ≡ E.is_flushed ends.old }
     ensures moments { E.moments ends.new ≡ E.moments ends.old }
     ensures written { E.written ends.new ≡ E.written ends.old }
@@ -121,9 +127,11 @@ fn report_end<E: Ends>(before: Look, hold: Hold, frame: u64, ends: &mut E)
 
 /// Reports the notes of the last frame of a player, which had this number in the run, given the state before it.
 fn report_notes<S: Store, E: Ends>(player: &Player<'_, S>, before: Look, frame: u64, ends: &mut E)
+    requires room { E.held ends.old + 3 ≤ 64 }
     ensures reported { (s t : State) → before ≡ look_of s
         → player.now.state ≡ with_next_counts player.now.code.plan t →
         Grows (E.reported ends.old) (E.reported ends.new) (notes_between frame player.now.code.plan s t) }
+    ensures held { E.held ends.new ≤ E.held ends.old + 3 }
     ensures flushed { E.is_flushed ends.new ≡ E.is_flushed ends.old }
     ensures moments { E.moments ends.new ≡ E.moments ends.old }
     ensures written { E.written ends.new ≡ E.written ends.old }
@@ -143,9 +151,11 @@ fn report_status<S: Store, E: Ends>(
     status: bool,
     ends: &mut E,
 )
+    requires room { E.held ends.old + 3 ≤ 64 }
     ensures reported { (p : Playing) → player.now ≡ played p (Frame ∷ []) → before ≡ look_of p.state →
         Grows (E.reported ends.old) (E.reported ends.new)
         (if status then frame_notes frame p.code p.state else []) }
+    ensures held { E.held ends.new ≤ E.held ends.old + 3 }
     ensures flushed { E.is_flushed ends.new ≡ E.is_flushed ends.old }
     ensures moments { E.moments ends.new ≡ E.moments ends.old }
     ensures written { E.written ends.new ≡ E.written ends.old }
@@ -158,9 +168,11 @@ fn report_status<S: Store, E: Ends>(
 
 /// Reports the frame of this number, if it is the last of as many as are asked for.
 fn report_passed<E: Ends>(before: Look, frame: u64, every: u32, ends: &mut E)
-    requires { frame < 18446744073709551615 }
+    requires number { frame < 18446744073709551615 }
+    requires room { E.held ends.old < 64 }
     ensures reported { (s : State) → before ≡ look_of s →
         Grows (E.reported ends.old) (E.reported ends.new) (every_note every frame s) }
+    ensures held { E.held ends.new ≤ E.held ends.old + 1 }
     ensures flushed { E.is_flushed ends.new ≡ E.is_flushed ends.old }
     ensures moments { E.moments ends.new ≡ E.moments ends.old }
     ensures written { E.written ends.new ≡ E.written ends.old }
@@ -186,7 +198,8 @@ pub(crate) fn report_frame<S: Store, E: Ends>(
     wanted: Wanted,
     ends: &mut E,
 )
-    requires { frame < 18446744073709551615 }
+    requires number { frame < 18446744073709551615 }
+    requires room { E.held ends.old + 4 ≤ 64 }
     ensures reported { (p : Playing) → player.now ≡ played p (Frame ∷ []) → before ≡ look_of p.state →
         Grows (E.reported ends.old) (E.reported ends.new)
         (notes wanted frame p.code p.state (Frame ∷ [])) }

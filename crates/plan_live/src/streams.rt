@@ -10,7 +10,7 @@ use console::output::write_out;
 use std::io::{Read, Write};
 
 /// The lines of a reader, a writer that is flushed, and a message sink. A write that fails, takes nothing or is
-/// interrupted is not retried. What is known of the reader, the writer and the messages is known of the streams.
+/// interrupted is not retried. What the message sink holds is delivered before a line is read. What is known of the reader, the writer and the messages is known of the streams.
 #[derive(Drop)]
 pub struct Streams<'a, R: Read + Drop, W, M> {
     lines: Lines<R>,
@@ -54,6 +54,8 @@ impl<R: Read + Drop, W: Write, M: Messages> Ends for Streams<'_, R, W, M> {
 
     ghost reported = { λ s. M.reported (messages_of s) };
 
+    ghost held = { λ s. M.held (messages_of s) };
+
     ghost is_flushed = { λ s. s.is_flushed };
 
     ghost moments = { λ _. None };
@@ -62,7 +64,6 @@ impl<R: Read + Drop, W: Write, M: Messages> Ends for Streams<'_, R, W, M> {
 
     ghost output_failed = { λ s. s.output_failed };
 
-    /// All messages of the lines before are delivered first.
     fn next(&mut self, line: &mut ArrayVec<u8, 65536>) -> Heard {
         self.messages.release();
         let heard = self.lines.next(line);
@@ -98,7 +99,15 @@ impl<R: Read + Drop, W: Write, M: Messages> Ends for Streams<'_, R, W, M> {
         }
     }
 
+    fn has_room(&self) -> bool {
+        self.messages.has_room()
+    }
+
     fn report(&mut self, message: Message) {
         self.messages.report(message);
+    }
+
+    fn release(&mut self) {
+        self.messages.release();
     }
 }

@@ -6,6 +6,8 @@ mod ItemTexts
 mod KeptTexts
 mod KeptVectors
 mod Listed
+mod ListingVectors
+mod OneByOne
 mod Readings
 pub mod Requests
 mod StepLexemes

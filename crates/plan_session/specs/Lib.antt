@@ -4,6 +4,7 @@ pub mod Events
 pub mod Gathered
 pub mod Items
 pub mod Kept
+pub mod Listing
 pub mod Parts
 pub mod Playback
 pub mod Keywords

@@ -21,7 +21,6 @@ const FIB: usize = 32;
 
 /// [`play`] through a buffer. Returns the sink, too.
 fn play_into<K: Sink>(
-    alloc: Global,
     code: &Verified,
     start: Start,
     events: &str,
@@ -45,7 +44,7 @@ fn play_into<K: Sink>(
     plan_runs::laws::headline();
     plan_runs::laws::reached();
     let mut buffer = Buffer::new(out);
-    match play(alloc, code, start, events, &mut buffer) {
+    match play(code, start, events, &mut buffer) {
         Ok(frames) => {
             if buffer.deliver() {
                 return (Ok(frames), buffer.into_inner());
@@ -107,5 +106,5 @@ pub fn run_into<K: Sink>(
         Err(fault) => return (Err(fault), out),
     };
     let start = start_with(&verified, count, day, contacts);
-    play_into(alloc, &verified, start, events, out)
+    play_into(&verified, start, events, out)
 }

@@ -7,7 +7,7 @@ ghost use Rattle.plan_session.specs.declared.commands.Keyword.{Keyword};
 ghost use Rattle.plan_session.specs.declared.event_fault.EventFault.TheVariants.{Memory};
 ghost use Rattle.plan_session.specs.Commands.{IsCommand, command_lexemes, HoldsCommands};
 ghost use Rattle.plan_session.specs.Kept.{ReportsFirstFault};
-ghost use Rattle.plan_session.specs.Keywords.{keyword_text};
+ghost use Rattle.plan_session.specs.Keywords.{keyword_text, tokens_after};
 
 use crate::command::Command;
 use crate::event_fault::EventFault;
@@ -41,6 +41,17 @@ fn keyword_of(word: &[u8]) -> Option<Keyword>
         b"clear" => Some(Keyword::Clear),
         b"show" => Some(Keyword::Show),
         _ => None,
+    }
+}
+
+/// The number of tokens after a keyword.
+fn tokens_after(keyword: Keyword) -> usize
+    ensures { result ≡ tokens_after keyword }
+{
+    match keyword {
+        Keyword::Contact => 2,
+        Keyword::Run | Keyword::Break => 1,
+        Keyword::Next | Keyword::Clear | Keyword::Show => 0,
     }
 }
 
@@ -78,6 +89,13 @@ impl Item for Command {
     ghost is_item = { IsCommand };
 
     fn uniqueness() {}
+
+    fn further(word: &[u8]) -> usize {
+        match keyword_of(word) {
+            Some(keyword) => tokens_after(keyword),
+            None => 0,
+        }
+    }
 
     fn read(reader: &mut Reader) -> Result<Command, ScriptFault> {
         let Some(word) = reader.peek() else {

@@ -52,6 +52,14 @@ impl Item for Step {
 
     fn uniqueness() {}
 
+    fn further(word: &[u8]) -> usize {
+        match begins_frames(word) {
+            Some(true) => 1,
+            Some(false) => 2,
+            None => 0,
+        }
+    }
+
     fn read(reader: &mut Reader) -> Result<Step, ScriptFault> {
         let Some(word) = reader.peek() else {
             return Err(reader.expected());

@@ -19,7 +19,7 @@ use std::alloc::Global;
 
 /// An item that a text lists, spelled by tokens.
 pub(crate) trait Item: Copy {
-    ghost use Rattle.std.specs.Prelude.{◌≡◌, ◌≢◌, ℕ, List, ◌++◌, IfOk, IfErr};
+    ghost use Rattle.std.specs.Prelude.{◌≡◌, ◌≢◌, ◌≤◌, ℕ, List, ◌∷◌, ◌++◌, length, IfOk, IfErr};
     ghost use Rattle.script_tokens.specs.declared.fault.ScriptFault.TheVariants.{Memory};
     ghost use Rattle.plan_session.specs.Items.{AreUnique, HasLexemes};
 
@@ -33,6 +33,12 @@ pub(crate) trait Item: Copy {
     fn uniqueness()
         ensures unique { AreUnique spelled is_item }
         ensures some { HasLexemes spelled };
+
+    /// The number of tokens after the first one, for an item that begins with this token.
+    fn further(word: &[u8]) -> usize
+        ensures bound { result ≤ 2 }
+        ensures count { (s : Self) (rest : List (List ℕ)) → spelled s ≡ word.now ∷ rest
+            → length rest ≡ result };
 
     /// Reads the next item.
     fn read(reader: &mut Reader) -> Result<Self, ScriptFault>

@@ -2,7 +2,7 @@
 //!
 //! [`typed_code`] loads a code file; [`read_text`] reads the text of an event file or of a command file, keeping no
 //! more of it than the result depends on; [`read_events`] parses an event file into [`Step`]s, [`read_commands`] a
-//! command file into [`Command`]s. [`play`] plays a loaded code over the text of an event file into a sink; [`run`]
+//! command file into [`Command`]s; [`StepList`] and [`CommandList`] give them one by one and keep none. [`play`] plays a loaded code over the text of an event file into a sink; [`run`]
 //! does so from the bytes of a code file, and [`run_into`] too, in large pieces. What a text lists is defined in
 //! `specs/Events.antt` and `specs/Commands.antt`, what is kept of it in `specs/Kept.antt`; a playback, what it delivers
 //! and its faults in `specs/Playback.antt`.
@@ -14,27 +14,32 @@ pub mod buffered;
 mod characters;
 pub mod code_file;
 pub mod command;
+pub mod command_list;
 pub mod commands;
 pub mod event_fault;
 pub mod events;
 mod gathering;
 mod items;
 pub mod laws;
+mod listing;
 pub mod playback;
 mod playing;
 pub mod run_fault;
 pub mod step;
+pub mod step_list;
 pub mod text_fault;
 pub mod text_file;
 
 pub use buffered::run_into;
 pub use code_file::typed_code;
 pub use command::Command;
+pub use command_list::CommandList;
 pub use commands::read_commands;
 pub use event_fault::EventFault;
 pub use events::read_events;
 pub use playback::{play, run};
 pub use run_fault::RunFault;
 pub use step::Step;
+pub use step_list::StepList;
 pub use text_fault::TextFault;
 pub use text_file::read_text;

@@ -7,10 +7,10 @@ ghost use Rattle.plan_session.specs.Events.{events_of};
 ghost use Rattle.plan_session.specs.Playback.{asked, IsPlayback, IsStarted, Delivers, IsRunFault, IsPlayFault, is_write, IsSilent};
 
 use crate::code_file::typed_code;
-use crate::events::read_events;
 use crate::laws;
-use crate::playing::play_steps;
+use crate::playing::play_list;
 use crate::run_fault::RunFault;
+use crate::step_list::StepList;
 use mux_tables::Tables;
 use plan_code::Contacts;
 use plan_player::{Player, Sink, Start};
@@ -35,15 +35,14 @@ pub(crate) fn start_with(code: &Verified, count: u16, day: u32, contacts: Contac
 }
 
 /// Plays a typed code from this start over the events of a text. Each frame is put into the sink, which must not have
-/// failed. Returns the number of frames. A step of many frames takes no more memory than one of a single frame.
+/// failed. Returns the number of frames. No memory is allocated for the steps of the text or their frames.
 ///
 /// # Errors
 ///
 /// The first of these: `Start` if the count is 5000 or more, or the frame of the day 3,600,000 or more; `Events` if the
-/// text is not an event file, or memory for it runs out; `Write` if the sink fails, with what it took. With any other
+/// text is not an event file; `Write` if the sink fails, with what it took. With any other
 /// fault nothing was written.
 pub fn play<K: Sink>(
-    alloc: Global,
     code: &Verified,
     start: Start,
     events: &str,
@@ -67,11 +66,11 @@ pub fn play<K: Sink>(
         Ok(player) => player,
         Err(fault) => return Err(RunFault::Start(fault)),
     };
-    let steps = match read_events(alloc, events) {
+    let mut steps = match StepList::new(events) {
         Ok(steps) => steps,
         Err(fault) => return Err(RunFault::Events(fault)),
     };
-    match play_steps(&mut player, steps.as_slice(), out) {
+    match play_list(&mut player, &mut steps, out) {
         Ok(frames) => Ok(frames),
         Err(cut) => Err(RunFault::Write {
             frames: cut.frames,
@@ -87,7 +86,7 @@ pub fn play<K: Sink>(
 ///
 /// The first of these: `Code` if the bytes are not a code file, or memory for it runs out; `Refused` if the code is not
 /// typed; `Start` if the count is 5000 or more, or the frame of the day 3,600,000 or more; `Events` if the text is not
-/// an event file, or memory for it runs out; `Write` if the sink fails, with what it took. With any other fault nothing
+/// an event file; `Write` if the sink fails, with what it took. With any other fault nothing
 /// was written.
 pub fn run<K: Sink>(
     alloc: Global,
@@ -114,5 +113,5 @@ pub fn run<K: Sink>(
 {
     let verified = typed_code(alloc, code)?;
     let start = start_with(&verified, count, day, contacts);
-    play(alloc, &verified, start, events, out)
+    play(&verified, start, events, out)
 }

@@ -1,12 +1,14 @@
-//! Playing the steps of an event file into a sink.
+//! Playing the steps of an event file into a sink, one by one.
 
-ghost use Rattle.std.specs.Prelude.{◌≡◌, false, true, replicate, IfOk, OnOk, IfErr, OnErr};
-ghost use Rattle.std.specs.List.{AllByRecursion};
+ghost use Rattle.std.specs.Prelude.{◌≡◌, List, false, true, replicate, IfOk, OnOk, IfErr, OnErr};
 ghost use Rattle.plan_runs.specs.declared.event.Event.TheVariants.{Frame};
 ghost use Rattle.plan_player.specs.Delivery.{Delivered, Stopped};
-ghost use Rattle.plan_session.specs.Events.{IsStep, events_of_step, events_of};
+ghost use Rattle.plan_session.specs.declared.step.Step.{Step};
+ghost use Rattle.plan_session.specs.Events.{events_of_step, events_of};
+ghost use Rattle.plan_session.specs.Listing.{ListsSteps};
 
 use crate::step::Step;
+use crate::step_list::StepList;
 use mux_config::Store;
 use plan_player::{Event, PlayFault, Player, Sink, play, play_frames};
 
@@ -86,24 +88,24 @@ fn play_step<'a, S: Store, K: Sink>(
     }
 }
 
-/// Plays steps, one after another.
-pub(crate) fn play_steps<'a, S: Store, K: Sink>(
+/// Plays the steps of a list, one after another.
+pub(crate) fn play_list<'a, S: Store, K: Sink>(
     player: &mut Player<'a, S>,
-    steps: &[Step],
+    steps: &mut StepList<'_>,
     sink: &mut K,
 ) -> Result<u128, Cut>
     requires working { K.has_failed sink.old ≡ false }
-    requires steps { AllByRecursion IsStep steps.now }
-    ensures done { IfOk result (λ n. Delivered player.old player.new (events_of steps.now)
-        (K.taken sink.old) (K.taken sink.new) n) }
+    ensures done { IfOk result (λ n. (all : List Step) → ListsSteps steps.old all
+        → Delivered player.old player.new (events_of all) (K.taken sink.old) (K.taken sink.new) n) }
     ensures works { OnOk result (K.has_failed sink.new ≡ false) }
-    ensures stopped { IfErr result (λ cut. Stopped player.old player.new (events_of steps.now)
-        (K.taken sink.old) (K.taken sink.new) cut.frames cut.bytes) }
+    ensures stopped { IfErr result (λ cut. (all : List Step) → ListsSteps steps.old all
+        → Stopped player.old player.new (events_of all) (K.taken sink.old) (K.taken sink.new)
+        cut.frames cut.bytes) }
     ensures fails { OnErr result (K.has_failed sink.new ≡ true) }
 {
     let mut frames = 0u128;
-    for step in steps {
-        match play_step(player, *step, sink) {
+    while let Some(step) = steps.next() {
+        match play_step(player, step, sink) {
             Ok(made) => frames += made,
             Err(cut) => {
                 return Err(Cut {

@@ -8,6 +8,7 @@ pub mod KindTable
 mod Lexing
 mod Numerals
 pub mod Pieces
+pub mod Scanning
 pub mod Spans
 mod Vectors
 pub mod Wording

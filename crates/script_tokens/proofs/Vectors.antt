@@ -1,11 +1,13 @@
 -- Short texts that have tokens, and some that have none.
 use Rattle.std.proofs.Common.{◌≡◌, List, [], ◌∷◌, refl, arith, Ok}
-use Rattle.std.specs.Prelude.{Result}
+use Rattle.std.specs.Prelude.{Result, None, Some}
 use Rattle.script_tokens.specs.declared.token.Token.{Token}
+use Rattle.script_tokens.specs.declared.token.Place.{Place}
 use Rattle.script_tokens.specs.declared.fault.ScriptFault.{ScriptFault}
 use Rattle.script_tokens.specs.declared.fault.ScriptFault.TheVariants.{Byte}
 use Rattle.script_tokens.specs.Bytes.{first_position, token_at}
 use Rattle.script_tokens.specs.Lexing.{lexed}
+use Rattle.script_tokens.specs.Scanning.{Scan, FindsNext, tokens_left}
 use Rattle.script_tokens.specs.Texts.{AreTokens, script_limits}
 use Rattle.script_tokens.proofs.Pieces.{texts_are_cut, cut_into, not_cut}
 
@@ -27,3 +29,24 @@ not_two_atoms t u h =
 no_tokens : (ts : List Token) → AreTokens (64 ∷ []) ts → ⊥
 unfolding lexed
 no_tokens ts h = not_cut script_limits (64 ∷ []) (Byte first_position.position) refl ts h.1
+
+-- ---- one token after another
+
+-- the place before `b` in `a b`
+after_a : Place
+after_a = record { at = 1; position = record { line = 1; column = 2 } }
+
+a_and_b : Place → Scan
+a_and_b place = record { text = 97 ∷ 32 ∷ 98 ∷ []; limits = script_limits; place = place }
+
+-- the first token of `a b` is `a`, and `b` is left
+a_first : FindsNext (a_and_b first_position) (a_and_b after_a) (Ok (Some (token_at first_position 1)))
+unfolding lexed after_a a_and_b
+a_first = (refl, omega arith, omega arith, omega arith)
+
+-- and not the end of the text
+not_the_end : (new : Scan) → FindsNext (a_and_b first_position) new (Ok None) → ⊥
+unfolding lexed a_and_b
+not_the_end new f =
+    let some : tokens_left (a_and_b first_position) ≡ Ok [] = f.0 in
+    absurd cc

@@ -2,6 +2,7 @@ pub mod Bytes
 pub mod First
 pub mod Lexing
 pub mod Reading
+pub mod Scanning
 pub mod Spelling
 pub mod Texts
 pub mod Times

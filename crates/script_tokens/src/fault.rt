@@ -5,7 +5,7 @@ use std::fmt::{self, Display, Formatter, Write};
 use thiserror::Error;
 
 /// A position in a text: its line and its column in bytes, both from 1.
-#[derive(Clone, Copy, Debug, PartialEq, Eq)]
+#[derive(Clone, Copy, Debug, Default, PartialEq, Eq)]
 pub struct Position {
     pub line: usize,
     pub column: usize,

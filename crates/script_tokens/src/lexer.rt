@@ -14,7 +14,7 @@ use crate::kinds::kind_of;
 use crate::token::{Inside, Kind, Limits, MOST_BYTES, Place, SCRIPT_LIMITS, Token};
 use std::alloc::Global;
 
-fn inside_after(inside: Inside, place: Place, kind: Kind) -> Inside
+pub(crate) fn inside_after(inside: Inside, place: Place, kind: Kind) -> Inside
     ensures { result ≡ inside_after inside place kind }
 {
     match kind {
@@ -52,7 +52,7 @@ fn is_quiet(inside: Inside, kind: Kind) -> bool
     }
 }
 
-fn position_after(place: Place, kind: Kind) -> Place
+pub(crate) fn position_after(place: Place, kind: Kind) -> Place
     requires room { place.at + 1 < usize.MAX }
     requires lines { place.position.line ≤ place.at + 1 }
     requires columns { place.position.column ≤ place.at + 1 }
@@ -165,7 +165,7 @@ fn push(
     }
 }
 
-fn fits(limits: Limits, token: Token) -> bool
+pub(crate) fn fits(limits: Limits, token: Token) -> bool
     ensures { result ≡ fits limits token }
 {
     if token.end > token.start.saturating_add(limits.atom) {

@@ -1,7 +1,7 @@
 //! Tokens of scripts, event files and command files, and the values that tokens spell.
 //!
-//! `lex` cuts a script into tokens; `cut` does so for a text with other limits. A `Reader` iterates over the tokens of
-//! a text; each function of `values` reads the next token as a value, and those of `number` give the value that an atom
+//! `lex` cuts a script into tokens; `cut` does so for a text with other limits, and a `Scanner` finds them one by one and
+//! keeps none. A `Reader` iterates over the tokens of a text; each function of `values` reads the next token as a value, and those of `number` give the value that an atom
 //! spells. Begin with `Token` and `Reader`. Which tokens `lex` returns, and which fault, is defined in
 //! `specs/Texts.antt` (`AreTokens`, `IsFirstFault`); how values are spelled, in `specs/Spelling.antt`.
 #![tactic(auto)]
@@ -14,6 +14,7 @@ pub mod laws;
 pub mod lexer;
 pub mod number;
 pub mod reader;
+pub mod scanner;
 pub mod time;
 pub mod token;
 pub mod values;
@@ -24,5 +25,6 @@ pub use keyword::Keyword;
 pub use kinds::kind_of;
 pub use lexer::{cut, lex};
 pub use reader::Reader;
+pub use scanner::Scanner;
 pub use time::TimeOfDay;
 pub use token::{Inside, Kind, Limits, MOST_BYTES, NO_LIMITS, Place, SCRIPT_LIMITS, Token};

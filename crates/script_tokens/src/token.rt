@@ -3,7 +3,7 @@
 use crate::fault::Position;
 
 /// A token of a text: the bytes from `start` to `end`, exclusive, and the position of the first byte.
-#[derive(Clone, Copy, Debug, PartialEq, Eq)]
+#[derive(Clone, Copy, Debug, Default, PartialEq, Eq)]
 pub struct Token {
     pub start: usize,
     pub end: usize,

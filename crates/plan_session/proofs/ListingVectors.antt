@@ -1,0 +1,30 @@
+-- A short text that lists a command, and a list that is not its own.
+use Rattle.std.proofs.Common.{◌≡◌, ℕ, List, [], ◌∷◌, refl}
+use Rattle.std.specs.Prelude.{codes, None, Result, Ok}
+use Rattle.script_tokens.specs.declared.token.TheConstants.{NO_LIMITS}
+use Rattle.script_tokens.specs.declared.fault.ScriptFault.{ScriptFault}
+use Rattle.script_tokens.specs.Bytes.{first_position}
+use Rattle.script_tokens.specs.Lexing.{lexed}
+use Rattle.script_tokens.specs.Scanning.{Scan}
+use Rattle.plan_session.specs.declared.command.Command.TheVariants.{Clear}
+use Rattle.plan_session.specs.Listing.{ListsCommands, TakesCommand}
+
+-- `clear`
+abbrev clear : Scan
+clear = record { text = codes "clear"; limits = NO_LIMITS; place = first_position }
+
+one_is_listed : ListsCommands clear (Clear ∷ [])
+unfolding lexed
+one_is_listed = record { left = refl; in_range = (tt, tt) }
+
+-- the text does not list nothing
+not_none : ListsCommands clear [] → ⊥
+unfolding lexed
+not_none l =
+    let words : Result (List (List ℕ)) ScriptFault = Ok (codes "clear" ∷ []) in
+    let none : words ≡ Ok [] = l.left in
+    absurd cc
+
+-- so it is not at its end
+not_at_the_end : (new : Scan) → TakesCommand clear new None → ⊥
+not_at_the_end new t = let none = t (Clear ∷ []) one_is_listed in absurd (cc none)

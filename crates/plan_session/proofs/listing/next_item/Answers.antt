@@ -1,0 +1,59 @@
+use Rattle.std.specs.Prelude.{slice_range, Option, Some, Ok, Err}
+use Rattle.std.proofs.Common.{◌≡◌, ℕ, List, [], ◌∷◌, ◌++◌, length, ap, subst, sym, refl, ◌∙◌, arith}
+use Rattle.script_tokens.specs.declared.token.Token.{Token}
+use Rattle.script_tokens.specs.Lexing.{added}
+use Rattle.script_tokens.specs.Reading.{lexemes_of}
+use Rattle.script_tokens.specs.Scanning.{FindsNext}
+use Rattle.plan_session.specs.Listing.{ReadsItem}
+use Rattle.plan_session.proofs.OneByOne.{Window, item_found, no_item_found}
+use Rattle.plan_session.proofs.listing.next_item.Goals as goal
+
+pub returns-in-Ok-item_of : goal.returns-in-Ok-item_of
+returns-in-Ok-item_of g c =
+    let spelled = g.T.Item.spelled in
+    let is = g.T.Item.is_item in
+    let text : List ℕ = c.args.scanner.now.text in
+    let first : Token = c.in-Ok-Some.first in
+    let word : List ℕ = slice_range text first.start first.end in
+    let f : FindsNext c.args.scanner.now c.next.new.self (Ok (Some first)) = subst (λ (o : Option Token). FindsNext c.args.scanner.now c.next.new.self (Ok o)) c.in-Ok-Some.field-0-is c.in-Ok-Some.ensures.found in
+    let t = c.in-Ok.ensures in
+    let more : List Token = t.0 in
+    let count : ℕ = c.further-count.result in
+    let window : Window spelled is c.args.scanner.now c.take_tokens.new.scanner first more count word = record {
+      text = t.2.text ∙ c.in-Ok-Some.ensures.same.text;
+      left = f.0 ∙ ap (added first) t.2.left;
+      most = t.2.most;
+      all = t.2.all;
+      word_is = refl;
+      counts = λ item rest e. c.further-count.ensures.count item rest (e ∙ ap (λ (x : List ℕ). slice_range x first.start first.end ∷ rest) (sym c.text-text.ensures));
+    } in
+    let items : c.as_slice.result.now ≡ first ∷ more = c.as_slice.ensures.value ∙ t.1 ∙ ap (λ (l : List Token). l ++ more) (c.push.ensures.items ∙ ap (λ (l : List Token). l ++ first ∷ []) c.new-tokens.ensures) in
+    let lexemes : lexemes_of c.text-text.result.now c.as_slice.result.now ≡ lexemes_of text (first ∷ more) = ap (λ (x : List ℕ). lexemes_of x c.as_slice.result.now) c.text-text.ensures ∙ ap (lexemes_of text) items in
+    let read : ReadsItem spelled is (lexemes_of text (first ∷ more)) (Ok c.in-Ok-item_of.item) = subst (λ (l : List (List ℕ)). ReadsItem spelled is l (Ok c.in-Ok-item_of.item)) lexemes c.in-Ok-item_of.ensures in
+    let found = item_found spelled is c.args.scanner.now c.take_tokens.new.scanner first more count word c.in-Ok-item_of.item c.uniqueness.ensures.some window read in
+    let size = ap (λ (x : List ℕ). length x) c.text-text.ensures in
+    (found.0, found.1, omega (arith, f.3, t.2.bytes), omega (arith, size, c.text-text.type_inv))
+
+pub returns-in-Err-item_of : goal.returns-in-Err-item_of
+returns-in-Err-item_of g c =
+    let spelled = g.T.Item.spelled in
+    let is = g.T.Item.is_item in
+    let text : List ℕ = c.args.scanner.now.text in
+    let first : Token = c.in-Ok-Some.first in
+    let word : List ℕ = slice_range text first.start first.end in
+    let f : FindsNext c.args.scanner.now c.next.new.self (Ok (Some first)) = subst (λ (o : Option Token). FindsNext c.args.scanner.now c.next.new.self (Ok o)) c.in-Ok-Some.field-0-is c.in-Ok-Some.ensures.found in
+    let t = c.in-Ok.ensures in
+    let more : List Token = t.0 in
+    let count : ℕ = c.further-count.result in
+    let window : Window spelled is c.args.scanner.now c.take_tokens.new.scanner first more count word = record {
+      text = t.2.text ∙ c.in-Ok-Some.ensures.same.text;
+      left = f.0 ∙ ap (added first) t.2.left;
+      most = t.2.most;
+      all = t.2.all;
+      word_is = refl;
+      counts = λ item rest e. c.further-count.ensures.count item rest (e ∙ ap (λ (x : List ℕ). slice_range x first.start first.end ∷ rest) (sym c.text-text.ensures));
+    } in
+    let items : c.as_slice.result.now ≡ first ∷ more = c.as_slice.ensures.value ∙ t.1 ∙ ap (λ (l : List Token). l ++ more) (c.push.ensures.items ∙ ap (λ (l : List Token). l ++ first ∷ []) c.new-tokens.ensures) in
+    let lexemes : lexemes_of c.text-text.result.now c.as_slice.result.now ≡ lexemes_of text (first ∷ more) = ap (λ (x : List ℕ). lexemes_of x c.as_slice.result.now) c.text-text.ensures ∙ ap (lexemes_of text) items in
+    let read : ReadsItem spelled is (lexemes_of text (first ∷ more)) (Err c.in-Err-item_of.fault) = subst (λ (l : List (List ℕ)). ReadsItem spelled is l (Err c.in-Err-item_of.fault)) lexemes c.in-Err-item_of.ensures in
+    (read.0, no_item_found spelled is c.args.scanner.now c.take_tokens.new.scanner first more count word c.in-Err-item_of.fault c.uniqueness.ensures.some window read)

@@ -1,0 +1,16 @@
+use Rattle.std.proofs.Common.{length, drop, ◌-◌, ◌≡◌}
+use Rattle.script_tokens.specs.Lexing.{lexed}
+use Rattle.script_tokens.specs.Scanning.{IsPlaceIn}
+use Rattle.script_tokens.specs.declared.token.Inside.TheVariants.{Nothing}
+use Rattle.script_tokens.proofs.Scanning.{IsOpen}
+use Rattle.script_tokens.proofs.scanner.scan.Given as goal
+
+abbrev pub invariant-loop-place : goal.invariant-loop-place
+invariant-loop-place l = record {
+  left : lexed l.limits Nothing l.fn.from (drop l.fn.from.at l.text) ≡ lexed l.limits l.inside l.place (drop l.place.at l.text);
+  place : IsPlaceIn l.text l.place;
+  begun : IsOpen l.fn.from.at l.inside l.place;
+}
+
+abbrev pub decreases-loop-place : goal.decreases-loop-place
+decreases-loop-place l = length l.text - l.place.at
