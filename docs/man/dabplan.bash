@@ -7,11 +7,11 @@ _dabplan() {
   fi
   case $before in
     --mode) COMPREPLY=($(compgen -W "1 2 3 4" -- "$word")); return ;;
-    --budget|--contacts|--count|--day|--ensemble|--every|--notice|--page|--period|--skip|--time) return ;;
+    --budget|--contacts|--count|--day|--ensemble|--every|--notice|--page|--period|--reserve|--skip|--time) return ;;
   esac
   case ${COMP_WORDS[1]} in
-    frame) options="--ensemble --count --page --mode --script --raw --help" ;;
-    listen) options="--json --script --mode --period --notice --budget --help" ;;
+    frame) options="--ensemble --count --page --mode --reserve --script --raw --help" ;;
+    listen) options="--json --script --mode --period --notice --budget --reserve --help" ;;
     check) options="--mode --period --every --time --until-fault --json --help" ;;
     merge) options="--mode --help" ;;
     diff) options="--help" ;;
