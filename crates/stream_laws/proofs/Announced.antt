@@ -88,7 +88,7 @@ part_whole r part rs p c bytes is each shows s all m inside =
 
 -- ---- the frames of the notice
 
-frames_counted : (step : ℕ) (frames : List (List Fib)) (past : List Moment) → frames_ended (after_frames step past frames) ≡ frames_ended past + length frames
+pub frames_counted : (step : ℕ) (frames : List (List Fib)) (past : List Moment) → frames_ended (after_frames step past frames) ≡ frames_ended past + length frames
 frames_counted step [] past = omega arith
 frames_counted step (frame ∷ frames) past =
     let rest = frames_counted step frames (after_frame step past frame) in

@@ -1,5 +1,5 @@
 -- The bytes of a notice's frames announce the change of pictures.
-use Rattle.std.proofs.Common.{◌≡◌, ℕ, ◌<◌, ◌≤◌, ◌%◌, ◌==◌, true, false, cond, List, [], ◌∷◌, ◌++◌, length, take, Contains, Some, refl, sym, ap, ◌∙◌, subst, arith}
+use Rattle.std.proofs.Common.{◌≡◌, ℕ, ◌<◌, ◌≤◌, ◌%◌, ◌==◌, Bool, true, false, cond, List, [], ◌∷◌, ◌++◌, length, take, Contains, Some, refl, sym, ap, ◌∙◌, subst, arith}
 use Rattle.std.specs.Prelude.{map}
 use Rattle.std.specs.List.{AllByRecursion}
 use Rattle.std.proofs.lemmas.Bool.{eqb-true}
@@ -18,7 +18,7 @@ use Rattle.stream_check.specs.Parts.{IsTheMost}
 use Rattle.stream_check.specs.History.{Item, Moment, Said, is_ensemble, ensemble_of, listener_after, last_flags, frames_ended, rows}
 use Rattle.stream_laws.specs.Keeping.{entry_like}
 use Rattle.stream_laws.specs.Notices.{AreFibBytes, read_frames, row_of, last_of}
-use Rattle.stream_laws.specs.Entries.{IsSentNext, IsSentWhole, AnnouncesChange, ChangesAreAnnounced}
+use Rattle.stream_laws.specs.Entries.{IsSent, IsSentWhole, AnnouncesChange, ChangesAreAnnounced}
 use Rattle.stream_laws.proofs.Clean.{all_left, all_right, after_entry, entry_clean}
 use Rattle.stream_laws.proofs.Rows.{notice_rows}
 use Rattle.stream_laws.proofs.Tracking.{IsFormed, AllAnnounce, flagged_rows}
@@ -39,11 +39,11 @@ entry_in k (x ∷ xs) raw e = elim (identifier_of x == k) as (λ t. cond t (Some
   | false ↦ λ is. contains_later x xs raw (entry_in k xs raw is)
 ] e
 
-record IsThere (p : Pictured) (raw : Raw) : Type 0 where
-  inside : Contains (all_entries p) raw
-  small : raw.ext < 4
+pub record IsThere (p : Pictured) (raw : Raw) : Type 0 where
+  pub inside : Contains (all_entries p) raw
+  pub small : raw.ext < 4
 
-there : (p : Pictured) (raw : Raw) → HasKinds p → entry_like raw p ≡ Some raw → IsThere p raw
+pub there : (p : Pictured) (raw : Raw) → HasKinds p → entry_like raw p ≡ Some raw → IsThere p raw
 there p raw k found = elim (raw.ext == 1) as (λ t. (raw.ext == 1) ≡ t → entry_at identifier_of (identifier_of raw) (cond t p.subs (cond (raw.ext == 2) p.services p.packets)) ≡ Some raw → IsThere p raw) [
   | true ↦ λ is f. record {
     inside = Contains-append_left (p.subs ++ p.services) p.packets raw (Contains-append_left p.subs p.services raw (entry_in (identifier_of raw) p.subs raw f));
@@ -63,8 +63,8 @@ there p raw k found = elim (raw.ext == 1) as (λ t. (raw.ext == 1) ≡ t → ent
 ] refl found
 
 -- an entry of the frame is sent in its bytes
-sent : (r : Reading) (fibs : List (List ℕ)) (i : Item) → AreFibBytes fibs → Contains (items_in r fibs) i → i.next ≡ true → IsSentNext (row_of fibs) i.raw
-sent r fibs i all h marked =
+pub sent : (r : Reading) (next : Bool) (fibs : List (List ℕ)) (i : Item) → AreFibBytes fibs → Contains (items_in r fibs) i → i.next ≡ next → IsSent next (row_of fibs) i.raw
+sent r next fibs i all h marked =
     let from = item_from r fibs i h in
     let here : fib_at (row_of fibs) from.inside.0 ≡ from.fib = at_place fibs from.inside.0 from.fib all from.inside.1 ∙ from.inside.2 in
     record {
@@ -74,7 +74,7 @@ sent r fibs i all h marked =
       es = from.es;
       is_fib = subst (λ (b : List ℕ). IsFib b from.figs) (sym here) (read_fib r from.fib from.figs from.read);
       inside = from.fig_in;
-      next = from.next_is ∙ marked;
+      tagged = from.next_is ∙ marked;
       there = subst (λ (x : Raw). Contains (entries_in (Open from.second from.es)) x) from.raw_is (contains_map (raw_of (from.second % 32) (is_long from.second)) from.es from.bytes from.entry_in);
     }
 
@@ -87,7 +87,7 @@ part_sent r part rs p bytes k s all raw known =
     let same : among.item.raw ≡ raw = one_found among.item.raw raw p among.small is.small among.key among.found known in (
       row_of found.0,
       contains_map row_of part found.0 found.1,
-      subst (IsSentNext (row_of found.0)) same (sent r found.0 among.item (each_contains AreFibBytes part found.0 bytes found.1) among.inside among.marked),
+      subst (IsSent true (row_of found.0)) same (sent r true found.0 among.item (each_contains AreFibBytes part found.0 bytes found.1) among.inside among.marked),
     )
 
 reported : (laws : FibLaws) (r : Reading) (notice : List (List (List ℕ))) (past : List Moment) (count : ℕ) → AllByRecursion AreFibBytes notice → IsNoticed past count

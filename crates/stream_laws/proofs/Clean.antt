@@ -43,7 +43,7 @@ items_clean step period (i ∷ is) past room plain clean =
           items_clean step period is (Said i ∷ past) r later (here, e, clean)
     ] refl room plain
 
-told_alone : (at : FrameAt) (ws : List What) → AllByRecursion (λ (found : Finding). IsNoFault found.what) (map (in_frame at) ws) → AllByRecursion IsNoFault ws
+pub told_alone : (at : FrameAt) (ws : List What) → AllByRecursion (λ (found : Finding). IsNoFault found.what) (map (in_frame at) ws) → AllByRecursion IsNoFault ws
 told_alone at [] all = tt
 told_alone at (w ∷ ws) all = (all.0, told_alone at ws all.1)
 
@@ -74,7 +74,7 @@ pub before_said : (P : List Moment → Type 0) → IsHanded P → (items : List 
 before_said P h [] past p = p
 before_said P h (i ∷ is) past p = h.by_entry i past (before_said P h is (Said i ∷ past) p)
 
-before_frames : (P : List Moment → Type 0) → IsHanded P → (step : ℕ) (frames : List (List Fib)) (past : List Moment) → P (after_frames step past frames) → P past
+pub before_frames : (P : List Moment → Type 0) → IsHanded P → (step : ℕ) (frames : List (List Fib)) (past : List Moment) → P (after_frames step past frames) → P past
 before_frames P h step [] past p = p
 before_frames P h step (frame ∷ frames) past p =
     before_said P h (frame_items frame) past (h.by_frame _ (said (frame_items frame) past) (before_frames P h step frames (after_frame step past frame) p))
@@ -99,7 +99,7 @@ after_entry P h step frames past i s p =
     let parted : P (said s.back (Said i ∷ said s.front start)) = subst P (said_twice s.front (i ∷ s.back) start) split in
     subst (λ (l : List Moment). P (Said i ∷ l)) (sym s.past_is) (before_said P h s.back (Said i ∷ said s.front start) parted)
 
-clean_handed : (step period : ℕ) → IsHanded (IsClean step period)
+pub clean_handed : (step period : ℕ) → IsHanded (IsClean step period)
 clean_handed step period = record { by_entry = λ i past c. c.2; by_frame = λ count past c. c }
 
 pub entry_clean : (size step period : ℕ) (frames : List (List Fib)) (past : List Moment) (i : Item) → IsFaultless size step period frames → IsSaidIn step frames past i

@@ -77,7 +77,7 @@ member_room step period past i e t =
     ∙ ap (λ b. b && finds_no_room (lookup_in i.raw (cond i.next (listener_after past).next (listener_after past).current))) t
 
 -- with C/N 0
-current_kept : (step period : ℕ) (past : List Moment) (i : Item) → is_ensemble i ≡ false → (listener_after past).tuned ≡ true → i.next ≡ false
+pub current_kept : (step period : ℕ) (past : List Moment) (i : Item) → is_ensemble i ≡ false → (listener_after past).tuned ≡ true → i.next ≡ false
     → IsClean step period (Said i ∷ past) → IsKept period past i
 current_kept step period past i e t n c =
     let now : Pictured = (listener_after past).current in

@@ -13,6 +13,7 @@ pub mod PictureKinds
 pub mod Shown
 pub mod Announced
 pub mod AnnouncedChange
+pub mod Fronts
 pub mod Cutting
 pub mod Framing
 pub mod InPlace
@@ -32,6 +33,7 @@ pub mod Flagging
 pub mod LastHeard
 pub mod Ages
 pub mod Silence
+pub mod Staying
 pub mod Settling
 pub mod Appearing
 pub mod NextHeard
@@ -44,3 +46,4 @@ pub mod NoFault
 pub mod Merging
 mod Vectors
 mod VectorsOfLaws
+mod VectorsOfPresence

@@ -28,25 +28,25 @@ abbrev flagged : ℕ → Fig
 flagged count = Open 0 ((225 ∷ 197 ∷ 64 ∷ count ∷ 4 ∷ []) ∷ [])
 
 -- with 96 capacity units, and with 72
-abbrev before : List ℕ
+abbrev pub before : List ℕ
 before = 4 ∷ 0 ∷ 136 ∷ 96 ∷ []
 
-abbrev after : List ℕ
+abbrev pub after : List ℕ
 after = 4 ∷ 0 ∷ 136 ∷ 72 ∷ []
 
 abbrev frame_of : List Fig → List Fib
 frame_of figs = Some figs ∷ Some [] ∷ Some [] ∷ []
 
-abbrev first : List Fib
+abbrev pub first : List Fib
 first = frame_of (header 0 ∷ Open 1 (before ∷ []) ∷ [])
 
-abbrev noticed : ℕ → List Fib
+abbrev pub noticed : ℕ → List Fib
 noticed count = frame_of (flagged count ∷ Open 1 (before ∷ []) ∷ Open 129 (after ∷ []) ∷ [])
 
-abbrev swapped : List Fib
+abbrev pub swapped : List Fib
 swapped = frame_of (header 4 ∷ Open 1 (after ∷ []) ∷ [])
 
-abbrev stream : List (List Fib)
+abbrev pub stream : List (List Fib)
 stream = first ∷ noticed 1 ∷ noticed 2 ∷ noticed 3 ∷ swapped ∷ []
 
 faultless : IsFaultless 3 1 250 stream

@@ -23,7 +23,7 @@ use Rattle.plan_runs.specs.declared.event.Event.TheVariants.{Frame}
 use Rattle.plan_runs.specs.Frames.{is_due}
 use Rattle.stream_laws.specs.Faultless.{IsSaidIn}
 use Rattle.stream_laws.specs.Notices.{IsFibBytes, AreFibBytes, IsCutOf}
-use Rattle.stream_laws.specs.Entries.{IsSentNext, IsSentWhole, AnnouncesChange}
+use Rattle.stream_laws.specs.Entries.{IsSent, IsSentWhole, AnnouncesChange}
 use Rattle.stream_laws.specs.Framing.{frames_of}
 use Rattle.stream_laws.specs.InPlace.{is_of_frame, IsInPlace}
 use Rattle.stream_laws.specs.Agreeing.{is_of_word, KeepsWord}
@@ -69,7 +69,7 @@ a_frame = refl
 
 -- ---- announcements
 
-sent_nowhere : FibHas32Bytes → (raw : Raw) → IsSentNext [] raw → ⊥
+sent_nowhere : FibHas32Bytes → (raw : Raw) → IsSent true [] raw → ⊥
 sent_nowhere size raw s =
     let bytes : fib_at [] s.place ≡ [] = empty s.place in
     let wrong : 0 ≡ 32 = sym (ap length bytes) ∙ size (fib_at [] s.place) s.figs s.is_fib in

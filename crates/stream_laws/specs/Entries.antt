@@ -15,20 +15,20 @@ use Rattle.stream_laws.specs.Faultless.{IsFaultless, IsSaidIn}
 use Rattle.stream_laws.specs.Keeping.{entry_like}
 use Rattle.stream_laws.specs.Notices.{AreFibBytes, read_frames, notice_frames}
 
--- the entry is in a FIB of this row of FIBs, with C/N 1
-pub record IsSentNext (row : List ℕ) (raw : Raw) : Type 0 where
+-- the entry is in a FIB of this row of FIBs, with this C/N flag
+pub record IsSent (next : Bool) (row : List ℕ) (raw : Raw) : Type 0 where
   pub place : ℕ
   pub figs : List Fig
   pub second : ℕ
   pub es : List (List ℕ)
   pub is_fib : IsFib (fib_at row place) figs
   pub inside : Contains figs (Open second es)
-  pub next : is_next second ≡ true
+  pub tagged : is_next second ≡ next
   pub there : Contains (entries_in (Open second es)) raw
 
 -- each entry of the picture is sent with C/N 1 in one of these frames
 abbrev pub IsSentWhole : Pictured → List (List ℕ) → Type 0
-IsSentWhole p frames = (raw : Raw) → entry_like raw p ≡ Some raw → (frame : List ℕ) × Contains frames frame × IsSentNext frame raw
+IsSentWhole p frames = (raw : Raw) → entry_like raw p ≡ Some raw → (frame : List ℕ) × Contains frames frame × IsSent true frame raw
 
 -- these frames announce the change from one picture to another at this count
 pub record AnnouncesChange (now next : Pictured) (count : ℕ) (heard : List (List ℕ)) : Type 0 where

@@ -3,6 +3,7 @@ pub mod Keeping
 pub mod Notices
 pub mod Entries
 pub mod Announcing
+pub mod Staying
 pub mod Framing
 pub mod InPlace
 pub mod Agreeing

@@ -14,6 +14,7 @@ ghost use Rattle.stream_laws.specs.Naming.{SwapsAreNamed};
 ghost use Rattle.stream_laws.specs.Notices.{FramesAreOfBytes};
 ghost use Rattle.stream_laws.specs.Sorts.{RunsAreKnown, RunsAreNeverSilent, RunsFlagTheChange};
 ghost use Rattle.stream_laws.specs.Sorts.{RunsRepeatTheNext};
+ghost use Rattle.stream_laws.specs.Staying.{CurrentIsSent, CurrentStays};
 ghost use Rattle.stream_laws.specs.Times.{RunsAreTimely};
 
 /// The law of the current configuration: in a stream without a fault, each entry with C/N 0 agrees
@@ -21,6 +22,15 @@ ghost use Rattle.stream_laws.specs.Times.{RunsAreTimely};
 /// in that picture from the frame on in which the current configuration is settled.
 pub fn current()
     ensures { CurrentIsKept }
+{}
+
+/// The law of presence: in a stream without a fault, only a swap takes an entry out of the current
+/// configuration, or changes it; and each of its entries is in the bytes of any N successive frames
+/// without a swap, with C/N 0, where N is the period of the checker, 1 or more. So no entry is
+/// removed without a swap.
+pub fn presence()
+    ensures stays { CurrentStays }
+    ensures sent { CurrentIsSent }
 {}
 
 /// The law of swaps: in a stream without a fault, at each swap, unless the beginning of its notice
