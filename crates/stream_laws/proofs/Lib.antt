@@ -14,6 +14,7 @@ pub mod Shown
 pub mod Announced
 pub mod AnnouncedChange
 pub mod Fronts
+pub mod OwnUnits
 pub mod Cutting
 pub mod Framing
 pub mod InPlace

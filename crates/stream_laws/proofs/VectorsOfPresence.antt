@@ -2,8 +2,11 @@
 -- hold and examples that fail.
 use Rattle.std.proofs.Common.{◌≡◌, ℕ, false, List, [], ◌∷◌, get_or, Some, None, refl, sym, ap, arith}
 use Rattle.fib_reader.specs.Raw.{Raw}
+use Rattle.stream_check.specs.Rules.{first_unit, end_unit}
 use Rattle.stream_check.specs.Stream.{after_frames}
 use Rattle.stream_laws.specs.Staying.{last_swap, MakeNoSwap, IsCurrentAfter}
+use Rattle.stream_laws.specs.Units.{IsUnitOf, HaveOwnUnits}
+use Rattle.stream_laws.proofs.OwnUnits.{own_units}
 use Rattle.stream_laws.proofs.Vectors.{before, after, first, noticed, swapped, stream}
 
 -- ---- swaps
@@ -38,3 +41,37 @@ not_any_more h =
     let wrong : 72 ≡ 96 = ap (λ (r : Raw). get_or r.bytes 3 0) same in
     omega (arith, wrong)
 
+-- ---- capacity units: 96 from 0 on, then 72, and 72 from 0 on
+
+abbrev beside : List ℕ
+beside = 8 ∷ 96 ∷ 136 ∷ 72 ∷ []
+
+abbrev within_it : List ℕ
+within_it = 8 ∷ 0 ∷ 136 ∷ 72 ∷ []
+
+last_unit : IsUnitOf (sub before) 95
+last_unit =
+    let from : first_unit (sub before) ≡ 0 = refl in
+    let to : end_unit (sub before) ≡ 96 = refl in
+    record { long_form = refl; from = omega (arith, from); to = omega (arith, to) }
+
+one_too_far : IsUnitOf (sub before) 96 → ⊥
+one_too_far h = (let end : end_unit (sub before) ≡ 96 = refl in let to = h.to in omega (arith, end, to))
+
+unit_of_the_other : IsUnitOf (sub within_it) 5
+unit_of_the_other =
+    let from : first_unit (sub within_it) ≡ 0 = refl in
+    let to : end_unit (sub within_it) ≡ 72 = refl in
+    record { long_form = refl; from = omega (arith, from); to = omega (arith, to) }
+
+unit_of_both : IsUnitOf (sub before) 5
+unit_of_both =
+    let from : first_unit (sub before) ≡ 0 = refl in
+    let to : end_unit (sub before) ≡ 96 = refl in
+    record { long_form = refl; from = omega (arith, from); to = omega (arith, to) }
+
+side_by_side : HaveOwnUnits (sub before ∷ sub beside ∷ [])
+side_by_side = own_units (sub before ∷ sub beside ∷ []) tt
+
+one_in_the_other : HaveOwnUnits (sub before ∷ sub within_it ∷ []) → ⊥
+one_in_the_other h = (let same : 0 ≡ 1 = h.apart 0 1 (sub before) (sub within_it) 5 refl refl unit_of_both unit_of_the_other in omega (arith, same))

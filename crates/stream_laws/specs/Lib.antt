@@ -4,6 +4,7 @@ pub mod Notices
 pub mod Entries
 pub mod Announcing
 pub mod Staying
+pub mod Units
 pub mod Framing
 pub mod InPlace
 pub mod Agreeing

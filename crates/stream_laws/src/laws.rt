@@ -16,6 +16,7 @@ ghost use Rattle.stream_laws.specs.Sorts.{RunsAreKnown, RunsAreNeverSilent, Runs
 ghost use Rattle.stream_laws.specs.Sorts.{RunsRepeatTheNext};
 ghost use Rattle.stream_laws.specs.Staying.{CurrentIsSent, CurrentStays};
 ghost use Rattle.stream_laws.specs.Times.{RunsAreTimely};
+ghost use Rattle.stream_laws.specs.Units.{SwapsKeepUnits};
 
 /// The law of the current configuration: in a stream without a fault, each entry with C/N 0 agrees
 /// with the entry with its identifier in the picture of the current configuration before it, and is
@@ -31,6 +32,13 @@ pub fn current()
 pub fn presence()
     ensures stays { CurrentStays }
     ensures sent { CurrentIsSent }
+{}
+
+/// The law of capacity units: in a stream without a fault, after each swap, no capacity unit is one
+/// of two sub-channels, and each is one of the 864 of a CIF, as far as their entries are in the
+/// long form. This holds for the swap of a notice whose beginning was not heard, too.
+pub fn units()
+    ensures { SwapsKeepUnits }
 {}
 
 /// The law of swaps: in a stream without a fault, at each swap, unless the beginning of its notice
