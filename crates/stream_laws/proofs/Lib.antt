@@ -15,6 +15,7 @@ pub mod Announced
 pub mod AnnouncedChange
 pub mod Fronts
 pub mod OwnUnits
+pub mod Held
 pub mod Cutting
 pub mod Framing
 pub mod InPlace

@@ -22,7 +22,7 @@ use Rattle.stream_laws.proofs.Rows.{at_hand, notice_rows}
 use Rattle.stream_laws.proofs.Tracking.{IsFormed, AllAnnounce, has_flagged, flagged_rows, alone_first, all_tracked, all_counted}
 use Rattle.stream_laws.proofs.Saying.{IsSaidAmong, RowsAreSaid, all_said}
 
-not_false : (b : Bool) → not b ≡ false → b ≡ true
+pub not_false : (b : Bool) → not b ≡ false → b ≡ true
 not_false true h = refl
 not_false false h = absurd (false≢true (sym h))
 
@@ -39,7 +39,7 @@ three_times n h = elim (cases_lt n 3) [
   | inr le ↦ le
 ]
 
-awaited_is : (aw : Option ℕ) (e : EnsembleInformation) (low : ℕ) → is_made aw e ≡ true → low ≡ unwrap_or aw 0 → aw ≡ Some low
+pub awaited_is : (aw : Option ℕ) (e : EnsembleInformation) (low : ℕ) → is_made aw e ≡ true → low ≡ unwrap_or aw 0 → aw ≡ Some low
 awaited_is None e low made is = absurd (false≢true made)
 awaited_is (Some a) e low made is = ap Some (sym is)
 

@@ -1,11 +1,13 @@
 -- The current configuration of small streams, computed by the checker from the definitions: for each term, examples that
 -- hold and examples that fail.
 use Rattle.std.proofs.Common.{◌≡◌, ℕ, false, List, [], ◌∷◌, get_or, Some, None, refl, sym, ap, arith}
+use Rattle.mux_entries.specs.Entries.{EnsembleInformation}
 use Rattle.fib_reader.specs.Raw.{Raw}
 use Rattle.stream_check.specs.Rules.{first_unit, end_unit}
 use Rattle.stream_check.specs.Stream.{after_frames}
 use Rattle.stream_laws.specs.Staying.{last_swap, MakeNoSwap, IsCurrentAfter}
 use Rattle.stream_laws.specs.Units.{IsUnitOf, HaveOwnUnits}
+use Rattle.stream_laws.specs.Held.{BeginsUnflagged}
 use Rattle.stream_laws.proofs.OwnUnits.{own_units}
 use Rattle.stream_laws.proofs.Vectors.{before, after, first, noticed, swapped, stream}
 
@@ -75,3 +77,17 @@ side_by_side = own_units (sub before ∷ sub beside ∷ []) tt
 
 one_in_the_other : HaveOwnUnits (sub before ∷ sub within_it ∷ []) → ⊥
 one_in_the_other h = (let same : 0 ≡ 1 = h.apart 0 1 (sub before) (sub within_it) 5 refl refl unit_of_both unit_of_the_other in omega (arith, same))
+
+-- ---- the first FIG 0/0
+
+abbrev bare : EnsembleInformation
+bare = record { eid = 57797; change = 0; al = false; count = 0; occurrence = None }
+
+begins_bare : BeginsUnflagged stream
+begins_bare e is = by e is
+  where
+    by : (x : EnsembleInformation) → Some bare ≡ Some x → x.change ≡ 0
+    by x k = (let same : bare ≡ x = cc in sym (ap (λ (y : EnsembleInformation). y.change) same))
+
+begins_flagged : BeginsUnflagged (noticed 1 ∷ []) → ⊥
+begins_flagged h = (let none : 1 ≡ 0 = h _ refl in omega (arith, none))

@@ -5,6 +5,7 @@ pub mod Entries
 pub mod Announcing
 pub mod Staying
 pub mod Units
+pub mod Held
 pub mod Framing
 pub mod InPlace
 pub mod Agreeing

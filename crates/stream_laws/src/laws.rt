@@ -6,6 +6,7 @@ ghost use Rattle.stream_laws.specs.Announcing.{SwapsAreAnnounced};
 ghost use Rattle.stream_laws.specs.Entries.{ChangesAreAnnounced};
 ghost use Rattle.stream_laws.specs.Faults.{RunsAreFaultless};
 ghost use Rattle.stream_laws.specs.Framing.{RunsAreFramed};
+ghost use Rattle.stream_laws.specs.Held.{CountsAreHeld, WholeNoticesAreHeld};
 ghost use Rattle.stream_laws.specs.InPlace.{RunsAreInPlace};
 ghost use Rattle.stream_laws.specs.Keeping.{CurrentIsKept};
 ghost use Rattle.stream_laws.specs.Merging.{MergedAreHeardAlike, MergedHaveTheEntries};
@@ -63,6 +64,22 @@ pub fn swaps()
 /// other and the low part of the swap's count.
 pub fn notices()
     ensures { ChangesAreAnnounced }
+{
+    fib_codec::laws::one_list();
+    fib_codec::laws::fib_length();
+    fib_codec::laws::spelling();
+    fib_reader::laws::ensemble();
+    stream_check::laws::parts();
+}
+
+/// The law of whole notices: in a stream without a fault whose first FIG 0/0 has no change flags,
+/// the change is announced at each swap as the law of notices says; if the first FIG 0/0 has change
+/// flags, at each swap but the first. And at each swap, also the first one of such a stream, every
+/// FIG 0/0 in the frames of its notice that were heard has change flags and the low part of the
+/// swap's count.
+pub fn held()
+    ensures whole { WholeNoticesAreHeld }
+    ensures counts { CountsAreHeld }
 {
     fib_codec::laws::one_list();
     fib_codec::laws::fib_length();
