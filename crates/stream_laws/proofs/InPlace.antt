@@ -75,7 +75,7 @@ burst_eid : (most : ℕ) (p : Program) (s : State) → (burst most p s).eid ≡ 
 burst_eid zero p s = refl
 burst_eid (suc most) p s = either_eid (is_running s.hold) (burst most p (step p s)) s s.eid (burst_eid most p (step p s) ∙ step_eid p.plan (instr_at p s.pc) s) refl
 
-shown_eid : (p : Program) (s : State) → (shown p s).eid ≡ s.eid
+pub shown_eid : (p : Program) (s : State) → (shown p s).eid ≡ s.eid
 shown_eid p s =
     let t = after_burst p s in
     let swap : (with_due_swap s).eid ≡ s.eid = either_eid (is_due s.left) (with_swap s) s s.eid refl refl in

@@ -45,7 +45,9 @@ pub mod NextFrames
 pub mod NextRows
 pub mod Repeating
 pub mod NoFault
+pub mod Counting
 pub mod Merging
 mod Vectors
 mod VectorsOfLaws
 mod VectorsOfPresence
+mod VectorsOfBytes

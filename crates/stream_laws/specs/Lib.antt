@@ -13,4 +13,5 @@ pub mod Naming
 pub mod Times
 pub mod Sorts
 pub mod Faults
+pub mod Counting
 pub mod Merging

@@ -3,6 +3,7 @@
 
 ghost use Rattle.stream_laws.specs.Agreeing.{RunsAgree};
 ghost use Rattle.stream_laws.specs.Announcing.{SwapsAreAnnounced};
+ghost use Rattle.stream_laws.specs.Counting.{RunsAreCounted};
 ghost use Rattle.stream_laws.specs.Entries.{ChangesAreAnnounced};
 ghost use Rattle.stream_laws.specs.Faults.{RunsAreFaultless};
 ghost use Rattle.stream_laws.specs.Framing.{RunsAreFramed};
@@ -220,6 +221,16 @@ pub fn no_false_alarm()
     mux_config::laws::changes();
     plan_runs::laws::headline();
     stream_check::laws::parts();
+}
+
+/// The law of counts: from every state that a typed code reaches, the counts of the frames of a run
+/// run on from that state's, modulo 5000. FIG 0/0 is heard in the bytes of each frame at a multiple
+/// of the mode's step, and in no other, with C/N 0, that count and the EId of the run.
+pub fn counts()
+    ensures { RunsAreCounted }
+{
+    fib_carousel::laws::pages();
+    fib_carousel::laws::carried();
 }
 
 /// The law of merged frames: a merger fills the FIBs of a run of a typed code in order, with FIGs of any other FIBs that
