@@ -188,7 +188,7 @@ no_later : (fibs : List Fib) → AllByRecursion IsQuiet fibs → AllByRecursion 
 no_later [] all = tt
 no_later (f ∷ fs) all = (ap is_there all.0.opens, no_later fs all.1)
 
-none_held : (fibs : List Fib) → AllByRecursion IsQuiet fibs → AllByRecursion (λ fib. holds_ensemble fib ≡ false) fibs
+pub none_held : (fibs : List Fib) → AllByRecursion IsQuiet fibs → AllByRecursion (λ fib. holds_ensemble fib ≡ false) fibs
 none_held [] all = tt
 none_held (f ∷ fs) all = (ap is_there all.0.holds, none_held fs all.1)
 
@@ -214,7 +214,7 @@ all_append P (x ∷ xs) ys a b = (a.0, all_append P xs ys a.1 b)
 
 -- ---- frames of a run
 
-are_frames : OneList → (r : Reading) (p : Program) (s : State) (events : List Event) → FramesAreRight p s events
+pub are_frames : OneList → (r : Reading) (p : Program) (s : State) (events : List Event) → FramesAreRight p s events
     → AreFrames (frame_fibs p.plan.layout) (read_frames r (frames_of p.plan.layout (run_frames p s events))) []
 are_frames one r p s [] all = tt
 are_frames one r p s (Contact c closed ∷ es) all = are_frames one r p (happens p s (Contact c closed)) es all
@@ -258,7 +258,7 @@ heads one heard r plan u frame h on =
     let first = heading_fib one heard r plan u (fib_at frame 0) (h.headed on) in
     subst (λ (fs : List (List ℕ)). HoldsFirst (map r.read fs)) (sym (first_of_fibs plan.layout frame)) (ap is_there first.holds)
 
-begins : OneList → EnsembleIsHeard → (r : Reading) (p : Program) (s : State) (events : List Event) → FramesAreRight p s events → s.count % count_step (layout_mode p.plan.layout) ≡ 0
+pub begins : OneList → EnsembleIsHeard → (r : Reading) (p : Program) (s : State) (events : List Event) → FramesAreRight p s events → s.count % count_step (layout_mode p.plan.layout) ≡ 0
     → HoldsFirst (flat_map (λ f. f) (read_frames r (frames_of p.plan.layout (run_frames p s events))) ++ [])
 begins one heard r p s [] all on = tt
 begins one heard r p s (Contact c closed ∷ es) all on = begins one heard r p (happens p s (Contact c closed)) es all on
@@ -270,7 +270,7 @@ begins one heard r p s (Frame ∷ es) all on =
     subst HoldsFirst (sym (append_assoc (read_frame r p.plan.layout (frame_bytes p s)) rest []))
     (holds_more (read_frame r p.plan.layout (frame_bytes p s)) (rest ++ []) (omega (arith, size, few)) (heads one heard r p.plan (shown p s) (frame_bytes p s) all.0 on_now))
 
-flat_read : (r : Reading) (layout : FrameLayout) (frames : List (List ℕ)) → map r.read (fibs_of layout frames) ≡ flat_map (λ f. f) (read_frames r (frames_of layout frames))
+pub flat_read : (r : Reading) (layout : FrameLayout) (frames : List (List ℕ)) → map r.read (fibs_of layout frames) ≡ flat_map (λ f. f) (read_frames r (frames_of layout frames))
 flat_read r layout [] = refl
 flat_read r layout (f ∷ fs) = map-append r.read (fibs_from (frame_fibs layout) 0 f) (fibs_of layout fs) ∙ ap (λ xs. read_frame r layout f ++ xs) (flat_read r layout fs)
 

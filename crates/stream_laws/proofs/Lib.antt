@@ -46,6 +46,9 @@ pub mod NextRows
 pub mod Repeating
 pub mod NoFault
 pub mod Counting
+pub mod Pieces
+pub mod Delivered
+pub mod Whole
 pub mod Merging
 mod Vectors
 mod VectorsOfLaws

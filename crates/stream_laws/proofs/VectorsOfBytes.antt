@@ -1,10 +1,26 @@
 -- The counts and the bytes of runs in small cases: for each term, examples that hold and examples that fail.
 use Rattle.std.proofs.Common.{◌≡◌, ℕ, zero, suc, ◌%◌, Bool, false, List, [], ◌∷◌, ◌++◌, length, flat_map, replicate, refl, sym, ap, ◌∙◌, subst, arith}
 use Rattle.std.specs.Prelude.{map, take, drop, ◌*◌}
+use Rattle.std.specs.List.{AllByRecursion}
+use Rattle.std.proofs.lemmas.Bool.{false≢true}
 use Rattle.fib_codec.specs.Heard.{fib_at, IsEnsembleHeardInRow}
 use Rattle.fib_codec.specs.Laws.{FibHas32Bytes}
+use Rattle.fib_codec.specs.Modes.{fib_count, count_step}
+use Rattle.fib_codec.specs.declared.modes.Mode.{Mode}
 use Rattle.mux_entries.specs.Entries.{EnsembleInformation}
+use Rattle.stream_check.specs.declared.finding.Fault.{Fault}
+use Rattle.stream_check.specs.declared.finding.Finding.{Finding}
+use Rattle.stream_check.specs.declared.finding.What.TheVariants as whats
+use Rattle.stream_check.specs.Frames.{Fib, Reading, AreFrames}
+use Rattle.stream_check.specs.Stream.{findings_of, frames_full}
+use Rattle.stream_check.specs.Following.{Checking, Follows}
+use Rattle.stream_check.specs.Reported.{All}
+use Rattle.plan_code.specs.Program.{Program}
+use Rattle.plan_code.specs.Machine.{State}
+use Rattle.stream_laws.specs.Faultless.{IsNoFault}
 use Rattle.stream_laws.specs.Counting.{IsCounted, AreCounted}
+use Rattle.stream_laws.specs.Delivered.{IsCleared, IsPieceOf, IsHeardOut}
+use Rattle.stream_laws.proofs.Fronts.{no_flat}
 
 -- ---- counts
 
@@ -34,3 +50,48 @@ three_frames size = (off 4997 (λ on. omega (arith, on)), (off 4998 (λ on. omeg
 -- after 4999 comes 0
 the_next_is_zero : FibHas32Bytes → AreCounted 4 7 4999 ([] ∷ [] ∷ []) → ⊥
 the_next_is_zero size c = (let header = c.1.0.there refl in heard_nowhere size false header.0 header.1)
+
+-- ---- pieces
+
+first_fib : IsPieceOf (replicate 32 0 ++ replicate 32 1) (replicate 32 0 ∷ [])
+first_fib = record { before = []; after = replicate 32 1; whole = refl; starts = refl; sizes = (refl, tt) }
+
+second_fib : IsPieceOf (replicate 32 0 ++ replicate 32 1) (replicate 32 1 ∷ [])
+second_fib = record { before = replicate 32 0; after = []; whole = refl; starts = refl; sizes = (refl, tt) }
+
+no_fib : IsPieceOf (1 ∷ []) ((1 ∷ []) ∷ []) → ⊥
+no_fib p = (let wrong : 1 ≡ 32 = p.sizes.0 in omega (arith, wrong))
+
+-- ---- what is reported
+
+nothing_given : (r : Reading) (mode : Mode) (period : ℕ) → IsCleared r mode period []
+nothing_given r mode period = record {
+  room = λ start reported e.
+      let none = no_frames e.skipped e.frames e.rest e.framed.cut (sym e.framed.whole) in
+      false≢true (sym (ap (frames_full (count_step mode) period []) none) ∙ e.full);
+  plain = λ found c f.
+      let none = no_frames f.skipped f.frames (map r.read c.held) f.framed.cut (sym f.framed.whole) in
+      subst (AllByRecursion (λ (one : Finding). IsNoFault one.what)) (sym (all_of found _ (f.findings ∙ ap (λ fs. All (findings_of (fib_count mode) (count_step mode) period [] fs)) none))) tt;
+}
+  where
+    no_frames : (skipped : List Fib) (frames : List (List Fib)) (rest : List Fib) → AreFrames (fib_count mode) frames rest → skipped ++ (flat_map (λ f. f) frames ++ rest) ≡ [] → frames ≡ []
+    no_frames [] frames rest cut e = no_flat (fib_count mode) frames rest cut e
+    no_frames (x ∷ xs) frames rest cut e = absurd cc
+
+    all_of : (xs ys : List Finding) → All xs ≡ All ys → xs ≡ ys
+    all_of xs ys e = cc
+
+a_fault_reported : (r : Reading) (mode : Mode) (period : ℕ) (fibs : List (List ℕ)) (frame count : ℕ) (fault : Fault) (c : Checking)
+    → Follows r mode period (map r.read fibs) (All []) (All (record { frame = frame; count = count; what = whats.Fault fault } ∷ [])) c
+    → IsCleared r mode period fibs → ⊥
+a_fault_reported r mode period fibs frame count fault c f cleared = (cleared.plain (record { frame = frame; count = count; what = whats.Fault fault } ∷ []) c f).0
+
+-- without events nothing is skipped, heard or left over
+nothing_heard : (r : Reading) (p : Program) (s : State) → IsHeardOut r p s [] [] [] [] []
+nothing_heard r p s = record { skips = refl; frames_are = refl; undamaged = refl; none_left = refl }
+
+one_left : (r : Reading) (p : Program) (s : State) → IsHeardOut r p s [] [] [] [] ([] ∷ []) → ⊥
+one_left r p s h = no_list h.none_left
+  where
+    no_list : ◌≡◌ {A = List (List ℕ)} ([] ∷ []) [] → ⊥
+    no_list e = absurd cc

@@ -14,4 +14,5 @@ pub mod Times
 pub mod Sorts
 pub mod Faults
 pub mod Counting
+pub mod Delivered
 pub mod Merging

@@ -4,6 +4,7 @@
 ghost use Rattle.stream_laws.specs.Agreeing.{RunsAgree};
 ghost use Rattle.stream_laws.specs.Announcing.{SwapsAreAnnounced};
 ghost use Rattle.stream_laws.specs.Counting.{RunsAreCounted};
+ghost use Rattle.stream_laws.specs.Delivered.{RunsAreCleared, RunsAreHeardOut};
 ghost use Rattle.stream_laws.specs.Entries.{ChangesAreAnnounced};
 ghost use Rattle.stream_laws.specs.Faults.{RunsAreFaultless};
 ghost use Rattle.stream_laws.specs.Framing.{RunsAreFramed};
@@ -231,6 +232,23 @@ pub fn counts()
 {
     fib_carousel::laws::pages();
     fib_carousel::laws::carried();
+}
+
+/// The law of bytes: a checker that is given the bytes of a run of a typed code, or any piece of
+/// them that begins and ends between two FIBs, always has room and reports no fault, with N at
+/// least 2P - 1 for the plan's period P. The piece may begin and end within a frame. This is said
+/// of whatever a checker knows by its contract, with the frames into which its FIBs are cut. Given
+/// all bytes of a run, it has skipped the FIBs before the first FIG 0/0, and heard exactly the
+/// frames of the run from there on; none of their FIBs is damaged, and none is left over.
+pub fn bytes()
+    ensures pieces { RunsAreCleared }
+    ensures whole { RunsAreHeardOut }
+{
+    fib_codec::laws::one_list();
+    fib_reader::laws::ensemble();
+    plan_runs::laws::headline();
+    frames();
+    no_false_alarm();
 }
 
 /// The law of merged frames: a merger fills the FIBs of a run of a typed code in order, with FIGs of any other FIBs that
