@@ -181,5 +181,6 @@ runs_are_cleared one heard headline plain r p s period events fibs played long g
     (subst (IsFaultless (frame_fibs p.plan.layout) (count_step (layout_mode p.plan.layout)) period) more.1 end.faultless) in
     record {
       room = λ start reported e. false≢true (sym (front e.skipped e.frames e.rest e.framed).room ∙ e.full);
+      events = λ start reported c f. (front f.skipped f.frames (map r.read c.held) f.framed).plain;
       plain = λ found c f. subst (AllByRecursion (λ one. IsNoFault one.what)) (sym (all_of found _ f.findings)) (front f.skipped f.frames (map r.read c.held) f.framed).plain;
     }

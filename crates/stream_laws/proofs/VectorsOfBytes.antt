@@ -69,14 +69,17 @@ nothing_given r mode period = record {
   room = λ start reported e.
       let none = no_frames e.skipped e.frames e.rest e.framed.cut (sym e.framed.whole) in
       false≢true (sym (ap (frames_full (count_step mode) period []) none) ∙ e.full);
-  plain = λ found c f.
-      let none = no_frames f.skipped f.frames (map r.read c.held) f.framed.cut (sym f.framed.whole) in
-      subst (AllByRecursion (λ (one : Finding). IsNoFault one.what)) (sym (all_of found _ (f.findings ∙ ap (λ fs. All (findings_of (fib_count mode) (count_step mode) period [] fs)) none))) tt;
+  events = λ start reported c f. no_faults f.skipped f.frames (map r.read c.held) f.framed.cut (sym f.framed.whole);
+  plain = λ found c f. subst (AllByRecursion (λ (one : Finding). IsNoFault one.what)) (sym (all_of found _ f.findings)) (no_faults f.skipped f.frames (map r.read c.held) f.framed.cut (sym f.framed.whole));
 }
   where
     no_frames : (skipped : List Fib) (frames : List (List Fib)) (rest : List Fib) → AreFrames (fib_count mode) frames rest → skipped ++ (flat_map (λ f. f) frames ++ rest) ≡ [] → frames ≡ []
     no_frames [] frames rest cut e = no_flat (fib_count mode) frames rest cut e
     no_frames (x ∷ xs) frames rest cut e = absurd cc
+
+    no_faults : (skipped : List Fib) (frames : List (List Fib)) (rest : List Fib) → AreFrames (fib_count mode) frames rest → skipped ++ (flat_map (λ f. f) frames ++ rest) ≡ []
+        → AllByRecursion (λ (one : Finding). IsNoFault one.what) (findings_of (fib_count mode) (count_step mode) period [] frames)
+    no_faults skipped frames rest cut e = subst (λ fs. AllByRecursion (λ (one : Finding). IsNoFault one.what) (findings_of (fib_count mode) (count_step mode) period [] fs)) (sym (no_frames skipped frames rest cut e)) tt
 
     all_of : (xs ys : List Finding) → All xs ≡ All ys → xs ≡ ys
     all_of xs ys e = cc

@@ -2,10 +2,11 @@
 use Rattle.std.specs.Prelude.{◌≡◌, ℕ, ◌+◌, ◌*◌, ◌%◌, ◌≤◌, List, [], ◌++◌, length, map, flat_map}
 use Rattle.std.specs.List.{AllByRecursion, concat}
 use Rattle.fib_codec.specs.Layouts.{layout_mode}
-use Rattle.fib_codec.specs.Modes.{count_step}
+use Rattle.fib_codec.specs.Modes.{fib_count, count_step}
 use Rattle.fib_codec.specs.declared.modes.Mode.{Mode}
 use Rattle.stream_check.specs.declared.finding.Finding.{Finding}
 use Rattle.stream_check.specs.Frames.{Fib, Reading, damaged_in}
+use Rattle.stream_check.specs.Stream.{findings_of}
 use Rattle.stream_check.specs.Following.{Checking, Follows, EndsFull}
 use Rattle.stream_check.specs.Reported.{Reported, All}
 use Rattle.plan_code.specs.Program.{Program}
@@ -19,9 +20,12 @@ use Rattle.stream_laws.specs.Notices.{read_frames}
 use Rattle.stream_laws.specs.Framing.{frames_of}
 
 -- a checker of this mode and period that has been given these FIBs, one after the other, as its contract describes it:
--- it had room for all entries, and all that it reported are events
+-- it had room for all entries, and all findings in the frames that it heard are events; so where all that it reported
+-- is kept, this is
 pub record IsCleared (r : Reading) (mode : Mode) (period : ℕ) (fibs : List (List ℕ)) : Type 0 where
   pub room : (start reported : Reported) → EndsFull r mode period (map r.read fibs) start reported → ⊥
+  pub events : (start reported : Reported) (c : Checking) (f : Follows r mode period (map r.read fibs) start reported c)
+      → AllByRecursion (λ one. IsNoFault one.what) (findings_of (fib_count mode) (count_step mode) period [] f.frames)
   pub plain : (found : List Finding) (c : Checking) → Follows r mode period (map r.read fibs) (All []) (All found) c
       → AllByRecursion (λ one. IsNoFault one.what) found
 
