@@ -36,6 +36,7 @@ pub mod LastHeard
 pub mod Ages
 pub mod Silence
 pub mod Staying
+pub mod UnitsStay
 pub mod Settling
 pub mod Appearing
 pub mod NextHeard

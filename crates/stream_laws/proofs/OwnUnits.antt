@@ -9,7 +9,7 @@ use Rattle.fib_reader.specs.Listening.{Listening, is_made, identifier_of}
 use Rattle.stream_check.specs.declared.finding.Fault.{Fault}
 use Rattle.stream_check.specs.declared.finding.Fault.TheVariants as faults
 use Rattle.stream_check.specs.Reporting.{when, as_list}
-use Rattle.stream_check.specs.History.{Item, Said, is_ensemble, ensemble_of, is_flagged, listener_after}
+use Rattle.stream_check.specs.History.{Item, Moment, Said, is_ensemble, ensemble_of, is_flagged, is_swap, listener_after}
 use Rattle.stream_check.specs.Rules.{Known, known_of, awaited_low, notice_faults, is_long_form, first_unit, end_unit, share_unit, partner, overlap_or, overlap, ends_past, past_end}
 use Rattle.stream_laws.specs.Faultless.{IsNoFault}
 use Rattle.stream_laws.specs.Units.{IsUnitOf, HaveOwnUnits, SwapsKeepUnits}
@@ -107,9 +107,8 @@ after_swap : (f : Bool) (i : Item) (l : Listening) → (heard_as true f (ensembl
 after_swap true i l = refl
 after_swap false i l = refl
 
-pub swaps_keep_units : SwapsKeepUnits
-swaps_keep_units size step period frames past i faultless s sw =
-    let clean : IsClean step period (Said i ∷ past) = entry_clean size step period frames past i faultless s in
+pub swap_units : (step period : ℕ) (past : List Moment) (i : Item) → IsClean step period (Said i ∷ past) → is_swap past i ≡ true → HaveOwnUnits (listener_after (Said i ∷ past)).current.subs
+swap_units step period past i clean sw =
     let e : is_ensemble i ≡ true = first_holds (is_ensemble i) _ sw in
     let made : is_made (listener_after past).awaited (ensemble_of i) ≡ true = sym (ensemble_made past i e) ∙ sw in
     let k : Known = known_of step period past in
@@ -119,3 +118,6 @@ swaps_keep_units size step period frames past i faultless s sw =
     let same : (listener_after (Said i ∷ past)).current.subs ≡ (listener_after past).next.subs =
     ap (λ (l : Listening). l.current.subs) (after_heard step period past i true (is_flagged i) clean e sw refl) ∙ after_swap (is_flagged i) i (listener_after past) in
     subst HaveOwnUnits (sym same) (own_units (listener_after past).next.subs units)
+
+pub swaps_keep_units : SwapsKeepUnits
+swaps_keep_units size step period frames past i faultless s sw = swap_units step period past i (entry_clean size step period frames past i faultless s) sw

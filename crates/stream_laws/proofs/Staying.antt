@@ -108,17 +108,17 @@ with_fresh period now raw p f h = elim (raw.ext == 1) as (λ t. AreFresh period 
 ]
 
 -- the picture of the current configuration after an entry
-no_current : (t n : Bool) (raw : Raw) (l : Listening) → (t && not n) ≡ false → (cond t (with_member n raw l) l).current ≡ l.current
+pub no_current : (t n : Bool) (raw : Raw) (l : Listening) → (t && not n) ≡ false → (cond t (with_member n raw l) l).current ≡ l.current
 no_current true true raw l e = refl
 no_current true false raw l e = absurd (false≢true (sym e))
 no_current false n raw l e = refl
 
-a_current : (t n : Bool) (raw : Raw) (l : Listening) → (t && not n) ≡ true → (cond t (with_member n raw l) l).current ≡ picture_with raw l.current
+pub a_current : (t n : Bool) (raw : Raw) (l : Listening) → (t && not n) ≡ true → (cond t (with_member n raw l) l).current ≡ picture_with raw l.current
 a_current true true raw l e = absurd (false≢true e)
 a_current true false raw l e = refl
 a_current false n raw l e = absurd (false≢true e)
 
-after_ensemble_is : (b f : Bool) (i : Item) (l : Listening) → (heard_as b f (ensemble_of i) l).current ≡ cond b l.next l.current
+pub after_ensemble_is : (b f : Bool) (i : Item) (l : Listening) → (heard_as b f (ensemble_of i) l).current ≡ cond b l.next l.current
 after_ensemble_is true true i l = refl
 after_ensemble_is true false i l = refl
 after_ensemble_is false true i l = refl

@@ -19,7 +19,7 @@ ghost use Rattle.stream_laws.specs.Sorts.{RunsAreKnown, RunsAreNeverSilent, Runs
 ghost use Rattle.stream_laws.specs.Sorts.{RunsRepeatTheNext};
 ghost use Rattle.stream_laws.specs.Staying.{CurrentIsSent, CurrentStays};
 ghost use Rattle.stream_laws.specs.Times.{RunsAreTimely};
-ghost use Rattle.stream_laws.specs.Units.{SwapsKeepUnits};
+ghost use Rattle.stream_laws.specs.Units.{SwapsKeepUnits, UnitsStayOwn};
 
 /// The law of the current configuration: in a stream without a fault, each entry with C/N 0 agrees
 /// with the entry with its identifier in the picture of the current configuration before it, and is
@@ -39,9 +39,11 @@ pub fn presence()
 
 /// The law of capacity units: in a stream without a fault, after each swap, no capacity unit is one
 /// of two sub-channels, and each is one of the 864 of a CIF, as far as their entries are in the
-/// long form. This holds for the swap of a notice whose beginning was not heard, too.
+/// long form. This holds for the swap of a notice whose beginning was not heard, too. After the swap
+/// of a notice whose beginning was heard it stays so until the next swap.
 pub fn units()
-    ensures { SwapsKeepUnits }
+    ensures swapped { SwapsKeepUnits }
+    ensures stay { UnitsStayOwn }
 {}
 
 /// The law of swaps: in a stream without a fault, at each swap, unless the beginning of its notice
