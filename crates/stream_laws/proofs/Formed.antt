@@ -24,7 +24,7 @@ later_ordered : (is : List Item) → AllByRecursion IsLater is → AreOrdered is
 later_ordered [] all = tt
 later_ordered (i ∷ is) all = (all.0.0, all.1)
 
-both_all : {X : Type 0} (P : X → Type 0) (xs ys : List X) → AllByRecursion P xs → AllByRecursion P ys → AllByRecursion P (xs ++ ys)
+pub both_all : {X : Type 0} (P : X → Type 0) (xs ys : List X) → AllByRecursion P xs → AllByRecursion P ys → AllByRecursion P (xs ++ ys)
 both_all P [] ys p q = q
 both_all P (x ∷ xs) ys p q = (p.0, both_all P xs ys p.1 q)
 

@@ -2,13 +2,14 @@
 use Rattle.std.proofs.Common.{◌≡◌, ℕ, suc, ◌+◌, ◌<◌, ◌≤◌, Bool, true, false, cond, List, [], ◌∷◌, ◌++◌, length, flat_map, refl, sym, ap, ◌∙◌, arith, subst}
 use Rattle.std.specs.List.{AllByRecursion}
 use Rattle.std.proofs.lemmas.Bool.{false≢true}
-use Rattle.std.proofs.lemmas.List.{append_assoc, length-append}
+use Rattle.std.proofs.lemmas.List.{append_assoc, append-nil, length-append}
 use Rattle.stream_check.specs.declared.finding.Finding.{Finding}
 use Rattle.stream_check.specs.Frames.{Fib, begins_with_ensemble, holds_ensemble, IsOneFrame, BeginsAnew, AreFrames, HoldsFirst, IsFramed}
 use Rattle.stream_check.specs.History.{Moment, frame_items}
 use Rattle.stream_check.specs.Stream.{runs_full, findings_in, findings_of, after_frame, frames_full}
 use Rattle.stream_laws.specs.Faultless.{IsNoFault, IsFaultless}
 use Rattle.stream_laws.proofs.Clean.{all_left, all_right}
+use Rattle.stream_laws.proofs.Formed.{both_all}
 
 -- later FIBs of a frame
 abbrev AreLater : List Fib → Type 0
@@ -128,14 +129,10 @@ room_before step period past (g ∷ gs) more e = chosen (room_before step period
 abbrev AreNoFaults : List Finding → Type 0
 AreNoFaults fs = AllByRecursion (λ found. IsNoFault found.what) fs
 
-both : (xs ys : List Finding) → AreNoFaults xs → AreNoFaults ys → AreNoFaults (xs ++ ys)
-both [] ys a b = b
-both (x ∷ xs) ys a b = (a.0, both xs ys a.1 b)
-
 plain_before : (size step period : ℕ) (past : List Moment) (f more : List (List Fib)) → AreNoFaults (findings_of size step period past (f ++ more)) → AreNoFaults (findings_of size step period past f)
 plain_before size step period past [] more all = tt
 plain_before size step period past (g ∷ gs) more all =
-    both (findings_in size step period past g) _
+    both_all (λ found. IsNoFault found.what) (findings_in size step period past g) _
     (all_left (λ found. IsNoFault found.what) (findings_in size step period past g) _ all)
     (chosen (plain_before size step period (after_frame step past g) gs more) (runs_full step period past (frame_items g)) (all_right (λ found. IsNoFault found.what) (findings_in size step period past g) _ all))
   where
@@ -146,3 +143,12 @@ plain_before size step period past (g ∷ gs) more all =
 
 pub faultless_before : (size step period : ℕ) (f more : List (List Fib)) → IsFaultless size step period (f ++ more) → IsFaultless size step period f
 faultless_before size step period f more h = record { room = room_before step period [] f more h.room; plain = plain_before size step period [] f more h.plain }
+
+-- ---- lists that each begin with the other are the same
+
+pub none_more : {X : Type 0} (f g more less : List X) → g ≡ f ++ more → f ≡ g ++ less → f ≡ g
+none_more f g [] less one two = sym (append-nil f) ∙ sym one
+none_more f g (m ∷ ms) less one two =
+    let long : length g ≡ length f + length (m ∷ ms) = ap length one ∙ length-append f (m ∷ ms) in
+    let short : length f ≡ length g + length less = ap length two ∙ length-append g less in
+    absurd (omega (arith, long, short))

@@ -16,6 +16,8 @@ use Rattle.plan_runs.specs.Runs.{happens, run_frames}
 use Rattle.plan_runs.specs.RightBytes.{FramesAreRight}
 use Rattle.plan_runs.specs.Listening.{fibs_from, fibs_of}
 use Rattle.stream_laws.specs.Delivered.{IsPieceOf}
+use Rattle.stream_laws.proofs.Formed.{both_all}
+use Rattle.stream_laws.proofs.Fronts.{none_more}
 
 abbrev AreWhole : List (List ℕ) → Type 0
 AreWhole fibs = AllByRecursion (λ fib. length fib ≡ 32) fibs
@@ -43,10 +45,6 @@ cut_from (suc count) n frame len =
     drop_twice a (suc b) [] = ap (drop a) (drop-nil (suc b)) ∙ drop-nil a ∙ sym (drop-nil (a + suc b))
     drop_twice a (suc b) (x ∷ xs) = drop_twice a b xs ∙ (let same : suc (a + b) ≡ a + suc b = omega arith in ap (λ k. drop k (x ∷ xs)) same)
 
-whole_more : (xs ys : List (List ℕ)) → AreWhole xs → AreWhole ys → AreWhole (xs ++ ys)
-whole_more [] ys a b = b
-whole_more (x ∷ xs) ys a b = (a.0, whole_more xs ys a.1 b)
-
 fibs_are : (p : Program) (s : State) (events : List Event) → FramesAreRight p s events → AreFibsOf (fibs_of p.plan.layout (run_frames p s events)) (concat (run_frames p s events))
 fibs_are p s [] all = record { whole = tt; bytes_are = refl }
 fibs_are p s (Contact c closed ∷ es) all = fibs_are p (happens p s (Contact c closed)) es all
@@ -55,7 +53,7 @@ fibs_are p s (Frame ∷ es) all =
     let here = cut_from (frame_fibs p.plan.layout) 0 (frame_bytes p s) (omega (arith, size)) in
     let rest = fibs_are p (after_frame p s) es all.1 in
     record {
-      whole = whole_more (fibs_from (frame_fibs p.plan.layout) 0 (frame_bytes p s)) (fibs_of p.plan.layout (run_frames p (after_frame p s) es)) here.whole rest.whole;
+      whole = both_all (λ fib. length fib ≡ 32) (fibs_from (frame_fibs p.plan.layout) 0 (frame_bytes p s)) (fibs_of p.plan.layout (run_frames p (after_frame p s) es)) here.whole rest.whole;
       bytes_are = concat-append (fibs_from (frame_fibs p.plan.layout) 0 (frame_bytes p s)) (fibs_of p.plan.layout (run_frames p (after_frame p s) es))
           ∙ ap (λ l. l ++ concat (fibs_of p.plan.layout (run_frames p (after_frame p s) es))) here.bytes_are ∙ ap (λ l. frame_bytes p s ++ l) rest.bytes_are;
     }
@@ -114,10 +112,3 @@ all_of_run p s events fibs right sizes bytes =
     let front = front_of (fibs_of p.plan.layout (run_frames p s events)) fibs [] cut.whole sizes (cut.bytes_are ∙ sym bytes ∙ sym (append-nil (concat fibs))) in
     let back = front_of fibs (fibs_of p.plan.layout (run_frames p s events)) [] sizes cut.whole (bytes ∙ sym cut.bytes_are ∙ sym (append-nil (concat (fibs_of p.plan.layout (run_frames p s events))))) in
     none_more fibs (fibs_of p.plan.layout (run_frames p s events)) front.0 back.0 front.1 back.1
-  where
-    none_more : (xs ys more less : List (List ℕ)) → ys ≡ xs ++ more → xs ≡ ys ++ less → xs ≡ ys
-    none_more xs ys [] less one two = sym (append-nil xs) ∙ sym one
-    none_more xs ys (m ∷ ms) less one two =
-        let long : length ys ≡ length xs + length (m ∷ ms) = ap length one ∙ length-append xs (m ∷ ms) in
-        let short : length xs ≡ length ys + length less = ap length two ∙ length-append ys less in
-        absurd (omega (arith, long, short))

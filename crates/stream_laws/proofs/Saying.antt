@@ -37,7 +37,7 @@ RowsAreSaid next (is ∷ iss) [] = ⊥
 RowsAreSaid next (is ∷ iss) (r ∷ rs) = RowIsSaid next is r × RowsAreSaid next iss rs
 
 -- the second picture has every entry of the first
-abbrev Grows : Pictured → Pictured → Type 0
+abbrev pub Grows : Pictured → Pictured → Type 0
 Grows p q = (y : Raw) → entry_like y p ≡ Some y → entry_like y q ≡ Some y
 
 among_grown : (p q : Pictured) (items : List Item) (x : ℕ) → Grows p q → IsSaidAmong p items x → IsSaidAmong q items x
@@ -74,7 +74,7 @@ said_further past now more g iss rs hand row s = record {
       (among_more (listener_after now).next (at_hand past) more x (among_grown (listener_after past).next (listener_after now).next (at_hand past) x g (s.hand x before)));
 }
 
-same_next : (p q : Pictured) → q ≡ p → Grows p q
+pub same_next : (p q : Pictured) → q ≡ p → Grows p q
 same_next p q e y found = ap (entry_like y) e ∙ found
 
 no_next : (t n : Bool) (raw : Raw) (l : Listening) → (t && n) ≡ false → (cond t (with_member n raw l) l).next ≡ l.next

@@ -24,7 +24,8 @@ use Rattle.stream_laws.proofs.Clean.{all_left, all_right, IsClean, told_alone, a
 use Rattle.stream_laws.proofs.Kept.{current_kept, first_holds, second_holds, is_not}
 use Rattle.stream_laws.proofs.Pictures.{picture_with, found_kept, found_again}
 use Rattle.stream_laws.proofs.Noting.{with_member, after_member, after_heard, heard_as}
-use Rattle.stream_laws.proofs.Formed.{all_formed}
+use Rattle.stream_laws.proofs.Saying.{Grows, same_next}
+use Rattle.stream_laws.proofs.Formed.{both_all, all_formed}
 use Rattle.stream_laws.proofs.LastHeard.{last_at_most, said_ended, last_grows}
 use Rattle.stream_laws.proofs.Bytes.{map_contains, contains_map}
 use Rattle.stream_laws.proofs.PictureKinds.{HasKinds, all_kinds}
@@ -178,13 +179,9 @@ all_fresh step period (Ended count ∷ past) c v =
       packets = ended_fresh period count past p.packets (all_right (λ x. is_silent period past x ≡ false) (p.subs ++ p.services) p.packets none) h.packets;
     }
 
-both_fresh : (period : ℕ) (past : List Moment) (xs ys : List Raw) → AllByRecursion (IsFresh period past) xs → AllByRecursion (IsFresh period past) ys → AllByRecursion (IsFresh period past) (xs ++ ys)
-both_fresh period past [] ys a b = b
-both_fresh period past (x ∷ xs) ys a b = (a.0, both_fresh period past xs ys a.1 b)
-
 fresh_one : (period : ℕ) (past : List Moment) (p : Pictured) (raw : Raw) → AreFresh period past p → Contains (all_entries p) raw → IsFresh period past raw
 fresh_one period past p raw h inside =
-    each_contains (IsFresh period past) (all_entries p) raw (both_fresh period past (p.subs ++ p.services) p.packets (both_fresh period past p.subs p.services h.subs h.services) h.packets) inside
+    each_contains (IsFresh period past) (all_entries p) raw (both_all (IsFresh period past) (p.subs ++ p.services) p.packets (both_all (IsFresh period past) p.subs p.services h.subs h.services) h.packets) inside
 
 -- ---- frames without a swap
 
@@ -220,17 +217,10 @@ no_swap_here n past i late few = elim (is_swap past i) as (λ b. cond b (frames_
   | false ↦ λ h. refl
 ] few
 
--- the second picture has every entry of the first
-abbrev Grows : Pictured → Pictured → Type 0
-Grows p q = (y : Raw) → entry_like y p ≡ Some y → entry_like y q ≡ Some y
-
-same_grows : (p q : Pictured) → q ≡ p → Grows p q
-same_grows p q e y found = ap (entry_like y) e ∙ found
-
 current_grows : (step period : ℕ) (past : List Moment) (i : Item) (b d : Bool) → is_ensemble i ≡ b → ((listener_after past).tuned && not i.next) ≡ d → is_swap past i ≡ false → IsClean step period (Said i ∷ past)
     → Grows (listener_after past).current (listener_after (Said i ∷ past)).current
 current_grows step period past i true d e now sw c =
-    same_grows (listener_after past).current (listener_after (Said i ∷ past)).current
+    same_next (listener_after past).current (listener_after (Said i ∷ past)).current
     (ap (λ (l : Listening). l.current) (after_heard step period past i false (is_flagged i) c e sw refl) ∙ after_ensemble_is false (is_flagged i) i (listener_after past))
 current_grows step period past i false true e now sw c =
     let tuned = first_holds (listener_after past).tuned (not i.next) now in
@@ -240,7 +230,7 @@ current_grows step period past i false true e now sw c =
     ap (λ (l : Listening). l.current) (after_member step period past i c e) ∙ a_current (listener_after past).tuned i.next i.raw (listener_after past) now in
     λ y found. ap (entry_like y) same ∙ found_again i.raw y (listener_after past).current k.agrees found
 current_grows step period past i false false e now sw c =
-    same_grows (listener_after past).current (listener_after (Said i ∷ past)).current
+    same_next (listener_after past).current (listener_after (Said i ∷ past)).current
     (ap (λ (l : Listening). l.current) (after_member step period past i c e) ∙ no_current (listener_after past).tuned i.next i.raw (listener_after past) now)
 
 said_stays : (step period n : ℕ) (items : List Item) (past : List Moment) → IsClean step period (said items past) → n ≤ frames_ended past → last_swap (said items past) ≤ n

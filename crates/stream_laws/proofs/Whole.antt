@@ -1,9 +1,9 @@
 -- What a checker knows that has been given all bytes of a run.
-use Rattle.std.proofs.Common.{◌≡◌, ℕ, ◌+◌, ◌%◌, Bool, false, cond, List, [], ◌∷◌, ◌++◌, length, flat_map, refl, sym, ap, ◌∙◌, subst, arith, inl, inr}
+use Rattle.std.proofs.Common.{◌≡◌, ℕ, ◌%◌, Bool, false, cond, List, [], ◌∷◌, ◌++◌, length, flat_map, refl, sym, ap, ◌∙◌, subst, arith, inl, inr}
 use Rattle.std.specs.Prelude.{map}
 use Rattle.std.specs.List.{AllByRecursion}
 use Rattle.std.proofs.lemmas.Bool.Decides.{eqb_tells}
-use Rattle.std.proofs.lemmas.List.{append-nil, append_cancel_left, append_cancel_right, length-append, length-map}
+use Rattle.std.proofs.lemmas.List.{append-nil, append_cancel_left, append_cancel_right, length-map}
 use Rattle.fib_codec.specs.Grammar.{OneList}
 use Rattle.fib_codec.specs.Heard.{fib_at}
 use Rattle.fib_codec.specs.Layouts.{layout_mode, frame_fibs}
@@ -24,17 +24,10 @@ use Rattle.stream_laws.specs.Framing.{frames_of, RunsAreFramed}
 use Rattle.stream_laws.specs.Notices.{read_frames}
 use Rattle.stream_laws.specs.Delivered.{RunsAreHeardOut}
 use Rattle.stream_laws.proofs.Framing.{IsQuiet, read_frame, later_fibs, first_of_fibs, later_quiet, quiet_fib, heading_fib, right_after}
-use Rattle.stream_laws.proofs.Fronts.{front_framing, same_skipped}
+use Rattle.stream_laws.proofs.Fronts.{front_framing, same_skipped, none_more}
 use Rattle.stream_laws.proofs.Pieces.{all_of_run}
 
 -- ---- a stream is cut in one way
-
-none_more : (f g more less : List (List Fib)) → g ≡ f ++ more → f ≡ g ++ less → f ≡ g
-none_more f g [] less one two = sym (append-nil f) ∙ sym one
-none_more f g (m ∷ ms) less one two =
-    let long : length g ≡ length f + length (m ∷ ms) = ap length one ∙ length-append f (m ∷ ms) in
-    let short : length f ≡ length g + length less = ap length two ∙ length-append g less in
-    absurd (omega (arith, long, short))
 
 record AreCutAlike (skipped later : List Fib) (f g : List (List Fib)) (r s : List Fib) : Type 0 where
   skips : skipped ≡ later

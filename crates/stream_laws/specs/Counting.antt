@@ -21,7 +21,8 @@ pub record IsCounted (step eid count : ℕ) (frame : List ℕ) : Type 0 where
 -- the counts of these frames run on from this one, modulo 5000
 abbrev pub AreCounted : (step eid count : ℕ) → List (List ℕ) → Type 0
 AreCounted step eid count [] = Unit {0}
-AreCounted step eid count (frame ∷ frames) = IsCounted step eid count frame × AreCounted step eid ((count + 1) % COUNTS) frames
+AreCounted step eid count (frame ∷ frames) =
+    IsCounted step eid count frame × AreCounted step eid ((count + 1) % COUNTS) frames
 
 -- the law of counts: those of a run run on, and FIG 0/0 is in each frame at a multiple of the step, and in no other
 abbrev pub RunsAreCounted : Type 0

@@ -40,7 +40,8 @@ pub record IsPieceOf (bytes : List ℕ) (fibs : List (List ℕ)) : Type 0 where
 -- what a checker has skipped, the frames that it has heard, and the FIBs that it still holds after all bytes of a run, of
 -- which those of `waiting` come before the first FIG 0/0: these are skipped, the frames are exactly the others of the
 -- run, none of their FIBs is damaged, and none is left over
-pub record IsHeardOut (r : Reading) (p : Program) (s : State) (waiting events : List Event) (skipped : List Fib) (frames : List (List Fib)) (held : List (List ℕ)) : Type 0 where
+pub record IsHeardOut (r : Reading) (p : Program) (s : State) (waiting events : List Event)
+    (skipped : List Fib) (frames : List (List Fib)) (held : List (List ℕ)) : Type 0 where
   pub skips : length skipped ≡ length (fibs_of p.plan.layout (run_frames p s waiting))
   pub frames_are : frames ≡ read_frames r (frames_of p.plan.layout (run_frames p (run p s waiting) events))
   pub undamaged : damaged_in (flat_map (λ frame. frame) frames) ≡ 0

@@ -12,7 +12,8 @@ use Rattle.stream_laws.specs.Staying.{last_swap}
 
 -- the first FIG 0/0 of these frames has no change flags
 abbrev pub BeginsUnflagged : List (List Fib) → Type 0
-BeginsUnflagged frames = (e : EnsembleInformation) → first_of_frame (flat_map (λ frame. frame) frames) ≡ Some e → e.change ≡ 0
+BeginsUnflagged frames =
+    (e : EnsembleInformation) → first_of_frame (flat_map (λ frame. frame) frames) ≡ Some e → e.change ≡ 0
 
 -- the law of whole notices: where the first FIG 0/0 of the stream has no change flags, each swap is announced as the law
 -- of notices says; where it has some, each but the first
@@ -22,7 +23,8 @@ WholeNoticesAreHeld =
     → AllByRecursion AreFibBytes frames
     → IsFaultless size step period (read_frames r frames) → IsSaidIn step (read_frames r frames) past i
     → is_swap past i ≡ true → BeginsUnflagged (read_frames r frames) ⊎ (0 < last_swap past)
-    → AnnouncesChange (listener_after past).current (listener_after past).next (ensemble_of i).count (notice_frames past frames)
+    → AnnouncesChange (listener_after past).current (listener_after past).next (ensemble_of i).count
+    (notice_frames past frames)
 
 -- the law of announced counts: at each swap, each FIG 0/0 in the frames of its notice that were heard has change flags
 -- and the low part of the swap's count
