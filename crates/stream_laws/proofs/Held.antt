@@ -232,4 +232,4 @@ counts_are_held laws r size step period frames past i bytes faultless s sw frame
     let says = each_contains (λ j. is_ensemble j ≡ true → ((ensemble_of j).change ≡ last_flags past) × ((ensemble_of j).occurrence ≡ Some low)) (items_in r here.0) header.item row header.inside header.ensemble in
     let flags : e.change ≡ last_flags past = ap (λ (x : EnsembleInformation). x.change) (sym header.says) ∙ says.0 in
     let some = a.flags in
-    (omega (arith, flags, some), ap (λ (x : EnsembleInformation). x.occurrence) (sym header.says) ∙ says.1)
+    (omega (arith, flags, some), flags, ap (λ (x : EnsembleInformation). x.occurrence) (sym header.says) ∙ says.1)

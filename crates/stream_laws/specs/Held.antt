@@ -4,7 +4,7 @@ use Rattle.std.specs.List.{AllByRecursion}
 use Rattle.mux_entries.specs.Entries.{EnsembleInformation}
 use Rattle.fib_codec.specs.Heard.{IsEnsembleHeardInRow}
 use Rattle.stream_check.specs.Frames.{Fib, Reading, first_of_frame}
-use Rattle.stream_check.specs.History.{Item, Moment, ensemble_of, listener_after, is_swap}
+use Rattle.stream_check.specs.History.{Item, Moment, ensemble_of, listener_after, is_swap, last_flags}
 use Rattle.stream_laws.specs.Faultless.{IsFaultless, IsSaidIn}
 use Rattle.stream_laws.specs.Notices.{AreFibBytes, read_frames, notice_frames}
 use Rattle.stream_laws.specs.Entries.{AnnouncesChange}
@@ -26,8 +26,8 @@ WholeNoticesAreHeld =
     → AnnouncesChange (listener_after past).current (listener_after past).next (ensemble_of i).count
     (notice_frames past frames)
 
--- the law of announced counts: at each swap, each FIG 0/0 in the frames of its notice that were heard has change flags
--- and the low part of the swap's count
+-- the law of announced counts: at each swap, each FIG 0/0 in the frames of its notice that were heard has change flags,
+-- the same in all, and the low part of the swap's count
 abbrev pub CountsAreHeld : Type 0
 CountsAreHeld =
     (r : Reading) (size step period : ℕ) (frames : List (List (List ℕ))) (past : List Moment) (i : Item)
@@ -36,4 +36,4 @@ CountsAreHeld =
     → is_swap past i ≡ true
     → (frame : List ℕ) (next : Bool) (e : EnsembleInformation)
     → Contains (notice_frames past frames) frame → IsEnsembleHeardInRow frame next e
-    → (0 < e.change) × (e.occurrence ≡ Some ((ensemble_of i).count % 250))
+    → (0 < e.change) × (e.change ≡ last_flags past) × (e.occurrence ≡ Some ((ensemble_of i).count % 250))

@@ -79,8 +79,8 @@ pub fn notices()
 /// The law of whole notices: in a stream without a fault whose first FIG 0/0 has no change flags,
 /// the change is announced at each swap as the law of notices says; if the first FIG 0/0 has change
 /// flags, at each swap but the first. And at each swap, also the first one of such a stream, every
-/// FIG 0/0 in the frames of its notice that were heard has change flags and the low part of the
-/// swap's count.
+/// FIG 0/0 in the frames of its notice that were heard has change flags, the same in all, and the
+/// low part of the swap's count.
 pub fn held()
     ensures whole { WholeNoticesAreHeld }
     ensures counts { CountsAreHeld }
