@@ -2,13 +2,15 @@
 use Rattle.std.proofs.Common.{◌≡◌, ℕ, List, ◌++◌, Option, None, Some, IfSome, inl, inr, sym, ap, ◌∙◌, subst}
 use Rattle.std.proofs.lemmas.List.{append_assoc, append-nil}
 use Rattle.std.specs.List.{concat}
-use Rattle.std.specs.Io.KnownBytes.{Keeps}
+use Rattle.std.specs.Io.KnownBytes.{Appends, Keeps}
+use Rattle.std.proofs.KnownBytes.{Appends-trans}
 use Rattle.console.specs.declared.exit.Status.{Status}
 use Rattle.stream_check.specs.Frames.{Reading}
 use Rattle.stream_monitor.specs.declared.ending.Ending.{Ending}
 use Rattle.stream_monitor.specs.declared.options.CheckOptions.{CheckOptions}
+use Rattle.stream_monitor.specs.Lines.{line_of}
 use Rattle.stream_monitor.specs.Outcome.{Checks, ChecksInput}
-use Rattle.cli_streams.specs.Checking.{HasStatus, status_of}
+use Rattle.cli_streams.specs.Checking.{ShowsCheck, last_line, status_of}
 
 -- what follows the bytes that were read does not matter
 checks_known : (r : Reading) (o : CheckOptions) (stream : List ℕ) (old left : Option (List ℕ)) (text : List ℕ) (e : Ending) → Keeps (Some stream) old → ChecksInput r o old left text e → Checks r o stream text e
@@ -20,21 +22,22 @@ checks_known r o stream (Some xs) (Some ys) text e kept (inl h) =
 checks_known r o stream (Some xs) (Some ys) text e kept (inr h) =
     inr (h.0, h.1, h.2 ++ ys, sym kept ∙ h.3 ∙ append_assoc (concat h.0) (h.1 ++ h.2) ys ∙ ap (λ l. concat h.0 ++ l) (append_assoc h.1 h.2 ys), h.4)
 
--- the status is that of the stream
-pub has_status : (o : CheckOptions) (known old : Option (List ℕ)) (e : Ending) (status : Status) → Keeps known old
-    → ((r : Reading) → (left : Option (List ℕ)) × (text : List ℕ) × ChecksInput r o old left text e) → status ≡ status_of e
-    → IfSome known (λ stream. (r : Reading) → HasStatus r o stream status)
-has_status o None old e status kept checked is = tt
-has_status o (Some stream) old e status kept checked is = λ r.
+-- the lines and the status are those of the stream
+pub shows : (o : CheckOptions) (known old before mid after : Option (List ℕ)) (e : Ending) (status : Status) → Keeps known old
+    → ((r : Reading) → (left : Option (List ℕ)) × (text : List ℕ) × ChecksInput r o old left text e × Appends before mid text) → Appends mid after (line_of o.form (last_line e)) → status ≡ status_of e
+    → IfSome known (λ stream. (r : Reading) → ShowsCheck r o stream before after status)
+shows o None old before mid after e status kept checked last is = tt
+shows o (Some stream) old before mid after e status kept checked last is = λ r.
     let one = checked r in
     record {
       ending = e;
       text = one.1;
       checks = checks_known r o stream old one.0 one.1 e kept one.2;
+      prints = Appends-trans before mid after one.1 (line_of o.form (last_line e)) one.3 last;
       status_is = is;
     }
 
--- a check from the state in which the streams were made
-pub checks_from : (r : Reading) (o : CheckOptions) (old same left : Option (List ℕ)) (text : List ℕ) (e : Ending) → old ≡ same → ChecksInput r o old left text e
-    → (left : Option (List ℕ)) × (text : List ℕ) × ChecksInput r o same left text e
-checks_from r o old same left text e a h = (left, text, subst (λ (x : Option (List ℕ)). ChecksInput r o x left text e) a h)
+-- a check of an input that was made of these pieces
+pub checks_from : (r : Reading) (o : CheckOptions) (old same left before after : Option (List ℕ)) (e : Ending) → old ≡ same → (text : List ℕ) × ChecksInput r o old left text e × Appends before after text
+    → (left : Option (List ℕ)) × (text : List ℕ) × ChecksInput r o same left text e × Appends before after text
+checks_from r o old same left before after e a h = (left, h.0, subst (λ (x : Option (List ℕ)). ChecksInput r o x left h.0 e) a h.1, h.2)

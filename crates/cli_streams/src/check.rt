@@ -6,7 +6,8 @@ ghost use Rattle.console.specs.Printed.{printed};
 ghost use Rattle.stream_check.specs.Frames.{Reading};
 ghost use Rattle.stream_monitor.specs.Lines.{line_of};
 ghost use Rattle.stream_monitor.specs.Outcome.{ChecksInput};
-ghost use Rattle.cli_streams.specs.Checking.{HasStatus, last_line, status_of};
+ghost use Rattle.stream_monitor.specs.Requests.{beginning};
+ghost use Rattle.cli_streams.specs.Checking.{ShowsCheck, last_line, status_of};
 
 use console::exit::{Failure, Status, pieces_of};
 use console::files::Files;
@@ -14,8 +15,9 @@ use console::output::Output;
 use console::pieces::Pieces;
 use std::alloc::Global;
 use std::io::{Read, Write};
+use std::marker::Brand;
 use stream_monitor::{
-    CheckOptions, Ending, Form, Hints, Line, Stop, Streams, check_stream, print_line,
+    CheckOptions, CheckStart, Ending, FileFibs, Form, Hints, Line, Stop, check_stream, print_line,
 };
 
 /// The arguments of `check`.
@@ -42,14 +44,16 @@ pub fn show_check<'a, F: Files, W: Write>(
     out: &mut Output<'_, W>,
 ) -> Result<Status, Failure<'a>>
     ensures input { request.now.file.now ≡ codes "-" → IfSome (F.known_input files.old) (λ stream.
-        IfOk result (λ status. (r : Reading) → HasStatus r request.now.options stream status)) }
+        IfOk result (λ status. (r : Reading) → ShowsCheck r request.now.options stream
+        (printed W.contents out.old) (printed W.contents out.new) status)) }
     ensures file { request.now.file.now ≢ codes "-"
         → IfSome (F.known files.old request.now.file.now) (λ stream.
-        IfOk result (λ status. (r : Reading) → HasStatus r request.now.options stream status)) }
+        IfOk result (λ status. (r : Reading) → ShowsCheck r request.now.options stream
+        (printed W.contents out.old) (printed W.contents out.new) status)) }
 {
     let pieces = pieces_of(alloc, files, request.file)?;
     let hints = Hints::new(files, request.file);
-    match check_pieces(request.options, hints, pieces, out) {
+    match check_pieces::<Brand, F, F::In, W>(request.options, hints, pieces, out) {
         Ok(ending) => match print_ending(request.options.form, ending, out) {
             Ok(status) => Ok(status),
             Err(failure) => Err(failure),
@@ -59,17 +63,19 @@ pub fn show_check<'a, F: Files, W: Write>(
 }
 
 /// Checks the pieces of a file.
-fn check_pieces<F: Files, R: Read + Drop, W: Write>(
+fn check_pieces<S: CheckStart, F: Files, R: Read + Drop, W: Write>(
     options: CheckOptions,
     hints: Hints<'_, F>,
     pieces: Pieces<R>,
     out: &mut Output<'_, W>,
 ) -> Result<Ending, Stop>
+    requires start { S.start ≡ beginning options pieces.left (printed W.contents out.old) }
     ensures { IfOk result (λ ending. (r : Reading) → (left : Option (List ℕ)) × (text : List ℕ)
-        × ChecksInput r options pieces.left left text ending) }
+        × ChecksInput r options pieces.left left text ending
+        × Appends (printed W.contents out.old) (printed W.contents out.new) text) }
 {
-    let mut ends = Streams::new(hints, pieces, out);
-    match check_stream(options, &mut ends) {
+    let mut input = FileFibs::new(hints, pieces);
+    match check_stream::<S, W, FileFibs<'_, F, R>>(options, &mut input, out) {
         Ok(ending) => Ok(ending),
         Err(stop) => Err(stop),
     }

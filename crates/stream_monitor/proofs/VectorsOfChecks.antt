@@ -2,6 +2,7 @@
 use Rattle.std.proofs.Common.{◌≡◌, ℕ, true, false, List, [], ◌∷◌, ◌++◌, None, Some, inl, inr, refl, sym, ap, ◌∙◌, length, arith}
 use Rattle.std.specs.List.{AllByRecursion, concat}
 use Rattle.std.proofs.lemmas.List.{append-nil, length-append}
+use Rattle.console.specs.declared.output.Output.{Output}
 use Rattle.fib_codec.specs.declared.modes.Mode.TheVariants as modes
 use Rattle.stream_check.specs.Frames.{Fib, Reading}
 use Rattle.stream_check.specs.declared.finding.Event.TheVariants as events
@@ -17,8 +18,8 @@ use Rattle.stream_monitor.specs.declared.options.CheckOptions.{CheckOptions}
 use Rattle.stream_monitor.specs.Frames.{is_full, is_stopped, tally_after, alive_text, frames_text}
 use Rattle.stream_monitor.specs.Decided.{finding_lines}
 use Rattle.stream_monitor.specs.Lines.{line_of}
-use Rattle.stream_monitor.specs.Moments.{moment}
-use Rattle.stream_monitor.specs.Outcome.{GoesOn, EndsFrame, IsTooLong, StopsAtEnd, Checks, IsPrompt, HasFibSize}
+use Rattle.stream_monitor.specs.Outcome.{GoesOn, EndsFrame, IsTooLong, StopsAtEnd, Checks, HasFibSize}
+use Rattle.stream_monitor.specs.Requests.{beginning, IsEmptied, IsPrompt}
 use Rattle.stream_monitor.proofs.Endings.{none_framed, none_there}
 
 -- in mode I, with totals after each second frame; the check does not end with a fault
@@ -122,17 +123,33 @@ not_whole r = inl ([], 7 ∷ [], refl, (goes_on r, omega arith, omega arith))
 not_whole_none : (r : Reading) (text : List ℕ) → StopsAtEnd r options [] [] text (endings.Refused causes.NotWhole) → ⊥
 not_whole_none r text h = absurd (omega (arith, h.1))
 
--- ---- moments
+-- ---- requests
 
-prompt_at_first : (r : Reading) (stream : List ℕ) → IsPrompt r options (Some stream) (Some []) (moment (Some stream) (Some []))
-prompt_at_first r stream = ([], [], refl, goes_on r, refl)
+prompt_at_first : (r : Reading) (stream : List ℕ) → IsPrompt r (beginning options (Some stream) (Some [])) (Some stream) (Some [])
+prompt_at_first r stream = record { fibs = []; text = []; read = refl; goes_on = goes_on r; taken = refl }
 
 -- what was read is a number of whole FIBs
-not_prompt : (r : Reading) → IsPrompt r options (Some (7 ∷ [])) (Some []) (moment (Some []) (Some [])) → ⊥
-not_prompt r h = sized h.0 h.3.sizes h.2
+not_prompt : (r : Reading) → IsPrompt r (beginning options (Some (7 ∷ [])) (Some [])) (Some []) (Some []) → ⊥
+not_prompt r h = sized h.fibs h.goes_on.sizes h.read
   where
     sized : (fibs : List (List ℕ)) → AllByRecursion HasFibSize fibs → 7 ∷ [] ≡ concat fibs ++ [] → ⊥
     sized [] all e = absurd cc
     sized (fib ∷ fibs) all e =
         let len : 1 ≡ length (fib ++ concat fibs) = ap length e ∙ ap length (append-nil (fib ++ concat fibs)) in
         absurd (omega (arith, len, all.0, length-append fib (concat fibs)))
+
+-- nothing is printed before the first FIB
+not_printed : (r : Reading) → IsPrompt r (beginning options (Some []) (Some [])) (Some []) (Some (7 ∷ [])) → ⊥
+not_printed r h = shown h.fibs h.goes_on h.read h.taken
+  where
+    shown : (fibs : List (List ℕ)) → GoesOn r options fibs h.text → [] ≡ concat fibs ++ [] → 7 ∷ [] ≡ h.text → ⊥
+    shown [] g e is = let none = prints_nothing r h.text g in absurd cc
+    shown (fib ∷ fibs) g e is =
+        let len : 0 ≡ length (fib ++ concat fibs) = ap length e ∙ ap length (append-nil (fib ++ concat fibs)) in
+        absurd (omega (arith, len, g.sizes.0, length-append fib (concat fibs)))
+
+emptied : {W : Type 0} → (out : Output W) → out.held.items ≡ [] → IsEmptied out
+emptied out e = ap length e
+
+not_emptied : {W : Type 0} → (out : Output W) → out.held.items ≡ 7 ∷ [] → IsEmptied out → ⊥
+not_emptied out e h = let len : length out.held.items ≡ 1 = ap length e in absurd (omega (arith, len, h))

@@ -7,8 +7,7 @@ pub mod Going
 pub mod Hints
 pub mod Json
 pub mod Lines
-pub mod Moments
 pub mod Outcome
 pub mod Outcomes
-pub mod Streaming
+pub mod Requests
 pub mod Text

@@ -1,7 +1,7 @@
 -- What a check of a stream prints before its last line, and how it ends.
 use Rattle.std.specs.Prelude.{◌≡◌, ◌⊎◌, ℕ, ◌<◌, ◌≤◌, true, false, List, [], ◌∷◌, ◌++◌, length, map, flat_map, Option}
 use Rattle.std.specs.List.{AllByRecursion, concat}
-use Rattle.std.specs.Io.KnownBytes.{Appends, Consumes, IsAtEnd}
+use Rattle.std.specs.Io.KnownBytes.{Consumes, IsAtEnd}
 use Rattle.fib_codec.specs.Modes.{fib_count}
 use Rattle.stream_check.specs.Frames.{Fib, Reading, IsFramed, holds_ensemble, damaged_in}
 use Rattle.stream_check.specs.Memory.{most}
@@ -9,7 +9,6 @@ use Rattle.stream_monitor.specs.declared.ending.Ending.{Ending}
 use Rattle.stream_monitor.specs.declared.ending.Ending.TheVariants as endings
 use Rattle.stream_monitor.specs.declared.line.Cause.TheVariants as causes
 use Rattle.stream_monitor.specs.declared.options.CheckOptions.{CheckOptions}
-use Rattle.stream_monitor.specs.Moments.{Moment, Grows}
 use Rattle.stream_monitor.specs.Frames.{is_full, is_stopped, totals_after, frames_text}
 
 -- ---- after some FIBs
@@ -86,16 +85,3 @@ ChecksInput r o old new text ending =
     ((fibs : List (List ℕ)) × (part : List ℕ) × Consumes old new (concat fibs ++ part) × IsAtEnd new
     × StopsAtEnd r o fibs part text ending)
     ⊎ ((fibs : List (List ℕ)) × (fib more : List ℕ) × Consumes old new (concat fibs ++ (fib ++ more)) × StopsWithFib r o fibs fib text ending)
-
--- ---- when input is requested
-
--- the FIBs so far were read and do not end the check, and the output has taken their lines
-abbrev pub IsPrompt : Reading → CheckOptions → (old before : Option (List ℕ)) → Moment → Type 0
-IsPrompt r o old before m =
-    (fibs : List (List ℕ)) × (text : List ℕ) × Consumes old m.left (concat fibs) × GoesOn r o fibs text × Appends before m.written text
-
--- at each of these moments
-pub record ArePrompt (o : CheckOptions) (left printed : Option (List ℕ)) (old new : Option (List Moment)) : Type 0 where
-  pub moments : List Moment
-  pub grows : Grows old new moments
-  pub prompt : (r : Reading) → AllByRecursion (IsPrompt r o left printed) moments

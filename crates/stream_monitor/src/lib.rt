@@ -1,27 +1,27 @@
 //! Monitors a stream of FIBs: checks it as its bytes come, and prints each finding as a line of text or of JSON.
 //!
-//! The lines are defined in `specs/Text.antt` and `specs/Json.antt`, and where a check ends in
-//! `specs/Checking.antt`.
+//! The lines are defined in `specs/Text.antt` and `specs/Json.antt`, what a check prints and how it ends in
+//! `specs/Outcome.antt`, and what it has printed before it reads on in `specs/Requests.antt`.
 #![tactic(auto)]
 
 pub mod clock;
 pub mod ending;
-pub mod ends;
+pub mod file_fibs;
 pub mod hint;
 pub mod json;
 pub mod laws;
 pub mod line;
 pub mod monitor;
 pub mod options;
+pub mod source;
 pub mod stash;
-pub mod streams;
 pub mod tally;
 pub mod text;
 
 pub use ending::Ending;
-pub use ends::Ends;
+pub use file_fibs::FileFibs;
 pub use hint::{Hint, HintLine, Hints};
 pub use line::{Cause, Form, Line, Totals, print_line};
 pub use monitor::{Stop, check_stream};
 pub use options::CheckOptions;
-pub use streams::Streams;
+pub use source::{CheckStart, FibSource};

@@ -1,24 +1,26 @@
 //! Checks a stream of FIBs as its bytes come.
 
-ghost use Rattle.std.specs.Prelude.{◌≡◌, ◌<◌, ◌%◌, ◌&&◌, ◌==◌, nat_lt, ℕ, List, Option, [], length, IfOk, OnOk, IfSome};
+ghost use Rattle.std.specs.Prelude.{◌≡◌, ◌<◌, ◌+◌, ◌*◌, ◌/◌, ◌%◌, ℕ, List, Option, [], length, slice_range, IfOk, OnOk, IfSome};
 ghost use Rattle.std.specs.Io.KnownBytes.{Appends, IsAtEnd};
+ghost use Rattle.console.specs.Printed.{printed};
 ghost use Rattle.stream_check.specs.Frames.{Reading};
-ghost use Rattle.stream_check.specs.Following.{Follows};
-ghost use Rattle.stream_check.specs.Reported.{Unknown};
 ghost use Rattle.stream_monitor.specs.Checking.{HasReadAll, StopsAtFib, StopsAtPiece};
 ghost use Rattle.stream_monitor.specs.Decided.{finding_lines, is_due};
 ghost use Rattle.stream_monitor.specs.Going.{IsAfter, EndsFrameFrom, cause_of, due_text, end_of, ChecksFib, ChecksPiece};
 ghost use Rattle.stream_monitor.specs.declared.ending.Ending.TheVariants.{Refused};
 ghost use Rattle.stream_monitor.specs.declared.options.CheckOptions.{CheckOptions as OptionsOf};
-ghost use Rattle.stream_monitor.specs.Outcome.{ArePrompt, ChecksInput, StopsAtEnd};
+ghost use Rattle.stream_monitor.specs.Outcome.{ChecksInput, StopsAtEnd};
+ghost use Rattle.stream_monitor.specs.Requests.{beginning};
 
 use crate::ending::Ending;
-use crate::ends::Ends;
-use crate::line::{Cause, Form, Line, Totals};
+use crate::line::{Cause, Form, Line, Totals, print_line};
 use crate::options::CheckOptions;
+use crate::source::{CheckStart, FibSource};
 use crate::stash::Stash;
 use crate::tally::{Tally, counted, no_tally};
 use console::files::FileFault;
+use console::output::Output;
+use std::io::Write;
 use stream_check::{CheckFault, Checker, Finding, Summary};
 
 /// More pieces than any stream has, of which each but the last has a FIB.
@@ -64,46 +66,47 @@ fn totals_of(tally: Tally, summary: Summary) -> Totals
 }
 
 /// Checks a stream of FIBs as it comes: for each frame that its bytes decide the findings are printed, a line each, and
-/// the totals so far where they are due. Before more input is requested, the output has taken all these lines.
-/// Returns how the check ends, which is its last line and is not printed here.
+/// the totals so far where they are due. Before more input is requested, the output has taken all these lines, which
+/// [`FibSource::next`] requires. Returns how the check ends, which is its last line and is not printed here.
 ///
 /// # Errors
 ///
 /// `Read` if the input failed; `Write` if the output failed, after which nothing is printed; `Memory` if a frame has
 /// more than 1,024 findings, which none has.
 #[tactic(auto, using(crate::proofs::Stopping::stopped_reading))]
-pub fn check_stream<E: Ends>(options: CheckOptions, ends: &mut E) -> Result<Ending, Stop>
+pub fn check_stream<S: CheckStart, W: Write, I: FibSource<S, W>>(
+    options: CheckOptions,
+    input: &mut I,
+    out: &mut Output<'_, W>,
+) -> Result<Ending, Stop>
+    // What `next` requires is said from here on. No input and no output is excluded: a caller picks `S`.
+    requires start { S.start ≡ beginning options (I.left input.old) (printed W.contents out.old) }
     // What is printed, and how the check ends.
     ensures checked { IfOk result (λ ending. (r : Reading) → (text : List ℕ)
-        × ChecksInput r options (E.left ends.old) (E.left ends.new) text ending
-        × Appends (E.printed ends.old) (E.printed ends.new) text) }
-    // Each time input is requested, the output has taken the lines of all FIBs before.
-    ensures prompt { ArePrompt options (E.left ends.old) (E.printed ends.old)
-        (E.moments ends.old) (E.moments ends.new) }
-    ensures all { IfOk result (λ ending. HasReadAll options ending (E.left ends.new)) }
-    // The output is the same one.
-    ensures output { E.output ends.new ≡ E.output ends.old }
+        × ChecksInput r options (I.left input.old) (I.left input.new) text ending
+        × Appends (printed W.contents out.old) (printed W.contents out.new) text) }
+    ensures all { IfOk result (λ ending. HasReadAll options ending (I.left input.new)) }
 {
     let mut state = start(options);
     let mut stash = Stash::new();
     for _ in 0..MOST_PIECES {
-        match ends.flush() {
+        match out.flush() {
             Ok(()) => {}
             Err(_) => return Err(Stop::Write),
         }
-        match ends.next() {
+        match input.next(out) {
             Ok(true) => {}
             Ok(false) => {
-                ends.end();
+                input.end();
                 return Ok(finish(options, &state));
             }
             Err(fault) => return Err(Stop::Read(fault)),
         }
-        match check_piece(options, &mut state, &mut stash, ends) {
-            Ok(None) => ends.look(),
+        match check_piece(options, &mut state, &mut stash, input.piece(), out) {
+            Ok(None) => input.look(),
             Ok(Some(ending)) => {
-                ends.look();
-                ends.end();
+                input.look();
+                input.end();
                 return Ok(ending);
             }
             Err(stop) => return Err(stop),
@@ -114,56 +117,59 @@ pub fn check_stream<E: Ends>(options: CheckOptions, ends: &mut E) -> Result<Endi
 
 /// Checks the FIBs of a piece, and returns the end of the check if it comes with them.
 #[tactic(auto, using(crate::proofs::Stopping::stops_in_piece))]
-fn check_piece<E: Ends>(
+fn check_piece<W: Write>(
     options: CheckOptions,
     state: &mut State,
     stash: &mut Stash,
-    ends: &mut E,
+    piece: &[u8],
+    out: &mut Output<'_, W>,
 ) -> Result<Option<Ending>, Stop>
-    ensures checked { IfOk result (λ e. ChecksPiece options (E.piece ends.old)
-        state.old state.new (E.printed ends.old) (E.printed ends.new) e) }
-    ensures ended { IfOk result (λ e. IfSome e (StopsAtPiece options (E.piece ends.old))) }
-    ensures left { E.left ends.new ≡ E.left ends.old }
-    ensures output { E.output ends.new ≡ E.output ends.old }
-    ensures moments { E.moments ends.new ≡ E.moments ends.old }
+    ensures checked { IfOk result (λ e. ChecksPiece options piece.now state.old state.new
+        (printed W.contents out.old) (printed W.contents out.new) e) }
+    ensures ended { IfOk result (λ e. IfSome e (StopsAtPiece options piece.now)) }
 {
-    let len = ends.piece().len();
     let mut number = 0;
-    while number < len / 32 {
-        let fib = ends.fib(number);
-        match check_fib(options, state, stash, &fib, ends) {
+    while number < piece.len() / 32 {
+        let fib = fib_of(piece, number);
+        match check_fib(options, state, stash, &fib, out) {
             Ok(None) => number += 1,
             Ok(Some(ending)) => return Ok(Some(ending)),
             Err(stop) => return Err(stop),
         }
     }
-    if len % 32 > 0 {
+    if piece.len() % 32 > 0 {
         return Ok(Some(Ending::Refused(Cause::NotWhole)));
     }
     Ok(None)
 }
 
+/// A FIB of a piece, by its number from 0.
+fn fib_of(piece: &[u8], number: usize) -> [u8; 32]
+    requires { number < length piece.now / 32 }
+    ensures { result ≡ slice_range piece.now (32 * number) (32 * number + 32) }
+{
+    let mut fib = [0u8; 32];
+    fib.copy_from_slice(&piece[32 * number..32 * number + 32]);
+    fib
+}
+
 /// Checks a FIB, prints the lines of the frame that it ends, if it ends one, and returns the end of the check if it
 /// comes with it.
-fn check_fib<E: Ends>(
+fn check_fib<W: Write>(
     options: CheckOptions,
     state: &mut State,
     stash: &mut Stash,
     fib: &[u8; 32],
-    ends: &mut E,
+    out: &mut Output<'_, W>,
 ) -> Result<Option<Ending>, Stop>
-    ensures checked { IfOk result (λ e. ChecksFib options fib.now
-        state.old state.new (E.printed ends.old) (E.printed ends.new) e) }
+    ensures checked { IfOk result (λ e. ChecksFib options fib.now state.old state.new
+        (printed W.contents out.old) (printed W.contents out.new) e) }
     ensures ended { IfOk result (λ e. IfSome e (StopsAtFib options)) }
-    ensures left { E.left ends.new ≡ E.left ends.old }
-    ensures piece { E.piece ends.new ≡ E.piece ends.old }
-    ensures output { E.output ends.new ≡ E.output ends.old }
-    ensures moments { E.moments ends.new ≡ E.moments ends.old }
 {
     stash.clear();
     let heard = state.checker.hear(fib, stash);
     match stash.findings() {
-        Some(findings) => match print_findings(options.form, findings, ends) {
+        Some(findings) => match print_findings(options.form, findings, out) {
             Ok(()) => state.tally = counted(state.tally, findings),
             Err(stop) => return Err(stop),
         },
@@ -171,7 +177,7 @@ fn check_fib<E: Ends>(
     }
     match heard {
         Ok(false) => Ok(None),
-        Ok(true) => match end_frame(options, state, ends) {
+        Ok(true) => match end_frame(options, state, out) {
             Ok(ending) => Ok(ending),
             Err(stop) => Err(stop),
         },
@@ -191,17 +197,17 @@ fn cause_of(fault: CheckFault) -> Cause
 }
 
 /// Prints findings, a line each.
-fn print_findings<E: Ends>(form: Form, findings: &[Finding], ends: &mut E) -> Result<(), Stop>
-    ensures printed { OnOk result
-        (Appends (E.printed ends.old) (E.printed ends.new) (finding_lines form findings.now)) }
-    ensures left { E.left ends.new ≡ E.left ends.old }
-    ensures piece { E.piece ends.new ≡ E.piece ends.old }
-    ensures output { E.output ends.new ≡ E.output ends.old }
-    ensures moments { E.moments ends.new ≡ E.moments ends.old }
+fn print_findings<W: Write>(
+    form: Form,
+    findings: &[Finding],
+    out: &mut Output<'_, W>,
+) -> Result<(), Stop>
+    ensures { OnOk result (Appends (printed W.contents out.old) (printed W.contents out.new)
+        (finding_lines form findings.now)) }
 {
     let mut rest = findings;
     while let Some((finding, after)) = rest.split_first() {
-        match ends.print(form, &Line::Found(*finding)) {
+        match print_line(form, &Line::Found(*finding), out) {
             Ok(()) => rest = after,
             Err(_) => return Err(Stop::Write),
         }
@@ -223,18 +229,18 @@ fn is_due(every: Option<u32>, frames: u64) -> bool
 }
 
 /// Prints the totals so far, if they are due.
-fn print_due<E: Ends>(options: CheckOptions, totals: Totals, ends: &mut E) -> Result<(), Stop>
-    ensures printed { OnOk result
-        (Appends (E.printed ends.old) (E.printed ends.new) (due_text options totals)) }
-    ensures left { E.left ends.new ≡ E.left ends.old }
-    ensures piece { E.piece ends.new ≡ E.piece ends.old }
-    ensures output { E.output ends.new ≡ E.output ends.old }
-    ensures moments { E.moments ends.new ≡ E.moments ends.old }
+fn print_due<W: Write>(
+    options: CheckOptions,
+    totals: Totals,
+    out: &mut Output<'_, W>,
+) -> Result<(), Stop>
+    ensures { OnOk result (Appends (printed W.contents out.old) (printed W.contents out.new)
+        (due_text options totals)) }
 {
     if !is_due(options.every, totals.summary.frames) {
         return Ok(());
     }
-    match ends.print(options.form, &Line::Alive(totals)) {
+    match print_line(options.form, &Line::Alive(totals), out) {
         Ok(()) => Ok(()),
         Err(_) => Err(Stop::Write),
     }
@@ -254,21 +260,17 @@ fn end_of(options: CheckOptions, totals: Totals) -> Option<Ending>
 
 /// Ends a frame: prints the totals so far, if they are due, and returns the end of the check if it ends with a fault
 /// that was found.
-fn end_frame<E: Ends>(
+fn end_frame<W: Write>(
     options: CheckOptions,
     state: &State,
-    ends: &mut E,
+    out: &mut Output<'_, W>,
 ) -> Result<Option<Ending>, Stop>
     ensures ends { IfOk result (EndsFrameFrom options state.now
-        (E.printed ends.old) (E.printed ends.new)) }
+        (printed W.contents out.old) (printed W.contents out.new)) }
     ensures ended { IfOk result (λ e. IfSome e (StopsAtFib options)) }
-    ensures left { E.left ends.new ≡ E.left ends.old }
-    ensures piece { E.piece ends.new ≡ E.piece ends.old }
-    ensures output { E.output ends.new ≡ E.output ends.old }
-    ensures moments { E.moments ends.new ≡ E.moments ends.old }
 {
     let totals = totals_of(state.tally, state.checker.decided());
-    match print_due(options, totals, ends) {
+    match print_due(options, totals, out) {
         Ok(()) => Ok(end_of(options, totals)),
         Err(stop) => Err(stop),
     }

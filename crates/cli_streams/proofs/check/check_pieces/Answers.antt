@@ -5,5 +5,4 @@ use Rattle.cli_streams.proofs.check.check_pieces.Goals as goal
 
 pub returns-in-Ok : goal.returns-in-Ok
 returns-in-Ok g c = λ r.
-    let one = c.in-Ok.ensures.checked r in
-    checks_from r c.args.options _ c.args.pieces.left _ one.0 c.in-Ok.ending (ap (λ (p : ReadingOf). p.left) c.new-ends.ensures.pieces) one.1
+    checks_from r c.args.options _ c.args.pieces.left _ _ _ c.in-Ok.ending (ap (λ (p : ReadingOf). p.left) c.new-input.ensures) (c.in-Ok.ensures.checked r)

@@ -1,74 +1,51 @@
-use Rattle.std.proofs.Common.{ℕ, List, Option, refl, sym, ◌∙◌, subst}
+use Rattle.std.proofs.Common.{ℕ, List, Option, None, Some, refl, ◌∙◌, subst}
 use Rattle.std.proofs.KnownBytes.{Appends-nil, Keeps-refl}
-use Rattle.std.specs.Io.KnownBytes.{Keeps}
+use Rattle.console.specs.Printed.{printed}
 use Rattle.stream_monitor.specs.declared.ending.Ending.{Ending}
 use Rattle.stream_monitor.specs.Going.{ChecksPiece}
 use Rattle.stream_monitor.proofs.Pieces.{stream_begins, stream_more, stream_stops, stream_ends, so_far_kept}
-use Rattle.stream_monitor.proofs.Requests.{none_requested, asked, still_prompt}
+use Rattle.stream_monitor.proofs.Requests.{prompt}
 use Rattle.stream_monitor.proofs.monitor.check_stream.Goals as goal
 
 pub loop-init : goal.loop-init
-loop-init g c = (
-  stream_begins c.args.options c.start-state.result (g.E.Ends.left c.args.ends.now) (g.E.Ends.printed c.args.ends.now) (g.E.Ends.printed c.args.ends.now) c.start-state.ensures (Appends-nil (g.E.Ends.printed c.args.ends.now)),
-  none_requested c.args.options (g.E.Ends.left c.args.ends.now) (g.E.Ends.printed c.args.ends.now) (g.E.Ends.moments c.args.ends.now),
-  refl,
-)
+loop-init g c =
+    let shown = printed g.W.Write.contents c.args.out.now in
+    stream_begins c.args.options c.start-state.result (g.I.FibSource.left c.args.input.now) shown shown c.start-state.ensures (Appends-nil shown)
 
-pub returns-in-Err-clause-prompt : goal.returns-in-Err-clause-prompt
-returns-in-Err-clause-prompt g c = still_prompt c.args.options _ _ _ _ _ c.loop.invariant.1 c.flush.ensures.moments
-
-pub returns-in-Err-next-clause-prompt : goal.returns-in-Err-next-clause-prompt
-returns-in-Err-next-clause-prompt g c =
-    asked c.args.options (g.E.Ends.left c.args.ends.now) (g.E.Ends.printed c.args.ends.now) c.loop.state (g.E.Ends.left c.loop.ends) (g.E.Ends.left c.flush.new.self) (g.E.Ends.printed c.loop.ends) (g.E.Ends.printed c.flush.new.self) (g.E.Ends.written c.flush.new.self)
-    (g.E.Ends.moments c.args.ends.now) (g.E.Ends.moments c.loop.ends) (g.E.Ends.moments c.flush.new.self) (g.E.Ends.moments c.next.new.self) (g.E.Ends.moments c.next.new.self)
-    c.loop.invariant.0 c.loop.invariant.1 c.flush.ensures.left c.flush.ensures.printed c.flush.ensures.moments c.in-Ok.ensures.written c.next.ensures.moments refl
-
-pub returns-in-Ok-false-clause-prompt : goal.returns-in-Ok-false-clause-prompt
-returns-in-Ok-false-clause-prompt g c =
-    asked c.args.options (g.E.Ends.left c.args.ends.now) (g.E.Ends.printed c.args.ends.now) c.loop.state (g.E.Ends.left c.loop.ends) (g.E.Ends.left c.flush.new.self) (g.E.Ends.printed c.loop.ends) (g.E.Ends.printed c.flush.new.self) (g.E.Ends.written c.flush.new.self)
-    (g.E.Ends.moments c.args.ends.now) (g.E.Ends.moments c.loop.ends) (g.E.Ends.moments c.flush.new.self) (g.E.Ends.moments c.next.new.self) (g.E.Ends.moments c.end.new.self)
-    c.loop.invariant.0 c.loop.invariant.1 c.flush.ensures.left c.flush.ensures.printed c.flush.ensures.moments c.in-Ok.ensures.written c.next.ensures.moments c.end.ensures.moments
-
-pub returns-in-Ok-Some-clause-prompt : goal.returns-in-Ok-Some-clause-prompt
-returns-in-Ok-Some-clause-prompt g c =
-    asked c.args.options (g.E.Ends.left c.args.ends.now) (g.E.Ends.printed c.args.ends.now) c.loop.state (g.E.Ends.left c.loop.ends) (g.E.Ends.left c.flush.new.self) (g.E.Ends.printed c.loop.ends) (g.E.Ends.printed c.flush.new.self) (g.E.Ends.written c.flush.new.self)
-    (g.E.Ends.moments c.args.ends.now) (g.E.Ends.moments c.loop.ends) (g.E.Ends.moments c.flush.new.self) (g.E.Ends.moments c.next.new.self) (g.E.Ends.moments c.end-in-Ok-Some.new.self)
-    c.loop.invariant.0 c.loop.invariant.1 c.flush.ensures.left c.flush.ensures.printed c.flush.ensures.moments c.in-Ok.ensures.written c.next.ensures.moments (c.end-in-Ok-Some.ensures.moments ∙ c.look-in-Ok-Some.ensures.moments ∙ c.check_piece.ensures.moments)
-
-pub returns-in-Err-check_piece-clause-prompt : goal.returns-in-Err-check_piece-clause-prompt
-returns-in-Err-check_piece-clause-prompt g c =
-    asked c.args.options (g.E.Ends.left c.args.ends.now) (g.E.Ends.printed c.args.ends.now) c.loop.state (g.E.Ends.left c.loop.ends) (g.E.Ends.left c.flush.new.self) (g.E.Ends.printed c.loop.ends) (g.E.Ends.printed c.flush.new.self) (g.E.Ends.written c.flush.new.self)
-    (g.E.Ends.moments c.args.ends.now) (g.E.Ends.moments c.loop.ends) (g.E.Ends.moments c.flush.new.self) (g.E.Ends.moments c.next.new.self) (g.E.Ends.moments c.check_piece.new.ends)
-    c.loop.invariant.0 c.loop.invariant.1 c.flush.ensures.left c.flush.ensures.printed c.flush.ensures.moments c.in-Ok.ensures.written c.next.ensures.moments c.check_piece.ensures.moments
+pub next-requires : goal.next-requires
+next-requires g c = record {
+  emptied = c.in-Ok.ensures.emptied;
+  prompt = prompt g.S.CheckStart.start c.args.options (g.I.FibSource.left c.args.input.now) (printed g.W.Write.contents c.args.out.now) c.loop.state _ _ _ c.requires.start c.loop.invariant c.in-Ok.ensures.passed;
+}
 
 pub returns-in-Ok-false-clause-checked : goal.returns-in-Ok-false-clause-checked
 returns-in-Ok-false-clause-checked g c =
-    let so_far = so_far_kept c.args.options (g.E.Ends.left c.args.ends.now) (g.E.Ends.printed c.args.ends.now) c.loop.state (g.E.Ends.left c.loop.ends) (g.E.Ends.left c.flush.new.self) (g.E.Ends.printed c.loop.ends) (g.E.Ends.printed c.next.new.self)
-    c.loop.invariant.0 c.flush.ensures.left (subst (λ (x : Option (List ℕ)). Keeps (g.E.Ends.printed c.loop.ends) x) (sym c.next.ensures.printed) c.flush.ensures.printed) in
-    stream_ends c.args.options (g.E.Ends.left c.args.ends.now) (g.E.Ends.printed c.args.ends.now) c.loop.state (g.E.Ends.left c.flush.new.self) (g.E.Ends.left c.next.new.self) (g.E.Ends.left c.end.new.self) (g.E.Ends.printed c.next.new.self) (g.E.Ends.printed c.end.new.self)
-    (g.E.Ends.piece c.next.new.self) c.finish.result so_far c.in-Ok-false.ensures.bytes (c.in-Ok-false.ensures.none c.in-Ok-false.field-0-test) (c.in-Ok-false.ensures.end c.in-Ok-false.field-0-test) c.finish.ensures.ends
-    c.end.ensures.left c.end.ensures.printed
+    let start = g.I.FibSource.left c.args.input.now in
+    let shown = printed g.W.Write.contents c.args.out.now in
+    let so_far = so_far_kept c.args.options start shown c.loop.state _ _ _ _ c.loop.invariant refl c.flush.ensures.bytes in
+    stream_ends c.args.options start shown c.loop.state _ _ _ _ _ (g.I.FibSource.piece c.next.new.self) c.finish.result so_far c.in-Ok-false.ensures.bytes (c.in-Ok-false.ensures.none c.in-Ok-false.field-0-test)
+    (c.in-Ok-false.ensures.end c.in-Ok-false.field-0-test) c.finish.ensures.ends c.end.ensures.left refl
 
 pub returns-in-Ok-Some-clause-checked : goal.returns-in-Ok-Some-clause-checked
 returns-in-Ok-Some-clause-checked g c =
-    let so_far = so_far_kept c.args.options (g.E.Ends.left c.args.ends.now) (g.E.Ends.printed c.args.ends.now) c.loop.state (g.E.Ends.left c.loop.ends) (g.E.Ends.left c.flush.new.self) (g.E.Ends.printed c.loop.ends) (g.E.Ends.printed c.next.new.self)
-    c.loop.invariant.0 c.flush.ensures.left (subst (λ (x : Option (List ℕ)). Keeps (g.E.Ends.printed c.loop.ends) x) (sym c.next.ensures.printed) c.flush.ensures.printed) in
-    let piece = subst (λ (x : Option Ending). ChecksPiece c.args.options (g.E.Ends.piece c.next.new.self) c.loop.state c.check_piece.new.state (g.E.Ends.printed c.next.new.self) (g.E.Ends.printed c.check_piece.new.ends) x) c.in-Ok-Some.field-0-is c.in-Ok-Some.ensures.checked in
-    stream_stops c.args.options (g.E.Ends.left c.args.ends.now) (g.E.Ends.printed c.args.ends.now) c.loop.state c.check_piece.new.state (g.E.Ends.left c.flush.new.self) (g.E.Ends.left c.next.new.self) (g.E.Ends.left c.end-in-Ok-Some.new.self) (g.E.Ends.printed c.next.new.self)
-    (g.E.Ends.printed c.check_piece.new.ends) (g.E.Ends.printed c.end-in-Ok-Some.new.self) (g.E.Ends.piece c.next.new.self) c.in-Ok-Some.ending so_far c.in-Ok-true.ensures.bytes c.in-Ok-true.ensures.last piece
-    (c.end-in-Ok-Some.ensures.left ∙ c.look-in-Ok-Some.ensures.left ∙ c.check_piece.ensures.left) (c.end-in-Ok-Some.ensures.printed ∙ c.look-in-Ok-Some.ensures.printed)
+    let start = g.I.FibSource.left c.args.input.now in
+    let shown = printed g.W.Write.contents c.args.out.now in
+    let before = printed g.W.Write.contents c.flush.new.self in
+    let after = printed g.W.Write.contents c.check_piece.new.out in
+    let so_far = so_far_kept c.args.options start shown c.loop.state _ _ _ _ c.loop.invariant refl c.flush.ensures.bytes in
+    let here = subst (λ (x : Option Ending). ChecksPiece c.args.options c.piece.result.now c.loop.state c.check_piece.new.state before after x) c.in-Ok-Some.field-0-is c.in-Ok-Some.ensures.checked in
+    let piece = subst (λ (l : List ℕ). ChecksPiece c.args.options l c.loop.state c.check_piece.new.state before after (Some c.in-Ok-Some.ending)) c.piece.ensures here in
+    stream_stops c.args.options start shown c.loop.state c.check_piece.new.state _ (g.I.FibSource.left c.next.new.self) (g.I.FibSource.left c.end-in-Ok-Some.new.self) before after after (g.I.FibSource.piece c.next.new.self)
+    c.in-Ok-Some.ending so_far c.in-Ok-true.ensures.bytes c.in-Ok-true.ensures.last piece (c.end-in-Ok-Some.ensures.left ∙ c.look-in-Ok-Some.ensures.left) refl
 
 pub loop-preserved : goal.loop-preserved
 loop-preserved g c =
-    let so_far = so_far_kept c.args.options (g.E.Ends.left c.args.ends.now) (g.E.Ends.printed c.args.ends.now) c.loop.state (g.E.Ends.left c.loop.ends) (g.E.Ends.left c.flush.new.self) (g.E.Ends.printed c.loop.ends) (g.E.Ends.printed c.next.new.self)
-    c.loop.invariant.0 c.flush.ensures.left (subst (λ (x : Option (List ℕ)). Keeps (g.E.Ends.printed c.loop.ends) x) (sym c.next.ensures.printed) c.flush.ensures.printed) in
-    let piece = subst (λ (x : Option Ending). ChecksPiece c.args.options (g.E.Ends.piece c.next.new.self) c.loop.state c.check_piece.new.state (g.E.Ends.printed c.next.new.self) (g.E.Ends.printed c.check_piece.new.ends) x) c.in-Ok-None.field-0-is c.in-Ok-None.ensures.checked in
-    let more = stream_more c.args.options (g.E.Ends.left c.args.ends.now) (g.E.Ends.printed c.args.ends.now) c.loop.state c.check_piece.new.state (g.E.Ends.left c.flush.new.self) (g.E.Ends.left c.next.new.self) (g.E.Ends.printed c.next.new.self) (g.E.Ends.printed c.check_piece.new.ends)
-    (g.E.Ends.piece c.next.new.self) so_far c.in-Ok-true.ensures.bytes piece in (
-      so_far_kept c.args.options (g.E.Ends.left c.args.ends.now) (g.E.Ends.printed c.args.ends.now) c.check_piece.new.state (g.E.Ends.left c.next.new.self) (g.E.Ends.left c.look.new.self) (g.E.Ends.printed c.check_piece.new.ends) (g.E.Ends.printed c.look.new.self)
-          more (c.look.ensures.left ∙ c.check_piece.ensures.left) (subst (λ (x : Option (List ℕ)). Keeps (g.E.Ends.printed c.check_piece.new.ends) x) (sym c.look.ensures.printed) (Keeps-refl (g.E.Ends.printed c.check_piece.new.ends))),
-      asked c.args.options (g.E.Ends.left c.args.ends.now) (g.E.Ends.printed c.args.ends.now) c.loop.state (g.E.Ends.left c.loop.ends) (g.E.Ends.left c.flush.new.self) (g.E.Ends.printed c.loop.ends) (g.E.Ends.printed c.flush.new.self) (g.E.Ends.written c.flush.new.self)
-          (g.E.Ends.moments c.args.ends.now) (g.E.Ends.moments c.loop.ends) (g.E.Ends.moments c.flush.new.self) (g.E.Ends.moments c.next.new.self) (g.E.Ends.moments c.look.new.self)
-          c.loop.invariant.0 c.loop.invariant.1 c.flush.ensures.left c.flush.ensures.printed c.flush.ensures.moments c.in-Ok.ensures.written c.next.ensures.moments (c.look.ensures.moments ∙ c.check_piece.ensures.moments),
-      c.look.ensures.output ∙ c.check_piece.ensures.output ∙ c.next.ensures.output ∙ c.flush.ensures.output ∙ c.loop.invariant.2,
-    )
+    let start = g.I.FibSource.left c.args.input.now in
+    let shown = printed g.W.Write.contents c.args.out.now in
+    let before = printed g.W.Write.contents c.flush.new.self in
+    let after = printed g.W.Write.contents c.check_piece.new.out in
+    let so_far = so_far_kept c.args.options start shown c.loop.state _ _ _ _ c.loop.invariant refl c.flush.ensures.bytes in
+    let here = subst (λ (x : Option Ending). ChecksPiece c.args.options c.piece.result.now c.loop.state c.check_piece.new.state before after x) c.in-Ok-None.field-0-is c.in-Ok-None.ensures.checked in
+    let piece = subst (λ (l : List ℕ). ChecksPiece c.args.options l c.loop.state c.check_piece.new.state before after None) c.piece.ensures here in
+    let more = stream_more c.args.options start shown c.loop.state c.check_piece.new.state _ (g.I.FibSource.left c.next.new.self) before after (g.I.FibSource.piece c.next.new.self) so_far c.in-Ok-true.ensures.bytes piece in
+    so_far_kept c.args.options start shown c.check_piece.new.state _ (g.I.FibSource.left c.look.new.self) after after more c.look.ensures.left (Keeps-refl after)

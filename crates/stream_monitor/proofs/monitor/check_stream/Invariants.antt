@@ -1,11 +1,8 @@
--- The pieces so far are checked, and so it was whenever input was requested.
-use Rattle.std.proofs.Common.{◌≡◌}
+-- The pieces so far are checked, and their lines printed.
+use Rattle.console.specs.Printed.{printed}
 use Rattle.stream_monitor.specs.Going.{ChecksSoFar}
-use Rattle.stream_monitor.specs.Outcome.{ArePrompt}
 use Rattle.stream_monitor.proofs.monitor.check_stream.Given as goal
 
 abbrev pub invariant-loop : goal.invariant-loop
 invariant-loop g l =
-    ChecksSoFar l.options (g.E.Ends.left l.initial.ends) (g.E.Ends.printed l.initial.ends) l.state (g.E.Ends.left l.ends) (g.E.Ends.printed l.ends)
-    × ArePrompt l.options (g.E.Ends.left l.initial.ends) (g.E.Ends.printed l.initial.ends) (g.E.Ends.moments l.initial.ends) (g.E.Ends.moments l.ends)
-    × (g.E.Ends.output l.ends ≡ g.E.Ends.output l.initial.ends)
+    ChecksSoFar l.options (g.I.FibSource.left l.initial.input) (printed g.W.Write.contents l.initial.out) l.state (g.I.FibSource.left l.input) (printed g.W.Write.contents l.out)

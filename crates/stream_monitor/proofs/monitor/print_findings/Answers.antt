@@ -11,10 +11,6 @@ loop-finding-preserved g c =
     let one = line_of c.args.form (lines.Found c.in-Some.finding.now) in
     let cut : c.loop-finding.rest.now ≡ c.in-Some.finding.now ∷ c.in-Some.after.now = search rules in (
       so_far.0 ++ one,
-      Appends-trans _ _ _ so_far.0 one so_far.1 c.in-Ok.ensures.printed,
+      Appends-trans _ _ _ so_far.0 one so_far.1 c.in-Ok.ensures,
       append_assoc so_far.0 one (finding_lines c.args.form c.in-Some.after.now) ∙ ap (λ l. so_far.0 ++ finding_lines c.args.form l) (sym cut) ∙ so_far.2,
-      c.print.ensures.left ∙ so_far.3,
-      c.print.ensures.piece ∙ so_far.4,
-      c.print.ensures.moments ∙ so_far.5,
-      c.print.ensures.output ∙ so_far.6,
     )
