@@ -1,5 +1,5 @@
 #!/usr/bin/env python3
-"""Long runs, started by hand and not by `./test`: they take ten minutes.
+"""Long runs, ten minutes, which `./test` leaves out: `./test tests/faults/long_runs.py`.
 
 A hundred million frames in the memory of a hundred; a day of a plan with a swap every 300 frames, heard by a
 listener that is always right; and an event file with more than 2^32 frames. The last line

@@ -1,4 +1,4 @@
-"""Shared by the scripts of faults: the built programs, how they are run, and the count of passed and failed."""
+"""Shared by the scripts of tests/: the built programs, how they are run, and the count of passed and failed."""
 import pathlib
 import resource
 import shutil

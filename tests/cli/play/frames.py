@@ -4,13 +4,10 @@ and the bytes of frames. The last line is 'N passed, M failed'."""
 import re
 
 import rows
-from codes import AT_64, PROGRAMME, SMALL_SUBS, code
+from codes import ADDED, AT_64, PROGRAMME, SMALL_SUBS, code
 from rows import hexadecimal
 
 REPORT = re.compile(r"frames (\d+) steps (\d+) pc (\d+) line (\d+) count (\d+) remaining (\w+)")
-
-# One programme of 128 kbit/s is put on the air.
-ADDED = "sub 1 at 0 eep 3-A 128, service C221, audio 63 sub 1 in C221"
 
 # Its FIG 0/1 at 128 and at 96 kbit/s, and its FIG 0/2.
 AT_128, AT_96, SERVICE = "05 01 04 00 88 60", "05 01 04 00 88 48", "06 02 C2 21 01 3F 06"

@@ -2,8 +2,8 @@
 """'dabplan listen --script' and 'frame --script': a received configuration as a script, and a frame of a script. The last
 line is 'N passed, M failed'."""
 import rows
-from listen import ONE_PROGRAMME, stream
 from rows import NO_FIB
+from streams import ONE_PROGRAMME, stream
 
 HEADER = "ensemble E1C5\nperiod 4 notice 240 budget 20\n"
 ITEMS = "sub 1 at 0 eep 3-A 128\nservice C221\naudio 63 sub 1 in C221\n"

@@ -1,11 +1,9 @@
 """Shared by the scripts of tests/cli/: runs a command line over its files, and compares the output with the expected one."""
 import pathlib
 import re
-import sys
 import tempfile
 
-sys.path.insert(0, str(pathlib.Path(__file__).resolve().parent.parent / "faults"))
-import common  # noqa: E402
+import common
 
 # Sub-channel 1 at 0, 3-A, 128 kbit/s, and service C221 with audio of type 63 on it.
 ONE_PROGRAMME = "01 01 00 01 00 00 00 03 00 80 00 C2 21 01 00 3F 01"

@@ -2,14 +2,14 @@
 """'reserve' in the header of a script, '--reserve', and code files of version 3: FIBs that a plan leaves empty in each frame.
 The last line is 'N passed, M failed'."""
 import rows
-from codes import SMALL_SUBS
-from listen import ONE_PROGRAMME as RECEIVED, stream
-from rows import NOTHING_FILE, ONE_PROGRAMME, RATES, RATES_FILE, hexadecimal
+from codes import SMALL_SUBS, code, rates
+from rows import ONE_PROGRAMME, RATES, hexadecimal
+from streams import ONE_PROGRAMME as RECEIVED, stream
 
 EMPTY_FIB = "FF0000000000000000000000000000000000000000000000000000000000A8A8\n"
 EMPTY = bytes.fromhex(EMPTY_FIB)
 
-# Scripts that end at once, in each mode, and the code files that they have without a reserve.
+# Scripts that end at once, in each mode.
 HEADER = "ensemble E1C5{}\nperiod 4 notice 24 budget 20{}\n"
 MODES = ("", " mode 2", " mode 3", " mode 4")
 
@@ -22,11 +22,6 @@ def reserving(text, reserve=1):
     return text.replace("budget 20", f"budget 20 reserve {reserve}", 1)
 
 
-def code(mode, reserve, file=NOTHING_FILE):
-    """A code file with this mode and reserve: those bytes follow the version 3."""
-    return hexadecimal(file.replace("42 50 01", f"42 50 03 {mode:02X} {reserve:02X}", 1))
-
-
 def headers(rows):
     """1 in each mode, 2 in mode 3 alone; the code file has version 3."""
     for number, mode in enumerate(MODES, 1):
@@ -35,7 +30,7 @@ def headers(rows):
             column = len("period 4 notice 24 budget 20 reserve ") + 1
             if reserve == 1 or (reserve, number) == (2, 3):
                 rows.answers("compile x.plan x.code", 0, "instructions 1 labels 1 configurations 1\n", {"x.plan": script})
-                file = code(number, reserve, NOTHING_FILE.replace("00 01 07", "00 03 07"))
+                file = code("end", mode=number, reserve=reserve, lines=[3])
                 rows.tally.same(f"the code of mode {number} reserve {reserve}", file, rows.made("x.code"))
                 rows.answers("verify x.code", 0, "accepted\n", {"x.code": file})
             else:
@@ -162,7 +157,7 @@ def played(rows):
             script = reserving(RATES.replace("E1C5", f"E1C5{mode}"), reserve)
             rows.answers("compile x.plan x.code", 0, "instructions 9 labels 1 configurations 1\n", {"x.plan": script})
             file = rows.made("x.code")
-            rows.tally.same("the code file", code(number, reserve, RATES_FILE), file)
+            rows.tally.same("the code file", rates(mode=number, reserve=reserve), file)
             rows.answers("play x.code x.events x.fib", 0, "played 601 frames\n", {"x.code": file, "x.events": events})
             made = rows.made("x.fib")
             size = 4 if number == 3 else 3

@@ -9,6 +9,7 @@ import subprocess
 import tempfile
 
 import rows
+import streams
 from rows import RATES, common
 
 BRIDGE = common.TOP / "examples" / "bridge" / "bridge.py"
@@ -24,13 +25,8 @@ MODE_3 = STILL.replace("E1C5", "E1C5 mode 3")
 
 
 def crc(data):
-    """x^16 + x^12 + x^5 + 1, bit by bit from ones, inverted."""
-    register = 0xFFFF
-    for byte in data:
-        for bit in range(7, -1, -1):
-            top = register >> 15 ^ byte >> bit & 1
-            register = register << 1 & 0xFFFF ^ (0x1021 if top else 0)
-    return (register ^ 0xFFFF).to_bytes(2, "big")
+    """The bytes of a CRC in ETI, which is that of a FIB."""
+    return streams.crc(data).to_bytes(2, "big")
 
 
 def eti_frame(count, mode, fic, source):

@@ -6,8 +6,8 @@ import pathlib
 import subprocess
 
 import rows
-from listen import fib
 from rows import RATES_FILE, hexadecimal
+from streams import fib
 
 # FIG 0/0 of ensemble E1C5 and count 0, and FIGs of type 1 with 4, 9 and 14 bytes, the header byte included.
 TUNED = "05 00 E1 C5 00 00"

@@ -2,8 +2,8 @@
 """'dabplan listen': FIBs byte by byte: which are damaged, what is skipped, and what a listener keeps. The last line is 'N
 passed, M failed'."""
 import rows
-from listen import ONE_PROGRAMME, fib, sixty_five, stream
 from rows import hexadecimal
+from streams import ONE_PROGRAMME, fib, sixty_five, stream
 
 # FIG 0/0 of ensemble E1C5 and count 0, and a notice at count 4 of a swap at 28.
 TUNED, NOTICED = "05 00 E1 C5 00 00", "06 00 E1 C5 40 04 1C"

@@ -6,9 +6,11 @@ are separated by commas. A label is its pc, and then, each optional, `of 0 1` (i
 configuration), `within 24 27` or `perhaps 26` (a swap that is pending), `counters 81` and `cost 3`."""
 import struct
 
-# A sub-channel of 128 kbit/s with a service of audio in it, and the same at 64 kbit/s.
+# A sub-channel of 128 kbit/s with a service of audio in it, and the same at 64 kbit/s. As instructions, these are the edits
+# that add it.
 PROGRAMME = "sub 1 at 0 eep 3-A 128, service C221, audio 63 sub 1 in C221"
 AT_64 = PROGRAMME.replace("128", "64")
+ADDED = PROGRAMME
 
 # 64 adjacent sub-channels of four capacity units.
 SMALL_SUBS = ", ".join(f"sub {number} at {4 * number} eep 4-A 8" for number in range(64))
@@ -113,14 +115,31 @@ def label(words):
     return struct.pack(">HHHBHHBB", int(words[0]), current, following, pending, low, high, counters, cost)
 
 
-def code(instructions, labels="0 cost 1", configs=("",), mode=1, period=4, notice=24, budget=20, lines=None):
+def version(mode, reserve):
+    """The version of a code file, with the mode and the reserve if it has them."""
+    if reserve:
+        return bytes([3, mode, reserve])
+    return b"\x01" if mode == 1 else bytes([2, mode])
+
+
+def code(instructions, labels="0 cost 1", configs=("",), mode=1, reserve=0, period=4, notice=24, budget=20, lines=None):
     """The code file of these parts; by default its instructions are in the lines 1, 2 and so on."""
-    version = b"\x01" if mode == 1 else bytes([2, mode])
     table, each = parts(labels), [instruction(words) for words in parts(instructions)]
     numbers = lines or range(1, len(each) + 1)
     return b"".join([
-        b"DABP", version, b"\xe1\xc5", bytes([period, notice, budget]),
+        b"DABP", version(mode, reserve), b"\xe1\xc5", bytes([period, notice, budget]),
         struct.pack(">HHH", len(configs), len(table), len(each)),
         *map(record, configs), *map(label, table),
         *(struct.pack(">H", number) + bytes_of for number, bytes_of in zip(numbers, each)),
     ])
+
+
+def rates(**plan):
+    """The code of the script RATES of rows.py, with the lines of its statements, in this plan."""
+    return code("wait contact 3 closed, rate sub 1 96, commit in 24, join, "
+                "wait contact 3 open, rate sub 1 128, commit in 24, join, jump 0",
+                configs=[PROGRAMME], lines=[8, 9, 10, 11, 12, 13, 14, 15, 7], **plan)
+
+
+# The code of RATES, a code that ends at once, and one whose only instruction is a join without a pending swap.
+RATES_CODE, NOTHING_CODE, REFUSED_CODE = rates(), code("end"), code("join")

@@ -2,8 +2,7 @@
 """'dabplan play' and 'dabplan debug': event files and command files: each fault at its position, and files that are not text. The
 last line is 'N passed, M failed'."""
 import rows
-from codes import code
-from rows import NOTHING_FILE, RATES_FILE, hexadecimal
+from codes import ADDED, NOTHING_CODE, RATES_CODE, code
 
 
 def event_files(rows):
@@ -14,7 +13,7 @@ def event_files(rows):
         ("contact 0 open;contact 15 closed#then\nframes\n\n70", 70), ("# \0 \u00e4 @\nframes 1", 1),
     ):
         rows.answers("play x.code x.events /dev/null", 0, f"played {frames} frames\n",
-                     {"x.code": hexadecimal(NOTHING_FILE), "x.events": text})
+                     {"x.code": NOTHING_CODE, "x.events": text})
 
 
 def faults_of_event_files(rows):
@@ -32,7 +31,7 @@ def faults_of_event_files(rows):
         ("frames 0 @ # \u00e4", "1:10: Byte"), ("\U0001f600\U0001f600", "1:1: Byte"),
     ):
         rows.answers("play x.code x.events x.fib", 1, f"events {wanted}\n",
-                     {"x.code": hexadecimal(NOTHING_FILE), "x.events": text})
+                     {"x.code": NOTHING_CODE, "x.events": text})
         rows.tally.same("no frame is written", b"", rows.made("x.fib"))
 
 
@@ -47,7 +46,7 @@ def faults_of_command_files(rows):
         ("run", "1:4: Expected"), ("run # how many\n", "2:1: Expected"), ("run\n\n  1 2 3 \u00e4 run 1", "3:9: Byte"),
     ):
         rows.answers("debug x.code x.commands", 1, f"commands {wanted}\n",
-                     {"x.code": hexadecimal(NOTHING_FILE), "x.commands": text})
+                     {"x.code": NOTHING_CODE, "x.commands": text})
 
 
 def command_files(rows):
@@ -57,7 +56,7 @@ def command_files(rows):
         ("break 1;break 65535#then\nclear", (0, 0, 0)),
         ("contact 0 open contact 15 closed", (0, 0)), ("break 9 run 100 contact 3 closed run 2 next show", (0, 1, 0, 2, 26, 0)),
     ):
-        printed = rows.run("debug x.code x.commands", {"x.code": hexadecimal(RATES_FILE), "x.commands": text}).printed.decode()
+        printed = rows.run("debug x.code x.commands", {"x.code": RATES_CODE, "x.commands": text}).printed.decode()
         found = [int(line.split()[1]) for line in printed.splitlines() if line.startswith("frames")]
         rows.tally.same(text, list(frames), found)
 
@@ -69,7 +68,7 @@ def texts_that_are_none(rows):
         b"\xf0\x9f\x98\x80\x80", b"\xc0\x80", b"\xed\xa0\x80", b"\xf4\x90\x80\x80", b"@ \x80", b"\0\0\xc3",
         b"@@@@@ \xff\xff\xff\xff",
     ):
-        files = {"x.code": hexadecimal(NOTHING_FILE), "x.text": text}
+        files = {"x.code": NOTHING_CODE, "x.text": text}
         rows.answers("play x.code x.text x.fib", 1, "cannot read x.text\n", files)
         rows.tally.same("no file is made", None, rows.made("x.fib"))
         rows.answers("debug x.code x.text", 1, "cannot read x.text\n", files)
@@ -77,7 +76,7 @@ def texts_that_are_none(rows):
 
 def refused_codes_come_first(rows):
     """A label that costs too little or more than the budget; nothing is written."""
-    edits = "sub 1 at 0 eep 3-A 128, service C221, audio 63 sub 1 in C221, commit in 24, join, end"
+    edits = f"{ADDED}, commit in 24, join, end"
     for cost, options, wanted in (
         (4, "", "refused at 4 line 5: Cost\n"), (21, "--count 5000 --day 3600000", "refused at 0 line 1: Cost\n"),
         (5, "", "events 1:1: Byte\n"),

@@ -1,16 +1,16 @@
 #!/usr/bin/env python3
 """'dabplan play': its count of frames, their bytes, and its refusals. The last line is 'N passed, M failed'."""
 import rows
-from rows import NOTHING_FILE, RATES_FILE, REFUSED_FILE, hexadecimal
-from verify import HEADER, PROGRAMME, START
+from codes import ADDED, NOTHING_CODE, RATES_CODE, REFUSED_CODE, code
+from rows import hexadecimal
 
 EVENTS = "frames 1 contact 3 closed contact 3 open contact 3 closed frames 39 contact 3 open frames 30"
 
 
-def played(rows, code, events, options, status, wanted):
+def played(rows, file, events, options, status, wanted):
     """Playing a code file and an event file gives this output."""
     rows.answers(f"play x.code x.events x.fib {options}", status, wanted,
-                 {"x.code": hexadecimal(code), "x.events": events})
+                 {"x.code": file, "x.events": events})
 
 
 def has(rows, places):
@@ -24,19 +24,19 @@ def has(rows, places):
 
 def frames_are_counted(rows):
     """Events, a start late in the day and at the last count, and contacts that are closed at the start."""
-    for code, events, options, count in (
-        (RATES_FILE, EVENTS, "", 70),
-        (RATES_FILE, "", "", 0),
-        (NOTHING_FILE, "frames 3", "--count 4999 --day 3599999", 3),
-        (RATES_FILE, "frames 2", "--contacts 0008", 2),
+    for file, events, options, count in (
+        (RATES_CODE, EVENTS, "", 70),
+        (RATES_CODE, "", "", 0),
+        (NOTHING_CODE, "frames 3", "--count 4999 --day 3599999", 3),
+        (RATES_CODE, "frames 2", "--contacts 0008", 2),
     ):
-        played(rows, code, events, options, 0, f"played {count} frames\n")
+        played(rows, file, events, options, 0, f"played {count} frames\n")
         rows.tally.same("bytes of a frame", 96 * count, len(rows.made("x.fib") or b""))
 
 
 def a_rate_by_a_contact(rows):
     """Two swaps: announced at the counts 4 and 40, made at 28 and 64."""
-    played(rows, RATES_FILE, EVENTS, "", 0, "played 70 frames\n")
+    played(rows, RATES_CODE, EVENTS, "", 0, "played 70 frames\n")
     has(rows, (
         (4, 0, "06 00 E1 C5 40 04 1C 05 01 04 00 88 60 06 02 C2 21 01 3F 06 05 81 04 00 88 48 FF"),
         (4, 1, "06 82 C2 21 01 3F 06 FF"),
@@ -49,32 +49,31 @@ def a_rate_by_a_contact(rows):
 def a_first_programme(rows):
     """A swap in 24 frames from count 4990 on, and one at count 1000, almost 5,000 frames later."""
     for commit, count, frames, places in (
-        ("04 00 18", 4990, 30, (
+        ("in 24", 4990, 30, (
             (2, 0, "06 00 E1 C5 D3 F2 10 05 81 04 00 88 60 06 82 C2 21 01 3F 06 FF"),
             (26, 0, "05 00 E1 C5 00 10"),
         )),
-        ("05 03 E8", 1000, 5001, (
+        ("at 1000", 1000, 5001, (
             (4976, 0, "06 00 E1 C5 C3 E2 00"),
             (5000, 0, "05 00 E1 C5 04 00"),
         )),
     ):
-        code = f"{HEADER} 06 00 00 00 {START} 05 {PROGRAMME} 00 04 {commit} 00 05 06 00 06 07"
-        played(rows, code, f"frames {frames}", f"--count {count}", 0, f"played {frames} frames\n")
+        played(rows, code(f"{ADDED}, commit {commit}, join, end", "0 cost 5"), f"frames {frames}", f"--count {count}", 0, f"played {frames} frames\n")
         has(rows, places)
 
 
 def faults_in_their_order(rows):
     """Only the line of a fault is printed: of the code first, then of the start, then of the events."""
-    for code, events, options, wanted in (
-        ("", "@", "--count 5000", "code: Truncated\n"),
-        (NOTHING_FILE, "@", "--count 5000 --day 3600000", "start: Count\n"),
-        (NOTHING_FILE, "@", "--day 3600000", "start: Day\n"),
-        (NOTHING_FILE, "frames 0 @", "", "events 1:10: Byte\n"),
-        (NOTHING_FILE, "frames 0", "", "events 1:8: Number\n"),
-        (NOTHING_FILE, "contact 3 shut", "", "events 1:11: Expected\n"),
-        (REFUSED_FILE, "frames 1", "", "refused at 0 line 1: JoinIdle\n"),
+    for file, events, options, wanted in (
+        (b"", "@", "--count 5000", "code: Truncated\n"),
+        (NOTHING_CODE, "@", "--count 5000 --day 3600000", "start: Count\n"),
+        (NOTHING_CODE, "@", "--day 3600000", "start: Day\n"),
+        (NOTHING_CODE, "frames 0 @", "", "events 1:10: Byte\n"),
+        (NOTHING_CODE, "frames 0", "", "events 1:8: Number\n"),
+        (NOTHING_CODE, "contact 3 shut", "", "events 1:11: Expected\n"),
+        (REFUSED_CODE, "frames 1", "", "refused at 0 line 1: JoinIdle\n"),
     ):
-        played(rows, code, events, options, 1, wanted)
+        played(rows, file, events, options, 1, wanted)
 
 
 def files_that_cannot_be_had(rows):

@@ -1,15 +1,12 @@
 #!/usr/bin/env python3
 """'dabplan debug': its output command by command, and its refusals. The last line is 'N passed, M failed'."""
 import rows
-from codes import PROGRAMME, code
-from rows import NOTHING_FILE, RATES_FILE, REFUSED_FILE, hexadecimal
-from verify import HEADER, START
+from codes import NOTHING_CODE, PROGRAMME, RATES_CODE, REFUSED_CODE, code
 
 
-def led(rows, code, commands, options, status, wanted):
+def led(rows, file, commands, options, status, wanted):
     """Debugging a code file with these commands gives this output."""
-    rows.answers(f"debug x.code x.commands {options}", status, wanted,
-                 {"x.code": hexadecimal(code), "x.commands": commands})
+    rows.answers(f"debug x.code x.commands {options}", status, wanted, {"x.code": file, "x.commands": commands})
 
 
 def line(frames, steps, pc, line_number, count, remaining="none"):
@@ -24,7 +21,7 @@ def a_change_of_rate_by_commands(rows):
         + line(26, 1, 5, 13, 29) + line(0, 1, 5, 13, 29)
         + "".join(f"announced {count} swap 28 change 1\n" for count in (4, 8, 12, 16, 20, 24))
     )
-    led(rows, RATES_FILE, "break 9 run 100\ncontact 3 closed run 2 # the notice\nnext show", "", 0, wanted)
+    led(rows, RATES_CODE, "break 9 run 100\ncontact 3 closed run 2 # the notice\nnext show", "", 0, wanted)
 
 
 def few_commands(rows):
@@ -36,29 +33,27 @@ def few_commands(rows):
         ("clear", "--count 4999 --day 3599999 --contacts FFFF", line(0, 0, 0, 1, 4999)),
         ("run 3 next", "--count 4999", line(3, 0, 0, 1, 2) + line(5000, 0, 0, 1, 2)),
     ):
-        led(rows, NOTHING_FILE, commands, options, 0, wanted)
+        led(rows, NOTHING_CODE, commands, options, 0, wanted)
 
 
 def contacts(rows):
     """A contact that is closed at the start, or by a command, lets the plan continue."""
-    led(rows, RATES_FILE, "run 2", "--contacts 0008", 0, line(2, 3, 4, 12, 2, 26))
-    led(rows, RATES_FILE, "contact 3 closed contact 3 open run 2", "", 0,
+    led(rows, RATES_CODE, "run 2", "--contacts 0008", 0, line(2, 3, 4, 12, 2, 26))
+    led(rows, RATES_CODE, "contact 3 closed contact 3 open run 2", "", 0,
         line(0, 0, 0, 8, 0) + line(0, 0, 0, 8, 0) + line(2, 0, 1, 9, 2))
 
 
 def a_loop_of_three(rows):
     """A loop of three, of a code with two labels, the second of which has counter 0 set."""
-    header = HEADER.replace("00 01 00 01 00", "00 01 00 02 00")
-    code = f"""{header} 04 00 00 00 {START} 02 00 01 00 00 00 00 00 00 00 00 00 01 01
-        00 01 22 00 00 03 00 02 01 00 01 00 03 23 00 00 01 00 04 07"""
-    led(rows, code, "run 1 " * 5, "", 0,
+    file = code("set 0 3, wait 1, loop 0 1, end", "0 cost 2, 1 counters 01 cost 1")
+    led(rows, file, "run 1 " * 5, "", 0,
         line(1, 2, 2, 3, 1) + line(1, 2, 2, 3, 2) + line(1, 2, 2, 3, 3) + line(1, 2, 3, 4, 4) + line(1, 0, 3, 4, 5))
 
 
 def frames_of_the_day(rows):
     """Waiting for the first frame of the day, and for its last: that of its own frame is over."""
-    for time, second in (("00 00 00 00", 1), ("00 36 EE 7F", 0)):
-        led(rows, f"{HEADER} 02 00 00 00 {START} 01 00 01 02 {time} 00 02 07", "run 1 " * 3, "--day 3599999", 0,
+    for time, second in ((0, 1), (3_599_999, 0)):
+        led(rows, code(f"until {time}, end"), "run 1 " * 3, "--day 3599999", 0,
             line(1, 1, 1, 2, 1) + line(1, second, 1, 2, 2) + line(1, 0, 1, 2, 3))
 
 
@@ -70,7 +65,7 @@ def break_lines(rows):
         ("break 9 next", at_start + at_rate), ("break 9 clear run 3", at_start + at_start + line(3, 0, 1, 9, 3)),
         ("next next", at_rate + line(5000, 0, 1, 9, 1)), ("show clear", at_start + at_start),
     ):
-        led(rows, RATES_FILE, commands, "", 0, wanted)
+        led(rows, RATES_CODE, commands, "", 0, wanted)
 
 
 def announcements_are_kept(rows):
@@ -89,19 +84,19 @@ def announcements_are_kept(rows):
 
 def faults_in_their_order(rows):
     """Only the line of a fault is printed: of the code first, then of the start, then of the commands."""
-    for code, commands, options, wanted in (
-        ("", "@", "--count 5000", "code: Truncated\n"),
-        ("45 41 42 50", "@", "--count 5000", "code: Magic\n"),
-        (REFUSED_FILE, "@", "--count 5000", "refused at 0 line 1: JoinIdle\n"),
-        (NOTHING_FILE, "@", "--count 5000 --day 3600000", "start: Count\n"),
-        (NOTHING_FILE, "@", "--day 3600000", "start: Day\n"),
-        (NOTHING_FILE, "next run 0 @", "", "commands 1:12: Byte\n"),
-        (NOTHING_FILE, "next\nrun 0", "", "commands 2:5: Number\n"),
-        (NOTHING_FILE, "next break 65536", "", "commands 1:12: Number\n"),
-        (NOTHING_FILE, "contact 3 shut", "", "commands 1:11: Expected\n"),
-        (NOTHING_FILE, "frames 1", "", "commands 1:1: Expected\n"),
+    for file, commands, options, wanted in (
+        (b"", "@", "--count 5000", "code: Truncated\n"),
+        (b"EABP", "@", "--count 5000", "code: Magic\n"),
+        (REFUSED_CODE, "@", "--count 5000", "refused at 0 line 1: JoinIdle\n"),
+        (NOTHING_CODE, "@", "--count 5000 --day 3600000", "start: Count\n"),
+        (NOTHING_CODE, "@", "--day 3600000", "start: Day\n"),
+        (NOTHING_CODE, "next run 0 @", "", "commands 1:12: Byte\n"),
+        (NOTHING_CODE, "next\nrun 0", "", "commands 2:5: Number\n"),
+        (NOTHING_CODE, "next break 65536", "", "commands 1:12: Number\n"),
+        (NOTHING_CODE, "contact 3 shut", "", "commands 1:11: Expected\n"),
+        (NOTHING_CODE, "frames 1", "", "commands 1:1: Expected\n"),
     ):
-        led(rows, code, commands, options, 1, wanted)
+        led(rows, file, commands, options, 1, wanted)
 
 
 def files_that_cannot_be_had(rows):

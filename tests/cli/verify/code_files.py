@@ -2,40 +2,29 @@
 """'dabplan verify': the bytes of code files, field by field: each kind of fault at its offset, each operand at its limits and
 just past them, and truncated files. The last line is 'N passed, M failed'."""
 import rows
-from rows import NOTHING_FILE, RATES_FILE, hexadecimal
+from codes import AT_64, NOTHING_CODE, PROGRAMME, RATES_CODE, code
+from rows import hexadecimal
 
 # A code with two labels, the second of which has counter 0 set: the body of a loop is run three times.
-LOOP_FILE = """
-    44 41 42 50 01 E1 C5 04 18 14 00 01 00 02 00 04 00 00 00 00 00 00 00 00 00 00 00 00 00 00 00 02
-    00 01 00 00 00 00 00 00 00 00 00 01 01 00 01 22 00 00 03 00 02 01 00 01 00 03 23 00 00 01 00 04
-    07
-"""
+LOOP = code("set 0 3, wait 1, loop 0 1, end", "0 cost 2, 1 counters 01 cost 1")
 
 # A code of two configurations and two labels. Its configurations are the empty one at 16, and at 19 one of two sub-channels
 # (at 22 and 29), three services (at 36, 46 and 50) and two packet components (at 59 and 66); the labels are at 73 and 86,
 # the only instruction at 99.
-FULL_FILE = """
-    44 41 42 50 01 E1 C5 04 18 14 00 02 00 02 00 01 00 00 00 02 03 02 01 00 00 00 03 00 80 02 00 60
-    01 04 00 20 00 C2 21 02 00 3F 01 01 05 02 00 C2 22 00 01 E1 C2 00 01 01 03 00 07 0F 07 00 3C 02
-    00 01 0F FF 01 00 01 03 FF 00 00 00 00 00 01 01 00 18 00 1B 81 14 FF FF 00 01 00 00 00 00 00 00
-    00 00 FF FF FF 07
-"""
+FULL = code(
+    "end", "0 of 0 1 within 24 27 counters 81 cost 20, 65535 of 1 0 cost 255",
+    ["", "sub 1 at 0 eep 3-A 128, sub 2 at 96 eep 4-B 32, "
+         "service C221, audio 63 sub 1 in C221, data 5 sub 2 in C221, service C222, service E1C20001, carry 7 in E1C20001, "
+         "packet 3847 groups type 60 sub 2 address 1, packet 4095 raw type 0 sub 1 address 1023"], lines=[65535])
 
 # A code that lowers a rate, waits for a frame of the day during the notice, and settles: at its second label, at 63, the
 # swap has perhaps been made.
-SETTLED_FILE = """
-    44 41 42 50 01 E1 C5 04 18 14 00 02 00 02 00 07 01 01 00 01 00 00 00 03 00 80 00 C2 21 01 00 3F
-    01 01 01 00 01 00 00 00 03 00 40 00 C2 21 01 00 3F 01 00 00 00 00 00 00 00 00 00 00 00 00 03 00
-    05 00 00 00 01 02 00 00 00 1A 00 02 00 07 13 01 00 40 00 08 04 00 18 00 09 02 00 32 5A A0 00 0A
-    20 01 00 05 00 0A 01 00 01 00 0B 08 00 0B 07
-"""
+SETTLED = code("rate sub 1 64, commit in 24, until 3300000, test 1 5, wait 1, settle, end",
+               "0 cost 3, 5 of 0 1 perhaps 26 cost 2", [PROGRAMME, AT_64], lines=[7, 8, 9, 10, 10, 11, 11])
 
-# NOTHING_FILE as a code of version 2, in mode 3.
-MODE_FILE = NOTHING_FILE.replace("42 50 01", "42 50 02 03", 1)
-
-# NOTHING_FILE as a code of version 3: in mode 1 with one FIB of each frame reserved, and in mode 3 with two.
-RESERVE_FILE = NOTHING_FILE.replace("42 50 01", "42 50 03 01 01", 1)
-TWO_RESERVED_FILE = NOTHING_FILE.replace("42 50 01", "42 50 03 03 02", 1)
+# Codes that end at once: of version 2, in mode 3; and of version 3, in mode 1 with one FIB of each frame reserved, and in
+# mode 3 with two.
+IN_MODE_3, ONE_RESERVED, TWO_RESERVED = code("end", mode=3), code("end", reserve=1), code("end", mode=3, reserve=2)
 
 
 def fault(rows, file):
@@ -49,22 +38,20 @@ def judged(rows, file, wanted):
     rows.tally.same(f"verify {file.hex(' ')}", wanted, fault(rows, file))
 
 
-def changed(text, place, byte):
-    """The bytes of a file, with another one at this offset."""
-    file = bytearray(hexadecimal(text))
-    file[place] = byte
-    return bytes(file)
+def changed(file, place, byte):
+    """A file with another byte at this offset."""
+    return file[:place] + bytes([byte]) + file[place + 1:]
 
 
-def one_byte_is_changed(rows, text, table):
+def one_byte_is_changed(rows, file, table):
     """A file in which one byte is changed has this fault."""
     for place, byte, wanted in table:
-        judged(rows, changed(text, place, byte), wanted)
+        judged(rows, changed(file, place, byte), wanted)
 
 
 def fields_of_the_shortest_file(rows):
     """The header, the label and the opcode of a code of one instruction."""
-    one_byte_is_changed(rows, NOTHING_FILE, (
+    one_byte_is_changed(rows, NOTHING_CODE, (
         # the header: the letters, the version, the period, the notice, the budget and the three numbers
         (0, 0x45, "Magic"), (3, 0x51, "Magic"), (4, 0x00, "Version"), (4, 0x04, "Version"), (4, 0x02, "Field 5"),
         (4, 0x03, "Field 5"),
@@ -81,13 +68,13 @@ def fields_of_the_shortest_file(rows):
         (34, 0x00, "Field 34"), (34, 0x1A, "Field 34"),
     ))
     for byte in range(256):
-        file = changed(NOTHING_FILE, 0, byte)
+        file = changed(NOTHING_CODE, 0, byte)
         rows.tally.same(f"first byte {byte}", "Magic" if byte != 0x44 else "", fault(rows, file))
 
 
 def fields_of_a_programme_and_its_instructions(rows):
     """A configuration of one programme, and instructions with operands."""
-    one_byte_is_changed(rows, RATES_FILE, (
+    one_byte_is_changed(rows, RATES_CODE, (
         # the sub-channel: identifier, start, set, level, rate
         (19, 0x40, "Field 19"), (20, 0x04, "Field 20"), (22, 0x02, "Field 22"), (23, 0x00, "Field 23"),
         (23, 0x05, "Field 23"), (25, 0x81, "Field 24"),
@@ -102,7 +89,7 @@ def fields_of_a_programme_and_its_instructions(rows):
 
 def fields_of_a_loop(rows):
     """Labels that do not ascend, counters and times."""
-    one_byte_is_changed(rows, LOOP_FILE, (
+    one_byte_is_changed(rows, LOOP, (
         # a label that is no later than the one before it
         (33, 0x00, "Field 32"), (20, 0x01, "Field 32"), (20, 0x02, "Field 32"),
         # counters and times
@@ -112,7 +99,7 @@ def fields_of_a_loop(rows):
 
 def fields_of_a_configuration(rows):
     """A member of each kind in a configuration's tables."""
-    one_byte_is_changed(rows, FULL_FILE, (
+    one_byte_is_changed(rows, FULL, (
         # the numbers of sub-channels, services and packet components
         (19, 0x41, "Field 19"), (20, 0x41, "Field 20"), (21, 0x41, "Field 21"),
         # a sub-channel: identifier, end past the multiplex, set, level, rates that have no size
@@ -136,7 +123,7 @@ def fields_of_a_configuration(rows):
 
 def fields_of_labels(rows):
     """Labels with a swap that is pending, and with one that perhaps is."""
-    one_byte_is_changed(rows, FULL_FILE, (
+    one_byte_is_changed(rows, FULL, (
         # the configurations, of which there are two
         (76, 0x02, "Field 75"), (75, 0x01, "Field 75"), (78, 0x02, "Field 77"), (77, 0x01, "Field 77"),
         (89, 0x02, "Field 88"),
@@ -151,7 +138,7 @@ def fields_of_labels(rows):
         # the opcode
         (101, 0x09, "Field 101"),
     ))
-    one_byte_is_changed(rows, SETTLED_FILE, (
+    one_byte_is_changed(rows, SETTLED, (
         # the kind of the swap; the least bound, which is 0; the greatest, which is 1 or more
         (69, 0x03, "Field 69"), (70, 0x01, "Field 70"), (71, 0x01, "Field 70"), (73, 0x00, "Field 72"),
         # bounds of a swap that is pending for certain begin at 1
@@ -162,18 +149,15 @@ def fields_of_labels(rows):
 def limits_of_labels(rows):
     """The last pc, the greatest cost, and the bounds of a swap at their limits, in a valid code."""
     for label, wanted in (
-        ("FF FF 00 00 00 00 00 00 00 00 00 00 FF", ""), ("00 00 00 00 00 00 01 00 01 00 01 00 01", ""),
-        ("00 00 00 00 00 00 01 FF FF FF FF 00 01", ""), ("00 00 00 00 00 00 02 00 00 00 01 00 01", ""),
-        ("00 00 00 00 00 00 02 00 00 FF FF 00 01", ""), ("00 00 00 00 00 00 01 00 00 00 01 00 01", "Field 26"),
-        ("00 00 00 00 00 00 01 00 02 00 01 00 01", "Field 28"), ("00 00 00 00 00 00 02 00 00 00 00 00 01", "Field 28"),
+        ("65535 cost 255", ""), ("0 within 1 1", ""), ("0 within 65535 65535", ""), ("0 perhaps 1", ""),
+        ("0 perhaps 65535", ""), ("0 within 0 1", "Field 26"), ("0 within 2 1", "Field 28"), ("0 perhaps 0", "Field 28"),
     ):
-        whole = hexadecimal(NOTHING_FILE)
-        judged(rows, whole[:19] + hexadecimal(label) + whole[32:], wanted)
+        judged(rows, code("end", label), wanted)
 
 
 def limits_of_a_plan(rows):
     """Period, notice and budget at their limits and just past them."""
-    one_byte_is_changed(rows, NOTHING_FILE, (
+    one_byte_is_changed(rows, NOTHING_CODE, (
         (7, 1, ""), (7, 60, ""), (7, 0, "Field 7"), (7, 61, "Field 7"), (8, 12, ""), (8, 248, ""), (8, 11, "Field 8"),
         (8, 249, "Field 8"), (9, 1, ""), (9, 255, ""), (9, 0, "Field 9"),
     ))
@@ -181,7 +165,7 @@ def limits_of_a_plan(rows):
 
 def modes(rows):
     """Version 2 has a mode from 2 to 4; mode 1 has only version 1."""
-    one_byte_is_changed(rows, MODE_FILE, (
+    one_byte_is_changed(rows, IN_MODE_3, (
         (5, 2, ""), (5, 3, ""), (5, 4, ""), (5, 0, "Field 5"), (5, 1, "Field 5"), (5, 5, "Field 5"), (5, 255, "Field 5"),
         (4, 0, "Version"), (4, 3, "Field 6"), (4, 4, "Version"), (4, 255, "Version"),
     ))
@@ -189,12 +173,12 @@ def modes(rows):
 
 def reserves(rows):
     """Version 3 has a mode from 1 to 4, and a reserve of 1, in mode 3 of 1 or 2. The mode is judged first."""
-    one_byte_is_changed(rows, RESERVE_FILE, (
+    one_byte_is_changed(rows, ONE_RESERVED, (
         (5, 1, ""), (5, 2, ""), (5, 3, ""), (5, 4, ""), (5, 0, "Field 5"), (5, 5, "Field 5"), (5, 255, "Field 5"),
         (6, 1, ""), (6, 0, "Field 6"), (6, 2, "Field 6"), (6, 3, "Field 6"), (6, 255, "Field 6"),
         (4, 0, "Version"), (4, 4, "Version"), (4, 255, "Version"),
     ))
-    one_byte_is_changed(rows, TWO_RESERVED_FILE, (
+    one_byte_is_changed(rows, TWO_RESERVED, (
         (5, 3, ""), (5, 1, "Field 6"), (5, 2, "Field 6"), (5, 4, "Field 6"), (5, 0, "Field 5"), (5, 5, "Field 5"),
         (6, 1, ""), (6, 2, ""), (6, 0, "Field 6"), (6, 3, "Field 6"), (6, 255, "Field 6"),
     ))
@@ -202,8 +186,7 @@ def reserves(rows):
 
 def cut_files(rows):
     """A file that is cut anywhere is truncated, and one with an extra byte is too long."""
-    for text in (NOTHING_FILE, RATES_FILE, FULL_FILE, MODE_FILE, RESERVE_FILE, TWO_RESERVED_FILE):
-        whole = hexadecimal(text)
+    for whole in (NOTHING_CODE, RATES_CODE, FULL, IN_MODE_3, ONE_RESERVED, TWO_RESERVED):
         judged(rows, whole, "")
         for length in range(len(whole)):
             judged(rows, whole[:length], "Truncated")
@@ -223,14 +206,14 @@ def files_that_are_cut_at_a_fault(rows):
         (25, 0x01, 28, "Field 26"), (27, 0x01, 28, "Field 26"), (29, 0x01, 30, "Field 28"), (31, 0x00, 32, "Field 31"),
         (34, 0x00, 35, "Field 34"), (34, 0x24, 35, "Field 34"),
     ):
-        file = changed(NOTHING_FILE, place, byte)
+        file = changed(NOTHING_CODE, place, byte)
         judged(rows, file[:end], wanted)
         judged(rows, file[:end - 1], "Truncated")
 
 
 def of_one_line(line):
     """The file of a code whose one instruction has these bytes."""
-    return hexadecimal(NOTHING_FILE)[:32] + hexadecimal(line)
+    return NOTHING_CODE[:32] + hexadecimal(line)
 
 
 def operands_at_their_limits(rows):

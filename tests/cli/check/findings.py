@@ -5,10 +5,10 @@ import pathlib
 import subprocess
 import threading
 import rows
-from listen import crc, stream
 from rows import hexadecimal
+from streams import crc, stream
 
-SAMPLES = pathlib.Path(__file__).resolve().parents[2] / "bench/samples"
+SAMPLES = pathlib.Path(__file__).resolve().parents[3] / "bench/samples"
 
 # Sub-channel 1 at 0 by 3-A: 128 kbit/s, and 96. Service C221 with audio of type 63 on it, and the same with type 5.
 AT_128, AT_96 = "01 04 00 88 60", "01 04 00 88 48"

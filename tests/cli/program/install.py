@@ -9,7 +9,7 @@ import tempfile
 
 from rows import common
 
-TOP = pathlib.Path(__file__).resolve().parents[2]
+TOP = common.TOP
 INSTALLED = ("bin/dabplan", "share/man/man1/dabplan.1", "share/bash-completion/completions/dabplan",
              "share/doc/dabplan/THIRD_PARTY", "share/dabplan/examples/night_rate.plan",
              "share/dabplan/examples/live_clock.py", "share/dabplan/examples/refused/overlap.plan")

@@ -9,7 +9,7 @@ import tempfile
 
 from rows import common
 
-TOP = pathlib.Path(__file__).resolve().parents[2]
+TOP = common.TOP
 # The first words of a line that says that something went wrong.
 ERRORS = re.compile(r"error|refused|cannot|no memory|code:|record:|start:|events |commands |write failed|line \d+:|"
                     r"[\w.]*:? ?\d+:\d+: |bash:|.*: command not found|.*fault:")

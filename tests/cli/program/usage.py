@@ -1,9 +1,9 @@
 #!/usr/bin/env python3
 """Invalid command lines, and help. The last line is 'N passed, M failed'."""
-import pathlib
 import re
 
 import rows
+from rows import common
 
 COMMANDS = ("frame", "listen", "check", "diff", "compile", "verify", "map", "play", "debug", "live")
 FOUR_DIGITS = "expected four hexadecimal digits (0-9, A-F)"
@@ -145,7 +145,7 @@ def help_is_no_fault(rows):
 
 def the_names_in_the_help(rows):
     """Each name of a fault in a help page is in the document of the commands too."""
-    document = (pathlib.Path(__file__).resolve().parents[2] / "docs/guide/COMMANDS.md").read_text(encoding="utf-8")
+    document = (common.TOP / "docs/guide/COMMANDS.md").read_text(encoding="utf-8")
     for line in ("help", *(f"help {command}" for command in COMMANDS)):
         names = set(re.findall(r"\b[A-Za-z]*[a-z][A-Z][A-Za-z]*\b", rows.run(line).printed.decode()))
         rows.tally.same(f"names in {line}", [], sorted(name for name in names if name not in document))

@@ -2,8 +2,7 @@
 """'dabplan play' and 'dabplan listen': listeners started at each frame of a playback. The last line is 'N
 passed, M failed'."""
 import rows
-from codes import AT_64, PROGRAMME, SMALL_SUBS, code
-from player import ADDED
+from codes import ADDED, AT_64, PROGRAMME, SMALL_SUBS, code
 
 # Each mode: the FIBs of a frame, and the counts at which FIG 0/0 is sent.
 MODES = ((1, 3, 4), (2, 3, 1), (3, 4, 1), (4, 3, 2))

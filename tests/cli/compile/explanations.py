@@ -5,7 +5,7 @@ import pathlib
 import rows
 from rows import NOTHING_FILE, RATES_FILE, REFUSED_FILE, hexadecimal
 
-EXAMPLES = pathlib.Path(__file__).resolve().parents[2] / "examples"
+EXAMPLES = pathlib.Path(__file__).resolve().parents[3] / "examples"
 
 HEAD = """\
 ensemble E1C5
