@@ -1,6 +1,6 @@
 -- The ensemble that a stream names, piece by piece.
 use Rattle.std.proofs.Common.{◌≡◌, ℕ, ◌%◌, Bool, true, false, List, [], ◌∷◌, ◌++◌, length, Option, None, inl, inr, sym, subst}
-use Rattle.stream_config.specs.Ensembles.{NamesAfter, named_by_figs}
+use Rattle.script_config.specs.Ensembles.{NamesAfter, named_by_figs}
 use Rattle.cli_streams.specs.declared.listen.Heard.{Heard}
 use Rattle.cli_streams.specs.Stream.{HearsTheStream, fibs_of_stream, unheard, ended}
 use Rattle.cli_scripts.specs.Naming.{HearsNamed, ended_named}

@@ -3,10 +3,10 @@ use Rattle.std.specs.Prelude.{◌≡◌, ◌≢◌, ℕ, List}
 use Rattle.mux_edits.specs.Making.{edits_that_make}
 use Rattle.plan_code.specs.Program.{Program}
 use Rattle.plan_verifier.specs.Typing.{IsTyped}
-use Rattle.script_diff.specs.declared.opening.Opening.{Opening}
-use Rattle.script_diff.specs.declared.refusal.DiffFault.{DiffFault}
-use Rattle.script_diff.specs.Plan.{plan_acts}
-use Rattle.script_diff.specs.Refusals.{CanBePlanned, IsInTheWay}
+use Rattle.script_config.specs.declared.opening.Opening.{Opening}
+use Rattle.script_config.specs.declared.refusal.DiffFault.{DiffFault}
+use Rattle.script_config.specs.Plan.{plan_acts}
+use Rattle.script_config.specs.Refusals.{CanBePlanned, IsInTheWay}
 use Rattle.cli_scripts.specs.declared.diff.PlanFault.{PlanFault}
 use Rattle.cli_scripts.specs.declared.diff.PlanFault.TheVariants.{Between, Refused, Memory}
 use Rattle.script_compiler.specs.declared.fault.CompileFault.{CompileFault}
@@ -14,7 +14,7 @@ use Rattle.script_compiler.specs.declared.fault.CompileFault.TheVariants.{Memory
 use Rattle.script_front.specs.Denoting.{Denotes}
 use Rattle.script_front.specs.Printing.{text_of_lines, tree_lines}
 use Rattle.script_front.specs.Tree.{Tree, IsScript}
-use Rattle.script_opening.specs.Plain.{IsPlain}
+use Rattle.script_config.specs.Plain.{IsPlain}
 use Rattle.script_meaning.specs.Compiled.{IsAccepted, IsCodeOf}
 
 -- the text denotes the plan from one opening to another, in the layout of printed scripts; the plan is accepted, and

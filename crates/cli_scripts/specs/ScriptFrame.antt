@@ -6,8 +6,8 @@ use Rattle.mux_entries.specs.Entries.{EnsembleInformation}
 use Rattle.plan_code.specs.declared.plan.Plan.{Plan}
 use Rattle.script_front.specs.Denoting.{IsScriptOf, IsNoScript}
 use Rattle.script_front.specs.Tree.{Tree, IsScript}
-use Rattle.script_opening.specs.declared.opening.ItemFault.{ItemFault}
-use Rattle.script_opening.specs.Openings.{made_by}
+use Rattle.script_config.specs.declared.items.ItemFault.{ItemFault}
+use Rattle.script_config.specs.Items.{made_by}
 use Rattle.cli_streams.specs.declared.frame.FrameFault.{FrameFault}
 use Rattle.cli_streams.specs.Frame.{frame_or_fault, page_or_fault}
 use Rattle.cli_scripts.specs.declared.frame_script.ScriptFrameFault.{ScriptFrameFault}

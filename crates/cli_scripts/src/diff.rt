@@ -1,8 +1,8 @@
 //! `dabplan diff`: prints a plan that changes one configuration into another.
 
 ghost use Rattle.std.specs.Prelude.{IfOk, IfErr, IfSome, string_bytes};
-ghost use Rattle.script_diff.specs.Openings.{IsOpening};
-ghost use Rattle.script_diff.specs.Refusals.{CanBePlanned};
+ghost use Rattle.script_config.specs.Openings.{IsOpening};
+ghost use Rattle.script_config.specs.Refusals.{CanBePlanned};
 ghost use Rattle.cli_scripts.specs.Planned.{IsPlanText, IsPlanFault};
 
 use crate::script_file::{read_script, text_of, whole_characters};
@@ -10,7 +10,7 @@ use console::escaped::Escaped;
 use console::exit::{Failure, Status};
 use console::files::Files;
 use script_compiler::{CompileFault, compile};
-use script_diff::{
+use script_config::{
     DiffFault, Opening, OpeningFault, fault_between, fits_period, plan_between, read_opening,
 };
 use script_front::print;

@@ -15,9 +15,9 @@ use fib_reader::OwnedEntry;
 use mux_config::Config;
 use plan_code::Plan;
 use plan_code::limits::{LONGEST_NOTICE, LONGEST_PERIOD, SHORTEST_NOTICE};
+use script_config::{config_heard, config_text, eid_after, usual_period};
 use std::alloc::Global;
 use std::io::{Read, Write};
-use stream_config::{config_heard, config_text, eid_after, usual_period};
 use stream_monitor::Hints;
 
 /// The arguments of `listen --script`.

@@ -1,7 +1,7 @@
 -- The pieces so far, decoded, give the result and the ensemble of a stream of their bytes.
 use Rattle.std.proofs.Common.{◌≡◌, ℕ, ◌*◌, ◌%◌, ◌≤◌, Bool, List, length, Option, None}
 use Rattle.std.specs.Io.KnownBytes.{Consumes}
-use Rattle.stream_config.specs.Ensembles.{NamesAfter}
+use Rattle.script_config.specs.Ensembles.{NamesAfter}
 use Rattle.cli_streams.specs.declared.listen.Heard.{Heard}
 use Rattle.cli_streams.specs.Stream.{HearsTheStream, fibs_of_stream, unheard, ended}
 use Rattle.cli_scripts.proofs.listen_script.name_of.Given as goal

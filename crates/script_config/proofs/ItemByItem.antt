@@ -1,0 +1,45 @@
+-- Items applied in order: the loop's invariant and result.
+use Rattle.std.proofs.Common.{◌≡◌, ℕ, ◌+◌, ◌<◌, ◌≤◌, List, [], ◌∷◌, length, get_or, drop, Option, Some, None, Result, Ok, Err, refl, sym, ap, ◌∙◌}
+use Rattle.std.proofs.lemmas.List.{drop_more, drop_all}
+use Rattle.mux_types.specs.Configuration.{Configuration}
+use Rattle.mux_config.specs.declared.fault.EditFault.{EditFault}
+use Rattle.mux_config.specs.Edits.{edit_fault, changed}
+use Rattle.mux_edits.specs.Sequences.{Transform}
+use Rattle.script_front.specs.declared.tree.Item.{Item}
+use Rattle.script_front.specs.Alike.{added_by}
+use Rattle.script_config.specs.declared.items.ItemFault.{ItemFault}
+use Rattle.script_config.specs.Items.{made_by, unless_fault}
+
+ok_is_err : {P : Type 0} (c : Configuration) (f : ItemFault) → Err f ≡ Ok c → P
+ok_is_err c f e = absurd (cc)
+
+-- ---- the configuration after items
+
+leads_by : (item : Item) (items : List Item) (c d : Configuration) (o : Option EditFault) → edit_fault item.edit c ≡ o → unless_fault o item.line (made_by items (changed item.edit c)) ≡ Ok d
+    → (made_by items (changed item.edit c) ≡ Ok d → Transform (added_by items) (changed item.edit c) d) → Transform (added_by (item ∷ items)) c d
+leads_by item items c d None is e rest = let more = rest e in record { fine = (is, more.fine); arrive = more.arrive }
+leads_by item items c d (Some fault) is e rest = ok_is_err d (record { line = item.line; fault = fault }) e
+
+pub made_leads : (items : List Item) (c d : Configuration) → made_by items c ≡ Ok d → Transform (added_by items) c d
+made_leads [] c d e = let same : c ≡ d = cc in record { fine = tt; arrive = same }
+made_leads (item ∷ items) c d e = leads_by item items c d (edit_fault item.edit c) refl e (made_leads items (changed item.edit c) d)
+
+-- ---- the loop
+
+cut : (items : List Item) (i : ℕ) (item : Item) → i < length items → item ≡ get_or items i item → drop i items ≡ item ∷ drop (i + 1) items
+cut items i item lt same = drop_more items i item lt ∙ ap (λ (x : Item). x ∷ drop (i + 1) items) (sym same)
+
+pub one_made : (items : List Item) (i : ℕ) (item : Item) (c d : Configuration) (r : Result Configuration ItemFault) → i < length items → item ≡ get_or items i item
+    → edit_fault item.edit c ≡ None → d ≡ changed item.edit c → made_by (drop i items) c ≡ r → made_by (drop (i + 1) items) d ≡ r
+one_made items i item c d r lt same fine is so_far =
+    let step : made_by (item ∷ drop (i + 1) items) c ≡ made_by (drop (i + 1) items) (changed item.edit c) = rw fine refl in
+    ap (made_by (drop (i + 1) items)) is ∙ sym step ∙ sym (ap (λ (is : List Item). made_by is c) (cut items i item lt same)) ∙ so_far
+
+pub one_refused : (items : List Item) (i : ℕ) (item : Item) (c : Configuration) (fault : EditFault) (r : Result Configuration ItemFault) → i < length items → item ≡ get_or items i item
+    → edit_fault item.edit c ≡ Some fault → made_by (drop i items) c ≡ r → Err (record { line = item.line; fault = fault }) ≡ r
+one_refused items i item c fault r lt same bad so_far =
+    let step : made_by (item ∷ drop (i + 1) items) c ≡ Err (record { line = item.line; fault = fault }) = rw bad refl in
+    sym step ∙ sym (ap (λ (is : List Item). made_by is c) (cut items i item lt same)) ∙ so_far
+
+pub all_made : (items : List Item) (i : ℕ) (c : Configuration) (r : Result Configuration ItemFault) → length items ≤ i → made_by (drop i items) c ≡ r → Ok c ≡ r
+all_made items i c r past so_far = sym (ap (λ (is : List Item). made_by is c) (drop_all i items past)) ∙ so_far

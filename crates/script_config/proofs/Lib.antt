@@ -1,0 +1,9 @@
+mod ItemByItem
+mod Members
+mod Named
+mod Pacing
+mod PlainScripts
+mod Ranged
+mod Scriptable
+mod VectorsOfPlans
+mod VectorsOfStreams

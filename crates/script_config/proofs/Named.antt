@@ -1,0 +1,31 @@
+-- The EId that FIBs signal, FIB by FIB.
+use Rattle.std.proofs.Common.{◌≡◌, ℕ, ◌+◌, ◌<◌, ◌≤◌, List, [], ◌∷◌, length, drop, drop-cons, add-one, get_or, Option, inl, inr, refl, sym, subst}
+use Rattle.std.proofs.lemmas.List.{drop_all}
+use Rattle.fib_codec.specs.Grammar.{Fig, IsFib}
+use Rattle.fib_reader.specs.declared.fault.FibFault.{FibFault}
+use Rattle.fib_reader.specs.Faults.{IsFibFault}
+use Rattle.script_config.specs.Ensembles.{NamesAfter, named_by_figs}
+
+fib_by_fib : (fibs : List (List ℕ)) (i : ℕ) → i < length fibs → drop i fibs ≡ get_or fibs i [] ∷ drop (i + 1) fibs
+fib_by_fib fibs i lt = rw (add-one, drop-cons fibs i [] lt) refl
+
+-- the EId after the rest of the FIBs, given the one so far, is that after all of them
+abbrev pub LeadsOn : List (List ℕ) → Option ℕ → List (List ℕ) → Option ℕ → Type 0
+LeadsOn rest now fibs before = (after : Option ℕ) → NamesAfter rest now after → NamesAfter fibs before after
+
+pub begun : (fibs : List (List ℕ)) (before : Option ℕ) → LeadsOn fibs before fibs before
+begun fibs before after h = h
+
+pub whole_more : (fibs : List (List ℕ)) (i : ℕ) (before now new : Option ℕ) (figs : List Fig) → i < length fibs → IsFib (get_or fibs i []) figs → new ≡ named_by_figs figs now
+    → LeadsOn (drop i fibs) now fibs before → LeadsOn (drop (i + 1) fibs) new fibs before
+whole_more fibs i before now new figs lt whole named on after h =
+    on after (subst (λ (fs : List (List ℕ)). NamesAfter fs now after) (sym (fib_by_fib fibs i lt))
+    (inl (figs, whole, subst (λ (o : Option ℕ). NamesAfter (drop (i + 1) fibs) o after) named h)))
+
+pub damaged_more : (fibs : List (List ℕ)) (i : ℕ) (before now : Option ℕ) (fault : FibFault) → i < length fibs → IsFibFault (get_or fibs i []) fault
+    → LeadsOn (drop i fibs) now fibs before → LeadsOn (drop (i + 1) fibs) now fibs before
+damaged_more fibs i before now fault lt wrong on after h =
+    on after (subst (λ (fs : List (List ℕ)). NamesAfter fs now after) (sym (fib_by_fib fibs i lt)) (inr (fault, wrong, h)))
+
+pub all_named : (fibs : List (List ℕ)) (i : ℕ) (before now : Option ℕ) → length fibs ≤ i → LeadsOn (drop i fibs) now fibs before → NamesAfter fibs before now
+all_named fibs i before now past on = on now (subst (λ (fs : List (List ℕ)). NamesAfter fs now now) (sym (drop_all i fibs past)) refl)

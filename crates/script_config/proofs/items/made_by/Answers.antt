@@ -1,0 +1,7 @@
+use Rattle.mux_types.specs.Configuration.{nothing}
+use Rattle.script_config.proofs.ItemByItem.{made_leads, all_made}
+use Rattle.std.proofs.Common.{sym}
+use Rattle.script_config.proofs.items.made_by.Goals as goal
+
+pub returns-clause-leads : goal.returns-clause-leads
+returns-clause-leads c = made_leads _ nothing _ (sym (all_made _ _ _ _ c.loop-item-test.false c.loop-item.invariant))

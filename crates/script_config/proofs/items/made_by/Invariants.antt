@@ -1,0 +1,7 @@
+use Rattle.std.proofs.Common.{◌≡◌, drop}
+use Rattle.mux_types.specs.Configuration.{nothing}
+use Rattle.script_config.specs.Items.{made_by}
+use Rattle.script_config.proofs.items.made_by.Given as goal
+
+abbrev pub invariant-loop-item : goal.invariant-loop-item
+invariant-loop-item l = (made_by (drop l.item-index l.items) l.config ≡ made_by l.items nothing)

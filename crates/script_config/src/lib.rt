@@ -1,0 +1,34 @@
+//! Configurations as scripts, and the plans between them (EN 300 401 clauses 6.1 to 6.5).
+//!
+//! - From a script: [`opening_of`] applies its items to the empty configuration, and [`read_opening`] returns the
+//!   [`Opening`] of a text, whose configuration is sound.
+//! - To a script: [`script_of`] makes the script that begins with a configuration, and [`config_text`] its text.
+//! - From a stream of FIBs: [`eid_after`] returns the EId that it signals last, and [`config_heard`] the configuration
+//!   that a picture shows, or the first entry that no configuration has.
+//! - Between two openings: [`fault_between`] says why there is no plan, and [`plan_between`] makes the plan that turns
+//!   one configuration into the other by one reconfiguration.
+//!
+//! What items make is defined in `specs/Items.antt`, the script of a configuration in `specs/Plain.antt` and its text
+//! in `specs/Texts.antt`; the EId of a stream in `specs/Ensembles.antt`, and entries that no configuration has in
+//! `specs/Unsaid.antt`; the plan in `specs/Plan.antt`, over the edits of `mux_edits` between two configurations, and
+//! the refusals in `specs/Refusals.antt`.
+#![tactic(auto)]
+
+pub mod ensembles;
+pub mod heard;
+pub mod items;
+mod list;
+pub mod opening;
+pub mod plain;
+pub mod plan;
+pub mod refusal;
+pub mod text;
+
+pub use ensembles::eid_after;
+pub use heard::config_heard;
+pub use items::{ItemFault, opening_of};
+pub use opening::{Opening, OpeningFault, read_opening};
+pub use plain::{MOST_ACTS, script_of};
+pub use plan::plan_between;
+pub use refusal::{DiffFault, fault_between, fits_period};
+pub use text::{config_text, usual_period};

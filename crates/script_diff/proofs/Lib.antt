@@ -1,3 +1,0 @@
-mod Pacing
-mod Ranged
-mod Vectors

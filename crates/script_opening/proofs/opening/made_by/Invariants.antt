@@ -1,7 +1,0 @@
-use Rattle.std.proofs.Common.{◌≡◌, drop}
-use Rattle.mux_types.specs.Configuration.{nothing}
-use Rattle.script_opening.specs.Openings.{made_by}
-use Rattle.script_opening.proofs.opening.made_by.Given as goal
-
-abbrev pub invariant-loop-item : goal.invariant-loop-item
-invariant-loop-item l = (made_by (drop l.item-index l.items) l.config ≡ made_by l.items nothing)

@@ -1,9 +1,0 @@
-use Rattle.std.proofs.Common.{◌≡◌, length}
-use Rattle.stream_config.specs.Ensembles.{named_by_figs}
-use Rattle.stream_config.proofs.ensembles.eid_of_figs.Given as goal
-
-abbrev pub invariant-loop-fig : goal.invariant-loop-fig
-invariant-loop-fig l = named_by_figs l.figs l.eid ≡ named_by_figs l.initial.figs l.initial.eid
-
-abbrev pub decreases-loop-fig : goal.decreases-loop-fig
-decreases-loop-fig l = length l.figs
