@@ -4,6 +4,7 @@ use Rattle.std.proofs.Common.{◌≡◌, ℕ, List, [], ◌∷◌, length, Resul
 use Rattle.std.proofs.lemmas.Fmt.{decimal_digit}
 use Rattle.std.proofs.lemmas.List.{length-replicate}
 use Rattle.fib_codec.specs.declared.frame_layout.FrameLayout.TheVariants.{Whole}
+use Rattle.script_tokens.specs.declared.fault.Position.{Position}
 use Rattle.script_tokens.specs.declared.fault.ScriptFault.{ScriptFault}
 use Rattle.script_tokens.specs.declared.fault.ScriptFault.TheVariants.{Byte as ByteAt}
 use Rattle.script_tokens.specs.declared.token.Token.{Token}
@@ -26,10 +27,12 @@ use Rattle.plan_code.specs.declared.instr.Line.{Line}
 use Rattle.plan_code.specs.declared.instr.Instr.TheVariants.{Wait, End as EndOfPlan}
 use Rattle.plan_code.specs.Program.{Program}
 use Rattle.plan_player.specs.Playing.{Playing}
-use Rattle.plan_session.specs.declared.event_fault.EventFault.TheVariants.{Byte as AtByte, Number as AtNumber, Memory as NoMemory}
+use Rattle.plan_session.specs.declared.event_fault.EventFault.{EventFault}
+use Rattle.plan_session.specs.declared.event_fault.EventFault.TheVariants.{Byte as AtByte, Number as AtNumber, Expected as AtOther, Memory as NoMemory}
 use Rattle.plan_session.specs.declared.step.Step.{Step}
 use Rattle.plan_session.specs.declared.step.Step.TheVariants.{Frames}
 use Rattle.plan_session.specs.Events.{HoldsOneList}
+use Rattle.plan_session.specs.Kept.{cut_of, reported_fault}
 use Rattle.plan_live.specs.declared.line.Unread.TheVariants.{Bad as IsBad, Memory}
 use Rattle.plan_live.specs.declared.message.LineFault.TheVariants.{Limit, NoText, Byte, Number, Expected}
 use Rattle.plan_live.specs.declared.message.Message.{Message}
@@ -37,7 +40,7 @@ use Rattle.plan_live.specs.declared.message.Message.TheVariants.{Bad, Swap, Noti
 use Rattle.plan_live.specs.declared.options.Wanted.{Wanted}
 use Rattle.plan_live.specs.Growing.{Grows}
 use Rattle.plan_live.specs.Notes.{swap_note, notice_note, has_ended, end_note, every_note, frame_notes, notes}
-use Rattle.plan_live.specs.Lines.{LineHolds, HoldsNone, IsLineFault, LineDoes, LinesDo, unread_of, IsUnread}
+use Rattle.plan_live.specs.Lines.{LineHolds, IsRefusedWith, IsLineFault, LineDoes, LinesDo, unread_of, IsUnread}
 
 -- ---- values shared by these vectors: a code of an empty multiplex that waits for a frame and ends
 
@@ -228,12 +231,28 @@ not_cut tokens cut =
     let same : fault ≡ Ok tokens = cut in
     absurd cc
 
-pub no_steps : HoldsNone at_sign
-unfolding lexed lib.Utf8.encode
-no_steps = record { short = omega arith; text = (at_sign, (refl, refl)); none = λ steps h. not_cut h.tokens h.cut }
+fault_of_at_sign : (fault : ScriptFault) → cut_of at_sign ≡ Err fault → fault ≡ ByteAt first_position.position
+unfolding lexed
+fault_of_at_sign fault cut =
+    let first : Result (List Token) ScriptFault = Err (ByteAt first_position.position) in
+    let same : first ≡ Err fault = cut in
+    cc
 
-some_steps : HoldsNone two_frames → ⊥
-some_steps h = h.none (Frames 2 ∷ []) two_are_held.holds
+at_sign_is_cut : cut_of at_sign ≡ Err (ByteAt first_position.position)
+unfolding lexed
+at_sign_is_cut = refl
+
+pub no_steps : IsRefusedWith at_sign (AtByte first_position.position)
+unfolding lexed lib.Utf8.encode
+no_steps = record {
+  short = omega arith;
+  text = (at_sign, (refl, refl));
+  none = λ steps h. not_cut h.tokens h.cut;
+  first = λ fault cut. sym (ap reported_fault (fault_of_at_sign fault cut));
+}
+
+some_steps : (fault : EventFault) → IsRefusedWith two_frames fault → ⊥
+some_steps fault h = h.none (Frames 2 ∷ []) two_are_held.holds
 
 -- ---- why a line lists none
 
@@ -249,11 +268,25 @@ short_enough h = let n : length (blanks 65536) ≡ 65536 = length-replicate {A =
 a_text : IsLineFault two_frames NoText → ⊥
 a_text h = h.1 two_are_held.text
 
-a_byte : IsLineFault at_sign (Byte 1)
-a_byte = no_steps
+pub a_byte : IsLineFault at_sign (Byte 1)
+a_byte = (first_position.position, refl, no_steps)
+
+-- the byte is in the first column
+in_another_column : IsLineFault at_sign (Byte 2) → ⊥
+in_another_column h =
+    let same : AtByte h.0 ≡ AtByte first_position.position = h.2.first (ByteAt first_position.position) at_sign_is_cut in
+    let position : h.0 ≡ first_position.position = cc same in
+    let column : h.0.column ≡ 1 = ap (λ (p : Position). p.column) position in
+    omega (arith, column, h.1)
+
+-- and is reported as a byte that is not allowed
+of_another_name : IsLineFault at_sign (Expected 1) → ⊥
+of_another_name h =
+    let same : AtOther h.0 ≡ AtByte first_position.position = h.2.first (ByteAt first_position.position) at_sign_is_cut in
+    absurd cc
 
 held_after_all : IsLineFault two_frames (Expected 1) → ⊥
-held_after_all h = some_steps h
+held_after_all h = some_steps (AtOther h.0) h.2
 
 -- ---- the outcome of lines
 
@@ -271,7 +304,7 @@ nothing_told (inl h) = let n : 0 ≡ 1 = ap (λ (l : List Message). length l) h.
 nothing_told (inr h) = let n : 1 ≡ 0 = ap (λ (l : List Step). length l) h.2 in omega (arith, n)
 
 pub bad_is_told : LineDoes with_status fresh 0 1 at_sign [] bad_told
-bad_is_told = inr (Byte 1, no_steps, refl, refl)
+bad_is_told = inr (Byte 1, a_byte, refl, refl)
 
 bad_is_not_told : LineDoes with_status fresh 0 1 at_sign [] [] → ⊥
 bad_is_not_told (inl h) = no_steps.none [] h.0.holds
@@ -300,7 +333,7 @@ no_memory : unread_of NoMemory ≡ Memory
 no_memory = refl
 
 unread : IsUnread at_sign (IsBad (Byte 1))
-unread = no_steps
+unread = a_byte
 
 read : IsUnread two_frames (IsBad (Byte 1)) → ⊥
-read h = some_steps h
+read h = some_steps (AtByte h.0) h.2

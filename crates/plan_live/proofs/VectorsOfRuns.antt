@@ -96,9 +96,9 @@ late = streamed (Some []) (Some []) (Some end_told)
 no_fault : (fault : LineFault) → IsLineFault two_frames fault → ⊥
 no_fault Limit h = let n : length two_frames ≡ 8 = refl in omega (arith, n, h)
 no_fault NoText h = h.1 two_are_held.text
-no_fault (Byte column) h = h.none (Frames 2 ∷ []) two_are_held.holds
-no_fault (Number column) h = h.none (Frames 2 ∷ []) two_are_held.holds
-no_fault (Expected column) h = h.none (Frames 2 ∷ []) two_are_held.holds
+no_fault (Byte column) h = h.2.none (Frames 2 ∷ []) two_are_held.holds
+no_fault (Number column) h = h.2.none (Frames 2 ∷ []) two_are_held.holds
+no_fault (Expected column) h = h.2.none (Frames 2 ∷ []) two_are_held.holds
 
 steps_of_one : HoldsOneList → (steps : List Step) (reported : List Message) → LinesDo with_status fresh 0 0 one steps reported → steps ≡ Frames 2 ∷ []
 steps_of_one law steps reported (a, rest, front, back, cut, parts, inl h, others) =

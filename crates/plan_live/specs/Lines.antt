@@ -3,10 +3,12 @@ use Rattle.std.specs.Prelude.{◌≡◌, ◌⊎◌, ℕ, ◌+◌, ◌<◌, ◌�
 use Rattle.std.specs.Str.{IsUtf8}
 use Rattle.plan_player.specs.Playing.{Playing, played}
 use Rattle.plan_player.specs.Delivery.{frames_of}
+use Rattle.script_tokens.specs.declared.fault.Position.{Position}
 use Rattle.plan_session.specs.declared.event_fault.EventFault.{EventFault}
 use Rattle.plan_session.specs.declared.event_fault.EventFault.TheVariants.{Byte as AtByte, Number as AtNumber, Expected as AtOther, Memory as NoMemory}
 use Rattle.plan_session.specs.declared.step.Step.{Step}
 use Rattle.plan_session.specs.Events.{Holds, events_of}
+use Rattle.plan_session.specs.Kept.{ReportsFirstFault}
 use Rattle.plan_live.specs.declared.message.LineFault.{LineFault}
 use Rattle.plan_live.specs.declared.message.LineFault.TheVariants.{Limit, NoText, Byte, Number, Expected}
 use Rattle.plan_live.specs.declared.message.Message.{Message}
@@ -24,19 +26,21 @@ pub record LineHolds (line : List ℕ) (steps : List Step) : Type 0 where
   pub text : IsUtf8 line
   pub holds : Holds line steps
 
--- a line that is short enough and text, but lists no steps
-pub record HoldsNone (line : List ℕ) : Type 0 where
+-- a line that is short enough and text, but lists no steps: as an event file it is refused with this fault, which is
+-- its first one, at its position, if it has no tokens
+pub record IsRefusedWith (line : List ℕ) (fault : EventFault) : Type 0 where
   pub short : length line ≤ 65536
   pub text : IsUtf8 line
   pub none : (steps : List Step) → Holds line steps → ⊥
+  pub first : ReportsFirstFault line fault
 
--- the line lists no steps, for this reason
+-- the line lists no steps, for this reason, in this column
 abbrev pub IsLineFault : List ℕ → LineFault → Type 0
 IsLineFault line Limit = 65536 < length line
 IsLineFault line NoText = (length line ≤ 65536) × (IsUtf8 line → ⊥)
-IsLineFault line (Byte column) = HoldsNone line
-IsLineFault line (Number column) = HoldsNone line
-IsLineFault line (Expected column) = HoldsNone line
+IsLineFault line (Byte column) = (position : Position) × (position.column ≡ column) × IsRefusedWith line (AtByte position)
+IsLineFault line (Number column) = (position : Position) × (position.column ≡ column) × IsRefusedWith line (AtNumber position)
+IsLineFault line (Expected column) = (position : Position) × (position.column ≡ column) × IsRefusedWith line (AtOther position)
 
 -- ---- the outcome of a line
 
