@@ -1,11 +1,14 @@
 mod Going
 mod Growing
+mod JoinedTexts
 mod Joining
 mod Lines
+mod OneFile
 mod Reading
 mod Starts
 mod Steps
 mod Vectors
 mod VectorsOfGoing
 mod VectorsOfMessages
+mod VectorsOfOneFile
 mod VectorsOfRuns

@@ -6,4 +6,5 @@ pub mod Living
 pub mod Looking
 pub mod Messages
 pub mod Notes
+pub mod OneFile
 pub mod Streaming
