@@ -1,7 +1,5 @@
 -- What is left of files and of standard input, where their bytes are known.
-use Rattle.std.specs.Prelude.{ℕ, List, [], ◌∷◌, Option, Some, None, if◌then◌else◌}
-use Rattle.std.specs.Str.{bytes_eq}
-use Rattle.console.specs.declared.known.KnownFile.{KnownFile}
+use Rattle.std.specs.Prelude.{ℕ, List, Option}
 use Rattle.console.specs.declared.files.Source.{Source}
 use Rattle.console.specs.declared.files.Source.TheVariants.{File, Input}
 
@@ -14,8 +12,3 @@ left_of_source file input (Input i) = input i
 pub record Reading : Type 0 where
   pub left : Option (List ℕ)
   pub piece : List ℕ
-
--- the bytes of the first file with this path
-abbrev pub bytes_at : List ℕ → List KnownFile → Option (List ℕ)
-bytes_at path [] = None
-bytes_at path (file ∷ files) = if bytes_eq file.path.now path then Some file.bytes.now else bytes_at path files

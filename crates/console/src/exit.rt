@@ -1,10 +1,14 @@
 //! Exit statuses, and failures to access a file.
 
-ghost use Rattle.std.specs.Prelude.{◌≡◌, ◌≢◌, ℕ, List, [], take, codes, IfOk, IfSome};
+ghost use Rattle.std.specs.Prelude.{◌≡◌, ◌≢◌, ℕ, List, [], Some, take, codes, IfOk, IfErr, OnOk, OnErr, IfSome};
 ghost use Rattle.std.specs.Io.KnownBytes.{Keeps};
+ghost use Rattle.console.specs.Failures.{IsReadFailure, IsWriteFailure};
+ghost use Rattle.console.specs.World.{Becomes, Stays, IsSameBut, HasWritten, HasTouched};
+ghost use Rattle.console.specs.declared.exit.Failure.TheVariants.{Memory as NoMemory};
 
 use crate::escaped::Escaped;
 use crate::files::{FileFault, Files};
+use crate::output::write_out;
 use crate::pieces::{Pieces, read_within};
 use std::alloc::Global;
 use std::fmt::{self, Display, Formatter};
@@ -91,8 +95,12 @@ impl Display for JsonFailure<'_, '_> {
 }
 
 impl<'a> Failure<'a> {
+    ghost use Rattle.console.specs.Failures.{IsReadFailure, IsWriteFailure};
+
     /// The failure to report for an unreadable file.
-    pub fn of_file(fault: FileFault, path: &'a str) -> Self {
+    pub fn of_file(fault: FileFault, path: &'a str) -> Self
+        ensures { IsReadFailure path.now result }
+    {
         match fault {
             FileFault::Failed => Failure::Read(path),
             FileFault::Memory => Failure::Memory,
@@ -100,7 +108,9 @@ impl<'a> Failure<'a> {
     }
 
     /// The failure to report for a file that can't be created.
-    pub fn of_output(fault: FileFault, path: &'a str) -> Self {
+    pub fn of_output(fault: FileFault, path: &'a str) -> Self
+        ensures { IsWriteFailure path.now result }
+    {
         match fault {
             FileFault::Failed => Failure::Create(path),
             FileFault::Memory => Failure::Memory,
@@ -109,6 +119,11 @@ impl<'a> Failure<'a> {
 }
 
 impl From<io::Error> for Failure<'_> {
+    ghost use Rattle.std.specs.Prelude.{◌≡◌};
+    ghost use Rattle.console.specs.declared.exit.Failure.TheVariants.{Output};
+
+    ghost from_gives = { λ _ failure. failure ≡ Output };
+
     fn from(_error: io::Error) -> Self {
         Failure::Output
     }
@@ -125,6 +140,8 @@ pub fn open_input<'a, F: Files>(files: &mut F, path: &'a str) -> Result<F::In, F
         → Keeps (F.known files.old other) (F.known files.new other) }
     ensures kept { path.now ≢ codes "-"
         → Keeps (F.known_input files.old) (F.known_input files.new) }
+    ensures world { Stays (F.world files.old) (F.world files.new) }
+    ensures fault { IfErr result (IsReadFailure path.now) }
 {
     let source = if path == "-" {
         files.input()
@@ -145,6 +162,8 @@ pub fn pieces_of<'a, F: Files>(
     ensures file { path.now ≢ codes "-" → IfOk result (λ pieces.
         Keeps (F.known files.old path.now) pieces.left) }
     ensures first { IfOk result (λ pieces. pieces.piece ≡ []) }
+    ensures world { Stays (F.world files.old) (F.world files.new) }
+    ensures fault { IfErr result (IsReadFailure path.now) }
 {
     let source = open_input(files, path)?;
     Pieces::new(alloc, source).map_err(|_| Failure::Memory)
@@ -160,8 +179,10 @@ pub fn read_file<'a, F: Files>(
     path: &'a str,
     most: usize,
 ) -> Result<Vec<u8>, Failure<'a>>
-    ensures { IfOk result (λ read. IfSome (F.known files.old path.now)
+    ensures bytes { IfOk result (λ read. IfSome (F.known files.old path.now)
         (λ bytes. read.items ≡ take most bytes)) }
+    ensures world { Stays (F.world files.old) (F.world files.new) }
+    ensures fault { IfErr result (IsReadFailure path.now) }
 {
     let file = files.open(path);
     let file = file.map_err(|fault| Failure::of_file(fault, path))?;
@@ -179,20 +200,66 @@ pub fn read_input<'a, F: Files>(
         IfSome (F.known_input files.old) (λ bytes. read.items ≡ take most bytes)) }
     ensures file { path.now ≢ codes "-" → IfOk result (λ read.
         IfSome (F.known files.old path.now) (λ bytes. read.items ≡ take most bytes)) }
+    ensures world { Stays (F.world files.old) (F.world files.new) }
+    ensures fault { IfErr result (IsReadFailure path.now) }
 {
     let source = open_input(files, path)?;
     read_within(alloc, source, most).map_err(|fault| Failure::of_file(fault, path))
 }
 
-/// Creates the file of this path, or truncates it.
-pub fn create_file<'a, F: Files>(files: &mut F, path: &'a str) -> Result<F::Out, Failure<'a>> {
+/// Creates the file of this path, or truncates it. `Create` on a system error, `Memory` if out of memory: all files are
+/// as they were then. Other files are as they were in any case.
+pub fn create_file<'a, F: Files>(files: &mut F, path: &'a str) -> Result<F::Out, Failure<'a>>
+    ensures empty { IfOk result (λ file. IfSome (F.world files.old)
+        (λ _. F.Out.contents file ≡ Some [])) }
+    ensures others { Becomes (IsSameBut path.now) (F.world files.old) (F.world files.new) }
+    ensures failed { OnErr result (Stays (F.world files.old) (F.world files.new)) }
+    ensures fault { IfErr result (IsWriteFailure path.now) }
+{
     files
         .create(path)
         .map_err(|fault| Failure::of_output(fault, path))
 }
 
-/// Creates an empty file of this path if there is none. A file that is there keeps its bytes.
-pub fn touch_file<'a, F: Files>(files: &mut F, path: &'a str) -> Result<(), Failure<'a>> {
+/// Creates the file of this path, or truncates it, with these bytes. Other files are as they were in any case.
+///
+/// `Create` if it can't be created, written to the end or closed: nothing is known of this file then. `Memory` if out
+/// of memory before it is created: all files are as they were then.
+#[tactic(auto, using(crate::proofs::Writing::written_whole, crate::proofs::Worlds::but_then_but))]
+pub fn write_file<'a, F: Files>(
+    files: &mut F,
+    path: &'a str,
+    bytes: &[u8],
+) -> Result<(), Failure<'a>>
+    ensures written { OnOk result
+        (Becomes (HasWritten path.now bytes.now) (F.world files.old) (F.world files.new)) }
+    ensures others { Becomes (IsSameBut path.now) (F.world files.old) (F.world files.new) }
+    ensures memory { IfErr result
+        (λ failure. failure ≡ NoMemory → Stays (F.world files.old) (F.world files.new)) }
+    ensures fault { IfErr result (IsWriteFailure path.now) }
+{
+    let mut file = match create_file(files, path) {
+        Ok(file) => file,
+        Err(failure) => return Err(failure),
+    };
+    let (_taken, written) = write_out(bytes, &mut file);
+    if written.is_err() {
+        return Err(Failure::Create(path));
+    }
+    match files.close(path, file) {
+        Ok(()) => Ok(()),
+        Err(_) => Err(Failure::Create(path)),
+    }
+}
+
+/// Creates an empty file of this path if there is none. A file that is there keeps its bytes. `Create` on a system
+/// error, `Memory` if out of memory: all files are as they were then.
+pub fn touch_file<'a, F: Files>(files: &mut F, path: &'a str) -> Result<(), Failure<'a>>
+    ensures touched { OnOk result
+        (Becomes (HasTouched path.now) (F.world files.old) (F.world files.new)) }
+    ensures failed { OnErr result (Stays (F.world files.old) (F.world files.new)) }
+    ensures fault { IfErr result (IsWriteFailure path.now) }
+{
     files
         .touch(path)
         .map_err(|fault| Failure::of_output(fault, path))

@@ -19,14 +19,18 @@ pub enum FileFault {
 
 /// Access to the program's files.
 pub trait Files {
-    ghost use Rattle.std.specs.Prelude.{List, Option, None, ℕ, IfOk};
+    ghost use Rattle.std.specs.Prelude.{◌≡◌, List, [], Option, None, Some, ℕ, IfOk, OnOk, OnErr, IfSome};
     ghost use Rattle.std.specs.Io.KnownBytes.{Keeps};
+    ghost use Rattle.console.specs.World.{World, Becomes, Stays, HasSameFiles, IsSameBut, HasWritten, HasTouched, HasReported};
 
     /// The bytes of the file of a path, if known.
     ghost known: { Self → List ℕ → Option (List ℕ) } = { λ _ _. None };
 
     /// The bytes of standard input, if known.
     ghost known_input: { Self → Option (List ℕ) } = { λ _. None };
+
+    /// What all files hold, and what standard error has taken, if known.
+    ghost world: { Self → Option World } = { λ _. None };
 
     /// A file opened for reading, or standard input: its remaining bytes.
     type In: Read + Drop;
@@ -40,23 +44,46 @@ pub trait Files {
         ensures bytes { IfOk result (λ file. Keeps (known self.old path.now)
             (Self.In.remaining file)) }
         ensures files { (other : List ℕ) → Keeps (known self.old other) (known self.new other) }
-        ensures input { Keeps (known_input self.old) (known_input self.new) };
+        ensures input { Keeps (known_input self.old) (known_input self.new) }
+        ensures world { Stays (world self.old) (world self.new) };
 
     /// Standard input, from its current position; `Failed` on a system error. Files keep their bytes.
     fn input(&mut self) -> Result<Self::In, FileFault>
         ensures bytes { IfOk result (λ file. Keeps (known_input self.old)
             (Self.In.remaining file)) }
-        ensures files { (other : List ℕ) → Keeps (known self.old other) (known self.new other) };
+        ensures files { (other : List ℕ) → Keeps (known self.old other) (known self.new other) }
+        ensures world { Stays (world self.old) (world self.new) };
 
-    /// Creates the file of this path for writing, or truncates it. `Failed` on a system error.
-    fn create(&mut self, path: &str) -> Result<Self::Out, FileFault>;
+    /// Creates the file of this path for writing, or truncates it. `Failed` on a system error, `Memory` if out of
+    /// memory: all files are as they were then. Other files are as they were in any case. What the file holds is known
+    /// again when it is closed.
+    fn create(&mut self, path: &str) -> Result<Self::Out, FileFault>
+        ensures empty { IfOk result (λ file. IfSome (world self.old)
+            (λ _. Self.Out.contents file ≡ Some [])) }
+        ensures others { Becomes (IsSameBut path.now) (world self.old) (world self.new) }
+        ensures failed { OnErr result (Stays (world self.old) (world self.new)) };
+
+    /// Closes a file that was created for this path: what was written to it is what the file of the path holds.
+    /// `Failed` on a system error, `Memory` if out of memory: nothing is known of this file then. Other files are as
+    /// they were in any case.
+    fn close(&mut self, path: &str, file: Self::Out) -> Result<(), FileFault>
+        ensures written { OnOk result (IfSome (Self.Out.contents file)
+            (λ bytes. Becomes (HasWritten path.now bytes) (world self.old) (world self.new))) }
+        ensures others { Becomes (IsSameBut path.now) (world self.old) (world self.new) };
 
     /// Creates an empty file of this path if there is none; a file that is there keeps its bytes. `Failed` on a system
-    /// error, as where the file can't be opened for writing.
-    fn touch(&mut self, path: &str) -> Result<(), FileFault>;
+    /// error, as where the file can't be opened for writing, `Memory` if out of memory: all files are as they were
+    /// then.
+    fn touch(&mut self, path: &str) -> Result<(), FileFault>
+        ensures touched { OnOk result
+            (Becomes (HasTouched path.now) (world self.old) (world self.new)) }
+        ensures failed { OnErr result (Stays (world self.old) (world self.new)) };
 
-    /// Writes a line on standard error. One that can't be written is lost.
-    fn report<D: Display + Drop>(&mut self, line: D);
+    /// Writes a line on standard error. Where standard error fails, the rest of it is lost. Files are as they were.
+    fn report<D: Display + Drop>(&mut self, line: D)
+        ensures line { IfSome (D.output line)
+            (λ text. Becomes (HasReported text) (world self.old) (world self.new)) }
+        ensures files { Becomes HasSameFiles (world self.old) (world self.new) };
 }
 
 /// The files of the system. Its standard streams may be in non-blocking mode: reads and messages wait for them.
@@ -113,6 +140,14 @@ impl<'a, R: rt::Files + rt::Clock + Input + Eprint> Files for System<'a, R> {
     fn create(&mut self, path: &str) -> Result<Self::Out, FileFault> {
         match std::fs::create(self.rt, path) {
             Ok(file) => Ok(file),
+            Err(error) => Err(fault_of(&error)),
+        }
+    }
+
+    /// A file of the system has taken its bytes when a write returns.
+    fn close(&mut self, _path: &str, mut file: Self::Out) -> Result<(), FileFault> {
+        match file.flush() {
+            Ok(()) => Ok(()),
             Err(error) => Err(fault_of(&error)),
         }
     }
