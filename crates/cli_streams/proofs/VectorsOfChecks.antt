@@ -79,5 +79,5 @@ not_silent : (r : Reading) → ShowsCheck r options [] (Some []) (Some []) Refus
 not_silent r h = last h.ending h.prints
   where
     last : (e : Ending) → [] ≡ h.text ++ line_of plain (last_line e) → ⊥
-    last (endings.Counted totals) e = some_behind h.text _ _ e
-    last (endings.Refused cause) e = some_behind h.text _ _ e
+    last (endings.Counted _) e = some_behind h.text _ _ e
+    last (endings.Refused _) e = some_behind h.text _ _ e

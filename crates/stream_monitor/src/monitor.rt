@@ -1,8 +1,8 @@
 //! Checks a stream of FIBs as its bytes come.
 
 ghost use Rattle.std.specs.Prelude.{◌≡◌, ◌<◌, ◌+◌, ◌*◌, ◌/◌, ◌%◌, ℕ, List, Option, [], length, slice_range, IfOk, OnOk, IfSome};
-ghost use Rattle.std.specs.Io.KnownBytes.{Appends, IsAtEnd};
-ghost use Rattle.console.specs.Printed.{printed};
+ghost use Rattle.std.specs.Io.KnownBytes.{Appends, IsAtEnd, Keeps};
+ghost use Rattle.console.specs.Printed.{printed, writer_of};
 ghost use Rattle.stream_check.specs.Frames.{Reading};
 ghost use Rattle.stream_monitor.specs.Checking.{HasReadAll, StopsAtFib, StopsAtPiece};
 ghost use Rattle.stream_monitor.specs.Decided.{finding_lines, is_due};
@@ -10,7 +10,7 @@ ghost use Rattle.stream_monitor.specs.Going.{IsAfter, EndsFrameFrom, cause_of, d
 ghost use Rattle.stream_monitor.specs.declared.ending.Ending.TheVariants.{Refused};
 ghost use Rattle.stream_monitor.specs.declared.options.CheckOptions.{CheckOptions as OptionsOf};
 ghost use Rattle.stream_monitor.specs.Outcome.{ChecksInput, StopsAtEnd};
-ghost use Rattle.stream_monitor.specs.Requests.{beginning};
+ghost use Rattle.stream_monitor.specs.Requests.{IsEmptied, beginning};
 
 use crate::ending::Ending;
 use crate::line::{Cause, Form, Line, Totals, print_line};
@@ -79,7 +79,7 @@ pub fn check_stream<S: CheckStart, W: Write, I: FibSource<S, W>>(
     input: &mut I,
     out: &mut Output<'_, W>,
 ) -> Result<Ending, Stop>
-    // What `next` requires is said from here on. No input and no output is excluded: a caller picks `S`.
+    // `next` speaks of the start of this check. This restricts no caller, which picks `S` for its call.
     requires start { S.start ≡ beginning options (I.left input.old) (printed W.contents out.old) }
     // What is printed, and how the check ends.
     ensures checked { IfOk result (λ ending. (r : Reading) → (text : List ℕ)
@@ -90,9 +90,9 @@ pub fn check_stream<S: CheckStart, W: Write, I: FibSource<S, W>>(
     let mut state = start(options);
     let mut stash = Stash::new();
     for _ in 0..MOST_PIECES {
-        match out.flush() {
+        match flush(out) {
             Ok(()) => {}
-            Err(_) => return Err(Stop::Write),
+            Err(stop) => return Err(stop),
         }
         match input.next(out) {
             Ok(true) => {}
@@ -113,6 +113,19 @@ pub fn check_stream<S: CheckStart, W: Write, I: FibSource<S, W>>(
         }
     }
     Err(Stop::Read(FileFault::Failed))
+}
+
+/// Hands all lines so far to the writer of the output.
+fn flush<W: Write>(out: &mut Output<'_, W>) -> Result<(), Stop>
+    ensures emptied { OnOk result (IsEmptied out.new) }
+    ensures taken { OnOk result
+        (Keeps (printed W.contents out.old) (W.contents (writer_of out.new))) }
+    ensures kept { Keeps (printed W.contents out.old) (printed W.contents out.new) }
+{
+    match out.flush() {
+        Ok(()) => Ok(()),
+        Err(_) => Err(Stop::Write),
+    }
 }
 
 /// Checks the FIBs of a piece, and returns the end of the check if it comes with them.
