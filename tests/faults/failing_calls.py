@@ -169,6 +169,7 @@ def try_merge_reads(tally, failing):
     tally.same(MERGE, (0, len(plan), "".join(call for call, _ in MERGE_CALLS)),
                (whole.status, len(whole.printed), calls.replace("w", "")))
     tally.hold(whole.printed != plan, f"{MERGE}: nothing is carried")
+    tally.same(f"{MERGE}: frames that are read together are written together", 1, calls.count("w"))
     for number, (_, file) in enumerate(MERGE_CALLS, 1):
         goes_on, is_last = number == 6, number == 7
         printed = plan if goes_on else whole.printed if is_last else b""
@@ -180,10 +181,10 @@ def try_merge_reads(tally, failing):
 
 
 def try_merge_writes(tally, failing):
-    """Each write of merged frames fails, with at most 40 bytes per write, so that a frame takes three."""
+    """Each write of merged frames fails, with at most 40 bytes per write of the 30 frames that are written together."""
     whole, _ = failing.run(MERGE)
-    for number in range(90):
-        frames, part = number // 3, number % 3 * 40
+    for number in range(72):
+        frames, part = divmod(number * 40, FRAME)
         reported = f"write failed after {frames} frames and {part} bytes\n".encode()
         for error in (EIO, EINTR, 0):
             ended, calls = failing.run(MERGE, takes=40, after=number, **{"as": error})

@@ -1,7 +1,10 @@
-mod Checked
+pub mod Hearing
 mod Appending
 mod ByCalls
-pub mod Hearing
+mod Checked
+mod Counting
+mod FirstFrames
+mod HoldingBack
 mod JsonObjects
 mod Merging
 mod MergingEnds
@@ -9,6 +12,8 @@ mod MergingFiles
 mod MergingStreams
 mod OneAnswer
 mod PictureLines
+mod ReadingAhead
 mod ReadingOn
-mod VectorsOfMerging
 mod VectorsOfChecks
+mod VectorsOfMerging
+mod VectorsOfHolding

@@ -1,23 +1,22 @@
 -- Merging two streams: one more frame, and how it ends.
-use Rattle.std.proofs.Common.{◌≡◌, ℕ, ◌+◌, Bool, true, false, inl, inr, List, [], ◌∷◌, ◌++◌, length, map, take, refl, sym, ap, subst, ◌∙◌, arith, append-nil, length-append}
+use Rattle.std.proofs.Common.{◌≡◌, ℕ, ◌+◌, Bool, true, false, List, [], ◌∷◌, ◌++◌, length, map, refl, sym, ap, subst, ◌∙◌, append-nil, length-append}
 use Rattle.std.specs.Prelude.{Option, Ok, Err}
 use Rattle.std.specs.List.{AllByRecursion, concat}
 use Rattle.std.specs.Io.KnownBytes.{Appends, Consumes, IsAtEnd}
 use Rattle.std.proofs.KnownBytes.{Appends-trans, Consumes-trans}
-use Rattle.std.proofs.lemmas.List.{take_all}
 use Rattle.fib_codec.proofs.Lengths.{AllByRecursion-append}
 use Rattle.stream_check.specs.Frames.{Reading}
 use Rattle.fig_merge.specs.Taking.{Merging, nothing_taken}
 use Rattle.console.specs.declared.exit.Failure.{Failure}
 use Rattle.console.specs.declared.exit.Status.{Status}
 use Rattle.cli_streams.specs.Stream.{fibs_of_stream}
-use Rattle.cli_streams.specs.Merging.{merged_frames, bytes_of}
-use Rattle.cli_streams.specs.Merged.{after_frame_filled, frame_filled, ReadsFrame, TakesFrames, TakesNext, summary_of, WritesFrame, written_of, Merges}
+use Rattle.cli_streams.specs.Merging.{filled_frame, merged_frames, bytes_of}
+use Rattle.cli_streams.specs.Merged.{after_frame_filled, frame_filled, ReadsFrame, TakesFrames, TakesNext, summary_of, Merges}
 use Rattle.cli_streams.specs.declared.merge.MergeFault.{MergeFault}
 use Rattle.cli_streams.specs.declared.merge.MergeFault.TheVariants.{Failed, NotWhole, Write}
 use Rattle.cli_streams.specs.declared.merge.MergeSummary.{MergeSummary}
-use Rattle.cli_streams.proofs.Merging.{length-merged}
-use Rattle.cli_streams.proofs.MergingStreams.{MergesSoFar, concat_next, length-fibs, merger_next, bytes_of_all, bytes_of_part}
+use Rattle.cli_streams.proofs.FirstFrames.{AreSized}
+use Rattle.cli_streams.proofs.MergingStreams.{MergesSoFar, concat_next, frames_next, merger_next, bytes_of_all}
 
 -- a frame of the plan that was read, and filled behind the FIGs of the multiplexer's next one
 pub record MergesOne (size : ℕ) (plan_left other other_left : Option (List ℕ)) (plan_now other_now : Option (List ℕ)) (is_open : Bool) (status : Status) (count : ℕ) (taken : List (List ℕ)) (old mid new : Merging) (frame filled : List ℕ) : Type 0 where
@@ -64,25 +63,33 @@ module _ {size count : ℕ} {plan plan_left plan_now other other_left other_now 
   abbrev taken : List (List ℕ)
   taken = so_far.taken ++ one.takes.next
 
-  long : length frames ≡ count + 1
+  pub long : length frames ≡ count + 1
   long = length-append so_far.frames (frame ∷ []) ∙ ap (λ n. n + 1) so_far.number
 
-  all_whole : AllByRecursion (λ f. length f ≡ size) frames
+  pub all_whole : AllByRecursion (λ f. length f ≡ size) frames
   all_whole = AllByRecursion-append (λ f. length f ≡ size) so_far.frames (frame ∷ []) so_far.whole (one.whole, tt)
 
-  consumed : Consumes plan plan_now (concat frames)
+  pub consumed : Consumes plan plan_now (concat frames)
   consumed = subst (Consumes plan plan_now) (sym (concat_next so_far.frames frame)) (Consumes-trans plan plan_left plan_now (concat so_far.frames) frame so_far.bytes one.bytes)
 
+  -- its bytes are those of a frame
+  pub all_sized : (r : Reading) → length filled ≡ size → AreSized size (merged_frames r (map fibs_of_stream frames) (map fibs_of_stream taken) nothing_taken)
+  all_sized r same =
+      let one_sized : length (frame_filled r frame mid) ≡ size = ap length (sym (one.filled_is r)) ∙ same in
+      subst (AreSized size)
+      (sym (frames_next r count so_far.frames so_far.taken one.takes.next frame m mid new so_far.number one.takes.in_turn (so_far.merger r) (one.takes.after r)))
+      (AllByRecursion-append (λ f. length (concat f) ≡ size) _ (filled_frame r (fibs_of_stream frame) mid ∷ []) (so_far.sized r) (one_sized, tt))
+
   -- all of it is written
-  text : (r : Reading) → Appends written now filled → Appends old now (bytes_of (merged_frames r (map fibs_of_stream frames) (map fibs_of_stream taken) nothing_taken))
+  pub text : (r : Reading) → Appends written now filled → Appends old now (bytes_of (merged_frames r (map fibs_of_stream frames) (map fibs_of_stream taken) nothing_taken))
   text r put =
       subst (Appends old now)
       (ap (λ (l : List ℕ). bytes_of (merged_frames r (map fibs_of_stream so_far.frames) (map fibs_of_stream so_far.taken) nothing_taken) ++ l) (one.filled_is r)
       ∙ sym (bytes_of_all r count so_far.frames so_far.taken one.takes.next frame m mid new so_far.number one.takes.in_turn (so_far.merger r) (one.takes.after r)))
       (Appends-trans old written now _ filled (so_far.written r) put)
 
-  pub one_more : Appends written now filled → MergesSoFar size plan plan_now other other_now old now is_open status (count + 1) new
-  one_more put = record {
+  abbrev pub one_more : length filled ≡ size → Appends written now filled → MergesSoFar size plan plan_now other other_now old now is_open status (count + 1) new
+  one_more same put = record {
     frames = frames;
     taken = taken;
     number = long;
@@ -90,61 +97,9 @@ module _ {size count : ℕ} {plan plan_left plan_now other other_left other_now 
     bytes = consumed;
     takes = one.takes.takes;
     merger = λ r. merger_next r count so_far.frames so_far.taken one.takes.next frame m mid new so_far.number one.takes.in_turn (so_far.merger r) (one.takes.after r) (one.merger r);
+    sized = λ r. all_sized r same;
     written = λ r. text r put;
   }
-
-  -- the first bytes of it are written, or all of it and the flush fails
-  part_is : (r : Reading) (bytes : ℕ) → Appends written now (take bytes filled)
-      → Appends old now (written_of (Err (Write count bytes)) (merged_frames r (map fibs_of_stream frames) (map fibs_of_stream taken) nothing_taken))
-  part_is r bytes put =
-      subst (Appends old now)
-      (ap (λ (l : List ℕ). bytes_of (merged_frames r (map fibs_of_stream so_far.frames) (map fibs_of_stream so_far.taken) nothing_taken) ++ take bytes l) (one.filled_is r)
-      ∙ sym (bytes_of_part r count so_far.frames so_far.taken one.takes.next frame m mid new so_far.number one.takes.in_turn (so_far.merger r) (one.takes.after r) bytes))
-      (Appends-trans old written now _ (take bytes filled) (so_far.written r) put)
-
-  all_is : (r : Reading) → Appends written now filled
-      → Appends old now (written_of (Err (Write (count + 1) 0)) (merged_frames r (map fibs_of_stream frames) (map fibs_of_stream taken) nothing_taken))
-  all_is r put =
-      let all = merged_frames r (map fibs_of_stream frames) (map fibs_of_stream taken) nothing_taken in
-      let many : length all ≡ count + 1 = length-merged r (map fibs_of_stream frames) (map fibs_of_stream taken) nothing_taken ∙ length-fibs frames ∙ long in
-      let whole : take (count + 1) all ≡ all = take_all (count + 1) all (omega (arith, many)) in
-      subst (Appends old now)
-      (sym (ap (λ (l : List (List (List ℕ))). bytes_of l ++ []) whole ∙ append-nil (bytes_of all)))
-      (text r put)
-
-  many_taken : TakesFrames size other other_now is_open status (length frames) taken
-  many_taken = subst (λ n. TakesFrames size other other_now is_open status n taken) (sym long) one.takes.takes
-
-  pub ends_writing : (path : List ℕ) (fault : MergeFault) → length filled ≡ size → WritesFrame count filled written now (Err fault) → Merges path size plan other old now status (Err fault)
-  ends_writing path (Write n bytes) same (inl (is, less, put)) = record {
-    frames = frames;
-    taken = taken;
-    cut = [];
-    plan_left = plan_now;
-    other_left = other_now;
-    is_open = is_open;
-    whole = all_whole;
-    bytes = subst (Consumes plan plan_now) (sym (append-nil (concat frames))) consumed;
-    takes = many_taken;
-    ends = λ r. (refl, inr (omega (arith, is, long), omega (arith, less, same)));
-    written = λ r. subst (λ k. Appends old now (written_of (Err (Write k bytes)) (merged_frames r (map fibs_of_stream frames) (map fibs_of_stream taken) nothing_taken))) (sym is) (part_is r bytes put);
-  }
-  ends_writing path (Write n bytes) same (inr (is, none, put)) = record {
-    frames = frames;
-    taken = taken;
-    cut = [];
-    plan_left = plan_now;
-    other_left = other_now;
-    is_open = is_open;
-    whole = all_whole;
-    bytes = subst (Consumes plan plan_now) (sym (append-nil (concat frames))) consumed;
-    takes = many_taken;
-    ends = λ r. (refl, inl (is ∙ sym long, none));
-    written = λ r. subst (λ k. Appends old now (written_of (Err (Write k bytes)) (merged_frames r (map fibs_of_stream frames) (map fibs_of_stream taken) nothing_taken))) (sym is)
-        (subst (λ k. Appends old now (written_of (Err (Write (count + 1) k)) (merged_frames r (map fibs_of_stream frames) (map fibs_of_stream taken) nothing_taken))) (sym none) (all_is r put));
-  }
-  ends_writing path (NotWhole p) same wrong = absurd wrong
-  ends_writing path (Failed f) same wrong = absurd wrong
 
 module _ {size count : ℕ} {plan plan_left other other_left old written : Option (List ℕ)} {is_open : Bool} {status : Status} {m : Merging}
     (so_far : MergesSoFar size plan plan_left other other_left old written is_open status count m) where

@@ -1,18 +1,16 @@
 -- Merging the streams of two files whose bytes are known.
 use Rattle.std.proofs.Common.{◌≡◌, ◌≢◌, ℕ, Bool, true, false, cond, List, [], codes, refl, sym, ◌∙◌, subst}
-use Rattle.std.specs.Prelude.{Option, Some, None, Result, Err}
+use Rattle.std.specs.Prelude.{Option, Some, None, Result, Ok, Err}
 use Rattle.std.specs.Bool.{Decides}
 use Rattle.std.specs.Str.{bytes_eq}
-use Rattle.std.specs.Io.Buffered.{reader_remaining, reader_inner, reader_buffer, reader_capacity}
-use Rattle.std.specs.declared.io.buffered.BufReader.{BufReader}
-use Rattle.std.specs.Io.KnownBytes.{Consumes, Keeps}
+use Rattle.std.specs.Io.KnownBytes.{Consumes, Keeps, prepend_known}
 use Rattle.std.proofs.KnownBytes.{Appends-nil, Consumes-nil, Keeps-trans, prepend_known-nil}
 use Rattle.std.proofs.lemmas.Slice.Eq.{bytes_eq-Decides}
 use Rattle.console.specs.declared.exit.Failure.{Failure}
 use Rattle.console.specs.declared.exit.Status.{Status}
 use Rattle.console.specs.declared.exit.Status.TheVariants.{Done}
-use Rattle.cli_streams.specs.Merged.{known_at, AreTwo, Merges, Returns, MergesFiles}
-use Rattle.cli_streams.specs.declared.merge.MergeFault.TheVariants.{Failed}
+use Rattle.cli_streams.specs.Merged.{known_at, AreTwo, ReadsFrame, Merges, Returns, MergesFiles}
+use Rattle.cli_streams.specs.declared.merge.MergeFault.TheVariants.{Failed, NotWhole, Write}
 use Rattle.cli_streams.specs.declared.merge.MergeSummary.{MergeSummary}
 use Rattle.cli_streams.specs.declared.merge.MergeFault.{MergeFault}
 
@@ -21,6 +19,14 @@ keeps_consumes None b c bs k h = tt
 keeps_consumes (Some x) None c bs k h = absurd k
 keeps_consumes (Some x) (Some y) None bs k h = absurd h
 keeps_consumes (Some x) (Some y) (Some z) bs k h = sym k ∙ h
+
+pub kept_reads : (path : List ℕ) (size : ℕ) (before then left : Option (List ℕ)) (frame : List ℕ) (result : Result Bool MergeFault)
+    → Keeps before then → ReadsFrame path size then left frame result → ReadsFrame path size before left frame result
+kept_reads path size before then left frame (Ok true) kept read = keeps_consumes before then left frame kept read
+kept_reads path size before then left frame (Ok false) kept read = (keeps_consumes before then left [] kept read.0, read.1)
+kept_reads path size before then left frame (Err (NotWhole p)) kept (is, (cut, some, less, consumed, end)) = (is, (cut, some, less, keeps_consumes before then left cut kept consumed, end))
+kept_reads path size before then left frame (Err (Failed f)) kept (unread, (part, consumed)) = (unread, (part, keeps_consumes before then left part kept consumed))
+kept_reads path size before then left frame (Err (Write frames bytes)) kept wrong = absurd wrong
 
 -- what holds of the bytes that are read holds of those of the files
 pub of_files : {path : List ℕ} {size : ℕ} {plan other known_plan known_other old new : Option (List ℕ)} {status : Status} {outcome : Result MergeSummary MergeFault}
@@ -92,8 +98,7 @@ pub kept_at : (known later : List ℕ → Option (List ℕ)) (input input_later 
 kept_at known later input input_later path other of_files of_input two =
     kept (bytes_eq other (codes "-")) (known other) (later other) input input_later (other ≡ codes "-") (bytes_eq-Decides other (codes "-")) (of_files other) (λ e. of_input (λ p. two p e))
 
--- a buffer in front of a source has its bytes
-pub behind_buffer : {T A : Type 0} (remaining : T → Option (List ℕ)) (known : Option (List ℕ)) (source : T) (buffered : BufReader T A) → Keeps known (remaining source) → reader_inner buffered ≡ source
-    → reader_buffer buffered ≡ [] → reader_capacity buffered ≡ 8192 → Keeps known (reader_remaining remaining buffered)
-behind_buffer remaining known source buffered keeps inner empty room =
-    rw (room, empty) (subst (λ (o : Option (List ℕ)). Keeps known o) (sym (prepend_known-nil (remaining (reader_inner buffered)))) (subst (λ (x : _). Keeps known (remaining x)) (sym inner) keeps))
+-- a source of which nothing is buffered has its bytes
+pub behind_buffer : (known source behind : Option (List ℕ)) (ahead : List ℕ) → Keeps known source → behind ≡ source → ahead ≡ [] → Keeps known (prepend_known ahead behind)
+behind_buffer known source behind ahead keeps same none =
+    rw (none) (subst (λ (o : Option (List ℕ)). Keeps known o) (sym (prepend_known-nil behind)) (subst (λ (o : Option (List ℕ)). Keeps known o) (sym same) keeps))

@@ -1,10 +1,9 @@
 -- Merging two streams: the frames so far, one more of each, and how it ends.
-use Rattle.std.proofs.Common.{◌≡◌, ℕ, suc, ◌≤◌, ◌⊎◌, Bool, true, inl, inr, List, [], ◌∷◌, ◌++◌, length, map, take, drop, refl, sym, ap, subst, ◌∙◌, arith, append-nil}
-use Rattle.std.specs.Prelude.{Option, Err}
+use Rattle.std.proofs.Common.{◌≡◌, ℕ, suc, ◌≤◌, ◌⊎◌, Bool, true, inl, inr, List, [], ◌∷◌, ◌++◌, length, map, refl, sym, ap, subst, ◌∙◌, arith, append-nil}
+use Rattle.std.specs.Prelude.{Option}
 use Rattle.std.specs.List.{AllByRecursion, concat}
-use Rattle.std.specs.Io.KnownBytes.{Appends, Consumes}
-use Rattle.std.proofs.KnownBytes.{Appends-nil, Consumes-nil}
-use Rattle.std.proofs.Math.Seq.{take-append_seam, drop-append_seam}
+use Rattle.std.specs.Io.KnownBytes.{Appends, Consumes, Keeps}
+use Rattle.std.proofs.KnownBytes.{Appends-kept, Consumes-nil}
 use Rattle.std.proofs.lemmas.List.{map-append}
 use Rattle.std.proofs.lemmas.List.Folds.{concat-append}
 use Rattle.stream_check.specs.Frames.{Reading}
@@ -13,9 +12,9 @@ use Rattle.console.specs.declared.exit.Status.{Status}
 use Rattle.console.specs.declared.exit.Status.TheVariants.{Done}
 use Rattle.cli_streams.specs.Stream.{fibs_of_stream}
 use Rattle.cli_streams.specs.Merging.{after_taking, after_filling, filled_frame, next_of, merged_frames, after_merging, bytes_of}
-use Rattle.cli_streams.specs.Merged.{after_frame_filled, frame_filled, TakesFrames, written_of}
-use Rattle.cli_streams.specs.declared.merge.MergeFault.TheVariants.{Write}
-use Rattle.cli_streams.proofs.Merging.{merged_next, after_next, length-merged, bytes_next}
+use Rattle.cli_streams.specs.Merged.{after_frame_filled, frame_filled, TakesFrames}
+use Rattle.cli_streams.proofs.Merging.{merged_next, after_next, bytes_next}
+use Rattle.cli_streams.proofs.FirstFrames.{AreSized}
 
 pub record MergesSoFar (size : ℕ) (plan plan_left other other_left old new : Option (List ℕ)) (is_open : Bool) (status : Status) (count : ℕ) (m : Merging) : Type 0 where
   pub frames : List (List ℕ)
@@ -25,18 +24,19 @@ pub record MergesSoFar (size : ℕ) (plan plan_left other other_left old new : O
   pub bytes : Consumes plan plan_left (concat frames)
   pub takes : TakesFrames size other other_left is_open status count taken
   pub merger : (r : Reading) → m ≡ after_merging r (map fibs_of_stream frames) (map fibs_of_stream taken) nothing_taken
+  pub sized : (r : Reading) → AreSized size (merged_frames r (map fibs_of_stream frames) (map fibs_of_stream taken) nothing_taken)
   pub written : (r : Reading) → Appends old new (bytes_of (merged_frames r (map fibs_of_stream frames) (map fibs_of_stream taken) nothing_taken))
 
 -- before the first frame
-none_taken : (size : ℕ) (other : Option (List ℕ)) (is_open : Bool) (status : Status) → is_open ≡ true → status ≡ Done → TakesFrames size other other is_open status 0 []
+pub none_taken : (size : ℕ) (other : Option (List ℕ)) (is_open : Bool) (status : Status) → is_open ≡ true → status ≡ Done → TakesFrames size other other is_open status 0 []
 none_taken size other is_open status opened done =
     subst (λ (b : Bool). TakesFrames size other other b status 0 []) (sym opened)
     (subst (λ (s : Status). TakesFrames size other other true s 0 []) (sym done)
     (record { cut = []; whole = tt; bytes = Consumes-nil other; ends = (refl, refl) }))
 
-pub none_merged : (size : ℕ) (plan other old : Option (List ℕ)) (is_open : Bool) (status : Status) (m : Merging) → is_open ≡ true → status ≡ Done → m ≡ nothing_taken
-    → MergesSoFar size plan plan other other old old is_open status 0 m
-none_merged size plan other old is_open status m opened done new = record {
+abbrev pub none_merged : (size : ℕ) (plan other old now : Option (List ℕ)) (is_open : Bool) (status : Status) (m : Merging) → Appends old now [] → is_open ≡ true → status ≡ Done → m ≡ nothing_taken
+    → MergesSoFar size plan plan other other old now is_open status 0 m
+none_merged size plan other old now is_open status m none opened done new = record {
   frames = [];
   taken = [];
   number = refl;
@@ -44,7 +44,24 @@ none_merged size plan other old is_open status m opened done new = record {
   bytes = Consumes-nil plan;
   takes = none_taken size other is_open status opened done;
   merger = λ r. new;
-  written = λ r. Appends-nil old;
+  sized = λ r. tt;
+  written = λ r. none;
+}
+
+-- what was finished so far is kept
+abbrev pub kept_on : {size count : ℕ} {plan plan_left other other_left old now kept : Option (List ℕ)} {is_open : Bool} {status : Status} {m : Merging}
+    → MergesSoFar size plan plan_left other other_left old now is_open status count m → Keeps now kept
+    → MergesSoFar size plan plan_left other other_left old kept is_open status count m
+kept_on {size} {count} {plan} {plan_left} {other} {other_left} {old} {now} {kept} so_far keeps = record {
+  frames = so_far.frames;
+  taken = so_far.taken;
+  number = so_far.number;
+  whole = so_far.whole;
+  bytes = so_far.bytes;
+  takes = so_far.takes;
+  merger = so_far.merger;
+  sized = so_far.sized;
+  written = λ r. Appends-kept old now kept _ (so_far.written r) keeps;
 }
 
 -- ---- one more frame
@@ -94,18 +111,3 @@ module _ (r : Reading) (count : ℕ) (frames taken next : List (List ℕ)) (fram
   pub bytes_of_all : bytes_of (merged_frames r (map fibs_of_stream (frames ++ frame ∷ [])) (map fibs_of_stream (taken ++ next)) nothing_taken)
       ≡ bytes_of so_far ++ frame_filled r frame mid
   bytes_of_all = ap bytes_of frames_next ∙ bytes_next so_far (filled_frame r (fibs_of_stream frame) mid)
-
-  so_many : length so_far ≡ count
-  so_many = length-merged r (map fibs_of_stream frames) (map fibs_of_stream taken) nothing_taken ∙ length-fibs frames ∙ number
-
-  pub bytes_of_part : (bytes : ℕ)
-      → written_of (Err (Write count bytes)) (merged_frames r (map fibs_of_stream (frames ++ frame ∷ [])) (map fibs_of_stream (taken ++ next)) nothing_taken)
-      ≡ bytes_of so_far ++ take bytes (frame_filled r frame mid)
-  bytes_of_part bytes =
-      let last = filled_frame r (fibs_of_stream frame) mid ∷ [] in
-      let front : take count (so_far ++ last) ≡ so_far = ap (λ n. take n (so_far ++ last)) (sym so_many) ∙ take-append_seam so_far last in
-      let behind : drop count (so_far ++ last) ≡ last = ap (λ n. drop n (so_far ++ last)) (sym so_many) ∙ drop-append_seam so_far last in
-      ap (written_of (Err (Write count bytes))) frames_next
-      ∙ ap (λ (l : List (List (List ℕ))). bytes_of l ++ take bytes (bytes_of (drop count (so_far ++ last)))) front
-      ∙ ap (λ (l : List (List (List ℕ))). bytes_of so_far ++ take bytes (bytes_of l)) behind
-      ∙ ap (λ (l : List ℕ). bytes_of so_far ++ take bytes l) (bytes_next [] (filled_frame r (fibs_of_stream frame) mid))

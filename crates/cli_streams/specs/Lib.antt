@@ -1,5 +1,7 @@
+pub mod Buffered
 pub mod Checking
 pub mod Frame
+pub mod Held
 pub mod Json
 pub mod JsonListing
 pub mod Lines

@@ -1,5 +1,5 @@
 -- What `merge` writes of two streams of frames, as far as their bytes are known, and how it ends.
-use Rattle.std.specs.Prelude.{◌≡◌, ◌≢◌, ℕ, ◌+◌, ◌<◌, ◌≤◌, ◌⊎◌, if◌then◌else◌, codes, Bool, true, false, List, [], ◌++◌, length, map, take, drop, Option, Result, Ok, Err, ⊤}
+use Rattle.std.specs.Prelude.{◌≡◌, ◌≢◌, ℕ, ◌+◌, ◌<◌, ◌≤◌, ◌⊎◌, if◌then◌else◌, codes, Bool, true, false, List, [], ◌++◌, length, map, take, drop, Option, Result, Ok, Err}
 use Rattle.std.specs.List.{AllByRecursion, concat}
 use Rattle.std.specs.Str.{bytes_eq}
 use Rattle.std.specs.Io.KnownBytes.{Appends, Consumes, IsAtEnd}
@@ -10,6 +10,7 @@ use Rattle.console.specs.declared.exit.Failure.{Failure}
 use Rattle.console.specs.declared.exit.Failure.TheVariants.{Memory, Read, Create, Output}
 use Rattle.console.specs.declared.exit.Status.{Status}
 use Rattle.console.specs.declared.exit.Status.TheVariants.{Done, Refused, Misused, Faulty}
+use Rattle.cli_streams.specs.Held.{IsCut}
 use Rattle.cli_streams.specs.Stream.{fibs_of_stream}
 use Rattle.cli_streams.specs.Merging.{after_taking, after_filling, filled_frame, next_of, merged_frames, after_merging, bytes_of}
 use Rattle.cli_streams.specs.declared.merge.MergeFault.{MergeFault}
@@ -101,13 +102,11 @@ summary_of frames m = record {
   damaged = m.damaged;
 }
 
--- a frame is written behind so many, or the first bytes of it, or all of it and the flush fails
-abbrev pub WritesFrame : ℕ → List ℕ → (old new : Option (List ℕ)) → Result ⊤ MergeFault → Type 0
-WritesFrame count frame old new (Ok done) = Appends old new frame
-WritesFrame count frame old new (Err (Write frames bytes)) =
-    ((frames ≡ count) × (bytes < length frame) × Appends old new (take bytes frame)) ⊎ ((frames ≡ count + 1) × (bytes ≡ 0) × Appends old new frame)
-WritesFrame count frame old new (Err (NotWhole p)) = ⊥
-WritesFrame count frame old new (Err (Failed f)) = ⊥
+-- the output fails while the frames that are held are written behind so many
+abbrev pub CutsHeld : (size count : ℕ) (held : List ℕ) (old new : Option (List ℕ)) → MergeFault → Type 0
+CutsHeld size count held old new (Write frames bytes) = IsCut size count held old new frames bytes
+CutsHeld size count held old new (NotWhole p) = ⊥
+CutsHeld size count held old new (Failed f) = ⊥
 
 -- how the run ends after so many frames of the plan were read: with the summary, if no more are left; refused, if less
 -- than a frame is left, if a file can't be read, or if so many frames and so many bytes of the next one were written

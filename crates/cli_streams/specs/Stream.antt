@@ -1,5 +1,6 @@
 -- The state of a new listener after a stream of FIBs.
-use Rattle.std.specs.Prelude.{◌≡◌, ℕ, ◌+◌, ◌/◌, ◌%◌, ◌<◌, ◌⊎◌, Bool, if◌then◌else◌, List, [], ◌∷◌, length, Result, Ok, Err}
+use Rattle.std.specs.Prelude.{◌≡◌, ℕ, ◌+◌, ◌/◌, ◌%◌, ◌<◌, ◌≤◌, ◌⊎◌, Bool, if◌then◌else◌, List, [], ◌∷◌, length, Option, Result, Ok, Err}
+use Rattle.std.specs.Io.KnownBytes.{Consumes}
 use Rattle.std.specs.Simd.{first_chunks}
 use Rattle.fib_reader.specs.Listening.{Listening, untuned, Hears}
 use Rattle.fib_reader.specs.declared.fault.FibFault.{FibFault}
@@ -40,6 +41,10 @@ ended has_room heard = if has_room then Ok heard else Err NoRoom
 abbrev pub HearsStream : List ℕ → Result Heard StreamFault → Type 0
 HearsStream stream (Err NotWhole) = 0 < length stream % 32
 HearsStream stream given = (length stream % 32 ≡ 0) × HearsTheStream (fibs_of_stream stream) unheard given
+
+-- more bytes were read than a stream has that is decoded: 2^50 and more
+abbrev pub IsTooLong : (old new : Option (List ℕ)) → Type 0
+IsTooLong old new = (stream : List ℕ) × (1125899906842624 ≤ length stream) × Consumes old new stream
 
 -- a stream has at most one result
 abbrev pub OneAnswer : Type 0

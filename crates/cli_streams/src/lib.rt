@@ -4,8 +4,12 @@
 
 pub mod check;
 pub mod entries;
+mod fib_pieces;
 pub mod frame;
+mod frame_reader;
+mod held_frames;
 pub mod json;
 pub mod laws;
 pub mod listen;
 pub mod merge;
+mod other_frames;

@@ -1,22 +1,22 @@
 //! `dabplan listen`: decodes a stream of FIBs as a receiver would, and prints the resulting configuration.
 
-ghost use Rattle.std.specs.Prelude.{◌≡◌, ◌≢◌, ℕ, List, Result, Err, Ok, IfOk, IfSome, OnOk, codes, true};
+ghost use Rattle.std.specs.Prelude.{◌≡◌, ◌≢◌, ◌⊎◌, ℕ, List, Result, Err, Ok, IfOk, IfSome, OnErr, OnOk, codes, true};
 ghost use Rattle.std.specs.Io.KnownBytes.{Appends, Consumes, IsAtEnd};
 ghost use Rattle.fib_reader.specs.Listening.{all_entries};
 ghost use Rattle.cli_streams.specs.Listing.{AreLinesOf, IsListing, IsShown, IsShownIn, ShowsStream, counts_line, refusal_line, swap_line};
 ghost use Rattle.cli_streams.specs.JsonListing.{AreObjectsOf, IsJsonListing, IsShownAsJson, json_counts, json_refusal, json_swap};
-ghost use Rattle.cli_streams.specs.Stream.{HearsStream, ended};
+ghost use Rattle.cli_streams.specs.Stream.{HearsStream, IsTooLong, ended};
 ghost use Rattle.cli_streams.specs.declared.listen.Heard.{Heard as HeardOf};
 ghost use Rattle.cli_streams.specs.declared.listen.StreamFault.{StreamFault as FaultOf};
 
 use crate::entries::print_entry;
+use crate::fib_pieces::{FibPieces, WatchedPieces};
 use crate::json::{print_comma, print_json_entry};
 use console::exit::{Failure, Status, pieces_of};
 use console::files::{FileFault, Files};
-use console::pieces::Pieces;
 use fib_reader::{ListenFault, Listener, Picture};
 use std::alloc::Global;
-use std::io::{self, Read, Write};
+use std::io::{self, Write};
 use stream_monitor::Hints;
 use thiserror::Error;
 
@@ -110,7 +110,7 @@ pub fn show_heard<'a, F: Files, W: Write>(
         (W.contents out.old) (W.contents out.new))) }
 {
     let path = request.file;
-    let mut pieces = pieces_of(alloc, files, path)?;
+    let mut pieces = WatchedPieces::new(pieces_of(alloc, files, path)?);
     let mut hints = Hints::new(files, path);
     let heard = match listen_to(&mut pieces, &mut hints) {
         Ok(heard) => heard,
@@ -169,14 +169,17 @@ fn print_refusal<W: Write>(fault: StreamFault, out: &mut W) -> io::Result<()>
 /// damaged FIB is only counted; the first one that exceeds a configuration's capacity ends the decoding. A length
 /// that is not a multiple of 32 bytes takes precedence.
 ///
-/// `Failed` if the source of the pieces fails.
-pub fn listen_to<R: Read + Drop, F: Files>(
-    pieces: &mut Pieces<R>,
+/// The fault of a piece that can't be read; `Failed` too after 2^50 pieces.
+pub fn listen_to<P: FibPieces, F: Files>(
+    pieces: &mut P,
     hints: &mut Hints<'_, F>,
 ) -> Result<Result<Heard, StreamFault>, FileFault>
-    ensures { IfOk result (λ given. (stream : List ℕ)
-        × Consumes pieces.old.left pieces.new.left stream
-        × IsAtEnd pieces.new.left × HearsStream stream given) }
+    ensures hears { IfOk result (λ given. (stream : List ℕ)
+        × Consumes (P.left pieces.old) (P.left pieces.new) stream
+        × IsAtEnd (P.left pieces.new) × HearsStream stream given) }
+    // It gives up only where a piece could not be read, or the stream has 2^50 bytes and more.
+    ensures failed { OnErr result ((P.has_failed pieces.new ≡ true)
+        ⊎ IsTooLong (P.left pieces.old) (P.left pieces.new)) }
 {
     let mut heard = Heard::new();
     let mut has_room = true;

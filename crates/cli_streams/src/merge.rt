@@ -1,29 +1,32 @@
 //! `dabplan merge`: carries the other FIGs of a multiplexer in the frames of a plan.
 
-ghost use Rattle.std.specs.Prelude.{◌≡◌, ◌≢◌, ◌+◌, ◌*◌, ◌%◌, ◌<◌, ◌≤◌, ◌-◌, ◌^◌, ℕ, List, Option, length, take, codes, IfOk, OnErr, true, false};
-ghost use Rattle.std.specs.Io.Buffered.{reader_remaining};
-ghost use Rattle.std.specs.Io.KnownBytes.{Appends, Consumes, IsAtEnd, Keeps};
+ghost use Rattle.std.specs.Prelude.{◌≡◌, ◌+◌, ◌*◌, ◌%◌, ◌<◌, ◌≤◌, ◌^◌, ℕ, List, [], length, IfErr, IfOk, OnErr, OnOk, true, false};
+ghost use Rattle.std.specs.Io.KnownBytes.{IsAtEnd, Keeps};
 ghost use Rattle.fib_codec.specs.Modes.{fib_count};
 ghost use Rattle.stream_check.specs.Frames.{Reading};
-ghost use Rattle.cli_streams.specs.Merged.{AreTwo, FillsFib, Merges, MergesFiles, ReadsFrame, TakesAs, TakesFrames, TakesNext, WritesFrame, after_frame_filled, after_frame_taken, frame_filled, known_at, summary_of};
-ghost use Rattle.console.specs.declared.exit.Status.TheVariants.{Done};
+ghost use Rattle.cli_streams.specs.Buffered.{left_of};
+ghost use Rattle.cli_streams.specs.Held.{Counts, IsWritten, finished, writer_of};
+ghost use Rattle.cli_streams.specs.Merged.{AreTwo, CutsHeld, FillsFib, Merges, MergesFiles, ReadsFrame, after_frame_filled, frame_filled, known_at, summary_of};
+ghost use Rattle.console.specs.declared.exit.Status.TheVariants.{Done, Refused};
 
+use crate::frame_reader::FrameReader;
+use crate::held_frames::{HeldFrames, Taken};
+use crate::other_frames::OtherFrames;
 use console::escaped::Escaped;
 use console::exit::{Failure, Status, open_input};
 use console::files::Files;
-use console::output::write_out;
 use fib_codec::Mode;
 use fig_merge::Merger;
 use std::alloc::Global;
 use std::fmt::{self, Display, Formatter};
-use std::io::{self, BufReader, Error, ErrorKind, Read, Write};
+use std::io::{ErrorKind, Read, Write};
 use thiserror::Error;
 
 /// More frames than any stream has.
-const MOST_FRAMES: u64 = u64::MAX;
+const MOST_FRAMES: u64 = 1 << 63;
 
 /// The bytes of the longest frame: four FIBs, in mode III.
-const LONGEST: usize = 128;
+pub(crate) const LONGEST: usize = 128;
 
 /// The arguments of `merge`.
 #[derive(Clone, Copy)]
@@ -82,9 +85,10 @@ impl Display for MergeSummary {
     }
 }
 
-/// Runs `merge`: the frames of the plan, with FIGs of the multiplexer in their free room, are written to `out`, each
-/// before the next one is read. The summary, and that the multiplexer's frames can't be read on, are reported on
-/// standard error; then the status is `Refused`, though all of the plan's frames are written.
+/// Runs `merge`: the frames of the plan, with FIGs of the multiplexer in their free room, are written to `out`. All
+/// frames so far are written, and `out` is flushed, before a file is asked for more bytes; until then they are held, so
+/// that frames which are read together are written together. The summary, and that the multiplexer's frames can't be
+/// read on, are reported on standard error; then the status is `Refused`, though all of the plan's frames are written.
 ///
 /// # Errors
 ///
@@ -126,10 +130,10 @@ fn frames_of<'a, F: Files>(
     alloc: Global,
     files: &mut F,
     path: &'a str,
-) -> Result<BufReader<F::In>, Failure<'a>>
+) -> Result<FrameReader<F::In>, Failure<'a>>
     ensures bytes { IfOk result (λ source.
         Keeps (known_at (F.known files.old) (F.known_input files.old) path.now)
-        (reader_remaining F.In.remaining source)) }
+        (left_of source)) }
     ensures kept { (other : List ℕ) → AreTwo path.now other
         → Keeps (known_at (F.known files.old) (F.known_input files.old) other)
         (known_at (F.known files.new) (F.known_input files.new) other) }
@@ -138,7 +142,7 @@ fn frames_of<'a, F: Files>(
     if !can_be_read(&mut source) {
         return Err(Failure::Read(path));
     }
-    BufReader::new(alloc, source).map_err(|_| Failure::Memory)
+    FrameReader::new(alloc, source).map_err(|_| Failure::Memory)
 }
 
 /// Whether a source can be read. A folder can be opened, and not read: a read of no bytes fails there, and takes nothing
@@ -154,8 +158,8 @@ fn can_be_read<R: Read>(source: &mut R) -> bool
 
 /// Merges the plan's frames, one after the other, with those of the multiplexer, to the plan's end, and returns what is
 /// to be reported then. `frame` has the size of a frame.
-fn merge_frames<'a, P: Read, O: Read, F: Files, W: Write>(
-    plan: &mut P,
+fn merge_frames<'a, P: Read + Drop, O: Read + Drop, F: Files, W: Write>(
+    plan: &mut FrameReader<P>,
     path: &'a str,
     other: &mut OtherFrames<'a, O>,
     frame: &mut [u8],
@@ -165,172 +169,150 @@ fn merge_frames<'a, P: Read, O: Read, F: Files, W: Write>(
     requires size { (0 < length frame.old) × (length frame.old % 32 ≡ 0)
         × (length frame.old ≤ 128) }
     requires open { (other.old.is_open ≡ true) × (other.old.status ≡ Done) }
-    ensures { Merges path.now (length frame.old) (P.remaining plan.old)
-        (O.remaining other.old.source) (W.contents out.old) (W.contents out.new)
+    ensures { Merges path.now (length frame.old) (left_of plan.old)
+        (left_of other.old.source) (W.contents out.old) (W.contents out.new)
         other.new.status result }
+{
+    let mut held = HeldFrames::new(out, frame.len());
+    merge_held(plan, path, other, frame, files, &mut held)
+}
+
+/// The same over an output that holds frames, none so far.
+fn merge_held<'a, P: Read + Drop, O: Read + Drop, F: Files, W: Write>(
+    plan: &mut FrameReader<P>,
+    path: &'a str,
+    other: &mut OtherFrames<'a, O>,
+    frame: &mut [u8],
+    files: &mut F,
+    out: &mut HeldFrames<'_, W>,
+) -> Result<MergeSummary, MergeFault<'a>>
+    requires size { (0 < length frame.old) × (length frame.old % 32 ≡ 0)
+        × (length frame.old ≤ 128) }
+    requires open { (other.old.is_open ≡ true) × (other.old.status ≡ Done) }
+    requires first { (out.old.held.items ≡ []) × (out.old.taken ≡ 0) }
+    requires sized { out.old.size ≡ length frame.old }
+    ensures merges { Merges path.now (length frame.old) (left_of plan.old)
+        (left_of other.old.source) (W.contents (writer_of out.old))
+        (W.contents (writer_of out.new)) other.new.status result }
+    ensures output { out.new.out.ghost_name ≡ out.old.out.ghost_name }
 {
     let mut merger = Merger::new();
     for frames in 0..MOST_FRAMES {
-        match read_frame(plan, frame, path) {
+        match make_way(plan, out) {
+            Ok(()) => {}
+            Err(fault) => return Err(fault),
+        }
+        match read_frame(plan, frame, path, out) {
             Ok(true) => {}
             Ok(false) => return Ok(summary_of(frames, &merger)),
             Err(fault) => return Err(fault),
         }
-        other.take_next(frame.len(), &mut merger, files);
-        fill_frame(frame, &mut merger);
-        match put_frame(frame, frames, out) {
+        match other.make_way(out) {
             Ok(()) => {}
             Err(fault) => return Err(fault),
         }
+        other.take_next(frame.len(), &mut merger, files, out);
+        fill_frame(frame, &mut merger);
+        out.hold(frame);
     }
-    Err(MergeFault::Failed(Failure::Read(path)))
-}
-
-/// The frames of a multiplexer, as far as they are read.
-#[derive(Drop)]
-struct OtherFrames<'a, R> {
-    source: R,
-    path: &'a str,
-    /// Whether there may be more of them.
-    is_open: bool,
-    /// `Refused` if they can't be read on.
-    status: Status,
-}
-
-impl<'a, R> OtherFrames<'a, R> {
-    /// None read so far.
-    fn new(source: R, path: &'a str) -> Self
-        ensures source { result.source ≡ source }
-        ensures open { (result.is_open ≡ true) × (result.status ≡ Done) }
-    {
-        OtherFrames {
-            source,
-            path,
-            is_open: true,
-            status: Status::Done,
-        }
+    match write_held(out) {
+        Ok(()) => Err(MergeFault::Failed(Failure::Read(path))),
+        Err(fault) => Err(fault),
     }
 }
 
-impl<'a, R: Read> OtherFrames<'a, R> {
-    /// Takes the FIGs of the next frame of this size, while there is one. That there is less than a frame, or that it
-    /// can't be read, is reported at once, and no more is read.
-    fn take_next<F: Files>(&mut self, size: usize, merger: &mut Merger, files: &mut F)
-        requires size { (0 < size) × (size % 32 ≡ 0) × (size ≤ 128) }
-        ensures { (before : Option (List ℕ)) (count : ℕ) (taken : List (List ℕ))
-            → TakesFrames size before (R.remaining self.old.source) self.old.is_open
-            self.old.status count taken
-            → TakesNext size before (R.remaining self.new.source) self.new.is_open
-            self.new.status count taken merger.old merger.new }
-    {
-        if !self.is_open {
-            return;
-        }
-        match take_frame(&mut self.source, size, merger, self.path) {
-            Ok(more) => self.is_open = more,
-            Err(fault) => {
-                files.report(fault);
-                self.is_open = false;
-                self.status = Status::Refused;
-            }
-        }
-    }
-}
-
-/// Takes the FIGs of the next frame of this size of the file of this path, and returns whether there is one. Those of a
-/// frame that is not whole are not taken.
-fn take_frame<'a, R: Read>(
-    source: &mut R,
-    size: usize,
-    merger: &mut Merger,
-    path: &'a str,
-) -> Result<bool, MergeFault<'a>>
-    requires size { (0 < size) × (size % 32 ≡ 0) × (size ≤ 128) }
-    ensures { (frame : List ℕ) × (length frame ≡ size)
-        × ReadsFrame path.now size (R.remaining source.old) (R.remaining source.new) frame result
-        × TakesAs frame result merger.old merger.new }
+/// Writes the frames that are held, unless the next frame of a source is buffered, and there is room to hold it too.
+pub(crate) fn make_way<'a, R: Read + Drop, W: Write>(
+    source: &FrameReader<R>,
+    out: &mut HeldFrames<'_, W>,
+) -> Result<(), MergeFault<'a>>
+    requires size { (0 < out.old.size) × (out.old.size ≤ 65536) }
+    requires few { out.old.taken + length out.old.held.items < 2 ^ 64 }
+    ensures written { OnOk result
+        (length source.now.ahead < out.old.size → IsWritten W.contents out.new) }
+    ensures room { OnOk result (length out.new.held.items + out.old.size ≤ 65536) }
+    ensures kept { OnOk result (Keeps (finished W.contents out.old) (finished W.contents out.new)) }
+    ensures frames { OnOk result ((count : ℕ)
+        → Counts out.old.size count out.old.taken out.old.held.items
+        → Counts out.old.size count out.new.taken out.new.held.items) }
+    ensures more { OnOk result (out.old.taken ≤ out.new.taken) }
+    ensures cut { IfErr result (CutsHeld out.old.size out.old.taken out.old.held.items
+        (W.contents (writer_of out.old)) (W.contents (writer_of out.new))) }
+    ensures size { out.new.size ≡ out.old.size }
+    ensures output { out.new.out.ghost_name ≡ out.old.out.ghost_name }
 {
-    let mut buffer = [0; LONGEST];
-    let frame = &mut buffer[..size];
-    let result = read_frame(source, frame, path);
-    if let Ok(true) = result {
-        take_fibs(frame, merger);
+    if source.len() >= out.size() && out.has_room() {
+        return Ok(());
     }
-    result
+    write_held(out)
 }
 
-/// Takes the FIGs of a frame.
-fn take_fibs(frame: &[u8], merger: &mut Merger)
-    ensures { (r : Reading) → merger.new ≡ after_frame_taken r frame.now merger.old }
+/// Writes the frames that are held, and flushes the output.
+fn write_held<'a, W: Write>(out: &mut HeldFrames<'_, W>) -> Result<(), MergeFault<'a>>
+    requires size { 0 < out.old.size }
+    requires few { out.old.taken + length out.old.held.items < 2 ^ 64 }
+    ensures written { OnOk result (IsWritten W.contents out.new) }
+    ensures kept { OnOk result (Keeps (finished W.contents out.old) (finished W.contents out.new)) }
+    ensures frames { OnOk result ((count : ℕ)
+        → Counts out.old.size count out.old.taken out.old.held.items
+        → Counts out.old.size count out.new.taken out.new.held.items) }
+    ensures more { OnOk result (out.old.taken ≤ out.new.taken) }
+    ensures cut { IfErr result (CutsHeld out.old.size out.old.taken out.old.held.items
+        (W.contents (writer_of out.old)) (W.contents (writer_of out.new))) }
+    ensures size { out.new.size ≡ out.old.size }
+    ensures output { out.new.out.ghost_name ≡ out.old.out.ghost_name }
 {
-    for fib in frame.as_chunks::<32>().0 {
-        merger.take(fib);
+    match out.write() {
+        Ok(()) => Ok(()),
+        Err(Taken { frames, bytes }) => Err(MergeFault::Write { frames, bytes }),
     }
 }
 
-/// Reads the next frame of the file of this path, and returns whether there is one.
-fn read_frame<'a, R: Read>(
-    source: &mut R,
+/// Reads the next frame of the file of this path, and returns whether there is one. The file is asked for bytes only
+/// where the frame is not buffered, and then all frames so far are written.
+pub(crate) fn read_frame<'a, R: Read + Drop, W: Write>(
+    source: &mut FrameReader<R>,
     frame: &mut [u8],
     path: &'a str,
+    out: &HeldFrames<'_, W>,
 ) -> Result<bool, MergeFault<'a>>
-    requires { 0 < length frame.old }
+    requires size { (0 < length frame.old) × (length frame.old ≤ 128) }
+    requires written { length source.old.ahead < length frame.old → IsWritten W.contents out.now }
     ensures whole { length frame.new ≡ length frame.old }
-    ensures reads { ReadsFrame path.now (length frame.old) (R.remaining source.old)
-        (R.remaining source.new) frame.new result }
+    ensures reads { ReadsFrame path.now (length frame.old) (left_of source.old)
+        (left_of source.new) frame.new result }
+    ensures end { IfOk result (λ more. more ≡ false
+        → length source.old.ahead < length frame.old) }
+    ensures failed { OnErr result (length source.old.ahead < length frame.old) }
 {
-    match read_up_to(source, frame) {
-        Ok(0) => Ok(false),
-        Ok(count) if count < frame.len() => Err(MergeFault::NotWhole(path)),
-        Ok(_) => Ok(true),
+    match source.next(frame.len(), out) {
+        Ok(true) => {
+            frame.copy_from_slice(source.front(frame.len()));
+            source.pass(frame.len());
+            Ok(true)
+        }
+        Ok(false) => end_of(source, path),
         Err(_) => Err(MergeFault::Failed(Failure::Read(path))),
     }
 }
 
-/// Reads until a buffer is full or the source ends, and returns the number of bytes. Where the source fails, what was
-/// read of it is lost.
-fn read_up_to<R: Read>(source: &mut R, buffer: &mut [u8]) -> io::Result<usize>
-    ensures whole { length buffer.new ≡ length buffer.old }
-    ensures bound { IfOk result (λ count. count ≤ length buffer.new) }
-    ensures bytes { IfOk result (λ count. Consumes (R.remaining source.old)
-        (R.remaining source.new) (take count buffer.new)) }
-    ensures last { IfOk result (λ count. count < length buffer.new
-        → IsAtEnd (R.remaining source.new)) }
-    ensures failed { OnErr result ((part : List ℕ)
-        × Consumes (R.remaining source.old) (R.remaining source.new) part) }
+/// Passes over the bytes at the end of a file, which are less than a frame; `NotWhole` if there are some.
+fn end_of<'a, R: Read + Drop>(
+    source: &mut FrameReader<R>,
+    path: &'a str,
+) -> Result<bool, MergeFault<'a>>
+    requires end { IsAtEnd source.old.behind }
+    ensures reads { (frame : List ℕ) (size : ℕ) → length source.old.ahead < size
+        → ReadsFrame path.now size (left_of source.old) (left_of source.new) frame result }
+    ensures none { IfOk result (λ more. more ≡ false) }
 {
-    let mut filled = 0;
-    for _ in 0..u64::MAX {
-        if filled >= buffer.len() {
-            return Ok(filled);
-        }
-        match read_behind(source, buffer, filled) {
-            Ok(0) => return Ok(filled),
-            Ok(count) => filled += count,
-            Err(error) => {
-                if error.kind() != ErrorKind::Interrupted {
-                    return Err(error);
-                }
-            }
-        }
+    let cut = source.len();
+    source.pass(cut);
+    if cut == 0 {
+        Ok(false)
+    } else {
+        Err(MergeFault::NotWhole(path))
     }
-    Err(Error::from(ErrorKind::Other))
-}
-
-/// Reads once, behind the first `filled` bytes of a buffer, into its rest.
-fn read_behind<R: Read>(source: &mut R, buffer: &mut [u8], filled: usize) -> io::Result<usize>
-    requires room { filled < length buffer.old }
-    ensures whole { length buffer.new ≡ length buffer.old }
-    ensures bound { IfOk result (λ count. filled + count ≤ length buffer.new) }
-    ensures bytes { IfOk result (λ count. (before : Option (List ℕ))
-        → Consumes before (R.remaining source.old) (take filled buffer.old)
-        → Consumes before (R.remaining source.new) (take (filled + count) buffer.new)) }
-    ensures failed { OnErr result ((before : Option (List ℕ))
-        → Consumes before (R.remaining source.old) (take filled buffer.old)
-        → Consumes before (R.remaining source.new) (take filled buffer.new)) }
-    ensures last { IfOk result (λ count. count ≡ 0 → IsAtEnd (R.remaining source.new)) }
-{
-    source.read(&mut buffer[filled..])
 }
 
 /// Fills the FIBs of a frame.
@@ -355,27 +337,6 @@ fn fill_fib(frame: &mut [u8], offset: usize, merger: &mut Merger)
     fib.copy_from_slice(&frame[offset..offset + 32]);
     merger.fill(&mut fib);
     frame[offset..offset + 32].copy_from_slice(&fib);
-}
-
-/// Writes a frame behind this many.
-fn put_frame<'a, W: Write>(frame: &[u8], frames: u64, out: &mut W) -> Result<(), MergeFault<'a>>
-    requires { frames < 2 ^ 64 - 1 }
-    ensures { WritesFrame frames frame.now (W.contents out.old) (W.contents out.new) result }
-{
-    let (taken, result) = write_out(frame, out);
-    if result.is_err() {
-        return Err(MergeFault::Write {
-            frames,
-            bytes: taken,
-        });
-    }
-    match out.flush() {
-        Ok(()) => Ok(()),
-        Err(_) => Err(MergeFault::Write {
-            frames: frames + 1,
-            bytes: 0,
-        }),
-    }
 }
 
 /// What was merged in this many frames.

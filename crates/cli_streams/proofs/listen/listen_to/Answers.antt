@@ -1,4 +1,4 @@
-use Rattle.std.proofs.Common.{◌≡◌, ◌%◌, ◌<◌, ◌≤◌, ◌++◌, ◌∙◌, length, arith, ap}
+use Rattle.std.proofs.Common.{◌≡◌, ◌+◌, inr, ◌%◌, ◌<◌, ◌≤◌, ◌++◌, ◌∙◌, length, arith, ap}
 use Rattle.std.proofs.lemmas.Grind.{common_steps}
 use Rattle.std.proofs.lemmas.List.{length-append}
 use Rattle.std.proofs.KnownBytes.{Consumes-trans}
@@ -7,10 +7,10 @@ use Rattle.cli_streams.proofs.Hearing.{ends, piece_ends, piece_has_ended}
 use Rattle.cli_streams.proofs.listen.listen_to.Goals as goal
 use Rattle.cli_streams.proofs.listen.listen_to.Goals.{then-has_room, else-has_room}
 
-pub returns-then-not-is_empty : goal.returns-then-not-is_empty
-returns-then-not-is_empty g c =
+pub returns-then-not-is_empty-clause-hears : goal.returns-then-not-is_empty-clause-hears
+returns-then-not-is_empty-clause-hears g c =
     let before = c.loop.invariant in
-    let piece = c.advance.new.self.piece in
+    let piece = g.P.FibPieces.piece c.advance.new.self in
     let same : length c.piece.result.now ≡ length piece = ap length c.piece.ensures in
     let left : 0 < length piece % 32 = grind (arith, common_steps, same) in
     let whole : 0 < length (before.stream ++ piece) % 32 = omega (arith, left, before.whole, length-append before.stream piece) in
@@ -19,12 +19,13 @@ returns-then-not-is_empty g c =
 pub loop-preserved : goal.loop-preserved
 loop-preserved g c =
     let before = c.loop.invariant in
-    let piece = c.advance.new.self.piece in
+    let piece = g.P.FibPieces.piece c.advance.new.self in
     let same : length c.piece.result.now ≡ length piece = ap length c.piece.ensures in
     let none : length piece % 32 ≡ 0 = grind (arith, common_steps, same) in
     let fibs : c.as_chunks.result.0.now ≡ fibs_of_stream piece = c.as_chunks.ensures.front ∙ ap fibs_of_stream c.piece.ensures in
     let consumed = Consumes-trans _ _ _ before.stream piece before.consumed c.in_ok-advance.ensures.bytes in
     let whole : length (before.stream ++ piece) % 32 ≡ 0 = omega (arith, none, before.whole, length-append before.stream piece) in
+    let long : c.loop.counter + 1 ≤ length (before.stream ++ piece) = omega (arith, before.long, c.in_ok-advance.ensures.some c.if-not-branch.false, length-append before.stream piece) in
     let count : length c.as_chunks.result.0.now ≤ 8192 = grind (arith, common_steps, same) in
     elim c.if-has_room.branch [
       | then-has_room w ↦ rw (w.heard-is, w.has_room-is) (record {
@@ -35,6 +36,7 @@ loop-preserved g c =
             (ends _ c.loop.heard _ _ w.hear-has_room.ensures.heard w.hear-has_room.ensures.full);
         few = omega arith;
         damaged = w.hear-has_room.ensures.damaged;
+        long = long;
       })
       | else-has_room w ↦ rw (w.heard-is, w.has_room-is) (record {
         stream = before.stream ++ piece;
@@ -43,5 +45,11 @@ loop-preserved g c =
         hears = piece_has_ended before.stream piece unheard c.loop.heard c.loop.has_room w.if-has_room.false before.whole before.hears;
         few = omega arith;
         damaged = before.damaged;
+        long = long;
       })
     ]
+
+pub returns-clause-failed : goal.returns-clause-failed
+returns-clause-failed g c =
+    let before = c.loop.invariant in
+    inr (before.stream, omega (arith, before.long, c.loop-test.false), before.consumed)

@@ -12,6 +12,7 @@ pub record HeardSoFar (before left : Option (List ℕ)) (has_room : Bool) (heard
   pub hears : HearsTheStream (fibs_of_stream stream) unheard (ended has_room heard)
   pub few : heard.fibs ≤ 8192 * pieces
   pub damaged : heard.damaged ≤ heard.fibs
+  pub long : pieces ≤ length stream
 
 abbrev pub invariant-loop : goal.invariant-loop
-invariant-loop g l = HeardSoFar l.initial.pieces.left l.pieces.left l.has_room l.heard l.counter
+invariant-loop g l = HeardSoFar (g.P.FibPieces.left l.initial.pieces) (g.P.FibPieces.left l.pieces) l.has_room l.heard l.counter

@@ -1,6 +1,6 @@
 use Rattle.std.proofs.Common.{◌≤◌, length, arith}
 use Rattle.cli_streams.proofs.ReadingOn.{ok_reads}
-use Rattle.cli_streams.proofs.merge.read_behind.Goals as goal
+use Rattle.cli_streams.proofs.frame_reader.read_behind.Goals as goal
 
 pub returns-clause-bytes : goal.returns-clause-bytes
 returns-clause-bytes g c =

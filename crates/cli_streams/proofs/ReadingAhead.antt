@@ -1,0 +1,33 @@
+-- Bytes that are buffered ahead of a source.
+use Rattle.std.proofs.Common.{◌≡◌, ℕ, ◌+◌, ◌-◌, ◌≤◌, List, [], ◌++◌, Option, None, Some, arith, length, length-take, take, drop, slice_range, sym, ap, ◌∙◌, append_assoc, take-append-drop}
+use Rattle.std.specs.Io.KnownBytes.{Consumes, IsAtEnd, Keeps, prepend_known}
+use Rattle.std.proofs.lemmas.List.{drop-take}
+use lib.Seq.{drop-drop, drop-length}
+
+-- the buffered bytes behind the first ones
+pub later : (a k b : ℕ) (xs : List ℕ) → k ≤ length (slice_range xs a b) → slice_range xs (a + k) b ≡ drop k (slice_range xs a b)
+later a k b xs within =
+    let most = length-take (b - a) (drop a xs) in
+    let rest : b - a ≡ k + (b - (a + k)) = omega (arith, within, most) in
+    ap (take (b - (a + k))) (sym (drop-drop k a xs))
+    ∙ sym (drop-take k (b - (a + k)) (drop a xs))
+    ∙ sym (ap (λ n. drop k (take n (drop a xs))) rest)
+
+-- the first of them are passed over
+pub passed : (before behind : Option (List ℕ)) (ahead : List ℕ) (n : ℕ) → Keeps before (prepend_known ahead behind)
+    → Consumes before (prepend_known (drop n ahead) behind) (take n ahead)
+passed None behind ahead n kept = tt
+passed (Some x) None ahead n kept = absurd kept
+passed (Some x) (Some y) ahead n kept =
+    sym kept ∙ ap (λ l. l ++ y) (sym (take-append-drop n ahead)) ∙ append_assoc (take n ahead) (drop n ahead) y
+
+-- none is passed over
+pub none_passed : (before left : Option (List ℕ)) → Keeps before left → Consumes before left []
+none_passed None left kept = tt
+none_passed (Some x) None kept = absurd kept
+none_passed (Some x) (Some y) kept = sym kept
+
+-- all of them are, and no more are left
+pub all_passed : (behind : Option (List ℕ)) (ahead : List ℕ) → IsAtEnd behind → IsAtEnd (prepend_known (drop (length ahead) ahead) behind)
+all_passed None ahead end = tt
+all_passed (Some y) ahead end = ap (λ l. l ++ y) (drop-length ahead) ∙ end

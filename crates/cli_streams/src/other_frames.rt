@@ -1,0 +1,141 @@
+//! The frames of the multiplexer that `merge` reads beside the plan's.
+
+ghost use Rattle.std.specs.Prelude.{◌≡◌, ◌+◌, ◌%◌, ◌<◌, ◌≤◌, ◌^◌, ◌⊎◌, ℕ, List, Option, length, IfErr, OnErr, OnOk, true};
+ghost use Rattle.std.specs.Io.KnownBytes.{Keeps};
+ghost use Rattle.stream_check.specs.Frames.{Reading};
+ghost use Rattle.cli_streams.specs.Buffered.{left_of};
+ghost use Rattle.cli_streams.specs.Held.{Counts, IsWritten, finished, writer_of};
+ghost use Rattle.cli_streams.specs.Merged.{CutsHeld, ReadsFrame, TakesAs, TakesFrames, TakesNext, after_frame_taken};
+ghost use Rattle.console.specs.declared.exit.Status.TheVariants.{Done, Refused};
+
+use crate::frame_reader::FrameReader;
+use crate::held_frames::HeldFrames;
+use crate::merge::{LONGEST, MergeFault, make_way, read_frame};
+use console::exit::Status;
+use console::files::Files;
+use fig_merge::Merger;
+use std::io::{Read, Write};
+
+/// The frames of a multiplexer, as far as they are read.
+#[derive(Drop)]
+pub(crate) struct OtherFrames<'a, R: Read + Drop> {
+    source: FrameReader<R>,
+    path: &'a str,
+    /// Whether there may be more of them.
+    is_open: bool,
+    /// `Refused` if they can't be read on.
+    pub(crate) status: Status,
+}
+
+impl<'a, R: Read + Drop> OtherFrames<'a, R> {
+    /// None read so far.
+    pub(crate) fn new(source: FrameReader<R>, path: &'a str) -> Self
+        ensures source { result.source ≡ source }
+        ensures open { (result.is_open ≡ true) × (result.status ≡ Done) }
+    {
+        OtherFrames {
+            source,
+            path,
+            is_open: true,
+            status: Status::Done,
+        }
+    }
+}
+
+impl<'a, R: Read + Drop> OtherFrames<'a, R> {
+    /// Writes the frames that are held, unless the next frame is buffered, or there may be none.
+    pub(crate) fn make_way<W: Write>(
+        &self,
+        out: &mut HeldFrames<'_, W>,
+    ) -> Result<(), MergeFault<'a>>
+        requires size { (0 < out.old.size) × (out.old.size ≤ 65536) }
+        requires few { out.old.taken + length out.old.held.items < 2 ^ 64 }
+        requires room { length out.old.held.items + out.old.size ≤ 65536 }
+        ensures written { OnOk result (self.now.is_open ≡ true
+            → length self.now.source.ahead < out.old.size → IsWritten W.contents out.new) }
+        ensures room { OnOk result (length out.new.held.items + out.old.size ≤ 65536) }
+        ensures kept { OnOk result
+            (Keeps (finished W.contents out.old) (finished W.contents out.new)) }
+        ensures frames { OnOk result ((count : ℕ)
+            → Counts out.old.size count out.old.taken out.old.held.items
+            → Counts out.old.size count out.new.taken out.new.held.items) }
+        ensures more { OnOk result (out.old.taken ≤ out.new.taken) }
+        ensures cut { IfErr result (CutsHeld out.old.size out.old.taken out.old.held.items
+            (W.contents (writer_of out.old)) (W.contents (writer_of out.new))) }
+        ensures size { out.new.size ≡ out.old.size }
+        ensures output { out.new.out.ghost_name ≡ out.old.out.ghost_name }
+    {
+        if self.is_open {
+            make_way(&self.source, out)
+        } else {
+            Ok(())
+        }
+    }
+
+    /// Takes the FIGs of the next frame of this size, while there is one. That there is less than a frame, or that it
+    /// can't be read, is reported at once, and no more is read.
+    pub(crate) fn take_next<F: Files, W: Write>(
+        &mut self,
+        size: usize,
+        merger: &mut Merger,
+        files: &mut F,
+        out: &HeldFrames<'_, W>,
+    )
+        requires size { (0 < size) × (size % 32 ≡ 0) × (size ≤ 128) }
+        requires written { self.old.is_open ≡ true → length self.old.source.ahead < size
+            → IsWritten W.contents out.now }
+        ensures takes { (before : Option (List ℕ)) (count : ℕ) (taken : List (List ℕ))
+            → TakesFrames size before (left_of self.old.source) self.old.is_open
+            self.old.status count taken
+            → TakesNext size before (left_of self.new.source) self.new.is_open
+            self.new.status count taken merger.old merger.new }
+        ensures asked { self.new.status ≡ Refused → (self.old.status ≡ Refused)
+            ⊎ ((self.old.is_open ≡ true) × (length self.old.source.ahead < size)) }
+    {
+        if !self.is_open {
+            return;
+        }
+        match take_frame(&mut self.source, size, merger, self.path, out) {
+            Ok(more) => self.is_open = more,
+            Err(fault) => {
+                files.report(fault);
+                self.is_open = false;
+                self.status = Status::Refused;
+            }
+        }
+    }
+}
+
+/// Takes the FIGs of the next frame of this size of the file of this path, and returns whether there is one. Those of a
+/// frame that is not whole are not taken.
+fn take_frame<'a, R: Read + Drop, W: Write>(
+    source: &mut FrameReader<R>,
+    size: usize,
+    merger: &mut Merger,
+    path: &'a str,
+    out: &HeldFrames<'_, W>,
+) -> Result<bool, MergeFault<'a>>
+    requires size { (0 < size) × (size % 32 ≡ 0) × (size ≤ 128) }
+    requires written { length source.old.ahead < size → IsWritten W.contents out.now }
+    ensures takes { (frame : List ℕ) × (length frame ≡ size)
+        × ReadsFrame path.now size (left_of source.old) (left_of source.new) frame result
+        × TakesAs frame result merger.old merger.new }
+    ensures asked { OnErr result (length source.old.ahead < size) }
+{
+    let mut buffer = [0; LONGEST];
+    let frame = &mut buffer[..size];
+    let result = read_frame(source, frame, path, out);
+    if let Ok(true) = result {
+        take_fibs(frame, merger);
+    }
+    result
+}
+
+/// Takes the FIGs of a frame.
+fn take_fibs(frame: &[u8], merger: &mut Merger)
+    ensures { (r : Reading) → merger.new ≡ after_frame_taken r frame.now merger.old }
+{
+    for fib in frame.as_chunks::<32>().0 {
+        merger.take(fib);
+    }
+}
