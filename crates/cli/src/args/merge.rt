@@ -25,8 +25,8 @@ each frame free for them. A receiver, and 'dabplan check', find in them what the
 
 For each frame of PLAN one of OTHER is read, as long as there is one. Its FIGs wait until there is
 room for them, the one that has waited longest first, 256 at most. FIG 0/0 to 0/3 and FIG 0/7 of
-the ensemble itself are left out, and a FIG of which a copy waits already. Each frame is written
-before the next one is read. All messages go to standard error.";
+the ensemble itself are left out, and a FIG of which a copy waits already. All frames so far are
+written before more of either file is read. All messages go to standard error.";
 
 const USAGE: &str = "dabplan merge <PLAN> <OTHER> [--mode <M>]";
 
