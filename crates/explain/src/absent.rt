@@ -1,24 +1,20 @@
 //! Explains edits of what is missing.
 
 use crate::edit::{put_since, service_of};
-use crate::history::History;
+use crate::history::{Past, Since};
 use crate::names::{put_carrier, put_service, put_sid};
 use mux_config::{Carrier, Config, Edit, Sid};
 use std::io::{self, Write};
 
 /// Writes the existing sub-channels.
 fn put_subs<W: Write>(config: &Config, out: &mut W) -> io::Result<()> {
-    let mut is_first = true;
+    if config.subs().is_empty() {
+        return out.write_all(b"; there is no sub-channel\n");
+    }
+    out.write_all(b"; the sub-channels there are")?;
     for sub in config.subs() {
-        if is_first {
-            out.write_all(b"hint: the sub-channels there are")?;
-        }
         let id = sub.id.get();
         write!(out, " {id}")?;
-        is_first = false;
-    }
-    if is_first {
-        out.write_all(b"hint: there is no sub-channel")?;
     }
     writeln!(out)
 }
@@ -26,30 +22,31 @@ fn put_subs<W: Write>(config: &Config, out: &mut W) -> io::Result<()> {
 /// Explains a missing sub-channel or packet component.
 fn carrier_absent<W: Write>(
     config: &Config,
-    history: &History,
+    past: Past,
     carrier: &Carrier,
     out: &mut W,
 ) -> io::Result<()> {
     put_carrier(carrier, out)?;
     out.write_all(b" is not there")?;
-    put_since(history.dropped(carrier), "dropped", out)?;
-    match carrier {
-        Carrier::Sub(_) => put_subs(config, out),
-        Carrier::Packet(_) => out.write_all(b"hint: add it first, as 'packet' does\n"),
+    match (past.dropped(carrier)?, carrier) {
+        (Since::Never, Carrier::Sub(_)) => put_subs(config, out),
+        (since, _) => put_since(since, "dropped", out),
     }
 }
 
 /// Writes that a service is missing, and the line that removed it.
-fn put_service_absent<W: Write>(history: &History, sid: Sid, out: &mut W) -> io::Result<()> {
+fn service_absent<W: Write>(config: &Config, past: Past, sid: Sid, out: &mut W) -> io::Result<()> {
     out.write_all(b"service ")?;
     put_sid(sid, out)?;
     out.write_all(b" is not there")?;
-    put_since(history.service_dropped(sid), "dropped", out)
+    match past.service_dropped(sid)? {
+        Since::Never => put_services(config, out),
+        since => put_since(since, "dropped", out),
+    }
 }
 
-/// Explains a missing service that gets a component.
-fn service_absent<W: Write>(history: &History, sid: Sid, out: &mut W) -> io::Result<()> {
-    put_service_absent(history, sid, out)?;
+/// Advises on a missing service that gets a component.
+fn advise_service<W: Write>(sid: Sid, out: &mut W) -> io::Result<()> {
     out.write_all(b"hint: add it first, as 'service ")?;
     put_sid(sid, out)?;
     out.write_all(b"' does\n")
@@ -57,47 +54,39 @@ fn service_absent<W: Write>(history: &History, sid: Sid, out: &mut W) -> io::Res
 
 /// Writes the existing services.
 fn put_services<W: Write>(config: &Config, out: &mut W) -> io::Result<()> {
-    let mut is_first = true;
+    if config.services().is_empty() {
+        return out.write_all(b"; there is no service\n");
+    }
+    out.write_all(b"; the services there are")?;
     for service in config.services() {
-        if is_first {
-            out.write_all(b"hint: the services there are")?;
-        }
         out.write_all(b" ")?;
         put_sid(service.sid, out)?;
-        is_first = false;
-    }
-    if is_first {
-        out.write_all(b"hint: there is no service")?;
     }
     writeln!(out)
-}
-
-/// Explains a missing service of which something is removed.
-fn dropped_service_absent<W: Write>(
-    config: &Config,
-    history: &History,
-    sid: Sid,
-    out: &mut W,
-) -> io::Result<()> {
-    put_service_absent(history, sid, out)?;
-    put_services(config, out)
 }
 
 /// Explains a missing component, or its missing service.
 fn component_absent<W: Write>(
     config: &Config,
-    history: &History,
+    past: Past,
     sid: Sid,
     carrier: &Carrier,
     out: &mut W,
 ) -> io::Result<()> {
     let Some(service) = service_of(config, sid) else {
-        return dropped_service_absent(config, history, sid, out);
+        return service_absent(config, past, sid, out);
     };
     put_service(service, out)?;
     out.write_all(b" has no component on ")?;
     put_carrier(carrier, out)?;
-    put_since(history.component_dropped(sid, carrier), "dropped", out)?;
+    put_since(past.component_dropped(sid, carrier)?, "dropped", out)
+}
+
+/// Advises on a missing component, or its missing service.
+fn advise_component<W: Write>(config: &Config, sid: Sid, out: &mut W) -> io::Result<()> {
+    let Some(service) = service_of(config, sid) else {
+        return Ok(());
+    };
     if service.components.len() == 0 {
         return out.write_all(b"hint: there is no component in it\n");
     }
@@ -107,22 +96,35 @@ fn component_absent<W: Write>(
 /// Explains an edit of what is missing.
 pub(crate) fn explain_absent<W: Write>(
     config: &Config,
-    history: &History,
+    past: Past,
     edit: &Edit,
     out: &mut W,
 ) -> io::Result<()> {
     match edit {
-        Edit::DropSub(id) => carrier_absent(config, history, &Carrier::Sub(*id), out),
-        Edit::MoveSub { id, .. } => carrier_absent(config, history, &Carrier::Sub(*id), out),
-        Edit::RateSub { id, .. } => carrier_absent(config, history, &Carrier::Sub(*id), out),
-        Edit::DropPacket(scid) => carrier_absent(config, history, &Carrier::Packet(*scid), out),
-        Edit::DropService(sid) => dropped_service_absent(config, history, *sid, out),
-        Edit::AddComponent { sid, .. } => service_absent(history, *sid, out),
-        Edit::DropComponent { sid, carrier } => {
-            component_absent(config, history, *sid, carrier, out)
+        Edit::DropSub(id) | Edit::MoveSub { id, .. } | Edit::RateSub { id, .. } => {
+            carrier_absent(config, past, &Carrier::Sub(*id), out)
         }
+        Edit::DropPacket(scid) => carrier_absent(config, past, &Carrier::Packet(*scid), out),
+        Edit::DropService(sid) | Edit::AddComponent { sid, .. } => {
+            service_absent(config, past, *sid, out)
+        }
+        Edit::DropComponent { sid, carrier } => component_absent(config, past, *sid, carrier, out),
         Edit::AddSub(_) | Edit::AddService(_) | Edit::AddPacket(_) => {
             writeln!(out, "what the edit names is not there")
         }
+    }
+}
+
+/// Advises on an edit of what is missing.
+pub(crate) fn advise_absent<W: Write>(config: &Config, edit: &Edit, out: &mut W) -> io::Result<()> {
+    match edit {
+        Edit::DropSub(_)
+        | Edit::MoveSub { .. }
+        | Edit::RateSub { .. }
+        | Edit::DropPacket(_)
+        | Edit::DropService(_) => Ok(()),
+        Edit::AddComponent { sid, .. } => advise_service(*sid, out),
+        Edit::DropComponent { sid, .. } => advise_component(config, *sid, out),
+        Edit::AddSub(_) | Edit::AddService(_) | Edit::AddPacket(_) => Ok(()),
     }
 }

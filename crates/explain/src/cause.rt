@@ -1,10 +1,11 @@
-//! Explains why an instruction is refused, from what is known before it.
+//! Explains why an instruction is refused, from what is known before it, and advises on it.
 
-use crate::config::explain_config;
-use crate::edit::explain_edit;
-use crate::history::History;
-use crate::room::explain_round;
+use crate::config::{advise_config, explain_config};
+use crate::edit::{advise_edit, explain_edit};
+use crate::history::Past;
+use crate::room::{advise_round, explain_round};
 use crate::swap::{
+    advise_count, advise_join, advise_no_change, advise_notice, advise_pending, advise_wait,
     explain_count, explain_join, explain_no_change, explain_notice, explain_pending, explain_wait,
 };
 use mux_config::{Config, EditFault};
@@ -12,18 +13,22 @@ use plan_code::{Instr, Plan};
 use plan_flow::{Cause, Flow};
 use std::io::{self, Write};
 
+/// A refused instruction, with what is known before it and what was executed.
+#[derive(Clone, Copy)]
+pub(crate) struct Refused<'a> {
+    pub(crate) plan: &'a Plan,
+    pub(crate) flow: &'a Flow<Config>,
+    pub(crate) past: Past<'a>,
+    pub(crate) instr: Instr,
+    pub(crate) cause: Cause,
+}
+
 /// Explains a refused edit.
-fn explain_change<W: Write>(
-    flow: &Flow<Config>,
-    history: &History,
-    instr: &Instr,
-    fault: EditFault,
-    out: &mut W,
-) -> io::Result<()> {
-    let Instr::Edit(edit) = instr else {
+fn explain_change<W: Write>(refused: &Refused, fault: EditFault, out: &mut W) -> io::Result<()> {
+    let Instr::Edit(edit) = refused.instr else {
         return writeln!(out, "the edit is refused");
     };
-    explain_edit(&flow.next, history, edit, fault, out)
+    explain_edit(&refused.flow.next, refused.past, &edit, fault, out)
 }
 
 /// Explains a commit whose delay or count is refused.
@@ -38,43 +43,68 @@ fn explain_commit<W: Write>(plan: &Plan, instr: &Instr, out: &mut W) -> io::Resu
 }
 
 /// Explains a refused wait.
-fn explain_frames<W: Write>(
-    flow: &Flow<Config>,
-    history: &History,
-    instr: &Instr,
-    out: &mut W,
-) -> io::Result<()> {
-    let Instr::Wait(frames) = instr else {
+fn explain_frames<W: Write>(refused: &Refused, out: &mut W) -> io::Result<()> {
+    let Instr::Wait(frames) = refused.instr else {
         return writeln!(out, "the wait is refused");
     };
-    explain_wait(flow.pending, *frames, history.commit(), out)
+    explain_wait(refused.flow.pending, frames, refused.past.commit(), out)
 }
 
-/// Explains why an instruction is refused, on the lines after its position, from what is known before it and from the
-/// executed instructions. Causes that do not depend on what an instruction needs have no numbers here.
-pub(crate) fn explain_instr<W: Write>(
-    plan: &Plan,
-    flow: &Flow<Config>,
-    history: &History,
-    instr: &Instr,
-    cause: Cause,
-    out: &mut W,
-) -> io::Result<()> {
-    match cause {
-        Cause::Edit(fault) => explain_change(flow, history, instr, fault, out),
-        Cause::Config(fault) => explain_config(&flow.next, history, fault, out),
-        Cause::Pending => explain_pending(flow.pending, history.commit(), out),
+/// Explains why an instruction is refused, on the lines after its position. Causes that do not depend on what an
+/// instruction needs have no numbers here.
+pub(crate) fn explain_instr<W: Write>(refused: &Refused, out: &mut W) -> io::Result<()> {
+    let flow = refused.flow;
+    match refused.cause {
+        Cause::Edit(fault) => explain_change(refused, fault, out),
+        Cause::Config(fault) => explain_config(&flow.next, refused.past, fault, out),
+        Cause::Pending => explain_pending(flow.pending, refused.past.commit(), out),
         Cause::NoChange => explain_no_change(out),
-        Cause::Notice => explain_commit(plan, instr, out),
-        Cause::Count => explain_commit(plan, instr, out),
+        Cause::Notice | Cause::Count => explain_commit(refused.plan, &refused.instr, out),
         Cause::JoinIdle => explain_join(flow.pending, out),
-        Cause::SwapUncertain => explain_frames(flow, history, instr, out),
-        Cause::Round => explain_round(plan, &flow.current, &flow.next, out),
+        Cause::SwapUncertain => explain_frames(refused, out),
+        Cause::Round => explain_round(refused.plan, &flow.current, &flow.next, out),
         Cause::Mismatch
         | Cause::Cost
         | Cause::Target
         | Cause::Table
         | Cause::CounterUnset
         | Cause::FallsOff => writeln!(out, "the instruction is not allowed here"),
+    }
+}
+
+/// Advises on a commit whose delay or count is refused.
+fn advise_commit<W: Write>(refused: &Refused, out: &mut W) -> io::Result<()> {
+    if let Instr::CommitAt(count) = refused.instr {
+        return advise_count(refused.plan, count, out);
+    }
+    advise_notice(refused.plan, out)
+}
+
+/// Advises on a refused edit.
+fn advise_change<W: Write>(refused: &Refused, fault: EditFault, out: &mut W) -> io::Result<()> {
+    if let Instr::Edit(edit) = refused.instr {
+        return advise_edit(&refused.flow.next, &edit, fault, out);
+    }
+    Ok(())
+}
+
+/// Advises on a refused instruction: what may correct it, and is no edit of a text that can be tried.
+pub(crate) fn advise_instr<W: Write>(refused: &Refused, out: &mut W) -> io::Result<()> {
+    let flow = refused.flow;
+    match refused.cause {
+        Cause::Edit(fault) => advise_change(refused, fault, out),
+        Cause::Config(fault) => advise_config(&flow.next, fault, out),
+        Cause::Pending => advise_pending(refused.past.commit(), out),
+        Cause::NoChange => advise_no_change(out),
+        Cause::Notice | Cause::Count => advise_commit(refused, out),
+        Cause::JoinIdle => advise_join(flow.pending, out),
+        Cause::SwapUncertain => advise_wait(flow.pending, out),
+        Cause::Round => advise_round(refused.plan, &flow.current, &flow.next, out),
+        Cause::Mismatch
+        | Cause::Cost
+        | Cause::Target
+        | Cause::Table
+        | Cause::CounterUnset
+        | Cause::FallsOff => Ok(()),
     }
 }

@@ -1,9 +1,9 @@
 //! Explains why a code is refused.
 
-use crate::cause::explain_instr;
+use crate::cause::{Refused, advise_instr, explain_instr};
 use crate::labels::{explain_cost, explain_mismatch, target_at};
 use crate::reach::Reach;
-use crate::room::explain_opening;
+use crate::room::{advise_opening, explain_opening};
 use plan_code::{Code, Instr};
 use plan_flow::{Cause, test_opening};
 use std::alloc::Global;
@@ -59,8 +59,10 @@ fn explain_pages<W: Write>(
     out: &mut W,
 ) -> io::Result<()> {
     let plan = code.plan();
-    if pc == 0 && test_opening(&plan, &reach.walk.flow.current).is_err() {
-        return explain_opening(&plan, &reach.walk.flow.current, out);
+    let opening = &reach.state.flow.current;
+    if pc == 0 && test_opening(&plan, opening).is_err() {
+        explain_opening(&plan, opening, out)?;
+        return advise_opening(&plan, opening, out);
     }
     explain_known(code, reach, instr, Cause::Round, out)
 }
@@ -73,14 +75,16 @@ fn explain_known<W: Write>(
     cause: Cause,
     out: &mut W,
 ) -> io::Result<()> {
-    explain_instr(
-        &code.plan(),
-        &reach.walk.flow,
-        &reach.walk.history,
-        instr,
+    let plan = code.plan();
+    let refused = Refused {
+        plan: &plan,
+        flow: &reach.state.flow,
+        past: reach.past(),
+        instr: *instr,
         cause,
-        out,
-    )
+    };
+    explain_instr(&refused, out)?;
+    advise_instr(&refused, out)
 }
 
 /// Explains a cause at an existing instruction.
@@ -103,7 +107,7 @@ fn explain_at<W: Write>(
             "the last instruction, {pc}, continues to one that is not there"
         ),
         Cause::Round => {
-            reach.enter(code, pc);
+            reach.enter(code, pc)?;
             explain_pages(code, reach, pc, instr, out)
         }
         Cause::Edit(_)
@@ -114,7 +118,7 @@ fn explain_at<W: Write>(
         | Cause::Count
         | Cause::JoinIdle
         | Cause::SwapUncertain => {
-            reach.enter(code, pc);
+            reach.enter(code, pc)?;
             explain_known(code, reach, instr, cause, out)
         }
     }

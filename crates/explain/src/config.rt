@@ -1,13 +1,14 @@
 //! Explains configurations that are not sound.
 
 use crate::edit::{is_there, put_since, service_of, sub_of};
-use crate::history::History;
+use crate::history::Past;
 use crate::names::{end_of, put_carrier, put_packet, put_sid, put_sub, put_units, units_of};
-use mux_config::{Carrier, Component, Config, ConfigFault, Packet, Sid, Sub, SubId};
+use crate::overlap::{Overlap, overlap_of};
+use mux_config::{Carrier, Component, Config, ConfigFault, Packet, Service, Sid, Sub, SubId};
 use std::io::{self, Write};
 
 /// Whether a sub-channel would fit at this capacity unit if it were not in the multiplex.
-fn has_room(config: &Config, sub: &Sub, start: u32) -> bool {
+pub(crate) fn has_room(config: &Config, sub: &Sub, start: u32) -> bool {
     let end = start.saturating_add(u32::from(units_of(sub)));
     if end > 864 {
         return false;
@@ -21,7 +22,7 @@ fn has_room(config: &Config, sub: &Sub, start: u32) -> bool {
 }
 
 /// A capacity unit at which a sub-channel would fit: the first one, or one after another sub-channel.
-fn room_for(config: &Config, sub: &Sub) -> Option<u32> {
+pub(crate) fn room_for(config: &Config, sub: &Sub) -> Option<u32> {
     if has_room(config, sub, 0) {
         return Some(0);
     }
@@ -34,27 +35,26 @@ fn room_for(config: &Config, sub: &Sub) -> Option<u32> {
 }
 
 /// Explains two sub-channels that share capacity units.
-fn explain_overlap<W: Write>(
-    config: &Config,
-    first: SubId,
-    second: SubId,
-    out: &mut W,
-) -> io::Result<()> {
-    let (Some(a), Some(b)) = (sub_of(config, first), sub_of(config, second)) else {
-        return writeln!(out, "two sub-channels share capacity units");
-    };
-    let low = a.start.max(b.start);
-    let high = end_of(&a).min(end_of(&b)).saturating_sub(1);
-    put_sub(&a, out)?;
+pub(crate) fn explain_overlap<W: Write>(overlap: &Overlap, out: &mut W) -> io::Result<()> {
+    let low = overlap.low;
+    let high = overlap.high;
+    put_sub(&overlap.first, out)?;
     out.write_all(b" has ")?;
-    put_units(&a, out)?;
+    put_units(&overlap.first, out)?;
     out.write_all(b", ")?;
-    put_sub(&b, out)?;
+    put_sub(&overlap.second, out)?;
     out.write_all(b" has ")?;
-    put_units(&b, out)?;
-    writeln!(out, ": they share CU {low} to {high}")?;
-    let id = b.id.get();
-    match room_for(config, &b) {
+    put_units(&overlap.second, out)?;
+    writeln!(out, ": they share CU {low} to {high}")
+}
+
+/// Advises on two sub-channels that share capacity units.
+fn advise_overlap<W: Write>(config: &Config, second: SubId, out: &mut W) -> io::Result<()> {
+    let Some(sub) = sub_of(config, second) else {
+        return Ok(());
+    };
+    let id = sub.id.get();
+    match room_for(config, &sub) {
         Some(start) => writeln!(out, "hint: sub {id} has room at {start}"),
         None => writeln!(
             out,
@@ -64,7 +64,7 @@ fn explain_overlap<W: Write>(
 }
 
 /// The first component of a service that refers to something missing.
-fn orphan_component(config: &Config) -> Option<(Sid, Carrier)> {
+pub(crate) fn orphan_component(config: &Config) -> Option<(Sid, Carrier)> {
     for service in config.services() {
         if let Some(carrier) = missing_of(config, service.components.as_slice()) {
             return Some((service.sid, carrier));
@@ -74,7 +74,7 @@ fn orphan_component(config: &Config) -> Option<(Sid, Carrier)> {
 }
 
 /// The first missing object that one of these components refers to.
-fn missing_of(config: &Config, components: &[Component]) -> Option<Carrier> {
+pub(crate) fn missing_of(config: &Config, components: &[Component]) -> Option<Carrier> {
     for component in components {
         let carrier = component.carrier();
         if !is_there(config, &carrier) {
@@ -85,7 +85,7 @@ fn missing_of(config: &Config, components: &[Component]) -> Option<Carrier> {
 }
 
 /// The first packet component whose sub-channel is missing.
-fn orphan_packet(config: &Config) -> Option<Packet> {
+pub(crate) fn orphan_packet(config: &Config) -> Option<Packet> {
     for packet in config.packets() {
         if !is_there(config, &Carrier::Sub(packet.sub)) {
             return Some(*packet);
@@ -95,7 +95,7 @@ fn orphan_packet(config: &Config) -> Option<Packet> {
 }
 
 /// Whether a service has a component that refers to an existing object.
-fn has_component_there(config: &Config, sid: Sid) -> bool {
+pub(crate) fn has_component_there(config: &Config, sid: Sid) -> bool {
     let Some(service) = service_of(config, sid) else {
         return false;
     };
@@ -132,9 +132,8 @@ fn put_orphan_hint<W: Write>(
 }
 
 /// Explains a component of a service that refers to a missing object.
-fn put_orphan<W: Write>(
-    config: &Config,
-    history: &History,
+pub(crate) fn put_orphan<W: Write>(
+    past: Past,
     sid: Sid,
     carrier: &Carrier,
     out: &mut W,
@@ -144,31 +143,44 @@ fn put_orphan<W: Write>(
     out.write_all(b" has a component on ")?;
     put_carrier(carrier, out)?;
     out.write_all(b", which is not there")?;
-    put_since(history.dropped(carrier), "dropped", out)?;
-    put_orphan_hint(config, sid, carrier, out)
+    put_since(past.dropped(carrier)?, "dropped", out)
 }
 
 /// Explains a packet component whose sub-channel is missing.
-fn put_orphan_packet<W: Write>(history: &History, packet: &Packet, out: &mut W) -> io::Result<()> {
+pub(crate) fn put_orphan_packet<W: Write>(
+    past: Past,
+    packet: &Packet,
+    out: &mut W,
+) -> io::Result<()> {
     put_packet(packet, out)?;
     out.write_all(b" names a sub-channel that is not there")?;
-    put_since(history.dropped(&Carrier::Sub(packet.sub)), "dropped", out)?;
+    put_since(past.dropped(&Carrier::Sub(packet.sub))?, "dropped", out)
+}
+
+/// Explains a component or a packet component that refers to a missing object.
+fn explain_orphan<W: Write>(config: &Config, past: Past, out: &mut W) -> io::Result<()> {
+    if let Some((sid, carrier)) = orphan_component(config) {
+        return put_orphan(past, sid, &carrier, out);
+    }
+    if let Some(packet) = orphan_packet(config) {
+        return put_orphan_packet(past, &packet, out);
+    }
+    writeln!(out, "a component names what is not there")
+}
+
+/// Advises on a component or a packet component that refers to a missing object.
+fn advise_orphan<W: Write>(config: &Config, out: &mut W) -> io::Result<()> {
+    if let Some((sid, carrier)) = orphan_component(config) {
+        return put_orphan_hint(config, sid, &carrier, out);
+    }
+    let Some(packet) = orphan_packet(config) else {
+        return Ok(());
+    };
     let scid = packet.scid.get();
     writeln!(
         out,
         "hint: 'drop packet {scid}' as well, or add the sub-channel"
     )
-}
-
-/// Explains a component or a packet component that refers to a missing object.
-fn explain_orphan<W: Write>(config: &Config, history: &History, out: &mut W) -> io::Result<()> {
-    if let Some((sid, carrier)) = orphan_component(config) {
-        return put_orphan(config, history, sid, &carrier, out);
-    }
-    if let Some(packet) = orphan_packet(config) {
-        return put_orphan_packet(history, &packet, out);
-    }
-    writeln!(out, "a component names what is not there")
 }
 
 /// Another packet component with the same sub-channel and address.
@@ -181,46 +193,87 @@ fn twin_of(config: &Config, packet: &Packet) -> Option<Packet> {
     None
 }
 
-/// Explains two packet components of one sub-channel with the same address.
-fn explain_address<W: Write>(config: &Config, out: &mut W) -> io::Result<()> {
+/// The first two packet components of one sub-channel with the same address.
+pub(crate) fn twins(config: &Config) -> Option<(Packet, Packet)> {
     for packet in config.packets() {
         if let Some(twin) = twin_of(config, packet) {
-            put_packet(packet, out)?;
-            out.write_all(b" and ")?;
-            put_packet(&twin, out)?;
-            return out.write_all(
-                b" have one address on one sub-channel\nhint: give one of them another address, 1 to 1023\n",
-            );
+            return Some((*packet, twin));
         }
     }
-    writeln!(out)
+    None
+}
+
+/// Explains two packet components of one sub-channel with the same address.
+fn explain_address<W: Write>(config: &Config, out: &mut W) -> io::Result<()> {
+    let Some((packet, twin)) = twins(config) else {
+        return writeln!(out);
+    };
+    put_packet(&packet, out)?;
+    out.write_all(b" and ")?;
+    put_packet(&twin, out)?;
+    out.write_all(b" have one address on one sub-channel\n")
+}
+
+/// The first service without components.
+pub(crate) fn empty_service(config: &Config) -> Option<&Service> {
+    for service in config.services() {
+        if service.components.len() == 0 {
+            return Some(service);
+        }
+    }
+    None
 }
 
 /// Explains a service without components.
 fn explain_empty<W: Write>(config: &Config, out: &mut W) -> io::Result<()> {
-    for service in config.services() {
-        if service.components.len() == 0 {
-            out.write_all(b"service ")?;
-            put_sid(service.sid, out)?;
-            out.write_all(b" has no component\nhint: 'drop service ")?;
-            put_sid(service.sid, out)?;
-            return out.write_all(b"', or add a component\n");
-        }
-    }
-    writeln!(out)
+    let Some(service) = empty_service(config) else {
+        return writeln!(out);
+    };
+    out.write_all(b"service ")?;
+    put_sid(service.sid, out)?;
+    out.write_all(b" has no component\n")
+}
+
+/// Advises on a service without components.
+fn advise_empty<W: Write>(config: &Config, out: &mut W) -> io::Result<()> {
+    let Some(service) = empty_service(config) else {
+        return Ok(());
+    };
+    out.write_all(b"hint: 'drop service ")?;
+    put_sid(service.sid, out)?;
+    out.write_all(b"', or add a component\n")
 }
 
 /// Explains why a configuration is not sound, on the lines after the position, given the instructions executed before.
 pub(crate) fn explain_config<W: Write>(
     config: &Config,
-    history: &History,
+    past: Past,
     fault: ConfigFault,
     out: &mut W,
 ) -> io::Result<()> {
     match fault {
-        ConfigFault::Overlap(first, second) => explain_overlap(config, first, second, out),
-        ConfigFault::Orphan => explain_orphan(config, history, out),
+        ConfigFault::Overlap(first, second) => match overlap_of(config, first, second) {
+            Some(overlap) => explain_overlap(&overlap, out),
+            None => writeln!(out, "two sub-channels share capacity units"),
+        },
+        ConfigFault::Orphan => explain_orphan(config, past, out),
         ConfigFault::AddressUsed => explain_address(config, out),
         ConfigFault::EmptyService => explain_empty(config, out),
+    }
+}
+
+/// Advises on a configuration that is not sound.
+pub(crate) fn advise_config<W: Write>(
+    config: &Config,
+    fault: ConfigFault,
+    out: &mut W,
+) -> io::Result<()> {
+    match fault {
+        ConfigFault::Overlap(_, second) => advise_overlap(config, second, out),
+        ConfigFault::Orphan => advise_orphan(config, out),
+        ConfigFault::AddressUsed => {
+            out.write_all(b"hint: give one of them another address, 1 to 1023\n")
+        }
+        ConfigFault::EmptyService => advise_empty(config, out),
     }
 }

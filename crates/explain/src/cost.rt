@@ -1,72 +1,57 @@
 //! Explains budgets that are too small: the longest path is the least budget with which `compile` does not refuse.
 
+use crate::change::{Splice, spliced};
+use crate::hint_loop::{Braces, try_wait_in};
+use crate::source::Source;
+use crate::trial::{Outcome, outcome_of};
+use crate::trier::Trier;
 use plan_flow::Cause;
-use script_compiler::{CompileFault, compile};
-use script_front::{Script, ScriptFault, Token, lex, parse};
+use script_compiler::CompileFault;
 use std::alloc::{AllocError, Global};
 use std::io::{self, Write};
 
-/// Out of memory if that is the fault; else the given value.
-fn if_memory<T: Drop>(fault: ScriptFault, otherwise: T) -> Result<T, AllocError> {
-    if fault == ScriptFault::Memory {
-        return Err(AllocError);
-    }
-    Ok(otherwise)
-}
-
 /// The text of a script with another budget, if its header has one.
-fn with_budget(alloc: Global, text: &str, budget: u16) -> Result<Option<String>, AllocError> {
-    let tokens = match lex(alloc, text) {
-        Ok(tokens) => tokens,
-        Err(fault) => return if_memory(fault, None),
+fn with_budget(alloc: Global, source: &Source, budget: u16) -> Result<Option<String>, AllocError> {
+    let Some(index) = source.index_of("budget") else {
+        return Ok(None);
     };
-    let mut is_budget = false;
-    for token in tokens.as_slice() {
-        let (Some(word), Some(front), Some(rest)) = (
-            text.get(token.start..token.end),
-            text.get(..token.start),
-            text.get(token.end..),
-        ) else {
-            return Ok(None);
-        };
-        if is_budget {
-            let changed = format!(in alloc; "{front}{budget}{rest}")?;
-            return Ok(Some(changed));
-        }
-        is_budget = word == "budget";
-    }
-    Ok(None)
+    let Some(spot) = source.spot(index.saturating_add(1), 1) else {
+        return Ok(None);
+    };
+    let splice = Splice {
+        start: spot.start,
+        end: spot.end,
+        part: format!(in alloc; "{budget}")?,
+    };
+    spliced(alloc, source.text, &splice)
 }
 
 /// Whether a script with another budget is refused for its costs.
-fn costs_more(alloc: Global, text: &str, budget: u16) -> Result<bool, AllocError> {
-    let Some(changed) = with_budget(alloc, text, budget)? else {
+fn costs_more(alloc: Global, source: &Source, budget: u16) -> Result<bool, AllocError> {
+    let Some(changed) = with_budget(alloc, source, budget)? else {
         return Ok(true);
     };
-    let script = match parse(alloc, changed.as_str()) {
-        Ok(script) => script,
-        Err(fault) => return if_memory(fault, true),
-    };
-    match compile(alloc, &script) {
-        Ok(_code) => Ok(false),
-        Err(CompileFault::Memory) => Err(AllocError),
-        Err(CompileFault::Limit { .. }) => Ok(false),
-        Err(CompileFault::Refused { cause, .. }) => Ok(cause == Cause::Cost),
+    match outcome_of(alloc, changed.as_str())? {
+        Outcome::Accepted => Ok(false),
+        Outcome::NoScript(_fault) => Ok(true),
+        Outcome::NoPlan(CompileFault::Limit { .. }) => Ok(false),
+        Outcome::NoPlan(CompileFault::Refused { cause, .. }) => Ok(cause == Cause::Cost),
+        Outcome::NoPlan(CompileFault::Memory) => Err(AllocError),
     }
 }
 
 /// The number of instructions on the longest path in one frame, if `budget` is too small for it; `None` if more
 /// than 255, or unbounded.
-fn longest(alloc: Global, text: &str, budget: u8) -> Result<Option<u16>, AllocError> {
+fn longest(alloc: Global, source: &Source, budget: u8) -> Result<Option<u16>, AllocError> {
     let mut low = u16::from(budget);
     let mut high = 255u16;
-    if costs_more(alloc, text, high)? {
+    if costs_more(alloc, source, high)? {
         return Ok(None);
     }
     for _halving in 0..9 {
         if low.saturating_add(1) < high {
             let middle = low + (high - low) / 2;
-            if costs_more(alloc, text, middle)? {
+            if costs_more(alloc, source, middle)? {
                 low = middle;
             } else {
                 high = middle;
@@ -74,64 +59,6 @@ fn longest(alloc: Global, text: &str, budget: u8) -> Result<Option<u16>, AllocEr
         }
     }
     Ok(Some(high))
-}
-
-/// A loop of a script.
-#[derive(Clone, Copy)]
-struct Loop {
-    /// The line of its closing brace.
-    last: u16,
-    /// Whether it ends, after a number of iterations.
-    ends: bool,
-}
-
-/// The text of a token.
-fn text_of<'a>(text: &'a str, token: &Token) -> &'a str {
-    match text.get(token.start..token.end) {
-        Some(found) => found,
-        None => "",
-    }
-}
-
-/// The line of a token, from 1.
-fn line_of(token: &Token) -> u16 {
-    match u16::try_from(token.position.line) {
-        Ok(line) => line,
-        Err(_later) => u16::MAX,
-    }
-}
-
-/// The line of the brace that closes the first block of these tokens.
-fn closing_line(text: &str, tokens: &[Token]) -> Option<u16> {
-    let mut depth = 0u32;
-    for token in tokens {
-        match text_of(text, token) {
-            "{" => depth = depth.saturating_add(1),
-            "}" if depth <= 1 => return Some(line_of(token)),
-            "}" => depth -= 1,
-            _ => {}
-        }
-    }
-    None
-}
-
-/// The first loop of a script that begins in this line, if one does.
-fn loop_of(alloc: Global, text: &str, line: u16) -> Result<Option<Loop>, AllocError> {
-    let tokens = match lex(alloc, text) {
-        Ok(tokens) => tokens,
-        Err(fault) => return if_memory(fault, None),
-    };
-    for (at, token) in tokens.as_slice().iter().enumerate() {
-        let word = text_of(text, token);
-        if line_of(token) == line && (word == "repeat" || word == "forever") {
-            let last = closing_line(text, &tokens.as_slice()[at..]);
-            return Ok(last.map(|last| Loop {
-                last,
-                ends: word == "repeat",
-            }));
-        }
-    }
-    Ok(None)
 }
 
 /// The facts that explain a cost.
@@ -149,18 +76,38 @@ pub(crate) struct Costs {
     is_short: bool,
 }
 
+/// A loop of a script.
+#[derive(Clone, Copy)]
+struct Loop {
+    braces: Braces,
+    /// Whether it ends, after a number of iterations.
+    ends: bool,
+}
+
+/// The first loop of a script that begins in this line, if one does.
+fn loop_of(source: &Source, line: u16) -> Option<Loop> {
+    let index = source.index_in(usize::from(line), "repeat", "forever")?;
+    let last = source.closing(index)?;
+    Some(Loop {
+        braces: Braces {
+            first: source.spot(index, 1)?,
+            last: source.spot(last, 1)?,
+        },
+        ends: source.word(index) == "repeat",
+    })
+}
+
 /// The facts that explain why a script is refused in this line for its costs.
 pub(crate) fn costs_of(
     alloc: Global,
-    text: &str,
-    script: &Script,
+    source: &Source,
+    budget: u8,
     line: u16,
     is_short: bool,
 ) -> Result<Costs, AllocError> {
-    let budget = script.header().budget;
     Ok(Costs {
-        longest: longest(alloc, text, budget)?,
-        found: loop_of(alloc, text, line)?,
+        longest: longest(alloc, source, budget)?,
+        found: loop_of(source, line),
         line,
         budget,
         is_short,
@@ -171,13 +118,9 @@ pub(crate) fn costs_of(
 pub(crate) fn explain_costs<W: Write>(costs: &Costs, out: &mut W) -> io::Result<()> {
     let budget = costs.budget;
     if let Some(longest) = costs.longest {
-        writeln!(
-            out,
-            "the longest path runs {longest} instructions in one frame; the budget is {budget}"
-        )?;
         return writeln!(
             out,
-            "hint: a budget of {longest}, or a 'wait 1' between the instructions that follow this line"
+            "the longest path runs {longest} instructions in one frame; the budget is {budget}"
         );
     }
     explain_unbounded(costs, out)
@@ -187,26 +130,63 @@ pub(crate) fn explain_costs<W: Write>(costs: &Costs, out: &mut W) -> io::Result<
 fn explain_unbounded<W: Write>(costs: &Costs, out: &mut W) -> io::Result<()> {
     let budget = costs.budget;
     let first = costs.line;
-    let Some(Loop { last, ends }) = costs.found else {
+    let Some(Loop { braces, ends }) = costs.found else {
         return writeln!(
             out,
-            "from here more than 255 instructions run in one frame; the budget is {budget}\nhint: a 'wait 1' between them"
+            "from here more than 255 instructions run in one frame; the budget is {budget}"
         );
     };
+    let last = braces.last.line;
     if costs.is_short && ends {
         return writeln!(
             out,
-            "an iteration of the loop of lines {first} to {last} can run without a wait: that is refused, however few iterations it has\nhint: a 'wait 1' in the loop, on each path through it"
+            "an iteration of the loop of lines {first} to {last} can run without a wait: that is refused, however few iterations it has"
         );
     }
     if costs.is_short {
         return writeln!(
             out,
-            "the loop of lines {first} to {last} can repeat without a wait, so that its instructions in one frame have no bound\nhint: a 'wait 1' in the loop, on each path through it"
+            "the loop of lines {first} to {last} can repeat without a wait, so that its instructions in one frame have no bound"
         );
     }
     writeln!(
         out,
-        "the loop of lines {first} to {last} can repeat without a wait, or more than 255 instructions run in one frame from here; the budget is {budget}\nhint: a 'wait 1' in the loop, on each path through it, or between them"
+        "the loop of lines {first} to {last} can repeat without a wait, or more than 255 instructions run in one frame from here; the budget is {budget}"
+    )
+}
+
+/// Corrections of costs: a greater budget, or a wait in the loop.
+pub(crate) fn try_costs(trier: &mut Trier, costs: &Costs) -> Result<(), AllocError> {
+    let budget = costs.budget;
+    if let Some(longest) = costs.longest {
+        let old = format!(in trier.alloc; "budget {budget}")?;
+        let new = format!(in trier.alloc; "budget {longest}")?;
+        if let Some(spot) = trier.header_spot("budget", old.as_str())? {
+            return trier.write_at(spot, new.as_str());
+        }
+        return Ok(());
+    }
+    match costs.found {
+        Some(Loop { braces, .. }) => try_wait_in(trier, braces),
+        None => Ok(()),
+    }
+}
+
+/// Advises on a script that costs more than its budget.
+pub(crate) fn advise_costs<W: Write>(costs: &Costs, out: &mut W) -> io::Result<()> {
+    let first = costs.line;
+    if let Some(longest) = costs.longest {
+        return writeln!(
+            out,
+            "hint: a budget of {longest}, or a 'wait 1' between the instructions that follow line {first}"
+        );
+    }
+    let Some(Loop { braces, .. }) = costs.found else {
+        return writeln!(out, "hint: a 'wait 1' between them");
+    };
+    let last = braces.last.line;
+    writeln!(
+        out,
+        "hint: a 'wait 1' in lines {first} to {last}, on each path through the loop"
     )
 }

@@ -2,8 +2,8 @@
 
 ghost use Rattle.std.specs.Prelude.{◌≤◌};
 
-use crate::absent::explain_absent;
-use crate::history::History;
+use crate::absent::{advise_absent, explain_absent};
+use crate::history::{Past, Since};
 use crate::names::{put_carrier, put_packet, put_profile, put_service, put_sid, put_sub, units_of};
 use mux_config::{Carrier, Component, Config, Edit, EditFault, Packet, Service, Sid, Sub, SubId};
 use mux_eep::{EepFault, EepSet, Protection, size_of};
@@ -48,17 +48,18 @@ pub(crate) fn is_there(config: &Config, carrier: &Carrier) -> bool {
 }
 
 /// Writes the line in which something was done, if one did it, and ends the line.
-pub(crate) fn put_since<W: Write>(line: Option<u16>, word: &str, out: &mut W) -> io::Result<()> {
-    match line {
-        Some(line) => writeln!(out, "; line {line} {word} it"),
-        None => writeln!(out),
+pub(crate) fn put_since<W: Write>(since: Since, word: &str, out: &mut W) -> io::Result<()> {
+    match since {
+        Since::Never => writeln!(out),
+        Since::Line(line) => writeln!(out, "; line {line} {word} it"),
+        Since::OnePath(line) => writeln!(out, "; line {line} {word} it on one path"),
     }
 }
 
 /// Explains a sub-channel or a packet component that exists already.
 fn carrier_used<W: Write>(
     config: &Config,
-    history: &History,
+    past: Past,
     carrier: &Carrier,
     out: &mut W,
 ) -> io::Result<()> {
@@ -75,8 +76,7 @@ fn carrier_used<W: Write>(
         }
     }
     out.write_all(b" is there already")?;
-    put_since(history.added(carrier), "added", out)?;
-    out.write_all(b"hint: 'drop' it first, or take another number\n")
+    put_since(past.added(carrier)?, "added", out)
 }
 
 /// Explains a service that exists already.
@@ -85,7 +85,7 @@ fn service_used<W: Write>(config: &Config, sid: Sid, out: &mut W) -> io::Result<
         Some(service) => put_service(service, out)?,
         None => put_sid(sid, out)?,
     }
-    out.write_all(b" is there already\nhint: 'drop service' first, or take another SId\n")
+    out.write_all(b" is there already\n")
 }
 
 /// Explains a service that has a component on this carrier already.
@@ -100,23 +100,14 @@ fn component_used<W: Write>(
     }
     out.write_all(b" has a component on ")?;
     put_carrier(&component.carrier(), out)?;
-    out.write_all(
-        b" already\nhint: 'drop component' first, or name another sub-channel or packet component\n",
-    )
+    out.write_all(b" already\n")
 }
 
 /// Explains what exists already.
-fn explain_used<W: Write>(
-    config: &Config,
-    history: &History,
-    edit: &Edit,
-    out: &mut W,
-) -> io::Result<()> {
+fn explain_used<W: Write>(config: &Config, past: Past, edit: &Edit, out: &mut W) -> io::Result<()> {
     match edit {
-        Edit::AddSub(sub) => carrier_used(config, history, &Carrier::Sub(sub.get().id), out),
-        Edit::AddPacket(packet) => {
-            carrier_used(config, history, &Carrier::Packet(packet.scid), out)
-        }
+        Edit::AddSub(sub) => carrier_used(config, past, &Carrier::Sub(sub.get().id), out),
+        Edit::AddPacket(packet) => carrier_used(config, past, &Carrier::Packet(packet.scid), out),
         Edit::AddService(sid) => service_used(config, *sid, out),
         Edit::AddComponent { sid, component } => component_used(config, *sid, component, out),
         Edit::DropSub(_)
@@ -128,8 +119,29 @@ fn explain_used<W: Write>(
     }
 }
 
+/// Advises on what exists already.
+fn advise_used<W: Write>(edit: &Edit, out: &mut W) -> io::Result<()> {
+    match edit {
+        Edit::AddSub(_) | Edit::AddPacket(_) => {
+            out.write_all(b"hint: 'drop' it first, or take another number\n")
+        }
+        Edit::AddService(_) => {
+            out.write_all(b"hint: 'drop service' first, or take another SId\n")
+        }
+        Edit::AddComponent { .. } => out.write_all(
+            b"hint: 'drop component' first, or name another sub-channel or packet component\n",
+        ),
+        Edit::DropSub(_)
+        | Edit::MoveSub { .. }
+        | Edit::RateSub { .. }
+        | Edit::DropService(_)
+        | Edit::DropComponent { .. }
+        | Edit::DropPacket(_) => Ok(()),
+    }
+}
+
 /// The sub-channel that an edit would make.
-fn edited_sub(config: &Config, edit: &Edit) -> Option<Sub> {
+pub(crate) fn edited_sub(config: &Config, edit: &Edit) -> Option<Sub> {
     match edit {
         Edit::AddSub(sub) => Some(sub.get()),
         Edit::MoveSub { id, start } => {
@@ -161,12 +173,23 @@ fn explain_end<W: Write>(sub: &Sub, out: &mut W) -> io::Result<()> {
     let units = units_of(sub);
     let start = sub.start;
     let last = (u32::from(start) + u32::from(units)).saturating_sub(1);
-    let latest = 864 - units;
     put_sub(sub, out)?;
     writeln!(
         out,
         " has {units} CU, so CU {start} to {last}; the last one is 863"
-    )?;
+    )
+}
+
+/// The last capacity unit at which a sub-channel can begin.
+pub(crate) fn latest_start(sub: &Sub) -> u16
+    ensures { result ≤ 864 }
+{
+    864 - units_of(sub)
+}
+
+/// Advises on a sub-channel that would end after the multiplex.
+fn advise_end<W: Write>(sub: &Sub, out: &mut W) -> io::Result<()> {
+    let latest = latest_start(sub);
     writeln!(
         out,
         "hint: it can begin at {latest} at most; where its start and its rate change, 'move' before a rate that grows"
@@ -174,7 +197,7 @@ fn explain_end<W: Write>(sub: &Sub, out: &mut W) -> io::Result<()> {
 }
 
 /// The rates of a set are multiples of this.
-fn rate_step(protection: Protection) -> u16
+pub(crate) fn rate_step(protection: Protection) -> u16
     ensures low { 8 ≤ result }
     ensures high { result ≤ 32 }
 {
@@ -199,12 +222,17 @@ fn step_units(protection: Protection) -> u32
 fn explain_multiple<W: Write>(sub: &Sub, out: &mut W) -> io::Result<()> {
     let kbits = sub.kbits;
     let step = rate_step(sub.protection);
-    let low = kbits - kbits % step;
-    let high = u32::from(low) + u32::from(step);
     writeln!(
         out,
         "a rate of {kbits} kbit/s is no multiple of {step}, as those of the profile are"
-    )?;
+    )
+}
+
+/// Advises on a rate that is not a multiple of the step of its set.
+fn advise_multiple<W: Write>(sub: &Sub, out: &mut W) -> io::Result<()> {
+    let step = rate_step(sub.protection);
+    let low = sub.kbits - sub.kbits % step;
+    let high = u32::from(low) + u32::from(step);
     if low == 0 {
         return writeln!(out, "hint: {high} is");
     }
@@ -217,10 +245,19 @@ fn explain_size<W: Write>(sub: &Sub, out: &mut W) -> io::Result<()> {
     let step = u32::from(rate_step(sub.protection));
     let units = step_units(sub.protection);
     let wanted = (u32::from(kbits) / step).saturating_mul(units);
-    let most = (864 / units).saturating_mul(step);
     write!(out, "{kbits} kbit/s at ")?;
     put_profile(sub.protection, out)?;
-    writeln!(out, " would take {wanted} CU; a multiplex has 864")?;
+    writeln!(out, " would take {wanted} CU; a multiplex has 864")
+}
+
+/// The highest rate of a profile.
+pub(crate) fn most_rate(protection: Protection) -> u32 {
+    (864 / step_units(protection)).saturating_mul(u32::from(rate_step(protection)))
+}
+
+/// Advises on a rate that needs more than the multiplex.
+fn advise_size<W: Write>(sub: &Sub, out: &mut W) -> io::Result<()> {
+    let most = most_rate(sub.protection);
     writeln!(out, "hint: {most} kbit/s is the most at this profile")
 }
 
@@ -228,14 +265,19 @@ fn explain_size<W: Write>(sub: &Sub, out: &mut W) -> io::Result<()> {
 fn explain_rate<W: Write>(sub: &Sub, out: &mut W) -> io::Result<()> {
     match size_of(sub.protection, sub.kbits) {
         Ok(_size) => Ok(()),
-        Err(EepFault::ZeroRate) => {
-            writeln!(
-                out,
-                "a rate of 0 kbit/s has no size\nhint: 'drop sub' takes a sub-channel away"
-            )
-        }
+        Err(EepFault::ZeroRate) => writeln!(out, "a rate of 0 kbit/s has no size"),
         Err(EepFault::NotMultiple) => explain_multiple(sub, out),
         Err(EepFault::PastMultiplex) => explain_size(sub, out),
+    }
+}
+
+/// Advises on a rate that has no size.
+fn advise_rate<W: Write>(sub: &Sub, out: &mut W) -> io::Result<()> {
+    match size_of(sub.protection, sub.kbits) {
+        Ok(_size) => Ok(()),
+        Err(EepFault::ZeroRate) => { writeln!(out, "hint: 'drop sub' takes a sub-channel away") }
+        Err(EepFault::NotMultiple) => advise_multiple(sub, out),
+        Err(EepFault::PastMultiplex) => advise_size(sub, out),
     }
 }
 
@@ -255,8 +297,7 @@ fn explain_components<W: Write>(config: &Config, edit: &Edit, out: &mut W) -> io
     writeln!(
         out,
         " has {count} components; one with such an SId has {limit} at most"
-    )?;
-    out.write_all(b"hint: put some of them into another service\n")
+    )
 }
 
 /// Explains a full set.
@@ -266,10 +307,7 @@ fn explain_full<W: Write>(edit: &Edit, out: &mut W) -> io::Result<()> {
     } else {
         "packet components"
     };
-    writeln!(
-        out,
-        "there are 64 {word}, the most of a configuration\nhint: 'drop' one first"
-    )
+    writeln!(out, "there are 64 {word}, the most of a configuration")
 }
 
 /// Explains a packet address out of range.
@@ -278,24 +316,21 @@ fn explain_packet_address<W: Write>(edit: &Edit, out: &mut W) -> io::Result<()> 
         return writeln!(out, "packet addresses are 1 to 1023");
     };
     let address = packet.address;
-    writeln!(
-        out,
-        "{address} is no packet address\nhint: packet addresses are 1 to 1023"
-    )
+    writeln!(out, "{address} is no packet address")
 }
 
 /// Explains a refused edit, on the lines after the position, given the configuration and what was executed on the path to
 /// it.
 pub(crate) fn explain_edit<W: Write>(
     config: &Config,
-    history: &History,
+    past: Past,
     edit: &Edit,
     fault: EditFault,
     out: &mut W,
 ) -> io::Result<()> {
     match fault {
-        EditFault::IdUsed => explain_used(config, history, edit, out),
-        EditFault::IdAbsent => explain_absent(config, history, edit, out),
+        EditFault::IdUsed => explain_used(config, past, edit, out),
+        EditFault::IdAbsent => explain_absent(config, past, edit, out),
         EditFault::TooManyComponents => explain_components(config, edit, out),
         EditFault::TableFull => explain_full(edit, out),
         EditFault::PastEnd => match edited_sub(config, edit) {
@@ -307,5 +342,31 @@ pub(crate) fn explain_edit<W: Write>(
             None => writeln!(out),
         },
         EditFault::BadAddress => explain_packet_address(edit, out),
+    }
+}
+
+/// Advises on a refused edit: what may correct it, and can't be tried.
+pub(crate) fn advise_edit<W: Write>(
+    config: &Config,
+    edit: &Edit,
+    fault: EditFault,
+    out: &mut W,
+) -> io::Result<()> {
+    match fault {
+        EditFault::IdUsed => advise_used(edit, out),
+        EditFault::IdAbsent => advise_absent(config, edit, out),
+        EditFault::TooManyComponents => {
+            out.write_all(b"hint: put some of them into another service\n")
+        }
+        EditFault::TableFull => out.write_all(b"hint: 'drop' one first\n"),
+        EditFault::PastEnd => match edited_sub(config, edit) {
+            Some(sub) => advise_end(&sub, out),
+            None => Ok(()),
+        },
+        EditFault::BadRate => match edited_sub(config, edit) {
+            Some(sub) => advise_rate(&sub, out),
+            None => Ok(()),
+        },
+        EditFault::BadAddress => out.write_all(b"hint: packet addresses are 1 to 1023\n"),
     }
 }

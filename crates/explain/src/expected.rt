@@ -1,7 +1,6 @@
 //! Describes what is valid at a position of a script.
 
 use crate::probe::{Answer, Front};
-use script_front::{ScriptFault, lex};
 use std::alloc::{AllocError, Global};
 use std::io::{self, Write};
 
@@ -102,7 +101,7 @@ impl Expected {
         let Some((low, high)) = front.range(alloc)? else {
             return Ok(());
         };
-        let what = number_word(alloc, front, high)?;
+        let what = number_in(front.last().as_bytes(), high);
         let phrase = if low == high {
             format!(in alloc; "{what}, {low}")?
         } else {
@@ -158,6 +157,25 @@ impl Expected {
         Ok(found)
     }
 
+    /// The keyword that is expected, if nothing else is.
+    pub(crate) fn only_keyword(&self) -> Option<&str> {
+        let [only] = self.phrases.as_slice() else {
+            return None;
+        };
+        match only.as_bytes() {
+            [b'\'', .., b'\''] => {
+                let end = only.len().saturating_sub(1);
+                only.as_str().get(1..end)
+            }
+            _ => None,
+        }
+    }
+
+    /// Whether a statement, or else an item or the beginning of the statements, is expected: what precedes is complete.
+    pub(crate) fn follows_whole(alloc: Global, front: &Front) -> Result<bool, AllocError> {
+        Ok(front.passes(alloc, "join")? || front.passes(alloc, "begin")?)
+    }
+
     /// Writes the phrases as a list.
     pub(crate) fn put<W: Write>(&self, out: &mut W) -> io::Result<()> {
         let count = self.phrases.len();
@@ -170,23 +188,6 @@ impl Expected {
         }
         Ok(())
     }
-}
-
-/// What a decimal means, by the keyword before it.
-fn number_word(alloc: Global, front: &Front, high: u32) -> Result<&'static str, AllocError> {
-    let text = front.text();
-    let tokens = match lex(alloc, text) {
-        Ok(tokens) => tokens,
-        Err(ScriptFault::Memory) => return Err(AllocError),
-        Err(_fault) => return Ok("a number"),
-    };
-    let Some(last) = tokens.as_slice().last() else {
-        return Ok("a number");
-    };
-    let Some(word) = text.get(last.start..last.end) else {
-        return Ok("a number");
-    };
-    Ok(number_in(word.as_bytes(), high))
 }
 
 /// What a decimal up to `high` means after a keyword of the grammar.

@@ -32,12 +32,12 @@ fn is_unfit(code: &Code, reach: &Reach, pc: u16) -> bool {
     let Some(label) = code.label_at(pc) else {
         return false;
     };
-    if !reach.counters.includes(label.counters) {
+    if !reach.state.counters.includes(label.counters) {
         return true;
     }
     match declared_at(code, pc) {
         Some(flow) => !reach
-            .walk
+            .state
             .flow
             .fits(&flow.current, &flow.next, flow.pending),
         None => false,
@@ -51,14 +51,14 @@ fn explain_unfit<W: Write>(code: &Code, reach: &Reach, pc: u16, out: &mut W) -> 
         Some(label) => label.counters,
         None => Counters(0),
     };
-    if let Some(counter) = counter_missing(reach.counters, declared) {
+    if let Some(counter) = counter_missing(reach.state.counters, declared) {
         return writeln!(
             out,
             "the label declares that counter {counter} is set, and it may not be"
         );
     }
     match declared_at(code, pc) {
-        Some(flow) => explain_label(&reach.walk.flow, &flow, out),
+        Some(flow) => explain_label(&reach.state.flow, &flow, out),
         None => writeln!(out, "what is known does not fit it"),
     }
 }
@@ -102,7 +102,7 @@ pub(crate) fn explain_mismatch<W: Write>(
     if reach.comes && is_unfit(code, reach, pc) {
         return explain_unfit(code, reach, pc, out);
     }
-    reach.enter(code, pc);
+    reach.enter(code, pc)?;
     match target_at(code, pc) {
         Some(target) => explain_unfit(code, reach, target, out),
         None => writeln!(out, "what is known does not fit the label"),
@@ -119,7 +119,7 @@ fn cost_at(code: &Code, pc: u16) -> Option<u8> {
 
 /// What the allowance is part of.
 fn allowance_source(reach: &Reach) -> &'static str {
-    if reach.is_of_budget {
+    if reach.state.allowance.is_of_budget {
         "by the budget since the wait before"
     } else {
         "as the label before declares"
@@ -150,8 +150,9 @@ pub(crate) fn explain_cost<W: Write>(
 ) -> io::Result<()> {
     let budget = code.plan().budget;
     if let Some(cost) = cost_at(code, pc) {
-        if reach.comes && reach.allowance < cost {
-            return explain_allowance(reach, pc, reach.allowance, cost, out);
+        let left = reach.state.allowance.left;
+        if reach.comes && left < cost {
+            return explain_allowance(reach, pc, left, cost, out);
         }
         if budget < cost {
             return writeln!(
@@ -160,7 +161,7 @@ pub(crate) fn explain_cost<W: Write>(
             );
         }
     }
-    reach.enter(code, pc);
+    reach.enter(code, pc)?;
     explain_cost_after(code, reach, pc, out)
 }
 
@@ -172,10 +173,11 @@ fn explain_cost_after<W: Write>(
     out: &mut W,
 ) -> io::Result<()> {
     let budget = code.plan().budget;
-    if reach.allowance > 0 {
+    let left = reach.state.allowance.left;
+    if left > 0 {
         if let Some(target) = target_at(code, pc) {
             if let Some(cost) = cost_at(code, target) {
-                return explain_allowance(reach, target, reach.allowance - 1, cost, out);
+                return explain_allowance(reach, target, left - 1, cost, out);
             }
         }
     }

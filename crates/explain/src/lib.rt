@@ -9,16 +9,25 @@
 
 mod absent;
 mod cause;
+mod change;
 mod code;
 mod config;
 mod cost;
 mod difference;
 mod edit;
 mod expected;
+mod further;
+mod hint_config;
+mod hint_edit;
+mod hint_loop;
+mod hint_statement;
 mod history;
 mod labels;
 mod limit;
 mod names;
+mod opening;
+mod others;
+mod overlap;
 mod paths;
 mod place;
 mod probe;
@@ -27,7 +36,11 @@ mod repair;
 mod room;
 mod script;
 mod script_fault;
+mod source;
+mod state;
 mod swap;
+mod trial;
+mod trier;
 mod walk;
 
 pub use code::explain_code;

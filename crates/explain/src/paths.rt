@@ -1,12 +1,30 @@
 //! Explains control-flow paths that can't be merged, by the first difference between them.
 
 use crate::difference::{first_difference, put_difference};
+use crate::hint_loop::Braces;
 use crate::swap::put_swap;
 use mux_config::Config;
 use plan_code::Swap;
 use plan_flow::Flow;
 use plan_flow::flow::is_idle;
 use std::io::{self, Write};
+
+/// The lines of a loop or an `if`: of its first token, and of its last brace.
+#[derive(Clone, Copy)]
+pub(crate) struct Lines {
+    pub(crate) first: u16,
+    pub(crate) last: u16,
+}
+
+impl Lines {
+    /// The lines of braces; the last line of a script for later ones.
+    pub(crate) fn of(braces: Braces) -> Lines {
+        Lines {
+            first: u16::try_from(braces.first.line).unwrap_or(u16::MAX),
+            last: u16::try_from(braces.last.line).unwrap_or(u16::MAX),
+        }
+    }
+}
 
 /// The text that follows what holds on each of two paths.
 #[derive(Clone, Copy)]
@@ -89,19 +107,21 @@ fn put_swaps<W: Write>(here: Swap, there: Swap, sides: Sides, out: &mut W) -> io
     out.write_all(b"\n")
 }
 
-/// Writes how to make a loop end with the swap state with which it begins in this line.
+/// Writes how to make a loop of these lines end with the swap state with which it begins; and whether the last commit on
+/// the path is the same at both.
 fn put_loop_hint<W: Write>(
     end: Swap,
     beginning: Swap,
-    line: u16,
+    lines: Lines,
     has_same_commit: bool,
     out: &mut W,
 ) -> io::Result<()> {
+    let Lines { first, last } = lines;
     let word = match beginning {
         Swap::Idle => {
             return writeln!(
                 out,
-                "hint: 'join' at the end of the loop, or 'settle' where the swap may have come"
+                "hint: 'join' before line {last}, or 'settle' where the swap may have come"
             );
         }
         Swap::Within(_, _) => "'join' or 'settle'",
@@ -110,22 +130,20 @@ fn put_loop_hint<W: Write>(
     if is_idle(end) || has_same_commit {
         return writeln!(
             out,
-            "hint: {word} before line {line}: the loop would begin with no swap pending"
+            "hint: {word} before line {first}: the loop would begin with no swap pending"
         );
     }
     writeln!(
         out,
-        "hint: {word} before line {line}, and 'settle' at the end of the loop: no swap would be pending at either"
+        "hint: {word} before line {first}, and 'settle' before line {last}: no swap would be pending at either"
     )
 }
 
 /// Explains a loop whose body does not restore its initial state, on the lines after the position: what is known at its
-/// end, and at its beginning in this line; and whether the last commit on the path is the same at both.
+/// end, and at its beginning.
 pub(crate) fn explain_loop<W: Write>(
     end: &Flow<Config>,
     beginning: &Flow<Config>,
-    line: u16,
-    has_same_commit: bool,
     out: &mut W,
 ) -> io::Result<()> {
     let sides = Sides {
@@ -134,15 +152,29 @@ pub(crate) fn explain_loop<W: Write>(
     };
     out.write_all(b"the loop does not come back as it began: ")?;
     if has_other_swap(end.pending, beginning.pending) {
-        put_swaps(end.pending, beginning.pending, sides, out)?;
-        return put_loop_hint(end.pending, beginning.pending, line, has_same_commit, out);
+        return put_swaps(end.pending, beginning.pending, sides, out);
     }
     if !put_configs(end, beginning, sides, out)? {
         writeln!(out)?;
     }
+    Ok(())
+}
+
+/// Advises on a loop of these lines whose body does not restore its initial state.
+pub(crate) fn advise_loop<W: Write>(
+    end: &Flow<Config>,
+    beginning: &Flow<Config>,
+    lines: Lines,
+    has_same_commit: bool,
+    out: &mut W,
+) -> io::Result<()> {
+    if has_other_swap(end.pending, beginning.pending) {
+        return put_loop_hint(end.pending, beginning.pending, lines, has_same_commit, out);
+    }
+    let Lines { first, last } = lines;
     writeln!(
         out,
-        "hint: undo in the loop what it did, then 'commit' and 'join'; or do it before the loop"
+        "hint: undo before line {last} what the loop did, then 'commit' and 'join'; or do it before line {first}"
     )
 }
 
@@ -161,9 +193,15 @@ pub(crate) fn explain_paths<W: Write>(
     if !put_configs(here, there, sides, out)? {
         writeln!(out)?;
     }
+    Ok(())
+}
+
+/// Advises on paths that can't be merged after an `if` of these lines.
+pub(crate) fn advise_paths<W: Write>(lines: Lines, out: &mut W) -> io::Result<()> {
+    let Lines { first, last } = lines;
     writeln!(
         out,
-        "hint: leave both branches with the same configurations, 'commit' and 'join' included"
+        "hint: leave both ways through lines {first} to {last} with the same configurations, 'commit' and 'join' included"
     )
 }
 

@@ -1,15 +1,15 @@
 //! Tests with `parse` which tokens are valid at a position of a script.
 
-use crate::place::offset_of;
+use crate::source::Source;
 use script_front::{Position, ScriptFault, parse};
 use std::alloc::{AllocError, Global};
 
-/// The text of a script up to a token at fault.
-#[derive(Clone, Copy)]
+/// The tokens of a script up to one at fault, in one line: so a token after them exceeds no limit on texts and lines.
+#[derive(Drop)]
 pub(crate) struct Front<'a> {
-    text: &'a str,
-    /// The position of a token that is appended on a line of its own.
-    position: Position,
+    text: String,
+    /// The last of the tokens; empty if there is none.
+    last: &'a str,
 }
 
 /// The verdict of `parse` on a token after the front.
@@ -24,31 +24,33 @@ pub(crate) enum Answer {
 }
 
 impl<'a> Front<'a> {
-    /// The front of a text up to this position.
-    pub(crate) fn new(text: &'a str, position: Position) -> Front<'a> {
-        let at = offset_of(text.as_bytes(), position);
-        let front = match text.get(..at) {
-            Some(front) => front,
-            None => text,
-        };
-        Front {
-            text: front,
-            position: Position {
-                line: position.line.saturating_add(1),
-                column: 1,
-            },
+    /// The first tokens of a text, so many.
+    pub(crate) fn new(
+        alloc: Global,
+        source: &Source<'a>,
+        count: usize,
+    ) -> Result<Front<'a>, AllocError> {
+        let mut text = String::new(alloc);
+        for index in 0..count {
+            text.push_str(source.word(index))?;
+            text.push_str(" ")?;
         }
+        let last = if count > 0 {
+            source.word(count - 1)
+        } else {
+            ""
+        };
+        Ok(Front { text, last })
     }
 
-    /// The text of the front.
-    pub(crate) fn text(&self) -> &'a str {
-        self.text
+    /// The last token of the front; empty if it has none.
+    pub(crate) fn last(&self) -> &'a str {
+        self.last
     }
 
     /// Tests a token after the front: it is valid if `parse` finds no fault at its position.
     pub(crate) fn ask(&self, alloc: Global, token: &str) -> Result<Answer, AllocError> {
-        let mut text = String::from_str(alloc, self.text)?;
-        text.push_str("\n")?;
+        let mut text = String::from_str(alloc, self.text.as_str())?;
         text.push_str(token)?;
         match parse(alloc, text.as_str()) {
             Ok(_script) => Ok(Answer::Passes),
@@ -58,7 +60,7 @@ impl<'a> Front<'a> {
 
     /// Whether the script may end after the front.
     pub(crate) fn may_end(&self, alloc: Global) -> Result<bool, AllocError> {
-        match parse(alloc, self.text) {
+        match parse(alloc, self.text.as_str()) {
             Ok(_script) => Ok(true),
             Err(ScriptFault::Memory) => Err(AllocError),
             Err(_fault) => Ok(false),
@@ -81,7 +83,7 @@ impl<'a> Front<'a> {
 
     /// This verdict if the fault is at the token; else the token passes.
     fn unless_here(&self, at: Position, answer: Answer) -> Answer {
-        if at == self.position {
+        if at.line == 1 && at.column == self.text.len().saturating_add(1) {
             answer
         } else {
             Answer::Passes

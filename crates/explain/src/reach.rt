@@ -1,12 +1,12 @@
 //! The state before an instruction of a code, from the instructions before it in the order of the code.
 
-use crate::history::{History, PathEnd};
-use crate::walk::{Walk, copied};
+use crate::history::{History, Past, PathEnd};
+use crate::state::{Allowance, PathState, copied};
 use mux_config::Config;
-use plan_code::{Code, Counters, Instr, Label, Line, Swap};
+use plan_code::{Code, Instr, Label, Line, Swap};
 use plan_flow::Flow;
 use plan_flow::flow::is_idle;
-use plan_flow::successors::{continues, suspends, target_of};
+use plan_flow::successors::{continues, target_of};
 use std::alloc::{AllocError, Global};
 
 /// A path that jumps.
@@ -23,16 +23,12 @@ struct Jump {
 /// What is known on entry to an instruction from the one before.
 #[derive(Drop)]
 pub(crate) struct Reach {
-    /// What is known of the configurations and the swap, and what was executed before.
-    pub(crate) walk: Walk,
+    /// What is known, and what was executed before.
+    pub(crate) state: PathState,
+    /// The steps of all paths so far.
+    history: History,
     /// The jumps so far, in the order of the code.
     jumps: Vec<Jump>,
-    /// The set counters.
-    pub(crate) counters: Counters,
-    /// How many instructions may still run in this frame.
-    pub(crate) allowance: u8,
-    /// Whether the allowance is what is left of the budget since a suspension, and not of a label's cost.
-    pub(crate) is_of_budget: bool,
     /// Whether the instruction before continues to this one.
     pub(crate) comes: bool,
 }
@@ -56,74 +52,69 @@ pub(crate) fn declared_at(code: &Code, pc: u16) -> Option<Flow<Config>> {
     }
 }
 
-/// The counters after an instruction.
-fn counters_after(counters: Counters, instr: Instr) -> Counters {
-    if let Instr::Set { counter, .. } = instr {
-        return counters.with(counter);
-    }
-    if let Instr::Loop { counter, .. } = instr {
-        return counters.without(counter);
-    }
-    counters
-}
-
-/// The end of paths that meet, one of which jumps, and what is known of the swap of one of them: a swap that is or may
-/// be pending, if one has such.
-fn with_jump(merged: Option<(PathEnd, Swap)>, jump: &Jump) -> (PathEnd, Swap) {
-    let Some((end, pending)) = merged else {
-        return (jump.end, jump.pending);
-    };
-    let known = if is_idle(pending) {
-        jump.pending
-    } else {
-        pending
-    };
-    (end.merged(pending, &jump.end, jump.pending), known)
+/// What is known of the swap where two paths meet: a swap that is or may be pending, if one has such.
+fn swap_of(one: Swap, other: Swap) -> Swap {
+    if is_idle(one) { other } else { one }
 }
 
 impl Reach {
     /// The state before the first instruction of a code.
     fn new(alloc: Global) -> Reach {
         Reach {
-            walk: Walk::new(alloc, &Config::new(), History::new(alloc)),
+            state: PathState::at_opening(&Config::new(), PathEnd::start(), 0),
+            history: History::new(alloc),
             jumps: Vec::new(alloc),
-            counters: Counters(0),
-            allowance: 0,
-            is_of_budget: false,
             comes: false,
         }
     }
 
-    /// Changes to what the label at an instruction declares, if it has one.
-    pub(crate) fn enter(&mut self, code: &Code, pc: u16) {
-        if let Some(label) = code.label_at(pc) {
-            self.counters = label.counters;
-            self.allowance = label.cost;
-            self.is_of_budget = false;
-        }
-        if let Some(flow) = declared_at(code, pc) {
-            self.merge_paths(pc);
-            self.walk.flow = flow;
-        }
+    /// What was executed before.
+    pub(crate) fn past(&self) -> Past {
+        self.history.past(self.state.end)
     }
 
-    /// Merges the path from the instruction before, if it continues, with those that jumped to this one.
-    fn merge_paths(&mut self, pc: u16) {
-        let mut merged = if self.comes {
-            Some((self.walk.history.end(), self.walk.flow.pending))
-        } else {
-            None
+    /// Changes to what the label at an instruction declares, if it has one.
+    pub(crate) fn enter(&mut self, code: &Code, pc: u16) -> Result<(), AllocError> {
+        let Some(label) = code.label_at(pc) else {
+            return Ok(());
         };
+        let end = self.end_at(pc)?;
+        let Some(flow) = flow_of(code, label) else {
+            return Ok(());
+        };
+        self.state = PathState {
+            flow,
+            end,
+            counters: label.counters,
+            allowance: Allowance {
+                left: label.cost,
+                is_of_budget: false,
+            },
+        };
+        Ok(())
+    }
+
+    /// The end of the path from the instruction before, if it continues, and of those that jumped to this one.
+    fn end_at(&mut self, pc: u16) -> Result<PathEnd, AllocError> {
+        let mut merged = None;
+        let mut known = Swap::Idle;
+        if self.comes {
+            merged = Some(self.state.end);
+            known = self.state.flow.pending;
+        }
         for jump in self.jumps.as_slice() {
             if jump.target == pc {
-                merged = Some(with_jump(merged, jump));
+                merged = match merged {
+                    None => Some(jump.end),
+                    Some(end) => Some(self.history.merge(end, known, jump.end, jump.pending)?),
+                };
+                known = swap_of(known, jump.pending);
             }
         }
-        let end = match merged {
-            Some((end, _pending)) => end,
-            None => PathEnd::start(),
-        };
-        self.walk.history.return_to(end);
+        match merged {
+            Some(end) => Ok(end),
+            None => Ok(PathEnd::start()),
+        }
     }
 
     /// Stores the path that jumps, if this instruction does.
@@ -133,8 +124,8 @@ impl Reach {
         };
         let jump = Jump {
             target,
-            end: self.walk.history.end(),
-            pending: self.walk.flow.pending,
+            end: self.state.end,
+            pending: self.state.flow.pending,
         };
         match self.jumps.push(jump) {
             Ok(()) => Ok(()),
@@ -142,19 +133,17 @@ impl Reach {
         }
     }
 
-    /// Applies an instruction.
+    /// Applies an instruction. Those before the refused one are valid.
     fn pass(&mut self, code: &Code, line: &Line) -> Result<(), AllocError> {
         let plan = code.plan();
-        let _ = self.walk.flow.apply(&plan, line.instr);
-        self.counters = counters_after(self.counters, line.instr);
+        match self
+            .state
+            .pass(&plan, &mut self.history, line.number, &line.instr)
+        {
+            Ok(_valid) => {}
+            Err(error) => return Err(error),
+        }
         self.comes = continues(line.instr);
-        self.allowance = if suspends(line.instr) {
-            plan.budget
-        } else {
-            self.allowance.saturating_sub(1)
-        };
-        self.is_of_budget = self.is_of_budget || suspends(line.instr);
-        self.walk.history.push(line.number, line.instr)?;
         self.note_jump(line.instr)
     }
 
@@ -166,7 +155,7 @@ impl Reach {
             if at == pc {
                 return Ok(reach);
             }
-            reach.enter(code, at);
+            reach.enter(code, at)?;
             reach.pass(code, line)?;
             at = at.saturating_add(1);
         }

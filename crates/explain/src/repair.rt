@@ -1,6 +1,8 @@
 //! Suggests the token that may have been meant by an invalid one.
 
 use crate::probe::Front;
+use crate::source::Spot;
+use crate::trier::Trier;
 use std::alloc::{AllocError, Global};
 
 /// The keywords of the grammar.
@@ -76,7 +78,7 @@ fn common_back(a: &[u8], b: &[u8]) -> usize {
 }
 
 /// Whether two words are equal except for two adjacent letters.
-fn is_close(a: &[u8], b: &[u8]) -> bool {
+pub(crate) fn is_close(a: &[u8], b: &[u8]) -> bool {
     let longest = a.len().max(b.len());
     let common = common_front(a, b).saturating_add(common_back(a, b));
     longest >= 3 && longest <= common.saturating_add(2)
@@ -124,71 +126,82 @@ fn without_zeros(bytes: &[u8]) -> &[u8] {
     bytes
 }
 
-/// A token, if it is valid after the front.
-fn if_passes(alloc: Global, front: &Front, token: String) -> Result<Option<String>, AllocError> {
-    if front.passes(alloc, token.as_str())? {
-        return Ok(Some(token));
-    }
-    Ok(None)
+/// A token that is invalid after the front, in the place of which others are tried in turn.
+#[derive(Clone, Copy)]
+pub(crate) struct Wrong<'a> {
+    pub(crate) front: &'a Front<'a>,
+    pub(crate) spot: Spot,
+    pub(crate) token: &'a [u8],
 }
 
-/// A number, identifier or time that may have been meant.
-fn value_meant(alloc: Global, front: &Front, token: &[u8]) -> Result<Option<String>, AllocError> {
-    let bare = in_case(alloc, without_prefix(token), true)?;
-    let digits = text_of(alloc, bare.as_slice())?;
-    if let Some(found) = if_passes(alloc, front, digits)? {
-        return Ok(Some(found));
-    }
-    let short = text_of(alloc, without_zeros(token))?;
-    if let Some(found) = if_passes(alloc, front, short)? {
-        return Ok(Some(found));
-    }
-    if token.contains(&b':') {
-        return time_meant(alloc, front, token);
-    }
-    Ok(None)
-}
-
-/// A time that may have been meant by one without seconds, or with an hour of one digit.
-fn time_meant(alloc: Global, front: &Front, token: &[u8]) -> Result<Option<String>, AllocError> {
-    let token = text_of(alloc, token)?;
-    let with_seconds = format!(in alloc; "{token}:00")?;
-    if let Some(found) = if_passes(alloc, front, with_seconds)? {
-        return Ok(Some(found));
-    }
-    let with_both = format!(in alloc; "0{token}:00")?;
-    if let Some(found) = if_passes(alloc, front, with_both)? {
-        return Ok(Some(found));
-    }
-    let with_zero = format!(in alloc; "0{token}")?;
-    if_passes(alloc, front, with_zero)
-}
-
-/// A protection profile that may have been meant, as `3-A` by `3a`, `A3` or `a-3`.
-fn profile_meant(alloc: Global, front: &Front, token: &[u8]) -> Result<Option<String>, AllocError> {
-    let (first, last) = match token {
-        [first, last] => (*first, *last),
-        [first, b'-' | b'_', last] => (*first, *last),
-        _ => return Ok(None),
-    };
-    let (level, set) = if first.is_ascii_digit() {
-        (first, last)
-    } else {
-        (last, first)
-    };
-    let token = text_of(alloc, &[level, b'-', set.to_ascii_uppercase()])?;
-    if_passes(alloc, front, token)
-}
-
-/// A keyword that may have been meant.
-fn token_meant(alloc: Global, front: &Front, token: &[u8]) -> Result<Option<String>, AllocError> {
-    let lower = in_case(alloc, token, false)?;
-    for word in WORDS {
-        if is_close(word.as_bytes(), lower.as_slice()) && front.passes(alloc, word)? {
-            return Ok(Some(String::from_str(alloc, word)?));
+impl<'a> Wrong<'a> {
+    /// Tries a token that is valid after the front.
+    fn attempt(&self, trier: &mut Trier, token: &str) -> Result<(), AllocError> {
+        if !trier.is_done() && self.front.passes(trier.alloc, token)? {
+            return trier.write_token(self.spot, token);
         }
+        Ok(())
     }
-    Ok(None)
+
+    /// Tries numbers and identifiers that may have been meant.
+    fn attempt_value(&self, trier: &mut Trier) -> Result<(), AllocError> {
+        let alloc = trier.alloc;
+        let bare = in_case(alloc, without_prefix(self.token), true)?;
+        let digits = text_of(alloc, bare.as_slice())?;
+        self.attempt(trier, digits.as_str())?;
+        let short = text_of(alloc, without_zeros(self.token))?;
+        self.attempt(trier, short.as_str())
+    }
+
+    /// Tries times that may have been meant by one without seconds, or with an hour of one digit.
+    fn attempt_time(&self, trier: &mut Trier) -> Result<(), AllocError> {
+        if !self.token.contains(&b':') {
+            return Ok(());
+        }
+        let alloc = trier.alloc;
+        let token = text_of(alloc, self.token)?;
+        let with_seconds = format!(in alloc; "{token}:00")?;
+        self.attempt(trier, with_seconds.as_str())?;
+        let with_both = format!(in alloc; "0{token}:00")?;
+        self.attempt(trier, with_both.as_str())?;
+        let with_zero = format!(in alloc; "0{token}")?;
+        self.attempt(trier, with_zero.as_str())
+    }
+
+    /// Tries the protection profile that may have been meant, as `3-A` by `3a`, `A3` or `a-3`.
+    fn attempt_profile(&self, trier: &mut Trier) -> Result<(), AllocError> {
+        let (first, last) = match self.token {
+            [first, last] => (*first, *last),
+            [first, b'-' | b'_', last] => (*first, *last),
+            _ => return Ok(()),
+        };
+        let (level, set) = if first.is_ascii_digit() {
+            (first, last)
+        } else {
+            (last, first)
+        };
+        let token = text_of(trier.alloc, &[level, b'-', set.to_ascii_uppercase()])?;
+        self.attempt(trier, token.as_str())
+    }
+
+    /// Tries the keywords that are like the token.
+    fn attempt_keyword(&self, trier: &mut Trier) -> Result<(), AllocError> {
+        let lower = in_case(trier.alloc, self.token, false)?;
+        for word in WORDS {
+            if is_close(word.as_bytes(), lower.as_slice()) {
+                self.attempt(trier, word)?;
+            }
+        }
+        Ok(())
+    }
+
+    /// Tries what may have been meant: a token that is valid in the place of this one.
+    pub(crate) fn attempt_all(&self, trier: &mut Trier) -> Result<(), AllocError> {
+        self.attempt_profile(trier)?;
+        self.attempt_keyword(trier)?;
+        self.attempt_value(trier)?;
+        self.attempt_time(trier)
+    }
 }
 
 /// Whether a token names a state that may be either of a contact's, closed or open.
@@ -199,19 +212,4 @@ pub(crate) fn is_level(token: &[u8]) -> bool {
         }
     }
     false
-}
-
-/// What may have been meant by a token: another token that is valid in its position, if one is found.
-pub(crate) fn meant_by(
-    alloc: Global,
-    front: &Front,
-    token: &[u8],
-) -> Result<Option<String>, AllocError> {
-    if let Some(found) = profile_meant(alloc, front, token)? {
-        return Ok(Some(found));
-    }
-    if let Some(found) = token_meant(alloc, front, token)? {
-        return Ok(Some(found));
-    }
-    value_meant(alloc, front, token)
 }

@@ -77,6 +77,23 @@ pub(crate) fn explain_opening<W: Write>(
         put_reserve(plan.layout, out)?;
         writeln!(out, "the configuration takes {fewer} pages")?;
     }
+    Ok(())
+}
+
+/// The least period in which the pages of an opening fit.
+pub(crate) fn period_of(plan: &Plan, opening: &Config) -> usize
+    ensures { result ≡ rounds plan.now.layout (page_set opening.now None) }
+{
+    pages_alone(plan.layout, opening)
+}
+
+/// Advises on an opening whose pages take longer than the period.
+pub(crate) fn advise_opening<W: Write>(
+    plan: &Plan,
+    opening: &Config,
+    out: &mut W,
+) -> io::Result<()> {
+    let count = period_of(plan, opening);
     writeln!(out, "hint: a period of {count}, or fewer entries")
 }
 
@@ -94,8 +111,6 @@ pub(crate) fn explain_round<W: Write>(
         after,
         both,
     } = Counts::of(plan.layout, current, next);
-    let least = both.max(after);
-    let thrice = both.saturating_mul(3);
     writeln!(
         out,
         "the current configuration takes {before} pages, a frame each, the next {after}, and both together, in the notice, {both}; the period is {period} frames and the notice {notice}"
@@ -109,6 +124,23 @@ pub(crate) fn explain_round<W: Write>(
             fewer.before, fewer.after, fewer.both
         )?;
     }
+    Ok(())
+}
+
+/// The least period and notice in which the pages of a commit fit.
+pub(crate) fn room_of(plan: &Plan, current: &Config, next: &Config) -> (usize, usize) {
+    let counts = Counts::of(plan.layout, current, next);
+    (counts.both.max(counts.after), counts.both.saturating_mul(3))
+}
+
+/// Advises on a commit whose pages do not fit in the period or the notice.
+pub(crate) fn advise_round<W: Write>(
+    plan: &Plan,
+    current: &Config,
+    next: &Config,
+    out: &mut W,
+) -> io::Result<()> {
+    let (least, thrice) = room_of(plan, current, next);
     writeln!(
         out,
         "hint: a period of {least} or more, and a notice of {thrice} or more, which is three times both; or fewer entries"

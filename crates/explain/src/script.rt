@@ -1,89 +1,66 @@
 //! Explains why a script is not compiled.
 
-use crate::cause::explain_instr;
-use crate::config::explain_config;
-use crate::cost::{Costs, costs_of, explain_costs};
-use crate::edit::explain_edit;
-use crate::history::History;
+use crate::cause::{Refused, advise_instr, explain_instr};
+use crate::cost::{advise_costs, costs_of, explain_costs, try_costs};
+use crate::hint_loop::try_loop;
+use crate::hint_statement::{Place, try_statement};
+use crate::history::{History, PathEnd};
 use crate::limit::explain_code_limit;
-use crate::paths::{explain_loop, explain_paths};
-use crate::room::explain_opening;
+use crate::opening::{ItemFaults, advise_first, explain_first, try_first};
+use crate::others::put_others;
+use crate::paths::{Lines, advise_loop, advise_paths, explain_loop, explain_paths};
+use crate::state::PathState;
+use crate::trial::Refusal;
+use crate::trier::Trier;
 use crate::walk::{Stop, Walk};
-use mux_config::{Config, Edit, EditFault};
-use plan_code::{Instr, Plan};
+use plan_code::Plan;
 use plan_flow::{Cause, test_opening};
-use script_compiler::CompileFault;
-use script_front::Script;
+use script_compiler::{CompileFault, instr_of};
+use script_front::lexemes::put_act;
+use script_front::{Act, Script};
 use std::alloc::{AllocError, Global};
-use std::io::{self, Error, ErrorKind, Write};
-
-/// An item with a fault.
-#[derive(Clone, Copy)]
-struct BadItem {
-    edit: Edit,
-    fault: EditFault,
-}
+use std::io::{self, Write};
 
 /// The first refusal in a script, found by a walk through it.
 #[derive(Drop)]
-struct PlanPath {
+pub(crate) struct PlanPath {
     /// What is known there, and what was executed before.
-    walk: Walk,
-    /// The item with a fault, if one has.
-    item: Option<BadItem>,
+    pub(crate) walk: Walk,
+    /// The items with a fault.
+    pub(crate) items: ItemFaults,
     /// Why the opening is refused, if it is.
-    opening: Option<Cause>,
+    pub(crate) opening: Option<Cause>,
     /// The refused statement, if there is one.
     stop: Option<Stop>,
 }
 
-/// Applies the items of a script, up to the first with a fault.
-fn add_items(
-    script: &Script,
-    opening: &mut Config,
-    history: &mut History,
-) -> Result<Option<BadItem>, AllocError> {
-    for item in script.items() {
-        if let Err(fault) = item.edit.apply(opening) {
-            return Ok(Some(BadItem {
-                edit: item.edit,
-                fault,
-            }));
-        }
-        history.push(item.line, Instr::Edit(item.edit))?;
-    }
-    Ok(None)
-}
-
 /// Walks through a script up to the first refusal.
 fn path_to(alloc: Global, script: &Script) -> Result<PlanPath, AllocError> {
-    let mut opening = Config::new();
+    let plan = script.header();
     let mut history = History::new(alloc);
-    let item = add_items(script, &mut opening, &mut history)?;
-    let is_made = item.is_none();
+    let mut end = PathEnd::start();
+    let items = ItemFaults::of(alloc, script.items(), &mut history, &mut end)?;
+    let mut opening = None;
+    if items.is_none() {
+        if let Err(cause) = test_opening(&plan, items.config()) {
+            opening = Some(cause);
+        }
+    }
+    let state = PathState::at_opening(items.config(), end, plan.budget);
     let mut path_taken = PlanPath {
-        walk: Walk::new(alloc, &opening, history),
-        item,
-        opening: None,
+        walk: Walk::new(alloc, state, history),
+        items,
+        opening,
         stop: None,
     };
-    if is_made {
-        extend(&script.header(), script, &opening, &mut path_taken)?;
+    if path_taken.items.is_none() && path_taken.opening.is_none() {
+        extend(&plan, script, &mut path_taken)?;
     }
     Ok(path_taken)
 }
 
 /// Walks from the opening of a script to the first refusal.
-fn extend(
-    plan: &Plan,
-    script: &Script,
-    opening: &Config,
-    path_taken: &mut PlanPath,
-) -> Result<(), AllocError> {
-    if let Err(cause) = test_opening(plan, opening) {
-        path_taken.opening = Some(cause);
-        return Ok(());
-    }
+fn extend(plan: &Plan, script: &Script, path_taken: &mut PlanPath) -> Result<(), AllocError> {
     match path_taken
         .walk
         .whole(plan, script.blocks(), script.statements())
@@ -97,51 +74,127 @@ fn extend(
     }
 }
 
-/// Explains a refused opening.
-fn explain_begin<W: Write>(plan: &Plan, walk: &Walk, cause: Cause, out: &mut W) -> io::Result<()> {
-    match cause {
-        Cause::Config(fault) => { explain_config(&walk.flow.next, &walk.history, fault, out) }
-        Cause::Round => explain_opening(plan, &walk.flow.next, out),
-        Cause::Edit(_)
-        | Cause::Pending
-        | Cause::NoChange
-        | Cause::Notice
-        | Cause::Count
-        | Cause::JoinIdle
-        | Cause::SwapUncertain
-        | Cause::Mismatch
-        | Cause::Cost
-        | Cause::Target
-        | Cause::Table
-        | Cause::CounterUnset
-        | Cause::FallsOff => writeln!(out, "the script can't begin so"),
-    }
+/// The words of a statement without a block.
+fn act_words(alloc: Global, act: Act) -> Result<String, AllocError> {
+    let mut words = String::new(alloc);
+    put_act(&mut words, act)?;
+    Ok(words)
 }
 
-/// Explains control-flow paths that can't be merged: of the loop that begins in this line, or else of an `if`.
-fn explain_meeting<W: Write>(walk: &Walk, loop_line: Option<u16>, out: &mut W) -> io::Result<()> {
+/// Explains a refused statement without a block.
+fn explain_act<W: Write>(
+    trier: &mut Trier,
+    refused: &Refused,
+    line: u16,
+    act: &Act,
+    out: &mut W,
+) -> io::Result<()> {
+    explain_instr(refused, out)?;
+    let words = act_words(trier.alloc, *act)?;
+    let place = Place {
+        line,
+        words: words.as_str(),
+    };
+    try_statement(trier, refused, place)?;
+    if trier.is_at_loss() {
+        return advise_instr(refused, out);
+    }
+    trier.put_hint(out)
+}
+
+/// Explains a loop that begins in a line and does not restore its initial state.
+fn explain_loop_at<W: Write>(
+    trier: &mut Trier,
+    plan: &Plan,
+    walk: &Walk,
+    line: u16,
+    out: &mut W,
+) -> io::Result<()> {
+    let Some(other) = &walk.other else {
+        return writeln!(out, "the loop does not come back as it began");
+    };
+    let end = &walk.state.flow;
+    explain_loop(end, &other.flow, out)?;
+    let mut lines = Lines {
+        first: line,
+        last: line,
+    };
+    if let Some(braces) = trier.braces_of(line, "repeat", "forever") {
+        lines = Lines::of(braces);
+        try_loop(trier, plan, braces, end, &other.flow)?;
+    }
+    if trier.is_at_loss() {
+        let has_same_commit = walk.past().commit() == other.end.commit();
+        return advise_loop(end, &other.flow, lines, has_same_commit, out);
+    }
+    trier.put_hint(out)
+}
+
+/// Explains paths that can't be merged after an `if` that begins in a line.
+fn explain_paths_at<W: Write>(
+    trier: &Trier,
+    walk: &Walk,
+    line: u16,
+    out: &mut W,
+) -> io::Result<()> {
     let Some(other) = &walk.other else {
         return writeln!(out, "two paths meet that differ");
     };
-    let Some(line) = loop_line else {
-        return explain_paths(&walk.flow, &other.flow, out);
+    explain_paths(&walk.state.flow, &other.flow, out)?;
+    let lines = match trier.braces_of(line, "if", "if") {
+        Some(braces) => Lines::of(braces),
+        None => Lines {
+            first: line,
+            last: line,
+        },
     };
-    let has_same_commit = walk.history.commit() == other.end.commit();
-    explain_loop(&walk.flow, &other.flow, line, has_same_commit, out)
+    advise_paths(lines, out)
+}
+
+/// Explains an unreachable statement after one in another line.
+fn explain_unreached<W: Write>(
+    trier: &mut Trier,
+    line: u16,
+    act: &Option<Act>,
+    after: u16,
+    out: &mut W,
+) -> io::Result<()> {
+    writeln!(
+        out,
+        "it can't be reached: the statement in line {after} does not continue to it"
+    )?;
+    if let Some(act) = act {
+        let words = act_words(trier.alloc, *act)?;
+        trier.leave_out(line, words.as_str())?;
+    }
+    if trier.is_at_loss() {
+        return writeln!(out, "hint: leave out the statement in line {line}");
+    }
+    trier.put_hint(out)
 }
 
 /// Explains the refusal at which the walk stops, on the lines after its position.
-fn explain_stop<W: Write>(plan: &Plan, walk: &Walk, stop: &Stop, out: &mut W) -> io::Result<()> {
+fn explain_stop<'x, W: Write>(
+    trier: &mut Trier,
+    plan: &'x Plan,
+    walk: &'x Walk,
+    stop: &Stop,
+    out: &mut W,
+) -> io::Result<()> {
     match stop {
-        Stop::Act { instr, cause, .. } => {
-            explain_instr(plan, &walk.flow, &walk.history, instr, *cause, out)
+        Stop::Act { line, act, cause } => {
+            let refused = Refused {
+                plan,
+                flow: &walk.state.flow,
+                past: walk.past(),
+                instr: instr_of(*act),
+                cause: *cause,
+            };
+            explain_act(trier, &refused, *line, act, out)
         }
-        Stop::Loop { line } => explain_meeting(walk, Some(*line), out),
-        Stop::Ways { .. } => explain_meeting(walk, None, out),
-        Stop::Unreached { after, .. } => writeln!(
-            out,
-            "it can't be reached: the statement in line {after} does not continue to it\nhint: leave it out"
-        ),
+        Stop::Loop { line } => explain_loop_at(trier, plan, walk, *line, out),
+        Stop::Ways { line } => explain_paths_at(trier, walk, *line, out),
+        Stop::Unreached { line, act, after } => explain_unreached(trier, *line, act, *after, out),
         Stop::Long => writeln!(out, "the plan is too long to be explained"),
         Stop::Memory => Ok(()),
     }
@@ -161,48 +214,35 @@ fn stops_in(stop: &Stop, wanted: u16) -> bool {
 
 /// Explains the refusal at which the walk stops, if it is in this line.
 fn explain_path<W: Write>(
+    trier: &mut Trier,
     plan: &Plan,
     path_taken: &PlanPath,
     line: u16,
     out: &mut W,
 ) -> io::Result<()> {
-    if let Some(item) = &path_taken.item {
-        return explain_edit(
-            &path_taken.walk.flow.next,
-            &path_taken.walk.history,
-            &item.edit,
-            item.fault,
-            out,
-        );
-    }
-    if let Some(cause) = path_taken.opening {
-        return explain_begin(plan, &path_taken.walk, cause, out);
-    }
     match &path_taken.stop {
-        Some(stop) => {
-            if stops_in(stop, line) {
-                return explain_stop(plan, &path_taken.walk, stop, out);
-            }
-            writeln!(out, "the plan is refused here")
+        Some(stop) if stops_in(stop, line) => {
+            explain_stop(trier, plan, &path_taken.walk, stop, out)
         }
-        None => writeln!(out, "the plan is refused here"),
+        _ => writeln!(out, "the plan is refused here"),
     }
 }
 
-/// The facts that explain the costs, if these are the cause.
-fn costs_at(
-    alloc: Global,
-    text: &str,
-    script: &Script,
+/// Explains a refusal for costs.
+fn explain_cost_at<W: Write>(
+    trier: &mut Trier,
+    budget: u8,
     line: u16,
-    cause: Cause,
-) -> Result<Option<Costs>, AllocError> {
-    if cause != Cause::Cost {
-        return Ok(None);
+    is_short: bool,
+    out: &mut W,
+) -> io::Result<()> {
+    let costs = costs_of(trier.alloc, &trier.source, budget, line, is_short)?;
+    explain_costs(&costs, out)?;
+    try_costs(trier, &costs)?;
+    if trier.is_at_loss() {
+        return advise_costs(&costs, out);
     }
-    let path_taken = path_to(alloc, script)?;
-    let is_short = path_taken.walk.is_short();
-    Ok(Some(costs_of(alloc, text, script, line, is_short)?))
+    trier.put_hint(out)
 }
 
 /// Explains the cause of a refusal in a line.
@@ -215,22 +255,37 @@ fn explain_cause<W: Write>(
     cause: Cause,
     out: &mut W,
 ) -> io::Result<()> {
-    let Ok(costs) = costs_at(alloc, text, script, line, cause) else {
-        return Err(Error::from(ErrorKind::OutOfMemory));
+    let plan = script.header();
+    let path_taken = path_to(alloc, script)?;
+    let refusal = Refusal::Plan {
+        line,
+        cause,
+        is_defined: path_taken.items.is_none() && line < script.begin_line(),
     };
-    if let Some(costs) = costs {
-        write!(out, "{path}:{line}: ")?;
-        return explain_costs(&costs, out);
-    }
-    let Ok(path_taken) = path_to(alloc, script) else {
-        return Err(Error::from(ErrorKind::OutOfMemory));
-    };
+    let mut trier = Trier::new(alloc, text, refusal)?;
     write!(out, "{path}:{line}: ")?;
-    explain_path(&script.header(), &path_taken, line, out)
+    if cause == Cause::Cost {
+        let is_short = path_taken.walk.is_short();
+        return explain_cost_at(&mut trier, plan.budget, line, is_short, out);
+    }
+    if path_taken.items.is_none() && path_taken.opening.is_none() {
+        return explain_path(&mut trier, &plan, &path_taken, line, out);
+    }
+    explain_first(&plan, &path_taken, out)?;
+    try_first(&mut trier, &plan, &path_taken, line)?;
+    if trier.is_at_loss() {
+        advise_first(&plan, &path_taken, out)?;
+    } else {
+        trier.put_hint(out)?;
+    }
+    put_others(path, script.begin_line(), &path_taken, out)
 }
 
-/// Explains why a script with this text is not compiled: the objects and numbers involved, and a correction. Writes
-/// nothing if the fault is out of memory.
+/// Explains why a script with this text is not compiled: the objects and numbers involved, and a correction; of items,
+/// each that has a fault by itself. Writes nothing if the fault is out of memory.
+///
+/// A correction that is a change of the text was tried: with it the text is not refused in this place, or, where `then it
+/// is accepted` follows, not at all. Other hints are advice.
 ///
 /// # Errors
 ///

@@ -1,12 +1,16 @@
 //! Explains why a text is not a script.
 
 use crate::expected::Expected;
+use crate::further::explain_further;
 use crate::place::{offset_of, put_bytes, show_position, token_at};
 use crate::probe::Front;
-use crate::repair::{is_level, meant_by};
-use script_front::{Position, ScriptFault, lex};
+use crate::repair::{Wrong, is_close, is_level};
+use crate::source::Source;
+use crate::trial::{Refusal, position_of};
+use crate::trier::Trier;
+use script_front::{Position, ScriptFault};
 use std::alloc::{AllocError, Global};
-use std::io::{self, Error, ErrorKind, Write};
+use std::io::{self, Write};
 
 /// Writes the position of a fault; the explanation follows.
 fn put_position<W: Write>(path: &str, position: Position, out: &mut W) -> io::Result<()> {
@@ -50,11 +54,9 @@ fn is_out_of_order(alloc: Global, front: &Front, token: &[u8]) -> Result<bool, A
     Ok(is_header && is_wanted)
 }
 
-/// Corrections for an invalid token.
-#[derive(Drop)]
-struct Mending {
-    /// Another token that is valid in its position.
-    meant: Option<String>,
+/// What is told of an invalid token beside what was tried.
+#[derive(Clone, Copy)]
+struct Advice {
     /// Whether the token is a header keyword out of order.
     is_out_of_order: bool,
     /// Whether the token is a state of a contact that may be either of `closed` and `open`.
@@ -63,91 +65,122 @@ struct Mending {
     open_brace: Option<usize>,
 }
 
-/// Finds the corrections for a token after the front.
-fn mending_of(alloc: Global, front: &Front, token: &[u8]) -> Result<Mending, AllocError> {
-    let is_out_of_order = is_out_of_order(alloc, front, token)?;
-    let is_level = is_level(token) && front.passes(alloc, "closed")?;
-    let meant = if is_out_of_order || is_level {
-        None
-    } else {
-        meant_by(alloc, front, token)?
-    };
-    let open_brace = if token.is_empty() {
-        open_brace(alloc, front.text())?
-    } else {
-        None
-    };
-    Ok(Mending {
-        meant,
-        is_out_of_order,
-        is_level,
-        open_brace,
-    })
-}
-
-/// The line of the last brace of a text that is not closed.
-fn open_brace(alloc: Global, text: &str) -> Result<Option<usize>, AllocError> {
-    let tokens = match lex(alloc, text) {
-        Ok(tokens) => tokens,
-        Err(ScriptFault::Memory) => return Err(AllocError),
-        Err(_fault) => return Ok(None),
-    };
-    let mut closed = 0u32;
-    for token in tokens.as_slice().iter().rev() {
-        match text.get(token.start..token.end) {
-            Some("}") => closed = closed.saturating_add(1),
-            Some("{") if closed == 0 => return Ok(Some(token.position.line)),
-            Some("{") => closed -= 1,
-            _ => {}
-        }
-    }
-    Ok(None)
-}
-
-/// Writes the corrections.
-fn put_mending<W: Write>(mending: &Mending, out: &mut W) -> io::Result<()> {
-    if mending.is_out_of_order {
+/// Advises on an invalid token that is not to be replaced by another one.
+fn advise_token<W: Write>(advice: &Advice, out: &mut W) -> io::Result<()> {
+    if advice.is_out_of_order {
         return out.write_all(
             b"hint: the header's order: 'ensemble', 'mode', which may be left out, 'period', 'notice', 'budget'\n",
         );
     }
-    if mending.is_level {
+    if advice.is_level {
         return out.write_all(
             b"hint: write 'closed' where the input's circuit is closed, 'open' where it is not\n",
         );
     }
-    if let Some(line) = mending.open_brace {
-        return writeln!(out, "hint: the brace opened in line {line} is not closed");
-    }
-    match &mending.meant {
-        Some(token) => writeln!(out, "hint: write '{token}'"),
+    match advice.open_brace {
+        Some(line) => writeln!(out, "hint: the brace opened in line {line} is not closed"),
         None => Ok(()),
     }
 }
 
-/// Explains an invalid token: what is valid, and what may have been meant.
-fn explain_token<W: Write>(
-    alloc: Global,
-    path: &str,
-    text: &str,
-    position: Position,
+/// Tries what may have been meant by an invalid token, and else the only keyword that is expected before it.
+fn try_token(
+    trier: &mut Trier,
+    front: &Front,
+    expected: &Expected,
+    index: usize,
+    token: &[u8],
+) -> Result<(), AllocError> {
+    let Some(spot) = trier.source.spot(index, 1) else {
+        return Ok(());
+    };
+    let wrong = Wrong { front, spot, token };
+    wrong.attempt_all(trier)?;
+    match expected.only_keyword() {
+        Some(keyword) => trier.put_at(spot, keyword),
+        None => Ok(()),
+    }
+}
+
+/// Writes what is expected of the token at a position, and what is found; the text is shown with a caret under it.
+pub(crate) fn put_expected<W: Write>(
+    place: &Faulty,
+    expected: &Expected,
+    after: Option<usize>,
     out: &mut W,
 ) -> io::Result<()> {
-    let front = Front::new(text, position);
-    let Ok(expected) = Expected::at(alloc, &front) else {
-        return Err(Error::from(ErrorKind::OutOfMemory));
-    };
-    let Ok(mending) = mending_of(alloc, &front, token_of(text, position)) else {
-        return Err(Error::from(ErrorKind::OutOfMemory));
-    };
+    let Faulty {
+        path,
+        text,
+        position,
+    } = *place;
     put_position(path, position, out)?;
     out.write_all(b"expected ")?;
     expected.put(out)?;
+    if let Some(line) = after {
+        write!(out, " to go on from line {line}")?;
+    }
     out.write_all(b"; ")?;
     put_found(text, position, "found ", out)?;
     out.write_all(b"\n")?;
-    show_position(text.as_bytes(), position, out)?;
-    put_mending(&mending, out)
+    show_position(text.as_bytes(), position, out)
+}
+
+/// A token at fault: the path of its script, the text, and its position.
+#[derive(Clone, Copy)]
+pub(crate) struct Faulty<'a> {
+    pub(crate) path: &'a str,
+    pub(crate) text: &'a str,
+    pub(crate) position: Position,
+}
+
+/// The line of the token before one at fault, if it is another one, and that token does not end an item or a statement.
+fn line_before(
+    alloc: Global,
+    source: &Source,
+    front: &Front,
+    index: usize,
+    position: Position,
+) -> Result<Option<usize>, AllocError> {
+    if index == 0 || position.line == source.line(index - 1) {
+        return Ok(None);
+    }
+    let is_in_header = match source.index_of("budget") {
+        Some(at) => index <= at.saturating_add(2),
+        None => true,
+    };
+    if is_in_header || Expected::follows_whole(alloc, front)? {
+        return Ok(None);
+    }
+    Ok(Some(source.line(index - 1)))
+}
+
+/// Explains an invalid token: what is valid, and what may have been meant.
+fn explain_token<W: Write>(alloc: Global, place: Faulty, out: &mut W) -> io::Result<()> {
+    let Faulty { text, position, .. } = place;
+    let mut trier = Trier::new(alloc, text, Refusal::Token(position))?;
+    let index = trier.source.count_before(position);
+    let front = Front::new(alloc, &trier.source, index)?;
+    let expected = Expected::at(alloc, &front)?;
+    let after = line_before(alloc, &trier.source, &front, index, position)?;
+    put_expected(&place, &expected, after, out)?;
+    let token = token_of(text, position);
+    let advice = Advice {
+        is_out_of_order: is_out_of_order(alloc, &front, token)?,
+        is_level: is_level(token) && front.passes(alloc, "closed")?,
+        open_brace: if token.is_empty() {
+            trier.source.open_brace()
+        } else {
+            None
+        },
+    };
+    if !advice.is_out_of_order && !advice.is_level {
+        try_token(&mut trier, &front, &expected, index, token)?;
+    }
+    if trier.is_at_loss() {
+        return advise_token(&advice, out);
+    }
+    trier.put_hint(out)
 }
 
 /// Explains a byte that is not allowed in a script.
@@ -173,7 +206,44 @@ fn explain_byte<W: Write>(
     )
 }
 
-/// Explains a name that is already defined, or not yet.
+/// Tries the names of defined blocks that are like an unknown one.
+fn try_names(trier: &mut Trier, position: Position, token: &[u8]) -> Result<(), AllocError> {
+    let count = trier.source.count_before(position);
+    let Some(spot) = trier.source.spot(count, 1) else {
+        return Ok(());
+    };
+    for index in 1..count {
+        let name = trier.source.word(index);
+        let is_name = trier.source.word(index - 1) == "define";
+        if is_name && is_close(name.as_bytes(), token) {
+            trier.write_token(spot, name)?;
+        }
+    }
+    Ok(())
+}
+
+/// Explains a name that is not defined before.
+fn explain_unknown<W: Write>(alloc: Global, place: Faulty, out: &mut W) -> io::Result<()> {
+    let Faulty {
+        path,
+        text,
+        position,
+    } = place;
+    put_position(path, position, out)?;
+    put_found(text, position, "", out)?;
+    out.write_all(b" is not the name of a block that is defined before\n")?;
+    show_position(text.as_bytes(), position, out)?;
+    let mut trier = Trier::new(alloc, text, Refusal::Token(position))?;
+    try_names(&mut trier, position, token_of(text, position))?;
+    if trier.is_at_loss() {
+        return out.write_all(
+            b"hint: 'define' the block above the line that applies it; a block does not apply itself\n",
+        );
+    }
+    trier.put_hint(out)
+}
+
+/// Explains a name that is already defined, or a block too deep.
 fn explain_name<W: Write>(
     path: &str,
     text: &str,
@@ -220,7 +290,11 @@ fn explain_limit<W: Write>(
 }
 
 /// Explains why a text is not a script: the position of the fault, what is valid there and, if one is found, the token
-/// that may have been meant, with the line and a caret under the column. Writes nothing if the fault is out of memory.
+/// that may have been meant, with the line and a caret under the column; and each further number of the header and the
+/// items that is out of range. Writes nothing if the fault is out of memory.
+///
+/// A token that may have been meant was tried: with it the first fault of the text, if it has one, is after it; where
+/// `then it is accepted` follows, `compile` accepts the text.
 ///
 /// # Errors
 ///
@@ -232,10 +306,21 @@ pub fn explain_fault<W: Write>(
     fault: ScriptFault,
     out: &mut W,
 ) -> io::Result<()> {
+    let place = Faulty {
+        path,
+        text,
+        position: match position_of(fault) {
+            Some(position) => position,
+            None => return Ok(()),
+        },
+    };
     match fault {
         ScriptFault::Byte(at) => explain_byte(path, text, at, out),
-        ScriptFault::Number(at) => explain_token(alloc, path, text, at, out),
-        ScriptFault::Expected(at) => explain_token(alloc, path, text, at, out),
+        ScriptFault::Number(_) => {
+            explain_token(alloc, place, out)?;
+            explain_further(alloc, path, text, out)
+        }
+        ScriptFault::Expected(_) => explain_token(alloc, place, out),
         ScriptFault::Depth(at) => explain_name(
             path,
             text,
@@ -252,14 +337,7 @@ pub fn explain_fault<W: Write>(
             "give one of both another name",
             out,
         ),
-        ScriptFault::NameUnknown(at) => explain_name(
-            path,
-            text,
-            at,
-            " is not the name of a block that is defined before",
-            "'define' the block above the line that applies it; a block does not apply itself",
-            out,
-        ),
+        ScriptFault::NameUnknown(_) => explain_unknown(alloc, place, out),
         ScriptFault::Limit(at) => explain_limit(path, text, at, out),
         ScriptFault::Memory => Ok(()),
     }

@@ -33,12 +33,20 @@ pub(crate) fn explain_pending<W: Write>(
     match commit {
         Some(line) => writeln!(
             out,
-            ", by the commit in line {line}; until then the next configuration stays as it is\nhint: 'join' after the commit in line {line}, or 'settle' before this line"
+            ", by the commit in line {line}; until then the next configuration stays as it is"
         ),
-        None => writeln!(
+        None => writeln!(out, "; until then the next configuration stays as it is"),
+    }
+}
+
+/// Advises on an edit or a commit while a swap is or may be pending.
+pub(crate) fn advise_pending<W: Write>(commit: Option<u16>, out: &mut W) -> io::Result<()> {
+    match commit {
+        Some(line) => writeln!(
             out,
-            "; until then the next configuration stays as it is\nhint: 'settle' before this line"
+            "hint: 'join' after the commit in line {line}, or 'settle' before this line"
         ),
+        None => writeln!(out, "hint: 'settle' before this line"),
     }
 }
 
@@ -49,20 +57,35 @@ pub(crate) fn explain_notice<W: Write>(plan: &Plan, delay: Delay, out: &mut W) -
     writeln!(
         out,
         "the swap would come after {delay} frames; the notice is {notice} frames"
-    )?;
+    )
+}
+
+/// Advises on a commit whose delay is shorter than the notice.
+pub(crate) fn advise_notice<W: Write>(plan: &Plan, out: &mut W) -> io::Result<()> {
+    let notice = plan.notice;
     writeln!(out, "hint: 'commit in {notice}' or more")
 }
 
 /// Explains a commit at a count that is not a possible count of a swap.
 pub(crate) fn explain_count<W: Write>(plan: &Plan, count: u16, out: &mut W) -> io::Result<()> {
     let step = plan.layout.mode().step();
-    let notice = plan.notice;
     writeln!(
         out,
         "no swap falls on count {count}: in this mode swaps fall on the multiples of {step} from 0 to 4999"
-    )?;
+    )
+}
+
+/// The last count before this one on which swaps fall.
+pub(crate) fn near_count(plan: &Plan, count: u16) -> u16 {
+    let step = plan.layout.mode().step();
     let count = count % 5000;
-    let near = count.saturating_sub(count % step.max(1));
+    count.saturating_sub(count % step.max(1))
+}
+
+/// Advises on a commit at a count that is not a possible count of a swap.
+pub(crate) fn advise_count<W: Write>(plan: &Plan, count: u16, out: &mut W) -> io::Result<()> {
+    let notice = plan.notice;
+    let near = near_count(plan, count);
     writeln!(
         out,
         "hint: 'commit at {near}', which leaves the whole notice of {notice} frames before it"
@@ -74,12 +97,25 @@ pub(crate) fn explain_join<W: Write>(pending: Swap, out: &mut W) -> io::Result<(
     match pending {
         Swap::Perhaps(_) => writeln!(
             out,
-            "the swap may have come already, so that none is pending\nhint: 'settle' waits for it only where it is still to come"
+            "the swap may have come already, so that none is pending"
         ),
         Swap::Idle | Swap::Within(_, _) => writeln!(
             out,
-            "no swap is pending here, so that there is none to wait for\nhint: leave it out, or 'commit' before it"
+            "no swap is pending here, so that there is none to wait for"
         ),
+    }
+}
+
+/// Advises on a `join` without a pending swap, or where there may be none.
+pub(crate) fn advise_join<W: Write>(pending: Swap, out: &mut W) -> io::Result<()> {
+    match pending {
+        Swap::Perhaps(_) => writeln!(
+            out,
+            "hint: 'settle' waits for it only where it is still to come"
+        ),
+        Swap::Idle | Swap::Within(_, _) => {
+            writeln!(out, "hint: leave it out, or 'commit' before it")
+        }
     }
 }
 
@@ -99,9 +135,16 @@ pub(crate) fn explain_wait<W: Write>(
         "after {frames} frames the swap has come or not, as the count allows: it comes after {low} to {high} frames"
     )?;
     match commit {
-        Some(line) => writeln!(out, ", by the commit in line {line}")?,
-        None => writeln!(out)?,
+        Some(line) => writeln!(out, ", by the commit in line {line}"),
+        None => writeln!(out),
     }
+}
+
+/// Advises on a wait that may end before the swap or after it.
+pub(crate) fn advise_wait<W: Write>(pending: Swap, out: &mut W) -> io::Result<()> {
+    let Swap::Within(low, high) = pending else {
+        return Ok(());
+    };
     let shorter = low.saturating_sub(1);
     if shorter == 0 {
         return writeln!(out, "hint: 'wait {high}' or more, or 'join'");
@@ -116,6 +159,11 @@ pub(crate) fn explain_wait<W: Write>(
 pub(crate) fn explain_no_change<W: Write>(out: &mut W) -> io::Result<()> {
     writeln!(
         out,
-        "nothing differs: the next configuration is the current one\nhint: leave the commit out, or edit before it"
+        "nothing differs: the next configuration is the current one"
     )
+}
+
+/// Advises on a commit of a configuration equal to the current one.
+pub(crate) fn advise_no_change<W: Write>(out: &mut W) -> io::Result<()> {
+    writeln!(out, "hint: leave the commit out, or edit before it")
 }

@@ -1,11 +1,11 @@
 //! Walks through a script up to the refused statement, with the transfer function of plans.
 
-use crate::history::{History, PathEnd};
-use mux_config::{Config, Store};
-use plan_code::{Instr, Plan, Swap};
-use plan_flow::{Cause, Flow};
+use crate::history::{History, Past};
+use crate::state::PathState;
+use plan_code::Plan;
+use plan_flow::Cause;
 use script_compiler::instr_of;
-use script_front::Statement;
+use script_front::{Act, Statement};
 use std::alloc::{AllocError, Global};
 
 /// The most statements in a walk: more than any code has instructions.
@@ -21,7 +21,7 @@ pub(crate) enum Stop {
     /// A statement without a block is refused.
     Act {
         line: u16,
-        instr: Instr,
+        act: Act,
         cause: Cause,
     },
     /// The body of a loop does not restore the state at its beginning.
@@ -35,6 +35,8 @@ pub(crate) enum Stop {
     /// A statement is unreachable, after one in this other line.
     Unreached {
         line: u16,
+        /// The statement, if it is one without a block.
+        act: Option<Act>,
         after: u16,
     },
     /// There are too many statements.
@@ -49,43 +51,20 @@ impl From<AllocError> for Stop {
     }
 }
 
-/// What is known at a statement, and the path to it.
-#[derive(Drop)]
-pub(crate) struct Saved {
-    /// What is known of the configurations and the swap.
-    pub(crate) flow: Flow<Config>,
-    /// What was executed on the path.
-    pub(crate) end: PathEnd,
-}
-
-/// What is known at a statement, and what was executed before it.
+/// A walk: what is known at a statement, and what was executed before it.
 #[derive(Drop)]
 pub(crate) struct Walk {
-    /// What is known of the configurations and the swap.
-    pub(crate) flow: Flow<Config>,
-    /// What was executed on the path so far.
+    /// What is known here.
+    pub(crate) state: PathState,
+    /// The steps of all paths so far.
     pub(crate) history: History,
     /// What is known at the entry of each enclosing loop or branch, or at the end of its first branch.
-    saved: Vec<Saved>,
+    saved: Vec<PathState>,
     /// The other path, where two can't be merged: the beginning of a loop, or the path past an `if` or through its
     /// first block.
-    pub(crate) other: Option<Saved>,
+    pub(crate) other: Option<PathState>,
     /// The number of statements that may still be visited.
     left: u32,
-}
-
-/// A copy of a configuration.
-pub(crate) fn copied(config: &Config) -> Config {
-    Config::from_config(config)
-}
-
-/// A copy of what is known.
-fn same_flow(flow: &Flow<Config>) -> Flow<Config> {
-    Flow {
-        current: copied(&flow.current),
-        next: copied(&flow.next),
-        pending: flow.pending,
-    }
 }
 
 /// The line of a statement's first token.
@@ -101,6 +80,14 @@ fn line_of(statement: &Statement) -> u16 {
     }
 }
 
+/// A statement without a block.
+fn act_of(statement: &Statement) -> Option<Act> {
+    if let Statement::Act { act, .. } = statement {
+        return Some(*act);
+    }
+    None
+}
+
 impl Walk {
     /// Whether so few statements were visited that no path without a loop has more than 255 instructions: a statement
     /// has at most two.
@@ -108,14 +95,10 @@ impl Walk {
         self.left >= MOST - 120
     }
 
-    /// The start of a walk, at this opening.
-    pub(crate) fn new(alloc: Global, opening: &Config, history: History) -> Walk {
+    /// The start of a walk.
+    pub(crate) fn new(alloc: Global, state: PathState, history: History) -> Walk {
         Walk {
-            flow: Flow {
-                current: copied(opening),
-                next: copied(opening),
-                pending: Swap::Idle,
-            },
+            state,
             history,
             saved: Vec::new(alloc),
             other: None,
@@ -123,25 +106,27 @@ impl Walk {
         }
     }
 
+    /// What was executed on the path so far.
+    pub(crate) fn past(&self) -> Past {
+        self.history.past(self.state.end)
+    }
+
     /// Executes one instruction; if refused, nothing changes.
-    pub(crate) fn step(&mut self, plan: &Plan, line: u16, instr: &Instr) -> Result<(), Stop> {
-        if let Err(cause) = self.flow.apply(plan, *instr) {
-            return Err(Stop::Act {
-                line,
-                instr: *instr,
-                cause,
-            });
-        }
-        self.history.push(line, *instr)?;
-        Ok(())
+    fn step(&mut self, plan: &Plan, line: u16, act: &Act) -> Result<(), Stop> {
+        let instr = instr_of(*act);
+        let Some(cause) = self.state.pass(plan, &mut self.history, line, &instr)? else {
+            return Ok(());
+        };
+        Err(Stop::Act {
+            line,
+            act: *act,
+            cause,
+        })
     }
 
     /// Saves what is known here.
     fn save(&mut self) -> Result<(), Stop> {
-        let kept = Saved {
-            flow: same_flow(&self.flow),
-            end: self.history.end(),
-        };
+        let kept = self.state.copied();
         match self.saved.push(kept) {
             Ok(()) => Ok(()),
             Err(_full) => Err(Stop::Memory),
@@ -149,32 +134,20 @@ impl Walk {
     }
 
     /// Removes and returns what was saved last.
-    fn restore(&mut self) -> Result<Saved, Stop> {
+    fn restore(&mut self) -> Result<PathState, Stop> {
         match self.saved.pop() {
             Some(saved) => Ok(saved),
             None => Err(Stop::Long),
         }
     }
 
-    /// Changes to another path.
-    fn change_to(&mut self, other: Saved) {
-        self.history.return_to(other.end);
-        self.flow = other.flow;
-    }
-
     /// Merges this path with another one; this one may be unreachable.
-    fn join(&mut self, falls: bool, line: u16, other: Saved) -> Result<(), Stop> {
+    fn join(&mut self, falls: bool, line: u16, other: PathState) -> Result<(), Stop> {
         if !falls {
-            self.change_to(other);
+            self.state = other;
             return Ok(());
         }
-        let pending = self.flow.pending;
-        if self.flow.meet(&other.flow) {
-            let end = self
-                .history
-                .end()
-                .merged(pending, &other.end, other.flow.pending);
-            self.history.return_to(end);
+        if self.state.meet(&mut self.history, &other)? {
             return Ok(());
         }
         self.other = Some(other);
@@ -189,6 +162,7 @@ impl Walk {
         }
         let beginning = &entry.flow;
         if self
+            .state
             .flow
             .fits(&beginning.current, &beginning.next, beginning.pending)
         {
@@ -222,7 +196,11 @@ impl Walk {
         for statement in statements {
             let line = line_of(statement);
             if !falls {
-                return Err(Stop::Unreached { line, after });
+                return Err(Stop::Unreached {
+                    line,
+                    act: act_of(statement),
+                    after,
+                });
             }
             falls = match self.statement(plan, blocks, depth, statement) {
                 Ok(falls) => falls,
@@ -250,7 +228,7 @@ impl Walk {
         }
         self.left -= 1;
         match statement {
-            Statement::Act { line, act } => match self.step(plan, *line, &instr_of(*act)) {
+            Statement::Act { line, act } => match self.step(plan, *line, act) {
                 Ok(()) => Ok(true),
                 Err(stop) => Err(stop),
             },
@@ -347,7 +325,7 @@ impl Walk {
     fn begin_else(&mut self) -> Result<(), Stop> {
         let entry = self.restore()?;
         self.save()?;
-        self.change_to(entry);
+        self.state = entry;
         Ok(())
     }
 

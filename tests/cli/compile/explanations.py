@@ -46,9 +46,9 @@ def faults(rows):
          "    sub 1 at 0 eep 3-a 128", "                   ^", "hint: write '3-A'"),
         (after("until 06:00"), "7:7: Number",
          "x.plan:7:7: expected a time HH:MM:SS, 00:00:00 to 23:59:59; found '06:00'",
-         "    until 06:00", "          ^", "hint: write '06:00:00'"),
+         "    until 06:00", "          ^", "hint: write '06:00:00'; then it is accepted"),
         (after("rate sub 01 96"), "7:10: Number", "x.plan:7:10: expected a SubChId, 0 to 63; found '01'",
-         "    rate sub 01 96", "             ^", "hint: write '1'"),
+         "    rate sub 01 96", "             ^", "hint: write '1'; then it is accepted"),
         (after("wait 70000"), "7:6: Number", "x.plan:7:6: expected a number of frames, 1 to 65535 or 'contact'; found '70000'",
          "    wait 70000", "         ^"),
         ("ensemble E1C5\nnotice 240 period 4 budget 20\nbegin\n", "2:1: Expected",
@@ -83,6 +83,13 @@ def faults(rows):
         (after("apply night"), "7:7: NameUnknown", "x.plan:7:7: 'night' is not the name of a block that is defined before",
          "    apply night", "          ^",
          "hint: 'define' the block above the line that applies it; a block does not apply itself"),
+        (f"{HEAD}define night {{ wait 1 }}\nbegin\napply nigth\n", "8:7: NameUnknown",
+         "x.plan:8:7: 'nigth' is not the name of a block that is defined before", "    apply nigth", "          ^",
+         "hint: write 'night'; then it is accepted"),
+        (HEAD.replace("notice 240", "240") + "begin\n", "2:10: Expected", "x.plan:2:10: expected 'notice'; found '240'",
+         "    period 4 240 budget 20", "             ^", "hint: put 'notice' before '240' in line 2; then it is accepted"),
+        (after("wait contact 5\nwait 1"), "8:1: Expected",
+         "x.plan:8:1: expected 'closed' or 'open' to go on from line 7; found 'wait'", "    wait 1", "    ^"),
         (f"{HEAD}define a {{ wait 1 }}\ndefine a {{ wait 2 }}\nbegin\n", "7:8: NameUsed",
          "x.plan:7:8: 'a' is the name of a block that is defined before", "    define a { wait 2 }", "           ^",
          "hint: give one of both another name"),
@@ -100,43 +107,50 @@ def edits(rows):
     """Edits that are refused."""
     components = "".join(f"sub {i} at {90 + 6 * i} eep 3-A 8\n" for i in range(2, 14))
     components += "".join(f"data 5 sub {i} in C221\n" for i in range(2, 14))
-    services = "".join(f"service D{i:03X}\n" for i in range(64))
+    subs = "".join(f"sub {i} at {4 * i} eep 4-A 8\n" for i in range(64))
+    services = subs + "".join(f"service D{i:03X}\naudio 63 sub {i} in D{i:03X}\n" for i in range(63))
     for script, first, *rest in (
         (after("sub 1 at 200 eep 3-A 64"), "refused line 7: Edit IdUsed",
          "x.plan:7: sub 1 at 0 eep 3-A 128 is there already; line 3 added it",
-         "hint: 'drop' it first, or take another number"),
+         "hint: put 'drop sub 1' before line 7; then it is accepted"),
         (after("drop component sub 1 in C221\ndrop sub 1\nrate sub 1 96"), "refused line 9: Edit IdAbsent",
-         "x.plan:9: sub 1 is not there; line 8 dropped it", "hint: there is no sub-channel"),
+         "x.plan:9: sub 1 is not there; line 8 dropped it"),
         (after("rate sub 2 96"), "refused line 7: Edit IdAbsent",
-         "x.plan:7: sub 2 is not there", "hint: the sub-channels there are 1"),
+         "x.plan:7: sub 2 is not there; the sub-channels there are 1",
+         "hint: write 'rate sub 1 96' in place of 'rate sub 2 96' in line 7; then it is accepted"),
         (after("drop component sub 1 in C221\ndrop component sub 1 in C221"), "refused line 8: Edit IdAbsent",
          "x.plan:8: service C221 (no component) has no component on sub 1; line 7 dropped it",
-         "hint: there is no component in it"),
+         "hint: leave out 'drop component sub 1 in C221' in line 8; then it is accepted"),
         (after("drop component sub 2 in C221"), "refused line 7: Edit IdAbsent",
-         "x.plan:7: service C221 (audio 63 sub 1) has no component on sub 2", "hint: name one that it has"),
+         "x.plan:7: service C221 (audio 63 sub 1) has no component on sub 2",
+         "hint: leave out 'drop component sub 2 in C221' in line 7; then it is accepted"),
         (after("drop service C222"), "refused line 7: Edit IdAbsent",
-         "x.plan:7: service C222 is not there", "hint: the services there are C221"),
+         "x.plan:7: service C222 is not there; the services there are C221",
+         "hint: leave out 'drop service C222' in line 7; then it is accepted"),
         (after("drop component sub 1 in C222"), "refused line 7: Edit IdAbsent",
-         "x.plan:7: service C222 is not there", "hint: the services there are C221"),
+         "x.plan:7: service C222 is not there; the services there are C221",
+         "hint: leave out 'drop component sub 1 in C222' in line 7; then it is accepted"),
         (after("data 5 sub 1 in C222"), "refused line 7: Edit IdAbsent",
-         "x.plan:7: service C222 is not there", "hint: add it first, as 'service C222' does"),
+         "x.plan:7: service C222 is not there; the services there are C221",
+         "hint: put 'service C222' before line 7; then it is accepted"),
         (after("move sub 1 at 800"), "refused line 7: Edit PastEnd",
          "x.plan:7: sub 1 at 800 eep 3-A 128 has 96 CU, so CU 800 to 895; the last one is 863",
-         "hint: it can begin at 768 at most; where its start and its rate change, 'move' before a rate that grows"),
+         "hint: write 'move sub 1 at 768' in place of 'move sub 1 at 800' in line 7; then it is accepted"),
         (after("rate sub 1 100"), "refused line 7: Edit BadRate",
-         "x.plan:7: a rate of 100 kbit/s is no multiple of 8, as those of the profile are", "hint: 96 and 104 are"),
+         "x.plan:7: a rate of 100 kbit/s is no multiple of 8, as those of the profile are",
+         "hint: write 'rate sub 1 96' in place of 'rate sub 1 100' in line 7; then it is accepted"),
         (after("rate sub 1 0"), "refused line 7: Edit BadRate",
          "x.plan:7: a rate of 0 kbit/s has no size", "hint: 'drop sub' takes a sub-channel away"),
         (after("rate sub 1 2000"), "refused line 7: Edit BadRate",
          "x.plan:7: 2000 kbit/s at 3-A would take 1500 CU; a multiplex has 864",
-         "hint: 1152 kbit/s is the most at this profile"),
+         "hint: write 'rate sub 1 1152' in place of 'rate sub 1 2000' in line 7; then it is accepted"),
         (after("packet 7 groups type 60 sub 1 address 0"), "refused line 7: Edit BadAddress",
          "x.plan:7: 0 is no packet address", "hint: packet addresses are 1 to 1023"),
         (f"{HEAD}{components}begin\n", "refused line 29: Edit TooManyComponents",
          "x.plan:29: service C221 has 12 components; one with such an SId has 12 at most",
          "hint: put some of them into another service"),
-        (f"{HEAD}{services}begin\n", "refused line 69: Edit TableFull",
-         "x.plan:69: there are 64 services, the most of a configuration", "hint: 'drop' one first"),
+        (f"{HEAD[:44]}{services}service E001\naudio 63 sub 63 in E001\nservice E002\nbegin\n", "refused line 195: Edit TableFull",
+         "x.plan:195: there are 64 services, the most of a configuration", "hint: 'drop' one first"),
     ):
         explained(rows, script, first, *rest)
 
@@ -148,22 +162,22 @@ def configurations(rows):
         (after("sub 2 at 90 eep 3-A 64\nservice C222\naudio 63 sub 2 in C222\ncommit in 250"),
          "refused line 10: Config Overlap 1 2",
          "x.plan:10: sub 1 at 0 eep 3-A 128 has CU 0 to 95, sub 2 at 90 eep 3-A 64 has CU 90 to 137: they share CU 90 to 95",
-         "hint: sub 2 has room at 96"),
+         "hint: write 'sub 2 at 96 eep 3-A 64' in place of 'sub 2 at 90 eep 3-A 64' in line 7; then it is accepted"),
         (after("drop sub 1\ncommit in 250"), "refused line 8: Config Orphan",
          "x.plan:8: service C221 has a component on sub 1, which is not there; line 7 dropped it",
-         "hint: 'drop service C221' as well, which has no other component; or 'drop component sub 1 in C221' and give it"
-         " another one; or add what it names"),
+         "hint: put 'drop service C221' before line 8; then it is accepted"),
         (after("sub 2 at 96 eep 3-A 8\ndata 5 sub 2 in C221\ndrop sub 1\ncommit in 250"), "refused line 10: Config Orphan",
          "x.plan:10: service C221 has a component on sub 1, which is not there; line 9 dropped it",
-         "hint: 'drop component sub 1 in C221' as well, or add what it names"),
+         "hint: put 'drop component sub 1 in C221' before line 10; then it is accepted"),
         (after(f"{packets}commit in 250"), "refused line 9: Config AddressUsed",
          "x.plan:9: packet 7 groups type 60 sub 1 address 9 and packet 8 raw type 60 sub 1 address 9 have one address on one"
          " sub-channel",
-         "hint: give one of them another address, 1 to 1023"),
+         "hint: write 'packet 8 raw type 60 sub 1 address 1' in place of 'packet 8 raw type 60 sub 1 address 9' in line 8;"
+         " then it is accepted"),
         (after("service C222\ncommit in 250"), "refused line 8: Config EmptyService",
          "x.plan:8: service C222 has no component", "hint: 'drop service C222', or add a component"),
         (f"{HEAD}service C222\nbegin\n", "refused line 7: Config EmptyService",
-         "x.plan:7: service C222 has no component", "hint: 'drop service C222', or add a component"),
+         "x.plan:7: service C222 has no component", "hint: leave out 'service C222' in line 6; then it is accepted"),
     ):
         explained(rows, script, first, *rest)
 
@@ -174,26 +188,31 @@ def swaps(rows):
         (after("rate sub 1 96\ncommit in 250\nrate sub 1 128"), "refused line 9: Pending",
          "x.plan:9: a swap is pending that comes after 250 to 253 frames, by the commit in line 8; until then the next"
          " configuration stays as it is",
-         "hint: 'join' after the commit in line 8, or 'settle' before this line"),
+         "hint: put 'join' before line 9; then it is accepted"),
+        (after("rate sub 1 96; commit in 250; rate sub 1 128"), "refused line 7: Pending",
+         "x.plan:7: a swap is pending that comes after 250 to 253 frames, by the commit in line 7; until then the next"
+         " configuration stays as it is",
+         "hint: put 'join' before 'rate sub 1 128' in line 7; then it is accepted"),
         (after("rate sub 1 96\ncommit in 250\nwait contact 3 closed\nrate sub 1 128"), "refused line 10: Pending",
          "x.plan:10: a swap may be pending, that comes after 252 frames at most, by the commit in line 8; until then the next"
          " configuration stays as it is",
-         "hint: 'join' after the commit in line 8, or 'settle' before this line"),
+         "hint: put 'settle' before line 10; then it is accepted"),
         (after("commit in 250"), "refused line 7: NoChange",
          "x.plan:7: nothing differs: the next configuration is the current one",
-         "hint: leave the commit out, or edit before it"),
+         "hint: leave out 'commit in 250' in line 7; then it is accepted"),
         (after("rate sub 1 96\ncommit in 100"), "refused line 8: Notice",
-         "x.plan:8: the swap would come after 100 frames; the notice is 240 frames", "hint: 'commit in 240' or more"),
+         "x.plan:8: the swap would come after 100 frames; the notice is 240 frames",
+         "hint: write 'commit in 240' in place of 'commit in 100' in line 8; then it is accepted"),
         (after("rate sub 1 96\ncommit at 4001"), "refused line 8: Count",
          "x.plan:8: no swap falls on count 4001: in this mode swaps fall on the multiples of 4 from 0 to 4999",
-         "hint: 'commit at 4000', which leaves the whole notice of 240 frames before it"),
+         "hint: write 'commit at 4000' in place of 'commit at 4001' in line 8; then it is accepted"),
         (after("join"), "refused line 7: JoinIdle",
          "x.plan:7: no swap is pending here, so that there is none to wait for",
-         "hint: leave it out, or 'commit' before it"),
+         "hint: leave out 'join' in line 7; then it is accepted"),
         (after("rate sub 1 96\ncommit in 250\nwait 251"), "refused line 9: SwapUncertain",
          "x.plan:9: after 251 frames the swap has come or not, as the count allows: it comes after 250 to 253 frames, by the"
          " commit in line 8",
-         "hint: 'wait 249' or less, 'wait 253' or more, or 'join'"),
+         "hint: write 'wait 253' in place of 'wait 251' in line 9; then it is accepted"),
     ):
         explained(rows, script, first, *rest)
 
@@ -204,17 +223,18 @@ def ways(rows):
         (after("forever {\n  wait 100\n  rate sub 1 96\n  commit in 250\n  join\n}"), "refused line 7: Mismatch",
          "x.plan:7: the loop does not come back as it began: in the current configuration sub 1 at 0 eep 3-A 96 at its end,"
          " sub 1 at 0 eep 3-A 128 at its beginning",
-         "hint: undo in the loop what it did, then 'commit' and 'join'; or do it before the loop"),
+         "hint: put 'rate sub 1 128; commit in 240; join' before line 12; then it is accepted"),
         (after("forever {\n  wait 100\n  rate sub 1 96\n  commit in 250\n}"), "refused line 7: Mismatch",
          "x.plan:7: the loop does not come back as it began: a swap is pending that comes after 250 to 253 frames at its end;"
          " no swap is pending at its beginning",
-         "hint: 'join' at the end of the loop, or 'settle' where the swap may have come"),
+         "hint: put 'join; rate sub 1 128; commit in 240; join' before line 11; then it is accepted"),
         (after("if contact 3 {\n  rate sub 1 96\n}\nwait 5"), "refused line 7: Mismatch",
          "x.plan:7: the two paths through the 'if' differ: in the next configuration sub 1 at 0 eep 3-A 96 on one path, sub 1 at"
          " 0 eep 3-A 128 on the other",
-         "hint: leave both branches with the same configurations, 'commit' and 'join' included"),
+         "hint: leave both ways through lines 7 to 9 with the same configurations, 'commit' and 'join' included"),
         (after("end\nwait 5"), "refused line 8: Table",
-         "x.plan:8: it can't be reached: the statement in line 7 does not continue to it", "hint: leave it out"),
+         "x.plan:8: it can't be reached: the statement in line 7 does not continue to it",
+         "hint: leave out 'wait 5' in line 8; then it is accepted"),
     ):
         explained(rows, script, first, *rest)
 
@@ -223,25 +243,32 @@ def branches(rows):
     """Refusals behind an `if`: what is told was done on the path to the refused line, and not in the other branch."""
     pending = "rate sub 1 96\ncommit in 250\nif contact 3 {\n  join\n  rate sub 1 128\n  commit in 250\n"
     swap = "a swap is pending that comes after 250 to 253 frames, by the commit in line 8; until then the next configuration"
-    hint = "hint: 'join' after the commit in line 8, or 'settle' before this line"
     two = f"{HEAD}sub 2 at 200 eep 3-A 64\n"
     for script, first, *rest in (
         (after(pending + "} else {\n  rate sub 1 80\n}"), "refused line 14: Pending",
-         f"x.plan:14: {swap} stays as it is", hint),
+         f"x.plan:14: {swap} stays as it is", "hint: put 'join' before line 14"),
         (after(pending + "  end\n}\nrate sub 1 80"), "refused line 15: Pending",
-         f"x.plan:15: {swap} stays as it is", hint),
+         f"x.plan:15: {swap} stays as it is", "hint: put 'join' before line 15; then it is accepted"),
         (after(pending + "  join\n  end\n}\nrate sub 1 80"), "refused line 16: Pending",
-         f"x.plan:16: {swap} stays as it is", hint),
+         f"x.plan:16: {swap} stays as it is", "hint: put 'join' before line 16; then it is accepted"),
         (after("if contact 3 {\n  rate sub 1 96\n  commit in 250\n} else {\n  rate sub 1 96\n  commit in 250\n}\nrate sub 1 80"),
          "refused line 14: Pending",
          "x.plan:14: a swap is pending that comes after 250 to 253 frames; until then the next configuration stays as it is",
-         "hint: 'settle' before this line"),
+         "hint: put 'join' before line 14; then it is accepted"),
         (after("if contact 3 {\n  sub 2 at 200 eep 3-A 64\n  drop sub 2\n} else {\n  drop sub 2\n}"),
-         "refused line 11: Edit IdAbsent", "x.plan:11: sub 2 is not there", "hint: the sub-channels there are 1"),
+         "refused line 11: Edit IdAbsent", "x.plan:11: sub 2 is not there; the sub-channels there are 1",
+         "hint: leave out 'drop sub 2' in line 11; then it is accepted"),
         (after("if contact 3 {\n  drop sub 2\n  sub 2 at 200 eep 3-A 64\n} else {\n  sub 2 at 300 eep 3-A 64\n}", two),
          "refused line 12: Edit IdUsed",
          "x.plan:12: sub 2 at 200 eep 3-A 64 is there already; line 6 added it",
-         "hint: 'drop' it first, or take another number"),
+         "hint: put 'drop sub 2' before line 12"),
+        (after("if contact 3 {\n  sub 2 at 200 eep 3-A 64\n  drop sub 2\n}\ndrop sub 2"), "refused line 11: Edit IdAbsent",
+         "x.plan:11: sub 2 is not there; line 9 dropped it on one path",
+         "hint: leave out 'drop sub 2' in line 11; then it is accepted"),
+        (after("if contact 3 {\n  drop sub 2\n  sub 2 at 200 eep 3-A 64\n}\nsub 2 at 200 eep 3-A 64", two),
+         "refused line 12: Edit IdUsed",
+         "x.plan:12: sub 2 at 200 eep 3-A 64 is there already; line 10 added it on one path",
+         "hint: leave out 'sub 2 at 200 eep 3-A 64' in line 12; then it is accepted"),
     ):
         explained(rows, script, first, *rest)
 
@@ -249,14 +276,14 @@ def branches(rows):
 def loops(rows):
     """Loops that begin with a swap pending, and iterations without a wait."""
     entered = "rate sub 1 96\ncommit in 250\nforever {\n  wait 1\n"
-    hint = "hint: 'join' or 'settle' before line 9: the loop would begin with no swap pending"
+    hint = "hint: put 'join' before line 9; then it is accepted"
     for script, first, *rest in (
         (after(entered + "}"), "refused line 9: Mismatch",
          "x.plan:9: the loop does not come back as it began: a swap is pending that comes after 249 to 252 frames at its end; a"
          " swap is pending that comes after 250 to 253 frames at its beginning", hint),
         (after(entered + "  join\n}"), "refused line 9: Mismatch",
          "x.plan:9: the loop does not come back as it began: no swap is pending at its end; a swap is pending that comes after"
-         " 250 to 253 frames at its beginning", hint),
+         " 250 to 253 frames at its beginning", "hint: put 'join' before line 9"),
         (after(entered + "  settle\n}"), "refused line 9: Mismatch",
          "x.plan:9: the loop does not come back as it began: no swap is pending at its end; a swap is pending that comes after"
          " 250 to 253 frames at its beginning", hint),
@@ -264,13 +291,13 @@ def loops(rows):
          "refused line 9: Mismatch",
          "x.plan:9: the loop does not come back as it began: a swap is pending that comes after 239 to 242 frames at its end; a"
          " swap is pending that comes after 250 to 253 frames at its beginning",
-         "hint: 'join' or 'settle' before line 9, and 'settle' at the end of the loop: no swap would be pending at either"),
+         "hint: put 'join' before line 9"),
         (after("repeat 2 {\n  move sub 1 at 200\n  move sub 1 at 0\n}"), "refused line 7: Cost",
          "x.plan:7: an iteration of the loop of lines 7 to 10 can run without a wait: that is refused, however few iterations it"
-         " has", "hint: a 'wait 1' in the loop, on each path through it"),
+         " has", "hint: put 'wait 1' before line 10; then it is accepted"),
         (after("forever {\n  if contact 3 {\n    wait 1\n    wait 2\n  }\n}"), "refused line 7: Cost",
          "x.plan:7: the loop of lines 7 to 12 can repeat without a wait, so that its instructions in one frame have no bound",
-         "hint: a 'wait 1' in the loop, on each path through it"),
+         "hint: put 'wait 1' before line 12; then it is accepted"),
     ):
         explained(rows, script, first, *rest)
 
@@ -282,17 +309,38 @@ def costs(rows):
     long = after(f"wait 100\nrate sub 1 96\n{moves}commit in 250\njoin", HEAD.replace("budget 20", "budget 6"))
     for script, first, *rest in (
         (long, "refused line 8: Cost", "x.plan:8: the longest path runs 8 instructions in one frame; the budget is 6",
-         "hint: a budget of 8, or a 'wait 1' between the instructions that follow this line"),
+         "hint: write 'budget 8' in place of 'budget 6' in line 2; then it is accepted"),
         (after("forever {\n  if contact 3 { wait 1 }\n}"), "refused line 7: Cost",
          "x.plan:7: the loop of lines 7 to 9 can repeat without a wait, so that its instructions in one frame have no bound",
-         "hint: a 'wait 1' in the loop, on each path through it"),
+         "hint: put 'wait 1' before line 9; then it is accepted"),
         (HEAD.replace("period 4", "period 1") + f"{many}begin\n", "refused line 90: Round",
          "x.plan:90: the configuration takes 4 pages, a frame each; the period is 1 frames",
-         "hint: a period of 4, or fewer entries"),
+         "hint: write 'period 4' in place of 'period 1' in line 2; then it is accepted"),
         (HEAD.replace("notice 240", "notice 12") + f"{many}begin\nrate sub 1 96\ncommit in 250", "refused line 92: Round",
          "x.plan:92: the current configuration takes 4 pages, a frame each, the next 4, and both together, in the notice, 8;"
          " the period is 4 frames and the notice 12",
-         "hint: a period of 8 or more, and a notice of 24 or more, which is three times both; or fewer entries"),
+         "hint: write 'period 8' in place of 'period 4' in line 2, and write 'notice 24' in place of 'notice 12' in line 2;"
+         " then it is accepted"),
+    ):
+        explained(rows, script, first, *rest)
+
+
+def further(rows):
+    """Further faults of the header and of the items, each with its own line."""
+    for script, first, *rest in (
+        ("ensemble E1C5\nperiod 4 notice 240 budget 20\nsub 70 at 0 eep 3-A 128\nsub 2 at 1100 eep 3-A 64\nbegin\n", "3:5: Number",
+         "x.plan:3:5: expected a SubChId, 0 to 63; found '70'", "    sub 70 at 0 eep 3-A 128", "        ^",
+         "x.plan:4:10: expected a start address in capacity units, 0 to 1023; found '1100'", "    sub 2 at 1100 eep 3-A 64", "             ^"),
+        (f"{HEAD}sub 1 at 200 eep 3-A 64\nsub 3 at 300 eep 3-A 100\nservice C333\nbegin\n", "refused line 6: Edit IdUsed",
+         "x.plan:6: sub 1 at 0 eep 3-A 128 is there already; line 3 added it",
+         "hint: write 'sub 0 at 200 eep 3-A 64' in place of 'sub 1 at 200 eep 3-A 64' in line 6",
+         "x.plan:7: a rate of 100 kbit/s is no multiple of 8, as those of the profile are", "x.plan:8: service C333 has no component"),
+        (f"{HEAD}sub 2 at 90 eep 3-A 64\nsub 3 at 100 eep 3-A 64\naudio 63 sub 2 in C221\naudio 63 sub 3 in C221\naudio 63 sub 4 in C221\n"
+         "begin\n", "refused line 11: Config Overlap 1 2",
+         "x.plan:11: sub 1 at 0 eep 3-A 128 has CU 0 to 95, sub 2 at 90 eep 3-A 64 has CU 90 to 137: they share CU 90 to 95",
+         "hint: sub 2 has room at 148",
+         "x.plan:7: sub 2 at 90 eep 3-A 64 has CU 90 to 137, sub 3 at 100 eep 3-A 64 has CU 100 to 147: they share CU 100 to 137",
+         "x.plan:10: service C221 has a component on sub 4, which is not there"),
     ):
         explained(rows, script, first, *rest)
 
@@ -339,22 +387,21 @@ def first_mistakes(rows):
         (without("night_rate.plan", "join"), "refused line 12: Pending",
          "x.plan:12: a swap may be pending, that comes after 252 frames at most, by the commit in line 10; until then the next"
          " configuration stays as it is",
-         "hint: 'join' after the commit in line 10, or 'settle' before this line"),
+         "hint: put 'settle' before line 12; then it is accepted"),
         (without("part_time_service.plan", "drop service"), "refused line 15: Config Orphan",
          "x.plan:15: service C223 has a component on sub 2, which is not there; line 14 dropped it",
-         "hint: 'drop service C223' as well, which has no other component; or 'drop component sub 2 in C223' and give it"
-         " another one; or add what it names"),
+         "hint: put 'drop service C223' before line 15; then it is accepted"),
         (night.replace("period 4 notice 240", "notice 240 period 4"), "2:1: Expected",
          "x.plan:2:1: expected 'mode' or 'period'; found 'notice'", "    notice 240 period 4 budget 20", "    ^", ORDER),
         (night.replace("05:59:54", "06:00"), "12:9: Number",
          "x.plan:12:9: expected a time HH:MM:SS, 00:00:00 to 23:59:59; found '06:00'",
-         "      until 06:00", "            ^", "hint: write '06:00:00'"),
+         "      until 06:00", "            ^", "hint: write '06:00:00'; then it is accepted"),
         (without("regional_opt_out.plan", "wait contact 3 open", 5), "refused line 7: Mismatch",
          "x.plan:7: the loop does not come back as it began: in the current configuration sub 2 at 96 eep 3-A 128 at its end,"
          " no sub 2 at its beginning",
-         "hint: undo in the loop what it did, then 'commit' and 'join'; or do it before the loop"),
+         "hint: undo before line 14 what the loop did, then 'commit' and 'join'; or do it before line 7"),
         (busy, "refused line 9: Cost", "x.plan:9: the longest path runs 8 instructions in one frame; the budget is 6",
-         "hint: a budget of 8, or a 'wait 1' between the instructions that follow this line"),
+         "hint: write 'budget 8' in place of 'budget 6' in line 2; then it is accepted"),
     ):
         explained(rows, script, first, *rest)
 
@@ -394,4 +441,4 @@ def accepted(rows):
 
 
 if __name__ == "__main__":
-    rows.main([faults, edits, configurations, swaps, ways, branches, loops, costs, limits, first_mistakes, codes, accepted])
+    rows.main([faults, edits, configurations, swaps, ways, branches, loops, costs, further, limits, first_mistakes, codes, accepted])

@@ -1,0 +1,248 @@
+#!/usr/bin/env python3
+"""Hints of 'compile --explain' that are changes of the text, applied to scripts with random mistakes: 'hints.py [SEED [SCRIPTS]]'.
+
+Each script is one of a few good ones with one to three mistakes: a line left out, doubled or moved, a statement put in, a word
+changed. If it is refused, and a hint says to put, write or leave out something, this is done by this script, from the words of
+the hint alone: then the refusal must be gone, and where the hint says that the script is accepted it must be. The last line is
+'N passed, M failed'."""
+import os
+import random
+import re
+import sys
+import tempfile
+from concurrent.futures import ThreadPoolExecutor
+
+import common
+
+HEAD = """\
+ensemble E1C5
+period 8 notice 48 budget 20
+sub 1 at 0 eep 3-A 128
+sub 2 at 200 eep 3-A 64
+service C221
+audio 63 sub 1 in C221
+service C222
+audio 63 sub 2 in C222
+"""
+GOOD = [
+    """begin
+forever {
+  wait contact 3 closed
+  rate sub 1 96
+  commit in 100
+  join
+  wait contact 3 open
+  rate sub 1 128
+  commit in 100
+  join
+}
+""",
+    """begin
+if contact 3 {
+  sub 3 at 300 eep 3-A 32
+  service C223
+  audio 63 sub 3 in C223
+  commit in 60
+  join
+  drop service C223
+  drop sub 3
+  commit in 60
+  join
+} else {
+  rate sub 2 32
+  commit at 1200
+  wait 3
+  settle
+  rate sub 2 64
+  commit in 60
+  settle
+}
+until 06:00:00
+move sub 2 at 400
+commit in 100
+wait 200
+end
+""",
+    """begin
+repeat 3 {
+  wait 20
+  move sub 1 at 500; move sub 2 at 0
+  commit in 48; join
+  move sub 2 at 200; move sub 1 at 0
+  commit in 48; join
+}
+packet 7 groups type 60 sub 2 address 9
+carry 7 in C222
+commit in 48
+join
+""",
+    """define swing {
+  rate sub 2 48
+  commit in 48
+  join
+  rate sub 2 64
+  commit in 48
+  join
+}
+begin
+apply swing
+if contact 1 {
+  wait 5
+}
+forever {
+  wait contact 2 closed
+  apply swing
+}
+""",
+]
+STATEMENTS = ["join", "settle", "wait 1", "wait 70", "commit in 50", "commit at 1000", "commit in 20", "commit at 1001", "rate sub 1 96",
+              "rate sub 1 100", "rate sub 2 80", "move sub 1 at 800", "move sub 2 at 64", "drop sub 2", "drop service C222",
+              "drop component sub 1 in C221", "sub 2 at 300 eep 3-A 8", "sub 4 at 40 eep 2-B 64", "service C222", "service C229",
+              "audio 5 sub 1 in C229", "data 5 sub 9 in C221", "packet 7 raw type 5 sub 1 address 1024",
+              "packet 8 raw type 5 sub 2 address 9", "end", "repeat 2 { move sub 1 at 600 }", "forever { rate sub 1 96 }",
+              "if contact 2 { rate sub 1 96 }"]
+WORDS = ["1", "2", "0", "07", "96", "100", "3-a", "c221", "0xC221", "6:00", "comit", "joint", "colsed", "sub", "on", "{", "}", "x", "wait", "5"]
+HINT = re.compile(r"hint: (.*?)(; then it is accepted)?")
+PART = re.compile(r"(put|write|leave out) '(.*?)'(?: (before|in place of) (?:'(.*?)' in )?line (\d+)| in line (\d+))?")
+
+
+def mistaken(chance, lines):
+    """The lines with a mistake."""
+    at = chance.randrange(1, len(lines))
+    kind = chance.randrange(5)
+    if kind == 0:
+        return lines[:at] + lines[at + 1:]
+    if kind == 1:
+        return lines[:at] + [lines[at]] + lines[at:]
+    if kind == 2:
+        to = chance.randrange(1, len(lines))
+        rest = lines[:at] + lines[at + 1:]
+        return rest[:to] + [lines[at]] + rest[to:]
+    if kind == 3:
+        return lines[:at] + [chance.choice(STATEMENTS)] + lines[at:]
+    words = lines[at].split(" ")
+    words[chance.randrange(len(words))] = chance.choice(WORDS)
+    return lines[:at] + [" ".join(words)] + lines[at + 1:]
+
+
+def script(chance):
+    """A good script with one to three mistakes."""
+    lines = (HEAD + chance.choice(GOOD)).splitlines()
+    for _ in range(chance.randrange(1, 4)):
+        lines = mistaken(chance, lines)
+    return "".join(f"{line}\n" for line in lines)
+
+
+def span(line, words):
+    """Where words are in a line, blanks between them: there they must be once."""
+    parts = r"[ \t;]+".join(map(re.escape, words.split()))
+    found = list(re.finditer(rf"(?<![\w:-]){parts}(?![\w:-])" if re.match(r"[\w:-]", words) else parts, line))
+    return found[0].span() if len(found) == 1 else None
+
+
+def applied(text, hint, position):
+    """The text with the changes of a hint; None if the hint is no change of a text."""
+    lines = text.split("\n")
+    steps = []
+    for part in hint.split(", and "):
+        found = PART.fullmatch(part)
+        if found is None:
+            return None
+        steps.append(found.groups())
+    for verb, new, how, old, line, other in reversed(steps):
+        if line is None and other is None:
+            at, column = position
+            rest = lines[at - 1][column - 1:]
+            lines[at - 1] = lines[at - 1][:column - 1] + new + rest[len(re.match(r"[\w:-]+|.", rest)[0]):]
+            continue
+        at = int(line or other)
+        if verb == "put" and old is None:
+            lines.insert(at - 1, new)
+            continue
+        where = span(lines[at - 1], new if verb == "leave out" else old)
+        if where is None:
+            return "ambiguous"
+        start, end = where
+        put = {"put": f"{new}; {lines[at - 1][start:end]}", "write": new, "leave out": ""}[verb]
+        lines[at - 1] = lines[at - 1][:start] + put + lines[at - 1][end:]
+    return "\n".join(lines)
+
+
+def place(first):
+    """The line and the column of a refusal, as numbers, and its cause."""
+    found = re.fullmatch(r"(\d+):(\d+): (\w+)|refused line (\d+): (.*)|refused: Limit", first)
+    if found[1]:
+        return (int(found[1]), int(found[2])), found[3]
+    return (int(found[4] or 0), 0), found[5]
+
+
+def compiled(program, folder, name, text, *options):
+    """The status, and the lines of 'compile' on a text."""
+    common.write(folder, f"{name}.plan", text)
+    ended = common.run([program, "compile", f"{name}.plan", f"{name}.code", *options], folder)
+    return ended.status, ended.printed.decode().splitlines()
+
+
+def judged(program, folder, name, text):
+    """What a script's hint is, and what is wrong with it, if anything is."""
+    status, lines = compiled(program, folder, name, text, "--explain")
+    if status == 0:
+        return "accepted", None
+    first, rest = lines[0], [line for line in lines[1:] if line.startswith("hint: ")]
+    if not rest:
+        return "no hint", None
+    hint, accepted = HINT.fullmatch(rest[0]).groups()
+    position, _cause = place(first)
+    changed = applied(text, hint, position)
+    if changed is None:
+        return "advice", "'then it is accepted' after advice" if accepted else None
+    status, after = compiled(program, folder, name, changed)
+    if (accepted is not None) != (status == 0):
+        return "change", f"{rest[0]}: {after[0]}\n{text}"
+    if status == 0:
+        return "change, then accepted", None
+    moved = (position[0] + sum(int(line) <= position[0] for line in re.findall(r"put '[^']*' before line (\d+)", hint)),
+             position[1] + sum(len(new) + 2 for new in re.findall(r"put '([^']*)' before '", hint)))
+    return "change", None if is_gone(first, moved, after[0], changed) else f"{rest[0]}: {first}, then {after[0]}\n{text}"
+
+
+def is_inside(text, first, line):
+    """Whether a line is inside a block that begins in the line `first`."""
+    rest = [re.sub("#.*", "", each) for each in text.split("\n")[first - 1:line - 1]]
+    return first < line and sum(each.count("{") - each.count("}") for each in rest) > 0
+
+
+def is_gone(first, moved, after, text):
+    """Whether a refusal is gone, whose position has moved, if a changed text is refused with the line `after`: later in the
+    text, where paths meet after a block that it is in, or for its costs, which are checked last."""
+    later, why = place(after)
+    if not first.startswith("refused"):
+        return after.startswith("refused") or later > moved
+    if " Cost" in first:
+        return why == "Cost" and later[0] > moved[0]
+    is_after = why == "Cost" or later[0] > moved[0] or (why == "Mismatch" and is_inside(text, later[0], moved[0]))
+    return after.startswith("refused line") and is_after
+
+
+def main():
+    """Tries so many scripts."""
+    words = sys.argv[1:]
+    seed = int(words[0]) if words else 300401
+    times = int(words[1]) if len(words) > 1 else 3000
+    tally = common.Tally()
+    program = common.dabplan()
+    chance = random.Random(seed)
+    scripts = [script(chance) for _ in range(times)]
+    counts = {}
+    with tempfile.TemporaryDirectory() as folder, ThreadPoolExecutor(os.cpu_count()) as pool:
+        results = pool.map(lambda numbered: judged(program, folder, f"s{numbered[0]}", numbered[1]), enumerate(scripts))
+        for kind, wrong in results:
+            counts[kind] = counts.get(kind, 0) + 1
+            tally.hold(wrong is None, wrong)
+    tally.hold(counts.get("change", 0) + counts.get("change, then accepted", 0) >= times // 4, f"too few changes: {counts}")
+    print(f"seed {seed}: {times} scripts, {counts}")
+    tally.end()
+
+
+if __name__ == "__main__":
+    main()
