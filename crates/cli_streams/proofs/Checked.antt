@@ -1,5 +1,5 @@
 -- A check of a stream that is known.
-use Rattle.std.proofs.Common.{◌≡◌, ℕ, List, ◌++◌, Option, None, Some, IfSome, inl, inr, sym, ap, ◌∙◌, subst}
+use Rattle.std.proofs.Common.{◌≡◌, ℕ, List, ◌++◌, Option, None, Some, Result, Ok, Err, IfOk, IfSome, inl, inr, sym, ap, ◌∙◌, subst}
 use Rattle.std.proofs.lemmas.List.{append_assoc, append-nil}
 use Rattle.std.specs.List.{concat}
 use Rattle.std.specs.Io.KnownBytes.{Appends, Keeps}
@@ -7,6 +7,7 @@ use Rattle.std.proofs.KnownBytes.{Appends-trans}
 use Rattle.console.specs.declared.exit.Status.{Status}
 use Rattle.stream_check.specs.Frames.{Reading}
 use Rattle.stream_monitor.specs.declared.ending.Ending.{Ending}
+use Rattle.stream_monitor.specs.declared.monitor.Stop.{Stop}
 use Rattle.stream_monitor.specs.declared.options.CheckOptions.{CheckOptions}
 use Rattle.stream_monitor.specs.Lines.{line_of}
 use Rattle.stream_monitor.specs.Outcome.{Checks, ChecksInput}
@@ -38,6 +39,8 @@ shows o (Some stream) old before mid after e status kept checked last is = λ r.
     }
 
 -- a check of an input that was made of these pieces
-pub checks_from : (r : Reading) (o : CheckOptions) (old same left before after : Option (List ℕ)) (e : Ending) → old ≡ same → (text : List ℕ) × ChecksInput r o old left text e × Appends before after text
-    → (left : Option (List ℕ)) × (text : List ℕ) × ChecksInput r o same left text e × Appends before after text
-checks_from r o old same left before after e a h = (left, h.0, subst (λ (x : Option (List ℕ)). ChecksInput r o x left h.0 e) a h.1, h.2)
+pub checks_from : (o : CheckOptions) (old same left before after : Option (List ℕ)) (result : Result Ending Stop) → old ≡ same
+    → IfOk result (λ e. (r : Reading) → (text : List ℕ) × ChecksInput r o old left text e × Appends before after text)
+    → IfOk result (λ e. (r : Reading) → (left : Option (List ℕ)) × (text : List ℕ) × ChecksInput r o same left text e × Appends before after text)
+checks_from o old same left before after (Err stop) a h = tt
+checks_from o old same left before after (Ok e) a h = λ r. let one = h r in (left, one.0, subst (λ (x : Option (List ℕ)). ChecksInput r o x left one.0 e) a one.1, one.2)

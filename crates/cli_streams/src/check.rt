@@ -6,7 +6,6 @@ ghost use Rattle.console.specs.Printed.{printed};
 ghost use Rattle.stream_check.specs.Frames.{Reading};
 ghost use Rattle.stream_monitor.specs.Lines.{line_of};
 ghost use Rattle.stream_monitor.specs.Outcome.{ChecksInput};
-ghost use Rattle.stream_monitor.specs.Requests.{beginning};
 ghost use Rattle.cli_streams.specs.Checking.{ShowsCheck, last_line, status_of};
 
 use console::exit::{Failure, Status, pieces_of};
@@ -15,9 +14,8 @@ use console::output::Output;
 use console::pieces::Pieces;
 use std::alloc::Global;
 use std::io::{Read, Write};
-use std::marker::Brand;
 use stream_monitor::{
-    CheckOptions, CheckStart, Ending, FileFibs, Form, Hints, Line, Stop, check_stream, print_line,
+    CheckOptions, Ending, FileFibs, Form, Hints, Line, Stop, check_stream, print_line,
 };
 
 /// The arguments of `check`.
@@ -53,7 +51,7 @@ pub fn show_check<'a, F: Files, W: Write>(
 {
     let pieces = pieces_of(alloc, files, request.file)?;
     let hints = Hints::new(files, request.file);
-    match check_pieces::<Brand, F, F::In, W>(request.options, hints, pieces, out) {
+    match check_pieces(request.options, hints, pieces, out) {
         Ok(ending) => match print_ending(request.options.form, ending, out) {
             Ok(status) => Ok(status),
             Err(failure) => Err(failure),
@@ -63,22 +61,18 @@ pub fn show_check<'a, F: Files, W: Write>(
 }
 
 /// Checks the pieces of a file.
-fn check_pieces<S: CheckStart, F: Files, R: Read + Drop, W: Write>(
+fn check_pieces<F: Files, R: Read + Drop, W: Write>(
     options: CheckOptions,
     hints: Hints<'_, F>,
     pieces: Pieces<R>,
     out: &mut Output<'_, W>,
 ) -> Result<Ending, Stop>
-    requires start { S.start ≡ beginning options pieces.left (printed W.contents out.old) }
     ensures { IfOk result (λ ending. (r : Reading) → (left : Option (List ℕ)) × (text : List ℕ)
         × ChecksInput r options pieces.left left text ending
         × Appends (printed W.contents out.old) (printed W.contents out.new) text) }
 {
     let mut input = FileFibs::new(hints, pieces);
-    match check_stream::<S, W, FileFibs<'_, F, R>>(options, &mut input, out) {
-        Ok(ending) => Ok(ending),
-        Err(stop) => Err(stop),
-    }
+    check_stream(options, &mut input, out)
 }
 
 /// The failure for a check that did not come to its end.

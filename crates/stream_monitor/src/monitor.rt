@@ -13,14 +13,16 @@ ghost use Rattle.stream_monitor.specs.Outcome.{ChecksInput, StopsAtEnd};
 ghost use Rattle.stream_monitor.specs.Requests.{IsEmptied, beginning};
 
 use crate::ending::Ending;
+use crate::file_fibs::FileFibs;
 use crate::line::{Cause, Form, Line, Totals, print_line};
 use crate::options::CheckOptions;
 use crate::source::{CheckStart, FibSource};
 use crate::stash::Stash;
 use crate::tally::{Tally, counted, no_tally};
-use console::files::FileFault;
+use console::files::{FileFault, Files};
 use console::output::Output;
-use std::io::Write;
+use std::io::{Read, Write};
+use std::marker::Brand;
 use stream_check::{CheckFault, Checker, Finding, Summary};
 
 /// More pieces than any stream has, of which each but the last has a FIB.
@@ -33,7 +35,7 @@ pub enum Stop {
     Read(FileFault),
     /// The output failed. Nothing more is printed.
     Write,
-    /// A frame has more than 1,024 findings, for which there is no room; none has.
+    /// A frame has more than 1,024 findings, for which there is no room.
     Memory,
 }
 
@@ -65,23 +67,53 @@ fn totals_of(tally: Tally, summary: Summary) -> Totals
     }
 }
 
-/// Checks a stream of FIBs as it comes: for each frame that its bytes decide the findings are printed, a line each, and
-/// the totals so far where they are due. Before more input is requested, the output has taken all these lines, which
+/// Checks the FIBs of a reader as they come: for each frame that its bytes decide the findings are printed, a line each,
+/// and the totals so far where they are due. Before more input is requested, the output has taken all these lines, as
 /// [`FibSource::next`] requires. Returns how the check ends, which is its last line and is not printed here.
 ///
 /// # Errors
 ///
 /// `Read` if the input failed; `Write` if the output failed, after which nothing is printed; `Memory` if a frame has
-/// more than 1,024 findings, which none has.
+/// more than 1,024 findings, for which there is no room.
+pub fn check_stream<F: Files, R: Read + Drop, W: Write>(
+    options: CheckOptions,
+    input: &mut FileFibs<'_, F, R>,
+    out: &mut Output<'_, W>,
+) -> Result<Ending, Stop>
+    // What is printed, and how the check ends.
+    ensures checked { IfOk result (λ ending. (r : Reading) → (text : List ℕ)
+        × ChecksInput r options input.old.pieces.left input.new.pieces.left text ending
+        × Appends (printed W.contents out.old) (printed W.contents out.new) text) }
+    ensures all { IfOk result (λ ending. HasReadAll options ending input.new.pieces.left) }
+{
+    check_fibs::<Brand, F, R, W>(options, input, out)
+}
+
+/// Checks the FIBs of a reader, for the requests of a check that begins at `S`.
+fn check_fibs<S: CheckStart, F: Files, R: Read + Drop, W: Write>(
+    options: CheckOptions,
+    input: &mut FileFibs<'_, F, R>,
+    out: &mut Output<'_, W>,
+) -> Result<Ending, Stop>
+    requires start { S.start ≡ beginning options input.old.pieces.left (printed W.contents out.old) }
+    ensures checked { IfOk result (λ ending. (r : Reading) → (text : List ℕ)
+        × ChecksInput r options input.old.pieces.left input.new.pieces.left text ending
+        × Appends (printed W.contents out.old) (printed W.contents out.new) text) }
+    ensures all { IfOk result (λ ending. HasReadAll options ending input.new.pieces.left) }
+{
+    check_source::<S, W, FileFibs<'_, F, R>>(options, input, out)
+}
+
+/// Checks an input of FIBs as it comes. Each of its reads requires that the lines of all frames so far are with the
+/// writer of the output.
 #[tactic(auto, using(crate::proofs::Stopping::stopped_reading))]
-pub fn check_stream<S: CheckStart, W: Write, I: FibSource<S, W>>(
+fn check_source<S: CheckStart, W: Write, I: FibSource<S, W>>(
     options: CheckOptions,
     input: &mut I,
     out: &mut Output<'_, W>,
 ) -> Result<Ending, Stop>
-    // `next` speaks of the start of this check. This restricts no caller, which picks `S` for its call.
+    // `next` speaks of the start of this check.
     requires start { S.start ≡ beginning options (I.left input.old) (printed W.contents out.old) }
-    // What is printed, and how the check ends.
     ensures checked { IfOk result (λ ending. (r : Reading) → (text : List ℕ)
         × ChecksInput r options (I.left input.old) (I.left input.new) text ending
         × Appends (printed W.contents out.old) (printed W.contents out.new) text) }

@@ -12,7 +12,7 @@ use std::io::Write;
 use std::marker::Brand;
 
 /// The start of a check, of which contracts alone know: its options, the remaining bytes of its input, and the bytes
-/// printed before it. A caller picks it for its call.
+/// printed before it. [`check_stream`](crate::check_stream) picks it for its input and its output.
 pub trait CheckStart {
     ghost use Rattle.stream_monitor.specs.Requests.{Beginning};
 

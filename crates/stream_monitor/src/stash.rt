@@ -4,7 +4,7 @@ use arrayvec::ArrayVec;
 use std::marker::Model;
 use stream_check::{Finding, Report};
 
-/// The findings that one FIB ends: up to 1,024, which are more than a frame has.
+/// The findings in the frame that one FIB ends: up to 1,024.
 #[derive(Drop)]
 pub struct Stash {
     items: ArrayVec<Finding, 1024>,

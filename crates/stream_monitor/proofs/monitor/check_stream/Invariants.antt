@@ -1,8 +1,7 @@
--- The pieces so far are checked, and their lines printed.
+-- The check begins with the bytes of its reader and the output.
 use Rattle.console.specs.Printed.{printed}
-use Rattle.stream_monitor.specs.Going.{ChecksSoFar}
+use Rattle.stream_monitor.specs.Requests.{beginning}
 use Rattle.stream_monitor.proofs.monitor.check_stream.Given as goal
 
-abbrev pub invariant-loop : goal.invariant-loop
-invariant-loop g l =
-    ChecksSoFar l.options (g.I.FibSource.left l.initial.input) (printed g.W.Write.contents l.initial.out) l.state (g.I.FibSource.left l.input) (printed g.W.Write.contents l.out)
+abbrev pub ghosts-check_fibs : goal.ghosts-check_fibs
+ghosts-check_fibs g a = record { start = beginning a.options a.input.now.pieces.left (printed g.W.Write.contents a.out.now) }

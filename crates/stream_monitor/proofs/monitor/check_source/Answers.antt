@@ -5,7 +5,7 @@ use Rattle.stream_monitor.specs.declared.ending.Ending.{Ending}
 use Rattle.stream_monitor.specs.Going.{ChecksPiece}
 use Rattle.stream_monitor.proofs.Pieces.{stream_begins, stream_more, stream_stops, stream_ends, so_far_kept}
 use Rattle.stream_monitor.proofs.Requests.{prompt}
-use Rattle.stream_monitor.proofs.monitor.check_stream.Goals as goal
+use Rattle.stream_monitor.proofs.monitor.check_source.Goals as goal
 
 pub loop-init : goal.loop-init
 loop-init g c =
