@@ -1,7 +1,7 @@
 -- The relations of worlds in small cases, computed by the checker from the definitions: examples that hold and that fail.
 use Rattle.std.proofs.Common.{◌≡◌, ℕ, List, [], ◌∷◌, Option, None, Some, codes, take, zero, suc, refl}
 use Rattle.console.specs.Failures.{IsReadFailure, IsWriteFailure}
-use Rattle.console.specs.World.{World, HasSameOthers, IsSame, HasWritten, HasTouched, HasReported, Stays}
+use Rattle.console.specs.World.{World, Exists, HasSameOthers, IsSame, HasWritten, HasTouched, HasReported, Stays}
 use Rattle.console.specs.declared.exit.Failure.TheVariants.{Memory, Output}
 
 -- no file, or one of the empty path
@@ -27,6 +27,14 @@ others_same (b ∷ bs) not = refl
 
 others_differ : HasSameOthers (1 ∷ []) before after → ⊥
 others_differ h = absurd (let same : Some (7 ∷ []) ≡ None = h [] (λ e. absurd (let none : [] ≡ 1 ∷ [] = e in cc)) in cc)
+
+-- ---- a path with a file, and one without
+
+a_file : Exists (after.files [])
+a_file = tt
+
+no_file : Exists (before.files []) → ⊥
+no_file h = h
 
 -- ---- a file that is written
 

@@ -7,6 +7,11 @@ pub record World : Type 0 where
   -- the bytes that standard error has taken
   pub errors : List ℕ
 
+-- a path has a file
+abbrev pub Exists : Option (List ℕ) → Type 0
+Exists None = ⊥
+Exists (Some bytes) = Unit {0}
+
 -- a known world stays known, and the old and the new one are related; nothing is claimed of an unknown one
 abbrev pub Becomes : (World → World → Type 0) → Option World → Option World → Type 0
 Becomes Related None new = Unit {0}

@@ -19,9 +19,9 @@ pub enum FileFault {
 
 /// Access to the program's files.
 pub trait Files {
-    ghost use Rattle.std.specs.Prelude.{◌≡◌, List, [], Option, None, Some, ℕ, IfOk, OnOk, OnErr, IfSome};
+    ghost use Rattle.std.specs.Prelude.{◌≡◌, ◌↔◌, List, [], Option, None, Some, ℕ, IsTrue, IfOk, OnOk, OnErr, IfSome};
     ghost use Rattle.std.specs.Io.KnownBytes.{Keeps};
-    ghost use Rattle.console.specs.World.{World, Becomes, Stays, HasSameFiles, IsSameBut, HasWritten, HasTouched, HasReported};
+    ghost use Rattle.console.specs.World.{World, Exists, Becomes, Stays, HasSameFiles, IsSameBut, HasWritten, HasTouched, HasReported};
 
     /// The bytes of the file of a path, if known.
     ghost known: { Self → List ℕ → Option (List ℕ) } = { λ _ _. None };
@@ -46,6 +46,12 @@ pub trait Files {
         ensures files { (other : List ℕ) → Keeps (known self.old other) (known self.new other) }
         ensures input { Keeps (known_input self.old) (known_input self.new) }
         ensures world { Stays (world self.old) (world self.new) };
+
+    /// Whether the file of this path can be opened again for the same bytes: whether there is a file of its own, and
+    /// no pipe or device, of which what was read is gone.
+    fn can_reread(&self, path: &str) -> bool
+        ensures { IfSome (world self.now)
+            (λ w. IsTrue result ↔ Exists (w.files path.now)) };
 
     /// Standard input, from its current position; `Failed` on a system error. Files keep their bytes.
     fn input(&mut self) -> Result<Self::In, FileFault>
@@ -130,6 +136,14 @@ impl<'a, R: rt::Files + rt::Clock + Input + Eprint> Files for System<'a, R> {
         match std::fs::open(self.rt, path) {
             Ok(file) => Ok(Source::File(file)),
             Err(error) => Err(fault_of(&error)),
+        }
+    }
+
+    /// Only a regular file, or a link to one, can be read again.
+    fn can_reread(&self, path: &str) -> bool {
+        match std::fs::metadata(self.rt, path) {
+            Ok(metadata) => metadata.is_file(),
+            Err(_) => false,
         }
     }
 

@@ -121,6 +121,10 @@ impl Files for MemoryFiles {
         }
     }
 
+    fn can_reread(&self, path: &str) -> bool {
+        self.held(path).is_some()
+    }
+
     fn input(&mut self) -> Result<Self::In, FileFault> {
         copy_of(self.alloc, self.input.as_slice())
     }
