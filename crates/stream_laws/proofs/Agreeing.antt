@@ -1,25 +1,15 @@
 -- The entries and the announcements of a run are as the checker requires.
-use Rattle.std.proofs.Common.{◌≡◌, ℕ, ◌%◌, ◌==◌, ◌&&◌, ◌||◌, Bool, true, false, cond, not, nat_lt, List, [], ◌∷◌, ◌++◌, length, Option, Some, None, refl, sym, ap, ◌∙◌, subst, inl, inr, ◌⊎◌}
-use Rattle.std.specs.Prelude.{map, unwrap_or}
+use Rattle.std.proofs.Common.{◌≡◌, ℕ, ◌==◌, ◌&&◌, ◌||◌, Bool, true, false, cond, not, List, [], ◌∷◌, Option, Some, None, refl, sym, ap, ◌∙◌, subst, inl, inr, ◌⊎◌}
 use Rattle.std.specs.List.{AllByRecursion}
 use Rattle.std.proofs.lemmas.Bool.{false≢true}
 use Rattle.mux_config.specs.Configuration.{Configuration, IsConfiguration}
 use Rattle.mux_config.specs.Change.{change_of, bits_of}
-use Rattle.mux_entries.specs.Entries.{EnsembleInformation}
 use Rattle.mux_entries.specs.Facts.{Marked}
 use Rattle.fib_reader.specs.Raw.{Raw, raw_entry}
 use Rattle.fib_reader.specs.Listening.{Pictured, Listening, hear_entry, where_heard}
-use Rattle.stream_check.specs.declared.finding.Fault.{Fault}
-use Rattle.stream_check.specs.declared.finding.Fault.TheVariants as faults
-use Rattle.stream_check.specs.declared.finding.What.{What}
-use Rattle.stream_check.specs.declared.finding.What.TheVariants as whats
-use Rattle.stream_check.specs.declared.finding.Event.TheVariants as events
-use Rattle.stream_check.specs.Reporting.{when, as_list}
-use Rattle.stream_check.specs.Frames.{Fib, damaged_in, lacks_opening}
 use Rattle.stream_check.specs.Lookup.{lookup_in}
 use Rattle.stream_check.specs.History.{Item, Moment, Said, said, is_ensemble, listening, listener_after, has_ensemble, has_begun, began_early, last_flags}
-use Rattle.stream_check.specs.Rules.{Known as Knowledge, known_of, name_of, overlap, past_end, place_faults, is_of_other_ensemble, has_other_count, is_placed, makes_swap, notice_faults, unit_faults, swap_findings, swap_or_another, announces_another, occurrence_of, announces_first, announcement, can_fall_at, has_flags, ensemble_findings, current_findings, next_findings, is_other_one, is_absent, is_settled, finds_no_room, has_no_room, findings_at, silence, awaited_low, changes}
-use Rattle.stream_check.specs.Stream.{count_due, first_line, frame_findings, findings_at_items, runs_full}
+use Rattle.stream_check.specs.Rules.{is_other_one, finds_no_room}
 use Rattle.stream_check.proofs.Members.{member_heard, member_has_begun, member_began_early, member_flags, after_is}
 use Rattle.plan_code.specs.declared.plan.Plan.{Plan}
 use Rattle.plan_code.specs.Machine.{State}
@@ -28,94 +18,10 @@ use Rattle.plan_listeners.proofs.Pictures.{whole_of, IsOf, IsPartial, whole_is_s
 use Rattle.plan_listeners.proofs.Hearing.{hear_marked}
 use Rattle.plan_listeners.proofs.Tuned.{Tuned, NextBy, IsSentOf, SaidIn, Or, tuned_weaker, hears_entries}
 use Rattle.plan_listeners.proofs.Waiting.{Nothing}
-use Rattle.stream_laws.specs.Agreeing.{is_of_word, KeepsWord}
-use Rattle.stream_laws.proofs.Kept.{first_holds, second_holds, member_found, member_room}
-use Rattle.stream_laws.proofs.Framing.{all_append}
+use Rattle.stream_laws.proofs.Kept.{second_holds, member_room}
 use Rattle.stream_laws.proofs.Sending.{IsSentItem}
 use Rattle.stream_laws.proofs.LookedUp.{fine_in}
-
--- ---- other faults
-
-abbrev pub IsFine : List What → Type 0
-IsFine ws = AllByRecursion KeepsWord ws
-
-when_other : (b : Bool) (fault : Fault) → is_of_word fault ≡ false → IsFine (when b fault)
-when_other true fault e = (e, tt)
-when_other false fault e = tt
-
-when_not : (b : Bool) (fault : Fault) → b ≡ false → IsFine (when b fault)
-when_not true fault e = absurd (false≢true (sym e))
-when_not false fault e = tt
-
-and_not : (a b : Bool) → b ≡ false → (a && b) ≡ false
-and_not true b e = e
-and_not false b e = refl
-
-pub either_fine : (b : Bool) (xs ys : List What) → IsFine xs → IsFine ys → IsFine (cond b xs ys)
-either_fine true xs ys x y = x
-either_fine false xs ys x y = y
-
-notice_other : (k : Knowledge) → IsFine (notice_faults k)
-notice_other k =
-    all_append KeepsWord (when (not k.is_cut_off && nat_lt k.times 3) (faults.AnnouncedTimes k.times)) _ (when_other _ (faults.AnnouncedTimes k.times) refl)
-    (all_append KeepsWord (when (not k.is_cut_off && nat_lt k.heard 3) (faults.NextHeard k.heard)) _ (when_other _ (faults.NextHeard k.heard) refl) (when_other _ (faults.Flags k.flags (changes k)) refl))
-
-unit_fine : (k : Knowledge) → (overlap k.listener.next.subs ≡ None) × (past_end k.listener.next.subs ≡ None) → IsFine (unit_faults k)
-unit_fine k none =
-    subst (λ (o : Option Fault). IsFine (as_list o ++ as_list (past_end k.listener.next.subs))) (sym none.0)
-    (subst (λ (o : Option Fault). IsFine (as_list o)) (sym none.1) tt)
-
-pub silence_other : (rs : List Raw) → IsFine (map silence rs)
-silence_other [] = tt
-silence_other (r ∷ rs) = (refl, silence_other rs)
-
-pub frame_other : (size step : ℕ) (last : Option ℕ) (frame : List Fib) → IsFine (frame_findings size step last frame)
-frame_other size step last frame =
-    all_append KeepsWord (first_line last frame) _ (first_event last)
-    (all_append KeepsWord (when (nat_lt (length frame) size) (faults.ShortFrame (length frame))) _ (when_other _ (faults.ShortFrame (length frame)) refl)
-    (all_append KeepsWord (when (nat_lt 0 (damaged_in frame)) (faults.Damaged (damaged_in frame))) _ (when_other _ (faults.Damaged (damaged_in frame)) refl)
-    (when_other (count_due last frame % step == 0 && lacks_opening frame) faults.NoEnsemble refl)))
-  where
-    first_event : (o : Option ℕ) → IsFine (first_line o frame)
-    first_event None = (tt, tt)
-    first_event (Some count) = tt
-
--- ---- a FIG 0/0, given what is known
-
-pub record IsHeadFine (k : Knowledge) (e : EnsembleInformation) : Type 0 where
-  pub made : makes_swap k e ≡ true → (e.count % 250 == awaited_low k) ≡ true
-  pub again : makes_swap k e ≡ false → announces_another k e ≡ false
-  pub falls : has_flags e ≡ true → can_fall_at k.step (occurrence_of e) ≡ true
-  pub early : k.began_early ≡ true → has_flags e ≡ true
-  pub units : makes_swap k e ≡ true → (overlap k.listener.next.subs ≡ None) × (past_end k.listener.next.subs ≡ None)
-
-swap_fine : (k : Knowledge) (e : EnsembleInformation) → IsHeadFine k e → (b : Bool) → makes_swap k e ≡ b
-    → IsFine (cond b (swap_findings k e) (when (announces_another k e) (faults.AnnouncedAgain e.change (occurrence_of e))))
-swap_fine k e h true is = (
-  tt,
-  all_append KeepsWord (when (not (e.count % 250 == awaited_low k)) (faults.AnnouncedFor (awaited_low k))) (notice_faults k ++ unit_faults k)
-      (when_not _ (faults.AnnouncedFor (awaited_low k)) (ap not (h.made is)))
-      (all_append KeepsWord (notice_faults k) (unit_faults k) (notice_other k) (unit_fine k (h.units is))),
-)
-swap_fine k e h false is = when_not (announces_another k e) (faults.AnnouncedAgain e.change (occurrence_of e)) (h.again is)
-
-first_fine : (k : Knowledge) (e : EnsembleInformation) → IsHeadFine k e → (b : Bool) → announces_first k e ≡ b → IsFine (cond b (whats.Event (events.Announced e.change (occurrence_of e)) ∷ when (not (can_fall_at k.step (occurrence_of e))) (faults.NoSwapAt (occurrence_of e))) [])
-first_fine k e h true is = (tt, when_not _ (faults.NoSwapAt (occurrence_of e)) (ap not (h.falls (first_holds (has_flags e) _ is))))
-first_fine k e h false is = tt
-
-quiet_early : (f b : Bool) → (b ≡ true → f ≡ true) → (not f && b) ≡ false
-quiet_early true b h = refl
-quiet_early false true h = absurd (false≢true (h refl))
-quiet_early false false h = refl
-
-pub head_fine : (k : Knowledge) (first : Bool) (e : EnsembleInformation) → IsHeadFine k e → IsFine (ensemble_findings k first e)
-head_fine k first e h =
-    all_append KeepsWord (place_faults k first e) _
-    (all_append KeepsWord (when (is_of_other_ensemble k first e) (faults.OtherEnsemble e.eid)) _ (when_other _ (faults.OtherEnsemble e.eid) refl)
-    (all_append KeepsWord (when (has_other_count k first e) (faults.Count (unwrap_or k.due 0))) _ (when_other _ (faults.Count (unwrap_or k.due 0)) refl) (when_other (not (is_placed k first e)) faults.OutOfPlace refl)))
-    (all_append KeepsWord (swap_or_another k e) _ (swap_fine k e h (makes_swap k e) refl)
-    (all_append KeepsWord (announcement k e) _ (first_fine k e h (announces_first k e) refl)
-    (when_not (not (has_flags e) && k.began_early) faults.NextUnannounced (quiet_early (has_flags e) k.began_early h.early))))
+use Rattle.stream_laws.proofs.Findings.{quiet_early, Each, Agrees}
 
 -- ---- within a frame
 
@@ -130,9 +36,11 @@ pub record IsInside (plan : Plan) (u : State) (awaited : Option ℕ) (past : Lis
   pub flags : (low : ℕ) → awaited ≡ Some low → last_flags past ≡ bits_of (change_of u.current u.next)
 
 record MemberFine (step period : ℕ) (plan : Plan) (u : State) (awaited : Option ℕ) (past : List Moment) (i : Item) : Type 0 where
-  found : IsFine (findings_at (known_of step period past) i)
-  room : has_no_room (known_of step period past) i ≡ false
+  word : Agrees step period past i
   after : IsInside plan u awaited (Said i ∷ past)
+
+not_both : {X : Type 0} {b : Bool} → b ≡ false → b ≡ true → X
+not_both f t = absurd (false≢true (sym f ∙ t))
 
 no_ensemble : (raw : Raw) (full : Pictured) → IsOf raw full → (raw.ext == 0) ≡ false
 no_ensemble raw full (inl h) = ap (λ (k : ℕ). k == 0) h.0
@@ -157,8 +65,7 @@ none_or_some (Some low) = inr (low, refl)
 
 -- an entry is unchanged, and there is room for it
 entry_fine : (step period : ℕ) (plan : Plan) (u : State) (awaited : Option ℕ) (past : List Moment) (i : Item) (in_is : IsInside plan u awaited past) (s : IsSentItem (is_noticed plan.notice u.left) u.current u.next i)
-    → IsConfiguration u.current → IsConfiguration u.next → is_ensemble i ≡ false → IsSentOf (is_noticed plan.notice u.left) u.current u.next s.m
-    → IsFine (findings_at (known_of step period past) i) × (has_no_room (known_of step period past) i ≡ false)
+    → IsConfiguration u.current → IsConfiguration u.next → is_ensemble i ≡ false → IsSentOf (is_noticed plan.notice u.left) u.current u.next s.m → Agrees step period past i
 entry_fine step period plan u awaited past i h s is_c is_n e (inl (flag, inside)) =
     let l : Listening = h.heard in
     let same : listener_after past ≡ l = after_is past l h.is in
@@ -168,13 +75,11 @@ entry_fine step period plan u awaited past i h s is_c is_n e (inl (flag, inside)
     let fine = fine_in u.current Nothing i.raw l.current is_c of h.knows.current in
     let agrees : is_other_one (lookup_in i.raw (listener_after past).current) ≡ false = ap (λ (x : Listening). is_other_one (lookup_in i.raw x.current)) same ∙ fine.same in
     let room : finds_no_room (lookup_in i.raw (listener_after past).current) ≡ false = ap (λ (x : Listening). finds_no_room (lookup_in i.raw x.current)) same ∙ fine.room in
-    let k : Knowledge = known_of step period past in
-    let found : IsFine (current_findings k i.raw) =
-    all_append KeepsWord (when (is_other_one (lookup_in i.raw k.listener.current)) (faults.Changed (name_of i.raw))) _
-    (when_not _ (faults.Changed (name_of i.raw)) agrees) (when_other (is_absent (lookup_in i.raw k.listener.current) && is_settled k) (faults.Appeared (name_of i.raw)) refl) in (
-      subst IsFine (sym (member_found step period past i e tuned ∙ ap (λ b. cond b (next_findings k i.raw) (current_findings k i.raw)) next)) found,
-      member_room step period past i e tuned ∙ ap (λ b. finds_no_room (lookup_in i.raw (cond b (listener_after past).next (listener_after past).current))) next ∙ room,
-    )
+    record {
+      room = member_room step period past i e tuned ∙ ap (λ b. finds_no_room (lookup_in i.raw (cond b (listener_after past).next (listener_after past).current))) next ∙ room;
+      head = λ ens. not_both e ens;
+      member = λ other. record { same = λ current. agrees; flagged = λ is. not_both next is; next = λ is. not_both next is };
+    }
 entry_fine step period plan u awaited past i h s is_c is_n e (inr (on, flag, inside)) =
     let l : Listening = h.heard in
     let same : listener_after past ≡ l = after_is past l h.is in
@@ -185,14 +90,12 @@ entry_fine step period plan u awaited past i h s is_c is_n e (inr (on, flag, ins
     let fine = fine_in u.next Nothing i.raw l.next is_n of part in
     let agrees : is_other_one (lookup_in i.raw (listener_after past).next) ≡ false = ap (λ (x : Listening). is_other_one (lookup_in i.raw x.next)) same ∙ fine.same in
     let room : finds_no_room (lookup_in i.raw (listener_after past).next) ≡ false = ap (λ (x : Listening). finds_no_room (lookup_in i.raw x.next)) same ∙ fine.room in
-    let k : Knowledge = known_of step period past in
     let flagged : (not (has_begun past) && has_ensemble past) ≡ false = quiet_early (has_begun past) (has_ensemble past) (λ has. h.begun has on) in
-    let found : IsFine (next_findings k i.raw) =
-    all_append KeepsWord (when (not (has_begun past) && has_ensemble past) faults.NextUnannounced) _
-    (when_not _ faults.NextUnannounced flagged) (when_not (is_other_one (lookup_in i.raw k.listener.next)) (faults.NextChanged (name_of i.raw)) agrees) in (
-      subst IsFine (sym (member_found step period past i e tuned ∙ ap (λ b. cond b (next_findings k i.raw) (current_findings k i.raw)) next)) found,
-      member_room step period past i e tuned ∙ ap (λ b. finds_no_room (lookup_in i.raw (cond b (listener_after past).next (listener_after past).current))) next ∙ room,
-    )
+    record {
+      room = member_room step period past i e tuned ∙ ap (λ b. finds_no_room (lookup_in i.raw (cond b (listener_after past).next (listener_after past).current))) next ∙ room;
+      head = λ ens. not_both e ens;
+      member = λ other. record { same = λ current. not_both current next; flagged = λ is. flagged; next = λ is. agrees };
+    }
 
 sent_next : (on : Bool) (c n : Configuration) (m : Marked) → IsSentOf on c n m → m.next ≡ true → on ≡ true
 sent_next on c n m (inl h) e = absurd (false≢true (sym h.0 ∙ e))
@@ -209,12 +112,10 @@ member_fine step period plan u awaited past i h s is_c is_n =
     let on : Bool = is_noticed plan.notice u.left in
     let e : is_ensemble i ≡ false = ap (λ (x : Raw). x.ext == 0) s.raw ∙ sent_ext on u.current u.next s.m s.sent in
     let l : Listening = h.heard in
-    let both = entry_fine step period plan u awaited past i h s is_c is_n e s.sent in
     let hears = hears_entries on u.current u.next Nothing Nothing awaited (s.m ∷ []) l (whole_is_set u.current is_c) (whole_is_set u.next is_n) (s.sent, tt) h.knows in
     let heard : hear_entry s.m.next (raw_entry s.m.entry) l ≡ Some hears.after = one_heard (hear_entry s.m.next (raw_entry s.m.entry) l) hears.after hears.is in
     record {
-      found = both.0;
-      room = both.1;
+      word = entry_fine step period plan u awaited past i h s is_c is_n e s.sent;
       after = record {
         heard = hears.after;
         is = member_heard past i l h.is ∙ ap (λ b. hear_entry b i.raw l) s.next ∙ ap (λ x. hear_entry s.m.next x l) s.raw ∙ heard;
@@ -239,19 +140,13 @@ member_fine step period plan u awaited past i h s is_c is_n =
     ]
 
 pub record MembersFine (step period : ℕ) (plan : Plan) (u : State) (awaited : Option ℕ) (past : List Moment) (items : List Item) : Type 0 where
-  pub found : IsFine (findings_at_items step period past items)
-  pub room : runs_full step period past items ≡ false
+  pub word : Each (Agrees step period) past items
   pub after : IsInside plan u awaited (said items past)
 
 pub members_fine : (step period : ℕ) (plan : Plan) (u : State) (awaited : Option ℕ) (past : List Moment) (items : List Item) → IsInside plan u awaited past
     → AllByRecursion (IsSentItem (is_noticed plan.notice u.left) u.current u.next) items → IsConfiguration u.current → IsConfiguration u.next → MembersFine step period plan u awaited past items
-members_fine step period plan u awaited past [] h all is_c is_n = record { found = tt; room = refl; after = h }
+members_fine step period plan u awaited past [] h all is_c is_n = record { word = tt; after = h }
 members_fine step period plan u awaited past (i ∷ is) h all is_c is_n =
     let one = member_fine step period plan u awaited past i h all.0 is_c is_n in
     let rest = members_fine step period plan u awaited (Said i ∷ past) is one.after all.1 is_c is_n in
-    record {
-      found = subst (λ (b : Bool). IsFine (cond b [] (findings_at (known_of step period past) i ++ findings_at_items step period (Said i ∷ past) is))) (sym one.room)
-          (all_append KeepsWord (findings_at (known_of step period past) i) (findings_at_items step period (Said i ∷ past) is) one.found rest.found);
-      room = ap (λ b. cond b true (runs_full step period (Said i ∷ past) is)) one.room ∙ rest.room;
-      after = rest.after;
-    }
+    record { word = (one.word, rest.word); after = rest.after }

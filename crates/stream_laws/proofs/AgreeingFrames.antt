@@ -1,34 +1,28 @@
 -- The frames of a run, one after another, agree with the past of the stream.
 use Rattle.std.proofs.Common.{◌≡◌, ◌≢◌, ℕ, ◌+◌, ◌-◌, ◌≤◌, ◌%◌, ◌==◌, ◌&&◌, ◌||◌, Bool, true, false, cond, not, List, [], ◌∷◌, ◌++◌, Option, Some, None, refl, sym, ap, ◌∙◌, subst, arith, inl, inr, ◌⊎◌}
-use Rattle.std.specs.Prelude.{map, unwrap_or}
-use Rattle.std.specs.List.{AllByRecursion}
+use Rattle.std.specs.Prelude.{unwrap_or}
 use Rattle.std.proofs.lemmas.Bool.{false≢true, eq-eqb, ne_eqb}
-use Rattle.fib_codec.specs.Layouts.{layout_mode, frame_fibs}
+use Rattle.fib_codec.specs.Layouts.{layout_mode}
 use Rattle.mux_config.specs.Change.{change_of, bits_of}
 use Rattle.mux_entries.specs.Entries.{EnsembleInformation}
 use Rattle.fib_codec.specs.Grammar.{OneList}
 use Rattle.fib_codec.specs.Modes.{count_step}
 use Rattle.fib_reader.specs.Listening.{Listening, untuned, is_made, at_ensemble}
-use Rattle.stream_check.specs.declared.finding.What.{What}
-use Rattle.stream_check.specs.declared.finding.Finding.{Finding}
-use Rattle.stream_check.specs.declared.reporting.FrameAt.{FrameAt}
-use Rattle.stream_check.specs.Reporting.{in_frame}
 use Rattle.stream_check.specs.Frames.{Fib, Reading}
 use Rattle.stream_check.specs.Lookup.{lookup_in}
-use Rattle.stream_check.specs.History.{Item, Moment, Said, Ended, said, frame_items, is_ensemble, ensemble_of as said_ensemble, is_flagged, is_swap, listening, listener_after, due, has_ensemble, has_begun, began_early, begins_notice, last_flags}
-use Rattle.stream_check.specs.Rules.{Known as Knowledge, known_of, overlap, past_end, occurrence_of, has_low, has_flags, ensemble_findings, member_findings, has_no_room, finds_no_room, findings_at}
-use Rattle.stream_check.specs.Stream.{frame_findings, findings_at_items, runs_full, frame_at, findings_in, after_frame as after_read, findings_of, frames_full}
+use Rattle.stream_check.specs.History.{Item, Moment, Said, Ended, said, frame_items, is_ensemble, ensemble_of as said_ensemble, is_flagged, is_swap, listening, listener_after, has_ensemble, has_begun, began_early, begins_notice, last_flags}
+use Rattle.stream_check.specs.Rules.{Known as Knowledge, known_of, overlap, past_end, occurrence_of, has_low, has_flags, finds_no_room}
+use Rattle.stream_check.specs.Stream.{after_frame as after_read}
 use Rattle.stream_check.proofs.Members.{ensemble_heard, after_is}
 use Rattle.plan_code.specs.declared.plan.Plan.{Plan}
 use Rattle.plan_code.specs.Program.{Program}
 use Rattle.plan_code.specs.Machine.{State}
 use Rattle.plan_verifier.specs.Typing.{Known}
-use Rattle.plan_runs.specs.declared.event.Event.{Event}
-use Rattle.plan_runs.specs.declared.event.Event.TheVariants.{Contact, Frame}
+use Rattle.plan_runs.specs.declared.event.Event.TheVariants.{Contact}
 use Rattle.plan_runs.specs.Frames.{is_noticed, shown, frame_bytes, ensemble_of, ensemble_sent, left_after_frame, after_frame}
-use Rattle.plan_runs.specs.Runs.{happens, run, run_frames}
+use Rattle.plan_runs.specs.Runs.{happens}
 use Rattle.plan_runs.proofs.Tracked.{Airs, SwapsOn}
-use Rattle.plan_runs.proofs.Facts.{Holds, IsCode, airs, frame_holds, happens_holds, run_holds, code_of, played_holds}
+use Rattle.plan_runs.proofs.Facts.{Holds, IsCode, airs}
 use Rattle.plan_runs.proofs.Notice.{Links, links}
 use Rattle.plan_runs.proofs.Announcing.{noticed_information}
 use Rattle.plan_listeners.proofs.Hearing.{headed}
@@ -36,20 +30,17 @@ use Rattle.plan_listeners.proofs.Contents.{Laws}
 use Rattle.plan_listeners.proofs.Knowing.{InFrame, knows_after}
 use Rattle.plan_listeners.proofs.Frame.{zero_or_not, enters_untuned}
 use Rattle.plan_listeners.proofs.Waiting.{Nothing, enters_known}
-use Rattle.stream_laws.specs.Notices.{read_frames}
-use Rattle.stream_laws.specs.Framing.{frames_of}
-use Rattle.stream_laws.specs.Agreeing.{KeepsWord, RunsAgree}
 use Rattle.stream_laws.proofs.Noting.{ensemble_flags, begun_is, flags_are}
-use Rattle.stream_laws.proofs.Framing.{all_append, read_frame}
+use Rattle.stream_laws.proofs.Framing.{read_frame}
 use Rattle.stream_laws.proofs.Sending.{IsHeadOf, IsFrameSaid, frame_said}
-use Rattle.stream_laws.proofs.Agreeing.{IsFine, IsHeadFine, head_fine, either_fine, frame_other, silence_other, IsInside, members_fine}
+use Rattle.stream_laws.proofs.Agreeing.{IsInside, members_fine}
+use Rattle.stream_laws.proofs.Findings.{IsHeadFine, Each, Agrees}
 use Rattle.stream_laws.proofs.AgreeingRuns.{IsBetween, IsHeadOk, head_ok, head_falls, flags_on, none_by, still, on_by, left_of, no_some, zero_or_some, awaits_by}
 
 -- ---- a FIG 0/0
 
 record HeadFine (period : ℕ) (plan : Plan) (u : State) (awaited : Option ℕ) (past : List Moment) (i : Item) : Type 0 where
-  found : IsFine (findings_at (known_of (count_step (layout_mode plan.layout)) period past) i)
-  room : has_no_room (known_of (count_step (layout_mode plan.layout)) period past) i ≡ false
+  word : Agrees (count_step (layout_mode plan.layout)) period past i
   after : IsInside plan u awaited (Said i ∷ past)
 
 -- its rules, given what the listener knows
@@ -74,10 +65,12 @@ head_step : (period : ℕ) (plan : Plan) (u : State) → Airs plan u → (past :
 head_step period plan u a past l i is ens says h f =
     let k : Knowledge = known_of (count_step (layout_mode plan.layout)) period past in
     let same : listener_after past ≡ l = after_is past l is in
-    let found = head_fine k i.first (said_ensemble i) (rules_by period plan u a past l (said_ensemble i) says same h) in
     record {
-      found = subst IsFine (sym (ap (λ t. cond t (ensemble_findings k i.first (said_ensemble i)) (member_findings k i.next i.raw)) ens)) found;
-      room = ap (λ t. cond t false (k.listener.tuned && finds_no_room (lookup_in i.raw (cond i.next k.listener.next k.listener.current)))) ens;
+      word = record {
+        room = ap (λ t. cond t false (k.listener.tuned && finds_no_room (lookup_in i.raw (cond i.next k.listener.next k.listener.current)))) ens;
+        head = λ is_head. rules_by period plan u a past l (said_ensemble i) says same h;
+        member = λ other. absurd (false≢true (sym other ∙ ens));
+      };
       after = record {
         heard = at_ensemble (ensemble_of plan u) l;
         is = ensemble_heard past i l ens is ∙ ap (λ x. Some (at_ensemble x l)) says;
@@ -137,8 +130,7 @@ no_header plan s u past h a link swaps off f = record {
 -- ---- a frame
 
 pub record FrameAgrees (period : ℕ) (p : Program) (s : State) (past : List Moment) (frame : List Fib) : Type 0 where
-  pub found : IsFine (findings_at_items (count_step (layout_mode p.plan.layout)) period past (frame_items frame))
-  pub room : runs_full (count_step (layout_mode p.plan.layout)) period past (frame_items frame) ≡ false
+  pub word : Each (Agrees (count_step (layout_mode p.plan.layout)) period) past (frame_items frame)
   pub after : IsBetween p.plan (after_read (count_step (layout_mode p.plan.layout)) past frame) (after_frame p s)
 
 -- after all entries of the frame
@@ -180,10 +172,7 @@ headed_agrees period p s past frame a fs on l is ok f =
     let one = head_step period plan u a past l head.0 is head.2 head.3 ok f in
     let rest = members_fine step period plan u f.awaited (Said head.0 ∷ past) fs.members one.after fs.sent a.current a.next in
     record {
-      found = subst (λ (is : List Item). IsFine (findings_at_items step period past is)) (sym items)
-          (subst (λ (b : Bool). IsFine (cond b [] (findings_at (known_of step period past) head.0 ++ findings_at_items step period (Said head.0 ∷ past) fs.members))) (sym one.room)
-          (all_append KeepsWord (findings_at (known_of step period past) head.0) _ one.found rest.found));
-      room = ap (runs_full step period past) items ∙ ap (λ b. cond b true (runs_full step period (Said head.0 ∷ past) fs.members)) one.room ∙ rest.room;
+      word = subst (λ (is : List Item). Each (Agrees step period) past is) (sym items) (one.word, rest.word);
       after = ends p s (said (frame_items frame) past) _ a (at_ensemble (ensemble_of plan u) l) f (subst (λ (is : List Item). IsInside plan u f.awaited (said is past)) (sym items) rest.after);
     }
 
@@ -198,23 +187,11 @@ bare_agrees period p s past frame a fs off l f h =
     let items : frame_items frame ≡ fs.members = fs.are ∙ ap (λ hs. hs ++ fs.members) none in
     let rest = members_fine step period plan u f.awaited past fs.members h fs.sent a.current a.next in
     record {
-      found = subst (λ (is : List Item). IsFine (findings_at_items step period past is)) (sym items) rest.found;
-      room = ap (runs_full step period past) items ∙ rest.room;
+      word = subst (λ (is : List Item). Each (Agrees step period) past is) (sym items) rest.word;
       after = ends p s (said (frame_items frame) past) _ a l f (subst (λ (is : List Item). IsInside plan u f.awaited (said is past)) (sym items) rest.after);
     }
 
 -- ---- along a run
-
-map_fine : (at : FrameAt) (ws : List What) → IsFine ws → AllByRecursion (λ (found : Finding). KeepsWord found.what) (map (in_frame at) ws)
-map_fine at [] all = tt
-map_fine at (w ∷ ws) all = (all.0, map_fine at ws all.1)
-
-frame_found : (size step period : ℕ) (past : List Moment) (frame : List Fib) → IsFine (findings_at_items step period past (frame_items frame)) → AllByRecursion (λ (found : Finding). KeepsWord found.what) (findings_in size step period past frame)
-frame_found size step period past frame items =
-    map_fine (frame_at step past frame) _
-    (all_append KeepsWord (frame_findings size step (due past) frame) _ (frame_other size step (due past) frame)
-    (all_append KeepsWord (findings_at_items step period past (frame_items frame)) _ items
-    (either_fine (runs_full step period past (frame_items frame)) [] _ tt (silence_other _))))
 
 -- nothing was heard, and the next frame has FIG 0/0; or frames were heard
 abbrev pub IsBefore : Plan → List Moment → State → Type 0
@@ -251,33 +228,6 @@ agrees_by one laws r period p ts c s holds past (inr h) =
           bare_agrees period p s past (read_frame r plan.layout (frame_bytes p s)) a fs off h.heard f (no_header plan s u past h a link holds.tracked.swaps before f)
     ]
 
-record RunFine (r : Reading) (period : ℕ) (p : Program) (s : State) (events : List Event) (past : List Moment) : Type 0 where
-  room : frames_full (count_step (layout_mode p.plan.layout)) period past (read_frames r (frames_of p.plan.layout (run_frames p s events))) ≡ false
-  plain : AllByRecursion (λ (found : Finding). KeepsWord found.what) (findings_of (frame_fibs p.plan.layout) (count_step (layout_mode p.plan.layout)) period past (read_frames r (frames_of p.plan.layout (run_frames p s events))))
-
-along : OneList → Laws → (r : Reading) (period : ℕ) (p : Program) (ts : List Known) → IsCode p ts → (s : State) (events : List Event) → Holds p ts s → (past : List Moment) → IsBefore p.plan past s → RunFine r period p s events past
-along one laws r period p ts c s [] holds past h = record { room = refl; plain = tt }
-along one laws r period p ts c s (Contact d closed ∷ es) holds past h =
-    let rest = along one laws r period p ts c (happens p s (Contact d closed)) es (happens_holds p ts c s (Contact d closed) holds) past (moved h) in
-    record { room = rest.room; plain = rest.plain }
-  where
-    moved : IsBefore p.plan past s → IsBefore p.plan past (happens p s (Contact d closed))
-    moved (inl first) = inl first
-    moved (inr b) = inr (record { heard = b.heard; is = b.is; knows = b.knows; fresh = b.fresh; pending = b.pending; early = b.early; flags = b.flags })
-along one laws r period p ts c s (Frame ∷ es) holds past h =
-    let step : ℕ = count_step (layout_mode p.plan.layout) in
-    let frame : List Fib = read_frame r p.plan.layout (frame_bytes p s) in
-    let now = agrees_by one laws r period p ts c s holds past h in
-    let rest = along one laws r period p ts c (after_frame p s) es (frame_holds p ts c s holds) (after_read step past frame) (inr now.after) in
-    record {
-      room = ap (λ b. cond b true (frames_full step period (after_read step past frame) (read_frames r (frames_of p.plan.layout (run_frames p (after_frame p s) es))))) now.room ∙ rest.room;
-      plain = all_append (λ (found : Finding). KeepsWord found.what) (findings_in (frame_fibs p.plan.layout) step period past frame) _ (frame_found (frame_fibs p.plan.layout) step period past frame now.found)
-          (subst (λ (b : Bool). AllByRecursion (λ (found : Finding). KeepsWord found.what) (cond b [] (findings_of (frame_fibs p.plan.layout) step period (after_read step past frame) (read_frames r (frames_of p.plan.layout (run_frames p (after_frame p s) es)))))) (sym now.room) rest.plain);
-    }
-
-pub runs_agree : OneList → Laws → RunsAgree
-runs_agree one laws r p s period waiting events played on =
-    let ts : List Known = played.typed.0 in
-    let code = code_of p s played in
-    let done = along one laws r period p ts code (run p s waiting) events (run_holds p ts code s waiting (played_holds p s played)) [] (inl (refl, on)) in
-    record { room = done.room; plain = done.plain }
+-- contacts between two frames change nothing of it
+pub before_contact : (p : Program) (past : List Moment) (s : State) (d : ℕ) (closed : Bool) → IsBetween p.plan past s → IsBetween p.plan past (happens p s (Contact d closed))
+before_contact p past s d closed b = record { heard = b.heard; is = b.is; knows = b.knows; fresh = b.fresh; pending = b.pending; early = b.early; flags = b.flags }

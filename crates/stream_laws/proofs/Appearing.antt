@@ -12,7 +12,7 @@ use Rattle.fib_reader.specs.Raw.{Raw, raw_entry}
 use Rattle.fib_reader.specs.Listening.{Listening, untuned}
 use Rattle.stream_check.specs.Frames.{Reading}
 use Rattle.stream_check.specs.History.{Item, Moment, said, frame_items, is_cut_off, frames_ended, listening, settles_at}
-use Rattle.stream_check.specs.Stream.{findings_at_items, after_frame as after_read}
+use Rattle.stream_check.specs.Stream.{after_frame as after_read}
 use Rattle.plan_code.specs.declared.plan.Plan.{Plan}
 use Rattle.plan_code.specs.Program.{Program}
 use Rattle.plan_code.specs.Machine.{State}
@@ -24,7 +24,7 @@ use Rattle.plan_runs.proofs.Tracked.{SwapsOn, some_rounds, page_after_below, tur
 use Rattle.plan_runs.proofs.Passing.{not_due}
 use Rattle.plan_runs.proofs.Periods.{Goes, after_goes, sends, sent_period}
 use Rattle.plan_runs.proofs.Right.{pageable}
-use Rattle.plan_runs.proofs.Facts.{Holds, IsCode, airs, code_of}
+use Rattle.plan_runs.proofs.Facts.{Holds, IsCode, airs}
 use Rattle.plan_runs.proofs.Notice.{links}
 use Rattle.plan_listeners.proofs.Knowing.{Still, knows_after}
 use Rattle.plan_listeners.proofs.Frame.{RowSaid, fibs_in, frame_heard, enters, enters_swap, enters_untuned, current_shown, due_current}
@@ -32,18 +32,15 @@ use Rattle.plan_listeners.proofs.Parts.{In}
 use Rattle.plan_listeners.proofs.Pictures.{HasAll, entries_of, contains_in, in_contains, in_fact, fact_in}
 use Rattle.plan_listeners.proofs.Tuned.{Or}
 use Rattle.plan_listeners.proofs.Waiting.{KnowsAt, Nothing, knows_weaker}
-use Rattle.stream_laws.specs.Sorts.{is_of_appearance, RunsAreKnown}
 use Rattle.stream_laws.proofs.Noting.{ensemble_made}
 use Rattle.stream_laws.proofs.Framing.{read_frame}
 use Rattle.stream_laws.proofs.AgreeingRuns.{IsBetween}
-use Rattle.stream_laws.proofs.AgreeingFrames.{IsBefore, agrees_by}
-use Rattle.stream_laws.proofs.Sorting.{AreFreeOf, silences_free, runs_free}
+use Rattle.stream_laws.proofs.Findings.{Each, IsKnown}
 use Rattle.stream_laws.proofs.NoticeFrames.{due_left, next_whole}
 use Rattle.stream_laws.proofs.LastHeard.{said_ended}
-use Rattle.stream_laws.proofs.Following.{Had, Follows, IsFollowing, fibs_heard, follows}
-use Rattle.stream_laws.proofs.Flagging.{follows_contact}
+use Rattle.stream_laws.proofs.Following.{Had, Follows, fibs_heard}
 use Rattle.stream_laws.proofs.Ages.{ComesIn, comes_in, comes_before, FrameLaws, current_inside, begun_left, none_before, left_on}
-use Rattle.stream_laws.proofs.Settling.{narrow, Enters, frame_settled, headed_settles, swap_where_due, still_settles}
+use Rattle.stream_laws.proofs.Settling.{Enters, frame_settled, headed_settles, swap_where_due, still_settles}
 
 -- ---- which entries are known
 
@@ -129,10 +126,10 @@ settles_after laws r period p ts c s holds past C N en bound to outside old =
       knows = knows_weaker plan t.left t.current t.next t.count D (Due plan period later t ms (page_after pages u.page_index) bound) M Nothing h.after had (λ x no_entry. absurd no_entry) next;
     }
 
--- the findings in a frame, and what is known after it
-record Step (r : Reading) (period : ℕ) (p : Program) (s : State) (past : List Moment) : Type 0 where
-  found : AreFreeOf is_of_appearance (findings_at_items (count_step (layout_mode p.plan.layout)) period past (frame_items (read_frame r p.plan.layout (frame_bytes p s))))
-  after : Settles p.plan period (after_read (count_step (layout_mode p.plan.layout)) past (read_frame r p.plan.layout (frame_bytes p s))) (after_frame p s)
+-- the entries of a frame that are known, and what is known after it
+pub record Step (r : Reading) (period : ℕ) (p : Program) (s : State) (past : List Moment) : Type 0 where
+  pub known : Each (IsKnown (count_step (layout_mode p.plan.layout)) period) past (frame_items (read_frame r p.plan.layout (frame_bytes p s)))
+  pub after : Settles p.plan period (after_read (count_step (layout_mode p.plan.layout)) past (read_frame r p.plan.layout (frame_bytes p s))) (after_frame p s)
 
 some_period : (p : Program) (ts : List Known) → IsCode p ts → 1 ≤ p.plan.period
 some_period p ts c = omega (arith, c.program.planned.period_from)
@@ -155,7 +152,7 @@ first_step laws r period p ts c s holds on long =
       whole = λ settled. absurd (let le = at_most _ _ settled in omega (arith, le, settles, ended, long, some));
     } in
     record {
-      found = frame_settled laws r period p ts c s holds [] Nothing Nothing en;
+      known = frame_settled laws r period p ts c s holds [] Nothing Nothing en;
       after = settles_after laws r period p ts c s holds [] Nothing Nothing en (plan.period - 1) (omega (arith, some)) (λ none. omega (arith, some))
           (λ m fact page below inside d comes late. absurd (let short = comes.0 in omega (arith, late, settles, short, few)));
     }
@@ -186,7 +183,7 @@ swap_step laws r period p ts c s holds past between g due long b cut =
       whole = λ settled. by b cut (at_most _ _ settled) settles ended known some long;
     } in
     record {
-      found = frame_settled laws r period p ts c s holds past C Nothing en;
+      known = frame_settled laws r period p ts c s holds past C Nothing en;
       after = settles_after laws r period p ts c s holds past C Nothing en (plan.period - 1) (omega (arith, some)) (λ left. omega (arith, some))
           (λ m fact page below inside d comes late. known_by b cut settles d late known few comes.0 m.entry (fact_in false (entries_of u.current) m (contains_in (facts_of u.current false) m fact)).1);
     }
@@ -301,24 +298,16 @@ plain_step laws r period p ts c s holds past between g due long b first =
           };
     } in
     record {
-      found = frame_settled laws r period p ts c s holds past C N en;
+      known = frame_settled laws r period p ts c s holds past C N en;
       after = plain_after laws r period p ts c s holds past between g due en b first;
     }
 
 -- ---- along a run
 
-abbrev IsSettling : ℕ → Plan → List Moment → State → Type 0
+abbrev pub IsSettling : ℕ → Plan → List Moment → State → Type 0
 IsSettling period plan past s = ((past ≡ []) × (s.count % count_step (layout_mode plan.layout) ≡ 0)) ⊎ (IsBetween plan past s × Follows plan past s × Settles plan period past s)
 
-following : (period : ℕ) (plan : Plan) (past : List Moment) (s : State) → IsSettling period plan past s → IsFollowing plan past s
-following period plan past s (inl first) = inl first
-following period plan past s (inr (b, f, g)) = inr (b, f)
-
-before_of : (period : ℕ) (plan : Plan) (past : List Moment) (s : State) → IsSettling period plan past s → IsBefore plan past s
-before_of period plan past s (inl first) = inl first
-before_of period plan past s (inr (b, f, g)) = inr b
-
-settles_contact : (period : ℕ) (p : Program) (past : List Moment) (s : State) (d : ℕ) (closed : Bool) → Settles p.plan period past s → Settles p.plan period past (happens p s (Contact d closed))
+pub settles_contact : (period : ℕ) (p : Program) (past : List Moment) (s : State) (d : ℕ) (closed : Bool) → Settles p.plan period past s → Settles p.plan period past (happens p s (Contact d closed))
 settles_contact period p past s d closed g =
     let t : State = happens p s (Contact d closed) in
     let plan : Plan = p.plan in
@@ -337,40 +326,11 @@ settles_contact period p past s d closed g =
           (λ x due. record { m = due.m; is = due.is; fact = due.fact; page = due.page; below = due.below; inside = due.inside; d = due.d; comes = due.comes; late = due.late }) (λ x no_entry. no_entry) g.knows;
     }
 
-settling_contact : (period : ℕ) (p : Program) (past : List Moment) (s : State) (d : ℕ) (closed : Bool) → IsSettling period p.plan past s → IsSettling period p.plan past (happens p s (Contact d closed))
-settling_contact period p past s d closed (inl first) = inl first
-settling_contact period p past s d closed (inr (b, f, g)) =
-    elim (follows_contact p past s d closed (inr (b, f))) [
-      | inl first ↦ inl first
-      | inr both ↦ inr (both.0, both.1, settles_contact period p past s d closed g)
-    ]
-
-step_by : FrameLaws → (r : Reading) (period : ℕ) (p : Program) (ts : List Known) → IsCode p ts → (s : State) → Holds p ts s → (past : List Moment) → IsSettling period p.plan past s → 2 * p.plan.period ≤ period + 1 → Step r period p s past
-step_by laws r period p ts c s holds past (inl (none, on)) long =
+pub settled_step : FrameLaws → (r : Reading) (period : ℕ) (p : Program) (ts : List Known) → IsCode p ts → (s : State) → Holds p ts s → (past : List Moment) → IsSettling period p.plan past s → 2 * p.plan.period ≤ period + 1 → Step r period p s past
+settled_step laws r period p ts c s holds past (inl (none, on)) long =
     subst (λ (l : List Moment). Step r period p s l) (sym none) (first_step laws r period p ts c s holds on long)
-step_by laws r period p ts c s holds past (inr (b, f, g)) long = by (is_due s.left) refl
+settled_step laws r period p ts c s holds past (inr (b, f, g)) long = by (is_due s.left) refl
   where
     by : (t : Bool) → is_due s.left ≡ t → Step r period p s past
     by true due = swap_step laws r period p ts c s holds past b f due long (is_cut_off past) refl
     by false due = plain_step laws r period p ts c s holds past b g due long (is_first_noticed p.plan.notice (shown p s).left) refl
-
-pub runs_are_known : FrameLaws → RunsAreKnown
-runs_are_known laws r p s period waiting events played on long =
-    let ts : List Known = played.typed.0 in
-    let c = code_of p s played in
-    runs_free is_of_appearance narrow laws.one laws.heard r p s period waiting events played on (IsSettling period p.plan)
-    (record {
-      contact = λ past t d closed holds inv. settling_contact period p past t d closed inv;
-      frame = λ past t holds before inv.
-          let step = step_by laws r period p ts c t holds past inv long in
-          record {
-            items = step.found;
-            last = silences_free is_of_appearance (λ name. refl) _;
-            after = inr (
-              (agrees_by laws.one laws.heard r period p ts c t holds past (before_of period p.plan past t inv)).after,
-              follows laws.one laws.heard r p ts c t holds past (following period p.plan past t inv),
-              step.after,
-            );
-          };
-    })
-    (inl (refl, on))

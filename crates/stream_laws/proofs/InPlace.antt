@@ -1,6 +1,6 @@
 -- The frames of a run and the FIG 0/0 in them are as the checker requires.
-use Rattle.std.proofs.Common.{◌≡◌, ◌≢◌, ℕ, zero, suc, ◌+◌, ◌%◌, ◌==◌, ◌&&◌, Bool, true, false, cond, not, nat_lt, List, [], ◌∷◌, ◌++◌, length, Option, Some, None, refl, sym, ap, ◌∙◌, subst, arith, inl, inr, ◌⊎◌}
-use Rattle.std.specs.Prelude.{map, unwrap_or}
+use Rattle.std.proofs.Common.{◌≡◌, ◌≢◌, ℕ, zero, suc, ◌+◌, ◌%◌, ◌==◌, ◌&&◌, Bool, true, false, cond, not, List, [], ◌∷◌, length, Option, Some, None, refl, sym, ap, ◌∙◌, subst, arith, inl, inr, ◌⊎◌}
+use Rattle.std.specs.Prelude.{map}
 use Rattle.std.specs.List.{AllByRecursion}
 use Rattle.std.proofs.lemmas.Bool.{false≢true, eq-eqb, ne_eqb, le-ltb}
 use Rattle.std.proofs.lemmas.Bool.Decides.{eqb_tells}
@@ -9,38 +9,24 @@ use Rattle.mux_entries.specs.Entries.{EnsembleInformation}
 use Rattle.fib_codec.specs.Grammar.{Open, OneList, is_next, is_long}
 use Rattle.fib_codec.specs.Heard.{fib_at}
 use Rattle.fib_codec.specs.Modes.{count_step}
-use Rattle.fib_reader.specs.Raw.{Raw, raw_of}
+use Rattle.fib_reader.specs.Raw.{raw_of}
 use Rattle.fib_reader.specs.Laws.{EnsembleIsHeard}
-use Rattle.fib_reader.specs.Listening.{identifier_of}
-use Rattle.stream_check.specs.declared.finding.Fault.{Fault}
-use Rattle.stream_check.specs.declared.finding.Fault.TheVariants as faults
-use Rattle.stream_check.specs.declared.finding.What.{What}
-use Rattle.stream_check.specs.declared.finding.Finding.{Finding}
-use Rattle.stream_check.specs.declared.reporting.FrameAt.{FrameAt}
-use Rattle.stream_check.specs.Reporting.{when, as_list, in_frame}
 use Rattle.stream_check.specs.Frames.{Fib, Reading, damaged_in, first_opening, is_there, begins_with_ensemble, lacks_opening}
 use Rattle.stream_check.specs.History.{Item, Moment, Said, said, fibs_items, frame_items, is_ensemble, ensemble_of, due, eid_of, last_eid, is_in_place}
-use Rattle.stream_check.specs.Lookup.{lookup_in}
-use Rattle.stream_check.specs.Rules.{Known, known_of, name_of, partner, overlap_or, overlap, ends_past, past_end, is_other, is_placed, is_of_other_ensemble, has_other_count, place_faults, makes_swap, notice_faults, unit_faults, swap_findings, swap_or_another, announces_another, occurrence_of, announces_first, announcement, ensemble_findings, current_findings, next_findings, member_findings, is_other_one, has_no_room, findings_at, silence, silent_findings, awaited_low, changes}
-use Rattle.stream_check.specs.Stream.{count_due, placed_count, count_of_frame, first_line, frame_findings, findings_at_items, runs_full, frame_at, last_findings, findings_in, after_frame as after_read, findings_of}
+use Rattle.stream_check.specs.Rules.{Known, known_of, is_other, is_placed}
+use Rattle.stream_check.specs.Stream.{count_due, placed_count, count_of_frame, after_frame as after_read}
 use Rattle.stream_check.proofs.Members.{member_eid}
 use Rattle.plan_code.specs.declared.plan.Plan.{Plan}
 use Rattle.plan_code.specs.declared.instr.Instr.{Instr}
 use Rattle.plan_code.specs.declared.instr.Instr.TheVariants.{Wait, Until, WaitContact, CommitIn, CommitAt, Join, Settle, End, Edit as Edits, Test, Jump, Set, Loop}
 use Rattle.plan_code.specs.Program.{Program, instr_at}
 use Rattle.plan_code.specs.Machine.{State, step, settle, effect, effect_of}
-use Rattle.plan_runs.specs.declared.event.Event.{Event}
-use Rattle.plan_runs.specs.declared.event.Event.TheVariants.{Contact, Frame}
 use Rattle.plan_runs.specs.Frames.{is_due, with_swap, with_due_swap, is_running, is_here, burst, ready, after_burst, is_first_noticed, shown, frame_bytes, after_frame}
-use Rattle.plan_runs.specs.Runs.{happens, run, run_frames}
-use Rattle.plan_runs.specs.RightBytes.{IsHeadedBy, IsRight, FramesAreRight}
-use Rattle.plan_runs.specs.Headline.{HeadlineHolds}
+use Rattle.plan_runs.specs.RightBytes.{IsHeadedBy, IsRight}
 use Rattle.plan_runs.proofs.Clock.{shown_count}
-use Rattle.stream_laws.specs.Notices.{read_frames}
-use Rattle.stream_laws.specs.Framing.{frames_of}
-use Rattle.stream_laws.specs.InPlace.{is_of_frame, IsInPlace, RunsAreInPlace}
 use Rattle.stream_laws.proofs.Rows.{HasNone}
-use Rattle.stream_laws.proofs.Framing.{is_read, IsQuiet, header_of, heading_fib, figs_none, fibs_none, later_fibs, first_of_fibs, later_quiet, read_frame, frame_size, all_quiet, all_append, right_after}
+use Rattle.stream_laws.proofs.Findings.{IsFrameFine, IsPlaceFine, Each, each_other, IsWellPlaced}
+use Rattle.stream_laws.proofs.Framing.{is_read, IsQuiet, header_of, heading_fib, figs_none, fibs_none, later_fibs, first_of_fibs, later_quiet, read_frame, frame_size, all_quiet, all_append}
 
 -- ---- the EId of a run does not change
 
@@ -82,94 +68,6 @@ shown_eid p s =
     let start : (ready s).eid ≡ s.eid = either_eid (is_here (with_due_swap s) (with_due_swap s).hold) _ (with_due_swap s) s.eid swap swap in
     let same : t.eid ≡ s.eid = burst_eid p.plan.budget p (ready s) ∙ start in
     either_eid (is_first_noticed p.plan.notice t.left) _ t s.eid same same
-
--- ---- other faults
-
-abbrev IsOther : List What → Type 0
-IsOther ws = AllByRecursion IsInPlace ws
-
-when_other : (b : Bool) (fault : Fault) → is_of_frame fault ≡ false → IsOther (when b fault)
-when_other true fault e = (e, tt)
-when_other false fault e = tt
-
-when_not : (b : Bool) (fault : Fault) → b ≡ false → IsOther (when b fault)
-when_not true fault e = absurd (false≢true (sym e))
-when_not false fault e = tt
-
-abbrev IsOtherFault : Option Fault → Type 0
-IsOtherFault None = Unit {0}
-IsOtherFault (Some fault) = is_of_frame fault ≡ false
-
-listed : (o : Option Fault) → IsOtherFault o → IsOther (as_list o)
-listed None h = tt
-listed (Some fault) h = (h, tt)
-
-or_other : (o : Option ℕ) (a : Raw) (later : Option Fault) → IsOtherFault later → IsOtherFault (overlap_or o a later)
-or_other None a later h = h
-or_other (Some b) a later h = refl
-
-overlap_other : (rs : List Raw) → IsOtherFault (overlap rs)
-overlap_other [] = tt
-overlap_other (r ∷ rs) = or_other (partner r rs) r (overlap rs) (overlap_other rs)
-
-past_other : (rs : List Raw) → IsOtherFault (past_end rs)
-past_other [] = tt
-past_other (r ∷ rs) = elim (ends_past r) as (λ t. IsOtherFault (cond t (Some (faults.PastEnd (identifier_of r))) (past_end rs))) [ true ↦ refl | false ↦ past_other rs ]
-
-notice_other : (k : Known) → IsOther (notice_faults k)
-notice_other k =
-    all_append IsInPlace (when (not k.is_cut_off && nat_lt k.times 3) (faults.AnnouncedTimes k.times)) _ (when_other _ (faults.AnnouncedTimes k.times) refl)
-    (all_append IsInPlace (when (not k.is_cut_off && nat_lt k.heard 3) (faults.NextHeard k.heard)) _ (when_other _ (faults.NextHeard k.heard) refl) (when_other _ (faults.Flags k.flags (changes k)) refl))
-
-unit_other : (k : Known) → IsOther (unit_faults k)
-unit_other k =
-    all_append IsInPlace (as_list (overlap k.listener.next.subs)) (as_list (past_end k.listener.next.subs))
-    (listed (overlap k.listener.next.subs) (overlap_other k.listener.next.subs)) (listed (past_end k.listener.next.subs) (past_other k.listener.next.subs))
-
-swap_other : (k : Known) (e : EnsembleInformation) → IsOther (swap_findings k e)
-swap_other k e = (
-  tt,
-  all_append IsInPlace (when (not (e.count % 250 == awaited_low k)) (faults.AnnouncedFor (awaited_low k))) (notice_faults k ++ unit_faults k)
-      (when_other _ (faults.AnnouncedFor (awaited_low k)) refl)
-      (all_append IsInPlace (notice_faults k) (unit_faults k) (notice_other k) (unit_other k)),
-)
-
-either_other : (b : Bool) (xs ys : List What) → IsOther xs → IsOther ys → IsOther (cond b xs ys)
-either_other true xs ys x y = x
-either_other false xs ys x y = y
-
-announcement_other : (k : Known) (e : EnsembleInformation) → IsOther (announcement k e)
-announcement_other k e = either_other (announces_first k e) _ [] (tt, when_other _ (faults.NoSwapAt (occurrence_of e)) refl) tt
-
-ensemble_other : (k : Known) (first : Bool) (e : EnsembleInformation) → IsOther (place_faults k first e) → IsOther (ensemble_findings k first e)
-ensemble_other k first e place =
-    all_append IsInPlace (place_faults k first e) _ place
-    (all_append IsInPlace (swap_or_another k e) _ (either_other (makes_swap k e) (swap_findings k e) _ (swap_other k e) (when_other (announces_another k e) (faults.AnnouncedAgain e.change (occurrence_of e)) refl))
-    (all_append IsInPlace (announcement k e) _ (announcement_other k e) (when_other _ faults.NextUnannounced refl)))
-
-next_other : (k : Known) (raw : Raw) → IsOther (next_findings k raw)
-next_other k raw = all_append IsInPlace (when (not k.has_begun && k.has_ensemble) faults.NextUnannounced) _ (when_other _ faults.NextUnannounced refl) (when_other _ (faults.NextChanged (name_of raw)) refl)
-
-current_other : (k : Known) (raw : Raw) → IsOther (current_findings k raw)
-current_other k raw = all_append IsInPlace (when (is_other_one (lookup_in raw k.listener.current)) (faults.Changed (name_of raw))) _ (when_other _ (faults.Changed (name_of raw)) refl) (when_other _ (faults.Appeared (name_of raw)) refl)
-
-member_other : (k : Known) (next : Bool) (raw : Raw) → IsOther (member_findings k next raw)
-member_other k next raw = either_other k.listener.tuned _ [] (either_other next (next_findings k raw) (current_findings k raw) (next_other k raw) (current_other k raw)) tt
-
-items_other : (step period : ℕ) (items : List Item) (past : List Moment) → HasNone items → IsOther (findings_at_items step period past items)
-items_other step period [] past none = tt
-items_other step period (i ∷ is) past none =
-    either_other (has_no_room (known_of step period past) i) [] _ tt
-    (all_append IsInPlace (findings_at (known_of step period past) i) _
-    (subst IsOther (sym (ap (λ t. cond t (ensemble_findings (known_of step period past) i.first (ensemble_of i)) (member_findings (known_of step period past) i.next i.raw)) none.0)) (member_other (known_of step period past) i.next i.raw))
-    (items_other step period is (Said i ∷ past) none.1))
-
-silence_other : (rs : List Raw) → IsOther (map silence rs)
-silence_other [] = tt
-silence_other (r ∷ rs) = (refl, silence_other rs)
-
-last_other : (full : Bool) (period : ℕ) (past : List Moment) → IsOther (last_findings full period past)
-last_other full period past = either_other full [] (silent_findings period past) tt (silence_other _)
 
 -- ---- a frame with FIG 0/0
 
@@ -228,53 +126,41 @@ and_not false b e = refl
 
 -- FIG 0/0 in place
 placed : (step period : ℕ) (past : List Moment) (s : State) (first : Bool) (e : EnsembleInformation) → IsDue step past s → first ≡ true → e.count ≡ s.count → e.eid ≡ s.eid → s.count % step ≡ 0
-    → IsOther (place_faults (known_of step period past) first e)
+    → IsPlaceFine (known_of step period past) first e
 placed step period past s first e known one count eid on =
     let k : Known = known_of step period past in
     let on_step : (e.count % step == 0) ≡ true = eq-eqb (e.count % step) 0 (ap (λ n. n % step) count ∙ on) in
-    let is : is_placed k first e ≡ true = ap (λ b. b && (e.count % step == 0)) one ∙ on_step in
     let last : (due past ≡ None) ⊎ (due past ≡ Some s.count) = elim known [ inl none ↦ inl none.0 | inr some ↦ inr some.0 ] in
     let ensemble : (last_eid step past ≡ None) ⊎ (last_eid step past ≡ Some s.eid) = elim known [ inl none ↦ inl none.1 | inr some ↦ inr some.1 ] in
-    all_append IsInPlace (when (is_of_other_ensemble k first e) (faults.OtherEnsemble e.eid)) _
-    (when_not (is_of_other_ensemble k first e) (faults.OtherEnsemble e.eid) (and_not (is_placed k first e) _ (not_other e.eid s.eid (last_eid step past) ensemble eid)))
-    (all_append IsInPlace (when (has_other_count k first e) (faults.Count (unwrap_or k.due 0))) _
-    (when_not (has_other_count k first e) (faults.Count (unwrap_or k.due 0)) (and_not (is_placed k first e) _ (not_other e.count s.count (due past) last count)))
-    (when_not (not (is_placed k first e)) faults.OutOfPlace (ap not is)))
+    record {
+      eid = and_not (is_placed k first e) _ (not_other e.eid s.eid (last_eid step past) ensemble eid);
+      count = and_not (is_placed k first e) _ (not_other e.count s.count (due past) last count);
+      placed = ap (λ b. b && (e.count % step == 0)) one ∙ on_step;
+    }
 
 -- the frame as a whole
-whole_frame : (size step : ℕ) (last : Option ℕ) (frame : List Fib) → length frame ≡ size → damaged_in frame ≡ 0 → (count_due last frame % step == 0 && lacks_opening frame) ≡ false → IsOther (frame_findings size step last frame)
-whole_frame size step last frame same whole there =
-    all_append IsInPlace (first_line last frame) _ (first_event last)
-    (all_append IsInPlace (when (nat_lt (length frame) size) (faults.ShortFrame (length frame))) _
-    (when_not (nat_lt (length frame) size) (faults.ShortFrame (length frame)) (le-ltb (length frame) size (omega (arith, same))))
-    (all_append IsInPlace (when (nat_lt 0 (damaged_in frame)) (faults.Damaged (damaged_in frame))) _
-    (when_not (nat_lt 0 (damaged_in frame)) (faults.Damaged (damaged_in frame)) (le-ltb 0 (damaged_in frame) (omega (arith, whole))))
-    (when_not (count_due last frame % step == 0 && lacks_opening frame) faults.NoEnsemble there)))
-  where
-    first_event : (o : Option ℕ) → IsOther (first_line o frame)
-    first_event None = (tt, tt)
-    first_event (Some count) = tt
+whole_frame : (size step : ℕ) (last : Option ℕ) (frame : List Fib) → length frame ≡ size → damaged_in frame ≡ 0 → (count_due last frame % step == 0 && lacks_opening frame) ≡ false → IsFrameFine size step last frame
+whole_frame size step last frame same whole there = record {
+  full = le-ltb (length frame) size (omega (arith, same));
+  whole = le-ltb 0 (damaged_in frame) (omega (arith, whole));
+  opens = there;
+}
 
-map_in_place : (at : FrameAt) (ws : List What) → IsOther ws → AllByRecursion (λ (found : Finding). IsInPlace found.what) (map (in_frame at) ws)
-map_in_place at [] all = tt
-map_in_place at (w ∷ ws) all = (all.0, map_in_place at ws all.1)
-
-all_found : (size step period : ℕ) (past : List Moment) (frame : List Fib) → IsOther (frame_findings size step (due past) frame) → IsOther (findings_at_items step period past (frame_items frame))
-    → AllByRecursion (λ (found : Finding). IsInPlace found.what) (findings_in size step period past frame)
-all_found size step period past frame whole items =
-    map_in_place (frame_at step past frame) _
-    (all_append IsInPlace (frame_findings size step (due past) frame) _ whole
-    (all_append IsInPlace (findings_at_items step period past (frame_items frame)) _ items (last_other (runs_full step period past (frame_items frame)) period (said (frame_items frame) past))))
+-- entries other than FIG 0/0 have no place
+none_placed : (step period : ℕ) (items : List Item) (past : List Moment) → HasNone items → Each (IsWellPlaced step period) past items
+none_placed step period items past none =
+    each_other (IsWellPlaced step period) (λ before i other ens. absurd (false≢true (sym other ∙ ens))) items past none
 
 said_eid : (step : ℕ) (items : List Item) (past : List Moment) → HasNone items → last_eid step (said items past) ≡ last_eid step past
 said_eid step [] past none = refl
 said_eid step (i ∷ is) past none = said_eid step is (Said i ∷ past) none.1 ∙ sym (member_eid step past i none.0)
 
--- the findings in a frame, and what is known after it
-record IsRightFrame (size step period : ℕ) (past : List Moment) (frame : List Fib) (count eid : ℕ) : Type 0 where
-  found : AllByRecursion (λ (f : Finding). IsInPlace f.what) (findings_in size step period past frame)
-  counted : count_of_frame step (due past) frame ≡ count
-  same : last_eid step (after_read step past frame) ≡ Some eid
+-- the frame and the place of its FIG 0/0, and what is known after it
+pub record IsRightFrame (size step period : ℕ) (past : List Moment) (frame : List Fib) (count eid : ℕ) : Type 0 where
+  pub whole : IsFrameFine size step (due past) frame
+  pub place : Each (IsWellPlaced step period) past (frame_items frame)
+  pub counted : count_of_frame step (due past) frame ≡ count
+  pub same : last_eid step (after_read step past frame) ≡ Some eid
 
 head_eid : (step : ℕ) (i : Item) (s : State) (o : Option ℕ) → is_ensemble i ≡ true → (ensemble_of i).eid ≡ s.eid → (o ≡ None) ⊎ (o ≡ Some s.eid) → eid_of step i o ≡ Some s.eid
 head_eid step i s o e same (inl none) = ap (eid_of step i) none ∙ ap (λ t. cond t (Some (ensemble_of i).eid) None) e ∙ ap Some same
@@ -287,19 +173,14 @@ head_eid step i s o e same (inr some) = ap (eid_of step i) some ∙ either (is_i
 with_header : (size step period : ℕ) (past : List Moment) (s : State) (frame : List Fib) (e : EnsembleInformation) → length frame ≡ size → IsHeaded frame e → IsDue step past s
     → e.count ≡ s.count → e.eid ≡ s.eid → s.count % step ≡ 0 → IsRightFrame size step period past frame s.count s.eid
 with_header size step period past s frame e len h known count eid on =
-    let k : Known = known_of step period past in
     let head_count : (ensemble_of h.head).count ≡ s.count = ap (λ (x : EnsembleInformation). x.count) h.says ∙ count in
     let head_same : (ensemble_of h.head).eid ≡ s.eid = ap (λ (x : EnsembleInformation). x.eid) h.says ∙ eid in
     let place = placed step period past s h.head.first (ensemble_of h.head) known h.first head_count head_same on in
-    let at_head : IsOther (findings_at k h.head) =
-    subst IsOther (sym (ap (λ t. cond t (ensemble_findings k h.head.first (ensemble_of h.head)) (member_findings k h.head.next h.head.raw)) h.ensemble)) (ensemble_other k h.head.first (ensemble_of h.head) place) in
-    let items : IsOther (findings_at_items step period past (h.head ∷ h.rest)) =
-    either_other (has_no_room k h.head) [] _ tt (all_append IsInPlace (findings_at k h.head) _ at_head (items_other step period h.rest (Said h.head ∷ past) h.none)) in
     let ensemble : (last_eid step past ≡ None) ⊎ (last_eid step past ≡ Some s.eid) = elim known [ inl none ↦ inl none.1 | inr some ↦ inr some.1 ] in
     record {
-      found = all_found size step period past frame
-          (whole_frame size step (due past) frame len h.whole (and_not (count_due (due past) frame % step == 0) (lacks_opening frame) h.lacks))
-          (subst (λ (is : List Item). IsOther (findings_at_items step period past is)) (sym h.are) items);
+      whole = whole_frame size step (due past) frame len h.whole (and_not (count_due (due past) frame % step == 0) (lacks_opening frame) h.lacks);
+      place = subst (λ (is : List Item). Each (IsWellPlaced step period) past is) (sym h.are)
+          ((λ ens. place), none_placed step period h.rest (Said h.head ∷ past) h.none);
       counted = ap (placed_count step (count_due (due past) frame)) h.opens
           ∙ ap (λ t. cond t e.count (count_due (due past) frame)) (eq-eqb (e.count % step) 0 (ap (λ n. n % step) count ∙ on)) ∙ count;
       same = ap (λ is. last_eid step (said is past)) h.are ∙ said_eid step h.rest (Said h.head ∷ past) h.none ∙ head_eid step h.head s (last_eid step past) h.ensemble head_same ensemble;
@@ -316,24 +197,19 @@ without_header size step period past s frame len quiet known off =
     let count : count_due (due past) frame ≡ s.count = ap (λ o. count_due o frame) known.0 in
     let off_step : (count_due (due past) frame % step == 0) ≡ false = ap (λ n. n % step == 0) count ∙ ne_eqb (s.count % step) 0 off in
     record {
-      found = all_found size step period past frame
-          (whole_frame size step (due past) frame len (none_damaged frame quiet) (ap (λ b. b && lacks_opening frame) off_step))
-          (items_other step period (frame_items frame) past none);
+      whole = whole_frame size step (due past) frame len (none_damaged frame quiet) (ap (λ b. b && lacks_opening frame) off_step);
+      place = none_placed step period (frame_items frame) past none;
       counted = ap (placed_count step (count_due (due past) frame)) (quiet_opening frame quiet) ∙ count;
       same = said_eid step (frame_items frame) past none ∙ known.1;
     }
 
 -- ---- along a run
 
-either_found : (b : Bool) (xs : List Finding) → AllByRecursion (λ (f : Finding). IsInPlace f.what) xs → AllByRecursion (λ (f : Finding). IsInPlace f.what) (cond b [] xs)
-either_found true xs all = tt
-either_found false xs all = all
-
 -- before the first frame, or after it
-abbrev IsBegun : ℕ → List Moment → State → Type 0
+abbrev pub IsBegun : ℕ → List Moment → State → Type 0
 IsBegun step past s = ((due past ≡ None) × (last_eid step past ≡ None) × (s.count % step ≡ 0)) ⊎ ((due past ≡ Some s.count) × (last_eid step past ≡ Some s.eid))
 
-frame_right : OneList → EnsembleIsHeard → (r : Reading) (p : Program) (s : State) (period : ℕ) (past : List Moment) → IsRight p.plan (shown p s) (frame_bytes p s) → IsBegun (count_step (layout_mode p.plan.layout)) past s
+pub frame_right : OneList → EnsembleIsHeard → (r : Reading) (p : Program) (s : State) (period : ℕ) (past : List Moment) → IsRight p.plan (shown p s) (frame_bytes p s) → IsBegun (count_step (layout_mode p.plan.layout)) past s
     → IsRightFrame (frame_fibs p.plan.layout) (count_step (layout_mode p.plan.layout)) period past (read_frame r p.plan.layout (frame_bytes p s)) s.count s.eid
 frame_right one heard r p s period past right known =
     let step : ℕ = count_step (layout_mode p.plan.layout) in
@@ -353,20 +229,11 @@ frame_right one heard r p s period past right known =
           (all_quiet one r p.plan (shown p s) (frame_bytes p s) right off_now) before off.1
     ]
 
-along : OneList → EnsembleIsHeard → (r : Reading) (p : Program) (s : State) (period : ℕ) (events : List Event) (past : List Moment) → FramesAreRight p s events → IsBegun (count_step (layout_mode p.plan.layout)) past s
-    → AllByRecursion (λ (f : Finding). IsInPlace f.what) (findings_of (frame_fibs p.plan.layout) (count_step (layout_mode p.plan.layout)) period past (read_frames r (frames_of p.plan.layout (run_frames p s events))))
-along one heard r p s period [] past all known = tt
-along one heard r p s period (Contact c closed ∷ es) past all known = along one heard r p (happens p s (Contact c closed)) period es past all known
-along one heard r p s period (Frame ∷ es) past all known =
-    let step : ℕ = count_step (layout_mode p.plan.layout) in
-    let frame : List Fib = read_frame r p.plan.layout (frame_bytes p s) in
-    let now = frame_right one heard r p s period past all.0 known in
-    let count : (after_frame p s).count ≡ (s.count + 1) % 5000 = ap (λ n. (n + 1) % 5000) (shown_count p s) in
-    let due_now : due (after_read step past frame) ≡ Some (after_frame p s).count = ap (λ n. Some ((n + 1) % 5000)) now.counted ∙ ap Some (sym count) in
-    let same_now : last_eid step (after_read step past frame) ≡ Some (after_frame p s).eid = now.same ∙ ap Some (sym (shown_eid p s)) in
-    all_append (λ (f : Finding). IsInPlace f.what) (findings_in (frame_fibs p.plan.layout) step period past frame) _ now.found
-    (either_found (runs_full step period past (frame_items frame)) _ (along one heard r p (after_frame p s) period es (after_read step past frame) all.1 (inr (due_now, same_now))))
-
-pub runs_are_in_place : OneList → EnsembleIsHeard → HeadlineHolds → RunsAreInPlace
-runs_are_in_place one heard headline r p s period waiting events played on =
-    along one heard r p (run p s waiting) period events [] (right_after p s waiting events (headline p s (waiting ++ events) played).right) (inl (refl, refl, on))
+-- one frame later
+pub begun_after : (p : Program) (s : State) (size period : ℕ) (past : List Moment) (frame : List Fib) → IsRightFrame size (count_step (layout_mode p.plan.layout)) period past frame s.count s.eid
+    → (due (after_read (count_step (layout_mode p.plan.layout)) past frame) ≡ Some (after_frame p s).count) × (last_eid (count_step (layout_mode p.plan.layout)) (after_read (count_step (layout_mode p.plan.layout)) past frame) ≡ Some (after_frame p s).eid)
+begun_after p s size period past frame h =
+    let count : (after_frame p s).count ≡ (s.count + 1) % 5000 = ap (λ n. (n + 1) % 5000) (shown_count p s) in (
+      ap (λ n. Some ((n + 1) % 5000)) h.counted ∙ ap Some (sym count),
+      h.same ∙ ap Some (sym (shown_eid p s)),
+    )

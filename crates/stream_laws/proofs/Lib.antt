@@ -18,6 +18,7 @@ pub mod OwnUnits
 pub mod Held
 pub mod Cutting
 pub mod Framing
+pub mod Findings
 pub mod InPlace
 pub mod Sending
 pub mod LookedUp
@@ -26,9 +27,7 @@ pub mod Agreeing
 pub mod AgreeingRuns
 pub mod AgreeingFrames
 pub mod Named
-pub mod TimelyFaults
 pub mod Timely
-pub mod Sorting
 pub mod NoticeFrames
 pub mod Following
 pub mod Flagging

@@ -44,7 +44,8 @@ use Rattle.stream_laws.proofs.Framing.{all_append, read_frame}
 use Rattle.stream_laws.proofs.Sending.{IsSentItem, IsHeadOf, frame_said}
 use Rattle.stream_laws.proofs.Agreeing.{sent_ext, none_or_some}
 use Rattle.stream_laws.proofs.AgreeingRuns.{IsBetween, on_air, flags_on, still, on_by, zero_or_some, awaits_by, due_awaits, due_low}
-use Rattle.stream_laws.proofs.AgreeingFrames.{agrees_by, is_sent, not_sent}
+use Rattle.stream_laws.proofs.AgreeingFrames.{agrees_by, is_sent, not_sent, before_contact}
+use Rattle.stream_laws.proofs.Findings.{items_room}
 
 -- ---- findings other than a swap
 
@@ -241,6 +242,17 @@ made_where_due p ts c s holds past h = by (none_or_some h.heard.awaited) (due_or
         let other : s.count % 250 ≢ low = not_now s.count low w.k holds.tracked.count more short w.low_is in
         made_low low some ∙ both_false ((ensemble_of p.plan (shown p s)).change == 0) _ flags (ne_eqb ((ensemble_of p.plan (shown p s)).count % 250) low (λ e. other (sym (ap (λ n. n % 250) count) ∙ e))) ∙ sym apart
 
+-- a swap that is made was due
+pub made_due : (p : Program) (ts : List Known) → IsCode p ts → (s : State) → Holds p ts s → (past : List Moment) → IsBetween p.plan past s → (e : EnsembleInformation) → e ≡ ensemble_of p.plan (shown p s)
+    → is_made (listener_after past).awaited e ≡ true → is_due s.left ≡ true
+made_due p ts c s holds past h e says made =
+    let same : listener_after past ≡ h.heard = after_is past h.heard h.is in
+    sym (made_where_due p ts c s holds past h) ∙ sym (ap (is_made h.heard.awaited) says) ∙ sym (ap (λ (x : Listening). is_made x.awaited e) same) ∙ made
+
+-- where none is awaited, none is made
+pub none_made : {X : Type 0} (e : EnsembleInformation) (o : Option ℕ) → o ≡ None → is_made o e ≡ true → X
+none_made e o none made = absurd (false≢true (sym (ap (λ x. is_made x e) none) ∙ made))
+
 -- the swaps reported in a frame
 items_named : OneList → Laws → (r : Reading) (n period : ℕ) (p : Program) (ts : List Known) → IsCode p ts → (s : State) → Holds p ts s → (past : List Moment) → IsBetween p.plan past s
     → named n (findings_at_items (count_step (layout_mode p.plan.layout)) period past (frame_items (read_frame r p.plan.layout (frame_bytes p s)))) ≡ cond (is_due s.left) (n ∷ []) []
@@ -287,8 +299,7 @@ along : OneList → Laws → (r : Reading) (period : ℕ) (p : Program) (ts : Li
     → swap_frames (findings_of (frame_fibs p.plan.layout) (count_step (layout_mode p.plan.layout)) period past (read_frames r (frames_of p.plan.layout (run_frames p s events)))) ≡ due_frames p (frames_ended past) s events
 along one laws r period p ts c s [] holds past h = refl
 along one laws r period p ts c s (Contact d closed ∷ es) holds past h =
-    along one laws r period p ts c (happens p s (Contact d closed)) es (happens_holds p ts c s (Contact d closed) holds) past
-    (record { heard = h.heard; is = h.is; knows = h.knows; fresh = h.fresh; pending = h.pending; early = h.early; flags = h.flags })
+    along one laws r period p ts c (happens p s (Contact d closed)) es (happens_holds p ts c s (Contact d closed) holds) past (before_contact p past s d closed h)
 along one laws r period p ts c s (Frame ∷ es) holds past h =
     let size : ℕ = frame_fibs p.plan.layout in
     let step : ℕ = count_step (layout_mode p.plan.layout) in
@@ -300,7 +311,7 @@ along one laws r period p ts c s (Frame ∷ es) holds past h =
     frame_named size step period past frame ∙ items_named one laws r (frames_ended past) period p ts c s holds past h in
     let number : frames_ended (after_read step past frame) ≡ frames_ended past + 1 = ap (λ n. n + 1) (ended_more (frame_items frame) past) in
     frames_both (findings_in size step period past frame) _
-    ∙ ap (λ b. swap_frames (findings_in size step period past frame) ++ swap_frames (cond b [] later)) now.room
+    ∙ ap (λ b. swap_frames (findings_in size step period past frame) ++ swap_frames (cond b [] later)) (items_room step period (frame_items frame) past now.word)
     ∙ ap (λ l. l ++ swap_frames later) here
     ∙ ap (λ l. cond (is_due s.left) (frames_ended past ∷ []) [] ++ l) (rest ∙ ap (λ n. due_frames p n (after_frame p s) es) number)
     ∙ joined (is_due s.left)
@@ -340,7 +351,7 @@ from_first one laws r period p ts c s (Frame ∷ es) holds on =
     let here : swap_frames (findings_in size step period [] frame) ≡ [] = frame_named size step period [] frame ∙ first_named one laws r period p ts c s holds on in
     let number : frames_ended (after_read step [] frame) ≡ 1 = ap (λ n. n + 1) (ended_more (frame_items frame) []) in
     frames_both (findings_in size step period [] frame) _
-    ∙ ap (λ b. swap_frames (findings_in size step period [] frame) ++ swap_frames (cond b [] later)) now.room
+    ∙ ap (λ b. swap_frames (findings_in size step period [] frame) ++ swap_frames (cond b [] later)) (items_room step period (frame_items frame) [] now.word)
     ∙ ap (λ l. l ++ swap_frames later) here
     ∙ rest ∙ ap (λ n. due_frames p n (after_frame p s) es) number
 

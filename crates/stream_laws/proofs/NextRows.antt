@@ -107,10 +107,10 @@ first_noticing laws r p ts c s holds whole count after all =
     (λ on cut. absurd (false≢true (sym cut ∙ cut_first laws.one laws.heard r p ts c s holds here on))) (on_air plan (shown p s)) refl
 
 pub noticing : FrameLaws → (r : Reading) (period : ℕ) (p : Program) (ts : List Known) → IsCode p ts → (s : State) → Holds p ts s → (past : List Moment) → IsReading p.plan past s
-    → IsReading p.plan (after_read (count_step (layout_mode p.plan.layout)) past (read_frame r p.plan.layout (frame_bytes p s))) (after_frame p s)
+    → IsNoticing p.plan (after_read (count_step (layout_mode p.plan.layout)) past (read_frame r p.plan.layout (frame_bytes p s))) (after_frame p s)
 noticing laws r period p ts c s holds past reading =
     let now = agrees_by laws.one laws.heard r period p ts c s holds past (before_of p.plan past s reading) in
-    inr (now.after, by reading now.after.heard now.after.is)
+    by reading now.after.heard now.after.is
   where
     by : IsReading p.plan past s → (after : Listening) → listening (said (frame_items (read_frame r p.plan.layout (frame_bytes p s))) past) ≡ Some after
         → IsNoticing p.plan (after_read (count_step (layout_mode p.plan.layout)) past (read_frame r p.plan.layout (frame_bytes p s))) (after_frame p s)
@@ -120,15 +120,11 @@ noticing laws r period p ts c s holds past reading =
         (sym none) (λ heard. first_noticing laws r p ts c s holds on _ after heard) all
     by (inr (b, g)) after all = next_noticing laws r p ts c s holds past b g _ after all
 
-pub noticing_contact : (p : Program) (past : List Moment) (s : State) (d : ℕ) (closed : Bool) → IsReading p.plan past s → IsReading p.plan past (happens p s (Contact d closed))
-noticing_contact p past s d closed (inl first) = inl first
-noticing_contact p past s d closed (inr (b, g)) =
-    let t : State = happens p s (Contact d closed) in
-    let heard : heard_of p.plan t ≡ heard_of p.plan s = heard_contacts p.plan s d closed s.left refl in
-    inr (
-      record { heard = b.heard; is = b.is; knows = b.knows; fresh = b.fresh; pending = b.pending; early = b.early; flags = b.flags },
-      record {
-        fresh = λ e. g.fresh (sym heard ∙ e);
-        rowed = λ cut. subst (λ (hs : List (List ℕ)). IsRowed hs (rows past)) (sym heard) (g.rowed cut);
-      },
-    )
+-- contacts between two frames change no rows
+pub noticing_contact : (p : Program) (past : List Moment) (s : State) (d : ℕ) (closed : Bool) → IsNoticing p.plan past s → IsNoticing p.plan past (happens p s (Contact d closed))
+noticing_contact p past s d closed g =
+    let heard : heard_of p.plan (happens p s (Contact d closed)) ≡ heard_of p.plan s = heard_contacts p.plan s d closed s.left refl in
+    record {
+      fresh = λ e. g.fresh (sym heard ∙ e);
+      rowed = λ cut. subst (λ (hs : List (List ℕ)). IsRowed hs (rows past)) (sym heard) (g.rowed cut);
+    }

@@ -1,88 +1,266 @@
--- No fault is found in the frames of a run: the laws of all sorts of faults together.
-use Rattle.std.proofs.Common.{◌≡◌, true, false, List, [], ◌∷◌, sym}
+-- No fault is found in the frames of a run, since what the checker has noted is what the run did.
+use Rattle.std.proofs.Common.{◌≡◌, ℕ, ◌%◌, Bool, true, false, cond, List, [], ◌∷◌, ◌++◌, Option, Some, refl, sym, ap, ◌∙◌, subst, inl, inr, ◌⊎◌}
 use Rattle.std.specs.List.{AllByRecursion}
 use Rattle.std.proofs.lemmas.Bool.{false≢true}
+use Rattle.fib_codec.specs.Layouts.{frame_fibs}
+use Rattle.mux_entries.specs.Entries.{EnsembleInformation}
+use Rattle.stream_check.specs.declared.finding.EntryName.{EntryName}
 use Rattle.stream_check.specs.declared.finding.Fault.{Fault}
 use Rattle.stream_check.specs.declared.finding.Fault.TheVariants as faults
 use Rattle.stream_check.specs.declared.finding.What.{What}
 use Rattle.stream_check.specs.declared.finding.What.TheVariants as whats
 use Rattle.stream_check.specs.declared.finding.Finding.{Finding}
 use Rattle.stream_check.specs.Parts.{IsTheMost}
+use Rattle.stream_check.specs.Frames.{Fib, Reading}
+use Rattle.stream_check.specs.History.{Item, Moment, Said, frame_items, ensemble_of as said_ensemble, listener_after, due, last_eid}
+use Rattle.stream_check.specs.Rules.{known_of, makes_swap}
+use Rattle.stream_check.specs.Stream.{runs_full, findings_in, after_frame as after_read, findings_of, frames_full}
+use Rattle.plan_code.specs.declared.plan.Plan.{Plan}
+use Rattle.plan_code.specs.Program.{Program}
+use Rattle.plan_code.specs.Machine.{State}
+use Rattle.plan_verifier.specs.Typing.{Known}
+use Rattle.plan_runs.specs.declared.event.Event.{Event}
+use Rattle.plan_runs.specs.declared.event.Event.TheVariants.{Contact, Frame}
+use Rattle.plan_runs.specs.Frames.{shown, frame_bytes, ensemble_of, after_frame}
+use Rattle.plan_runs.specs.Runs.{happens, run}
+use Rattle.plan_runs.specs.RightBytes.{FrameIsRight, FramesAreRight}
 use Rattle.plan_runs.specs.Headline.{HeadlineHolds}
-use Rattle.stream_laws.specs.InPlace.{IsInPlace}
-use Rattle.stream_laws.specs.Agreeing.{KeepsWord}
-use Rattle.stream_laws.specs.Times.{IsTimely}
-use Rattle.stream_laws.specs.Sorts.{IsFreeOf, is_of_flags, is_of_silence, is_of_appearance, is_of_repetition}
+use Rattle.plan_runs.proofs.Facts.{Holds, IsCode, airs, frame_holds, happens_holds, run_holds, code_of, played_holds}
+use Rattle.plan_listeners.proofs.Frame.{zero_or_not}
+use Rattle.stream_laws.specs.Sorts.{is_of_word, is_of_period, IsFreeOf, IsFreeUnlessShort, step_of, run_read, RunIsFreeOf, IsLongFor, HoldsOfRuns, RunsAreFree, RunsAgree}
 use Rattle.stream_laws.specs.Faultless.{IsNoFault}
 use Rattle.stream_laws.specs.Faults.{RunsAreFaultless}
-use Rattle.stream_laws.proofs.InPlace.{runs_are_in_place}
-use Rattle.stream_laws.proofs.AgreeingFrames.{runs_agree}
-use Rattle.stream_laws.proofs.Timely.{runs_are_timely}
-use Rattle.stream_laws.proofs.Flagging.{SwapLaws, runs_flag_the_change}
-use Rattle.stream_laws.proofs.Ages.{FrameLaws}
-use Rattle.stream_laws.proofs.Silence.{runs_are_never_silent}
-use Rattle.stream_laws.proofs.Appearing.{runs_are_known}
-use Rattle.stream_laws.proofs.Repeating.{runs_repeat_the_next}
+use Rattle.stream_laws.proofs.Rows.{HasNone}
+use Rattle.stream_laws.proofs.Framing.{all_append, read_frame, right_after}
+use Rattle.stream_laws.proofs.Sending.{IsHeadOf, frame_said}
+use Rattle.stream_laws.proofs.Findings.{Each, each_other, IsNoticeFine, IsWellNoticed, items_room, IsFrameFree, found_free}
+use Rattle.stream_laws.proofs.InPlace.{IsBegun, frame_right, begun_after}
+use Rattle.stream_laws.proofs.AgreeingRuns.{IsBetween, on_air}
+use Rattle.stream_laws.proofs.AgreeingFrames.{agrees_by, is_sent, not_sent, before_contact}
+use Rattle.stream_laws.proofs.Named.{none_of, made_due, none_made}
+use Rattle.stream_laws.proofs.Timely.{IsCounted, not_too_soon, counted_after}
+use Rattle.stream_laws.proofs.Following.{Follows, follows}
+use Rattle.stream_laws.proofs.Flagging.{SwapLaws, follows_contact, flags_change}
+use Rattle.stream_laws.proofs.NoticeRows.{IsNoticing}
+use Rattle.stream_laws.proofs.NextRows.{noticing, noticing_contact}
+use Rattle.stream_laws.proofs.Repeating.{repeated}
+use Rattle.stream_laws.proofs.Ages.{FrameLaws, AreAged, ages}
+use Rattle.stream_laws.proofs.Silence.{none_silent, ages_contact}
+use Rattle.stream_laws.proofs.Appearing.{Settles, settles_contact, settled_step}
 
--- what each law says about one finding
-pub record IsOfNone (w : What) : Type 0 where
-  pub place : IsInPlace w
-  pub word : KeepsWord w
-  pub times : IsTimely w
-  pub flags : IsFreeOf is_of_flags w
-  pub silence : IsFreeOf is_of_silence w
-  pub known : IsFreeOf is_of_appearance w
-  pub repeated : IsFreeOf is_of_repetition w
+-- ---- what the checker has noted
 
-never : {X : Type 0} → true ≡ false → X
-never e = absurd (false≢true (sym e))
+-- after frames of a run, before the frame of this state
+pub record Noted (period : ℕ) (p : Program) (past : List Moment) (s : State) : Type 0 where
+  -- the count and the EId that are due are those of the state
+  pub count : due past ≡ Some s.count
+  pub eid : last_eid (step_of p) past ≡ Some s.eid
+  -- so are the configurations, as far as they were heard, the change flags and the swap that is awaited
+  pub between : IsBetween p.plan past s
+  -- the notice was announced in each of its frames with FIG 0/0
+  pub counted : IsCounted p.plan past s.left
+  -- its entries are those of its frames, and each frame has a row of them
+  pub heard : Follows p.plan past s
+  pub rows : IsNoticing p.plan past s
+  -- each entry was heard when its page was in turn
+  pub aged : AreAged p.plan past s
+  -- each entry is known, or will be before the current configuration is settled
+  pub settles : IsLongFor p period → Settles p.plan period past s
 
-none_is : (f : Fault) → IsOfNone (whats.Fault f) → ⊥
-none_is (faults.ShortFrame fibs) h = never h.place
-none_is (faults.Damaged fibs) h = never h.place
-none_is faults.NoEnsemble h = never h.place
-none_is (faults.OtherEnsemble eid) h = never h.place
-none_is (faults.Count due) h = never h.place
-none_is faults.OutOfPlace h = never h.place
-none_is (faults.AnnouncedAgain flags low) h = never h.word
-none_is (faults.NoSwapAt low) h = never h.word
-none_is faults.NextUnannounced h = never h.word
-none_is (faults.Changed name) h = never h.word
-none_is (faults.NextChanged name) h = never h.word
-none_is (faults.Appeared name) h = never h.known
-none_is (faults.AnnouncedFor low) h = never h.word
-none_is (faults.AnnouncedTimes times) h = never h.times
-none_is (faults.NextHeard times) h = never h.repeated
-none_is (faults.Flags flags changes) h = never h.flags
-none_is (faults.Overlap a b) h = never h.word
-none_is (faults.PastEnd a) h = never h.word
-none_is (faults.Silent name) h = never h.silence
+-- nothing was heard, and the next frame has FIG 0/0; or frames were heard
+abbrev pub IsNoted : ℕ → Program → List Moment → State → Type 0
+IsNoted period p past s = ((past ≡ []) × (s.count % step_of p ≡ 0)) ⊎ Noted period p past s
 
-one_is : (w : What) → IsOfNone w → IsNoFault w
-one_is (whats.Event e) h = tt
-one_is (whats.Fault f) h = none_is f h
+or_noted : {First Any : Type 0} (period : ℕ) (p : Program) (past : List Moment) (s : State) → First ⊎ Noted period p past s → (Noted period p past s → Any) → First ⊎ Any
+or_noted period p past s (inl first) f = inl first
+or_noted period p past s (inr h) f = inr (f h)
 
-abbrev Each : (What → Type 0) → List Finding → Type 0
-Each P fs = AllByRecursion (λ found. P found.what) fs
+begun : (period : ℕ) (p : Program) (past : List Moment) (s : State) → IsNoted period p past s → IsBegun (step_of p) past s
+begun period p past s (inl (none, on)) = inl (ap due none, ap (last_eid (step_of p)) none, on)
+begun period p past s (inr h) = inr (h.count, h.eid)
 
-all_are : (fs : List Finding) → Each IsInPlace fs → Each KeepsWord fs → Each IsTimely fs → Each (IsFreeOf is_of_flags) fs → Each (IsFreeOf is_of_silence) fs → Each (IsFreeOf is_of_appearance) fs → Each (IsFreeOf is_of_repetition) fs
-    → Each IsNoFault fs
-all_are [] a b c d e f g = tt
-all_are (x ∷ xs) a b c d e f g = (
-  one_is x.what (record { place = a.0; word = b.0; times = c.0; flags = d.0; silence = e.0; known = f.0; repeated = g.0 }),
-  all_are xs a.1 b.1 c.1 d.1 e.1 f.1 g.1,
-)
+noted_contact : (period : ℕ) (p : Program) (past : List Moment) (s : State) (d : ℕ) (closed : Bool) → IsNoted period p past s → IsNoted period p past (happens p s (Contact d closed))
+noted_contact period p past s d closed (inl first) = inl first
+noted_contact period p past s d closed (inr h) =
+    inr (record {
+      count = h.count;
+      eid = h.eid;
+      between = before_contact p past s d closed h.between;
+      counted = h.counted;
+      heard = follows_contact p past s d closed h.heard;
+      rows = noticing_contact p past s d closed h.rows;
+      aged = ages_contact p past s d closed h.aged;
+      settles = λ long. settles_contact period p past s d closed (h.settles long);
+    })
 
-pub runs_are_faultless : HeadlineHolds → IsTheMost → SwapLaws → FrameLaws → RunsAreFaultless
-runs_are_faultless headline most swap laws r p s period waiting events played on long =
-    let agree = runs_agree laws.one laws.heard r p s period waiting events played on in
+-- ---- the notice of a swap
+
+notice_fine : IsTheMost → SwapLaws → FrameLaws → (period : ℕ) (p : Program) (ts : List Known) → IsCode p ts → (s : State) → Holds p ts s → (past : List Moment) → IsNoted period p past s
+    → (e : EnsembleInformation) → e ≡ ensemble_of p.plan (shown p s) → makes_swap (known_of (step_of p) period past) e ≡ true → IsNoticeFine (known_of (step_of p) period past)
+notice_fine most swap laws period p ts c s holds past (inl (none, on)) e says made =
+    none_made e (listener_after past).awaited (ap (λ (l : List Moment). (listener_after l).awaited) none) made
+notice_fine most swap laws period p ts c s holds past (inr h) e says made =
+    let due = made_due p ts c s holds past h.between e says made in
     record {
-      room = agree.room;
-      plain = all_are _ (runs_are_in_place laws.one laws.heard.ensemble headline r p s period waiting events played on)
-          agree.plain
-          (runs_are_timely laws.one laws.heard r p s period waiting events played on)
-          (runs_flag_the_change swap r p s period waiting events played on)
-          (runs_are_never_silent laws r p s period waiting events played on long)
-          (runs_are_known laws r p s period waiting events played on long)
-          (runs_repeat_the_next most laws r p s period waiting events played on);
+      times = not_too_soon p ts c s past h.counted due;
+      heard = repeated most laws p ts c s holds past h.between h.rows due;
+      flags = flags_change swap p ts c s holds past h.between h.heard due e made;
     }
+
+none_noticed : (step period : ℕ) (items : List Item) (past : List Moment) → HasNone items → Each (IsWellNoticed step period) past items
+none_noticed step period items past none =
+    each_other (IsWellNoticed step period) (λ before i other ens. absurd (false≢true (sym other ∙ ens))) items past none
+
+well_noticed : IsTheMost → SwapLaws → FrameLaws → (r : Reading) (period : ℕ) (p : Program) (ts : List Known) → IsCode p ts → (s : State) → Holds p ts s → (past : List Moment) → IsNoted period p past s
+    → Each (IsWellNoticed (step_of p) period) past (frame_items (read_frame r p.plan.layout (frame_bytes p s)))
+well_noticed most swap laws r period p ts c s holds past n =
+    let plan : Plan = p.plan in
+    let u : State = shown p s in
+    let fs = frame_said laws.one laws.heard r plan u (airs p ts c s holds) in
+    let none = none_of (on_air plan u) u fs.members fs.sent in
+    elim (zero_or_not (u.count % step_of p)) [
+      | inl on ↦
+          let head = subst (λ (o : Option EnsembleInformation). IsHeadOf o fs.heads) (is_sent plan u on) fs.header in
+          subst (λ (is : List Item). Each (IsWellNoticed (step_of p) period) past is) (sym (fs.are ∙ ap (λ hs. hs ++ fs.members) head.1)) (
+            (λ ens made. notice_fine most swap laws period p ts c s holds past n (said_ensemble head.0) head.3 made),
+            none_noticed (step_of p) period fs.members (Said head.0 ∷ past) none,
+          )
+      | inr off ↦
+          let bare : fs.heads ≡ [] = subst (λ (o : Option EnsembleInformation). IsHeadOf o fs.heads) (not_sent plan u off) fs.header in
+          subst (λ (is : List Item). Each (IsWellNoticed (step_of p) period) past is) (sym (fs.are ∙ ap (λ hs. hs ++ fs.members) bare))
+          (none_noticed (step_of p) period fs.members past none)
+    ]
+
+-- ---- one frame
+
+-- nothing is at fault in it, and it is noted
+record NextNoted (r : Reading) (period : ℕ) (p : Program) (s : State) (past : List Moment) : Type 0 where
+  free : IsFrameFree (IsLongFor p period) (frame_fibs p.plan.layout) (step_of p) period past (read_frame r p.plan.layout (frame_bytes p s))
+  after : Noted period p (after_read (step_of p) past (read_frame r p.plan.layout (frame_bytes p s))) (after_frame p s)
+
+next_noted : IsTheMost → SwapLaws → FrameLaws → (r : Reading) (period : ℕ) (p : Program) (ts : List Known) → IsCode p ts → (s : State) → Holds p ts s → (past : List Moment) → FrameIsRight p s → IsNoted period p past s
+    → NextNoted r period p s past
+next_noted most swap laws r period p ts c s holds past right n =
+    let place = frame_right laws.one laws.heard.ensemble r p s period past right (begun period p past s n) in
+    let later = begun_after p s (frame_fibs p.plan.layout) period past (read_frame r p.plan.layout (frame_bytes p s)) place in
+    let agrees = agrees_by laws.one laws.heard r period p ts c s holds past (or_noted period p past s n (λ h. h.between)) in
+    let aging = or_noted period p past s n (λ h. (h.between, h.aged)) in
+    let known = λ (long : IsLongFor p period). settled_step laws r period p ts c s holds past (or_noted period p past s n (λ h. (h.between, h.heard, h.settles long))) long in
+    record {
+      free = record {
+        whole = place.whole;
+        place = place.place;
+        word = agrees.word;
+        notice = well_noticed most swap laws r period p ts c s holds past n;
+        known = λ long. (known long).known;
+        sent = λ long x inside. none_silent laws r period p ts c s holds past aging long x inside;
+      };
+      after = record {
+        count = later.0;
+        eid = later.1;
+        between = agrees.after;
+        counted = counted_after laws.one laws.heard r p ts c s holds past (or_noted period p past s n (λ h. (h.between, h.counted)));
+        heard = follows laws.one laws.heard r p ts c s holds past (or_noted period p past s n (λ h. (h.between, h.heard)));
+        rows = noticing laws r period p ts c s holds past (or_noted period p past s n (λ h. (h.between, h.rows)));
+        aged = ages laws r period p ts c s holds past aging;
+        settles = λ long. (known long).after;
+      };
+    }
+
+-- ---- along a run
+
+record FreeAfter (r : Reading) (period : ℕ) (p : Program) (s : State) (events : List Event) (past : List Moment) : Type 0 where
+  room : frames_full (step_of p) period past (run_read r p s events) ≡ false
+  plain : AllByRecursion (λ (found : Finding). IsFreeUnlessShort (IsLongFor p period) found.what) (findings_of (frame_fibs p.plan.layout) (step_of p) period past (run_read r p s events))
+
+along : IsTheMost → SwapLaws → FrameLaws → (r : Reading) (period : ℕ) (p : Program) (ts : List Known) → IsCode p ts → (s : State) (events : List Event) → Holds p ts s → (past : List Moment) → FramesAreRight p s events → IsNoted period p past s
+    → FreeAfter r period p s events past
+along most swap laws r period p ts c s [] holds past right n = record { room = refl; plain = tt }
+along most swap laws r period p ts c s (Contact d closed ∷ es) holds past right n =
+    let rest = along most swap laws r period p ts c (happens p s (Contact d closed)) es (happens_holds p ts c s (Contact d closed) holds) past right (noted_contact period p past s d closed n) in
+    record { room = rest.room; plain = rest.plain }
+along most swap laws r period p ts c s (Frame ∷ es) holds past right n =
+    let step : ℕ = step_of p in
+    let size : ℕ = frame_fibs p.plan.layout in
+    let frame : List Fib = read_frame r p.plan.layout (frame_bytes p s) in
+    let later : List (List Fib) = run_read r p (after_frame p s) es in
+    let P : Finding → Type 0 = λ (found : Finding). IsFreeUnlessShort (IsLongFor p period) found.what in
+    let now = next_noted most swap laws r period p ts c s holds past right.0 n in
+    let room : runs_full step period past (frame_items frame) ≡ false = items_room step period (frame_items frame) past now.free.word in
+    let rest = along most swap laws r period p ts c (after_frame p s) es (frame_holds p ts c s holds) (after_read step past frame) right.1 (inr now.after) in
+    record {
+      room = ap (λ b. cond b true (frames_full step period (after_read step past frame) later)) room ∙ rest.room;
+      plain = all_append P (findings_in size step period past frame) _ (found_free (IsLongFor p period) size step period past frame now.free)
+          (subst (λ (b : Bool). AllByRecursion P (cond b [] (findings_of size step period (after_read step past frame) later))) (sym room) rest.plain);
+    }
+
+pub runs_are_free : HeadlineHolds → IsTheMost → SwapLaws → FrameLaws → RunsAreFree
+runs_are_free headline most swap laws r p s period waiting events played on =
+    let ts : List Known = played.typed.0 in
+    let code = code_of p s played in
+    let right = right_after p s waiting events (headline p s (waiting ++ events) played).right in
+    let all = along most swap laws r period p ts code (run p s waiting) events (run_holds p ts code s waiting (played_holds p s played)) [] right (inl (refl, on)) in
+    record { room = all.room; plain = all.plain }
+
+-- ---- one sort of faults
+
+each_found : {P Q : What → Type 0} → ((w : What) → P w → Q w) → (fs : List Finding) → AllByRecursion (λ found. P found.what) fs → AllByRecursion (λ found. Q found.what) fs
+each_found f [] all = tt
+each_found f (x ∷ xs) all = (f x.what all.0, each_found f xs all.1)
+
+-- a sort without faults that depend on the period
+pub record DependsOnNoPeriod (sort : Fault → Bool) : Type 0 where
+  pub appeared : (name : EntryName) → sort (faults.Appeared name) ≡ false
+  pub silent : (name : EntryName) → sort (faults.Silent name) ≡ false
+
+other_sort : (sort : Fault → Bool) → DependsOnNoPeriod sort → (f : Fault) → is_of_period f ≡ true → sort f ≡ false
+other_sort sort h (faults.Appeared name) is = h.appeared name
+other_sort sort h (faults.Silent name) is = h.silent name
+other_sort sort h (faults.ShortFrame fibs) is = absurd (false≢true is)
+other_sort sort h (faults.Damaged fibs) is = absurd (false≢true is)
+other_sort sort h faults.NoEnsemble is = absurd (false≢true is)
+other_sort sort h (faults.OtherEnsemble eid) is = absurd (false≢true is)
+other_sort sort h (faults.Count due) is = absurd (false≢true is)
+other_sort sort h faults.OutOfPlace is = absurd (false≢true is)
+other_sort sort h (faults.AnnouncedAgain flags low) is = absurd (false≢true is)
+other_sort sort h (faults.NoSwapAt low) is = absurd (false≢true is)
+other_sort sort h faults.NextUnannounced is = absurd (false≢true is)
+other_sort sort h (faults.Changed name) is = absurd (false≢true is)
+other_sort sort h (faults.NextChanged name) is = absurd (false≢true is)
+other_sort sort h (faults.AnnouncedFor low) is = absurd (false≢true is)
+other_sort sort h (faults.AnnouncedTimes times) is = absurd (false≢true is)
+other_sort sort h (faults.NextHeard times) is = absurd (false≢true is)
+other_sort sort h (faults.Flags flags changes) is = absurd (false≢true is)
+other_sort sort h (faults.Overlap a b) is = absurd (false≢true is)
+other_sort sort h (faults.PastEnd a) is = absurd (false≢true is)
+
+one_free : (sort : Fault → Bool) → DependsOnNoPeriod sort → (L : Type 0) (w : What) → IsFreeUnlessShort L w → IsFreeOf sort w
+one_free sort h L (whats.Event e) free = tt
+one_free sort h L (whats.Fault f) free = other_sort sort h f free.0
+
+one_long : (sort : Fault → Bool) (L : Type 0) → L → (w : What) → IsFreeUnlessShort L w → IsFreeOf sort w
+one_long sort L long (whats.Event e) free = tt
+one_long sort L long (whats.Fault f) free = absurd (free.1 long)
+
+one_none : (L : Type 0) → L → (w : What) → IsFreeUnlessShort L w → IsNoFault w
+one_none L long (whats.Event e) free = tt
+one_none L long (whats.Fault f) free = free.1 long
+
+pub free_runs : (sort : Fault → Bool) → DependsOnNoPeriod sort → RunsAreFree → HoldsOfRuns (RunIsFreeOf sort)
+free_runs sort h free r p s period waiting events played on =
+    each_found (one_free sort h (IsLongFor p period)) _ (free r p s period waiting events played on).plain
+
+pub long_runs : (sort : Fault → Bool) → RunsAreFree → HoldsOfRuns (λ r p s period events. IsLongFor p period → RunIsFreeOf sort r p s period events)
+long_runs sort free r p s period waiting events played on long =
+    each_found (one_long sort (IsLongFor p period) long) _ (free r p s period waiting events played on).plain
+
+pub runs_agree : RunsAreFree → RunsAgree
+runs_agree free r p s period waiting events played on = record {
+  room = (free r p s period waiting events played on).room;
+  plain = free_runs is_of_word (record { appeared = λ name. refl; silent = λ name. refl }) free r p s period waiting events played on;
+}
+
+pub runs_are_faultless : RunsAreFree → RunsAreFaultless
+runs_are_faultless free r p s period waiting events played on long =
+    let all = free r p s period waiting events played on in
+    record { room = all.room; plain = each_found (one_none (IsLongFor p period) long) _ all.plain }

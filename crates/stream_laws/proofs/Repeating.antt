@@ -1,60 +1,33 @@
 -- At each swap of a run the next configuration could be read three times.
-use Rattle.std.proofs.Common.{◌≡◌, ℕ, ◌≤◌, ◌&&◌, Bool, true, false, not, nat_lt, List, [], ◌∷◌, Contains, Option, None, refl, sym, ap, ◌∙◌, subst, arith, inl, inr, le-ltb}
+use Rattle.std.proofs.Common.{◌≡◌, ℕ, ◌≤◌, ◌&&◌, Bool, true, false, not, nat_lt, List, [], ◌∷◌, Contains, Option, refl, sym, ap, ◌∙◌, subst, arith, le-ltb}
 use Rattle.std.specs.Prelude.{map}
-use Rattle.std.proofs.lemmas.Bool.{false≢true}
-use Rattle.fib_codec.specs.Layouts.{layout_mode}
 use Rattle.mux_config.specs.Configuration.{Configuration}
-use Rattle.mux_entries.specs.Entries.{EnsembleInformation}
 use Rattle.mux_entries.specs.Facts.{Marked, marked, facts_of}
-use Rattle.fib_codec.specs.Modes.{count_step}
-use Rattle.fib_reader.specs.Listening.{Listening, all_entries, is_made}
+use Rattle.fib_reader.specs.Listening.{Listening, all_entries}
 use Rattle.stream_check.specs.Pictures.{key_of}
 use Rattle.stream_check.specs.Parts.{IsTheMost}
 use Rattle.stream_check.specs.History.{Moment, listener_after, is_cut_off, rows}
-use Rattle.stream_check.specs.Rules.{known_of, wanted, times_heard, makes_swap}
+use Rattle.stream_check.specs.Rules.{wanted, times_heard}
 use Rattle.stream_check.proofs.Members.{after_is}
 use Rattle.stream_check.proofs.Greedily.{three_or_more}
 use Rattle.plan_code.specs.Program.{Program}
 use Rattle.plan_code.specs.Machine.{State}
 use Rattle.plan_verifier.specs.Typing.{Known}
 use Rattle.plan_runs.specs.declared.event.Event.TheVariants.{Frame}
-use Rattle.plan_runs.specs.Frames.{is_due, shown, ensemble_of}
+use Rattle.plan_runs.specs.Frames.{is_due}
 use Rattle.plan_runs.specs.Announced.{heard_of, IsAnnounced}
-use Rattle.plan_runs.proofs.Facts.{Holds, IsCode, code_of}
+use Rattle.plan_runs.proofs.Facts.{Holds, IsCode}
 use Rattle.plan_runs.proofs.Announcing.{swaps_run}
 use Rattle.plan_listeners.proofs.Pictures.{whole_of, IsPartial, entries_of, contains_in, in_contains, fact_in, in_fact}
 use Rattle.plan_listeners.proofs.Knowing.{KnowsPending, KnowsBy}
 use Rattle.plan_listeners.proofs.Waiting.{Nothing}
-use Rattle.stream_laws.specs.Sorts.{is_of_repetition, RunsRepeatTheNext}
 use Rattle.stream_laws.proofs.AgreeingRuns.{IsBetween}
 use Rattle.stream_laws.proofs.Bytes.{map_contains}
 use Rattle.stream_laws.proofs.NoticeFrames.{due_left}
-use Rattle.stream_laws.proofs.Sorting.{IsNarrow, IsSwapSpared, silences_free, runs_free}
-use Rattle.stream_laws.proofs.Flagging.{items_free, made_due}
 use Rattle.stream_laws.proofs.Ages.{FrameLaws}
 use Rattle.stream_laws.proofs.Silence.{entry_of}
 use Rattle.stream_laws.proofs.NextParts.{AreKeysOf, announced_thrice}
-use Rattle.stream_laws.proofs.NextRows.{noticing, noticing_contact}
-use Rattle.stream_laws.proofs.NoticeRows.{IsReading}
-
-narrow : IsNarrow is_of_repetition
-narrow = record {
-  short = λ fibs. refl;
-  damaged = λ fibs. refl;
-  none = refl;
-  other = λ eid. refl;
-  count = λ due. refl;
-  place = refl;
-  again = λ flags low. refl;
-  falls = λ low. refl;
-  unannounced = refl;
-  changed = λ name. refl;
-  next_changed = λ name. refl;
-  for = λ low. refl;
-  times = λ times. refl;
-  shared = λ a b. refl;
-  past = λ a. refl;
-}
+use Rattle.stream_laws.proofs.NoticeRows.{IsNoticing}
 
 -- ---- what is wanted in the frames of a notice
 
@@ -82,34 +55,11 @@ not_few : (cut : Bool) (n : ℕ) → (cut ≡ false → 3 ≤ n) → (not cut &&
 not_few true n h = refl
 not_few false n h = le-ltb n 3 (h refl)
 
-none_made : {X : Type 0} (e : EnsembleInformation) (o : Option ℕ) → o ≡ None → is_made o e ≡ true → X
-none_made e o none made = absurd (false≢true (sym (ap (λ x. is_made x e) none) ∙ made))
-
-repeated : IsTheMost → FrameLaws → (period : ℕ) (p : Program) (ts : List Known) → IsCode p ts → (s : State) → Holds p ts s → (past : List Moment) → IsReading p.plan past s → (e : EnsembleInformation) → e ≡ ensemble_of p.plan (shown p s)
-    → makes_swap (known_of (count_step (layout_mode p.plan.layout)) period past) e ≡ true → IsSwapSpared is_of_repetition (known_of (count_step (layout_mode p.plan.layout)) period past)
-repeated most laws period p ts c s holds past (inl (none, on)) e says made =
-    none_made e (listener_after past).awaited (ap (λ (l : List Moment). (listener_after l).awaited) none) made
-repeated most laws period p ts c s holds past (inr (b, g)) e says made =
-    let due = made_due p ts c s holds past b e says made in
+pub repeated : IsTheMost → FrameLaws → (p : Program) (ts : List Known) → IsCode p ts → (s : State) → Holds p ts s → (past : List Moment) → IsBetween p.plan past s → IsNoticing p.plan past s → is_due s.left ≡ true
+    → (not (is_cut_off past) && nat_lt (times_heard past) 3) ≡ false
+repeated most laws p ts c s holds past b g due =
     let announced : IsAnnounced s.current s.next s.count (heard_of p.plan s) = (swaps_run laws.heard.pages p ts c s (Frame ∷ []) holds).0.announced due in
-    let keys = wanted_keys p ts c s past b due in (
-      inl (not_few (is_cut_off past) (times_heard past) (λ whole.
-          (three_or_more (wanted past) (times_heard past) (rows past) (most (wanted past) (rows past))).1
-          (announced_thrice s.current s.next s.count (heard_of p.plan s) (rows past) (wanted past) announced (g.rowed whole) keys (facts_marked s.next)))),
-      inr refl,
-    )
-
-pub runs_repeat_the_next : IsTheMost → FrameLaws → RunsRepeatTheNext
-runs_repeat_the_next most laws r p s period waiting events played on =
-    let ts : List Known = played.typed.0 in
-    let c = code_of p s played in
-    runs_free is_of_repetition narrow laws.one laws.heard r p s period waiting events played on (IsReading p.plan)
-    (record {
-      contact = λ past t d closed holds inv. noticing_contact p past t d closed inv;
-      frame = λ past t holds before inv. record {
-        items = items_free is_of_repetition narrow (λ name. refl) laws.one laws.heard r period p ts c t holds past (λ e says made. repeated most laws period p ts c t holds past inv e says made);
-        last = silences_free is_of_repetition (λ name. refl) _;
-        after = noticing laws r period p ts c t holds past inv;
-      };
-    })
-    (inl (refl, on))
+    let keys = wanted_keys p ts c s past b due in
+    not_few (is_cut_off past) (times_heard past) (λ whole.
+    (three_or_more (wanted past) (times_heard past) (rows past) (most (wanted past) (rows past))).1
+    (announced_thrice s.current s.next s.count (heard_of p.plan s) (rows past) (wanted past) announced (g.rowed whole) keys (facts_marked s.next)))

@@ -9,13 +9,11 @@ use Rattle.mux_entries.specs.Entries.{EnsembleInformation}
 use Rattle.fib_codec.specs.Modes.{count_step}
 use Rattle.fib_reader.specs.Raw.{Raw, raw_entry}
 use Rattle.fib_reader.specs.Listening.{Pictured, Listening, identifier_of, hear_entry, at_ensemble, is_made}
-use Rattle.stream_check.specs.declared.finding.Fault.TheVariants as faults
 use Rattle.stream_check.specs.declared.heard_table.Lookup.TheVariants as standings
 use Rattle.stream_check.specs.Frames.{Reading}
 use Rattle.stream_check.specs.Lookup.{agree, lookup_among, lookup, lookup_in}
 use Rattle.stream_check.specs.History.{Item, Moment, Said, said, frame_items, is_ensemble, ensemble_of as said_ensemble, frames_ended, listening, listener_after, settles_at, is_swap, is_cut_off}
-use Rattle.stream_check.specs.Rules.{Known as Knowledge, known_of, name_of, is_absent, is_settled, ensemble_findings, member_findings, has_no_room, findings_at}
-use Rattle.stream_check.specs.Stream.{findings_at_items}
+use Rattle.stream_check.specs.Rules.{known_of, is_absent, is_settled}
 use Rattle.stream_check.proofs.Members.{after_is, ensemble_heard, member_heard, member_settles}
 use Rattle.plan_code.specs.declared.plan.Plan.{Plan}
 use Rattle.plan_code.specs.Program.{Program}
@@ -30,7 +28,6 @@ use Rattle.plan_listeners.proofs.Parts.{In, partly, IsPart}
 use Rattle.plan_listeners.proofs.Pictures.{whole_of, IsOf, IsPartial, HasAll, entry_is_of, whole_is_set}
 use Rattle.plan_listeners.proofs.Tuned.{Tuned, Or, SaidIn, hears_entries, tuned_weaker}
 use Rattle.plan_listeners.proofs.Waiting.{Nothing}
-use Rattle.stream_laws.specs.Sorts.{is_of_appearance}
 use Rattle.stream_laws.proofs.Framing.{read_frame}
 use Rattle.stream_laws.proofs.Sending.{IsSentItem, IsHeadOf, frame_said}
 use Rattle.stream_laws.proofs.Agreeing.{sent_ext, one_heard}
@@ -38,7 +35,7 @@ use Rattle.stream_laws.proofs.AgreeingRuns.{IsBetween, on_air}
 use Rattle.stream_laws.proofs.Noting.{ensemble_made}
 use Rattle.stream_laws.proofs.Named.{made_where_due}
 use Rattle.stream_laws.proofs.AgreeingFrames.{is_sent, not_sent}
-use Rattle.stream_laws.proofs.Sorting.{AreFreeOf, IsNarrow, IsSpared, free_both, free_either, head_free, member_free}
+use Rattle.stream_laws.proofs.Findings.{Each, IsKnown}
 use Rattle.stream_laws.proofs.Ages.{FrameLaws}
 
 -- ---- a known entry is not absent
@@ -85,25 +82,6 @@ present_in full C raw p (inr (inr (ext, inside))) h c =
 
 -- ---- the entries of a frame
 
-pub narrow : IsNarrow is_of_appearance
-narrow = record {
-  short = λ fibs. refl;
-  damaged = λ fibs. refl;
-  none = refl;
-  other = λ eid. refl;
-  count = λ due. refl;
-  place = refl;
-  again = λ flags low. refl;
-  falls = λ low. refl;
-  unannounced = refl;
-  changed = λ name. refl;
-  next_changed = λ name. refl;
-  for = λ low. refl;
-  times = λ times. refl;
-  shared = λ a b. refl;
-  past = λ a. refl;
-}
-
 and_false : (a b : Bool) → b ≡ false → (a && b) ≡ false
 and_false true b e = e
 and_false false b e = refl
@@ -113,11 +91,10 @@ abbrev pub IsSettledAt : ℕ → List Moment → Type 0
 IsSettledAt period past = nat_le (settles_at period past) (frames_ended past) ≡ true
 
 pub members_settled : (step period : ℕ) (on : Bool) (c n : Configuration) → IsConfiguration c → IsConfiguration n → (C : Raw → Type 0) (awaited : Option ℕ) (items : List Item) (past : List Moment) (l : Listening)
-    → listening past ≡ Some l → Tuned on c n C Nothing awaited l → AllByRecursion (IsSentItem on c n) items → (IsSettledAt period past → HasAll c C) → AreFreeOf is_of_appearance (findings_at_items step period past items)
+    → listening past ≡ Some l → Tuned on c n C Nothing awaited l → AllByRecursion (IsSentItem on c n) items → (IsSettledAt period past → HasAll c C) → Each (IsKnown step period) past items
 members_settled step period on c n is_c is_n C awaited [] past l is h all whole = tt
 members_settled step period on c n is_c is_n C awaited (i ∷ items) past l is h all whole =
     let s = all.0 in
-    let k : Knowledge = known_of step period past in
     let e : is_ensemble i ≡ false = ap (λ (x : Raw). x.ext == 0) s.raw ∙ sent_ext on c n s.m s.sent in
     let same : listener_after past ≡ l = after_is past l is in
     let hears = hears_entries on c n C Nothing awaited (s.m ∷ []) l (whole_is_set c is_c) (whole_is_set n is_n) (s.sent, tt) h in
@@ -135,16 +112,12 @@ members_settled step period on c n is_c is_n C awaited (i ∷ items) past l is h
           )
       | inr sent ↦ absurd (false≢true (sym current ∙ s.next ∙ sent.1))
     ] in
-    free_either is_of_appearance (has_no_room k i) [] _ tt
-    (free_both is_of_appearance (findings_at k i) (findings_at_items step period (Said i ∷ past) items)
-    (subst (AreFreeOf is_of_appearance) (sym (ap (λ t. cond t (ensemble_findings k i.first (said_ensemble i)) (member_findings k i.next i.raw)) e))
-    (member_free is_of_appearance narrow k i.next i.raw (λ current. spared known current (is_settled k) refl)))
-    rest)
+    ((λ other current. by known current (is_settled (known_of step period past)) refl), rest)
   where
-    spared : (IsSettledAt period past → i.next ≡ false → is_absent (lookup_in i.raw (listener_after past).current) ≡ false) → i.next ≡ false → (b : Bool) → is_settled (known_of step period past) ≡ b
-        → IsSpared is_of_appearance (is_absent (lookup_in i.raw (listener_after past).current) && is_settled (known_of step period past)) (faults.Appeared (name_of i.raw))
-    spared known current true settled = inl (ap (λ t. t && is_settled (known_of step period past)) (known settled current))
-    spared known current false settled = inl (and_false (is_absent (lookup_in i.raw (listener_after past).current)) _ settled)
+    by : (IsSettledAt period past → i.next ≡ false → is_absent (lookup_in i.raw (listener_after past).current) ≡ false) → i.next ≡ false → (b : Bool) → is_settled (known_of step period past) ≡ b
+        → (is_absent (lookup_in i.raw (listener_after past).current) && is_settled (known_of step period past)) ≡ false
+    by known current true settled = ap (λ t. t && is_settled (known_of step period past)) (known settled current)
+    by known current false settled = and_false (is_absent (lookup_in i.raw (listener_after past).current)) _ settled
 
 -- what a listener knows in the current frame: if settled, all entries
 pub record Enters (period : ℕ) (r : Reading) (p : Program) (s : State) (past : List Moment) (C N : Raw → Type 0) : Type 0 where
@@ -165,7 +138,7 @@ ended_same [] past = refl
 ended_same (i ∷ is) past = ended_same is (Said i ∷ past)
 
 pub frame_settled : FrameLaws → (r : Reading) (period : ℕ) (p : Program) (ts : List Known) → IsCode p ts → (s : State) → Holds p ts s → (past : List Moment) (C N : Raw → Type 0) → Enters period r p s past C N
-    → AreFreeOf is_of_appearance (findings_at_items (count_step (layout_mode p.plan.layout)) period past (frame_items (read_frame r p.plan.layout (frame_bytes p s))))
+    → Each (IsKnown (count_step (layout_mode p.plan.layout)) period) past (frame_items (read_frame r p.plan.layout (frame_bytes p s)))
 frame_settled laws r period p ts c s holds past C N en =
     let plan : Plan = p.plan in
     let u : State = shown p s in
@@ -182,22 +155,17 @@ frame_settled laws r period p ts c s holds past C N en =
           let f : InFrame plan u C N (at_ensemble (ensemble_of plan u) en.heard) = subst (λ (o : Option EnsembleInformation). InFrame plan u C N (headed o en.heard)) (is_sent plan u on) en.entered in
           let is : listening (Said h ∷ past) ≡ Some (at_ensemble (ensemble_of plan u) en.heard) = ensemble_heard past h en.heard head.2 en.is ∙ ap (λ x. Some (at_ensemble x en.heard)) head.3 in
           let known = tuned_weaker on_it u.current u.next C C N Nothing f.awaited (at_ensemble (ensemble_of plan u) en.heard) (λ x y. y) (λ x no_entry. absurd no_entry) f.knows in
-          let k : Knowledge = known_of step period past in
           let settles : settles_at period (said frame past) ≡ settles_at period (Said h ∷ past) = ap (λ is. settles_at period (said is past)) items ∙ said_settles period on_it u.current u.next fs.members (Said h ∷ past) fs.sent in
           let rest = members_settled step period on_it u.current u.next a.current a.next C f.awaited fs.members (Said h ∷ past) (at_ensemble (ensemble_of plan u) en.heard) is known fs.sent
           (λ settled. en.whole (ap (λ t. nat_le t (frames_ended (said frame past))) settles ∙ ap (nat_le (settles_at period (Said h ∷ past))) (ended_same frame past) ∙ settled)) in
-          subst (λ (is : List Item). AreFreeOf is_of_appearance (findings_at_items step period past is)) (sym items)
-          (free_either is_of_appearance (has_no_room k h) [] _ tt
-          (free_both is_of_appearance (findings_at k h) (findings_at_items step period (Said h ∷ past) fs.members)
-          (subst (AreFreeOf is_of_appearance) (sym (ap (λ t. cond t (ensemble_findings k h.first (said_ensemble h)) (member_findings k h.next h.raw)) head.2))
-          (head_free is_of_appearance narrow k h.first (said_ensemble h) (λ made. (inr refl, inr refl)))) rest))
+          subst (λ (is : List Item). Each (IsKnown step period) past is) (sym items) ((λ other. absurd (false≢true (sym other ∙ head.2))), rest)
       | inr off ↦
           let bare : fs.heads ≡ [] = subst (λ (o : Option EnsembleInformation). IsHeadOf o fs.heads) (not_sent plan u off) fs.header in
           let items : frame ≡ fs.members = fs.are ∙ ap (λ hs. hs ++ fs.members) bare in
           let f : InFrame plan u C N en.heard = subst (λ (o : Option EnsembleInformation). InFrame plan u C N (headed o en.heard)) (not_sent plan u off) en.entered in
           let known = tuned_weaker on_it u.current u.next C C N Nothing f.awaited en.heard (λ x y. y) (λ x no_entry. absurd no_entry) f.knows in
           let settles : settles_at period (said frame past) ≡ settles_at period past = ap (λ is. settles_at period (said is past)) items ∙ said_settles period on_it u.current u.next fs.members past fs.sent in
-          subst (λ (is : List Item). AreFreeOf is_of_appearance (findings_at_items step period past is)) (sym items)
+          subst (λ (is : List Item). Each (IsKnown step period) past is) (sym items)
           (members_settled step period on_it u.current u.next a.current a.next C f.awaited fs.members past en.heard en.is known fs.sent
           (λ settled. en.whole (ap (λ t. nat_le t (frames_ended (said frame past))) settles ∙ ap (nat_le (settles_at period past)) (ended_same frame past) ∙ settled)))
     ]

@@ -1,7 +1,6 @@
 -- In the frames of a run no entry of the current configuration is silent.
-use Rattle.std.proofs.Common.{◌≡◌, ℕ, ◌+◌, ◌*◌, ◌≤◌, Bool, true, false, cond, List, [], ◌∷◌, ◌++◌, Contains, refl, sym, ap, subst, arith, inl, inr}
+use Rattle.std.proofs.Common.{◌≡◌, ℕ, ◌+◌, ◌≤◌, Bool, true, false, cond, List, [], ◌∷◌, ◌++◌, Contains, ap, subst, arith, inl, inr}
 use Rattle.std.specs.Prelude.{map}
-use Rattle.std.specs.List.{filter}
 use Rattle.std.proofs.lemmas.Bool.{ne_eqb}
 use Rattle.mux_config.specs.Configuration.{Configuration}
 use Rattle.mux_entries.specs.declared.entry.Entry.{Entry}
@@ -9,11 +8,10 @@ use Rattle.mux_entries.specs.Facts.{Marked, marked, facts_of, sub_entry, sub_ent
 use Rattle.fib_carousel.specs.Pages.{rounds}
 use Rattle.fib_reader.specs.Raw.{Raw, raw_entry}
 use Rattle.fib_reader.specs.Listening.{Pictured, Listening, identifier_of, all_entries}
-use Rattle.stream_check.specs.declared.finding.Fault.{Fault}
 use Rattle.stream_check.specs.Frames.{Reading}
 use Rattle.stream_check.specs.Pictures.{key_of}
 use Rattle.stream_check.specs.History.{Moment, said, frame_items, frames_ended, listener_after, last_heard}
-use Rattle.stream_check.specs.Rules.{is_silent, silence, silent_findings}
+use Rattle.stream_check.specs.Rules.{is_silent}
 use Rattle.stream_check.proofs.Members.{after_is}
 use Rattle.plan_code.specs.declared.plan.Plan.{Plan}
 use Rattle.plan_code.specs.Program.{Program}
@@ -22,16 +20,15 @@ use Rattle.plan_verifier.specs.Typing.{Known}
 use Rattle.plan_runs.specs.declared.event.Event.TheVariants.{Contact}
 use Rattle.plan_runs.specs.Frames.{frame_bytes, after_frame}
 use Rattle.plan_runs.specs.Runs.{happens}
-use Rattle.plan_runs.proofs.Facts.{Holds, IsCode, code_of}
+use Rattle.plan_runs.proofs.Facts.{Holds, IsCode}
 use Rattle.plan_listeners.proofs.Parts.{In, partly, IsPart}
 use Rattle.plan_listeners.proofs.Pictures.{whole_of, IsPartial, entries_of, in_append, in_contains, in_fact}
 use Rattle.plan_listeners.proofs.Waiting.{Nothing, current_part}
-use Rattle.stream_laws.specs.Sorts.{is_of_silence, RunsAreNeverSilent}
+use Rattle.stream_laws.specs.Sorts.{IsLongFor}
 use Rattle.stream_laws.proofs.Framing.{read_frame}
 use Rattle.stream_laws.proofs.AgreeingFrames.{agrees_by}
-use Rattle.stream_laws.proofs.Sorting.{AreFreeOf, IsNarrow, runs_free}
-use Rattle.stream_laws.proofs.Flagging.{in_first, in_second, said_by, items_free}
-use Rattle.stream_laws.proofs.Ages.{comes_in, FrameLaws, IsAging, before_of, ages}
+use Rattle.stream_laws.proofs.Flagging.{in_first, in_second, said_by}
+use Rattle.stream_laws.proofs.Ages.{comes_in, FrameLaws, AreAged, IsAging, before_of, ages}
 
 -- ---- the entries of a picture are those of the configuration
 
@@ -61,15 +58,11 @@ entry_of c C p x h inside = elim (in_append x (p.subs ++ p.services) p.packets i
 
 -- ---- none is silent
 
-none_silent : (sort : Fault → Bool) (test : Raw → Bool) (rs : List Raw) → ((x : Raw) → In x rs → test x ≡ false) → AreFreeOf sort (map silence (filter test rs))
-none_silent sort test [] h = tt
-none_silent sort test (r ∷ rs) h =
-    subst (λ (b : Bool). AreFreeOf sort (map silence (cond b (r ∷ filter test rs) (filter test rs)))) (sym (h r (inl refl))) (none_silent sort test rs (λ x more. h x (inr more)))
-
 -- at the end of a frame, given the ages after it
-pub silent_free : (sort : Fault → Bool) → FrameLaws → (r : Reading) (period : ℕ) (p : Program) (ts : List Known) → IsCode p ts → (s : State) → Holds p ts s → (past : List Moment) → IsAging p.plan past s → 2 * p.plan.period ≤ period + 1
-    → AreFreeOf sort (silent_findings period (said (frame_items (read_frame r p.plan.layout (frame_bytes p s))) past))
-silent_free sort laws r period p ts c s holds past aging long =
+pub none_silent : FrameLaws → (r : Reading) (period : ℕ) (p : Program) (ts : List Known) → IsCode p ts → (s : State) → Holds p ts s → (past : List Moment) → IsAging p.plan past s → IsLongFor p period → (x : Raw)
+    → In x (all_entries (listener_after (said (frame_items (read_frame r p.plan.layout (frame_bytes p s))) past)).current)
+    → is_silent period (said (frame_items (read_frame r p.plan.layout (frame_bytes p s))) past) x ≡ false
+none_silent laws r period p ts c s holds past aging long x inside =
     let plan : Plan = p.plan in
     let t : State = after_frame p s in
     let later : List Moment = said (frame_items (read_frame r plan.layout (frame_bytes p s))) past in
@@ -77,7 +70,6 @@ silent_free sort laws r period p ts c s holds past aging long =
     let g = ages laws r period p ts c s holds past aging in
     let same : listener_after later ≡ b.heard = after_is later b.heard b.is in
     let part : IsPartial (whole_of t.current) Nothing b.heard.current = current_part plan t.left t.current t.next t.count Nothing Nothing b.heard b.knows in
-    none_silent sort (is_silent period later) (all_entries (listener_after later).current) (λ x inside.
     let here : In x (all_entries b.heard.current) = subst (λ (l : Listening). In x (all_entries l.current)) same inside in
     let it = entry_of t.current Nothing b.heard.current x part here in
     let m : Marked = marked false it.0 in
@@ -87,58 +79,20 @@ silent_free sort laws r period p ts c s holds past aging long =
     let aged : frames_ended later + 1 + way.0 ≤ last_heard (key_of (raw_entry it.0)) later + g.bound = g.aged m mine there.0 there.1 there.2 way.0 way.1 in
     let bound = g.to in
     let keys : last_heard (key_of (raw_entry it.0)) later ≡ last_heard (key_of x) later = ap (λ (y : Raw). last_heard (key_of y) later) it.1 in
-    ne_eqb (last_heard (key_of x) later + period) (frames_ended later + 1) (λ e. omega (arith, e, keys, aged, bound, long)))
+    ne_eqb (last_heard (key_of x) later + period) (frames_ended later + 1) (λ e. omega (arith, e, keys, aged, bound, long))
 
-narrow : IsNarrow is_of_silence
-narrow = record {
-  short = λ fibs. refl;
-  damaged = λ fibs. refl;
-  none = refl;
-  other = λ eid. refl;
-  count = λ due. refl;
-  place = refl;
-  again = λ flags low. refl;
-  falls = λ low. refl;
-  unannounced = refl;
-  changed = λ name. refl;
-  next_changed = λ name. refl;
-  for = λ low. refl;
-  times = λ times. refl;
-  shared = λ a b. refl;
-  past = λ a. refl;
+-- contacts between two frames change no age
+pub ages_contact : (p : Program) (past : List Moment) (s : State) (d : ℕ) (closed : Bool) → AreAged p.plan past s → AreAged p.plan past (happens p s (Contact d closed))
+ages_contact p past s d closed g = record {
+  ms = g.ms;
+  page_index = g.page_index;
+  bound = g.bound;
+  goes = record { sent = g.goes.sent; turn_is = g.goes.turn_is };
+  few = g.few;
+  below = g.below;
+  has = g.has;
+  from = g.from;
+  to = g.to;
+  outside = g.outside;
+  aged = g.aged;
 }
-
-pub ages_contact : (p : Program) (past : List Moment) (s : State) (d : ℕ) (closed : Bool) → IsAging p.plan past s → IsAging p.plan past (happens p s (Contact d closed))
-ages_contact p past s d closed (inl first) = inl first
-ages_contact p past s d closed (inr (b, g)) =
-    inr (
-      record { heard = b.heard; is = b.is; knows = b.knows; fresh = b.fresh; pending = b.pending; early = b.early; flags = b.flags },
-      record {
-        ms = g.ms;
-        page_index = g.page_index;
-        bound = g.bound;
-        goes = record { sent = g.goes.sent; turn_is = g.goes.turn_is };
-        few = g.few;
-        below = g.below;
-        has = g.has;
-        from = g.from;
-        to = g.to;
-        outside = g.outside;
-        aged = g.aged;
-      },
-    )
-
-pub runs_are_never_silent : FrameLaws → RunsAreNeverSilent
-runs_are_never_silent laws r p s period waiting events played on long =
-    let ts : List Known = played.typed.0 in
-    let c = code_of p s played in
-    runs_free is_of_silence narrow laws.one laws.heard r p s period waiting events played on (IsAging p.plan)
-    (record {
-      contact = λ past t d closed holds inv. ages_contact p past t d closed inv;
-      frame = λ past t holds before inv. record {
-        items = items_free is_of_silence narrow (λ name. refl) laws.one laws.heard r period p ts c t holds past (λ e says made. (inr refl, inr refl));
-        last = silent_free is_of_silence laws r period p ts c t holds past inv long;
-        after = inr ((agrees_by laws.one laws.heard r period p ts c t holds past (before_of p.plan past t inv)).after, ages laws r period p ts c t holds past inv);
-      };
-    })
-    (inl (refl, on))

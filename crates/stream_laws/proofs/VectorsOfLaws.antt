@@ -25,10 +25,7 @@ use Rattle.stream_laws.specs.Faultless.{IsSaidIn}
 use Rattle.stream_laws.specs.Notices.{IsFibBytes, AreFibBytes, IsCutOf}
 use Rattle.stream_laws.specs.Entries.{IsSent, IsSentWhole, AnnouncesChange}
 use Rattle.stream_laws.specs.Framing.{frames_of}
-use Rattle.stream_laws.specs.InPlace.{is_of_frame, IsInPlace}
-use Rattle.stream_laws.specs.Agreeing.{is_of_word, KeepsWord}
-use Rattle.stream_laws.specs.Times.{is_of_times, IsTimely}
-use Rattle.stream_laws.specs.Sorts.{IsFreeOf, is_of_flags, is_of_silence, is_of_appearance, is_of_repetition}
+use Rattle.stream_laws.specs.Sorts.{is_of_frame, is_of_word, is_of_times, is_of_flags, is_of_silence, is_of_appearance, is_of_repetition, is_of_period, IsFreeOf, IsFreeUnlessShort, IsLongFor, RunIsFree}
 use Rattle.stream_laws.specs.Naming.{swap_frames, due_frames, due_after_first}
 use Rattle.stream_laws.proofs.NoticeRows.{AreRows}
 
@@ -115,10 +112,10 @@ out_of_place = refl
 not_of_frames : is_of_frame (faults.Flags 1 2) ≡ false
 not_of_frames = refl
 
-in_place : IsInPlace (whats.Event named_events.Swap)
+in_place : IsFreeOf is_of_frame (whats.Event named_events.Swap)
 in_place = tt
 
-not_in_place : IsInPlace (whats.Fault (faults.Count 7)) → ⊥
+not_in_place : IsFreeOf is_of_frame (whats.Fault (faults.Count 7)) → ⊥
 not_in_place h = absurd cc
 
 of_words : is_of_word (faults.AnnouncedAgain 1 2) ≡ true
@@ -127,10 +124,10 @@ of_words = refl
 not_of_words : is_of_word (faults.ShortFrame 2) ≡ false
 not_of_words = refl
 
-kept : KeepsWord (whats.Event named_events.Swap)
+kept : IsFreeOf is_of_word (whats.Event named_events.Swap)
 kept = tt
 
-not_kept : KeepsWord (whats.Fault (faults.AnnouncedFor 7)) → ⊥
+not_kept : IsFreeOf is_of_word (whats.Fault (faults.AnnouncedFor 7)) → ⊥
 not_kept h = absurd cc
 
 too_soon : is_of_times (faults.AnnouncedTimes 2) ≡ true
@@ -139,10 +136,10 @@ too_soon = refl
 not_of_times : is_of_times (faults.NextHeard 2) ≡ false
 not_of_times = refl
 
-timely : IsTimely (whats.Fault (faults.NextHeard 2))
+timely : IsFreeOf is_of_times (whats.Fault (faults.NextHeard 2))
 timely = refl
 
-not_timely : IsTimely (whats.Fault (faults.AnnouncedTimes 2)) → ⊥
+not_timely : IsFreeOf is_of_times (whats.Fault (faults.AnnouncedTimes 2)) → ⊥
 not_timely h = absurd cc
 
 other_flags : is_of_flags (faults.Flags 1 2) ≡ true
@@ -189,6 +186,33 @@ free_of_repetition = refl
 
 not_free_of_repetition : IsFreeOf is_of_repetition (whats.Fault (faults.NextHeard 2)) → ⊥
 not_free_of_repetition h = absurd cc
+
+of_period : is_of_period (faults.Silent (names.Sub 3)) ≡ true
+of_period = refl
+
+not_of_period : is_of_period (faults.Count 7) ≡ false
+not_of_period = refl
+
+-- a plan of period 4 is heard whole in any 7 frames
+long_for_four : (p : Program) → p.plan.period ≡ 4 → IsLongFor p 7
+long_for_four p four = omega (arith, four)
+
+not_long_for_four : (p : Program) → p.plan.period ≡ 4 → IsLongFor p 6 → ⊥
+not_long_for_four p four long = omega (arith, four, long)
+
+-- no frames have no findings
+free_without_frames : (r : Reading) (p : Program) (s : State) → RunIsFree r p s 7 []
+free_without_frames r p s = record { room = refl; plain = tt }
+
+-- a fault is found only if it depends on the period, and that is short
+silent_if_short : IsFreeUnlessShort ⊥ (whats.Fault (faults.Silent (names.Sub 3)))
+silent_if_short = (refl, λ long. long)
+
+not_silent_if_long : IsFreeUnlessShort (Unit {0}) (whats.Fault (faults.Silent (names.Sub 3))) → ⊥
+not_silent_if_long h = h.1 tt
+
+no_other_fault : IsFreeUnlessShort ⊥ (whats.Fault (faults.Count 7)) → ⊥
+no_other_fault h = absurd cc
 
 abbrev swap_in : ℕ → Finding
 swap_in frame = record { frame = frame; count = 0; what = whats.Event named_events.Swap }

@@ -7,10 +7,7 @@ pub mod Staying
 pub mod Units
 pub mod Held
 pub mod Framing
-pub mod InPlace
-pub mod Agreeing
 pub mod Naming
-pub mod Times
 pub mod Sorts
 pub mod Faults
 pub mod Counting

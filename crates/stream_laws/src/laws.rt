@@ -1,7 +1,6 @@
 //! Laws of streams without a fault, and of the streams of typed codes.
 //! Each law is a function that does nothing; its contract is the law.
 
-ghost use Rattle.stream_laws.specs.Agreeing.{RunsAgree};
 ghost use Rattle.stream_laws.specs.Announcing.{SwapsAreAnnounced};
 ghost use Rattle.stream_laws.specs.Counting.{RunsAreCounted};
 ghost use Rattle.stream_laws.specs.Delivered.{RunsAreCleared, RunsAreHeardOut};
@@ -9,16 +8,14 @@ ghost use Rattle.stream_laws.specs.Entries.{ChangesAreAnnounced};
 ghost use Rattle.stream_laws.specs.Faults.{RunsAreFaultless};
 ghost use Rattle.stream_laws.specs.Framing.{RunsAreFramed};
 ghost use Rattle.stream_laws.specs.Held.{CountsAreHeld, WholeNoticesAreHeld};
-ghost use Rattle.stream_laws.specs.InPlace.{RunsAreInPlace};
 ghost use Rattle.stream_laws.specs.Keeping.{CurrentIsKept};
 ghost use Rattle.stream_laws.specs.Merging.{MergedAreHeardAlike, MergedHaveTheEntries};
 ghost use Rattle.stream_laws.specs.Merging.{MergedListenersAreRight, MergedRunsAreFaultless, MergedSwapsAreAnnounced};
 ghost use Rattle.stream_laws.specs.Naming.{SwapsAreNamed};
 ghost use Rattle.stream_laws.specs.Notices.{FramesAreOfBytes};
-ghost use Rattle.stream_laws.specs.Sorts.{RunsAreKnown, RunsAreNeverSilent, RunsFlagTheChange};
-ghost use Rattle.stream_laws.specs.Sorts.{RunsRepeatTheNext};
+ghost use Rattle.stream_laws.specs.Sorts.{RunsAgree, RunsAreFree, RunsAreInPlace, RunsAreKnown};
+ghost use Rattle.stream_laws.specs.Sorts.{RunsAreNeverSilent, RunsAreTimely, RunsFlagTheChange, RunsRepeatTheNext};
 ghost use Rattle.stream_laws.specs.Staying.{CurrentIsSent, CurrentStays};
-ghost use Rattle.stream_laws.specs.Times.{RunsAreTimely};
 ghost use Rattle.stream_laws.specs.Units.{SwapsKeepUnits, UnitsStayOwn};
 
 /// The law of the current configuration: in a stream without a fault, each entry with C/N 0 agrees
@@ -109,15 +106,31 @@ pub fn frames()
     plan_runs::laws::runs();
 }
 
+/// The law of findings: in the frames of a run of a typed code, from one with a FIG 0/0 on, the
+/// checker always has room, and finds no fault but an entry that appears or is silent; with N at
+/// least 2P - 1 for the plan's period P, it finds none of these either. This holds from every state
+/// that a typed code reaches. The laws of one sort of faults that are below follow from it.
+pub fn findings()
+    ensures { RunsAreFree }
+{
+    fib_codec::laws::one_list();
+    fib_codec::laws::fib_length();
+    fib_codec::laws::spelling();
+    fib_reader::laws::ensemble();
+    fib_carousel::laws::pages();
+    fib_carousel::laws::carried();
+    mux_config::laws::changes();
+    plan_runs::laws::headline();
+    stream_check::laws::parts();
+}
+
 /// The law of places: in the frames of a run of a typed code, from one with a FIG 0/0 on, the
 /// checker finds no frame that is short or damaged, and no FIG 0/0 that is missing, out of place,
 /// of another ensemble or at a count that was not due.
 pub fn places()
     ensures { RunsAreInPlace }
 {
-    fib_codec::laws::one_list();
-    fib_reader::laws::ensemble();
-    plan_runs::laws::headline();
+    findings();
 }
 
 /// The law of entries and announcements: in the frames of a run of a typed code, from one with a
@@ -128,10 +141,7 @@ pub fn places()
 pub fn agreement()
     ensures { RunsAgree }
 {
-    fib_codec::laws::one_list();
-    fib_reader::laws::ensemble();
-    fib_carousel::laws::pages();
-    fib_carousel::laws::carried();
+    findings();
 }
 
 /// The law of named swaps: in the frames of a run of a typed code, from one with a FIG 0/0 on, the
@@ -150,10 +160,7 @@ pub fn named_swaps()
 pub fn announcements()
     ensures { RunsAreTimely }
 {
-    fib_codec::laws::one_list();
-    fib_reader::laws::ensemble();
-    fib_carousel::laws::pages();
-    fib_carousel::laws::carried();
+    findings();
 }
 
 /// The law of flags: in the frames of a run of a typed code, from one with a FIG 0/0 on, the
@@ -161,12 +168,7 @@ pub fn announcements()
 pub fn flags()
     ensures { RunsFlagTheChange }
 {
-    fib_codec::laws::one_list();
-    fib_codec::laws::spelling();
-    fib_reader::laws::ensemble();
-    fib_carousel::laws::pages();
-    fib_carousel::laws::carried();
-    mux_config::laws::changes();
+    findings();
 }
 
 /// The law of silence: in the frames of a run of a typed code, from one with a FIG 0/0 on, if the
@@ -175,11 +177,7 @@ pub fn flags()
 pub fn silence()
     ensures { RunsAreNeverSilent }
 {
-    fib_codec::laws::one_list();
-    fib_codec::laws::fib_length();
-    fib_reader::laws::ensemble();
-    fib_carousel::laws::pages();
-    fib_carousel::laws::carried();
+    findings();
 }
 
 /// The law of appearances: in the frames of a run of a typed code, from one with a FIG 0/0 on, with
@@ -188,11 +186,7 @@ pub fn silence()
 pub fn appearances()
     ensures { RunsAreKnown }
 {
-    fib_codec::laws::one_list();
-    fib_codec::laws::fib_length();
-    fib_reader::laws::ensemble();
-    fib_carousel::laws::pages();
-    fib_carousel::laws::carried();
+    findings();
 }
 
 /// The law of repetition: in the frames of a run of a typed code, from one with a FIG 0/0 on, the
@@ -201,12 +195,7 @@ pub fn appearances()
 pub fn repetition()
     ensures { RunsRepeatTheNext }
 {
-    fib_codec::laws::one_list();
-    fib_codec::laws::fib_length();
-    fib_reader::laws::ensemble();
-    fib_carousel::laws::pages();
-    fib_carousel::laws::carried();
-    stream_check::laws::parts();
+    findings();
 }
 
 /// The law of faults, no false alarm: the frames of a run of a typed code, from one with a FIG 0/0
@@ -215,15 +204,7 @@ pub fn repetition()
 pub fn no_false_alarm()
     ensures { RunsAreFaultless }
 {
-    fib_codec::laws::one_list();
-    fib_codec::laws::fib_length();
-    fib_codec::laws::spelling();
-    fib_reader::laws::ensemble();
-    fib_carousel::laws::pages();
-    fib_carousel::laws::carried();
-    mux_config::laws::changes();
-    plan_runs::laws::headline();
-    stream_check::laws::parts();
+    findings();
 }
 
 /// The law of counts: from every state that a typed code reaches, the counts of the frames of a run

@@ -1,11 +1,5 @@
-use Rattle.plan_runs.proofs.Right.{PageLaws}
-use Rattle.plan_listeners.proofs.Contents.{Laws}
-use Rattle.stream_laws.proofs.AgreeingFrames.{runs_agree}
+use Rattle.stream_laws.proofs.NoFault.{runs_agree}
 use Rattle.stream_laws.proofs.laws.agreement.Goals as goal
 
 pub returns : goal.returns
-returns c =
-    let pages : PageLaws =
-    record { each = c.pages.ensures.each; pageable = c.carried.ensures.pageable; valid = c.carried.ensures.valid; heard = c.carried.ensures.heard; ensemble = c.carried.ensures.ensemble } in
-    let laws : Laws = record { pages = pages; fibs = c.pages.ensures.fibs; ensemble = c.ensemble.ensures } in
-    runs_agree c.one_list.ensures laws
+returns c = runs_agree c.findings.ensures

@@ -1,11 +1,7 @@
-use Rattle.plan_runs.proofs.Right.{PageLaws}
-use Rattle.plan_listeners.proofs.Contents.{Laws}
-use Rattle.stream_laws.proofs.Timely.{runs_are_timely}
+use Rattle.std.proofs.Common.{refl}
+use Rattle.stream_laws.specs.Sorts.{is_of_times}
+use Rattle.stream_laws.proofs.NoFault.{free_runs}
 use Rattle.stream_laws.proofs.laws.announcements.Goals as goal
 
 pub returns : goal.returns
-returns c =
-    let pages : PageLaws =
-    record { each = c.pages.ensures.each; pageable = c.carried.ensures.pageable; valid = c.carried.ensures.valid; heard = c.carried.ensures.heard; ensemble = c.carried.ensures.ensemble } in
-    let laws : Laws = record { pages = pages; fibs = c.pages.ensures.fibs; ensemble = c.ensemble.ensures } in
-    runs_are_timely c.one_list.ensures laws
+returns c = free_runs is_of_times (record { appeared = λ name. refl; silent = λ name. refl }) c.findings.ensures

@@ -1,13 +1,6 @@
-use Rattle.plan_runs.proofs.Right.{PageLaws}
-use Rattle.plan_listeners.proofs.Contents.{Laws}
-use Rattle.stream_laws.proofs.Ages.{FrameLaws}
-use Rattle.stream_laws.proofs.Appearing.{runs_are_known}
+use Rattle.stream_laws.specs.Sorts.{is_of_appearance}
+use Rattle.stream_laws.proofs.NoFault.{long_runs}
 use Rattle.stream_laws.proofs.laws.appearances.Goals as goal
 
 pub returns : goal.returns
-returns c =
-    let pages : PageLaws =
-    record { each = c.pages.ensures.each; pageable = c.carried.ensures.pageable; valid = c.carried.ensures.valid; heard = c.carried.ensures.heard; ensemble = c.carried.ensures.ensemble } in
-    let heard : Laws = record { pages = pages; fibs = c.pages.ensures.fibs; ensemble = c.ensemble.ensures } in
-    let laws : FrameLaws = record { one = c.one_list.ensures; size = c.fib_length.ensures; heard = heard } in
-    runs_are_known laws
+returns c = long_runs is_of_appearance c.findings.ensures

@@ -1,12 +1,7 @@
-use Rattle.plan_runs.proofs.Right.{PageLaws}
-use Rattle.plan_listeners.proofs.Contents.{Laws}
-use Rattle.stream_laws.proofs.Flagging.{SwapLaws, runs_flag_the_change}
+use Rattle.std.proofs.Common.{refl}
+use Rattle.stream_laws.specs.Sorts.{is_of_flags}
+use Rattle.stream_laws.proofs.NoFault.{free_runs}
 use Rattle.stream_laws.proofs.laws.flags.Goals as goal
 
 pub returns : goal.returns
-returns c =
-    let pages : PageLaws =
-    record { each = c.pages.ensures.each; pageable = c.carried.ensures.pageable; valid = c.carried.ensures.valid; heard = c.carried.ensures.heard; ensemble = c.carried.ensures.ensemble } in
-    let heard : Laws = record { pages = pages; fibs = c.pages.ensures.fibs; ensemble = c.ensemble.ensures } in
-    let laws : SwapLaws = record { one = c.one_list.ensures; heard = heard; tells = c.spelling.ensures.tells; change = c.changes.ensures } in
-    runs_flag_the_change laws
+returns c = free_runs is_of_flags (record { appeared = λ name. refl; silent = λ name. refl }) c.findings.ensures

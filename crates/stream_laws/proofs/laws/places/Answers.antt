@@ -1,5 +1,7 @@
-use Rattle.stream_laws.proofs.InPlace.{runs_are_in_place}
+use Rattle.std.proofs.Common.{refl}
+use Rattle.stream_laws.specs.Sorts.{is_of_frame}
+use Rattle.stream_laws.proofs.NoFault.{free_runs}
 use Rattle.stream_laws.proofs.laws.places.Goals as goal
 
 pub returns : goal.returns
-returns c = runs_are_in_place c.one_list.ensures c.ensemble.ensures c.headline.ensures
+returns c = free_runs is_of_frame (record { appeared = λ name. refl; silent = λ name. refl }) c.findings.ensures

@@ -1,0 +1,249 @@
+-- The findings in a frame, test by test: where no test is met, none of them is a fault.
+use Rattle.std.proofs.Common.{◌≡◌, ℕ, ◌%◌, ◌==◌, ◌&&◌, Bool, true, false, cond, not, nat_lt, List, [], ◌∷◌, ◌++◌, length, Option, Some, None, refl, sym, ap, ◌∙◌, subst, inl, inr}
+use Rattle.std.specs.Prelude.{map, unwrap_or}
+use Rattle.std.specs.List.{AllByRecursion, filter}
+use Rattle.std.proofs.lemmas.Bool.{false≢true}
+use Rattle.mux_entries.specs.Entries.{EnsembleInformation}
+use Rattle.fib_reader.specs.Raw.{Raw}
+use Rattle.fib_reader.specs.Listening.{all_entries}
+use Rattle.stream_check.specs.declared.finding.Fault.{Fault}
+use Rattle.stream_check.specs.declared.finding.Fault.TheVariants as faults
+use Rattle.stream_check.specs.declared.finding.Event.TheVariants as events
+use Rattle.stream_check.specs.declared.finding.What.{What}
+use Rattle.stream_check.specs.declared.finding.What.TheVariants as whats
+use Rattle.stream_check.specs.declared.finding.Finding.{Finding}
+use Rattle.stream_check.specs.declared.reporting.FrameAt.{FrameAt}
+use Rattle.stream_check.specs.Reporting.{when, as_list, in_frame}
+use Rattle.stream_check.specs.Frames.{Fib, damaged_in, lacks_opening}
+use Rattle.stream_check.specs.Lookup.{lookup_in}
+use Rattle.stream_check.specs.History.{Item, Moment, Said, said, frame_items, is_ensemble, ensemble_of, listener_after, due}
+use Rattle.stream_check.specs.Rules.{Known, known_of, name_of, overlap, past_end, place_faults, is_of_other_ensemble, has_other_count, is_placed, makes_swap, notice_faults, unit_faults, swap_findings, swap_or_another, announces_another, occurrence_of, announces_first, announcement, can_fall_at, has_flags, ensemble_findings, is_settled, current_findings, next_findings, member_findings, is_other_one, is_absent, has_no_room, findings_at, silence, is_silent, silent_findings, awaited_low, changes}
+use Rattle.stream_check.specs.Stream.{count_due, first_line, frame_findings, findings_at_items, runs_full, frame_at, findings_in}
+use Rattle.plan_listeners.proofs.Parts.{In}
+use Rattle.stream_laws.specs.Sorts.{is_of_period, IsFreeUnlessShort}
+use Rattle.stream_laws.proofs.Kept.{first_holds}
+use Rattle.stream_laws.proofs.Rows.{HasNone}
+use Rattle.stream_laws.proofs.Framing.{all_append}
+
+abbrev pub AreFree : (IsLong : Type 0) → List What → Type 0
+AreFree L ws = AllByRecursion (IsFreeUnlessShort L) ws
+
+when_not : (L : Type 0) (b : Bool) (fault : Fault) → b ≡ false → AreFree L (when b fault)
+when_not L true fault e = absurd (false≢true (sym e))
+when_not L false fault e = tt
+
+when_short : (L : Type 0) (b : Bool) (fault : Fault) → is_of_period fault ≡ true → (L → b ≡ false) → AreFree L (when b fault)
+when_short L true fault is h = ((is, λ l. false≢true (sym (h l))), tt)
+when_short L false fault is h = tt
+
+both : (L : Type 0) (xs ys : List What) → AreFree L xs → AreFree L ys → AreFree L (xs ++ ys)
+both L xs ys a b = all_append (IsFreeUnlessShort L) xs ys a b
+
+either : (L : Type 0) (b : Bool) (xs ys : List What) → AreFree L xs → AreFree L ys → AreFree L (cond b xs ys)
+either L true xs ys x y = x
+either L false xs ys x y = y
+
+-- ---- the frame as a whole
+
+pub record IsFrameFine (size step : ℕ) (last : Option ℕ) (frame : List Fib) : Type 0 where
+  pub full : nat_lt (length frame) size ≡ false
+  pub whole : nat_lt 0 (damaged_in frame) ≡ false
+  pub opens : (count_due last frame % step == 0 && lacks_opening frame) ≡ false
+
+frame_free : (L : Type 0) (size step : ℕ) (last : Option ℕ) (frame : List Fib) → IsFrameFine size step last frame
+    → AreFree L (frame_findings size step last frame)
+frame_free L size step last frame h =
+    both L (first_line last frame) _ (first_event last)
+    (both L (when (nat_lt (length frame) size) (faults.ShortFrame (length frame))) _
+    (when_not L (nat_lt (length frame) size) (faults.ShortFrame (length frame)) h.full)
+    (both L (when (nat_lt 0 (damaged_in frame)) (faults.Damaged (damaged_in frame))) _
+    (when_not L (nat_lt 0 (damaged_in frame)) (faults.Damaged (damaged_in frame)) h.whole)
+    (when_not L (count_due last frame % step == 0 && lacks_opening frame) faults.NoEnsemble h.opens)))
+  where
+    first_event : (o : Option ℕ) → AreFree L (first_line o frame)
+    first_event None = (tt, tt)
+    first_event (Some count) = tt
+
+-- ---- a FIG 0/0
+
+-- its place, its ensemble and its count
+pub record IsPlaceFine (k : Known) (first : Bool) (e : EnsembleInformation) : Type 0 where
+  pub eid : is_of_other_ensemble k first e ≡ false
+  pub count : has_other_count k first e ≡ false
+  pub placed : is_placed k first e ≡ true
+
+-- what it announces, and the count and the capacity units of its swap
+pub record IsHeadFine (k : Known) (e : EnsembleInformation) : Type 0 where
+  pub made : makes_swap k e ≡ true → (e.count % 250 == awaited_low k) ≡ true
+  pub again : makes_swap k e ≡ false → announces_another k e ≡ false
+  pub falls : has_flags e ≡ true → can_fall_at k.step (occurrence_of e) ≡ true
+  pub early : k.began_early ≡ true → has_flags e ≡ true
+  pub units : makes_swap k e ≡ true → (overlap k.listener.next.subs ≡ None) × (past_end k.listener.next.subs ≡ None)
+
+-- the notice of its swap
+pub record IsNoticeFine (k : Known) : Type 0 where
+  pub times : (not k.is_cut_off && nat_lt k.times 3) ≡ false
+  pub heard : (not k.is_cut_off && nat_lt k.heard 3) ≡ false
+  pub flags : (not k.is_cut_off && not (k.flags == changes k)) ≡ false
+
+place_free : (L : Type 0) (k : Known) (first : Bool) (e : EnsembleInformation) → IsPlaceFine k first e → AreFree L (place_faults k first e)
+place_free L k first e h =
+    both L (when (is_of_other_ensemble k first e) (faults.OtherEnsemble e.eid)) _
+    (when_not L (is_of_other_ensemble k first e) (faults.OtherEnsemble e.eid) h.eid)
+    (both L (when (has_other_count k first e) (faults.Count (unwrap_or k.due 0))) _
+    (when_not L (has_other_count k first e) (faults.Count (unwrap_or k.due 0)) h.count)
+    (when_not L (not (is_placed k first e)) faults.OutOfPlace (ap not h.placed)))
+
+notice_free : (L : Type 0) (k : Known) → IsNoticeFine k → AreFree L (notice_faults k)
+notice_free L k h =
+    both L (when (not k.is_cut_off && nat_lt k.times 3) (faults.AnnouncedTimes k.times)) _
+    (when_not L (not k.is_cut_off && nat_lt k.times 3) (faults.AnnouncedTimes k.times) h.times)
+    (both L (when (not k.is_cut_off && nat_lt k.heard 3) (faults.NextHeard k.heard)) _
+    (when_not L (not k.is_cut_off && nat_lt k.heard 3) (faults.NextHeard k.heard) h.heard)
+    (when_not L (not k.is_cut_off && not (k.flags == changes k)) (faults.Flags k.flags (changes k)) h.flags))
+
+unit_free : (L : Type 0) (k : Known) → (overlap k.listener.next.subs ≡ None) × (past_end k.listener.next.subs ≡ None) → AreFree L (unit_faults k)
+unit_free L k none =
+    subst (λ (o : Option Fault). AreFree L (as_list o ++ as_list (past_end k.listener.next.subs))) (sym none.0)
+    (subst (λ (o : Option Fault). AreFree L (as_list o)) (sym none.1) tt)
+
+swap_free : (L : Type 0) (k : Known) (e : EnsembleInformation) → IsHeadFine k e → (b : Bool) → makes_swap k e ≡ b → (b ≡ true → IsNoticeFine k)
+    → AreFree L (cond b (swap_findings k e) (when (announces_another k e) (faults.AnnouncedAgain e.change (occurrence_of e))))
+swap_free L k e h true is notice = (
+  tt,
+  both L (when (not (e.count % 250 == awaited_low k)) (faults.AnnouncedFor (awaited_low k))) (notice_faults k ++ unit_faults k)
+      (when_not L (not (e.count % 250 == awaited_low k)) (faults.AnnouncedFor (awaited_low k)) (ap not (h.made is)))
+      (both L (notice_faults k) (unit_faults k) (notice_free L k (notice refl)) (unit_free L k (h.units is))),
+)
+swap_free L k e h false is notice = when_not L (announces_another k e) (faults.AnnouncedAgain e.change (occurrence_of e)) (h.again is)
+
+first_free : (L : Type 0) (k : Known) (e : EnsembleInformation) → IsHeadFine k e → (b : Bool) → announces_first k e ≡ b
+    → AreFree L (cond b (whats.Event (events.Announced e.change (occurrence_of e)) ∷ when (not (can_fall_at k.step (occurrence_of e))) (faults.NoSwapAt (occurrence_of e))) [])
+first_free L k e h true is =
+    (tt, when_not L (not (can_fall_at k.step (occurrence_of e))) (faults.NoSwapAt (occurrence_of e)) (ap not (h.falls (first_holds (has_flags e) _ is))))
+first_free L k e h false is = tt
+
+pub quiet_early : (f b : Bool) → (b ≡ true → f ≡ true) → (not f && b) ≡ false
+quiet_early true b h = refl
+quiet_early false true h = absurd (false≢true (h refl))
+quiet_early false false h = refl
+
+head_free : (L : Type 0) (k : Known) (first : Bool) (e : EnsembleInformation) → IsPlaceFine k first e → IsHeadFine k e → (makes_swap k e ≡ true → IsNoticeFine k)
+    → AreFree L (ensemble_findings k first e)
+head_free L k first e place h notice =
+    both L (place_faults k first e) _ (place_free L k first e place)
+    (both L (swap_or_another k e) _ (swap_free L k e h (makes_swap k e) refl notice)
+    (both L (announcement k e) _ (first_free L k e h (announces_first k e) refl)
+    (when_not L (not (has_flags e) && k.began_early) faults.NextUnannounced (quiet_early (has_flags e) k.began_early h.early))))
+
+-- ---- another entry
+
+pub record IsMemberFine (k : Known) (i : Item) : Type 0 where
+  pub same : i.next ≡ false → is_other_one (lookup_in i.raw k.listener.current) ≡ false
+  pub flagged : i.next ≡ true → (not k.has_begun && k.has_ensemble) ≡ false
+  pub next : i.next ≡ true → is_other_one (lookup_in i.raw k.listener.next) ≡ false
+
+-- it does not appear once the current configuration is settled
+abbrev pub IsNoNews : Known → Item → Type 0
+IsNoNews k i = i.next ≡ false → (is_absent (lookup_in i.raw k.listener.current) && is_settled k) ≡ false
+
+member_free : (L : Type 0) (k : Known) (i : Item) → IsMemberFine k i → (L → IsNoNews k i) → AreFree L (member_findings k i.next i.raw)
+member_free L k i h known = either L k.listener.tuned _ [] (by i.next refl) tt
+  where
+    by : (b : Bool) → i.next ≡ b → AreFree L (cond b (next_findings k i.raw) (current_findings k i.raw))
+    by true is =
+        both L (when (not k.has_begun && k.has_ensemble) faults.NextUnannounced) _
+        (when_not L (not k.has_begun && k.has_ensemble) faults.NextUnannounced (h.flagged is))
+        (when_not L (is_other_one (lookup_in i.raw k.listener.next)) (faults.NextChanged (name_of i.raw)) (h.next is))
+    by false is =
+        both L (when (is_other_one (lookup_in i.raw k.listener.current)) (faults.Changed (name_of i.raw))) _
+        (when_not L (is_other_one (lookup_in i.raw k.listener.current)) (faults.Changed (name_of i.raw)) (h.same is))
+        (when_short L (is_absent (lookup_in i.raw k.listener.current) && is_settled k) (faults.Appeared (name_of i.raw)) refl (λ l. known l is))
+
+-- ---- the entries of a frame
+
+-- this holds of each of these entries and of the past before it
+abbrev pub Each : (List Moment → Item → Type 0) → List Moment → List Item → Type 0
+Each P past [] = Unit {0}
+Each P past (i ∷ is) = P past i × Each P (Said i ∷ past) is
+
+pub each_other : (P : List Moment → Item → Type 0) → ((past : List Moment) (i : Item) → is_ensemble i ≡ false → P past i)
+    → (items : List Item) (past : List Moment) → HasNone items → Each P past items
+each_other P h [] past none = tt
+each_other P h (i ∷ is) past none = (h past i none.0, each_other P h is (Said i ∷ past) none.1)
+
+-- what each family of proofs says of an entry: of the place of FIG 0/0, of the entry itself, of the notice of a swap, and
+-- of whether it was known
+abbrev pub IsWellPlaced : (step period : ℕ) → List Moment → Item → Type 0
+IsWellPlaced step period past i = is_ensemble i ≡ true → IsPlaceFine (known_of step period past) i.first (ensemble_of i)
+
+pub record Agrees (step period : ℕ) (past : List Moment) (i : Item) : Type 0 where
+  pub room : has_no_room (known_of step period past) i ≡ false
+  pub head : is_ensemble i ≡ true → IsHeadFine (known_of step period past) (ensemble_of i)
+  pub member : is_ensemble i ≡ false → IsMemberFine (known_of step period past) i
+
+abbrev pub IsWellNoticed : (step period : ℕ) → List Moment → Item → Type 0
+IsWellNoticed step period past i =
+    is_ensemble i ≡ true → makes_swap (known_of step period past) (ensemble_of i) ≡ true → IsNoticeFine (known_of step period past)
+
+abbrev pub IsKnown : (step period : ℕ) → List Moment → Item → Type 0
+IsKnown step period past i = is_ensemble i ≡ false → IsNoNews (known_of step period past) i
+
+item_free : (L : Type 0) (step period : ℕ) (past : List Moment) (i : Item) → IsWellPlaced step period past i → Agrees step period past i → IsWellNoticed step period past i → (L → IsKnown step period past i)
+    → AreFree L (findings_at (known_of step period past) i)
+item_free L step period past i place word notice known = by (is_ensemble i) refl
+  where
+    by : (b : Bool) → is_ensemble i ≡ b → AreFree L (cond b (ensemble_findings (known_of step period past) i.first (ensemble_of i)) (member_findings (known_of step period past) i.next i.raw))
+    by true is = head_free L (known_of step period past) i.first (ensemble_of i) (place is) (word.head is) (notice is)
+    by false is = member_free L (known_of step period past) i (word.member is) (λ l. known l is)
+
+items_free : (L : Type 0) (step period : ℕ) (items : List Item) (past : List Moment) → Each (IsWellPlaced step period) past items → Each (Agrees step period) past items → Each (IsWellNoticed step period) past items
+    → (L → Each (IsKnown step period) past items) → AreFree L (findings_at_items step period past items)
+items_free L step period [] past place word notice known = tt
+items_free L step period (i ∷ is) past place word notice known =
+    either L (has_no_room (known_of step period past) i) [] _ tt
+    (both L (findings_at (known_of step period past) i) _
+    (item_free L step period past i place.0 word.0 notice.0 (λ l. (known l).0))
+    (items_free L step period is (Said i ∷ past) place.1 word.1 notice.1 (λ l. (known l).1)))
+
+pub items_room : (step period : ℕ) (items : List Item) (past : List Moment) → Each (Agrees step period) past items → runs_full step period past items ≡ false
+items_room step period [] past word = refl
+items_room step period (i ∷ is) past word =
+    ap (λ b. cond b true (runs_full step period (Said i ∷ past) is)) word.0.room ∙ items_room step period is (Said i ∷ past) word.1
+
+-- ---- the end of a frame
+
+silent_then : (L : Type 0) (r : Raw) (more : List Raw) (b : Bool) → (L → b ≡ false) → AreFree L (map silence more) → AreFree L (map silence (cond b (r ∷ more) more))
+silent_then L r more true h rest = ((refl, λ l. false≢true (sym (h l))), rest)
+silent_then L r more false h rest = rest
+
+silent_free : (L : Type 0) (test : Raw → Bool) (rs : List Raw) → (L → (x : Raw) → In x rs → test x ≡ false) → AreFree L (map silence (filter test rs))
+silent_free L test [] h = tt
+silent_free L test (r ∷ rs) h =
+    silent_then L r (filter test rs) (test r) (λ l. h l r (inl refl)) (silent_free L test rs (λ l x more. h l x (inr more)))
+
+-- ---- a frame
+
+-- no test is met in it, except that an entry may appear or be silent where the period is short
+pub record IsFrameFree (L : Type 0) (size step period : ℕ) (past : List Moment) (frame : List Fib) : Type 0 where
+  pub whole : IsFrameFine size step (due past) frame
+  pub place : Each (IsWellPlaced step period) past (frame_items frame)
+  pub word : Each (Agrees step period) past (frame_items frame)
+  pub notice : Each (IsWellNoticed step period) past (frame_items frame)
+  pub known : L → Each (IsKnown step period) past (frame_items frame)
+  pub sent : L → (x : Raw) → In x (all_entries (listener_after (said (frame_items frame) past)).current)
+      → is_silent period (said (frame_items frame) past) x ≡ false
+
+in_frame_free : (L : Type 0) (at : FrameAt) (ws : List What) → AreFree L ws → AllByRecursion (λ (found : Finding). IsFreeUnlessShort L found.what) (map (in_frame at) ws)
+in_frame_free L at [] all = tt
+in_frame_free L at (w ∷ ws) all = (all.0, in_frame_free L at ws all.1)
+
+pub found_free : (L : Type 0) (size step period : ℕ) (past : List Moment) (frame : List Fib) → IsFrameFree L size step period past frame
+    → AllByRecursion (λ (found : Finding). IsFreeUnlessShort L found.what) (findings_in size step period past frame)
+found_free L size step period past frame h =
+    in_frame_free L (frame_at step past frame) _
+    (both L (frame_findings size step (due past) frame) _ (frame_free L size step (due past) frame h.whole)
+    (both L (findings_at_items step period past (frame_items frame)) _
+    (items_free L step period (frame_items frame) past h.place h.word h.notice h.known)
+    (either L (runs_full step period past (frame_items frame)) [] (silent_findings period (said (frame_items frame) past)) tt
+    (silent_free L (is_silent period (said (frame_items frame) past)) _ h.sent))))
