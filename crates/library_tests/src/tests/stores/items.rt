@@ -1,7 +1,7 @@
 //! Tests the order of the members of each set, and copies.
 
-use crate::edits::full;
-use crate::parts::{holds, packet, sc_id, sound, sub, sub_id};
+use super::edits::full;
+use super::parts::{holds, packet, sc_id, sound, sub, sub_id};
 use mux_config::{Config, Sid, Store};
 use std::test::Fail;
 

@@ -1,6 +1,6 @@
 //! Each kind of entry with the lowest and highest values of its fields, in the layout of the standard.
 
-use super::begins;
+use super::fibs::begins;
 use fib_codec::{
     Bits, BoundedVec, ComponentEntry, Ensemble, Entry, Fib, Head, PacketEntry, ScId, ScTy,
     ServiceEntry, ShortEntry, Sid, SubEntry, SubId, entry_len,

@@ -1,6 +1,6 @@
 //! Tests the soundness of configurations, and what a reconfiguration changes.
 
-use crate::parts::{
+use super::parts::{
     add_component, carried, drop_component, holds, move_sub, packet, rate_sub, sc_id, sound, sub,
     sub_id,
 };

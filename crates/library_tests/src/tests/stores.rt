@@ -1,21 +1,21 @@
-//! Tests that every `Store` has to pass: a crate with a store calls these runs in its own tests.
+//! The rows that every `Store` has to pass, over `Config` and `Tables`.
 //!
 //! Each run takes the type of the store, and fails at the first unexpected result; `every_run` is all of them. `parts`
 //! makes sub-channels, services, packet components and edits from their numbers. The contract of `mux_config::Store`
-//! says what a store is; begin with `edits::full`.
-#![tactic(auto)]
+//! says what a store is; begin with `edits::full`. A new store gets a test here.
 
-pub mod edits;
-pub mod items;
-pub mod parts;
-pub mod soundness;
+mod edits;
+mod items;
+mod parts;
+mod soundness;
 
-use mux_config::Store;
+use mux_config::{Config, Store};
+use mux_tables::Tables;
 use std::test::Fail;
 
 /// All runs, one after the other: the faults of edits in their order, edits and their twins, members in ascending
 /// order, copies, soundness, and what a reconfiguration changes.
-pub fn every_run<S: Store>() -> Result<(), Fail> {
+fn every_run<S: Store>() -> Result<(), Fail> {
     edits::faults_of_full_sets::<S>()?;
     edits::faults_of_sub_channels::<S>()?;
     edits::twins::<S>()?;
@@ -26,4 +26,14 @@ pub fn every_run<S: Store>() -> Result<(), Fail> {
     soundness::first_faults::<S>()?;
     soundness::dropped_sub_channels::<S>()?;
     soundness::changes::<S>()
+}
+
+#[test]
+fn configurations_in_tables_are_a_store() -> Result<(), Fail> {
+    every_run::<Config>()
+}
+
+#[test]
+fn counted_configurations_are_a_store() -> Result<(), Fail> {
+    every_run::<Tables>()
 }

@@ -1,6 +1,6 @@
 //! The offsets of faults, which no command shows.
 
-use super::fib_of;
+use super::fibs::fib_of;
 use fib_reader::{FibFault, check};
 use std::test::Fail;
 

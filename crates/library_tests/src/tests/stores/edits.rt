@@ -1,6 +1,6 @@
 //! Tests edits of full sets: the order of their faults, that a fault changes nothing, and the `_known` twins.
 
-use crate::parts::{
+use super::parts::{
     add_component, add_sub, carried, drop_component, holds, move_sub, packet, rate_sub, sc_id,
     sound, sub, sub_id,
 };
