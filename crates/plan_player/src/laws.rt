@@ -4,10 +4,9 @@
 ghost use Rattle.plan_player.specs.Positions.{Progress};
 ghost use Rattle.plan_player.specs.Quiet.{QuietFramesAreCopied};
 
-pub use plan_listeners::laws::listener;
 pub use plan_runs::laws::{
-    bursts, contacts, frames, headers, headline, heard, notices, pages_in_turn, periods, reached,
-    runs, swaps, typed_code_runs, waits,
+    bursts, contacts, frames, headers, headline, heard, listener, notices, pages_in_turn, periods,
+    reached, runs, swaps, typed_code_runs, waits,
 };
 
 /// The law of progress: in every state that a typed code reaches, the instructions of the next frame can be executed

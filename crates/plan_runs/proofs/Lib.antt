@@ -28,7 +28,19 @@ pub mod Uncommitted
 pub mod Waits
 pub mod LastSent
 pub mod SentHeaders
+pub mod Parts
+pub mod Pictures
+pub mod Hearing
+pub mod Tuned
+pub mod Contents
+pub mod Knowing
+pub mod HeardFrame
+pub mod HeardFrames
+pub mod CurrentKnown
+pub mod NewKnown
 mod VectorsOfRuns
 mod VectorsOfBytes
 mod VectorsOfPromises
 mod VectorsOfLaws
+mod VectorsOfHearing
+mod VectorsOfListening

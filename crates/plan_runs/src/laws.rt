@@ -12,6 +12,7 @@ ghost use Rattle.plan_runs.specs.SentHeaders.{HeadersAreSent};
 ghost use Rattle.plan_runs.specs.Clock.{FramesAreCounted, ContactsAreAsSet};
 ghost use Rattle.plan_runs.specs.Swaps.{SwapsAreOnSteps, SwapsChangeTheCurrent, CommitsAreKept, SwapsAreCommitted};
 ghost use Rattle.plan_runs.specs.Waits.{InstructionsSuspend, WaitsAreKept};
+ghost use Rattle.plan_runs.specs.Listening.{ListenersAreRight};
 
 /// The law of bursts: a frame's instructions determine one final state, and their number is the frame's step count.
 pub fn bursts()
@@ -137,6 +138,18 @@ pub fn headers()
 pub fn headline()
     ensures { HeadlineHolds }
 {
+    fib_carousel::laws::pages();
+    fib_carousel::laws::carried();
+}
+
+/// The law of listeners: a listener that starts before any frame of a run of a typed code never runs out of room. Once
+/// tuned, it knows the current configuration after P frames of one phase; and if it heard a whole notice, it knows the
+/// new configuration from the first FIB of the swap's frame on.
+pub fn listener()
+    ensures { ListenersAreRight }
+{
+    fib_codec::laws::one_list();
+    fib_reader::laws::ensemble();
     fib_carousel::laws::pages();
     fib_carousel::laws::carried();
 }

@@ -31,9 +31,9 @@ use Rattle.plan_runs.proofs.Periods.{Goes, after_goes, sends, sent_period}
 use Rattle.plan_runs.proofs.Right.{pageable}
 use Rattle.plan_runs.proofs.Facts.{Holds, IsCode, airs}
 use Rattle.plan_runs.proofs.Notice.{links}
-use Rattle.plan_listeners.proofs.Contents.{Laws}
-use Rattle.plan_listeners.proofs.Frame.{zero_or_not}
-use Rattle.plan_listeners.proofs.Pictures.{entries_of, contains_in, fact_in}
+use Rattle.plan_runs.proofs.Contents.{Laws}
+use Rattle.plan_runs.proofs.HeardFrame.{zero_or_not}
+use Rattle.plan_runs.proofs.Pictures.{entries_of, contains_in, fact_in}
 use Rattle.stream_laws.proofs.Noting.{ensemble_made}
 use Rattle.stream_laws.proofs.Framing.{read_frame}
 use Rattle.stream_laws.proofs.Sending.{IsHeadOf, frame_said}

@@ -14,10 +14,10 @@ use Rattle.stream_check.proofs.Members.{member_heard, member_has_begun, member_b
 use Rattle.plan_code.specs.declared.plan.Plan.{Plan}
 use Rattle.plan_code.specs.Machine.{State}
 use Rattle.plan_runs.specs.Frames.{is_noticed}
-use Rattle.plan_listeners.proofs.Pictures.{whole_of, IsOf, IsPartial, whole_is_set, entry_is_of}
-use Rattle.plan_listeners.proofs.Hearing.{hear_marked}
-use Rattle.plan_listeners.proofs.Tuned.{Tuned, NextBy, IsSentOf, SaidIn, Or, tuned_weaker, hears_entries}
-use Rattle.plan_listeners.proofs.Waiting.{Nothing}
+use Rattle.plan_runs.proofs.Pictures.{whole_of, IsOf, IsPartial, whole_is_set, entry_is_of}
+use Rattle.plan_runs.proofs.Hearing.{hear_marked}
+use Rattle.plan_runs.proofs.Tuned.{Tuned, NextBy, IsSentOf, SaidIn, Or, tuned_weaker, hears_entries}
+use Rattle.plan_runs.proofs.HeardFrames.{Nothing}
 use Rattle.stream_laws.proofs.Kept.{second_holds, member_room}
 use Rattle.stream_laws.proofs.Sending.{IsSentItem}
 use Rattle.stream_laws.proofs.LookedUp.{fine_in}

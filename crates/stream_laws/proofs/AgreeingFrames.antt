@@ -25,11 +25,11 @@ use Rattle.plan_runs.proofs.Tracked.{Airs, SwapsOn}
 use Rattle.plan_runs.proofs.Facts.{Holds, IsCode, airs}
 use Rattle.plan_runs.proofs.Notice.{Links, links}
 use Rattle.plan_runs.proofs.Announcing.{noticed_information}
-use Rattle.plan_listeners.proofs.Hearing.{headed}
-use Rattle.plan_listeners.proofs.Contents.{Laws}
-use Rattle.plan_listeners.proofs.Knowing.{InFrame, knows_after}
-use Rattle.plan_listeners.proofs.Frame.{zero_or_not, enters_untuned}
-use Rattle.plan_listeners.proofs.Waiting.{Nothing, enters_known}
+use Rattle.plan_runs.proofs.Hearing.{headed}
+use Rattle.plan_runs.proofs.Contents.{Laws}
+use Rattle.plan_runs.proofs.Knowing.{InFrame, knows_after}
+use Rattle.plan_runs.proofs.HeardFrame.{zero_or_not, enters_untuned}
+use Rattle.plan_runs.proofs.HeardFrames.{Nothing, enters_known}
 use Rattle.stream_laws.proofs.Noting.{ensemble_flags, begun_is, flags_are}
 use Rattle.stream_laws.proofs.Framing.{read_frame}
 use Rattle.stream_laws.proofs.Sending.{IsHeadOf, IsFrameSaid, frame_said}

@@ -25,9 +25,9 @@ use Rattle.plan_runs.proofs.Notice.{Links, links}
 use Rattle.plan_runs.proofs.Carries.{LeftBy}
 use Rattle.plan_runs.proofs.Right.{ensemble_right, ensemble_within}
 use Rattle.plan_runs.proofs.Announcing.{noticed_information}
-use Rattle.plan_listeners.proofs.Pictures.{whole_of, IsPartial}
-use Rattle.plan_listeners.proofs.Knowing.{Waits, KnowsBy, WaitsBy}
-use Rattle.plan_listeners.proofs.Waiting.{KnowsAt, Nothing}
+use Rattle.plan_runs.proofs.Pictures.{whole_of, IsPartial}
+use Rattle.plan_runs.proofs.Knowing.{Waits, KnowsBy, WaitsBy}
+use Rattle.plan_runs.proofs.HeardFrames.{KnowsAt, Nothing}
 use Rattle.stream_laws.proofs.Units.{units_fine}
 use Rattle.stream_laws.proofs.Agreeing.{none_or_some}
 

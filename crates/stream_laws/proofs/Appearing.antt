@@ -26,12 +26,12 @@ use Rattle.plan_runs.proofs.Periods.{Goes, after_goes, sends, sent_period}
 use Rattle.plan_runs.proofs.Right.{pageable}
 use Rattle.plan_runs.proofs.Facts.{Holds, IsCode, airs}
 use Rattle.plan_runs.proofs.Notice.{links}
-use Rattle.plan_listeners.proofs.Knowing.{Still, knows_after}
-use Rattle.plan_listeners.proofs.Frame.{RowSaid, fibs_in, frame_heard, enters, enters_swap, enters_untuned, current_shown, due_current}
-use Rattle.plan_listeners.proofs.Parts.{In}
-use Rattle.plan_listeners.proofs.Pictures.{HasAll, entries_of, contains_in, in_contains, in_fact, fact_in}
-use Rattle.plan_listeners.proofs.Tuned.{Or}
-use Rattle.plan_listeners.proofs.Waiting.{KnowsAt, Nothing, knows_weaker}
+use Rattle.plan_runs.proofs.Knowing.{Still, knows_after}
+use Rattle.plan_runs.proofs.HeardFrame.{RowSaid, fibs_in, frame_heard, enters, enters_swap, enters_untuned, current_shown, due_current}
+use Rattle.plan_runs.proofs.Parts.{In}
+use Rattle.plan_runs.proofs.Pictures.{HasAll, entries_of, contains_in, in_contains, in_fact, fact_in}
+use Rattle.plan_runs.proofs.Tuned.{Or}
+use Rattle.plan_runs.proofs.HeardFrames.{KnowsAt, Nothing, knows_weaker}
 use Rattle.stream_laws.proofs.Noting.{ensemble_made}
 use Rattle.stream_laws.proofs.Framing.{read_frame}
 use Rattle.stream_laws.proofs.AgreeingRuns.{IsBetween}

@@ -19,7 +19,7 @@ use Rattle.stream_check.specs.Lookup.{lookup_in}
 use Rattle.stream_check.specs.History.{Item, Moment, Said, said, frame_items, is_ensemble, ensemble_of, listener_after, due}
 use Rattle.stream_check.specs.Rules.{Known, known_of, name_of, overlap, past_end, place_faults, is_of_other_ensemble, has_other_count, is_placed, makes_swap, notice_faults, unit_faults, swap_findings, swap_or_another, announces_another, occurrence_of, announces_first, announcement, can_fall_at, has_flags, ensemble_findings, is_settled, current_findings, next_findings, member_findings, is_other_one, is_absent, has_no_room, findings_at, silence, is_silent, silent_findings, awaited_low, changes}
 use Rattle.stream_check.specs.Stream.{count_due, first_line, frame_findings, findings_at_items, runs_full, frame_at, findings_in}
-use Rattle.plan_listeners.proofs.Parts.{In}
+use Rattle.plan_runs.proofs.Parts.{In}
 use Rattle.stream_laws.specs.Sorts.{is_of_period, IsFreeUnlessShort}
 use Rattle.stream_laws.proofs.Kept.{first_holds}
 use Rattle.stream_laws.proofs.Rows.{HasNone}

@@ -25,12 +25,12 @@ use Rattle.plan_runs.specs.Runs.{happens}
 use Rattle.plan_runs.specs.Announced.{heard_of}
 use Rattle.plan_runs.proofs.Facts.{Holds, IsCode}
 use Rattle.plan_runs.proofs.Announcing.{heard_contacts}
-use Rattle.plan_listeners.proofs.Pictures.{whole_of, IsPartial, HasAll}
-use Rattle.plan_listeners.proofs.Parts.{In, part_whole}
-use Rattle.plan_listeners.proofs.Contents.{Laws}
-use Rattle.plan_listeners.proofs.Knowing.{KnowsPending, KnowsBy}
-use Rattle.plan_listeners.proofs.Waiting.{KnowsAt}
-use Rattle.plan_listeners.proofs.Windows.{SomeSaid}
+use Rattle.plan_runs.proofs.Pictures.{whole_of, IsPartial, HasAll}
+use Rattle.plan_runs.proofs.Parts.{In, part_whole}
+use Rattle.plan_runs.proofs.Contents.{Laws}
+use Rattle.plan_runs.proofs.Knowing.{KnowsPending, KnowsBy}
+use Rattle.plan_runs.proofs.HeardFrames.{KnowsAt}
+use Rattle.plan_runs.proofs.CurrentKnown.{SomeSaid}
 use Rattle.stream_laws.proofs.Shown.{flags_of_change}
 use Rattle.stream_laws.proofs.Agreeing.{none_or_some}
 use Rattle.stream_laws.proofs.AgreeingRuns.{IsBetween}

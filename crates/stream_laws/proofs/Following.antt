@@ -28,13 +28,13 @@ use Rattle.plan_runs.proofs.Tracked.{Airs, noticed, split_le}
 use Rattle.plan_runs.proofs.Carries.{LeftBy}
 use Rattle.plan_runs.proofs.Facts.{Holds, IsCode, airs}
 use Rattle.plan_runs.proofs.Notice.{links, heard_frame}
-use Rattle.plan_listeners.proofs.Hearing.{headed}
-use Rattle.plan_listeners.proofs.Tuned.{Or}
-use Rattle.plan_listeners.proofs.Contents.{Laws}
-use Rattle.plan_listeners.proofs.Knowing.{InFrame, Still, knows_after}
-use Rattle.plan_listeners.proofs.Frame.{zero_or_not, RowSaid, fibs_in, frame_heard, enters, enters_swap, enters_untuned}
-use Rattle.plan_listeners.proofs.Waiting.{KnowsAt, Nothing, knows_weaker}
-use Rattle.plan_listeners.proofs.Windows.{SomeSaid, none_said}
+use Rattle.plan_runs.proofs.Hearing.{headed}
+use Rattle.plan_runs.proofs.Tuned.{Or}
+use Rattle.plan_runs.proofs.Contents.{Laws}
+use Rattle.plan_runs.proofs.Knowing.{InFrame, Still, knows_after}
+use Rattle.plan_runs.proofs.HeardFrame.{zero_or_not, RowSaid, fibs_in, frame_heard, enters, enters_swap, enters_untuned}
+use Rattle.plan_runs.proofs.HeardFrames.{KnowsAt, Nothing, knows_weaker}
+use Rattle.plan_runs.proofs.CurrentKnown.{SomeSaid, none_said}
 use Rattle.stream_laws.proofs.Clean.{said_twice}
 use Rattle.stream_laws.proofs.Noting.{ensemble_made}
 use Rattle.stream_laws.proofs.Framing.{is_read, read_frame}

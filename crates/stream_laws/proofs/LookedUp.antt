@@ -9,8 +9,8 @@ use Rattle.stream_check.specs.declared.heard_table.Lookup.TheVariants as standin
 use Rattle.stream_check.specs.Lookup.{agree, lookup_among, lookup, lookup_in}
 use Rattle.stream_check.specs.Rules.{is_other_one, finds_no_room}
 use Rattle.stream_check.proofs.Agreeing.{agree_self}
-use Rattle.plan_listeners.proofs.Parts.{In, each_in, partly, IsPart, part_takes}
-use Rattle.plan_listeners.proofs.Pictures.{whole_of, IsOf, IsPartial, whole_is_set}
+use Rattle.plan_runs.proofs.Parts.{In, each_in, partly, IsPart, part_takes}
+use Rattle.plan_runs.proofs.Pictures.{whole_of, IsOf, IsPartial, whole_is_set}
 
 -- ---- one list
 

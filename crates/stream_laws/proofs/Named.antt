@@ -34,8 +34,8 @@ use Rattle.plan_runs.proofs.Tracked.{SwapsOn}
 use Rattle.plan_runs.proofs.Facts.{Holds, IsCode, airs, frame_holds, happens_holds, run_holds, code_of, played_holds}
 use Rattle.plan_runs.proofs.Notice.{links}
 use Rattle.plan_runs.proofs.Right.{ensemble_right}
-use Rattle.plan_listeners.proofs.Contents.{Laws}
-use Rattle.plan_listeners.proofs.Frame.{zero_or_not}
+use Rattle.plan_runs.proofs.Contents.{Laws}
+use Rattle.plan_runs.proofs.HeardFrame.{zero_or_not}
 use Rattle.stream_laws.specs.Notices.{read_frames}
 use Rattle.stream_laws.specs.Framing.{frames_of}
 use Rattle.stream_laws.specs.Naming.{names_swap, swap_frames, due_frames, due_after_first, SwapsAreNamed}

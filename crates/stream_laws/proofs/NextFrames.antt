@@ -27,7 +27,7 @@ use Rattle.plan_runs.proofs.Tracked.{Airs, SwapsOn}
 use Rattle.plan_runs.proofs.Right.{ensemble_right, pageable}
 use Rattle.plan_runs.proofs.Facts.{Holds, IsCode, airs}
 use Rattle.plan_runs.proofs.Notice.{links}
-use Rattle.plan_listeners.proofs.Frame.{zero_or_not}
+use Rattle.plan_runs.proofs.HeardFrame.{zero_or_not}
 use Rattle.stream_laws.proofs.Noting.{ensemble_made, ensemble_flags, begun_is, rows_are}
 use Rattle.stream_laws.proofs.Rows.{HasNone}
 use Rattle.stream_laws.proofs.Framing.{read_frame}

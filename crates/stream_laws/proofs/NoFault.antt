@@ -26,7 +26,7 @@ use Rattle.plan_runs.specs.Runs.{happens, run}
 use Rattle.plan_runs.specs.RightBytes.{FrameIsRight, FramesAreRight}
 use Rattle.plan_runs.specs.Headline.{HeadlineHolds}
 use Rattle.plan_runs.proofs.Facts.{Holds, IsCode, airs, frame_holds, happens_holds, run_holds, code_of, played_holds}
-use Rattle.plan_listeners.proofs.Frame.{zero_or_not}
+use Rattle.plan_runs.proofs.HeardFrame.{zero_or_not}
 use Rattle.stream_laws.specs.Sorts.{is_of_word, is_of_period, IsFreeOf, IsFreeUnlessShort, step_of, run_read, RunIsFreeOf, IsLongFor, HoldsOfRuns, RunsAreFree, RunsAgree}
 use Rattle.stream_laws.specs.Faultless.{IsNoFault}
 use Rattle.stream_laws.specs.Faults.{RunsAreFaultless}

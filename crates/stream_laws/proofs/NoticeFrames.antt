@@ -23,8 +23,8 @@ use Rattle.plan_runs.proofs.Facts.{Holds, IsCode}
 use Rattle.plan_runs.proofs.Right.{PageLaws, pageable}
 use Rattle.plan_runs.proofs.Notice.{frames_from, contains_frame, noticed_state, both_rounds, notice_at, notice_at_is, base_of, heard_is}
 use Rattle.plan_runs.proofs.Announcing.{IsDue}
-use Rattle.plan_listeners.proofs.Pictures.{HasAll, entries_of, in_contains, in_fact}
-use Rattle.plan_listeners.proofs.Windows.{SomeSaid}
+use Rattle.plan_runs.proofs.Pictures.{HasAll, entries_of, in_contains, in_fact}
+use Rattle.plan_runs.proofs.CurrentKnown.{SomeSaid}
 
 -- pages are in turn in ascending order
 page_up : (pages k : ℕ) → k < pages → page_of pages k ≡ k

@@ -18,9 +18,9 @@ use Rattle.plan_runs.specs.Frames.{is_due}
 use Rattle.plan_runs.specs.Announced.{heard_of, IsAnnounced}
 use Rattle.plan_runs.proofs.Facts.{Holds, IsCode}
 use Rattle.plan_runs.proofs.Announcing.{swaps_run}
-use Rattle.plan_listeners.proofs.Pictures.{whole_of, IsPartial, entries_of, contains_in, in_contains, fact_in, in_fact}
-use Rattle.plan_listeners.proofs.Knowing.{KnowsPending, KnowsBy}
-use Rattle.plan_listeners.proofs.Waiting.{Nothing}
+use Rattle.plan_runs.proofs.Pictures.{whole_of, IsPartial, entries_of, contains_in, in_contains, fact_in, in_fact}
+use Rattle.plan_runs.proofs.Knowing.{KnowsPending, KnowsBy}
+use Rattle.plan_runs.proofs.HeardFrames.{Nothing}
 use Rattle.stream_laws.proofs.AgreeingRuns.{IsBetween}
 use Rattle.stream_laws.proofs.Bytes.{map_contains}
 use Rattle.stream_laws.proofs.NoticeFrames.{due_left}

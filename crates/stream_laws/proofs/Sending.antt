@@ -32,10 +32,10 @@ use Rattle.plan_runs.specs.Frames.{is_noticed, sent_entries, ensemble_sent, show
 use Rattle.plan_runs.specs.Listening.{fibs_from}
 use Rattle.plan_runs.proofs.Tracked.{Airs}
 use Rattle.plan_runs.proofs.Right.{pageable, sent_within}
-use Rattle.plan_listeners.proofs.Parts.{In}
-use Rattle.plan_listeners.proofs.Pictures.{entries_of, in_append, fact_in}
-use Rattle.plan_listeners.proofs.Tuned.{IsSentOf, AreSentOf}
-use Rattle.plan_listeners.proofs.Contents.{Laws}
+use Rattle.plan_runs.proofs.Parts.{In}
+use Rattle.plan_runs.proofs.Pictures.{entries_of, in_append, fact_in}
+use Rattle.plan_runs.proofs.Tuned.{IsSentOf, AreSentOf}
+use Rattle.plan_runs.proofs.Contents.{Laws}
 use Rattle.stream_laws.proofs.Framing.{is_read, all_append, first_of_fibs, read_frame}
 
 -- an entry that is sent of these configurations

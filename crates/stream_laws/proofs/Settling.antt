@@ -21,13 +21,13 @@ use Rattle.plan_code.specs.Machine.{State}
 use Rattle.plan_verifier.specs.Typing.{Known}
 use Rattle.plan_runs.specs.Frames.{shown, frame_bytes, ensemble_of, ensemble_sent, is_due}
 use Rattle.plan_runs.proofs.Facts.{Holds, IsCode, airs}
-use Rattle.plan_listeners.proofs.Hearing.{headed}
-use Rattle.plan_listeners.proofs.Knowing.{InFrame}
-use Rattle.plan_listeners.proofs.Frame.{zero_or_not}
-use Rattle.plan_listeners.proofs.Parts.{In, partly, IsPart}
-use Rattle.plan_listeners.proofs.Pictures.{whole_of, IsOf, IsPartial, HasAll, entry_is_of, whole_is_set}
-use Rattle.plan_listeners.proofs.Tuned.{Tuned, Or, SaidIn, hears_entries, tuned_weaker}
-use Rattle.plan_listeners.proofs.Waiting.{Nothing}
+use Rattle.plan_runs.proofs.Hearing.{headed}
+use Rattle.plan_runs.proofs.Knowing.{InFrame}
+use Rattle.plan_runs.proofs.HeardFrame.{zero_or_not}
+use Rattle.plan_runs.proofs.Parts.{In, partly, IsPart}
+use Rattle.plan_runs.proofs.Pictures.{whole_of, IsOf, IsPartial, HasAll, entry_is_of, whole_is_set}
+use Rattle.plan_runs.proofs.Tuned.{Tuned, Or, SaidIn, hears_entries, tuned_weaker}
+use Rattle.plan_runs.proofs.HeardFrames.{Nothing}
 use Rattle.stream_laws.proofs.Framing.{read_frame}
 use Rattle.stream_laws.proofs.Sending.{IsSentItem, IsHeadOf, frame_said}
 use Rattle.stream_laws.proofs.Agreeing.{sent_ext, one_heard}

@@ -21,9 +21,9 @@ use Rattle.plan_runs.specs.declared.event.Event.TheVariants.{Contact}
 use Rattle.plan_runs.specs.Frames.{frame_bytes, after_frame}
 use Rattle.plan_runs.specs.Runs.{happens}
 use Rattle.plan_runs.proofs.Facts.{Holds, IsCode}
-use Rattle.plan_listeners.proofs.Parts.{In, partly, IsPart}
-use Rattle.plan_listeners.proofs.Pictures.{whole_of, IsPartial, entries_of, in_append, in_contains, in_fact}
-use Rattle.plan_listeners.proofs.Waiting.{Nothing, current_part}
+use Rattle.plan_runs.proofs.Parts.{In, partly, IsPart}
+use Rattle.plan_runs.proofs.Pictures.{whole_of, IsPartial, entries_of, in_append, in_contains, in_fact}
+use Rattle.plan_runs.proofs.HeardFrames.{Nothing, current_part}
 use Rattle.stream_laws.specs.Sorts.{IsLongFor}
 use Rattle.stream_laws.proofs.Framing.{read_frame}
 use Rattle.stream_laws.proofs.AgreeingFrames.{agrees_by}

@@ -23,10 +23,10 @@ use Rattle.plan_runs.proofs.Tracked.{Airs, SwapsOn, noticed, split_le}
 use Rattle.plan_runs.proofs.Carries.{IsNewly, LeftBy}
 use Rattle.plan_runs.proofs.Facts.{Holds, IsCode, airs}
 use Rattle.plan_runs.proofs.Notice.{Links, links}
-use Rattle.plan_listeners.proofs.Contents.{Laws}
-use Rattle.plan_listeners.proofs.Knowing.{KnowsBy}
-use Rattle.plan_listeners.proofs.Waiting.{Nothing}
-use Rattle.plan_listeners.proofs.Frame.{zero_or_not}
+use Rattle.plan_runs.proofs.Contents.{Laws}
+use Rattle.plan_runs.proofs.Knowing.{KnowsBy}
+use Rattle.plan_runs.proofs.HeardFrames.{Nothing}
+use Rattle.plan_runs.proofs.HeardFrame.{zero_or_not}
 use Rattle.mux_config.specs.Configuration.{Configuration}
 use Rattle.stream_laws.proofs.Noting.{ensemble_made, ensemble_flags, times_are}
 use Rattle.stream_laws.proofs.Rows.{HasNone}

@@ -15,8 +15,8 @@ use Rattle.fib_reader.specs.Listening.{identifier_of}
 use Rattle.fib_reader.proofs.FromEntries.{sub_identified}
 use Rattle.stream_check.specs.declared.finding.Fault.TheVariants as faults
 use Rattle.stream_check.specs.Rules.{first_unit, end_unit, is_long_form, share_unit, partner, overlap_or, overlap, past_end}
-use Rattle.plan_listeners.proofs.Parts.{partly, IsPart}
-use Rattle.plan_listeners.proofs.Pictures.{whole_of, whole_is_set}
+use Rattle.plan_runs.proofs.Parts.{partly, IsPart}
+use Rattle.plan_runs.proofs.Pictures.{whole_of, whole_is_set}
 
 -- ---- an entry of FIG 0/1
 

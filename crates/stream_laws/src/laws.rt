@@ -249,7 +249,7 @@ pub fn merged()
     fib_codec::laws::one_list();
     fig_merge::laws::filled();
     fig_merge::laws::checked();
-    plan_listeners::laws::listener();
+    plan_runs::laws::listener();
     frames();
     cutting();
     no_false_alarm();

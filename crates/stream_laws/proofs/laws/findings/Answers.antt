@@ -1,5 +1,5 @@
 use Rattle.plan_runs.proofs.Right.{PageLaws}
-use Rattle.plan_listeners.proofs.Contents.{Laws}
+use Rattle.plan_runs.proofs.Contents.{Laws}
 use Rattle.stream_laws.proofs.Ages.{FrameLaws}
 use Rattle.stream_laws.proofs.Flagging.{SwapLaws}
 use Rattle.stream_laws.proofs.NoFault.{runs_are_free}

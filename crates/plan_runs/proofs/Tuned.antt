@@ -8,9 +8,9 @@ use Rattle.fib_codec.specs.Grammar.{Fig, IsFib, OneList}
 use Rattle.fib_reader.specs.Raw.{Raw, raw_entry, ensemble_in}
 use Rattle.fib_reader.specs.Listening.{Pictured, blank, pictured, Listening, untuned, picture_of, into, where_heard, hear_entry, hear_figs, at_ensemble}
 use Rattle.plan_runs.specs.Listening.{HearsAll}
-use Rattle.plan_listeners.proofs.Parts.{In, Also}
-use Rattle.plan_listeners.proofs.Pictures.{whole_of, IsSet, IsOf, IsPartial, grows, weaker, entries_of, entry_is_of}
-use Rattle.plan_listeners.proofs.Hearing.{hear_marked, headed}
+use Rattle.plan_runs.proofs.Parts.{In, Also}
+use Rattle.plan_runs.proofs.Pictures.{whole_of, IsSet, IsOf, IsPartial, grows, weaker, entries_of, entry_is_of}
+use Rattle.plan_runs.proofs.Hearing.{hear_marked, headed}
 
 -- in a notice the next picture is part of the next configuration; otherwise it is empty
 abbrev pub NextBy : Bool → Configuration → (Raw → Type 0) → Pictured → Type 0

@@ -23,11 +23,11 @@ use Rattle.plan_runs.proofs.Between.{frame_goes}
 use Rattle.plan_runs.proofs.Carries.{frame_carries}
 use Rattle.plan_runs.proofs.Facts.{Holds, IsCode, airs}
 use Rattle.plan_runs.proofs.Notice.{links}
-use Rattle.plan_listeners.proofs.Pictures.{whole_of, IsPartial, whole_is_set, weaker}
-use Rattle.plan_listeners.proofs.Hearing.{hear_marked, headed}
-use Rattle.plan_listeners.proofs.Tuned.{SaidIn, SaidInSome, Or, tuned_weaker, hears_entries, hears_fibs, passes_entries, passes_fibs, some_say, some_sent}
-use Rattle.plan_listeners.proofs.Contents.{Laws, FrameSays, frame_says}
-use Rattle.plan_listeners.proofs.Knowing.{KnowsBy, KnowsPending, Ready, InFrame, Still, ready_by, headed_ready, unheaded_ready, headed_swap, headed_untuned}
+use Rattle.plan_runs.proofs.Pictures.{whole_of, IsPartial, whole_is_set, weaker}
+use Rattle.plan_runs.proofs.Hearing.{hear_marked, headed}
+use Rattle.plan_runs.proofs.Tuned.{SaidIn, SaidInSome, Or, tuned_weaker, hears_entries, hears_fibs, passes_entries, passes_fibs, some_say, some_sent}
+use Rattle.plan_runs.proofs.Contents.{Laws, FrameSays, frame_says}
+use Rattle.plan_runs.proofs.Knowing.{KnowsBy, KnowsPending, Ready, InFrame, Still, ready_by, headed_ready, unheaded_ready, headed_swap, headed_untuned}
 
 -- ---- FIG 0/0 is sent or not
 

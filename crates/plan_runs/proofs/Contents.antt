@@ -24,10 +24,10 @@ use Rattle.plan_runs.specs.Frames.{is_noticed, sent_entries, ensemble_sent, show
 use Rattle.plan_runs.specs.Listening.{fibs_from}
 use Rattle.plan_runs.proofs.Tracked.{Airs}
 use Rattle.plan_runs.proofs.Right.{PageLaws, pageable, sent_within}
-use Rattle.plan_listeners.proofs.Parts.{In}
-use Rattle.plan_listeners.proofs.Pictures.{entries_of, contains_in, fact_in, in_append}
-use Rattle.plan_listeners.proofs.Hearing.{first_heard, figs_heard}
-use Rattle.plan_listeners.proofs.Tuned.{IsSentOf, AreSentOf, SaidIn, SaidInSome, Says, AllSay}
+use Rattle.plan_runs.proofs.Parts.{In}
+use Rattle.plan_runs.proofs.Pictures.{entries_of, contains_in, fact_in, in_append}
+use Rattle.plan_runs.proofs.Hearing.{first_heard, figs_heard}
+use Rattle.plan_runs.proofs.Tuned.{IsSentOf, AreSentOf, SaidIn, SaidInSome, Says, AllSay}
 
 -- the laws of pages and FIBs that are used
 pub record Laws : Type 0 where

@@ -27,12 +27,12 @@ use Rattle.plan_runs.specs.Listening.{fibs_from, fibs_of, HearsAll, IsTunedBy, I
 use Rattle.plan_runs.proofs.Facts.{Holds, IsCode, airs, frame_holds, happens_holds, run_holds, code_of, played_holds}
 use Rattle.plan_runs.proofs.Notice.{links}
 use Rattle.plan_runs.proofs.Periods.{periods_are_whole}
-use Rattle.plan_listeners.proofs.Pictures.{whole_of, IsPartial, weaker, in_contains, in_fact, entries_of, HasAll, all_shown}
-use Rattle.plan_listeners.proofs.Tuned.{Or, hears_same}
-use Rattle.plan_listeners.proofs.Contents.{Laws}
-use Rattle.plan_listeners.proofs.Knowing.{Still, knows_after}
-use Rattle.plan_listeners.proofs.Frame.{RowSaid, frame_heard, enters, current_shown, as_fibs}
-use Rattle.plan_listeners.proofs.Waiting.{KnowsAt, Nothing, current_part, hears_join, frame_then, HearsWaiting, waits_run, IsTuning, enters_tuning}
+use Rattle.plan_runs.proofs.Pictures.{whole_of, IsPartial, weaker, in_contains, in_fact, entries_of, HasAll, all_shown}
+use Rattle.plan_runs.proofs.Tuned.{Or, hears_same}
+use Rattle.plan_runs.proofs.Contents.{Laws}
+use Rattle.plan_runs.proofs.Knowing.{Still, knows_after}
+use Rattle.plan_runs.proofs.HeardFrame.{RowSaid, frame_heard, enters, current_shown, as_fibs}
+use Rattle.plan_runs.proofs.HeardFrames.{KnowsAt, Nothing, current_part, hears_join, frame_then, HearsWaiting, waits_run, IsTuning, enters_tuning}
 
 -- an entry under this C/N flag that is heard in one of the frames
 abbrev pub SomeSaid : List (List ℕ) → Bool → Raw → Type 0

@@ -1,8 +1,8 @@
 use Rattle.plan_runs.proofs.Right.{PageLaws}
-use Rattle.plan_listeners.proofs.Contents.{Laws}
-use Rattle.plan_listeners.proofs.Windows.{never_full, knows_the_current}
-use Rattle.plan_listeners.proofs.Swaps.{knows_the_new}
-use Rattle.plan_listeners.proofs.laws.listener.Goals as goal
+use Rattle.plan_runs.proofs.Contents.{Laws}
+use Rattle.plan_runs.proofs.CurrentKnown.{never_full, knows_the_current}
+use Rattle.plan_runs.proofs.NewKnown.{knows_the_new}
+use Rattle.plan_runs.proofs.laws.listener.Goals as goal
 
 pub returns : goal.returns
 returns c =

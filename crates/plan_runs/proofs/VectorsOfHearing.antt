@@ -21,8 +21,8 @@ use Rattle.plan_code.specs.Machine.{State}
 use Rattle.plan_runs.specs.declared.event.Event.{Event}
 use Rattle.plan_runs.specs.declared.event.Event.TheVariants.{Frame}
 use Rattle.plan_runs.specs.Listening.{fibs_of, HearsAll, HasCount, IsTunedBy, KnowsTheCurrent, IsNotice, MakesNoSwap, IsUntilNextSwap, ListenersKnow}
-use Rattle.plan_listeners.proofs.Pictures.{whole_of}
-use Rattle.plan_listeners.proofs.Tuned.{hears_same}
+use Rattle.plan_runs.proofs.Pictures.{whole_of}
+use Rattle.plan_runs.proofs.Tuned.{hears_same}
 
 abbrev sub : Sub
 sub = record { id = 1; start = 0; protection = record { set = A; level = 3 }; kbits = 128 }

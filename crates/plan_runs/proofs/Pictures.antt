@@ -12,7 +12,7 @@ use Rattle.fib_reader.specs.Listening.{Pictured, blank, identifier_of, kept, has
 use Rattle.fib_reader.specs.Picture.{Shows}
 use Rattle.fib_reader.proofs.FromEntries.{sub_identified, service_identified, packet_identified}
 use Rattle.fib_reader.proofs.Shown.{each_shows}
-use Rattle.plan_listeners.proofs.Parts.{In, each_in, IsPart, Also, part_takes, part_weaker, part_empty, part_whole}
+use Rattle.plan_runs.proofs.Parts.{In, each_in, IsPart, Also, part_takes, part_weaker, part_empty, part_whole}
 
 -- the picture with all entries of a configuration
 abbrev pub whole_of : Configuration → Pictured

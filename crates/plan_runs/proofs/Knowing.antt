@@ -19,8 +19,8 @@ use Rattle.plan_runs.proofs.Tracked.{Airs, noticed, not_noticed, noticed_from, s
 use Rattle.plan_runs.proofs.Carries.{IsNewly, LeftBy}
 use Rattle.plan_runs.proofs.Right.{ensemble_right, ensemble_within}
 use Rattle.plan_runs.proofs.Announcing.{noticed_information}
-use Rattle.plan_listeners.proofs.Pictures.{whole_of, IsPartial, weaker, empty_is_partial}
-use Rattle.plan_listeners.proofs.Tuned.{NextBy, Tuned, tuned_weaker}
+use Rattle.plan_runs.proofs.Pictures.{whole_of, IsPartial, weaker, empty_is_partial}
+use Rattle.plan_runs.proofs.Tuned.{NextBy, Tuned, tuned_weaker}
 
 -- with k frames left until the swap: the low part of its count is awaited, or the notice has sent no FIG 0/0 so far
 abbrev pub Waits : Plan → ℕ → ℕ → Option ℕ → Type 0

@@ -16,7 +16,7 @@ use Rattle.fib_codec.specs.Spelling.{bit_of, occurrence_bytes}
 use Rattle.fib_reader.specs.Listening.{blank, Listening, untuned, hear_figs}
 use Rattle.fib_reader.specs.Picture.{Shows}
 use Rattle.plan_runs.specs.Frames.{frame_bytes, after_frame}
-use Rattle.plan_listeners.proofs.Pictures.{whole_of}
+use Rattle.plan_runs.proofs.Pictures.{whole_of}
 use Rattle.mux_eep.specs.declared.sizes.EepSet.TheVariants.{A}
 use Rattle.mux_config.specs.declared.edit.Edit.TheVariants.{RateSub}
 use Rattle.mux_types.specs.declared.parts.Sub.{Sub}
@@ -50,9 +50,9 @@ use Rattle.plan_runs.specs.TypedRuns.{IsPlayed}
 use Rattle.plan_runs.specs.Listening.{HearsFib, HasCount, IsTunedBy, KnowsTheCurrent, KnowsTheNew, IsNeverFull, ListenersKnow}
 use Rattle.plan_runs.proofs.Reached.{starts_are_reached}
 use Rattle.plan_runs.proofs.Right.{PageLaws}
-use Rattle.plan_listeners.proofs.Contents.{Laws}
-use Rattle.plan_listeners.proofs.Windows.{never_full, knows_the_current}
-use Rattle.plan_listeners.proofs.Swaps.{knows_the_new}
+use Rattle.plan_runs.proofs.Contents.{Laws}
+use Rattle.plan_runs.proofs.CurrentKnown.{never_full, knows_the_current}
+use Rattle.plan_runs.proofs.NewKnown.{knows_the_new}
 
 abbrev sub : ℕ → Sub
 sub kbits = record { id = 1; start = 0; protection = record { set = A; level = 3 }; kbits = kbits }

@@ -31,14 +31,14 @@ use Rattle.plan_runs.proofs.Facts.{Holds, IsCode, airs, frame_holds, happens_hol
 use Rattle.plan_runs.proofs.Joined.{state_joins}
 use Rattle.plan_runs.proofs.Notice.{Links, links, heard_frame}
 use Rattle.plan_runs.proofs.Announcing.{swaps_run, heard_run}
-use Rattle.plan_listeners.proofs.Pictures.{whole_of, IsPartial, weaker, HasAll, all_shown}
-use Rattle.plan_listeners.proofs.Hearing.{headed}
-use Rattle.plan_listeners.proofs.Tuned.{Or, hears_same}
-use Rattle.plan_listeners.proofs.Contents.{Laws}
-use Rattle.plan_listeners.proofs.Knowing.{InFrame, Still, knows_after}
-use Rattle.plan_listeners.proofs.Frame.{RowSaid, fibs_in, frame_heard, some_heard, enters, enters_swap, current_shown, due_current, as_fibs}
-use Rattle.plan_listeners.proofs.Waiting.{KnowsAt, Nothing, knows_weaker, current_part, hears_join, fibs_more, frame_then, waits_run, IsTuning, enters_tuning}
-use Rattle.plan_listeners.proofs.Windows.{SomeSaid, or_parts, fibs_join, tuning, whole_had}
+use Rattle.plan_runs.proofs.Pictures.{whole_of, IsPartial, weaker, HasAll, all_shown}
+use Rattle.plan_runs.proofs.Hearing.{headed}
+use Rattle.plan_runs.proofs.Tuned.{Or, hears_same}
+use Rattle.plan_runs.proofs.Contents.{Laws}
+use Rattle.plan_runs.proofs.Knowing.{InFrame, Still, knows_after}
+use Rattle.plan_runs.proofs.HeardFrame.{RowSaid, fibs_in, frame_heard, some_heard, enters, enters_swap, current_shown, due_current, as_fibs}
+use Rattle.plan_runs.proofs.HeardFrames.{KnowsAt, Nothing, knows_weaker, current_part, hears_join, fibs_more, frame_then, waits_run, IsTuning, enters_tuning}
+use Rattle.plan_runs.proofs.CurrentKnown.{SomeSaid, or_parts, fibs_join, tuning, whole_had}
 
 -- ---- what was heard of the notice
 

@@ -19,12 +19,12 @@ use Rattle.plan_runs.specs.Listening.{fibs_from, fibs_of, HearsAll, HasCount}
 use Rattle.plan_runs.proofs.Tracked.{split_le}
 use Rattle.plan_runs.proofs.Facts.{Holds, IsCode, airs, frame_holds, happens_holds}
 use Rattle.plan_runs.proofs.Notice.{links}
-use Rattle.plan_listeners.proofs.Pictures.{whole_of, IsPartial}
-use Rattle.plan_listeners.proofs.Hearing.{headed}
-use Rattle.plan_listeners.proofs.Tuned.{Or, tuned_weaker}
-use Rattle.plan_listeners.proofs.Contents.{Laws}
-use Rattle.plan_listeners.proofs.Knowing.{KnowsNotice, KnowsBy, InFrame, Still, knows_after}
-use Rattle.plan_listeners.proofs.Frame.{zero_or_not, RowSaid, fibs_in, frame_heard, frame_passed, enters, enters_swap, enters_untuned, as_fibs}
+use Rattle.plan_runs.proofs.Pictures.{whole_of, IsPartial}
+use Rattle.plan_runs.proofs.Hearing.{headed}
+use Rattle.plan_runs.proofs.Tuned.{Or, tuned_weaker}
+use Rattle.plan_runs.proofs.Contents.{Laws}
+use Rattle.plan_runs.proofs.Knowing.{KnowsNotice, KnowsBy, InFrame, Still, knows_after}
+use Rattle.plan_runs.proofs.HeardFrame.{zero_or_not, RowSaid, fibs_in, frame_heard, frame_passed, enters, enters_swap, enters_untuned, as_fibs}
 
 abbrev pub KnowsAt : Plan → State → (Raw → Type 0) → (Raw → Type 0) → Listening → Type 0
 KnowsAt plan s C N l = KnowsBy plan s.left s.current s.next s.count C N l
