@@ -13,7 +13,7 @@ flat frames = flat_map (λ f. f) frames
 
 -- ---- frames, and then others
 
-begins_more : (xs ys : List Fib) → BeginsAnew xs → BeginsAnew (xs ++ ys)
+pub begins_more : (xs ys : List Fib) → BeginsAnew xs → BeginsAnew (xs ++ ys)
 begins_more [] ys b = absurd b
 begins_more (x ∷ xs) ys b = b
 

@@ -16,6 +16,7 @@ pub mod Steps
 pub mod Loops
 pub mod FrameEnd
 pub mod Framing
+pub mod Fronts
 pub mod Followed
 pub mod Waiting
 pub mod FrameSeen

@@ -38,7 +38,7 @@ use Rattle.stream_laws.proofs.Noting.{ensemble_made}
 use Rattle.stream_laws.proofs.Framing.{read_frame}
 use Rattle.stream_laws.proofs.Sending.{IsHeadOf, frame_said}
 use Rattle.stream_laws.proofs.AgreeingRuns.{IsBetween}
-use Rattle.stream_laws.proofs.AgreeingFrames.{IsBefore, agrees_by, is_sent, not_sent}
+use Rattle.stream_laws.proofs.AgreeingFrames.{IsBefore, agrees_by, is_sent, not_sent, SinceFirst, before_of}
 use Rattle.stream_laws.proofs.Named.{made_where_due}
 use Rattle.stream_laws.proofs.Timely.{tuned_by}
 use Rattle.stream_laws.proofs.NoticeFrames.{due_left}
@@ -228,11 +228,7 @@ aged_after laws r p ts c s holds past before after all bound from to outside old
 
 -- nothing was heard, and the next frame has FIG 0/0; or frames were heard
 abbrev pub IsAging : Plan → List Moment → State → Type 0
-IsAging plan past s = ((past ≡ []) × (s.count % count_step (layout_mode plan.layout) ≡ 0)) ⊎ (IsBetween plan past s × AreAged plan past s)
-
-pub before_of : (plan : Plan) (past : List Moment) (s : State) → IsAging plan past s → IsBefore plan past s
-before_of plan past s (inl first) = inl first
-before_of plan past s (inr (b, g)) = inr b
+IsAging plan past s = SinceFirst plan past s (AreAged plan past s)
 
 pub begun_left : (notice : ℕ) (left : Option ℕ) → is_first_noticed notice left ≡ true → left ≡ Some notice
 begun_left notice None e = absurd cc

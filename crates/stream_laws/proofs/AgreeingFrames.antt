@@ -197,6 +197,14 @@ bare_agrees period p s past frame a fs off l f h =
 abbrev pub IsBefore : Plan → List Moment → State → Type 0
 IsBefore plan past s = ((past ≡ []) × (s.count % count_step (layout_mode plan.layout) ≡ 0)) ⊎ IsBetween plan past s
 
+-- the same with more that is known after frames
+abbrev pub SinceFirst : Plan → List Moment → State → (IsKnown : Type 0) → Type 0
+SinceFirst plan past s K = ((past ≡ []) × (s.count % count_step (layout_mode plan.layout) ≡ 0)) ⊎ (IsBetween plan past s × K)
+
+pub before_of : {K : Type 0} (plan : Plan) (past : List Moment) (s : State) → SinceFirst plan past s K → IsBefore plan past s
+before_of plan past s (inl first) = inl first
+before_of plan past s (inr (b, k)) = inr b
+
 first_ok : (plan : Plan) (u : State) → IsHeadOk plan u untuned 0 false
 first_ok plan u = record { made = λ made. absurd (false≢true made); again = λ made. refl; flagged = λ early. absurd (false≢true early); units = λ made. absurd (false≢true made) }
 

@@ -1,5 +1,5 @@
 -- In the frames of a run no entry of the current configuration appears once it is settled.
-use Rattle.std.proofs.Common.{◌≡◌, ℕ, ◌+◌, ◌-◌, ◌*◌, ◌<◌, ◌≤◌, ◌%◌, ◌||◌, Bool, true, false, cond, nat_le, List, [], Contains, Option, Some, refl, sym, ap, ◌∙◌, subst, arith, inl, inr, ◌⊎◌}
+use Rattle.std.proofs.Common.{◌≡◌, ℕ, ◌+◌, ◌-◌, ◌*◌, ◌<◌, ◌≤◌, ◌%◌, ◌||◌, Bool, true, false, cond, nat_le, List, [], Contains, Option, Some, refl, sym, ap, ◌∙◌, subst, arith, inl, inr}
 use Rattle.std.proofs.lemmas.Bool.{leb-true}
 use Rattle.fib_codec.specs.Layouts.{layout_mode}
 use Rattle.mux_config.specs.Configuration.{Configuration}
@@ -35,6 +35,7 @@ use Rattle.plan_runs.proofs.HeardFrames.{KnowsAt, Nothing, knows_weaker}
 use Rattle.stream_laws.proofs.Noting.{ensemble_made}
 use Rattle.stream_laws.proofs.Framing.{read_frame}
 use Rattle.stream_laws.proofs.AgreeingRuns.{IsBetween}
+use Rattle.stream_laws.proofs.AgreeingFrames.{SinceFirst}
 use Rattle.stream_laws.proofs.Findings.{Each, IsKnown}
 use Rattle.stream_laws.proofs.NoticeFrames.{due_left, next_whole}
 use Rattle.stream_laws.proofs.LastHeard.{said_ended}
@@ -305,7 +306,7 @@ plain_step laws r period p ts c s holds past between g due long b first =
 -- ---- along a run
 
 abbrev pub IsSettling : ℕ → Plan → List Moment → State → Type 0
-IsSettling period plan past s = ((past ≡ []) × (s.count % count_step (layout_mode plan.layout) ≡ 0)) ⊎ (IsBetween plan past s × Follows plan past s × Settles plan period past s)
+IsSettling period plan past s = SinceFirst plan past s (Follows plan past s × Settles plan period past s)
 
 pub settles_contact : (period : ℕ) (p : Program) (past : List Moment) (s : State) (d : ℕ) (closed : Bool) → Settles p.plan period past s → Settles p.plan period past (happens p s (Contact d closed))
 settles_contact period p past s d closed g =
@@ -329,7 +330,7 @@ settles_contact period p past s d closed g =
 pub settled_step : FrameLaws → (r : Reading) (period : ℕ) (p : Program) (ts : List Known) → IsCode p ts → (s : State) → Holds p ts s → (past : List Moment) → IsSettling period p.plan past s → 2 * p.plan.period ≤ period + 1 → Step r period p s past
 settled_step laws r period p ts c s holds past (inl (none, on)) long =
     subst (λ (l : List Moment). Step r period p s l) (sym none) (first_step laws r period p ts c s holds on long)
-settled_step laws r period p ts c s holds past (inr (b, f, g)) long = by (is_due s.left) refl
+settled_step laws r period p ts c s holds past (inr (b, (f, g))) long = by (is_due s.left) refl
   where
     by : (t : Bool) → is_due s.left ≡ t → Step r period p s past
     by true due = swap_step laws r period p ts c s holds past b f due long (is_cut_off past) refl

@@ -31,7 +31,8 @@ use Rattle.stream_laws.specs.Notices.{read_frames}
 use Rattle.stream_laws.specs.Delivered.{RunsAreCleared}
 use Rattle.stream_laws.proofs.Clean.{all_right}
 use Rattle.stream_laws.proofs.Framing.{IsQuiet, later_fibs, first_of_fibs, later_quiet, all_quiet, all_append, none_held, are_frames, begins, flat_read}
-use Rattle.stream_laws.proofs.Fronts.{front_framing, faultless_before}
+use Rattle.stream_check.proofs.Fronts.{front_framing}
+use Rattle.stream_laws.proofs.Fronts.{faultless_before}
 use Rattle.stream_laws.proofs.Pieces.{piece_of_run}
 
 -- ---- a run, from any of its FIBs on

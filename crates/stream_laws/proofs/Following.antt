@@ -40,7 +40,7 @@ use Rattle.stream_laws.proofs.Noting.{ensemble_made}
 use Rattle.stream_laws.proofs.Framing.{is_read, read_frame}
 use Rattle.stream_laws.proofs.Sending.{IsHeadOf, frame_said}
 use Rattle.stream_laws.proofs.AgreeingRuns.{IsBetween, on_air}
-use Rattle.stream_laws.proofs.AgreeingFrames.{is_sent, not_sent}
+use Rattle.stream_laws.proofs.AgreeingFrames.{is_sent, not_sent, SinceFirst}
 use Rattle.stream_laws.proofs.Named.{none_of, made_where_due}
 use Rattle.stream_laws.proofs.Timely.{said_cut, cut_is, flagged_where, tuned_by}
 
@@ -159,7 +159,7 @@ pub record Follows (plan : Plan) (past : List Moment) (s : State) : Type 0 where
 
 -- nothing was heard, and the next frame has FIG 0/0; or frames were heard
 abbrev pub IsFollowing : Plan → List Moment → State → Type 0
-IsFollowing plan past s = ((past ≡ []) × (s.count % count_step (layout_mode plan.layout) ≡ 0)) ⊎ (IsBetween plan past s × Follows plan past s)
+IsFollowing plan past s = SinceFirst plan past s (Follows plan past s)
 
 -- ---- whether the beginning of the notice was not heard
 

@@ -21,7 +21,7 @@ use Rattle.plan_runs.proofs.Notice.{links}
 use Rattle.plan_runs.proofs.Announcing.{heard_contacts}
 use Rattle.stream_laws.proofs.Framing.{read_frame}
 use Rattle.stream_laws.proofs.AgreeingRuns.{IsBetween, on_air}
-use Rattle.stream_laws.proofs.AgreeingFrames.{IsBefore, agrees_by}
+use Rattle.stream_laws.proofs.AgreeingFrames.{agrees_by, before_of}
 use Rattle.stream_laws.proofs.Following.{more_heard, heard_then, quiet_heard, cut_still, cut_first}
 use Rattle.stream_laws.proofs.Ages.{FrameLaws}
 use Rattle.stream_laws.proofs.NoticeRows.{IsRowed, IsNoticing, IsReading}
@@ -81,10 +81,6 @@ after_opened laws r p s a due past count heard o after all more fresh old true o
         let later : List Moment = said (frame_items (read_frame r p.plan.layout (frame_bytes p s))) past in
         subst (IsRowed (cond due [] heard ++ frame_bytes p s ∷ [])) (sym (ap (λ t. cond t (rows later ++ row_at_hand later ∷ []) []) quiet))
         (rowed_silent (cond due [] heard) (rows later) (frame_bytes p s) before (begun_rows later quiet) (frame_silent laws r p.plan (shown p s) a due past o after all on quiet))
-
-pub before_of : (plan : Plan) (past : List Moment) (s : State) → IsReading plan past s → IsBefore plan past s
-before_of plan past s (inl first) = inl first
-before_of plan past s (inr (b, g)) = inr b
 
 next_noticing : FrameLaws → (r : Reading) (p : Program) (ts : List Known) → IsCode p ts → (s : State) → Holds p ts s → (past : List Moment) → IsBetween p.plan past s → IsNoticing p.plan past s → (count : ℕ) (after : Listening)
     → listening (said (frame_items (read_frame r p.plan.layout (frame_bytes p s))) past) ≡ Some after

@@ -145,7 +145,7 @@ next_noted most swap laws r period p ts c s holds past right n =
     let later = begun_after p s (frame_fibs p.plan.layout) period past (read_frame r p.plan.layout (frame_bytes p s)) place in
     let agrees = agrees_by laws.one laws.heard r period p ts c s holds past (or_noted period p past s n (λ h. h.between)) in
     let aging = or_noted period p past s n (λ h. (h.between, h.aged)) in
-    let known = λ (long : IsLongFor p period). settled_step laws r period p ts c s holds past (or_noted period p past s n (λ h. (h.between, h.heard, h.settles long))) long in
+    let known = λ (long : IsLongFor p period). settled_step laws r period p ts c s holds past (or_noted period p past s n (λ h. (h.between, (h.heard, h.settles long)))) long in
     record {
       free = record {
         whole = place.whole;

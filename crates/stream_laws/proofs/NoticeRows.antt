@@ -1,17 +1,15 @@
 -- The rows of a notice and its frames.
-use Rattle.std.proofs.Common.{◌≡◌, ℕ, ◌%◌, true, false, List, [], ◌∷◌, ◌++◌, Contains, ◌⊎◌}
+use Rattle.std.proofs.Common.{◌≡◌, ℕ, true, false, List, [], ◌∷◌, ◌++◌, Contains}
 use Rattle.std.specs.List.{AllByRecursion}
-use Rattle.fib_codec.specs.Layouts.{layout_mode}
 use Rattle.mux_entries.specs.Facts.{Marked}
 use Rattle.fib_codec.specs.Heard.{IsHeardInRow}
-use Rattle.fib_codec.specs.Modes.{count_step}
 use Rattle.fib_reader.specs.Raw.{raw_entry}
 use Rattle.stream_check.specs.Pictures.{key_of}
 use Rattle.stream_check.specs.History.{Moment, has_begun, is_cut_off, rows}
 use Rattle.plan_code.specs.declared.plan.Plan.{Plan}
 use Rattle.plan_code.specs.Machine.{State}
 use Rattle.plan_runs.specs.Announced.{heard_of, HasHeader}
-use Rattle.stream_laws.proofs.AgreeingRuns.{IsBetween}
+use Rattle.stream_laws.proofs.AgreeingFrames.{SinceFirst}
 
 -- nothing in the frame belongs to a notice: no entry with C/N 1, and no FIG 0/0
 pub record SaysNothing (frame : List ℕ) : Type 0 where
@@ -47,4 +45,4 @@ pub record IsNoticing (plan : Plan) (past : List Moment) (s : State) : Type 0 wh
 
 -- nothing was heard, and the next frame has FIG 0/0; or frames were heard
 abbrev pub IsReading : Plan → List Moment → State → Type 0
-IsReading plan past s = ((past ≡ []) × (s.count % count_step (layout_mode plan.layout) ≡ 0)) ⊎ (IsBetween plan past s × IsNoticing plan past s)
+IsReading plan past s = SinceFirst plan past s (IsNoticing plan past s)

@@ -17,7 +17,7 @@ use Rattle.plan_runs.specs.RightBytes.{FramesAreRight}
 use Rattle.plan_runs.specs.Listening.{fibs_from, fibs_of}
 use Rattle.stream_laws.specs.Delivered.{IsPieceOf}
 use Rattle.stream_laws.proofs.Formed.{both_all}
-use Rattle.stream_laws.proofs.Fronts.{none_more}
+use Rattle.stream_check.proofs.Fronts.{none_more}
 
 abbrev AreWhole : List (List ℕ) → Type 0
 AreWhole fibs = AllByRecursion (λ fib. length fib ≡ 32) fibs

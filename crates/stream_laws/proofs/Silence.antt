@@ -26,9 +26,9 @@ use Rattle.plan_runs.proofs.Pictures.{whole_of, IsPartial, entries_of, in_append
 use Rattle.plan_runs.proofs.HeardFrames.{Nothing, current_part}
 use Rattle.stream_laws.specs.Sorts.{IsLongFor}
 use Rattle.stream_laws.proofs.Framing.{read_frame}
-use Rattle.stream_laws.proofs.AgreeingFrames.{agrees_by}
+use Rattle.stream_laws.proofs.AgreeingFrames.{agrees_by, before_of}
 use Rattle.stream_laws.proofs.Flagging.{in_first, in_second, said_by}
-use Rattle.stream_laws.proofs.Ages.{comes_in, FrameLaws, AreAged, IsAging, before_of, ages}
+use Rattle.stream_laws.proofs.Ages.{comes_in, FrameLaws, AreAged, IsAging, ages}
 
 -- ---- the entries of a picture are those of the configuration
 

@@ -1,5 +1,5 @@
 -- The swaps of a run come after at least three announcements.
-use Rattle.std.proofs.Common.{◌≡◌, ◌≢◌, ◌⊎◌, ℕ, ◌+◌, ◌-◌, ◌/◌, ◌<◌, ◌≤◌, ◌%◌, ◌&&◌, Bool, true, false, cond, not, nat_lt, List, [], ◌∷◌, ◌++◌, Option, Some, None, refl, sym, ap, ◌∙◌, subst, arith, inl, inr, le-ltb}
+use Rattle.std.proofs.Common.{◌≡◌, ◌≢◌, ℕ, ◌+◌, ◌-◌, ◌/◌, ◌<◌, ◌≤◌, ◌%◌, ◌&&◌, Bool, true, false, cond, not, nat_lt, List, [], ◌∷◌, ◌++◌, Option, Some, None, refl, sym, ap, ◌∙◌, subst, arith, inl, inr, le-ltb}
 use Rattle.std.proofs.lemmas.Bool.{false≢true, eqb-true, ne_eqb}
 use Rattle.fib_codec.specs.Layouts.{layout_mode}
 use Rattle.mux_entries.specs.Entries.{EnsembleInformation}
@@ -33,7 +33,7 @@ use Rattle.stream_laws.proofs.Rows.{HasNone}
 use Rattle.stream_laws.proofs.Framing.{read_frame}
 use Rattle.stream_laws.proofs.Sending.{IsHeadOf, frame_said}
 use Rattle.stream_laws.proofs.AgreeingRuns.{IsBetween, on_air, flags_on}
-use Rattle.stream_laws.proofs.AgreeingFrames.{is_sent, not_sent}
+use Rattle.stream_laws.proofs.AgreeingFrames.{is_sent, not_sent, SinceFirst}
 use Rattle.stream_laws.proofs.Named.{none_of, made_where_due}
 
 -- ---- the number of announcements
@@ -219,7 +219,7 @@ first_counted p ts c s holds i items ens says none whole k is below =
 
 -- nothing was heard, and the next frame has FIG 0/0; or frames were heard
 abbrev pub IsCounting : Plan → List Moment → State → Type 0
-IsCounting plan past s = ((past ≡ []) × (s.count % count_step (layout_mode plan.layout) ≡ 0)) ⊎ (IsBetween plan past s × IsCounted plan past s.left)
+IsCounting plan past s = SinceFirst plan past s (IsCounted plan past s.left)
 
 -- the entries of the frame are those of FIG 0/0, if it is sent, and others
 pub counted_after : OneList → Laws → (r : Reading) (p : Program) (ts : List Known) (c : IsCode p ts) (s : State) (holds : Holds p ts s) (past : List Moment) → IsCounting p.plan past s

@@ -20,7 +20,7 @@ use Rattle.plan_code.specs.Machine.{State}
 use Rattle.stream_laws.specs.Faultless.{IsNoFault}
 use Rattle.stream_laws.specs.Counting.{IsCounted, AreCounted}
 use Rattle.stream_laws.specs.Delivered.{IsCleared, IsPieceOf, IsHeardOut}
-use Rattle.stream_laws.proofs.Fronts.{no_flat}
+use Rattle.stream_check.proofs.Fronts.{no_flat}
 
 -- ---- counts
 

@@ -24,7 +24,7 @@ use Rattle.stream_laws.specs.Framing.{frames_of, RunsAreFramed}
 use Rattle.stream_laws.specs.Notices.{read_frames}
 use Rattle.stream_laws.specs.Delivered.{RunsAreHeardOut}
 use Rattle.stream_laws.proofs.Framing.{IsQuiet, read_frame, later_fibs, first_of_fibs, later_quiet, quiet_fib, heading_fib, right_after}
-use Rattle.stream_laws.proofs.Fronts.{front_framing, same_skipped, none_more}
+use Rattle.stream_check.proofs.Fronts.{front_framing, same_skipped, none_more}
 use Rattle.stream_laws.proofs.Pieces.{all_of_run}
 
 -- ---- a stream is cut in one way
@@ -40,7 +40,7 @@ one_framing size stream skipped later f g r s a b =
     let less = front_framing size stream [] later skipped g f s r b (subst (λ l. IsFramed size l skipped f r) (sym (append-nil stream)) a) in
     let frames : f ≡ g = none_more f g more.0 less.0 more.1 less.1 in
     let whole : skipped ++ (flat_map (λ x. x) f ++ r) ≡ later ++ (flat_map (λ x. x) g ++ s) = sym a.whole ∙ b.whole in
-    let same : flat_map (λ x. x) f ++ r ≡ flat_map (λ x. x) g ++ s = same_skipped skipped later (flat_map (λ x. x) f ++ r) (flat_map (λ x. x) g ++ s) a.before b.before a.begun b.begun whole in
+    let same : flat_map (λ x. x) f ++ r ≡ flat_map (λ x. x) g ++ s = (same_skipped skipped later (flat_map (λ x. x) f ++ r) (flat_map (λ x. x) g ++ s) a.before b.before a.begun b.begun whole).rest in
     record {
       skips = append_cancel_right skipped later (flat_map (λ x. x) g ++ s) (ap (λ l. skipped ++ l) (sym same) ∙ whole);
       frames = frames;
