@@ -158,7 +158,8 @@ impl Checker {
         requires frames { self.old.memory.frames < most }
         requires damaged { self.old.damaged < most }
         ensures heard { (r : Reading) → HearsFrame self.old.size (map r.read self.old.held)
-            self.old.memory (R.reported report.old) self.new.memory (R.reported report.new) (not result) }
+            self.old.memory (R.reported report.old)
+            self.new.memory (R.reported report.new) (not result) }
         ensures damaged { (r : Reading)
             → self.new.damaged ≡ self.old.damaged + damaged_in (map r.read self.old.held) }
         ensures held { self.new.held ≡ fib.now ∷ [] }
@@ -180,7 +181,8 @@ impl Checker {
         requires damaged { self.old.damaged < most }
         ensures heard { (r : Reading)
             → HearsFrame self.old.size (map r.read (self.old.held ++ fib.now ∷ []))
-            self.old.memory (R.reported report.old) self.new.memory (R.reported report.new) (not result) }
+            self.old.memory (R.reported report.old)
+            self.new.memory (R.reported report.new) (not result) }
         ensures damaged { (r : Reading) → self.new.damaged
             ≡ self.old.damaged + damaged_in (map r.read (self.old.held ++ fib.now ∷ [])) }
         ensures held { self.new.held ≡ [] }
