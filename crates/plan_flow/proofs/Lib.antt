@@ -1,3 +1,5 @@
 pub mod Deciding
 pub mod Finding
 pub mod Leaving
+pub mod Merging
+pub mod Moving

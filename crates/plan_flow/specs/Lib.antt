@@ -2,3 +2,4 @@ pub mod Rules
 pub mod Causes
 pub mod Flows
 pub mod Tests
+pub mod Indexed

@@ -12,6 +12,8 @@ use Rattle.plan_code.specs.declared.label.Swap.{Swap}
 use Rattle.plan_code.specs.declared.label.Swap.TheVariants.{Idle, Within, Perhaps}
 use Rattle.plan_code.specs.declared.instr.Instr.{Instr}
 use Rattle.plan_code.specs.declared.instr.Instr.TheVariants.{Wait, CommitIn, CommitAt, Join, Edit as Edits, Until, WaitContact, Settle, Test, Jump, Loop, Set, End}
+use Rattle.plan_flow.specs.declared.fitting.Condition.{Condition}
+use Rattle.plan_flow.specs.declared.fitting.Condition.TheVariants.{Never, Both, NextTwice}
 use Rattle.plan_flow.specs.declared.cause.Cause.{Cause}
 use Rattle.plan_flow.specs.declared.cause.Cause.TheVariants.{Edit as OfEdit, Config as OfConfig, Pending, NoChange, Notice, Count, JoinIdle, SwapUncertain, Round}
 use Rattle.plan_flow.specs.Rules.{Known, notice_pages, pages_alone}
@@ -80,6 +82,12 @@ fits_swap (Within lo hi) (Perhaps high) t declared = nat_le hi high && has_confi
 fits_swap (Perhaps hi) Idle t declared = false
 fits_swap (Perhaps hi) (Within low high) t declared = false
 fits_swap (Perhaps hi) (Perhaps high) t declared = nat_le hi high && has_configurations_of t declared
+
+-- a flow has the configurations of another that it needs to fit it
+abbrev pub satisfies : Condition → Known → Known → Bool
+satisfies Never t declared = false
+satisfies Both t declared = has_configurations_of t declared
+satisfies NextTwice t declared = is_same t.current declared.next && is_same t.next declared.next
 
 -- ---- the cause at an instruction
 

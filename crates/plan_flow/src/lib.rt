@@ -11,13 +11,18 @@
 mod apply;
 pub mod cause;
 mod commits;
+mod fitting;
 pub mod flow;
+pub mod indices;
 mod meeting;
 pub mod opening;
 mod pages;
 pub mod successors;
 mod swaps;
+pub mod tracked;
 
 pub use cause::Cause;
 pub use flow::Flow;
+pub use indices::{IndexedFlow, Indices};
 pub use opening::test_opening;
+pub use tracked::TrackedFlow;

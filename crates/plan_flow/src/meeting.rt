@@ -1,76 +1,34 @@
 //! Merging two control-flow paths.
 
-ghost use Rattle.std.specs.Prelude.{◌≡◌, ◌↔◌, ◌&&◌, true, false, min, max, IsTrue};
-ghost use Rattle.plan_flow.specs.Flows.{held, known_at, latest, widest, merged, FitsFlow};
+ghost use Rattle.std.specs.Prelude.{◌≡◌, ◌↔◌, ◌&&◌, true, false, IsTrue};
+ghost use Rattle.plan_flow.specs.Flows.{held, known_at, merged, FitsFlow};
 ghost use Rattle.plan_flow.specs.Tests.{is_same, fits_swap};
 
+use crate::fitting::{Condition, needed, widest};
 use crate::flow::{Flow, is_idle, is_same};
 use mux_config::Store;
 use plan_code::Swap;
 
-/// The maximum number of frames until a swap that is or may be pending; 0 where none is.
-fn latest(pending: Swap) -> u16
-    ensures { result ≡ latest pending }
-{
-    match pending {
-        Swap::Idle => 0,
-        Swap::Within(_, high) => high,
-        Swap::Perhaps(high) => high,
-    }
-}
-
-/// The maximum of two numbers.
-fn greater(a: u16, b: u16) -> u16
-    ensures { result ≡ max a b }
-{
-    if a < b { b } else { a }
-}
-
-/// The minimum of two numbers.
-fn lesser(a: u16, b: u16) -> u16
-    ensures { result ≡ min a b }
-{
-    if a < b { a } else { b }
-}
-
-/// The swap bounds of a label where two paths merge.
-fn widest(first: Swap, second: Swap) -> Swap
-    ensures { result ≡ widest first second }
-{
-    match (first, second) {
-        (Swap::Idle, Swap::Idle) => Swap::Idle,
-        (Swap::Within(low, high), Swap::Within(least, most)) => {
-            Swap::Within(lesser(low, least), greater(high, most))
-        }
-        (_, _) => Swap::Perhaps(greater(latest(first), latest(second))),
-    }
-}
-
 /// Whether a flow has these configurations.
 fn has<S: Store, T: Store>(flow: &Flow<S>, current: &T, next: &T) -> bool
-    ensures value { result ≡ (is_same (S.content flow.now.current) (T.content current.now)
+    ensures { result ≡ (is_same (S.content flow.now.current) (T.content current.now)
         && is_same (S.content flow.now.next) (T.content next.now)) }
-    ensures equal { IsTrue result ↔ ((S.content flow.now.current ≡ T.content current.now)
-        × (S.content flow.now.next ≡ T.content next.now)) }
 {
     is_same(&flow.current, current) && is_same(&flow.next, next)
 }
 
-/// Whether two paths can merge: each fits the merged flow.
+/// Whether two paths can merge: each fits the merged flow. The one whose configurations that flow has fits it anyway.
 fn agree<S: Store>(first: &Flow<S>, second: &Flow<S>) -> bool
     ensures { IsTrue result ↔ (FitsFlow (held S.content first.now) (merged
         (held S.content first.now) (held S.content second.now)) × FitsFlow
         (held S.content second.now) (merged (held S.content first.now)
         (held S.content second.now))) }
 {
-    match (first.pending, second.pending) {
-        (Swap::Idle, Swap::Idle) => has(first, &second.current, &second.next),
-        (Swap::Idle, Swap::Within(_, _)) => has(first, &second.next, &second.next),
-        (Swap::Idle, Swap::Perhaps(_)) => has(first, &second.next, &second.next),
-        (Swap::Within(_, _), Swap::Idle) => has(second, &first.next, &first.next),
-        (Swap::Perhaps(_), Swap::Idle) => has(second, &first.next, &first.next),
-        (_, _) => has(second, &first.current, &first.next),
+    let pending = widest(first.pending, second.pending);
+    if is_idle(first.pending) {
+        return first.fits(&second.current, &second.next, pending);
     }
+    second.fits(&first.current, &first.next, pending)
 }
 
 impl<S: Store> Flow<S> {
@@ -88,19 +46,10 @@ impl<S: Store> Flow<S> {
               pending = pending;
             })) }
     {
-        match (self.pending, pending) {
-            (Swap::Idle, Swap::Idle) => has(self, current, next),
-            (Swap::Idle, Swap::Within(_, _)) => false,
-            (Swap::Idle, Swap::Perhaps(_)) => has(self, next, next),
-            (Swap::Within(low, high), Swap::Within(least, most)) => {
-                least <= low && high <= most && has(self, current, next)
-            }
-            (Swap::Within(_, high), Swap::Perhaps(most)) => high <= most
-                && has(self, current, next),
-            (Swap::Within(_, _), Swap::Idle) => false,
-            (Swap::Perhaps(high), Swap::Perhaps(most)) => high <= most && has(self, current, next),
-            (Swap::Perhaps(_), Swap::Idle) => false,
-            (Swap::Perhaps(_), Swap::Within(_, _)) => false,
+        match needed(self.pending, pending) {
+            Condition::Never => false,
+            Condition::Both => has(self, current, next),
+            Condition::NextTwice => has(self, next, next),
         }
     }
 
