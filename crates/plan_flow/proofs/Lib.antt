@@ -3,3 +3,4 @@ pub mod Finding
 pub mod Leaving
 pub mod Merging
 pub mod Moving
+mod VectorsOfIndices

@@ -1,11 +1,9 @@
 -- What a flow needs to fit another, and that of two paths that merge, one fits the merged flow anyway.
-use Rattle.std.proofs.Common.{◌≡◌, ◌↔◌, IsTrue, ℕ, ◌≤◌, ◌&&◌, min, max, Bool, true, false, refl, sym, ap, subst, ◌∙◌, arith}
+use Rattle.std.proofs.Common.{◌≡◌, ◌↔◌, IsTrue, ◌&&◌, Bool, true, false, refl, sym, ap, ◌∙◌}
 use Rattle.mux_config.specs.Configuration.{Configuration}
 use Rattle.plan_code.specs.declared.label.Swap.{Swap}
-use Rattle.plan_code.specs.declared.label.Swap.TheVariants.{Idle, Within, Perhaps}
 use Rattle.plan_flow.specs.declared.fitting.Condition.{Condition}
 use Rattle.plan_flow.specs.Rules.{Known, FitsSwap}
-use Rattle.plan_flow.specs.Flows.{Flow, FitsFlow, known_at, merged, widest}
 use Rattle.plan_flow.specs.Tests.{fits_swap, is_same, satisfies}
 use Rattle.plan_flow.proofs.Deciding.{Decides, is_false, decides_same, decides_fits_swap}
 

@@ -30,6 +30,19 @@ pub struct Indices {
     pub next: Option<usize>,
 }
 
+impl IndexedFlow {
+    /// The indices of both configurations.
+    pub fn indices(&self) -> Indices
+        ensures { (table : List Configuration) → IsWithin (length table) self.now
+            → AreAt table result (flow_at table self.now) }
+    {
+        Indices {
+            current: Some(self.current),
+            next: Some(self.next),
+        }
+    }
+}
+
 /// Whether a swap that was or may have been pending has been made.
 fn has_swapped(before: Swap, after: Swap) -> bool
     ensures { result ≡ has_swapped before after }
@@ -80,17 +93,6 @@ pub(crate) fn indices_after(instr: Instr, before: Swap, after: Swap, indices: In
     }
 }
 
-/// The indices of both configurations.
-pub(crate) fn indices_of(flow: &IndexedFlow) -> Indices
-    ensures { (table : List Configuration) → IsWithin (length table) flow.now
-        → AreAt table result (flow_at table flow.now) }
-{
-    Indices {
-        current: Some(flow.current),
-        next: Some(flow.next),
-    }
-}
-
 /// The indices of a flow with this swap that fits another: those of the other, except for the current one if the swap
 /// may have been made.
 pub(crate) fn fit_indices(pending: Swap, other: &IndexedFlow) -> Indices
@@ -104,5 +106,5 @@ pub(crate) fn fit_indices(pending: Swap, other: &IndexedFlow) -> Indices
             next: Some(other.next),
         };
     }
-    indices_of(other)
+    other.indices()
 }

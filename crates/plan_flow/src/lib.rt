@@ -4,8 +4,11 @@
 //! a flow for an instruction, or refuses the instruction with the first cause of `specs/Causes.antt`. Counters,
 //! allowances and costs are not part of a flow: the verifier and the compiler have their own rules for them. What an
 //! instruction needs, and what holds after it, is defined in `specs/Rules.antt`. Where paths merge, `fits` tests a flow
-//! against what is known there, and `meet` computes that: both serve explanations. The verifier and the compiler use
-//! `apply`, and have code of their own for paths that merge.
+//! against what is known there, and `meet` computes that.
+//!
+//! A [`TrackedFlow`] also knows the indices of its configurations in a table, as far as that is known: it does the same
+//! for flows that give theirs by index (`specs/Indexed.antt`), and what is known to be equal is neither compared nor
+//! copied. The verifier's table is that of the code, the compiler's is its pool; `explain` compares flows without one.
 #![tactic(auto)]
 
 mod apply;

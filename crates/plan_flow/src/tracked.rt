@@ -13,7 +13,7 @@ ghost use Rattle.plan_flow.specs.Indexed.{configuration_at, flow_at, AreAt, IsAt
 use crate::cause::Cause;
 use crate::fitting::{Condition, needed, widest};
 use crate::flow::{Flow, is_idle, is_same};
-use crate::indices::{IndexedFlow, Indices, fit_indices, indices_after, indices_of};
+use crate::indices::{IndexedFlow, Indices, fit_indices, indices_after};
 use mux_config::{Config, Store};
 use plan_code::{Instr, Plan, Swap};
 
@@ -188,7 +188,7 @@ impl<S: Store> TrackedFlow<S> {
         );
         put(table, other.next, self.indices.next, &mut self.flow.next);
         self.flow.pending = other.pending;
-        self.indices = indices_of(other);
+        self.indices = other.indices();
     }
 
     /// Whether this path and another can merge: each fits the merged flow. The one whose configurations that flow has

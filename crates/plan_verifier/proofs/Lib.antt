@@ -3,12 +3,10 @@ pub mod Causes
 pub mod Deciding
 pub mod Entries
 pub mod OneVerdict
-pub mod Placed
 pub mod Stepping
 pub mod Tabled
 pub mod Verdicts
 mod Vectors
 mod VectorsOfTyping
-mod VectorsOfPlaces
 mod VectorsOfSwaps
 mod VectorsOfRefusals

@@ -10,7 +10,8 @@ use Rattle.plan_code.specs.declared.instr.Line.{Line}
 use Rattle.plan_code.specs.Program.{Program, IsProgram, IsLabel, IsInstr, IsLine, label_key, label_at, instr_at}
 use Rattle.plan_code.proofs.Ascending.{find_at}
 use Rattle.plan_verifier.specs.Typing.{Known, Declares}
-use Rattle.plan_verifier.specs.Walking.{declared_by, or_nothing}
+use Rattle.plan_flow.specs.Indexed.{configuration_at}
+use Rattle.plan_verifier.specs.Walking.{declared_by}
 
 -- ---- lists
 
@@ -36,10 +37,8 @@ pub mapped : {T U : Type 0} (f : T → U) (o : Option T) (y : U) → option_map 
 mapped f None y e = absurd cc
 mapped f (Some x) y e = (x, refl, cc)
 
-within_table : (xs : List Configuration) (k : ℕ) → k < length xs → slice_get xs k ≡ Some (or_nothing (slice_get xs k))
-within_table xs k lt =
-    let e : slice_get xs k ≡ Some _ = slice_get-get_or xs k nothing lt in
-    e ∙ ap (λ (o : Option Configuration). Some (or_nothing o)) (sym e)
+within_table : (xs : List Configuration) (k : ℕ) → k < length xs → slice_get xs k ≡ Some (configuration_at xs k)
+within_table xs k lt = slice_get-get_or xs k nothing lt
 
 -- ---- codes
 
@@ -58,7 +57,7 @@ pub record IsTabled (code : Program) : Type 0 where
 pub label_of : (code : Program) → IsProgram code → (label : Label) → Contains code.labels label → IsLabel (length code.configurations) label
 label_of code h label here = each_contains (IsLabel (length code.configurations)) code.labels label h.labels_formed here
 
-formed_at : (code : Program) → IsProgram code → (k : ℕ) → k < length code.configurations → IsConfiguration (or_nothing (slice_get code.configurations k))
+formed_at : (code : Program) → IsProgram code → (k : ℕ) → k < length code.configurations → IsConfiguration (configuration_at code.configurations k)
 formed_at code h k lt =
     each_contains IsConfiguration code.configurations _ h.configurations_formed (contains_at code.configurations k _ (within_table code.configurations k lt))
 

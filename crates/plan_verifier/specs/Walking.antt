@@ -1,12 +1,10 @@
 -- The verifier's walk over a code, as functions. No public contract refers to it.
 pub use Rattle.plan_flow.specs.Tests.{cause_if, cause_of, ◌first_or◌, unless, is_same, is_idle, fits_swap, flow_cause, start_cause}
-use Rattle.std.specs.Prelude.{◌≡◌, ℕ, zero, suc, ◌+◌, ◌==◌, ◌&&◌, Bool, not, if◌then◌else◌, nat_lt, nat_le, List, [], ◌∷◌, length, find, Option, Some, None, Result, Ok, Err, slice_get}
+use Rattle.std.specs.Prelude.{◌≡◌, ℕ, zero, suc, ◌+◌, ◌==◌, ◌&&◌, Bool, not, if◌then◌else◌, nat_lt, nat_le, List, [], ◌∷◌, length, find, Option, Some, None, Result, Ok, Err}
 use Rattle.std.specs.Int.RustNames.{bit_and}
-use Rattle.mux_config.specs.Configuration.{Configuration, nothing}
 use Rattle.plan_code.specs.declared.plan.Plan.{Plan}
 use Rattle.plan_code.specs.declared.flags.Counters.{Counters}
 use Rattle.plan_code.specs.declared.label.Label.{Label}
-use Rattle.plan_code.specs.declared.label.Swap.{Swap}
 use Rattle.plan_code.specs.declared.instr.Instr.{Instr}
 use Rattle.plan_code.specs.declared.instr.Line.{Line}
 use Rattle.plan_code.specs.declared.instr.Instr.TheVariants.{End, Test, Jump, Loop}
@@ -14,6 +12,7 @@ use Rattle.plan_code.specs.Flags.{is_set}
 use Rattle.plan_code.specs.Program.{Program, label_at}
 use Rattle.plan_flow.specs.declared.cause.Cause.{Cause}
 use Rattle.plan_flow.specs.declared.cause.Cause.TheVariants.{Target, Table, CounterUnset, Mismatch, Cost, FallsOff}
+use Rattle.plan_flow.specs.Indexed.{configuration_at}
 use Rattle.plan_verifier.specs.declared.cause.Refusal.{Refusal}
 use Rattle.plan_verifier.specs.Typing.{Known, leaves, continues, spent}
 
@@ -23,37 +22,21 @@ includes a b = bit_and a.0 b.0 == b.0
 abbrev pub is_fit : Known → Known → Bool
 is_fit t declared = includes t.counters declared.counters && fits_swap t.pending declared.pending t declared
 
--- no swap is pending where a label declares one that may be pending
-abbrev pub may_have_swapped : Swap → Swap → Bool
-may_have_swapped pending declared = is_idle pending && not (is_idle declared)
-
--- a swap that was or may have been pending has been made
-abbrev pub has_swapped : Swap → Swap → Bool
-has_swapped before after = not (is_idle before) && is_idle after
-
 abbrev pub is_initial : Known → Bool
 is_initial t = is_idle t.pending && (t.counters.0 == 0) && is_same t.current t.next
 
 -- ---- the cause at an instruction
 
-abbrev pub or_nothing : Option Configuration → Configuration
-or_nothing None = nothing
-or_nothing (Some c) = c
-
 -- what a label declares, with its configurations from the table
 abbrev pub declared_by : Program → Label → Known
 declared_by code label =
     record {
-      current = or_nothing (slice_get code.configurations label.cur);
-      next = or_nothing (slice_get code.configurations label.next);
+      current = configuration_at code.configurations label.cur;
+      next = configuration_at code.configurations label.next;
       pending = label.pending;
       counters = label.counters;
       allowance = label.cost;
     }
-
--- what a label declares, except for its configurations
-abbrev pub refitted : Label → Known → Known
-refitted label t = record t { pending = label.pending; counters = label.counters; allowance = label.cost }
 
 abbrev pub entry_cause : Program → Label → Known → Option Cause
 entry_cause code label t =

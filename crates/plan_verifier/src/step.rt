@@ -1,13 +1,15 @@
 //! Checking one instruction.
 
-ghost use Rattle.std.specs.Prelude.{◌≡◌, ◌≤◌, ◌+◌, ◌==◌, ◌&&◌, OnOk, length};
+ghost use Rattle.std.specs.Prelude.{◌≡◌, ◌≤◌, ◌+◌, ◌==◌, ◌&&◌, List, OnOk, length};
+ghost use Rattle.mux_config.specs.Configuration.{Configuration};
 ghost use Rattle.plan_code.specs.Program.{instr_at, label_at};
 ghost use Rattle.plan_flow.specs.Flows.{flow_of, known_with, after_instr, set_after, left_over};
-ghost use Rattle.plan_verifier.specs.Held.{known_of, KnowsIndices};
+ghost use Rattle.plan_flow.specs.Indexed.{IsTracked};
+ghost use Rattle.plan_verifier.specs.Held.{known_of};
 ghost use Rattle.plan_verifier.specs.Typing.{leaves, spent, continues};
 ghost use Rattle.plan_verifier.specs.Walking.{unless, flow_cause, target_cause, instr_cause, known_cause, jump_cause, instr_or_end};
 
-use crate::known::{KnownState, note_indices};
+use crate::known::KnownState;
 use crate::labels::{label_at, test_entry};
 use mux_config::Store;
 use plan_code::{Code, Instr, Plan};
@@ -17,12 +19,12 @@ use plan_flow::successors::continues;
 /// Checks a jump to the label at the target. Refusals: `Target`, where there is none, `Mismatch` and `Cost`.
 fn test_jump<S: Store>(code: &Code, target: u16, state: &mut KnownState<S>) -> Result<(), Cause>
     requires allowance { 1 ≤ state.old.allowance }
-    requires placed { KnowsIndices S.content code.now.configurations state.old }
+    requires tracked { IsTracked S.content code.now.configurations state.old.tracked }
     ensures cause { result ≡ unless (jump_cause code.now (label_at code.now target) (spent
         (known_of S.content state.old))) }
     ensures kept { known_of S.content state.new ≡ known_of S.content state.old }
     ensures allowance { state.new.allowance ≡ state.old.allowance }
-    ensures placed { KnowsIndices S.content code.now.configurations state.new }
+    ensures tracked { IsTracked S.content code.now.configurations state.new.tracked }
 {
     match label_at(code, target) {
         None => Err(Cause::Target),
@@ -34,12 +36,12 @@ fn test_jump<S: Store>(code: &Code, target: u16, state: &mut KnownState<S>) -> R
 /// be set, `Target`, `Mismatch` and `Cost`.
 fn test_target<S: Store>(code: &Code, instr: Instr, state: &mut KnownState<S>) -> Result<(), Cause>
     requires allowance { 1 ≤ state.old.allowance }
-    requires placed { KnowsIndices S.content code.now.configurations state.old }
+    requires tracked { IsTracked S.content code.now.configurations state.old.tracked }
     ensures cause { result ≡ unless (target_cause code.now instr
         (known_of S.content state.old)) }
     ensures kept { known_of S.content state.new ≡ known_of S.content state.old }
     ensures allowance { state.new.allowance ≡ state.old.allowance }
-    ensures placed { KnowsIndices S.content code.now.configurations state.new }
+    ensures tracked { IsTracked S.content code.now.configurations state.new.tracked }
 {
     match instr {
         Instr::Test { target, .. } => test_jump(code, target, state),
@@ -68,10 +70,10 @@ fn advance<S: Store>(plan: &Plan, instr: Instr, state: &mut KnownState<S>) -> Re
     ensures cause { result ≡ unless (flow_cause plan.now instr (known_of S.content state.old)) }
     ensures left { OnOk result (known_of S.content state.new ≡ known_with (after_instr plan.now instr
         (flow_of (known_of S.content state.old))) state.old.counters state.old.allowance) }
-    ensures allowance { state.new.allowance ≡ state.old.allowance }
-    ensures indices { state.new.indices ≡ state.old.indices }
+    ensures tracked { (table : List Configuration) → IsTracked S.content table state.old.tracked
+        → IsTracked S.content table state.new.tracked }
 {
-    state.flow.apply(plan, instr)
+    state.tracked.apply(plan, instr)
 }
 
 /// Updates the counters that are set, and the allowance for the next instruction.
@@ -80,7 +82,7 @@ fn account<S: Store>(plan: &Plan, instr: Instr, state: &mut KnownState<S>)
     ensures value { known_of S.content state.new ≡ known_with (flow_of
         (known_of S.content state.old)) (set_after instr state.old.counters)
         (left_over plan.now instr state.old.allowance) }
-    ensures indices { state.new.indices ≡ state.old.indices }
+    ensures tracked { state.new.tracked ≡ state.old.tracked }
 {
     match instr {
         Instr::Wait(_) => state.allowance = plan.budget,
@@ -108,18 +110,16 @@ fn account<S: Store>(plan: &Plan, instr: Instr, state: &mut KnownState<S>)
 /// Checks one instruction that has an allowance, and updates the state.
 fn step<S: Store>(code: &Code, instr: &Instr, state: &mut KnownState<S>) -> Result<(), Cause>
     requires allowance { 1 ≤ state.old.allowance }
-    requires placed { KnowsIndices S.content code.now.configurations state.old }
+    requires tracked { IsTracked S.content code.now.configurations state.old.tracked }
     ensures cause { result ≡ unless (instr_cause code.now instr.now
         (known_of S.content state.old)) }
     ensures left { OnOk result (known_of S.content state.new ≡ leaves code.now.plan instr.now
         (known_of S.content state.old)) }
-    ensures placed { OnOk result (KnowsIndices S.content code.now.configurations state.new) }
+    ensures tracked { OnOk result (IsTracked S.content code.now.configurations state.new.tracked) }
 {
     let plan = code.plan();
     test_target(code, *instr, state)?;
-    let before = state.flow.pending;
     advance(&plan, *instr, state)?;
-    note_indices(*instr, before, state);
     account(&plan, *instr, state);
     Ok(())
 }
@@ -144,12 +144,12 @@ fn falls_off(code: &Code, pc: u16) -> bool
 
 /// Checks one instruction, starting with the allowance, and updates the state.
 pub(crate) fn judge<S: Store>(code: &Code, pc: u16, state: &mut KnownState<S>) -> Result<(), Cause>
-    requires { KnowsIndices S.content code.now.configurations state.old }
+    requires { IsTracked S.content code.now.configurations state.old.tracked }
     ensures cause { result ≡ unless (known_cause code.now pc (instr_or_end (instr_at code.now pc))
         (known_of S.content state.old)) }
     ensures left { OnOk result (known_of S.content state.new ≡ leaves code.now.plan (instr_or_end
         (instr_at code.now pc)) (known_of S.content state.old)) }
-    ensures placed { OnOk result (KnowsIndices S.content code.now.configurations state.new) }
+    ensures tracked { OnOk result (IsTracked S.content code.now.configurations state.new.tracked) }
 {
     if state.allowance == 0 {
         return Err(Cause::Cost);

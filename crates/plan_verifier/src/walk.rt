@@ -2,27 +2,28 @@
 
 ghost use Rattle.std.specs.Prelude.{◌≡◌, IfErr, OnOk, Ok, Err, Some, None, length};
 ghost use Rattle.plan_code.specs.Program.{IsProgram, instr_at, label_at};
-ghost use Rattle.plan_verifier.specs.Held.{known_of, KnowsIndices};
+ghost use Rattle.plan_flow.specs.Indexed.{IsTracked};
+ghost use Rattle.plan_verifier.specs.Held.{known_of};
 ghost use Rattle.plan_verifier.specs.Typing.{leaves, continues};
 ghost use Rattle.plan_verifier.specs.Walking.{whole_cause, opening_known, known_at_pc, entered, known_if_reached, known_cause, past_end, walk, refusal_of, opening_cause, is_initial, unless, PassesInstr, instr_or_end};
 
 use crate::cause::Refusal;
-use crate::known::{Indices, KnownState};
-use crate::labels::{label_at, refit, take, test_cost, test_entry};
+use crate::known::KnownState;
+use crate::labels::{label_at, take, test_cost, test_entry};
 use crate::step::{instr_at, judge};
 use mux_config::Store;
 use plan_code::{Code, Counters, Label, Swap};
 use plan_flow::flow::{is_idle, is_same};
 use plan_flow::successors::continues;
-use plan_flow::{Cause, Flow, test_opening};
+use plan_flow::{Cause, Flow, TrackedFlow, test_opening};
 
 /// Whether a code can start in this state: equal configurations, no pending swap and no counter set.
 fn is_initial<S: Store>(state: &KnownState<S>) -> bool
     ensures { result ≡ is_initial (known_of S.content state.now) }
 {
-    is_idle(state.flow.pending)
+    is_idle(state.tracked.flow.pending)
         && state.counters.0 == 0
-        && is_same(&state.flow.current, &state.flow.next)
+        && is_same(&state.tracked.flow.current, &state.tracked.flow.next)
 }
 
 /// Checks that a code can start in the state of its first label. Refusals, in this order: `Mismatch`, `Cost`, `Config`
@@ -34,17 +35,17 @@ fn test_first<S: Store>(code: &Code, label: &Label, state: &KnownState<S>) -> Re
         return Err(Cause::Mismatch);
     }
     test_cost(code, label)?;
-    test_opening(&code.plan(), &state.flow.current)
+    test_opening(&code.plan(), &state.tracked.flow.current)
 }
 
 /// Sets up the state at the first instruction, or returns why the code is refused there.
 fn open<S: Store>(code: &Code, state: &mut KnownState<S>) -> Result<(), Cause>
-    requires { KnowsIndices S.content code.now.configurations state.old }
+    requires { IsTracked S.content code.now.configurations state.old.tracked }
     ensures refused { IfErr result (λ cause. opening_known code.now (label_at code.now 0) ≡
         Err cause) }
     ensures known { OnOk result (opening_known code.now (label_at code.now 0) ≡ Ok
         (known_of S.content state.new)) }
-    ensures placed { OnOk result (KnowsIndices S.content code.now.configurations state.new) }
+    ensures tracked { OnOk result (IsTracked S.content code.now.configurations state.new.tracked) }
 {
     match label_at(code, 0) {
         None => Err(Cause::Table),
@@ -63,21 +64,18 @@ fn enter<S: Store>(
     comes: bool,
     state: &mut KnownState<S>,
 ) -> Result<(), Cause>
-    requires { KnowsIndices S.content code.now.configurations state.old }
+    requires { IsTracked S.content code.now.configurations state.old.tracked }
     ensures refused { IfErr result (λ cause. known_at_pc code.now (label_at code.now pc)
         (known_if_reached comes (known_of S.content state.old)) ≡ Err cause) }
     ensures known { OnOk result (known_at_pc code.now (label_at code.now pc) (known_if_reached comes
         (known_of S.content state.old)) ≡ Ok (known_of S.content state.new)) }
-    ensures placed { OnOk result (KnowsIndices S.content code.now.configurations state.new) }
+    ensures tracked { OnOk result (IsTracked S.content code.now.configurations state.new.tracked) }
 {
     match label_at(code, pc) {
         None => { if comes { Ok(()) } else { Err(Cause::Table) } }
         Some(label) => {
             if comes {
                 test_entry(code, &label, state.allowance, state)?;
-                test_cost(code, &label)?;
-                refit(code, &label, state);
-                return Ok(());
             }
             test_cost(code, &label)?;
             take(code, &label, state);
@@ -94,12 +92,12 @@ fn enter_at<S: Store>(
     comes: bool,
     state: &mut KnownState<S>,
 ) -> Result<(), Cause>
-    requires { KnowsIndices S.content code.now.configurations state.old }
+    requires { IsTracked S.content code.now.configurations state.old.tracked }
     ensures refused { IfErr result (λ cause. entered code.now pc (known_if_reached comes
         (known_of S.content state.old)) ≡ Err cause) }
     ensures known { OnOk result (entered code.now pc (known_if_reached comes
         (known_of S.content state.old)) ≡ Ok (known_of S.content state.new)) }
-    ensures placed { OnOk result (KnowsIndices S.content code.now.configurations state.new) }
+    ensures tracked { OnOk result (IsTracked S.content code.now.configurations state.new.tracked) }
 {
     if pc == 0 {
         return open(code, state);
@@ -114,13 +112,13 @@ fn visit<S: Store>(
     comes: bool,
     state: &mut KnownState<S>,
 ) -> Result<(), Cause>
-    requires { KnowsIndices S.content code.now.configurations state.old }
+    requires { IsTracked S.content code.now.configurations state.old.tracked }
     ensures refused { IfErr result (λ cause. whole_cause (entered code.now pc (known_if_reached comes
         (known_of S.content state.old))) (known_cause code.now pc (instr_or_end
         (instr_at code.now pc))) ≡ Some cause) }
     ensures passed { OnOk result (PassesInstr code.now pc (instr_or_end (instr_at code.now pc))
         (known_if_reached comes (known_of S.content state.old)) (known_of S.content state.new)) }
-    ensures placed { OnOk result (KnowsIndices S.content code.now.configurations state.new) }
+    ensures tracked { OnOk result (IsTracked S.content code.now.configurations state.new.tracked) }
 {
     match enter_at(code, pc, comes, state) {
         Err(cause) => Err(cause),
@@ -159,17 +157,13 @@ pub(crate) fn refusal<S: Store>(code: &Code) -> Option<Refusal>
     ensures formed { IsProgram code.now }
 {
     let mut state = KnownState {
-        flow: Flow {
+        tracked: TrackedFlow::new(Flow {
             current: S::empty(),
             next: S::empty(),
             pending: Swap::Idle,
-        },
+        }),
         counters: Counters(0),
         allowance: 0,
-        indices: Indices {
-            current: None,
-            next: None,
-        },
     };
     let mut comes = false;
     for pc in 0..count(code) {

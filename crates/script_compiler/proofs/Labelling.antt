@@ -1,8 +1,8 @@
 -- Unpriced labels with the indices of their configurations in a table, and the labels that they become.
 use Rattle.std.proofs.Common.{◌≡◌, Bool, true, if◌then◌else◌, ℕ, zero, suc, ◌<◌, ◌≤◌, inl, inr, List, [], ◌∷◌, ◌++◌, length, map, Some, refl, sym, ap, ◌∙◌, subst, arith, get_or, length-append, Result, Ok, Err}
-use Rattle.std.proofs.lemmas.Option.{slice_get_within}
+use Rattle.std.proofs.lemmas.Option.{slice_get-get_or, get_or_from_slice_get}
 use Rattle.std.specs.Prelude.{slice_get, slice_index, OnOk, IfOk, IfErr}
-use Rattle.mux_config.specs.Configuration.{Configuration}
+use Rattle.mux_config.specs.Configuration.{Configuration, nothing}
 use Rattle.plan_code.specs.declared.label.Label.{Label}
 use Rattle.script_meaning.specs.declared.flow.UnpricedLabel.{UnpricedLabel}
 use Rattle.script_meaning.specs.Scheme.{PlacedInstr, unpriced_label, unpriced_labels}
@@ -16,15 +16,10 @@ use Rattle.script_compiler.specs.Room.{IsDeepAtMost}
 -- ---- configurations by index
 
 pub at_within : (xs : List Configuration) (i : ℕ) → i < length xs → slice_get xs i ≡ Some (configuration_at xs i)
-at_within [] i lt = absurd (omega (arith, lt))
-at_within (x ∷ xs) zero lt = refl
-at_within (x ∷ xs) (suc i) lt = at_within xs i (omega (arith, lt))
+at_within xs i lt = slice_get-get_or xs i nothing lt
 
 pub at_some : (xs : List Configuration) (i : ℕ) (c : Configuration) → slice_get xs i ≡ Some c → configuration_at xs i ≡ c
-at_some xs i c e =
-    let point_here : Some (configuration_at xs i) ≡ Some c = sym (at_within xs i (slice_get_within xs i c e)) ∙ e in
-    let h : configuration_at xs i ≡ c = cc in
-    h
+at_some xs i c e = get_or_from_slice_get xs i c nothing e
 
 pub at_more : (xs ys : List Configuration) (i : ℕ) → i < length xs → configuration_at (xs ++ ys) i ≡ configuration_at xs i
 at_more [] ys i lt = absurd (omega (arith, lt))

@@ -28,7 +28,7 @@ table_as v w e h = record {
 
 -- the table has room for the configurations of a label at the current point
 pub room_here : (w : Work) (s : IndexedPoint) (ps : List PlacedInstr) → point_in w.pool s ≡ w.now → HasTable w → IsCovered w.now.flow ps → HasSpace Configurations w ps
-    → HasRoomFor w.unpriced.table (configuration_at w.pool s.current ∷ configuration_at w.pool s.next ∷ [])
+    → HasRoomFor w.unpriced.table (configuration_at w.pool s.flow.current ∷ configuration_at w.pool s.flow.next ∷ [])
 room_here w s ps same table cover space =
     subst (λ (x : ProgramPoint). HasRoomFor w.unpriced.table (x.flow.current ∷ x.flow.next ∷ [])) (sym same) (room_names w w.now.flow ps table cover space)
 
@@ -36,14 +36,14 @@ abbrev pub mark_with : ℕ → ℕ → ProgramPoint → UnpricedLabel
 mark_with pc r s = record { pc = pc; flow = s.flow; repeats = r }
 
 abbrev pub short_with : ℕ → ℕ → ℕ → ℕ → IndexedPoint → IndexedLabel
-short_with pc cur next r s = record { pc = pc; cur = cur; next = next; pending = s.pending; repeats = r }
+short_with pc cur next r s = record { pc = pc; cur = cur; next = next; pending = s.flow.pending; repeats = r }
 
 -- the unpriced label that was added is that of the current point
 pub marked_as : (w : Work) (s : IndexedPoint) (table : List Configuration) (cur next pc r : ℕ) (items : List UnpricedLabel) → point_in w.pool s ≡ w.now
-    → slice_get table cur ≡ Some (configuration_at w.pool s.current) → slice_get table next ≡ Some (configuration_at w.pool s.next)
+    → slice_get table cur ≡ Some (configuration_at w.pool s.flow.current) → slice_get table next ≡ Some (configuration_at w.pool s.flow.next)
     → items ≡ w.unpriced.items ++ unpriced_in table (short_with pc cur next r s) ∷ [] → items ≡ w.unpriced.items ++ mark_with pc r w.now ∷ []
 marked_as w s table cur next pc r items same e f is =
-    is ∙ ap (λ (m : UnpricedLabel). w.unpriced.items ++ m ∷ []) (mark_is table (short_with pc cur next r s) (configuration_at w.pool s.current) (configuration_at w.pool s.next) e f)
+    is ∙ ap (λ (m : UnpricedLabel). w.unpriced.items ++ m ∷ []) (mark_is table (short_with pc cur next r s) (configuration_at w.pool s.flow.current) (configuration_at w.pool s.flow.next) e f)
     ∙ ap (λ (x : ProgramPoint). w.unpriced.items ++ mark_with pc r x ∷ []) same
 
 pub marked_here : (w : Work) (pc r line : ℕ) (i : Instr) (items : List UnpricedLabel) → w.now.labelled ≡ true → pc ≡ length w.lines.items

@@ -6,10 +6,12 @@ use Rattle.mux_types.proofs.Walking.{cut}
 use Rattle.script_compiler.specs.Fingerprint.{print_of}
 use Rattle.plan_flow.specs.Flows.{Flow}
 use Rattle.script_meaning.specs.declared.flow.ProgramPoint.{ProgramPoint}
-use Rattle.script_compiler.specs.declared.numbers.Numbers.{Numbers}
+use Rattle.plan_flow.specs.declared.indices.IndexedFlow.{IndexedFlow}
+use Rattle.plan_flow.specs.declared.tracked.TrackedFlow.{TrackedFlow}
+use Rattle.plan_flow.specs.Indexed.{flow_at, IsAt, IsTracked}
 use Rattle.script_compiler.specs.declared.short.IndexedPoint.{IndexedPoint}
 use Rattle.script_compiler.specs.Unpriced.{configuration_at}
-use Rattle.script_compiler.specs.Pool.{IsDistinct, Extends, IsNumbered, AreNumbered, AreBelow, IsInPool, AreInPool, point_in}
+use Rattle.script_compiler.specs.Pool.{IsDistinct, Extends, AreBelow, IsInPool, AreInPool, point_in}
 use Rattle.script_compiler.proofs.Labelling.{at_within, at_some, at_more}
 
 -- ---- each configuration once
@@ -51,12 +53,12 @@ stays_in xs ys i c a e = ap (λ (l : List Configuration). slice_get l i) a.1 ∙
 pub at_in : (xs ys : List Configuration) (i : ℕ) → Extends xs ys → i < length xs → configuration_at ys i ≡ configuration_at xs i
 at_in xs ys i a lt = ap (λ (l : List Configuration). configuration_at l i) a.1 ∙ at_more xs a.0 i lt
 
-pub numbered_in : (xs ys : List Configuration) (known : Option ℕ) (c : Configuration) → Extends xs ys → IsNumbered xs known c → IsNumbered ys known c
-numbered_in xs ys None c a h = h
-numbered_in xs ys (Some k) c a h = stays_in xs ys k c a h
+known_in : (xs ys : List Configuration) (known : Option ℕ) (c : Configuration) → Extends xs ys → IsAt xs known c → IsAt ys known c
+known_in xs ys None c a h = h
+known_in xs ys (Some k) c a h = stays_in xs ys k c a h
 
-pub both_numbered_in : (xs ys : List Configuration) (n : Numbers) (t : Flow) → Extends xs ys → AreNumbered xs n t → AreNumbered ys n t
-both_numbered_in xs ys n t a h = (numbered_in xs ys n.current t.current a h.0, numbered_in xs ys n.next t.next a h.1)
+pub tracked_in : (xs ys : List Configuration) (f : TrackedFlow Configuration) → Extends xs ys → IsTracked (λ c. c) xs f → IsTracked (λ c. c) ys f
+tracked_in xs ys f a h = (known_in xs ys f.indices.current f.flow.current a h.0, known_in xs ys f.indices.next f.flow.next a h.1)
 
 -- ---- a table of configurations in the pool
 
@@ -98,10 +100,14 @@ none_in_table xs ks k once below lt none i e =
 
 -- ---- program points
 
+-- flows of equal configurations
+flow_same : (f : IndexedFlow) (a b c d : Configuration) → a ≡ c → b ≡ d → (let t : Flow = record { current = a; next = b; pending = f.pending } in t) ≡ record { current = c; next = d; pending = f.pending }
+flow_same f a b c d e g = λ i. record { current = e i; next = g i; pending = f.pending }
+
 pub spot_same : (xs ys : List Configuration) (s : IndexedPoint) → Extends xs ys → IsInPool (length xs) s → point_in ys s ≡ point_in xs s
 spot_same xs ys s a h =
-    ap (λ (x : Configuration). let u : ProgramPoint = record { flow = record { current = x; next = configuration_at ys s.next; pending = s.pending }; labelled = s.labelled } in u) (at_in xs ys s.current a h.0)
-    ∙ ap (λ (x : Configuration). let u : ProgramPoint = record { flow = record { current = configuration_at xs s.current; next = x; pending = s.pending }; labelled = s.labelled } in u) (at_in xs ys s.next a h.1)
+    ap (λ (t : Flow). let u : ProgramPoint = record { flow = t; labelled = s.labelled } in u)
+    (flow_same s.flow _ _ _ _ (at_in xs ys s.flow.current a h.0) (at_in xs ys s.flow.next a h.1))
 
 pub in_pool : (xs ys : List Configuration) (s : IndexedPoint) → Extends xs ys → IsInPool (length xs) s → IsInPool (length ys) s
 in_pool xs ys s a h = let n = extends_length xs ys a in ((let k = h.0 in omega (arith, k, n)), (let k = h.1 in omega (arith, k, n)))
@@ -127,11 +133,9 @@ pub spots_push : (xs : List Configuration) (ss : List IndexedPoint) (s : Indexed
 spots_push xs [] s = refl
 spots_push xs (x ∷ ss) s = ap (λ (l : List ProgramPoint). point_in xs x ∷ l) (spots_push xs ss s)
 
-pub spot_is : (pool : List Configuration) (s : IndexedPoint) (a b : Configuration) → slice_get pool s.current ≡ Some a → slice_get pool s.next ≡ Some b
-    → point_in pool s ≡ record { flow = record { current = a; next = b; pending = s.pending }; labelled = s.labelled }
-spot_is pool s a b e f =
-    ap (λ (x : Configuration). let u : ProgramPoint = record { flow = record { current = x; next = configuration_at pool s.next; pending = s.pending }; labelled = s.labelled } in u) (at_some pool s.current a e)
-    ∙ ap (λ (x : Configuration). let u : ProgramPoint = record { flow = record { current = a; next = x; pending = s.pending }; labelled = s.labelled } in u) (at_some pool s.next b f)
+pub flow_is : (pool : List Configuration) (f : IndexedFlow) (a b : Configuration) → slice_get pool f.current ≡ Some a → slice_get pool f.next ≡ Some b
+    → flow_at pool f ≡ record { current = a; next = b; pending = f.pending }
+flow_is pool f a b e g = flow_same f _ _ _ _ (at_some pool f.current a e) (at_some pool f.next b g)
 
 -- ---- fingerprints
 

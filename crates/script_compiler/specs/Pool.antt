@@ -1,12 +1,10 @@
 -- Configurations by their numbers in a pool. Not used in public contracts.
-use Rattle.std.specs.Prelude.{◌≡◌, ℕ, ◌<◌, List, [], ◌∷◌, ◌++◌, Option, Some, IfSome, slice_get}
+use Rattle.std.specs.Prelude.{◌≡◌, ℕ, ◌<◌, List, [], ◌∷◌, ◌++◌, Some, slice_get}
 use Rattle.mux_config.specs.Configuration.{Configuration}
-use Rattle.plan_flow.specs.Flows.{Flow}
+use Rattle.plan_flow.specs.Indexed.{flow_at, IsWithin}
 use Rattle.script_meaning.specs.declared.flow.UnpricedLabel.{UnpricedLabel}
 use Rattle.script_meaning.specs.declared.flow.ProgramPoint.{ProgramPoint}
-use Rattle.script_compiler.specs.declared.numbers.Numbers.{Numbers}
 use Rattle.script_compiler.specs.declared.short.IndexedPoint.{IndexedPoint}
-use Rattle.script_compiler.specs.Unpriced.{configuration_at}
 
 -- no configuration has two numbers
 abbrev pub IsDistinct : List Configuration → Type 0
@@ -15,13 +13,6 @@ IsDistinct pool = (i j : ℕ) (c : Configuration) → slice_get pool i ≡ Some 
 -- the new pool has the old one's configurations, with the same numbers
 abbrev pub Extends : List Configuration → List Configuration → Type 0
 Extends old new = (more : List Configuration) × (new ≡ old ++ more)
-
--- a configuration has this number, if one is known
-abbrev pub IsNumbered : List Configuration → Option ℕ → Configuration → Type 0
-IsNumbered pool known c = IfSome known (λ k. slice_get pool k ≡ Some c)
-
-abbrev pub AreNumbered : List Configuration → Numbers → Flow → Type 0
-AreNumbered pool numbers t = IsNumbered pool numbers.current t.current × IsNumbered pool numbers.next t.next
 
 -- a pool, and the table of the configurations that labels name
 pub record PooledTable : Type 0 where
@@ -41,14 +32,10 @@ AreBelow n (k ∷ ks) = (k < n) × AreBelow n ks
 
 -- the program point, with its configurations
 abbrev pub point_in : List Configuration → IndexedPoint → ProgramPoint
-point_in pool s =
-    record {
-      flow = record { current = configuration_at pool s.current; next = configuration_at pool s.next; pending = s.pending };
-      labelled = s.labelled;
-    }
+point_in pool s = record { flow = flow_at pool s.flow; labelled = s.labelled }
 
 abbrev pub IsInPool : ℕ → IndexedPoint → Type 0
-IsInPool n s = (s.current < n) × (s.next < n)
+IsInPool n s = IsWithin n s.flow
 
 abbrev pub AreInPool : ℕ → List IndexedPoint → Type 0
 AreInPool n [] = Unit {0}

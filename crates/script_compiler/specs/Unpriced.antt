@@ -1,6 +1,7 @@
 -- Unpriced labels that give their configurations by index in a table. Not used in public contracts.
-use Rattle.std.specs.Prelude.{ℕ, zero, suc, ◌<◌, ◌≤◌, List, [], ◌∷◌, slice_index}
-use Rattle.mux_config.specs.Configuration.{Configuration, nothing}
+pub use Rattle.plan_flow.specs.Indexed.{configuration_at}
+use Rattle.std.specs.Prelude.{ℕ, ◌<◌, ◌≤◌, List, [], ◌∷◌, slice_index}
+use Rattle.mux_config.specs.Configuration.{Configuration}
 use Rattle.plan_code.specs.declared.label.Label.{Label}
 use Rattle.script_meaning.specs.declared.flow.UnpricedLabel.{UnpricedLabel}
 use Rattle.script_meaning.specs.Compiled.{first_counters}
@@ -10,11 +11,6 @@ use Rattle.script_compiler.specs.declared.short.IndexedLabel.{IndexedLabel}
 pub record UnpricedTable : Type 0 where
   pub items : List UnpricedLabel
   pub table : List Configuration
-
-abbrev pub configuration_at : List Configuration → ℕ → Configuration
-configuration_at [] i = nothing
-configuration_at (x ∷ xs) zero = x
-configuration_at (x ∷ xs) (suc i) = configuration_at xs i
 
 -- the unpriced label, with its configurations
 abbrev pub unpriced_in : List Configuration → IndexedLabel → UnpricedLabel

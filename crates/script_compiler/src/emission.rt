@@ -48,11 +48,11 @@ impl Work {
         ensures limited { IfErr result (λ e. IfLimit e (λ _ limit. (ps : List PlacedInstr) → IsCovered
             self.old.now.flow ps → HasSpace limit self.old ps → ⊥)) }
     {
-        let cur = match self.unpriced.index_of(line, point_here.current) {
+        let cur = match self.unpriced.index_of(line, point_here.flow.current) {
             Ok(cur) => cur,
             Err(fault) => return Err(fault),
         };
-        let next = match self.unpriced.index_of(line, point_here.next) {
+        let next = match self.unpriced.index_of(line, point_here.flow.next) {
             Ok(next) => next,
             Err(fault) => return Err(fault),
         };
@@ -60,13 +60,13 @@ impl Work {
             pc: self.lines.len() as u16,
             cur,
             next,
-            pending: point_here.pending,
+            pending: point_here.flow.pending,
             repeats: counters,
         };
         if let Err(fault) = self.unpriced.push(unpriced_label) {
             return Err(fault);
         }
-        self.now.labelled = false;
+        self.labelled = false;
         Ok(())
     }
 
@@ -87,7 +87,7 @@ impl Work {
         ensures limited { IfErr result (λ e. IfLimit e (λ _ limit. (ps : List PlacedInstr) → Covers
             self.old.now ps → HasSpace limit self.old ps → ⊥)) }
     {
-        if !self.now.labelled {
+        if !self.labelled {
             return Ok(());
         }
         if self.unpriced.len() >= usize::from(MOST_LABELS) {
@@ -207,7 +207,7 @@ impl Work {
         ensures limited { IfErr result (λ e. IfLimit e (λ _ limit. (ps : List PlacedInstr) → IsCovered
             self.old.now.flow ps → HasSpace limit self.old ps → ⊥)) }
     {
-        if !self.now.labelled && self.unpriced.len() >= usize::from(MOST_LABELS) {
+        if !self.labelled && self.unpriced.len() >= usize::from(MOST_LABELS) {
             return Err(CompileFault::Limit {
                 line,
                 limit: CodeLimit::Labels,
@@ -219,14 +219,14 @@ impl Work {
         };
         if !self
             .unpriced
-            .has_room_for_both(point_here.current, point_here.next)
+            .has_room_for_both(point_here.flow.current, point_here.flow.next)
         {
             return Err(CompileFault::Limit {
                 line,
                 limit: CodeLimit::Configurations,
             });
         }
-        self.now.labelled = true;
+        self.labelled = true;
         Ok(())
     }
 

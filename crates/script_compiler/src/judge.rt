@@ -1,8 +1,10 @@
 //! Checks statements that are one instruction: what is known after one, or why it is refused.
 
-ghost use Rattle.std.specs.Prelude.{◌≡◌, ◌↔◌, IsOk, IfErr, OnOk};
+ghost use Rattle.std.specs.Prelude.{◌≡◌, ◌↔◌, List, IsOk, IfErr, OnOk};
+ghost use Rattle.mux_config.specs.Configuration.{Configuration};
 ghost use Rattle.plan_flow.specs.Rules.{IsFine};
 ghost use Rattle.plan_flow.specs.Flows.{known_at, after_instr};
+ghost use Rattle.plan_flow.specs.Indexed.{IsTracked};
 ghost use Rattle.script_meaning.specs.Scheme.{instr_of_act};
 ghost use Rattle.script_compiler.specs.Refusals.{IsRefusedAs};
 
@@ -10,7 +12,7 @@ use crate::fault::CompileFault;
 use crate::refusal::refused;
 use mux_tables::Tables;
 use plan_code::{Instr, Plan};
-use plan_flow::Flow;
+use plan_flow::TrackedFlow;
 use script_front::Act;
 
 /// The instruction of a statement that compiles to one, such as an edit or a wait.
@@ -34,20 +36,24 @@ pub fn instr_of(act: Act) -> Instr
 ///
 /// # Errors
 ///
-/// `Refused` at the statement's line, with the first cause that [`Flow::apply`] names. The flow is unchanged then.
+/// `Refused` at the statement's line, with the first cause that [`TrackedFlow::apply`] names. The flow is unchanged then.
 pub(crate) fn judge(
     plan: &Plan,
     line: u16,
     act: Act,
-    flow: &mut Flow<Tables>,
+    tracked: &mut TrackedFlow<Tables>,
 ) -> Result<(), CompileFault>
-    ensures left { OnOk result (flow.new ≡ after_instr plan.now (instr_of_act act) flow.old) }
-    ensures fine { IsOk result ↔ IsFine plan.now (instr_of_act act) (known_at flow.old) }
-    ensures refused { IfErr result (λ e. IsRefusedAs plan.now line (instr_of_act act) flow.old
-        e) }
-    ensures kept { IfErr result (λ e. flow.new ≡ flow.old) }
+    ensures left { OnOk result (tracked.new.flow ≡ after_instr plan.now (instr_of_act act)
+        tracked.old.flow) }
+    ensures fine { IsOk result ↔ IsFine plan.now (instr_of_act act)
+        (known_at tracked.old.flow) }
+    ensures refused { IfErr result (λ e. IsRefusedAs plan.now line (instr_of_act act)
+        tracked.old.flow e) }
+    ensures kept { IfErr result (λ e. tracked.new.flow ≡ tracked.old.flow) }
+    ensures tracked { (pool : List Configuration) → IsTracked (λ c. c) pool tracked.old
+        → IsTracked (λ c. c) pool tracked.new }
 {
-    match flow.apply(plan, instr_of(act)) {
+    match tracked.apply(plan, instr_of(act)) {
         Ok(()) => Ok(()),
         Err(cause) => Err(refused(line, cause)),
     }

@@ -16,7 +16,6 @@ pub mod fault;
 mod fingerprint;
 mod judge;
 mod labels;
-mod meeting;
 mod needs;
 mod numbers;
 mod opening;

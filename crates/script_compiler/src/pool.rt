@@ -46,12 +46,11 @@ impl Pool {
         }
     }
 
-    /// The configuration with a number.
-    pub(crate) fn config(&self, number: usize) -> &Config
-        requires { number < length self.now.items }
-        ensures { slice_get self.now.items number ≡ Some result.now }
+    /// The configurations, by number.
+    pub(crate) fn configs(&self) -> &[Config]
+        ensures { result.now ≡ self.now.items }
     {
-        &self.configs[number]
+        &self.configs
     }
 
     /// No configuration has two numbers.

@@ -1,6 +1,7 @@
 //! Unpriced labels and program points in the form in which the compiler stores them: with indices of configurations.
 
 use plan_code::Swap;
+use plan_flow::IndexedFlow;
 
 /// An unpriced label and what is known there, with the configurations by their indices in a table.
 #[derive(Clone, Copy)]
@@ -20,12 +21,8 @@ pub(crate) struct IndexedLabel {
 /// A program point, with the configurations by their numbers in a pool.
 #[derive(Clone, Copy)]
 pub(crate) struct IndexedPoint {
-    /// The number of the current configuration.
-    pub(crate) current: usize,
-    /// The number of the next configuration.
-    pub(crate) next: usize,
-    /// Whether a swap is pending, and when it falls.
-    pub(crate) pending: Swap,
+    /// What is known of the configurations and of the swap.
+    pub(crate) flow: IndexedFlow,
     /// Whether the instruction has a label.
     pub(crate) labelled: bool,
 }

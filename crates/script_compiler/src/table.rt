@@ -66,12 +66,11 @@ impl ConfigTable {
         self.pool.number_of(config)
     }
 
-    /// The configuration with a number.
-    pub(crate) fn config(&self, number: usize) -> &Config
-        requires { number < length self.now.pool }
-        ensures { slice_get self.now.pool number ≡ Some result.now }
+    /// The configurations, by number.
+    pub(crate) fn pool(&self) -> &[Config]
+        ensures { result.now ≡ self.now.pool }
     {
-        self.pool.config(number)
+        self.pool.configs()
     }
 
     /// No configuration has two numbers.

@@ -79,12 +79,11 @@ impl UnpricedLabels {
         self.table.number_of(config)
     }
 
-    /// The configuration with a number.
-    pub(crate) fn config(&self, number: usize) -> &Config
-        requires { number < length self.now.pool }
-        ensures { slice_get self.now.pool number ≡ Some result.now }
+    /// The configurations, by number.
+    pub(crate) fn pool(&self) -> &[Config]
+        ensures { result.now ≡ self.now.pool }
     {
-        self.table.config(number)
+        self.table.pool()
     }
 
     /// The index in the table of the configuration with a number, which is added if absent. A `Limit` is reported at

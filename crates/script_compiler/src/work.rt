@@ -15,16 +15,16 @@ ghost use Rattle.script_compiler.specs.declared.fault.CompileFault.TheVariants.{
 ghost use Rattle.script_compiler.specs.Emission.{way};
 
 use crate::fault::CompileFault;
-use crate::judge::{instr_of, judge};
-use crate::meeting::{fits, meet, merged_numbers, take};
-use crate::numbers::{Numbers, numbered, numbers_after, numbers_of};
+use crate::judge::judge;
+use crate::numbers::numbered;
 use crate::refusal::refused;
 use crate::short::{IndexedLabel, IndexedPoint};
 use crate::unpriced::UnpricedLabels;
 use mux_config::Config;
+use mux_tables::Tables;
 use plan_code::limits::{MOST_INSTRUCTIONS, MOST_LABELS};
 use plan_code::{ContactId, Instr, Line, Plan};
-use plan_flow::Cause;
+use plan_flow::{Cause, TrackedFlow};
 use script_front::Act;
 use script_meaning::ProgramPoint;
 use std::alloc::Global;
@@ -37,16 +37,18 @@ pub(crate) struct Work {
     pub(crate) lines: Vec<Line>,
     /// The unpriced labels, and the configurations that they name.
     pub(crate) unpriced: UnpricedLabels,
-    pub(crate) now: ProgramPoint,
-    /// The numbers of the current and the next configuration of `now`.
-    numbers: Numbers,
+    /// What is known here, with the numbers of its configurations.
+    now: TrackedFlow<Tables>,
+    /// Whether the next instruction has a label.
+    pub(crate) labelled: bool,
     /// The program points saved for open branches and loops.
     saved: Vec<IndexedPoint>,
 }
 
 impl Model for Work {
     ghost use Rattle.std.specs.Prelude.{length, map};
-    ghost use Rattle.script_compiler.specs.Pool.{AreInPool, AreNumbered, point_in};
+    ghost use Rattle.plan_flow.specs.Indexed.{IsTracked};
+    ghost use Rattle.script_compiler.specs.Pool.{AreInPool, point_in};
     ghost use Rattle.script_compiler.specs.Working.{Work};
 
     ghost Value = { Work };
@@ -54,12 +56,12 @@ impl Model for Work {
     ghost view = { λ w. record {
       lines = record { items = w.lines.items };
       unpriced = record { items = w.unpriced.items; table = w.unpriced.table };
-      now = w.now;
+      now = record { flow = w.now.flow; labelled = w.labelled };
       saved = record { items = map (point_in w.unpriced.pool) w.saved.items };
       pool = w.unpriced.pool;
     } };
 
-    ghost invariant = { λ w. AreNumbered w.unpriced.pool w.numbers w.now.flow
+    ghost invariant = { λ w. IsTracked (λ c. c) w.unpriced.pool w.now
         × AreInPool (length w.unpriced.pool) w.saved.items };
 }
 
@@ -79,14 +81,12 @@ impl Work {
         ensures table { result.unpriced.table ≡ [] }
         ensures now { result.now ≡ beginning config.now }
     {
+        let point = ProgramPoint::opening(config);
         Work {
             lines: Vec::new(alloc),
             unpriced: UnpricedLabels::new(alloc),
-            now: ProgramPoint::opening(config),
-            numbers: Numbers {
-                current: None,
-                next: None,
-            },
+            now: TrackedFlow::new(point.flow),
+            labelled: point.labelled,
             saved: Vec::new(alloc),
         }
     }
@@ -125,12 +125,15 @@ impl Work {
         ensures within { IfOk result (λ s. IsInPool (length self.new.pool) s) }
         ensures memory { IfErr result (λ e. e ≡ Memory) }
     {
-        let point_here = match numbered(&mut self.unpriced, &self.now, self.numbers) {
-            Ok(point_here) => point_here,
+        let flow = match numbered(&mut self.unpriced, &self.now) {
+            Ok(flow) => flow,
             Err(fault) => return Err(fault),
         };
-        self.numbers = numbers_of(&point_here);
-        Ok(point_here)
+        self.now.indices = flow.indices();
+        Ok(IndexedPoint {
+            flow,
+            labelled: self.labelled,
+        })
     }
 
     /// Checks a statement that is one instruction, and updates what is known.
@@ -146,13 +149,7 @@ impl Work {
         ensures refused { IfErr result (λ e. IsRefusedAs plan.now line (instr_of_act act.now)
             self.old.now.flow e) }
     {
-        let before = self.now.flow.pending;
-        if let Err(fault) = judge(plan, line, *act, &mut self.now.flow) {
-            return Err(fault);
-        }
-        let after = self.now.flow.pending;
-        self.numbers = numbers_after(instr_of(*act), before, after, self.numbers);
-        Ok(())
+        judge(plan, line, *act, &mut self.now)
     }
 
     /// Saves the current program point.
@@ -203,7 +200,7 @@ impl Work {
         ensures { IsTrue result ↔ FitsFlow self.entry.now.now.flow
             (point_in self.entry.now.pool point.now).flow }
     {
-        fits(&self.unpriced, &self.now.flow, self.numbers, point)
+        self.now.fits(self.unpriced.pool(), &point.flow)
     }
 
     /// Continues with what is known at a saved program point, without a label.
@@ -215,9 +212,8 @@ impl Work {
         ensures pool { self.new.pool ≡ self.old.pool }
         ensures now { self.new.now ≡ without_label (point_in self.old.pool point.now).flow }
     {
-        take(&self.unpriced, point, self.numbers, &mut self.now.flow);
-        self.numbers = numbers_of(point);
-        self.now.labelled = false;
+        self.now.take(self.unpriced.pool(), &point.flow);
+        self.labelled = false;
     }
 
     /// Merges the current path with that of a saved program point. False if either does not fit the result, and then
@@ -234,11 +230,6 @@ impl Work {
         ensures agree { IsTrue result ↔ WaysAgree (Some self.old.now)
             (Some (point_in self.old.pool point.now)) }
     {
-        let before = self.now.flow.pending;
-        if !meet(&self.unpriced, point, self.numbers, &mut self.now.flow) {
-            return false;
-        }
-        self.numbers = merged_numbers(before, self.numbers, point);
-        true
+        self.now.meet(self.unpriced.pool(), &point.flow)
     }
 }

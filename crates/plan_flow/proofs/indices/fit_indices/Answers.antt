@@ -7,4 +7,4 @@ returns-then-has_swapped c = λ table t e within h.
 
 pub returns : goal.returns
 returns c = λ table t e within h.
-    fit_before table c.args.other.now c.args.pending c.has_swapped.result c.indices_of.result t c.has_swapped.ensures c.if-has_swapped.false e (c.indices_of.ensures table within) h
+    fit_before table c.args.other.now c.args.pending c.has_swapped.result c.indices.result t c.has_swapped.ensures c.if-has_swapped.false e (c.indices.ensures table within) h

@@ -22,5 +22,5 @@ loop-pc-preserved g c =
       walked = walk_go code c.loop-pc.pc came left within c.loop-pc.invariant.walked c.in-Ok.ensures.passed
           ∙ ap (λ (b : Bool). walk code (drop (c.loop-pc.pc + 1) code.lines) (c.loop-pc.pc + 1) (known_if_reached b left)) (sym onward);
       formed = c.loop-pc.invariant.formed;
-      placed = c.in-Ok.ensures.placed;
+      tracked = c.in-Ok.ensures.tracked;
     }

@@ -1,6 +1,7 @@
 use Rattle.std.proofs.Common.{◌≡◌, drop}
 use Rattle.plan_code.specs.Program.{IsProgram}
-use Rattle.plan_verifier.specs.Held.{known_of, KnowsIndices}
+use Rattle.plan_flow.specs.Indexed.{IsTracked}
+use Rattle.plan_verifier.specs.Held.{known_of}
 use Rattle.plan_verifier.specs.Walking.{walk, refusal_of, known_if_reached}
 use Rattle.plan_verifier.proofs.walk.refusal.Given as goal
 
@@ -8,5 +9,5 @@ abbrev pub invariant-loop-pc : goal.invariant-loop-pc
 invariant-loop-pc g l = record {
   walked : refusal_of l.code ≡ walk l.code (drop l.pc l.code.lines) l.pc (known_if_reached l.comes (known_of g.S.Store.content l.state));
   formed : IsProgram l.code;
-  placed : KnowsIndices g.S.Store.content l.code.configurations l.state;
+  tracked : IsTracked g.S.Store.content l.code.configurations l.state.tracked;
 }

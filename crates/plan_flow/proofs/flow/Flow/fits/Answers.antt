@@ -1,5 +1,4 @@
 use Rattle.std.proofs.Common.{refl}
-use Rattle.plan_code.specs.declared.label.Swap.{Swap}
 use Rattle.plan_flow.specs.declared.fitting.Condition.TheVariants.{Never, Both, NextTwice}
 use Rattle.plan_flow.specs.Flows.{Flow, held, known_at}
 use Rattle.plan_flow.proofs.Merging.{fit_as}

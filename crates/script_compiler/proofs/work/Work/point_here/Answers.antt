@@ -1,8 +1,9 @@
 use Rattle.std.proofs.Common.{List, ap, ◌∙◌, subst}
 use Rattle.script_meaning.specs.declared.flow.ProgramPoint.{ProgramPoint}
-use Rattle.script_compiler.specs.Pool.{AreNumbered}
+use Rattle.plan_flow.specs.Flows.{Flow}
+use Rattle.plan_flow.specs.Indexed.{AreAt}
 use Rattle.script_compiler.specs.Working.{Points, Work}
-use Rattle.script_compiler.proofs.Pooled.{both_numbered_in, all_in_pool, all_same}
+use Rattle.script_compiler.proofs.Pooled.{tracked_in, all_in_pool, all_same}
 use Rattle.script_compiler.proofs.work.Work.point_here.Goals as goal
 
 pub invariant_of-self : goal.invariant_of-self
@@ -10,7 +11,7 @@ invariant_of-self c =
     let old = c.self.inside.unpriced.pool in
     let new = c.numbered.new.unpriced.pool in
     let kept = c.numbered.ensures.kept in
-    (both_numbered_in old new c.self.inside.numbers c.self.inside.now.flow kept c.self.invariant.0, all_in_pool old new c.self.inside.saved.items kept c.self.invariant.1)
+    (tracked_in old new c.self.inside.now kept c.self.invariant.0, all_in_pool old new c.self.inside.saved.items kept c.self.invariant.1)
 
 pub returns-in-Err-clause-saved : goal.returns-in-Err-clause-saved
 returns-in-Err-clause-saved c =
@@ -21,7 +22,7 @@ pub invariant_of-self-2 : goal.invariant_of-self-2
 invariant_of-self-2 c =
     let old = c.self.inside.unpriced.pool in
     let new = c.numbered.new.unpriced.pool in (
-      subst (λ (s : ProgramPoint). AreNumbered new c.numbers_of-self-inside.result s.flow) c.in-Ok.ensures.same (c.numbers_of-self-inside.ensures new c.in-Ok.ensures.within),
+      subst (λ (t : Flow). AreAt new c.indices-self-inside.result t) c.in-Ok.ensures.same (c.indices-self-inside.ensures new c.in-Ok.ensures.within),
       all_in_pool old new c.self.inside.saved.items c.numbered.ensures.kept c.self.invariant.1,
     )
 
