@@ -6,80 +6,68 @@ use Rattle.plan_code.specs.declared.plan.Plan.{Plan}
 use Rattle.plan_code.specs.declared.label.Swap.{Swap}
 use Rattle.plan_code.specs.declared.label.Swap.TheVariants.{Idle, Within, Perhaps}
 use Rattle.plan_code.specs.declared.instr.Instr.{Instr}
-use Rattle.plan_code.specs.declared.instr.Instr.TheVariants.{Wait, Until, WaitContact, Settle}
+use Rattle.plan_code.specs.declared.instr.Instr.TheVariants.{Wait, Until, WaitContact, CommitIn, CommitAt, Join, Settle, End, Edit as Edits, Test, Jump, Set, Loop}
 use Rattle.plan_flow.specs.declared.indices.IndexedFlow.{IndexedFlow}
 use Rattle.plan_flow.specs.declared.indices.Indices.{Indices}
-use Rattle.plan_flow.specs.Rules.{Known, FitsSwap, known_after_swap, after_wait, perhaps_swapped, after_pause, after_settle}
+use Rattle.plan_flow.specs.Rules.{Known, FitsSwap, known_after_swap, after_wait, after_pause, after_settle}
 use Rattle.plan_flow.specs.Flows.{Flow, FitsFlow, known_at, flow_of, after_instr}
 use Rattle.plan_flow.specs.Tests.{is_same}
-use Rattle.plan_flow.specs.Indexed.{configuration_at, flow_at, has_swapped, AreAt, IsAt, IsWithin, MovesOn}
+use Rattle.plan_flow.specs.Indexed.{configuration_at, flow_at, has_swapped, indices_of, swapped_indices, moved_indices, indices_after, fit_indices, AreAt, IsAt, IsWithin}
 use Rattle.plan_flow.proofs.Deciding.{decides_same}
 
--- ---- waits
+-- ---- after an instruction
 
-waited_moves : (frames : ℕ) (p : Swap) (t : Known) → MovesOn p (after_wait frames p t).pending (flow_of t) (flow_of (after_wait frames p t))
-waited_moves frames Idle t = (refl, refl)
-waited_moves frames (Within lo hi) t = by (nat_lt frames lo)
+-- one that leaves the swap, and may have made it
+abbrev MovesOn : List Configuration → Indices → Swap → Known → Type 0
+MovesOn table k p u = AreAt table (moved_indices p u.pending k) (flow_of u)
+
+waited : (table : List Configuration) (k : Indices) (frames : ℕ) (p : Swap) (t : Known) → AreAt table k (flow_of t) → MovesOn table k p (after_wait frames p t)
+waited table k frames Idle t h = h
+waited table k frames (Within lo hi) t h = by (nat_lt frames lo)
   where
-    by : (b : Bool) → MovesOn (Within lo hi) (if b then record t { pending = Within (lo - frames) (hi - frames) } else known_after_swap t).pending (flow_of t)
-        (flow_of (if b then record t { pending = Within (lo - frames) (hi - frames) } else known_after_swap t))
-    by true = (refl, refl)
-    by false = (refl, refl)
-waited_moves frames (Perhaps hi) t = by (nat_lt frames hi)
+    by : (b : Bool) → MovesOn table k (Within lo hi) (if b then record t { pending = Within (lo - frames) (hi - frames) } else known_after_swap t)
+    by true = h
+    by false = (h.1, h.1)
+waited table k frames (Perhaps hi) t h = by (nat_lt frames hi)
   where
-    by : (b : Bool) → MovesOn (Perhaps hi) (if b then record t { pending = Perhaps (hi - frames) } else known_after_swap t).pending (flow_of t)
-        (flow_of (if b then record t { pending = Perhaps (hi - frames) } else known_after_swap t))
-    by true = (refl, refl)
-    by false = (refl, refl)
+    by : (b : Bool) → MovesOn table k (Perhaps hi) (if b then record t { pending = Perhaps (hi - frames) } else known_after_swap t)
+    by true = h
+    by false = (h.1, h.1)
 
-within_moves : (lo hi : ℕ) (t : Known) → MovesOn (Within lo hi) (perhaps_swapped hi t).pending (flow_of t) (flow_of (perhaps_swapped hi t))
-within_moves lo hi t = by (nat_lt 1 hi)
+paused : (table : List Configuration) (k : Indices) (p : Swap) (t : Known) → AreAt table k (flow_of t) → MovesOn table k p (after_pause p t)
+paused table k Idle t h = h
+paused table k (Within lo hi) t h = by (nat_lt 1 hi)
   where
-    by : (b : Bool) → MovesOn (Within lo hi) (if b then record t { pending = Perhaps (hi - 1) } else known_after_swap t).pending (flow_of t)
-        (flow_of (if b then record t { pending = Perhaps (hi - 1) } else known_after_swap t))
-    by true = (refl, refl)
-    by false = (refl, refl)
-
-perhaps_moves : (hi : ℕ) (t : Known) → MovesOn (Perhaps hi) (perhaps_swapped hi t).pending (flow_of t) (flow_of (perhaps_swapped hi t))
-perhaps_moves hi t = by (nat_lt 1 hi)
+    by : (b : Bool) → MovesOn table k (Within lo hi) (if b then record t { pending = Perhaps (hi - 1) } else known_after_swap t)
+    by true = h
+    by false = (h.1, h.1)
+paused table k (Perhaps hi) t h = by (nat_lt 1 hi)
   where
-    by : (b : Bool) → MovesOn (Perhaps hi) (if b then record t { pending = Perhaps (hi - 1) } else known_after_swap t).pending (flow_of t)
-        (flow_of (if b then record t { pending = Perhaps (hi - 1) } else known_after_swap t))
-    by true = (refl, refl)
-    by false = (refl, refl)
+    by : (b : Bool) → MovesOn table k (Perhaps hi) (if b then record t { pending = Perhaps (hi - 1) } else known_after_swap t)
+    by true = h
+    by false = (h.1, h.1)
 
-paused_moves : (p : Swap) (t : Known) → MovesOn p (after_pause p t).pending (flow_of t) (flow_of (after_pause p t))
-paused_moves Idle t = (refl, refl)
-paused_moves (Within lo hi) t = within_moves lo hi t
-paused_moves (Perhaps hi) t = perhaps_moves hi t
+settled : (table : List Configuration) (k : Indices) (p : Swap) (t : Known) → p ≡ t.pending → AreAt table k (flow_of t) → MovesOn table k p (after_settle p t)
+settled table k Idle t e h = h
+settled table k (Within lo hi) t e h = (h.1, h.1)
+settled table k (Perhaps hi) t e h = (h.1, h.1)
 
-settled_moves : (p : Swap) (t : Known) → MovesOn p (after_settle p t).pending (flow_of t) (flow_of (after_settle p t))
-settled_moves Idle t = (refl, refl)
-settled_moves (Within lo hi) t = (refl, refl)
-settled_moves (Perhaps hi) t = (refl, refl)
-
--- what an instruction does to the configurations, with the swap before and after it
-abbrev pub Moves : Plan → Instr → Flow → Type 0
-Moves plan i t = MovesOn t.pending (after_instr plan i t).pending t (after_instr plan i t)
-
-pub wait_moves : (plan : Plan) (frames : ℕ) (t : Flow) → Moves plan (Wait frames) t
-wait_moves plan frames t = waited_moves frames t.pending (known_at t)
-
-pub until_moves : (plan : Plan) (day : ℕ) (t : Flow) → Moves plan (Until day) t
-until_moves plan day t = paused_moves t.pending (known_at t)
-
-pub contact_moves : (plan : Plan) (contact : ℕ) (closed : Bool) (t : Flow) → Moves plan (WaitContact contact closed) t
-contact_moves plan contact closed t = paused_moves t.pending (known_at t)
-
-pub settle_moves : (plan : Plan) (t : Flow) → Moves plan Settle t
-settle_moves plan t = settled_moves t.pending (known_at t)
-
--- with an equal instruction, and with these as the swap before and after it
-pub moves_as : (plan : Plan) (i j : Instr) (t : Flow) (before after : Swap) → i ≡ j → Moves plan j t → before ≡ t.pending → after ≡ (after_instr plan i t).pending
-    → MovesOn before after t (after_instr plan i t)
-moves_as plan i j t before after same h e f =
-    let there : Moves plan i t = subst (λ (k : Instr). Moves plan k t) (sym same) h in
-    subst (λ (x : Swap). MovesOn x after t (after_instr plan i t)) (sym e) (subst (λ (x : Swap). MovesOn t.pending x t (after_instr plan i t)) (sym f) there)
+-- the configurations are where the indices say, after each instruction
+pub tracked_after : (plan : Plan) (i : Instr) (table : List Configuration) (k : Indices) (t : Flow) → AreAt table k t
+    → AreAt table (indices_after i t.pending (after_instr plan i t).pending k) (after_instr plan i t)
+tracked_after plan (Edits edit) table k t h = (h.0, tt)
+tracked_after plan (CommitIn delay) table k t h = h
+tracked_after plan (CommitAt count) table k t h = h
+tracked_after plan (Wait frames) table k t h = waited table k frames t.pending (known_at t) h
+tracked_after plan (Until day) table k t h = paused table k t.pending (known_at t) h
+tracked_after plan (WaitContact contact closed) table k t h = paused table k t.pending (known_at t) h
+tracked_after plan Join table k t h = (h.1, h.1)
+tracked_after plan Settle table k t h = settled table k t.pending (known_at t) refl h
+tracked_after plan (Test contact target) table k t h = h
+tracked_after plan (Jump target) table k t h = h
+tracked_after plan (Loop counter target) table k t h = h
+tracked_after plan (Set counter times) table k t h = h
+tracked_after plan End table k t h = h
 
 -- ---- configurations at an index
 
@@ -117,23 +105,12 @@ current_fits (Perhaps hi) Idle t u h = absurd h
 current_fits (Perhaps hi) (Within low high) t u h = absurd h
 current_fits (Perhaps hi) (Perhaps high) t u h = h.0.0
 
-current_at : (p q : Swap) (b : Bool) (t u : Flow) → b ≡ has_swapped q p → p ≡ t.pending → q ≡ u.pending → FitsFlow t u → t.current ≡ (if b then u.next else u.current)
-current_at p q b t u is e f h =
-    let same : b ≡ has_swapped u.pending t.pending = is ∙ ap (λ (x : Swap). has_swapped q x) e ∙ ap (λ (x : Swap). has_swapped x t.pending) f in
-    current_fits t.pending u.pending (known_at t) (known_at u) h ∙ ap (λ (x : Bool). if x then u.next else u.current) (sym same)
+fit_by : (table : List Configuration) (f : IndexedFlow) (b : Bool) (t : Flow) → IsWithin (length table) f → t.current ≡ (if b then configuration_at table f.next else configuration_at table f.current)
+    → t.next ≡ configuration_at table f.next → AreAt table (if b then swapped_indices (indices_of f) else indices_of f) t
+fit_by table f true t within current next = (is_there table f.next t.current within.1 current, is_there table f.next t.next within.1 next)
+fit_by table f false t within current next = (is_there table f.current t.current within.0 current, is_there table f.next t.next within.1 next)
 
-pub fit_after : (table : List Configuration) (f : IndexedFlow) (p : Swap) (b : Bool) (t : Flow) → b ≡ has_swapped f.pending p → b ≡ true → p ≡ t.pending → IsWithin (length table) f
-    → FitsFlow t (flow_at table f) → (slice_get table f.next ≡ Some t.current) × (slice_get table f.next ≡ Some t.next)
-fit_after table f p b t is swapped e within h =
+pub tracked_fit : (table : List Configuration) (f : IndexedFlow) (t : Flow) → IsWithin (length table) f → FitsFlow t (flow_at table f) → AreAt table (fit_indices t.pending f) t
+tracked_fit table f t within h =
     let u : Flow = flow_at table f in
-    let current : t.current ≡ u.next = current_at p f.pending b t u is e refl h ∙ ap (λ (x : Bool). if x then u.next else u.current) swapped in
-    (is_there table f.next t.current within.1 current, is_there table f.next t.next within.1 (next_fits t.pending u.pending (known_at t) (known_at u) h))
-
-pub fit_before : (table : List Configuration) (f : IndexedFlow) (p : Swap) (b : Bool) (indices : Indices) (t : Flow) → b ≡ has_swapped f.pending p → b ≡ false → p ≡ t.pending
-    → AreAt table indices (flow_at table f) → FitsFlow t (flow_at table f) → AreAt table indices t
-fit_before table f p b indices t is swapped e at h =
-    let u : Flow = flow_at table f in
-    let current : t.current ≡ u.current = current_at p f.pending b t u is e refl h ∙ ap (λ (x : Bool). if x then u.next else u.current) swapped in (
-      subst (λ (x : Configuration). IsAt table indices.current x) (sym current) at.0,
-      subst (λ (x : Configuration). IsAt table indices.next x) (sym (next_fits t.pending u.pending (known_at t) (known_at u) h)) at.1,
-    )
+    fit_by table f (has_swapped f.pending t.pending) t within (current_fits t.pending f.pending (known_at t) (known_at u) h) (next_fits t.pending f.pending (known_at t) (known_at u) h)

@@ -1,8 +1,10 @@
--- Flows whose configurations are in a table, and the indices of configurations before and after a wait: examples that
--- hold, and examples that fail.
-use Rattle.std.proofs.Common.{◌≡◌, true, false, List, [], ◌∷◌, length, Some, None, refl, sym, ap, arith}
+-- Flows whose configurations are in a table, and the indices of configurations after an instruction: examples that hold,
+-- and examples that fail.
+use Rattle.std.proofs.Common.{◌≡◌, ℕ, true, false, List, [], ◌∷◌, length, Option, Some, None, refl, sym, ap, arith}
 use Rattle.std.proofs.lemmas.Bool.{false≢true}
 use Rattle.mux_config.specs.Configuration.{Configuration, nothing}
+use Rattle.mux_config.specs.declared.edit.Edit.TheVariants.{DropSub}
+use Rattle.plan_code.specs.declared.instr.Instr.TheVariants.{Edit as Edits, Join, Wait, Jump}
 use Rattle.plan_code.specs.declared.label.Swap.{Swap}
 use Rattle.plan_code.specs.declared.label.Swap.TheVariants.{Idle, Within, Perhaps}
 use Rattle.plan_flow.specs.declared.fitting.Condition.TheVariants.{Never, Both, NextTwice}
@@ -11,7 +13,7 @@ use Rattle.plan_flow.specs.declared.indices.Indices.{Indices}
 use Rattle.plan_flow.specs.declared.tracked.TrackedFlow.{TrackedFlow}
 use Rattle.plan_flow.specs.Flows.{Flow, known_at}
 use Rattle.plan_flow.specs.Tests.{satisfies}
-use Rattle.plan_flow.specs.Indexed.{configuration_at, flow_at, has_swapped, AreAt, IsAt, IsTracked, IsWithin, MovesOn}
+use Rattle.plan_flow.specs.Indexed.{configuration_at, flow_at, has_swapped, indices_of, swapped_indices, moved_indices, indices_after, fit_indices, AreAt, IsAt, IsTracked, IsWithin}
 
 -- a configuration of one packet component
 abbrev other : Configuration
@@ -75,15 +77,58 @@ its_indices = (refl, refl)
 not_its_indices : IsTracked (λ c. c) table (tracked (flow other nothing Idle)) → ⊥
 not_its_indices h = at_no_other h.0
 
--- before the swap, and after it
-before_it : MovesOn (Within 24 24) (Within 20 20) (flow nothing other (Within 24 24)) (flow nothing other (Within 20 20))
-before_it = (refl, refl)
+-- ---- the indices that are known then
 
-after_it : MovesOn (Within 24 24) Idle (flow nothing other (Within 24 24)) (flow other other Idle)
-after_it = (refl, refl)
+abbrev after_swap : Indices
+after_swap = record { current = Some 1; next = Some 1 }
 
-not_left : MovesOn (Within 24 24) Idle (flow other nothing (Within 24 24)) (flow other nothing Idle) → ⊥
-not_left h = differ h.0
+abbrev after_edit : Indices
+after_edit = record { current = Some 0; next = None }
+
+abbrev known : ℕ → Option ℕ
+known k = Some k
+
+not_none : known 1 ≡ None → ⊥
+not_none e = cc
+
+same_index : (j k : ℕ) → known j ≡ known k → j ≡ k
+same_index j k e = cc
+
+edited : indices_after (Edits (DropSub 3)) Idle Idle indices ≡ after_edit
+edited = refl
+
+an_edit_forgets : indices_after (Edits (DropSub 3)) Idle Idle indices ≡ indices → ⊥
+an_edit_forgets e = not_none (sym (ap (λ (k : Indices). k.next) e))
+
+joined : indices_after Join (Within 24 24) Idle indices ≡ after_swap
+joined = refl
+
+waited_for_it : indices_after (Wait 24) (Within 24 24) Idle indices ≡ after_swap
+waited_for_it = refl
+
+waited_before_it : indices_after (Wait 4) (Within 24 24) (Within 20 20) indices ≡ indices
+waited_before_it = refl
+
+not_swapped_before_it : moved_indices (Within 24 24) (Within 20 20) indices ≡ swapped_indices indices → ⊥
+not_swapped_before_it e = let same = same_index 0 1 (ap (λ (k : Indices). k.current) e) in omega (arith, same)
+
+a_jump_keeps_them : indices_after (Jump 7) Idle Idle indices ≡ indices
+a_jump_keeps_them = refl
+
+its_own : indices_of indexed ≡ indices
+its_own = refl
+
+fits_before_it : fit_indices (Within 24 24) indexed ≡ indices
+fits_before_it = refl
+
+abbrev perhaps : IndexedFlow
+perhaps = record { current = 0; next = 1; pending = Perhaps 3 }
+
+fits_after_it : fit_indices Idle perhaps ≡ after_swap
+fits_after_it = refl
+
+not_both_after_it : fit_indices Idle perhaps ≡ indices_of perhaps → ⊥
+not_both_after_it e = let same = same_index 1 0 (ap (λ (k : Indices). k.current) e) in omega (arith, same)
 
 made : has_swapped (Perhaps 3) Idle ≡ true
 made = refl

@@ -1,7 +1,9 @@
 -- Flows whose configurations are in a table, and which configuration of a flow is which one of a table.
-use Rattle.std.specs.Prelude.{◌≡◌, ℕ, ◌<◌, ◌&&◌, Bool, not, if◌then◌else◌, List, get_or, slice_get, Option, Some, IfSome}
+use Rattle.std.specs.Prelude.{◌≡◌, ℕ, ◌<◌, ◌&&◌, Bool, not, if◌then◌else◌, List, get_or, slice_get, Option, Some, None, IfSome}
 use Rattle.mux_config.specs.Configuration.{Configuration, nothing}
 use Rattle.plan_code.specs.declared.label.Swap.{Swap}
+use Rattle.plan_code.specs.declared.instr.Instr.{Instr}
+use Rattle.plan_code.specs.declared.instr.Instr.TheVariants.{Edit as Edits, Join, Wait, Until, WaitContact, Settle}
 use Rattle.plan_flow.specs.declared.indices.IndexedFlow.{IndexedFlow}
 use Rattle.plan_flow.specs.declared.indices.Indices.{Indices}
 use Rattle.plan_flow.specs.declared.tracked.TrackedFlow.{TrackedFlow}
@@ -31,12 +33,34 @@ AreAt table indices t = IsAt table indices.current t.current × IsAt table indic
 abbrev pub IsTracked : {S : Type 0} → (S → Configuration) → List Configuration → TrackedFlow S → Type 0
 IsTracked content table f = AreAt table f.indices (held content f.flow)
 
--- ---- a swap that may have been made
+-- ---- the indices that are known then
+
+-- those of a flow that is in the table
+abbrev pub indices_of : IndexedFlow → Indices
+indices_of f = record { current = Some f.current; next = Some f.next }
+
+-- after the swap
+abbrev pub swapped_indices : Indices → Indices
+swapped_indices k = record { current = k.next; next = k.next }
 
 -- a swap that was or may have been pending has been made
 abbrev pub has_swapped : Swap → Swap → Bool
 has_swapped before after = not (is_idle before) && is_idle after
 
--- the next configuration is unchanged, and is the current one if the swap has been made
-abbrev pub MovesOn : Swap → Swap → Flow → Flow → Type 0
-MovesOn before after t u = (u.current ≡ (if has_swapped before after then t.next else t.current)) × (u.next ≡ t.next)
+-- after one frame or more, or a settle
+abbrev pub moved_indices : Swap → Swap → Indices → Indices
+moved_indices before after k = if has_swapped before after then swapped_indices k else k
+
+-- after an instruction that changes the swap from the first to the second
+abbrev pub indices_after : Instr → Swap → Swap → Indices → Indices
+indices_after (Edits edit) before after k = record { current = k.current; next = None }
+indices_after Join before after k = swapped_indices k
+indices_after (Wait frames) before after k = moved_indices before after k
+indices_after (Until day) before after k = moved_indices before after k
+indices_after (WaitContact contact closed) before after k = moved_indices before after k
+indices_after Settle before after k = moved_indices before after k
+indices_after _ before after k = k
+
+-- those of a flow with the given swap that fits another, which is in the table
+abbrev pub fit_indices : Swap → IndexedFlow → Indices
+fit_indices pending f = if has_swapped f.pending pending then swapped_indices (indices_of f) else indices_of f

@@ -2,9 +2,7 @@
 
 ghost use Rattle.std.specs.Prelude.{◌≡◌, List, length};
 ghost use Rattle.mux_config.specs.Configuration.{Configuration};
-ghost use Rattle.plan_code.specs.declared.plan.Plan.{Plan};
-ghost use Rattle.plan_flow.specs.Flows.{Flow, after_instr, FitsFlow};
-ghost use Rattle.plan_flow.specs.Indexed.{flow_at, AreAt, IsWithin, MovesOn, has_swapped};
+ghost use Rattle.plan_flow.specs.Indexed.{flow_at, AreAt, IsWithin, indices_of, swapped_indices, has_swapped, moved_indices, indices_after, fit_indices};
 
 use crate::flow::is_idle;
 use plan_code::{Instr, Swap};
@@ -31,15 +29,26 @@ pub struct Indices {
 }
 
 impl IndexedFlow {
-    /// The indices of both configurations.
+    /// The indices of both configurations: in every table that has these, those of the flow there.
     pub fn indices(&self) -> Indices
-        ensures { (table : List Configuration) → IsWithin (length table) self.now
+        ensures value { result ≡ indices_of self.now }
+        ensures at { (table : List Configuration) → IsWithin (length table) self.now
             → AreAt table result (flow_at table self.now) }
     {
         Indices {
             current: Some(self.current),
             next: Some(self.next),
         }
+    }
+}
+
+/// The indices after the swap.
+fn swapped_indices(indices: Indices) -> Indices
+    ensures { result ≡ swapped_indices indices }
+{
+    Indices {
+        current: indices.next,
+        next: indices.next,
     }
 }
 
@@ -51,38 +60,29 @@ fn has_swapped(before: Swap, after: Swap) -> bool
 }
 
 /// The indices after an instruction during which a pending swap may be made.
-fn indices_after_wait(before: Swap, after: Swap, indices: Indices) -> Indices
-    ensures { (table : List Configuration) (t u : Flow) → MovesOn before after t u
-        → AreAt table indices t → AreAt table result u }
+fn moved_indices(before: Swap, after: Swap, indices: Indices) -> Indices
+    ensures { result ≡ moved_indices before after indices }
 {
     if has_swapped(before, after) {
-        return Indices {
-            current: indices.next,
-            next: indices.next,
-        };
+        return swapped_indices(indices);
     }
     indices
 }
 
 /// The indices after an instruction that changes the swap from `before` to `after`.
 pub(crate) fn indices_after(instr: Instr, before: Swap, after: Swap, indices: Indices) -> Indices
-    ensures { (plan : Plan) (table : List Configuration) (t : Flow) → before ≡ t.pending
-        → after ≡ (after_instr plan instr t).pending → AreAt table indices t
-        → AreAt table result (after_instr plan instr t) }
+    ensures { result ≡ indices_after instr before after indices }
 {
     match instr {
         Instr::Edit(_) => Indices {
             current: indices.current,
             next: None,
         },
-        Instr::Join => Indices {
-            current: indices.next,
-            next: indices.next,
-        },
-        Instr::Wait(_) => indices_after_wait(before, after, indices),
-        Instr::Until(_) => indices_after_wait(before, after, indices),
-        Instr::WaitContact { .. } => indices_after_wait(before, after, indices),
-        Instr::Settle => indices_after_wait(before, after, indices),
+        Instr::Join => swapped_indices(indices),
+        Instr::Wait(_) => moved_indices(before, after, indices),
+        Instr::Until(_) => moved_indices(before, after, indices),
+        Instr::WaitContact { .. } => moved_indices(before, after, indices),
+        Instr::Settle => moved_indices(before, after, indices),
         Instr::CommitIn(_) => indices,
         Instr::CommitAt(_) => indices,
         Instr::Test { .. } => indices,
@@ -96,15 +96,10 @@ pub(crate) fn indices_after(instr: Instr, before: Swap, after: Swap, indices: In
 /// The indices of a flow with this swap that fits another: those of the other, except for the current one if the swap
 /// may have been made.
 pub(crate) fn fit_indices(pending: Swap, other: &IndexedFlow) -> Indices
-    ensures { (table : List Configuration) (t : Flow) → pending ≡ t.pending
-        → IsWithin (length table) other.now → FitsFlow t (flow_at table other.now)
-        → AreAt table result t }
+    ensures { result ≡ fit_indices pending other.now }
 {
     if has_swapped(other.pending, pending) {
-        return Indices {
-            current: Some(other.next),
-            next: Some(other.next),
-        };
+        return swapped_indices(other.indices());
     }
     other.indices()
 }

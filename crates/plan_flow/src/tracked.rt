@@ -1,14 +1,13 @@
 //! A flow of which it is known where its configurations are in a table.
 
-ghost use Rattle.std.specs.Prelude.{◌≡◌, ◌↔◌, ◌<◌, ◌&&◌, ℕ, List, length, true, false, IsTrue, IsOk, OnOk, IfErr};
+ghost use Rattle.std.specs.Prelude.{◌≡◌, ◌↔◌, ◌<◌, ◌&&◌, ℕ, List, length, None, true, false, if◌then◌else◌, IsTrue, IsOk, OnOk, IfErr};
 ghost use Rattle.mux_config.specs.Configuration.{Configuration};
 ghost use Rattle.plan_code.specs.declared.flags.Counters.{Counters};
 ghost use Rattle.plan_flow.specs.Rules.{IsFine};
 ghost use Rattle.plan_flow.specs.Causes.{FlowRefused};
-ghost use Rattle.plan_code.specs.declared.plan.Plan.{Plan};
 ghost use Rattle.plan_flow.specs.Flows.{held, known_at, known_with, after_instr, merged, FitsFlow, HasItsCounter};
-ghost use Rattle.plan_flow.specs.Tests.{unless, flow_cause, fits_swap, is_same};
-ghost use Rattle.plan_flow.specs.Indexed.{configuration_at, flow_at, AreAt, IsAt, IsTracked, IsWithin};
+ghost use Rattle.plan_flow.specs.Tests.{unless, flow_cause, fits_swap, is_idle, is_same};
+ghost use Rattle.plan_flow.specs.Indexed.{configuration_at, flow_at, IsAt, IsTracked, IsWithin, indices_of, indices_after, fit_indices};
 
 use crate::cause::Cause;
 use crate::fitting::{Condition, needed, widest};
@@ -53,20 +52,11 @@ fn put<S: Store>(table: &[Config], index: usize, known: Option<usize>, store: &m
     }
 }
 
-/// Updates the indices after an instruction that changed the swap from `before` to that of the flow.
-fn note_instr<S: Store>(instr: Instr, before: Swap, tracked: &mut TrackedFlow<S>)
-    ensures flow { tracked.new.flow ≡ tracked.old.flow }
-    ensures tracked { (plan : Plan) (table : List Configuration) (t : Flow Configuration) → before
-        ≡ t.pending → held S.content tracked.old.flow ≡ after_instr plan instr t
-        → AreAt table tracked.old.indices t → IsTracked S.content table tracked.new }
-{
-    tracked.indices = indices_after(instr, before, tracked.flow.pending, tracked.indices);
-}
-
 impl<S: Store> TrackedFlow<S> {
     /// A flow of which no index is known.
     pub fn new(flow: Flow<S>) -> TrackedFlow<S>
         ensures flow { result.flow ≡ flow }
+        ensures indices { result.indices ≡ record { current = None; next = None } }
         ensures tracked { (table : List Configuration) → IsTracked S.content table result }
     {
         TrackedFlow {
@@ -95,13 +85,15 @@ impl<S: Store> TrackedFlow<S> {
             ≡ held S.content self.old.flow) }
         ensures cause { result ≡ unless (flow_cause plan.now instr (known_at
             (held S.content self.old.flow))) }
+        ensures indices { OnOk result (self.new.indices ≡ indices_after instr
+            self.old.flow.pending self.new.flow.pending self.old.indices) }
         ensures tracked { (table : List Configuration) → IsTracked S.content table self.old
             → IsTracked S.content table self.new }
     {
         let before = self.flow.pending;
         let passed = instr;
         self.flow.apply(plan, instr)?;
-        note_instr(passed, before, self);
+        self.indices = indices_after(passed, before, self.flow.pending, self.indices);
         Ok(())
     }
 
@@ -166,6 +158,7 @@ impl<S: Store> TrackedFlow<S> {
     /// of the other are, except for the current one if the swap may have been made.
     pub fn note_fit(&mut self, other: &IndexedFlow)
         ensures flow { self.new.flow ≡ self.old.flow }
+        ensures indices { self.new.indices ≡ fit_indices self.old.flow.pending other.now }
         ensures tracked { (table : List Configuration) → IsWithin (length table) other.now
             → FitsFlow (held S.content self.old.flow) (flow_at table other.now)
             → IsTracked S.content table self.new }
@@ -178,6 +171,7 @@ impl<S: Store> TrackedFlow<S> {
         requires within { IsWithin (length table.now) other.now }
         requires tracked { IsTracked S.content table.now self.old }
         ensures value { held S.content self.new.flow ≡ flow_at table.now other.now }
+        ensures indices { self.new.indices ≡ indices_of other.now }
         ensures tracked { IsTracked S.content table.now self.new }
     {
         put(
@@ -220,6 +214,8 @@ impl<S: Store> TrackedFlow<S> {
             (flow_at table.now other.now) (merged (held S.content self.old.flow)
             (flow_at table.now other.now))) }
         ensures kept { result ≡ false → self.new ≡ self.old }
+        ensures indices { result ≡ true → self.new.indices ≡ (if is_idle self.old.flow.pending
+            then indices_of other.now else self.old.indices) }
         ensures tracked { IsTracked S.content table.now self.new }
     {
         if !self.agrees(table, other) {

@@ -3,10 +3,13 @@
 use Rattle.std.proofs.Common.{◌≡◌, ℕ, ◌↔◌, Bool, true, false, IsTrue, refl, sym, ap, ◌∙◌, ◌&&◌, length, Option, Some, None, IfSome}
 use Rattle.plan_code.specs.declared.label.Label.{Label}
 use Rattle.plan_code.specs.Program.{Program, IsProgram, IsLabel, label_at}
+use Rattle.plan_flow.specs.declared.indices.IndexedFlow.{IndexedFlow}
 use Rattle.plan_flow.specs.Flows.{FitsFlow, flow_of, known_at}
+use Rattle.plan_flow.specs.Indexed.{flow_at, IsWithin}
 use Rattle.plan_flow.proofs.Finding.{swap_alone}
+use Rattle.plan_verifier.specs.Held.{flow_of_label}
 use Rattle.plan_verifier.specs.Typing.{Known}
-use Rattle.plan_verifier.specs.Walking.{includes, fits_swap, is_fit}
+use Rattle.plan_verifier.specs.Walking.{includes, fits_swap, is_fit, declared_by}
 use Rattle.plan_verifier.proofs.Deciding.{Decides, is_false, decides_fits, decides_fits_swap}
 use Rattle.plan_verifier.proofs.Tabled.{tabled, label_of}
 
@@ -20,10 +23,14 @@ label_within code pc None h e = tt
 label_within code pc (Some label) h e = label_of code h label ((tabled code h).found pc label (sym e)).0
 
 -- what is known of the configurations and the swap fits what the label declares of them
-pub flow_fits : (t declared : Known) → is_fit t declared ≡ true → FitsFlow (flow_of t) (flow_of declared)
+flow_fits : (t declared : Known) → is_fit t declared ≡ true → FitsFlow (flow_of t) (flow_of declared)
 flow_fits t declared e =
     (decides_fits_swap t.pending declared.pending (known_at (flow_of t)) (known_at (flow_of declared))).told
     (swap_alone t.pending declared.pending t declared ∙ (decides_fits_swap t.pending declared.pending t declared).found ((decides_fits t declared).told e).swap)
+
+pub label_fits : (code : Program) (label : Label) (f : IndexedFlow) (t : Known) → f ≡ flow_of_label label → IsLabel (length code.configurations) label → is_fit t (declared_by code label) ≡ true
+    → IsWithin (length code.configurations) f × FitsFlow (flow_of t) (flow_at code.configurations f)
+label_fits code label f t e within fit = rw e ((within.current, within.following), flow_fits t (declared_by code label) fit)
 
 -- fitting a label: the counters, then the configurations and the swap
 pub fit_counters : (a b : Bool) (t declared : Known) → a ≡ includes t.counters declared.counters → a ≡ true → b ≡ fits_swap t.pending declared.pending t declared → b ≡ is_fit t declared

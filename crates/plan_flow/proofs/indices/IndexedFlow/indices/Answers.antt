@@ -3,8 +3,8 @@ use Rattle.plan_flow.specs.Indexed.{configuration_at}
 use Rattle.plan_flow.proofs.Moving.{is_there}
 use Rattle.plan_flow.proofs.indices.IndexedFlow.indices.Goals as goal
 
-pub returns : goal.returns
-returns c = λ table within. (
+pub returns-clause-at : goal.returns-clause-at
+returns-clause-at c = λ table within. (
   is_there table c.args.self.now.current (configuration_at table c.args.self.now.current) within.0 refl,
   is_there table c.args.self.now.next (configuration_at table c.args.self.now.next) within.1 refl,
 )

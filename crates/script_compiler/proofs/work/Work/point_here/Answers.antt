@@ -22,7 +22,7 @@ pub invariant_of-self-2 : goal.invariant_of-self-2
 invariant_of-self-2 c =
     let old = c.self.inside.unpriced.pool in
     let new = c.numbered.new.unpriced.pool in (
-      subst (λ (t : Flow). AreAt new c.indices-self-inside.result t) c.in-Ok.ensures.same (c.indices-self-inside.ensures new c.in-Ok.ensures.within),
+      subst (λ (t : Flow). AreAt new c.indices-self-inside.result t) c.in-Ok.ensures.same (c.indices-self-inside.ensures.at new c.in-Ok.ensures.within),
       all_in_pool old new c.self.inside.saved.items c.numbered.ensures.kept c.self.invariant.1,
     )
 
