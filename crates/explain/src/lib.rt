@@ -2,7 +2,7 @@
 //! involved.
 //!
 //! [`explain_fault`] explains why a text is not a script, [`explain_script`] why a script is not compiled, and
-//! [`explain_code`] why a code is refused. Most facts come from the functions that refuse: `parse` decides what is valid
+//! [`explain_code`] why a code is refused. [`put_warning`] writes a warning about an accepted plan. Most facts come from the functions that refuse: `parse` decides what is valid
 //! at a position, `Flow::apply` is called up to the refused statement, and the longest path is found with `compile`.
 //! Counters and allowances of a code, pages and limits are looked up here.
 #![tactic(auto)]
@@ -42,7 +42,9 @@ mod swap;
 mod trial;
 mod trier;
 mod walk;
+mod warned;
 
 pub use code::explain_code;
 pub use script::explain_script;
 pub use script_fault::explain_fault;
+pub use warned::put_warning;

@@ -1,0 +1,9 @@
+mod Lists
+mod FlawLaws
+mod PrimaryLaws
+mod BeginningLaws
+mod BlockLaws
+mod Known
+mod Changed
+mod Laws
+mod Vectors
