@@ -2,13 +2,17 @@
 
 use crate::compile::{ScriptRefusal, made_of};
 use crate::script_file::{read_script, text_of, whole_characters};
+use console::escaped::Escaped;
 use console::exit::{Failure, Status, create_file};
 use console::files::Files;
 use console::output::Output;
+use explain::put_warning;
 use plan_map::{Layout, Row, Use, draw_map, key_of, layout_of, print_layout, print_map, rows_of};
+use plan_warnings::{Warning, warnings_of};
 use script_front::{Script, Statement};
 use std::alloc::Global;
 use std::io::{self, Write};
+use std::str;
 
 /// The arguments of `map`.
 #[derive(Clone, Copy)]
@@ -21,18 +25,19 @@ pub struct MapRequest<'a> {
     pub layout: bool,
 }
 
-/// The map of a script in text and drawing, and its layout.
+/// The map of a script in text and drawing, its layout, and the warnings about it.
 #[derive(Drop)]
 struct Map {
     eid: u16,
     rows: Vec<Row>,
     key: Vec<Use>,
     layout: Layout,
+    warnings: Vec<Warning>,
 }
 
 /// Runs `map`: writes the drawing, if requested, and prints the map of the script, or its layout if that is requested;
 /// or prints why the script is refused, as `compile` does. The drawing is created after every check that can refuse the
-/// script.
+/// script. Last, it reports the warnings about the script on standard error, a line each.
 pub fn show_map<'a, F: Files, W: Write>(
     alloc: Global,
     request: &MapRequest<'a>,
@@ -49,18 +54,45 @@ pub fn show_map<'a, F: Files, W: Write>(
             return Ok(Status::Refused);
         }
     };
+    let Ok(notes) = notes_of(alloc, request.script, map.warnings.as_slice()) else {
+        return Err(Failure::Memory);
+    };
     if let Some(path) = request.drawing {
         let mut file = create_file(files, path)?;
         if write_drawing(&map, &mut file).is_err() {
             return Err(Failure::Create(path));
         }
     }
-    if request.layout {
+    let status = print_requested(&map, request.layout, out)?;
+    if let Ok(lines) = str::from_utf8(notes.as_slice()) {
+        if !lines.is_empty() {
+            files.report(lines);
+        }
+    }
+    Ok(status)
+}
+
+/// Prints the map, or its layout if that is requested; returns the exit status.
+fn print_requested<W: Write>(map: &Map, layout: bool, out: &mut W) -> io::Result<Status> {
+    if layout {
         print_layout(&map.layout, out)?;
         return Ok(status_of(&map.layout));
     }
     print_map(map.rows.as_slice(), out)?;
     Ok(Status::Done)
+}
+
+/// The lines of warnings about the script of this path. The error is out of memory.
+fn notes_of(alloc: Global, path: &str, warnings: &[Warning]) -> io::Result<Vec<u8>> {
+    let mut notes: Vec<u8> = Vec::new(alloc);
+    let path = Escaped::in_line(path).to_string(alloc)?;
+    for warning in warnings {
+        if !notes.is_empty() {
+            notes.write_all(b"\n")?;
+        }
+        put_warning(alloc, path.as_str(), warning, &mut notes)?;
+    }
+    Ok(notes)
 }
 
 /// The exit status for a layout: `Refused` where there is none.
@@ -80,11 +112,13 @@ fn map_of(alloc: Global, text: &str) -> Result<Map, ScriptRefusal> {
     }
     let key = key_of(alloc, rows.as_slice())?;
     let layout = layout_of(alloc, rows.as_slice())?;
+    let warnings = warnings_of(alloc, &script, &code)?;
     Ok(Map {
         eid: code.plan().eid,
         rows,
         key,
         layout,
+        warnings,
     })
 }
 

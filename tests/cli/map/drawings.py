@@ -138,6 +138,11 @@ def parts_are_marked(rows):
     rows.tally.hold(all(len(line) <= 80 for line in ended.printed.decode().splitlines()), "no line has more than 80 columns")
 
 
+def unnamed(*subs):
+    """The warnings about sub-channels without components, from pairs of a line and a SubChId."""
+    return "".join(f"x.plan:{line}: warning: no component names sub {sub}\n" for line, sub in subs)
+
+
 def layouts(rows):
     """The one layout of all configurations, or what is against it."""
     rows.answers("map x.plan --layout", 1, "no one layout: sub 1 at 0 size 96 eep 3-A and at 0 size 72 eep 3-A\n", {"x.plan": RATES})
@@ -146,9 +151,11 @@ def layouts(rows):
     head = "ensemble E1C5\nperiod 4 notice 24 budget 20\nsub 5 at 96 eep 4-A 64\nsub 7 at 400 eep 3-B 32\nbegin\n"
     once = head + "drop sub 7\nsub 1 at 0 eep 3-A 128\ncommit in 24\njoin\ndrop sub 5\nsub 63 at 128 eep 2-A 8\ncommit in 24\njoin\n"
     lines = "sub 1 at 0 size 96 eep 3-A\nsub 5 at 96 size 32 eep 4-A\nsub 7 at 400 size 18 eep 3-B\nsub 63 at 128 size 8 eep 2-A\n"
-    rows.answers("map x.plan --layout", 0, lines, {"x.plan": once})
+    opening = ((5, 5), (5, 7))
+    later = (*opening, (8, 1), (12, 63))
+    rows.answers("map x.plan --layout", 0, lines, {"x.plan": once}, messages=unnamed(*later))
     again = once + "drop sub 1\nsub 7 at 400 eep 3-B 32\ncommit in 24\njoin\nsub 1 at 0 eep 3-A 128\ncommit in 24\n"
-    rows.answers("map x.plan --layout", 0, lines, {"x.plan": again})
+    rows.answers("map x.plan --layout", 0, lines, {"x.plan": again}, messages=unnamed(*later, (16, 7), (19, 1)))
     for edit, wanted in (
         ("sub 5 at 97 eep 4-A 64", "sub 5 at 96 size 32 eep 4-A and at 97 size 32 eep 4-A"),
         ("sub 5 at 96 eep 3-A 64", "sub 5 at 96 size 32 eep 4-A and at 96 size 48 eep 3-A"),
@@ -157,7 +164,9 @@ def layouts(rows):
         ("sub 4 at 417 eep 4-A 8", "sub 4 at 417 size 4 eep 4-A and sub 7 at 400 size 18 eep 3-B"),
     ):
         script = head + f"drop sub 5\ndrop sub 7\n{edit}\ncommit in 24\n"
-        rows.answers("map x.plan --layout", 1, f"no one layout: {wanted}\n", {"x.plan": script})
+        new = int(edit.split()[1])
+        messages = unnamed(*opening, *(((9, new),) if new != 5 else ()))
+        rows.answers("map x.plan --layout", 1, f"no one layout: {wanted}\n", {"x.plan": script}, messages=messages)
     for edit in ("sub 6 at 128 eep 4-A 8", "sub 6 at 92 eep 4-A 8", "sub 4 at 418 eep 4-A 8"):
         script = head + f"drop sub 5\ndrop sub 7\n{edit}\ncommit in 24\n"
         rows.tally.same(edit, 0, rows.run("map x.plan --layout", {"x.plan": script}).status)
