@@ -1,1 +1,7 @@
+pub mod Asked
+pub mod Asking
+pub mod Given
+pub mod Grammar
 pub mod Numbers
+pub mod Program
+pub mod Requests

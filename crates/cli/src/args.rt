@@ -16,6 +16,12 @@ mod shared;
 pub mod start;
 mod verify;
 
+ghost use Rattle.std.specs.Prelude.{◌≡◌, IfOk, List, ℕ, map};
+ghost use Rattle.cli.specs.Asked.{IsAsked};
+ghost use Rattle.cli.specs.Grammar.{Describes};
+ghost use Rattle.cli.specs.Program.{dabplan};
+ghost use Rattle.cli.specs.Asking.{AsksBy, AsksFramesBy, IsFound};
+
 use crate::args::parser::{Grammar, Parsed};
 use cli_plans::debug::DebugRequest;
 use cli_plans::live::LiveRequest;
@@ -118,10 +124,9 @@ impl From<AllocError> for UsageError<'_> {
 
 /// Parses the arguments after the program's name. Those of `live` and `merge` are parsed by [`frames_request_of`], and
 /// are refused here.
-pub fn request_of<'a, S: AsStr>(
-    alloc: Global,
-    args: &'a [S],
-) -> Result<Request<'a>, UsageError<'a>> {
+pub fn request_of<'a, S: AsStr>(alloc: Global, args: &'a [S]) -> Result<Request<'a>, UsageError<'a>>
+    ensures { IfOk result (AsksBy (map S.text args.now)) }
+{
     let parsed = parse(alloc, args)?;
     match parsed.command() {
         Some(("frame", values)) => frame::request(&values),
@@ -141,7 +146,9 @@ pub fn request_of<'a, S: AsStr>(
 pub fn frames_request_of<'a, S: AsStr>(
     alloc: Global,
     args: &'a [S],
-) -> Result<FramesRequest<'a>, UsageError<'a>> {
+) -> Result<FramesRequest<'a>, UsageError<'a>>
+    ensures { IfOk result (AsksFramesBy (map S.text args.now)) }
+{
     let parsed = parse(alloc, args)?;
     match parsed.command() {
         Some(("live", values)) => Ok(FramesRequest::Live(live::request(&values)?)),
@@ -151,7 +158,9 @@ pub fn frames_request_of<'a, S: AsStr>(
 }
 
 /// Parses a command line. A mistake shows the control bytes of arguments as `\xHH`.
-fn parse<'a, S: AsStr>(alloc: Global, args: &'a [S]) -> Result<Parsed<'a>, UsageError<'a>> {
+fn parse<'a, S: AsStr>(alloc: Global, args: &'a [S]) -> Result<Parsed<'a>, UsageError<'a>>
+    ensures { IfOk result (λ p. IsFound (map S.text args.now) p.matches) }
+{
     match program(alloc)?.parsed(args) {
         Ok(parsed) => Ok(parsed),
         Err(UsageError::Mistake(message)) => Err(UsageError::Mistake(shown(alloc, args, message)?)),
@@ -181,7 +190,9 @@ fn has_control(text: &str) -> bool {
 }
 
 /// The program's commands.
-fn program<'a>(alloc: Global) -> Result<Grammar<'a>, AllocError> {
+fn program<'a>(alloc: Global) -> Result<Grammar<'a>, AllocError>
+    ensures { IfOk result (λ g. Describes g.command dabplan) }
+{
     Grammar::of_program(
         alloc,
         "dabplan",

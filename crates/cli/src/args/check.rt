@@ -1,5 +1,11 @@
 //! The command line of `check`.
 
+ghost use Rattle.std.specs.Prelude.{◌≡◌, IfOk, codes, pos, None, Some};
+ghost use Rattle.cli.specs.Given.{rows_in};
+ghost use Rattle.cli.specs.Grammar.{Describes, number, rule_for, text};
+ghost use Rattle.cli.specs.Program.{only, check};
+ghost use Rattle.cli.specs.Requests.{Asks, HasOptionalTime};
+
 use crate::args::parser::{Argument, Grammar, Kind, Page, Rule, Values};
 use crate::args::shared::{file, flag, mode, mode_of, number};
 use crate::args::start::second_at;
@@ -93,7 +99,9 @@ Exit status:
   3  there is a fault";
 
 /// The command `check`.
-pub(crate) fn grammar<'a>(alloc: Global) -> Result<Grammar<'a>, AllocError> {
+pub(crate) fn grammar<'a>(alloc: Global) -> Result<Grammar<'a>, AllocError>
+    ensures { IfOk result (λ g. Describes g.command (only check)) }
+{
     let file_help = "The file of FIBs, or '-' for standard input";
     let until_help = "Ends with the first frame that has a fault, with status 3";
     let json_help = "Prints each line as a JSON object";
@@ -108,19 +116,25 @@ pub(crate) fn grammar<'a>(alloc: Global) -> Result<Grammar<'a>, AllocError> {
 }
 
 /// The option for the period.
-fn period() -> Argument {
+fn period() -> Argument
+    ensures { rule_for result ≡ number (codes "period") (pos 1) (pos 60000) (Some (codes "250")) }
+{
     let help = "Every entry must come at least once in this many frames of 24 ms, 1 to 60000";
     number("period", "N", 1, 60000, Some("250"), help)
 }
 
 /// The option for totals so far.
-fn every() -> Argument {
+fn every() -> Argument
+    ensures { rule_for result ≡ number (codes "every") (pos 1) (pos 4294967295) None }
+{
     let help = "Prints the totals so far after every N frames, 1 to 4294967295";
     number("every", "N", 1, 4294967295, None, help)
 }
 
 /// The option for the time of day.
-fn time() -> Argument {
+fn time() -> Argument
+    ensures { rule_for result ≡ text (codes "time") None }
+{
     Argument {
         name: "time",
         value_name: "HH:MM:SS",
@@ -131,10 +145,14 @@ fn time() -> Argument {
 }
 
 /// Reads the arguments of `check`.
-pub(crate) fn request<'a>(values: &Values<'_, 'a>) -> Result<Request<'a>, UsageError<'a>> {
+pub(crate) fn request<'a>(values: &Values<'_, 'a>) -> Result<Request<'a>, UsageError<'a>>
+    ensures { IfOk result (Asks (codes "check") (rows_in values.now)) }
+{
     let file = values.some_text("file")?;
     let mode = mode_of(values.some_number("mode")?).ok_or(UsageError::Nothing)?;
     let period = values.some_u16("period")?;
+    let is_json = values.flag("json");
+    let start = start_of(values)?;
     Ok(Request::Check(CheckRequest {
         file,
         options: CheckOptions {
@@ -142,16 +160,15 @@ pub(crate) fn request<'a>(values: &Values<'_, 'a>) -> Result<Request<'a>, UsageE
             period,
             every: values.number("every"),
             until_fault: values.flag("until-fault"),
-            form: Form {
-                is_json: values.flag("json"),
-                start: start_of(values)?,
-            },
+            form: Form { is_json, start },
         },
     }))
 }
 
 /// The second of the day of frame 0.
-fn start_of<'a>(values: &Values<'_, 'a>) -> Result<Option<u32>, UsageError<'a>> {
+fn start_of<'a>(values: &Values<'_, 'a>) -> Result<Option<u32>, UsageError<'a>>
+    ensures { IfOk result (HasOptionalTime (rows_in values.now)) }
+{
     match values.text("time") {
         Some(text) => match second_at(text) {
             Some(second) => Ok(Some(second)),

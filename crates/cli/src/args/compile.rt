@@ -1,5 +1,11 @@
 //! The command line of `compile`.
 
+ghost use Rattle.std.specs.Prelude.{IfOk, codes};
+ghost use Rattle.cli.specs.Given.{rows_in};
+ghost use Rattle.cli.specs.Grammar.{Describes};
+ghost use Rattle.cli.specs.Program.{only, compile};
+ghost use Rattle.cli.specs.Requests.{Asks};
+
 use crate::args::parser::{Grammar, Page, Values};
 use crate::args::shared::{check_output, explain, file};
 use crate::args::{Request, UsageError};
@@ -78,7 +84,9 @@ Exit status:
   2  the command line is wrong";
 
 /// The command `compile`.
-pub(crate) fn grammar<'a>(alloc: Global) -> Result<Grammar<'a>, AllocError> {
+pub(crate) fn grammar<'a>(alloc: Global) -> Result<Grammar<'a>, AllocError>
+    ensures { IfOk result (λ g. Describes g.command (only compile)) }
+{
     Grammar::of_command(alloc, PAGE)
         .argument(file("script", "SCRIPT", "The script"))?
         .argument(file("out", "OUT", "The code file to write"))?
@@ -86,7 +94,9 @@ pub(crate) fn grammar<'a>(alloc: Global) -> Result<Grammar<'a>, AllocError> {
 }
 
 /// Reads the arguments of `compile`.
-pub(crate) fn request<'a>(values: &Values<'_, 'a>) -> Result<Request<'a>, UsageError<'a>> {
+pub(crate) fn request<'a>(values: &Values<'_, 'a>) -> Result<Request<'a>, UsageError<'a>>
+    ensures { IfOk result (Asks (codes "compile") (rows_in values.now)) }
+{
     let script = values.some_text("script")?;
     let out = values.some_text("out")?;
     check_output("OUT", out, "SCRIPT", script)?;

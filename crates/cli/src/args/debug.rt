@@ -1,5 +1,11 @@
 //! The command line of `debug`.
 
+ghost use Rattle.std.specs.Prelude.{IfOk, codes};
+ghost use Rattle.cli.specs.Given.{rows_in};
+ghost use Rattle.cli.specs.Grammar.{Describes};
+ghost use Rattle.cli.specs.Program.{only, debug};
+ghost use Rattle.cli.specs.Requests.{Asks};
+
 use crate::args::parser::{Grammar, Page, Values};
 use crate::args::shared::file;
 use crate::args::start::{contacts, count, day, start_options, time};
@@ -67,7 +73,9 @@ Exit status:
   2  the command line is wrong";
 
 /// The command `debug`.
-pub(crate) fn grammar<'a>(alloc: Global) -> Result<Grammar<'a>, AllocError> {
+pub(crate) fn grammar<'a>(alloc: Global) -> Result<Grammar<'a>, AllocError>
+    ensures { IfOk result (λ g. Describes g.command (only debug)) }
+{
     Grammar::of_command(alloc, PAGE)
         .argument(file("code", "CODE", "The code file"))?
         .argument(file("commands", "COMMANDS", "The command file"))?
@@ -78,7 +86,9 @@ pub(crate) fn grammar<'a>(alloc: Global) -> Result<Grammar<'a>, AllocError> {
 }
 
 /// Reads the arguments of `debug`.
-pub(crate) fn request<'a>(values: &Values<'_, 'a>) -> Result<Request<'a>, UsageError<'a>> {
+pub(crate) fn request<'a>(values: &Values<'_, 'a>) -> Result<Request<'a>, UsageError<'a>>
+    ensures { IfOk result (Asks (codes "debug") (rows_in values.now)) }
+{
     let start = start_options(values)?;
     Ok(Request::Debug(DebugRequest {
         code: values.some_text("code")?,

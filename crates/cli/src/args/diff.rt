@@ -1,5 +1,11 @@
 //! The command line of `diff`.
 
+ghost use Rattle.std.specs.Prelude.{IfOk, codes};
+ghost use Rattle.cli.specs.Given.{rows_in};
+ghost use Rattle.cli.specs.Grammar.{Describes};
+ghost use Rattle.cli.specs.Program.{only, diff};
+ghost use Rattle.cli.specs.Requests.{Asks};
+
 use crate::args::parser::{Grammar, Page, Values};
 use crate::args::shared::file;
 use crate::args::{Request, UsageError};
@@ -53,7 +59,9 @@ Exit status:
   2  the command line is wrong";
 
 /// The command `diff`.
-pub(crate) fn grammar<'a>(alloc: Global) -> Result<Grammar<'a>, AllocError> {
+pub(crate) fn grammar<'a>(alloc: Global) -> Result<Grammar<'a>, AllocError>
+    ensures { IfOk result (λ g. Describes g.command (only diff)) }
+{
     Grammar::of_command(alloc, PAGE)
         .argument(file(
             "from",
@@ -64,7 +72,9 @@ pub(crate) fn grammar<'a>(alloc: Global) -> Result<Grammar<'a>, AllocError> {
 }
 
 /// Reads the arguments of `diff`.
-pub(crate) fn request<'a>(values: &Values<'_, 'a>) -> Result<Request<'a>, UsageError<'a>> {
+pub(crate) fn request<'a>(values: &Values<'_, 'a>) -> Result<Request<'a>, UsageError<'a>>
+    ensures { IfOk result (Asks (codes "diff") (rows_in values.now)) }
+{
     let from = values.some_text("from")?;
     let to = values.some_text("to")?;
     Ok(Request::Diff(DiffRequest { from, to }))

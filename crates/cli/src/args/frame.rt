@@ -1,5 +1,11 @@
 //! The command line of `frame`, for a record or a script.
 
+ghost use Rattle.std.specs.Prelude.{◌≡◌, IfOk, codes, true, pos, None};
+ghost use Rattle.cli.specs.Given.{HasFlag, rows_in};
+ghost use Rattle.cli.specs.Grammar.{Describes, bound, flag, number, required, rule_for, text};
+ghost use Rattle.cli.specs.Program.{only, frame};
+ghost use Rattle.cli.specs.Requests.{Asks};
+
 use crate::args::parser::{Argument, Grammar, Kind, Page, Rule, Values};
 use crate::args::shared::{file, flag, layout_of, mode, number, reserve, with_rule};
 use crate::args::{Request, UsageError};
@@ -77,7 +83,9 @@ Exit status:
   2  the command line is wrong";
 
 /// The command `frame`.
-pub(crate) fn grammar<'a>(alloc: Global) -> Result<Grammar<'a>, AllocError> {
+pub(crate) fn grammar<'a>(alloc: Global) -> Result<Grammar<'a>, AllocError>
+    ensures { IfOk result (λ g. Describes g.command (only frame)) }
+{
     let config_help = "The configuration record or script: a file, or '-' for standard input";
     let page_help = "Which frame of a configuration that needs more than one, from 0";
     Grammar::of_command(alloc, PAGE)
@@ -92,7 +100,9 @@ pub(crate) fn grammar<'a>(alloc: Global) -> Result<Grammar<'a>, AllocError> {
 }
 
 /// The ensemble identifier; a script has its own.
-fn ensemble() -> Argument {
+fn ensemble() -> Argument
+    ensures { rule_for result ≡ bound (text (codes "ensemble") None) }
+{
     Argument {
         name: "ensemble",
         value_name: "HHHH",
@@ -103,23 +113,29 @@ fn ensemble() -> Argument {
 }
 
 /// The CIF count of the frame.
-fn count() -> Argument {
+fn count() -> Argument
+    ensures { rule_for result ≡ required (number (codes "count") (pos 0) (pos 4999) None) }
+{
     let help = "The CIF count of the frame, 0 to 4999; decides whether FIG 0/0 is in the frame";
     with_rule(number("count", "N", 0, 4999, None, help), Rule::Required)
 }
 
 /// The option that reads a script rather than a record.
-fn script() -> Argument {
+fn script() -> Argument
+    ensures { rule_for result ≡ bound (flag (codes "script")) }
+{
     let help = "CONFIG is a script, which also gives the ensemble and the mode";
     with_rule(flag("script", help), Rule::ExcludesBoth("ensemble", "mode"))
 }
 
 /// Reads the arguments of `frame`.
-pub(crate) fn request<'a>(values: &Values<'_, 'a>) -> Result<Request<'a>, UsageError<'a>> {
+pub(crate) fn request<'a>(values: &Values<'_, 'a>) -> Result<Request<'a>, UsageError<'a>>
+    ensures { IfOk result (Asks (codes "frame") (rows_in values.now)) }
+{
     if values.flag("script") {
         return script_request(values);
     }
-    let digits = values.text("ensemble").unwrap_or("");
+    let digits = values.some_text("ensemble")?;
     let Some(eid) = u16_of(digits) else {
         return Err(UsageError::Digits {
             option: "--ensemble <HHHH>",
@@ -141,7 +157,10 @@ pub(crate) fn request<'a>(values: &Values<'_, 'a>) -> Result<Request<'a>, UsageE
 }
 
 /// Reads the arguments of `frame --script`.
-fn script_request<'a>(values: &Values<'_, 'a>) -> Result<Request<'a>, UsageError<'a>> {
+fn script_request<'a>(values: &Values<'_, 'a>) -> Result<Request<'a>, UsageError<'a>>
+    requires { HasFlag (rows_in values.now) (codes "script") true }
+    ensures { IfOk result (Asks (codes "frame") (rows_in values.now)) }
+{
     Ok(Request::FrameScript(FrameScriptRequest {
         script: values.some_text("config")?,
         count: values.some_u16("count")?,

@@ -1,5 +1,11 @@
 //! The command line of `listen`, whose result is a listing or a script.
 
+ghost use Rattle.std.specs.Prelude.{◌≡◌, IfOk, codes, true, pos, None, Some};
+ghost use Rattle.cli.specs.Given.{HasFlag, rows_in};
+ghost use Rattle.cli.specs.Grammar.{Describes, bound, number, rule_for};
+ghost use Rattle.cli.specs.Program.{listen, mode, only};
+ghost use Rattle.cli.specs.Requests.{Asks};
+
 use crate::args::parser::{Argument, Grammar, Page, Rule, Values};
 use crate::args::shared::{file, flag, layout_of, number, reserve, with_rule};
 use crate::args::{Request, UsageError};
@@ -72,7 +78,9 @@ Exit status:
   2  the command line is wrong";
 
 /// The command `listen`.
-pub(crate) fn grammar<'a>(alloc: Global) -> Result<Grammar<'a>, AllocError> {
+pub(crate) fn grammar<'a>(alloc: Global) -> Result<Grammar<'a>, AllocError>
+    ensures { IfOk result (λ g. Describes g.command (only listen)) }
+{
     let file_help = "The file of FIBs, or '-' for standard input";
     let json_help = "Prints one object of JSON instead of lines";
     let script_help = "Prints the current configuration as a script";
@@ -88,7 +96,9 @@ pub(crate) fn grammar<'a>(alloc: Global) -> Result<Grammar<'a>, AllocError> {
 }
 
 /// The transmission mode of the printed script.
-fn mode() -> Argument {
+fn mode() -> Argument
+    ensures { rule_for result ≡ bound mode }
+{
     let help = "The transmission mode of the script, 1 to 4, which FIBs do not carry";
     with_rule(
         number("mode", "M", 1, 4, Some("1"), help),
@@ -97,7 +107,9 @@ fn mode() -> Argument {
 }
 
 /// The period of the printed script.
-fn period() -> Argument {
+fn period() -> Argument
+    ensures { rule_for result ≡ bound (number (codes "period") (pos 1) (pos 60) None) }
+{
     let help =
         "The period of the script in frames, 1 to 60 [default: room for two such configurations]";
     with_rule(
@@ -107,7 +119,9 @@ fn period() -> Argument {
 }
 
 /// The notice of the printed script.
-fn notice() -> Argument {
+fn notice() -> Argument
+    ensures { rule_for result ≡ bound (number (codes "notice") (pos 12) (pos 248) (Some (codes "240"))) }
+{
     let help = "The notice of the script in frames, 12 to 248";
     let shortest = i64::from(SHORTEST_NOTICE);
     let longest = i64::from(LONGEST_NOTICE);
@@ -118,7 +132,9 @@ fn notice() -> Argument {
 }
 
 /// The budget of the printed script.
-fn budget() -> Argument {
+fn budget() -> Argument
+    ensures { rule_for result ≡ bound (number (codes "budget") (pos 1) (pos 255) (Some (codes "20"))) }
+{
     let help = "The budget of the script in instructions per frame, 1 to 255";
     with_rule(
         number("budget", "B", 1, 255, Some("20"), help),
@@ -127,7 +143,9 @@ fn budget() -> Argument {
 }
 
 /// Reads the arguments of `listen`.
-pub(crate) fn request<'a>(values: &Values<'_, 'a>) -> Result<Request<'a>, UsageError<'a>> {
+pub(crate) fn request<'a>(values: &Values<'_, 'a>) -> Result<Request<'a>, UsageError<'a>>
+    ensures { IfOk result (Asks (codes "listen") (rows_in values.now)) }
+{
     if values.flag("script") {
         return script_request(values);
     }
@@ -138,7 +156,10 @@ pub(crate) fn request<'a>(values: &Values<'_, 'a>) -> Result<Request<'a>, UsageE
 }
 
 /// Reads the arguments of `listen --script`.
-fn script_request<'a>(values: &Values<'_, 'a>) -> Result<Request<'a>, UsageError<'a>> {
+fn script_request<'a>(values: &Values<'_, 'a>) -> Result<Request<'a>, UsageError<'a>>
+    requires { HasFlag (rows_in values.now) (codes "script") true }
+    ensures { IfOk result (Asks (codes "listen") (rows_in values.now)) }
+{
     let file = values.some_text("file")?;
     let layout = layout_of(values)?;
     let period = match values.number("period") {

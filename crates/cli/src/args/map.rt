@@ -1,5 +1,11 @@
 //! The command line of `map`.
 
+ghost use Rattle.std.specs.Prelude.{◌≡◌, IfOk, codes, None};
+ghost use Rattle.cli.specs.Given.{rows_in};
+ghost use Rattle.cli.specs.Grammar.{Describes, rule_for, text};
+ghost use Rattle.cli.specs.Program.{only, map};
+ghost use Rattle.cli.specs.Requests.{Asks};
+
 use crate::args::parser::{Argument, Grammar, Kind, Page, Rule, Values};
 use crate::args::shared::{file, flag};
 use crate::args::{Request, UsageError};
@@ -66,7 +72,9 @@ Exit status:
   2  the command line is wrong";
 
 /// The command `map`.
-pub(crate) fn grammar<'a>(alloc: Global) -> Result<Grammar<'a>, AllocError> {
+pub(crate) fn grammar<'a>(alloc: Global) -> Result<Grammar<'a>, AllocError>
+    ensures { IfOk result (λ g. Describes g.command (only map)) }
+{
     Grammar::of_command(alloc, PAGE)
         .argument(file("script", "SCRIPT", "The script"))?
         .argument(drawing())?
@@ -77,7 +85,9 @@ pub(crate) fn grammar<'a>(alloc: Global) -> Result<Grammar<'a>, AllocError> {
 }
 
 /// The option for the drawing.
-fn drawing() -> Argument {
+fn drawing() -> Argument
+    ensures { rule_for result ≡ text (codes "svg") None }
+{
     Argument {
         name: "svg",
         value_name: "OUT",
@@ -88,7 +98,9 @@ fn drawing() -> Argument {
 }
 
 /// Reads the arguments of `map`.
-pub(crate) fn request<'a>(values: &Values<'_, 'a>) -> Result<Request<'a>, UsageError<'a>> {
+pub(crate) fn request<'a>(values: &Values<'_, 'a>) -> Result<Request<'a>, UsageError<'a>>
+    ensures { IfOk result (Asks (codes "map") (rows_in values.now)) }
+{
     let script = values.some_text("script")?;
     let drawing = values.text("svg");
     if let Some(path) = drawing {

@@ -1,5 +1,11 @@
 //! The command line of `merge`.
 
+ghost use Rattle.std.specs.Prelude.{IfOk};
+ghost use Rattle.cli.specs.Given.{rows_in};
+ghost use Rattle.cli.specs.Grammar.{Describes};
+ghost use Rattle.cli.specs.Program.{only, merge};
+ghost use Rattle.cli.specs.Requests.{AsksMerge};
+
 use crate::args::UsageError;
 use crate::args::parser::{Grammar, Page, Values};
 use crate::args::shared::{file, mode, mode_of};
@@ -57,7 +63,9 @@ Exit status:
   2  the command line is wrong";
 
 /// The command `merge`.
-pub(crate) fn grammar<'a>(alloc: Global) -> Result<Grammar<'a>, AllocError> {
+pub(crate) fn grammar<'a>(alloc: Global) -> Result<Grammar<'a>, AllocError>
+    ensures { IfOk result (λ g. Describes g.command (only merge)) }
+{
     let plan_help = "The file of the plan's frames, or '-' for standard input";
     let other_help = "The file of the multiplexer's frames, or '-' for standard input";
     Grammar::of_command(alloc, PAGE)
@@ -67,7 +75,9 @@ pub(crate) fn grammar<'a>(alloc: Global) -> Result<Grammar<'a>, AllocError> {
 }
 
 /// Reads the arguments of `merge`.
-pub(crate) fn request<'a>(values: &Values<'_, 'a>) -> Result<MergeRequest<'a>, UsageError<'a>> {
+pub(crate) fn request<'a>(values: &Values<'_, 'a>) -> Result<MergeRequest<'a>, UsageError<'a>>
+    ensures { IfOk result (AsksMerge (rows_in values.now)) }
+{
     let plan = values.some_text("plan")?;
     let other = values.some_text("other")?;
     if plan == "-" && other == "-" {

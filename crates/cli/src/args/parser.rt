@@ -1,6 +1,14 @@
 //! The command-line grammar and its parsed values. Only this file names the kit's parser, `clap`.
 
+ghost use Rattle.std.specs.Prelude.{◌≡◌, IfOk, List, ℕ, map, option_map, false, true};
+ghost use Rattle.clap.specs.Words.{App, Rule as RuleOf, rule_of, new_app, with_rule};
+ghost use Rattle.clap.specs.Words.{HasMatchesOf, with_subcommand};
+ghost use Rattle.cli.specs.Asked.{IsAsked, IsHelpWord};
+ghost use Rattle.cli.specs.Grammar.{Describes, dependent, new_program, parser_between};
+ghost use Rattle.cli.specs.Grammar.{plain_rule, rule_for, with_default};
+
 use crate::args::UsageError;
+use clap::builder::ValueParser;
 use clap::error::ErrorKind;
 use clap::{Arg, ArgAction, ArgMatches, Command, value_parser};
 use std::alloc::{AllocError, Global};
@@ -84,7 +92,9 @@ impl<'a> Grammar<'a> {
         about: &'static str,
         after: &'static str,
         usage: &'static str,
-    ) -> Self {
+    ) -> Self
+        ensures { Describes result.command (new_program name.now) }
+    {
         let command = Command::new(alloc, name)
             .no_binary_name(true)
             .version(version)
@@ -95,7 +105,9 @@ impl<'a> Grammar<'a> {
     }
 
     /// The grammar of a command, before its arguments are added.
-    pub fn of_command(alloc: Global, page: Page) -> Self {
+    pub fn of_command(alloc: Global, page: Page) -> Self
+        ensures { Describes result.command (new_app page.name.now) }
+    {
         let command = Command::new(alloc, page.name)
             .about(page.about)
             .long_about(page.long_about)
@@ -105,14 +117,20 @@ impl<'a> Grammar<'a> {
     }
 
     /// Adds a command.
-    pub fn command(self, other: Grammar<'a>) -> Result<Self, AllocError> {
+    pub fn command(self, other: Grammar<'a>) -> Result<Self, AllocError>
+        ensures { IfOk result (λ g. (a b : App) → Describes self.entry.command a
+            → Describes other.entry.command b → Describes g.command (with_subcommand a b.top)) }
+    {
         let alloc = self.alloc;
         let command = self.command.subcommand(other.command)?;
         Ok(Grammar { alloc, command })
     }
 
     /// Adds an argument.
-    pub fn argument(self, argument: Argument) -> Result<Self, AllocError> {
+    pub fn argument(self, argument: Argument) -> Result<Self, AllocError>
+        ensures { IfOk result (λ g. (a : App) (r : RuleOf) → Describes self.entry.command a
+            → rule_for argument ≡ r → Describes g.command (with_rule a r)) }
+    {
         let alloc = self.alloc;
         let arg = with_rule(arg_of(alloc, argument), argument.rule)?;
         let command = self.command.arg(arg)?;
@@ -120,7 +138,11 @@ impl<'a> Grammar<'a> {
     }
 
     /// Parses a command line. Help on `help` is help: `help -h` and `help help` are `help`.
-    pub fn parsed<S: AsStr>(self, args: &'a [S]) -> Result<Parsed<'a>, UsageError<'a>> {
+    pub fn parsed<S: AsStr>(self, args: &'a [S]) -> Result<Parsed<'a>, UsageError<'a>>
+        ensures { IfOk result (λ p. (a : App) → Describes self.entry.command a
+            → (asked : List (List ℕ)) × IsAsked (map S.text args.entry.now) asked
+            × HasMatchesOf a asked p.matches) }
+    {
         let matches = self
             .command
             .try_get_matches_from(without_help_of_help(args))?;
@@ -129,7 +151,9 @@ impl<'a> Grammar<'a> {
 }
 
 /// The arguments without the last one, where it asks for help after `help`.
-fn without_help_of_help<S: AsStr>(args: &[S]) -> &[S] {
+fn without_help_of_help<S: AsStr>(args: &[S]) -> &[S]
+    ensures { IsAsked (map S.text args.now) (map S.text result.now) }
+{
     let Some((last, rest)) = args.split_last() else {
         return args;
     };
@@ -144,12 +168,17 @@ fn without_help_of_help<S: AsStr>(args: &[S]) -> &[S] {
 }
 
 /// Whether this argument asks for help.
-fn asks_for_help(arg: &str) -> bool {
+fn asks_for_help(arg: &str) -> bool
+    ensures { result ≡ true → IsHelpWord arg.now }
+{
     matches!(arg, "help" | "-h" | "--help")
 }
 
 /// An argument, without its dependence on others.
-fn arg_of<'a>(alloc: Global, argument: Argument) -> Arg<'a> {
+fn arg_of<'a>(alloc: Global, argument: Argument) -> Arg<'a>
+    ensures rule { rule_of result ≡ plain_rule argument.name.now argument.kind }
+    ensures local { result.global ≡ false }
+{
     let arg = Arg::new(alloc, argument.name).help(argument.help);
     match argument.kind {
         Kind::Operand => arg.value_name(argument.value_name).required(true),
@@ -160,17 +189,22 @@ fn arg_of<'a>(alloc: Global, argument: Argument) -> Arg<'a> {
         }
         Kind::Number(lowest, highest, default) => {
             let arg = arg.long(argument.name).value_name(argument.value_name);
-            let parser = value_parser!(u32).range(lowest..=highest);
-            with_default(
-                arg.allow_negative_numbers(true).value_parser(parser),
-                default,
-            )
+            with_default(arg.value_parser(between(lowest, highest)), default)
         }
     }
 }
 
+/// What a number from the lowest to the highest has to be.
+fn between<'a>(lowest: i64, highest: i64) -> ValueParser<'a>
+    ensures { result ≡ parser_between lowest highest }
+{
+    value_parser!(u32).range(lowest..=highest)
+}
+
 /// Adds a default value.
-fn with_default<'a>(arg: Arg<'a>, default: Option<&'static str>) -> Arg<'a> {
+fn with_default<'a>(arg: Arg<'a>, default: Option<&'static str>) -> Arg<'a>
+    ensures { result ≡ with_default arg.entry default.entry }
+{
     match default {
         Some(default) => arg.default_value(default),
         None => arg,
@@ -178,7 +212,10 @@ fn with_default<'a>(arg: Arg<'a>, default: Option<&'static str>) -> Arg<'a> {
 }
 
 /// Adds the dependence on other arguments.
-fn with_rule<'a>(arg: Arg<'a>, rule: Rule) -> Result<Arg<'a>, AllocError> {
+fn with_rule<'a>(arg: Arg<'a>, rule: Rule) -> Result<Arg<'a>, AllocError>
+    ensures rule { IfOk result (λ a. rule_of a ≡ dependent rule (rule_of arg.entry)) }
+    ensures local { IfOk result (λ a. a.global ≡ arg.entry.global) }
+{
     match rule {
         Rule::Free => Ok(arg),
         Rule::Required => Ok(arg.required(true)),
@@ -196,8 +233,14 @@ pub(crate) struct Parsed<'a> {
 }
 
 impl<'a> Parsed<'a> {
+    ghost use Rattle.clap.specs.Words.{subcommand_rows_of};
+    ghost use Rattle.cli.specs.Given.{rows_in};
+
     /// Its command, with the values of the arguments; `None` if it names none.
-    pub fn command(&self) -> Option<(&'a str, Values<'_, 'a>)> {
+    pub fn command(&self) -> Option<(&'a str, Values<'_, 'a>)>
+        ensures { option_map (λ p. (p.0.now, rows_in p.1)) result
+            ≡ subcommand_rows_of self.now.matches }
+    {
         let (name, matches) = self.matches.subcommand()?;
         Some((name, Values { matches }))
     }
@@ -210,40 +253,69 @@ pub(crate) struct Values<'m, 'a> {
 }
 
 impl<'m, 'a> Values<'m, 'a> {
+    ghost use Rattle.cli.specs.Given.{HasFlag, HasNumber, HasOptionalNumber, rows_in};
+    ghost use Rattle.cli.specs.Given.{HasOptionalText, HasText};
+
     /// The text of an argument; `None` if it has none.
-    pub fn text(&self, name: &'static str) -> Option<&'a str> {
+    pub fn text(&self, name: &'static str) -> Option<&'a str>
+        ensures { HasOptionalText (rows_in self.now) name.now result }
+    {
         self.matches.get_str(name)
     }
 
     /// The text of an argument that is required or has a default.
-    pub fn some_text(&self, name: &'static str) -> Result<&'a str, UsageError<'a>> {
-        self.matches.get_str(name).ok_or(UsageError::Nothing)
+    pub fn some_text(&self, name: &'static str) -> Result<&'a str, UsageError<'a>>
+        ensures { IfOk result (λ text. HasText (rows_in self.now) name.now text.now) }
+    {
+        match self.text(name) {
+            Some(text) => Ok(text),
+            None => Err(UsageError::Nothing),
+        }
     }
 
     /// The number of an argument; `None` if it has none.
-    pub fn number(&self, name: &'static str) -> Option<u32> {
+    pub fn number(&self, name: &'static str) -> Option<u32>
+        ensures { HasOptionalNumber (rows_in self.now) name.now result }
+    {
         self.matches.get_one::<u32>(name)
     }
 
     /// The number of an argument that is required or has a default.
-    pub fn some_number(&self, name: &'static str) -> Result<u32, UsageError<'a>> {
-        self.number(name).ok_or(UsageError::Nothing)
+    pub fn some_number(&self, name: &'static str) -> Result<u32, UsageError<'a>>
+        ensures { IfOk result (HasNumber (rows_in self.now) name.now) }
+    {
+        match self.number(name) {
+            Some(number) => Ok(number),
+            None => Err(UsageError::Nothing),
+        }
     }
 
     /// [`some_number`](Self::some_number), below 65,536.
-    pub fn some_u16(&self, name: &'static str) -> Result<u16, UsageError<'a>> {
+    pub fn some_u16(&self, name: &'static str) -> Result<u16, UsageError<'a>>
+        ensures { IfOk result (HasNumber (rows_in self.now) name.now) }
+    {
         let number = self.some_number(name)?;
-        u16::try_from(number).map_err(|_| UsageError::Nothing)
+        match u16::try_from(number) {
+            Ok(number) => Ok(number),
+            Err(_) => Err(UsageError::Nothing),
+        }
     }
 
     /// [`some_number`](Self::some_number), below 256.
-    pub fn some_u8(&self, name: &'static str) -> Result<u8, UsageError<'a>> {
+    pub fn some_u8(&self, name: &'static str) -> Result<u8, UsageError<'a>>
+        ensures { IfOk result (HasNumber (rows_in self.now) name.now) }
+    {
         let number = self.some_number(name)?;
-        u8::try_from(number).map_err(|_| UsageError::Nothing)
+        match u8::try_from(number) {
+            Ok(number) => Ok(number),
+            Err(_) => Err(UsageError::Nothing),
+        }
     }
 
     /// Whether a flag is present.
-    pub fn flag(&self, name: &'static str) -> bool {
+    pub fn flag(&self, name: &'static str) -> bool
+        ensures { HasFlag (rows_in self.now) name.now result }
+    {
         self.matches.get_flag(name)
     }
 }

@@ -1,5 +1,11 @@
 //! The command line of `play`.
 
+ghost use Rattle.std.specs.Prelude.{IfOk, codes};
+ghost use Rattle.cli.specs.Given.{rows_in};
+ghost use Rattle.cli.specs.Grammar.{Describes};
+ghost use Rattle.cli.specs.Program.{only, play};
+ghost use Rattle.cli.specs.Requests.{Asks};
+
 use crate::args::parser::{Grammar, Page, Values};
 use crate::args::shared::{check_output, file};
 use crate::args::start::{contacts, count, day, start_options, time};
@@ -58,7 +64,9 @@ Exit status:
   2  the command line is wrong";
 
 /// The command `play`.
-pub(crate) fn grammar<'a>(alloc: Global) -> Result<Grammar<'a>, AllocError> {
+pub(crate) fn grammar<'a>(alloc: Global) -> Result<Grammar<'a>, AllocError>
+    ensures { IfOk result (λ g. Describes g.command (only play)) }
+{
     Grammar::of_command(alloc, PAGE)
         .argument(file("code", "CODE", "The code file"))?
         .argument(file("events", "EVENTS", "The event file"))?
@@ -70,7 +78,9 @@ pub(crate) fn grammar<'a>(alloc: Global) -> Result<Grammar<'a>, AllocError> {
 }
 
 /// Reads the arguments of `play`.
-pub(crate) fn request<'a>(values: &Values<'_, 'a>) -> Result<Request<'a>, UsageError<'a>> {
+pub(crate) fn request<'a>(values: &Values<'_, 'a>) -> Result<Request<'a>, UsageError<'a>>
+    ensures { IfOk result (Asks (codes "play") (rows_in values.now)) }
+{
     let start = start_options(values)?;
     let code = values.some_text("code")?;
     let events = values.some_text("events")?;

@@ -1,14 +1,20 @@
 //! Arguments that several commands share.
 
-ghost use Rattle.std.specs.Prelude.{◌≡◌};
+ghost use Rattle.std.specs.Prelude.{◌≡◌, IfOk, option_map};
 ghost use Rattle.cli.specs.Numbers.{mode_of_number};
+ghost use Rattle.cli.specs.Grammar.{dependent, flag, number, operand, plain_rule, rule_for};
+ghost use Rattle.cli.specs.Given.{rows_in};
+ghost use Rattle.cli.specs.Program.{explain, mode, reserve};
+ghost use Rattle.cli.specs.Requests.{HasLayout};
 
 use crate::args::UsageError;
 use crate::args::parser::{Argument, Kind, Rule, Values};
 use fib_codec::{FrameLayout, Mode};
 
 /// An argument without an option: the path of a file.
-pub(crate) fn file(name: &'static str, value_name: &'static str, help: &'static str) -> Argument {
+pub(crate) fn file(name: &'static str, value_name: &'static str, help: &'static str) -> Argument
+    ensures { rule_for result ≡ operand name.now }
+{
     Argument {
         name,
         value_name,
@@ -19,7 +25,10 @@ pub(crate) fn file(name: &'static str, value_name: &'static str, help: &'static 
 }
 
 /// An optional flag.
-pub(crate) fn flag(name: &'static str, help: &'static str) -> Argument {
+pub(crate) fn flag(name: &'static str, help: &'static str) -> Argument
+    ensures rule { rule_for result ≡ flag name.now }
+    ensures kind { plain_rule result.name.now result.kind ≡ flag name.now }
+{
     Argument {
         name,
         value_name: "",
@@ -37,7 +46,12 @@ pub(crate) fn number(
     highest: i64,
     default: Option<&'static str>,
     help: &'static str,
-) -> Argument {
+) -> Argument
+    ensures rule { rule_for result
+        ≡ number name.now lowest highest (option_map (λ s. s.now) default.entry) }
+    ensures kind { plain_rule result.name.now result.kind
+        ≡ number name.now lowest highest (option_map (λ s. s.now) default.entry) }
+{
     Argument {
         name,
         value_name,
@@ -48,18 +62,24 @@ pub(crate) fn number(
 }
 
 /// The argument with this rule.
-pub(crate) fn with_rule(argument: Argument, rule: Rule) -> Argument {
+pub(crate) fn with_rule(argument: Argument, rule: Rule) -> Argument
+    ensures { rule_for result ≡ dependent rule (plain_rule argument.name.now argument.kind) }
+{
     Argument { rule, ..argument }
 }
 
 /// The transmission mode.
-pub(crate) fn mode() -> Argument {
+pub(crate) fn mode() -> Argument
+    ensures { rule_for result ≡ mode }
+{
     let help = "The transmission mode, 1 to 4; in mode 3 a frame has four FIBs, else three";
     number("mode", "M", 1, 4, Some("1"), help)
 }
 
 /// The option that explains a refusal.
-pub(crate) fn explain() -> Argument {
+pub(crate) fn explain() -> Argument
+    ensures { rule_for result ≡ explain }
+{
     flag(
         "explain",
         "Explains a refusal: what is wrong, with objects and numbers, and how to correct it",
@@ -80,7 +100,9 @@ pub(crate) fn mode_of(number: u32) -> Option<Mode>
 }
 
 /// The number of FIBs of a frame that the configuration leaves free.
-pub(crate) fn reserve() -> Argument {
+pub(crate) fn reserve() -> Argument
+    ensures { plain_rule result.name.now result.kind ≡ reserve }
+{
     let help =
         "How many FIBs of a frame stay empty, for labels and other FIGs: 1, or in mode 3 1 or 2";
     number("reserve", "R", 1, 2, None, help)
@@ -88,7 +110,9 @@ pub(crate) fn reserve() -> Argument {
 
 /// The layout of a frame: the transmission mode, and the reserve, if there is one. `Reserve` if it is not one of the
 /// mode.
-pub(crate) fn layout_of<'a>(values: &Values<'_, 'a>) -> Result<FrameLayout, UsageError<'a>> {
+pub(crate) fn layout_of<'a>(values: &Values<'_, 'a>) -> Result<FrameLayout, UsageError<'a>>
+    ensures { IfOk result (HasLayout (rows_in values.now)) }
+{
     let mode = mode_of(values.some_number("mode")?).ok_or(UsageError::Nothing)?;
     if values.number("reserve").is_none() {
         return Ok(FrameLayout::Whole(mode));

@@ -1,8 +1,12 @@
 //! The start options of `play`, `debug` and `live`: CIF count, time of day and contacts of the first frame.
 
-ghost use Rattle.std.specs.Prelude.{◌≡◌, ◌≢◌, ◌<◌, ℕ, None, IfSome};
+ghost use Rattle.std.specs.Prelude.{◌≡◌, ◌≢◌, ◌<◌, ℕ, None, IfOk, IfSome};
 ghost use Rattle.script_tokens.specs.Spelling.{time_text};
 ghost use Rattle.script_tokens.specs.Times.{frame_at};
+ghost use Rattle.cli.specs.Given.{rows_in};
+ghost use Rattle.cli.specs.Grammar.{rule_for};
+ghost use Rattle.cli.specs.Program.{contacts, count, day, time};
+ghost use Rattle.cli.specs.Requests.{HasDay, HasStart};
 
 use crate::args::UsageError;
 use crate::args::parser::{Argument, Kind, Rule, Values};
@@ -13,19 +17,25 @@ use plan_code::Contacts;
 use script_tokens::number as numbers;
 
 /// The CIF count of the first frame.
-pub(crate) fn count() -> Argument {
+pub(crate) fn count() -> Argument
+    ensures { rule_for result ≡ count }
+{
     let help = "The CIF count of the first frame, 0 to 4999";
     number("count", "N", 0, 65535, Some("0"), help)
 }
 
 /// The first frame's index in the day.
-pub(crate) fn day() -> Argument {
+pub(crate) fn day() -> Argument
+    ensures { rule_for result ≡ day }
+{
     let help = "The time of day of the first frame, in frames since midnight, 0 to 3599999";
     number("day", "N", 0, 4294967295, Some("0"), help)
 }
 
 /// The time of day at the first frame.
-pub(crate) fn time() -> Argument {
+pub(crate) fn time() -> Argument
+    ensures { rule_for result ≡ time }
+{
     Argument {
         name: "time",
         value_name: "HH:MM:SS",
@@ -36,7 +46,9 @@ pub(crate) fn time() -> Argument {
 }
 
 /// The contacts that are closed at the start.
-pub(crate) fn contacts() -> Argument {
+pub(crate) fn contacts() -> Argument
+    ensures { rule_for result ≡ contacts }
+{
     Argument {
         name: "contacts",
         value_name: "HHHH",
@@ -47,8 +59,10 @@ pub(crate) fn contacts() -> Argument {
 }
 
 /// Reads the start options.
-pub(crate) fn start_options<'a>(values: &Values<'_, 'a>) -> Result<StartOptions, UsageError<'a>> {
-    let digits = values.text("contacts").unwrap_or("");
+pub(crate) fn start_options<'a>(values: &Values<'_, 'a>) -> Result<StartOptions, UsageError<'a>>
+    ensures { IfOk result (HasStart (rows_in values.now)) }
+{
+    let digits = values.some_text("contacts")?;
     let Some(contacts) = u16_of(digits) else {
         return Err(UsageError::Digits {
             option: "--contacts <HHHH>",
@@ -65,9 +79,14 @@ pub(crate) fn start_options<'a>(values: &Values<'_, 'a>) -> Result<StartOptions,
 }
 
 /// The first frame's index in the day, from `--time` or else from `--day`.
-fn day_option<'a>(values: &Values<'_, 'a>) -> Result<u32, UsageError<'a>> {
+fn day_option<'a>(values: &Values<'_, 'a>) -> Result<u32, UsageError<'a>>
+    ensures { IfOk result (HasDay (rows_in values.now)) }
+{
     match values.text("time") {
-        Some(text) => day_at(text).ok_or(UsageError::Time(text)),
+        Some(text) => match day_at(text) {
+            Some(day) => Ok(day),
+            None => Err(UsageError::Time(text)),
+        },
         None => values.some_number("day"),
     }
 }

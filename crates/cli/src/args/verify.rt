@@ -1,5 +1,11 @@
 //! The command line of `verify`.
 
+ghost use Rattle.std.specs.Prelude.{IfOk, codes};
+ghost use Rattle.cli.specs.Given.{rows_in};
+ghost use Rattle.cli.specs.Grammar.{Describes};
+ghost use Rattle.cli.specs.Program.{only, verify};
+ghost use Rattle.cli.specs.Requests.{Asks};
+
 use crate::args::parser::{Grammar, Page, Values};
 use crate::args::shared::{explain, file};
 use crate::args::{Request, UsageError};
@@ -67,14 +73,18 @@ Exit status:
   2  the command line is wrong";
 
 /// The command `verify`.
-pub(crate) fn grammar<'a>(alloc: Global) -> Result<Grammar<'a>, AllocError> {
+pub(crate) fn grammar<'a>(alloc: Global) -> Result<Grammar<'a>, AllocError>
+    ensures { IfOk result (λ g. Describes g.command (only verify)) }
+{
     Grammar::of_command(alloc, PAGE)
         .argument(file("code", "CODE", "The code file"))?
         .argument(explain())
 }
 
 /// Reads the arguments of `verify`.
-pub(crate) fn request<'a>(values: &Values<'_, 'a>) -> Result<Request<'a>, UsageError<'a>> {
+pub(crate) fn request<'a>(values: &Values<'_, 'a>) -> Result<Request<'a>, UsageError<'a>>
+    ensures { IfOk result (Asks (codes "verify") (rows_in values.now)) }
+{
     Ok(Request::Verify(VerifyRequest {
         code: values.some_text("code")?,
         explain: values.flag("explain"),

@@ -1,0 +1,6 @@
+pub mod Given
+pub mod Grammars
+pub mod Rules
+pub mod Shorter
+mod VectorsOfWords
+pub mod Words
