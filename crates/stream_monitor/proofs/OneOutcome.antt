@@ -14,7 +14,8 @@ use Rattle.stream_monitor.specs.Frames.{is_full, is_stopped, totals_after, frame
 use Rattle.stream_monitor.specs.Outcome.{HasFibSize, GoesOn, EndsFrame, IsTooLong, StopsWithFib, StopsAtEnd}
 use Rattle.stream_monitor.specs.Outcomes.{AreFramedAlike, AreSame, OneOutcome}
 use Rattle.stream_monitor.proofs.Framings.{one_framing}
-use Rattle.stream_monitor.proofs.Fronts.{front_framing, full_before, stopped_before, not_long}
+use Rattle.stream_check.proofs.Fronts.{front_framing}
+use Rattle.stream_monitor.proofs.Fronts.{full_before, stopped_before, not_long}
 
 -- ---- the FIBs of bytes
 
