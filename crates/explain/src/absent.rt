@@ -1,9 +1,9 @@
 //! Explains edits of what is missing.
 
-use crate::edit::{put_since, service_of};
+use crate::edit::put_since;
 use crate::history::{Past, Since};
 use crate::names::{put_carrier, put_service, put_sid};
-use mux_config::{Carrier, Config, Edit, Sid};
+use mux_config::{Carrier, Config, Edit, Sid, Store};
 use std::io::{self, Write};
 
 /// Writes the existing sub-channels.
@@ -73,7 +73,7 @@ fn component_absent<W: Write>(
     carrier: &Carrier,
     out: &mut W,
 ) -> io::Result<()> {
-    let Some(service) = service_of(config, sid) else {
+    let Some(service) = config.service(sid) else {
         return service_absent(config, past, sid, out);
     };
     put_service(service, out)?;
@@ -84,7 +84,7 @@ fn component_absent<W: Write>(
 
 /// Advises on a missing component, or its missing service.
 fn advise_component<W: Write>(config: &Config, sid: Sid, out: &mut W) -> io::Result<()> {
-    let Some(service) = service_of(config, sid) else {
+    let Some(service) = config.service(sid) else {
         return Ok(());
     };
     if service.components.len() == 0 {

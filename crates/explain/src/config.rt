@@ -1,10 +1,12 @@
 //! Explains configurations that are not sound.
 
-use crate::edit::{is_there, put_since, service_of, sub_of};
+use crate::edit::{is_there, put_since};
 use crate::history::Past;
 use crate::names::{end_of, put_carrier, put_packet, put_sid, put_sub, put_units, units_of};
 use crate::overlap::{Overlap, overlap_of};
-use mux_config::{Carrier, Component, Config, ConfigFault, Packet, Service, Sid, Sub, SubId};
+use mux_config::{
+    Carrier, Component, Config, ConfigFault, Packet, Service, Sid, Store, Sub, SubId,
+};
 use std::io::{self, Write};
 
 /// Whether a sub-channel would fit at this capacity unit if it were not in the multiplex.
@@ -50,7 +52,7 @@ pub(crate) fn explain_overlap<W: Write>(overlap: &Overlap, out: &mut W) -> io::R
 
 /// Advises on two sub-channels that share capacity units.
 fn advise_overlap<W: Write>(config: &Config, second: SubId, out: &mut W) -> io::Result<()> {
-    let Some(sub) = sub_of(config, second) else {
+    let Some(sub) = config.sub(second) else {
         return Ok(());
     };
     let id = sub.id.get();
@@ -96,7 +98,7 @@ pub(crate) fn orphan_packet(config: &Config) -> Option<Packet> {
 
 /// Whether a service has a component that refers to an existing object.
 pub(crate) fn has_component_there(config: &Config, sid: Sid) -> bool {
-    let Some(service) = service_of(config, sid) else {
+    let Some(service) = config.service(sid) else {
         return false;
     };
     for component in service.components.as_slice() {

@@ -1,8 +1,7 @@
 //! The first difference between two configurations.
 
-use crate::edit::{packet_of, service_of, sub_of};
 use crate::names::{put_packet, put_service, put_sid, put_sub};
-use mux_config::{Carrier, Component, Config, Packet, Sid, Sub};
+use mux_config::{Config, Packet, Sid, Store, Sub};
 use std::io::{self, Write};
 
 /// A member that differs between two configurations, as it is in each that has it.
@@ -19,7 +18,7 @@ pub(crate) enum Difference {
 /// The first sub-channel of the first configuration that differs in the second or is missing there.
 fn sub_difference(a: &Config, b: &Config) -> Option<Difference> {
     for sub in a.subs() {
-        let other = sub_of(b, sub.id);
+        let other = b.sub(sub.id);
         if other != Some(*sub) {
             return Some(Difference::Sub(Some(*sub), other));
         }
@@ -30,26 +29,18 @@ fn sub_difference(a: &Config, b: &Config) -> Option<Difference> {
 /// The first sub-channel of the second that is missing in the first.
 fn sub_added(a: &Config, b: &Config) -> Option<Difference> {
     for sub in b.subs() {
-        if sub_of(a, sub.id).is_none() {
+        if a.sub(sub.id).is_none() {
             return Some(Difference::Sub(None, Some(*sub)));
         }
     }
     None
 }
 
-/// Whether two services have the same components in the same order.
-fn has_same_components(a: &[Component], b: &[Component]) -> bool {
-    a == b
-}
-
 /// The first service of the first that is missing in the second or has other components there.
 fn service_difference(a: &Config, b: &Config) -> Option<Difference> {
     for service in a.services() {
-        let is_same = match service_of(b, service.sid) {
-            Some(other) => has_same_components(
-                service.components.as_slice(),
-                other.components.as_slice(),
-            ),
+        let is_same = match b.service(service.sid) {
+            Some(other) => service.components.as_slice() == other.components.as_slice(),
             None => false,
         };
         if !is_same {
@@ -62,7 +53,7 @@ fn service_difference(a: &Config, b: &Config) -> Option<Difference> {
 /// The first service of the second that is missing in the first.
 fn service_added(a: &Config, b: &Config) -> Option<Difference> {
     for service in b.services() {
-        if service_of(a, service.sid).is_none() {
+        if a.service(service.sid).is_none() {
             return Some(Difference::Service(service.sid));
         }
     }
@@ -72,7 +63,7 @@ fn service_added(a: &Config, b: &Config) -> Option<Difference> {
 /// The first packet component of the first configuration that differs in the second or is missing there.
 fn packet_difference(a: &Config, b: &Config) -> Option<Difference> {
     for packet in a.packets() {
-        let other = packet_of(b, &Carrier::Packet(packet.scid));
+        let other = b.packet(packet.scid);
         if other != Some(*packet) {
             return Some(Difference::Packet(Some(*packet), other));
         }
@@ -83,7 +74,7 @@ fn packet_difference(a: &Config, b: &Config) -> Option<Difference> {
 /// The first packet component of the second that is missing in the first.
 fn packet_added(a: &Config, b: &Config) -> Option<Difference> {
     for packet in b.packets() {
-        if packet_of(a, &Carrier::Packet(packet.scid)).is_none() {
+        if a.packet(packet.scid).is_none() {
             return Some(Difference::Packet(None, Some(*packet)));
         }
     }
@@ -144,7 +135,7 @@ fn put_one_packet<W: Write>(
 
 /// Writes the service of a configuration, or its absence.
 fn put_one_service<W: Write>(config: &Config, sid: Sid, out: &mut W) -> io::Result<()> {
-    match service_of(config, sid) {
+    match config.service(sid) {
         Some(service) => put_service(service, out),
         None => {
             out.write_all(b"no service ")?;

@@ -5,45 +5,15 @@ ghost use Rattle.std.specs.Prelude.{◌≤◌};
 use crate::absent::{advise_absent, explain_absent};
 use crate::history::{Past, Since};
 use crate::names::{put_carrier, put_packet, put_profile, put_service, put_sid, put_sub, units_of};
-use mux_config::{Carrier, Component, Config, Edit, EditFault, Packet, Service, Sid, Sub, SubId};
+use mux_config::{Carrier, Component, Config, Edit, EditFault, Sid, Store, Sub};
 use mux_eep::{EepFault, EepSet, Protection, size_of};
 use std::io::{self, Write};
-
-/// The sub-channel of an identifier.
-pub(crate) fn sub_of(config: &Config, id: SubId) -> Option<Sub> {
-    for sub in config.subs() {
-        if sub.id == id {
-            return Some(*sub);
-        }
-    }
-    None
-}
-
-/// The packet component of an identifier.
-pub(crate) fn packet_of(config: &Config, carrier: &Carrier) -> Option<Packet> {
-    for packet in config.packets() {
-        if Carrier::Packet(packet.scid) == *carrier {
-            return Some(*packet);
-        }
-    }
-    None
-}
-
-/// The service of an identifier.
-pub(crate) fn service_of(config: &Config, sid: Sid) -> Option<&Service> {
-    for service in config.services() {
-        if service.sid == sid {
-            return Some(service);
-        }
-    }
-    None
-}
 
 /// Whether a sub-channel or a packet component exists.
 pub(crate) fn is_there(config: &Config, carrier: &Carrier) -> bool {
     match carrier {
-        Carrier::Sub(id) => sub_of(config, *id).is_some(),
-        Carrier::Packet(_) => packet_of(config, carrier).is_some(),
+        Carrier::Sub(id) => config.sub(*id).is_some(),
+        Carrier::Packet(scid) => config.packet(*scid).is_some(),
     }
 }
 
@@ -65,12 +35,12 @@ fn carrier_used<W: Write>(
 ) -> io::Result<()> {
     match carrier {
         Carrier::Sub(id) => {
-            if let Some(sub) = sub_of(config, *id) {
+            if let Some(sub) = config.sub(*id) {
                 put_sub(&sub, out)?;
             }
         }
-        Carrier::Packet(_) => {
-            if let Some(packet) = packet_of(config, carrier) {
+        Carrier::Packet(scid) => {
+            if let Some(packet) = config.packet(*scid) {
                 put_packet(&packet, out)?;
             }
         }
@@ -81,7 +51,7 @@ fn carrier_used<W: Write>(
 
 /// Explains a service that exists already.
 fn service_used<W: Write>(config: &Config, sid: Sid, out: &mut W) -> io::Result<()> {
-    match service_of(config, sid) {
+    match config.service(sid) {
         Some(service) => put_service(service, out)?,
         None => put_sid(sid, out)?,
     }
@@ -95,7 +65,7 @@ fn component_used<W: Write>(
     component: &Component,
     out: &mut W,
 ) -> io::Result<()> {
-    if let Some(service) = service_of(config, sid) {
+    if let Some(service) = config.service(sid) {
         put_service(service, out)?;
     }
     out.write_all(b" has a component on ")?;
@@ -145,14 +115,14 @@ pub(crate) fn edited_sub(config: &Config, edit: &Edit) -> Option<Sub> {
     match edit {
         Edit::AddSub(sub) => Some(sub.get()),
         Edit::MoveSub { id, start } => {
-            let sub = sub_of(config, *id)?;
+            let sub = config.sub(*id)?;
             Some(Sub {
                 start: start.get(),
                 ..sub
             })
         }
         Edit::RateSub { id, kbits } => {
-            let sub = sub_of(config, *id)?;
+            let sub = config.sub(*id)?;
             Some(Sub {
                 kbits: *kbits,
                 ..sub
@@ -287,7 +257,7 @@ fn explain_components<W: Write>(config: &Config, edit: &Edit, out: &mut W) -> io
         return Ok(());
     };
     let sid = *sid;
-    let Some(service) = service_of(config, sid) else {
+    let Some(service) = config.service(sid) else {
         return Ok(());
     };
     let count = service.components.len();

@@ -3,12 +3,11 @@
 use crate::config::{
     empty_service, has_component_there, orphan_component, orphan_packet, room_for, twins,
 };
-use crate::edit::{service_of, sub_of};
 use crate::hint_edit::{put_edit_before, sub_words, words_of};
 use crate::hint_statement::Place;
 use crate::history::{Past, Since, Sought};
 use crate::trier::Trier;
-use mux_config::{Carrier, Component, Config, ConfigFault, Edit, Packet, Sid, Sub, SubId};
+use mux_config::{Carrier, Component, Config, ConfigFault, Edit, Packet, Sid, Store, Sub, SubId};
 use std::alloc::{AllocError, Global};
 
 /// The line of the statement that did this last, if it is the same on every path.
@@ -44,7 +43,7 @@ fn try_overlap(
     place: Place,
     id: SubId,
 ) -> Result<(), AllocError> {
-    let Some(sub) = sub_of(config, id) else {
+    let Some(sub) = config.sub(id) else {
         return Ok(());
     };
     let Some(room) = room_for(config, &sub) else {
@@ -59,7 +58,7 @@ fn try_overlap(
 
 /// The component of a service on a carrier.
 fn component_on(config: &Config, sid: Sid, carrier: &Carrier) -> Option<Component> {
-    for component in service_of(config, sid)?.components.as_slice() {
+    for component in config.service(sid)?.components.as_slice() {
         if component.carrier() == *carrier {
             return Some(*component);
         }

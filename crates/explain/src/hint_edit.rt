@@ -1,11 +1,11 @@
 //! Corrections of a refused edit.
 
 use crate::config::{has_room, room_for};
-use crate::edit::{edited_sub, latest_start, most_rate, rate_step, service_of, sub_of};
+use crate::edit::{edited_sub, latest_start, most_rate, rate_step};
 use crate::hint_statement::Place;
 use crate::history::drop_of;
 use crate::trier::Trier;
-use mux_config::{Carrier, Component, Config, Edit, EditFault, Packet, Sid, Sub, SubId};
+use mux_config::{Carrier, Component, Config, Edit, EditFault, Packet, Sid, Store, Sub, SubId};
 use mux_eep::{EepFault, EepSet, size_of};
 use script_front::lexemes::put_edit;
 use std::alloc::{AllocError, Global};
@@ -64,7 +64,7 @@ fn write_sub(trier: &mut Trier, place: Place, edit: &Edit, sub: &Sub) -> Result<
 fn free_id(config: &Config) -> Option<SubId> {
     for number in 0u8..64 {
         if let Some(id) = SubId::new(number) {
-            if sub_of(config, id).is_none() {
+            if config.sub(id).is_none() {
                 return Some(id);
             }
         }
@@ -79,7 +79,7 @@ fn try_used_sub(
     place: Place,
     sub: &Sub,
 ) -> Result<(), AllocError> {
-    if sub_of(config, sub.id) == Some(*sub) {
+    if config.sub(sub.id) == Some(*sub) {
         trier.leave_out(place.line, place.words)?;
     }
     put_edit_before(trier, place, Edit::DropSub(sub.id))?;
@@ -98,7 +98,7 @@ fn try_used_component(
     sid: Sid,
     component: &Component,
 ) -> Result<(), AllocError> {
-    if let Some(service) = service_of(config, sid) {
+    if let Some(service) = config.service(sid) {
         for other in service.components.as_slice() {
             if *other == *component {
                 trier.leave_out(place.line, place.words)?;
@@ -215,27 +215,16 @@ fn try_rate(trier: &mut Trier, place: Place, edit: &Edit, sub: &Sub) -> Result<(
             let step = rate_step(sub.protection);
             let low = sub.kbits - sub.kbits % step;
             let high = low.saturating_add(step);
-            if sub.kbits % step > step / 2 {
-                write_sub(
-                    trier,
-                    place,
-                    edit,
-                    &Sub {
-                        kbits: high,
-                        ..*sub
-                    },
-                )?;
+            let is_near_high = sub.kbits % step > step / 2;
+            let rates = if is_near_high {
+                [high, low]
+            } else {
+                [low, high]
+            };
+            for kbits in rates {
+                write_sub(trier, place, edit, &Sub { kbits, ..*sub })?;
             }
-            write_sub(trier, place, edit, &Sub { kbits: low, ..*sub })?;
-            write_sub(
-                trier,
-                place,
-                edit,
-                &Sub {
-                    kbits: high,
-                    ..*sub
-                },
-            )
+            Ok(())
         }
         Err(EepFault::PastMultiplex) => match u16::try_from(most_rate(sub.protection)) {
             Ok(kbits) => write_sub(trier, place, edit, &Sub { kbits, ..*sub }),

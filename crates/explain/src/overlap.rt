@@ -1,10 +1,11 @@
 //! Two sub-channels that share capacity units.
 
-ghost use Rattle.std.specs.Prelude.{◌≡◌, ◌↔◌, ◌≤◌, ◌<◌, ℕ, Contains, IfSome};
+ghost use Rattle.std.specs.Prelude.{◌≡◌, ◌↔◌, ◌≤◌, ◌<◌, ℕ, IfSome, IsNone, MatchOption};
+ghost use Rattle.mux_config.specs.Configuration.{IsPlaced};
 ghost use Rattle.mux_config.specs.Sound.{IsUnitOf};
-ghost use Rattle.explain.specs.Overlaps.{IsOverlap};
+ghost use Rattle.explain.specs.Overlaps.{IsShared, IsOverlap, AreApart};
 
-use mux_config::{Config, Sub, SubId};
+use mux_config::{Config, Store, Sub, SubId};
 use mux_eep::size_of;
 
 /// Two sub-channels, and the capacity units that both have.
@@ -20,22 +21,11 @@ pub(crate) struct Overlap {
     pub(crate) high: u32,
 }
 
-/// The sub-channel of an identifier in a configuration.
-fn member(config: &Config, id: SubId) -> Option<Sub>
-    ensures there { IfSome result (λ s. Contains config.now.subs s) }
-    ensures named { IfSome result (λ s. s.id ≡ id) }
-{
-    for sub in config.subs() {
-        if sub.id == id {
-            return Some(*sub);
-        }
-    }
-    None
-}
-
 /// The capacity unit after those of a sub-channel; none if it has no size.
 fn end_of(sub: &Sub) -> Option<u32>
-    ensures { IfSome result (λ end. (unit : ℕ) → IsUnitOf sub.now unit ↔ (sub.now.start ≤ unit) × (unit < end)) }
+    ensures end { IfSome result (λ end. (unit : ℕ) → IsUnitOf sub.now unit
+        ↔ (sub.now.start ≤ unit) × (unit < end)) }
+    ensures placed { IsNone result → IsPlaced sub.now → ⊥ }
 {
     match size_of(sub.protection, sub.kbits) {
         Ok(size) => Some(u32::from(sub.start) + u32::from(size)),
@@ -57,25 +47,43 @@ fn lesser(a: u32, b: u32) -> u32
     if a < b { a } else { b }
 }
 
-/// The capacity units that two sub-channels of a configuration share, if they do.
-#[tactic(auto, using(crate::proofs::Sharing::shared))]
+/// The first capacity unit that two sub-channels share and the last one, if they share one.
+fn shared_by(first: &Sub, second: &Sub) -> Option<(u32, u32)>
+    ensures { MatchOption result
+        (IsPlaced first.now → IsPlaced second.now → (unit : ℕ) → IsUnitOf first.now unit
+        → IsUnitOf second.now unit → ⊥)
+        (λ units. IsShared first.now second.now units.0 units.1) }
+{
+    let (Some(end), Some(other)) = (end_of(first), end_of(second)) else {
+        return None;
+    };
+    let low = greater(u32::from(first.start), u32::from(second.start));
+    let end = lesser(end, other);
+    if low < end {
+        return Some((low, end - 1));
+    }
+    None
+}
+
+/// The capacity units that two sub-channels of a configuration share; none if they share none, or one of them is not
+/// there.
 pub(crate) fn overlap_of(config: &Config, first: SubId, second: SubId) -> Option<Overlap>
-    ensures { IfSome result (λ o. IsOverlap config.now o) }
+    ensures { MatchOption result (AreApart config.now first second)
+        (IsOverlap config.now first second) }
 {
     if first == second {
         return None;
     }
-    let first = member(config, first)?;
-    let second = member(config, second)?;
-    let low = greater(u32::from(first.start), u32::from(second.start));
-    let end = lesser(end_of(&first)?, end_of(&second)?);
-    if low < end {
-        return Some(Overlap {
-            first,
-            second,
+    let (Some(one), Some(other)) = (config.sub(first), config.sub(second)) else {
+        return None;
+    };
+    match shared_by(&one, &other) {
+        Some((low, high)) => Some(Overlap {
+            first: one,
+            second: other,
             low,
-            high: end - 1,
-        });
+            high,
+        }),
+        None => None,
     }
-    None
 }
