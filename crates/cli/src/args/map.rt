@@ -58,6 +58,13 @@ The lines of --layout, instead of these:
                        a sub-channel with two places, sizes or profiles, or two sub-channels that
                        share capacity units
 
+On standard error follows what the author of an accepted plan may not want, each with its line in
+the script; the status stays as it is:
+  night.plan:9: warning: no component names sub 3
+                       also: audio under an SId of 32 bits; a commit that gives a service another
+                       primary component; a plan that begins with 'until'; a block of which no
+                       statement is reached
+
 In the drawing each sub-channel keeps its colour in all rows, and has its number, kbit/s and
 protection in it; what is changed from the row above is framed in red, also where a service moves
 there; free units are hatched, and a key shows which sub-channels carry each service. OUT is created
