@@ -2,7 +2,8 @@
 """Every command at the limits of its input, within a stack of 1 MB.
 
 Scripts, codes, configurations and nesting at their limits and one past them; texts of 1,048,576 bytes of each kind of
-token, in scripts, events and commands; events and commands of half a gigabyte, and 20 MB of valid ones, in little memory. The expected
+token, in scripts, events and commands; events and commands of half a gigabyte, 75 MB of valid events, and 20 MB of valid
+commands, in little memory. The expected
 lines are those of docs/guide/COMMANDS.md, derived next to each text. At the end it prints the smallest stack with which each command works. The last line is 'N passed, M failed'.
 """
 import os
@@ -257,13 +258,20 @@ def try_zeros(tally, program, folder):
 
 
 def try_long_texts(tally, program, folder):
-    """20 MB of steps and of commands in 128 MB of memory: their text is kept, and no list of them. A fault at the end comes first."""
+    """75 MB of steps in a file in 64 MB of memory: none is kept. 20 MB through a pipe in 128 MB; 20 MB of commands in
+    128 MB: their text is kept, and no list of them. A fault at the end comes first."""
     common.write(folder, "small.code", (common.SAMPLES / "contact_lowers_a_rate.code").read_bytes())
+    for name, steps in (("lines", b"contact 3 open\n"), ("one line", b"contact 3 open "), ("a token a line", b"contact\n3\nopen\n"),
+                        ("comments", b"contact 3 # frames 1\n  open # frames 2\n")):
+        common.write(folder, "long.events", b"frames 2 " + steps * (75_000_000 // len(steps)) + b"frames 1")
+        ended = common.run([program, "play", "small.code", "long.events", "/dev/null"], folder, memory=65_536)
+        tally.same(f"75 MB of events, {name}", (0, b"played 3 frames\n"), ended.lines())
     step = b"frames 1\n"
     count = 20_000_000 // len(step)
     common.write(folder, "long.events", step * count)
-    ended = common.run([program, "play", "small.code", "long.events", "/dev/null"], folder, memory=131_072)
-    tally.same("20 MB of events", (0, f"played {count} frames\n".encode()), ended.lines())
+    line = f"cat long.events | '{program}' play small.code /dev/stdin /dev/null"
+    ended = common.run(["bash", "-c", line], folder, memory=131_072)
+    tally.same("20 MB of events through a pipe", (0, f"played {count} frames\n".encode()), ended.lines())
     common.write(folder, "long.events", step * count + b"frames 0")
     ended = common.run([program, "play", "small.code", "long.events", "long.fib"], folder, memory=131_072)
     tally.same("20 MB of events and a fault", (1, f"events {count + 1}:8: Number\n".encode()), ended.lines())

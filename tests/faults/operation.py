@@ -154,6 +154,43 @@ def limited(words, folder, size, ignored):
     return done.returncode, done.stderr
 
 
+def two_readings(tally, program, folder):
+    """Events in a file, which are read part by part, and through a pipe, where they are kept: the same line and bytes."""
+    common.write(folder, "s.code", CODE.read_bytes())
+    steps = [f"contact {n % 16} {'closed' if n % 3 else 'open'}" for n in range(8000)] + ["frames 3", "frames 70"] * 300
+    texts = {
+        "lines": "\n".join(steps), "indented lines": "".join(f"\t  {step} # frames 9\n\n" for step in steps),
+        "one line": " ".join(steps), "a token a line": "\r\n".join(steps).replace(" ", "\r\n;"),
+        "a comment of 70,000 bytes": "frames 2 #" + "frames 1 " * 7800 + "\nframes 3", "blanks": "frames 2" + " " * 70_000 + "frames 3",
+        "65,536 bytes": "frames 3 " + " " * 65_518 + "frames 30"[:9], "nothing": "", "a step that is cut": "\n".join(steps) + "\nframes",
+        "a number out of range": "\n".join(steps) + "\nframes 0\n" + "frames 1\n" * 9000, "a bad byte": "\n".join(steps) + " @",
+        "a bad byte behind a fault": "frames\n" * 20_000 + "@", "a brace": "frames 1\n" * 20_000 + "{",
+    }
+    for name, text in texts.items():
+        common.write(folder, "e.ev", text)
+        for out in ("a.fib", "b.fib"):
+            pathlib.Path(folder, out).unlink(missing_ok=True)
+        in_parts = common.run([program, "play", "s.code", "e.ev", "a.fib"], folder)
+        kept = common.run(["bash", "-c", f"cat e.ev | '{program}' play s.code /dev/stdin b.fib"], folder)
+        tally.same(f"events, {name}", kept.lines(), in_parts.lines())
+        tally.hold(pathlib.Path(folder, "a.fib").read_bytes() == pathlib.Path(folder, "b.fib").read_bytes(), f"events, {name}: other frames")
+        streamed = common.run([program, "play", "s.code", "e.ev", "-"], folder)
+        tally.hold(streamed.printed == pathlib.Path(folder, "a.fib").read_bytes(), f"events, {name}: other frames on standard output")
+
+
+def changed_events(tally, program, folder):
+    """OUT is another name of EVENTS, which is overwritten while it is played: after the frames of its first part, 7,281
+    steps of 9 bytes in 65,536, with no step cut, the second part lists no steps."""
+    common.write(folder, "s.code", CODE.read_bytes())
+    common.write(folder, "e.ev", "frames 1\n" * 7281)
+    whole = common.run([program, "play", "s.code", "e.ev", "-"], folder).printed
+    common.write(folder, "e.ev", "frames 1\n" * 20_000)
+    os.link(f"{folder}/e.ev", f"{folder}/o.fib")
+    ended = common.run([program, "play", "s.code", "e.ev", "o.fib"], folder)
+    tally.same("events that are overwritten", (1, b"events changed after 7281 frames\n"), ended.lines())
+    tally.hold(pathlib.Path(folder, "o.fib").read_bytes() == whole, "events that are overwritten: other frames")
+
+
 def size_limits(tally, program, folder):
     """A file limit: with its signal ignored, a write that failed; else the signal ends the program."""
     common.write(folder, "a.events", "frames 10")
@@ -275,7 +312,8 @@ def main():
     """The main program."""
     tally = common.Tally()
     program = common.dabplan()
-    for part in (streams_that_do_not_block, messages_that_do_not_block, equal_paths, refusals, size_limits, hostile_names,
+    for part in (streams_that_do_not_block, messages_that_do_not_block, equal_paths, refusals, two_readings,
+                 changed_events, size_limits, hostile_names,
                  a_folder_that_is_no_text, standard_output, messages_after_frames,
                  messages_that_nobody_reads):
         with tempfile.TemporaryDirectory() as folder:

@@ -1,1 +1,2 @@
+mod EventFiles
 mod Transcripts

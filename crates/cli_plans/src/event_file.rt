@@ -1,12 +1,58 @@
-//! Reads event and command files, and keeps only the text that the result depends on.
+//! Reads event and command files.
 
-ghost use Rattle.std.specs.Prelude.{IfOk, IfSome, string_bytes};
+ghost use Rattle.std.specs.Prelude.{◌≡◌, ℕ, List, IfOk, IfErr, IfSome, Ok, Some, true, string_bytes};
+ghost use Rattle.std.specs.Io.KnownBytes.{Keeps};
+ghost use Rattle.console.specs.Failures.{IsReadFailure};
+ghost use Rattle.plan_session.specs.FilePlayback.{ListsInParts};
 ghost use Rattle.plan_session.specs.Kept.{IsKeptOf};
 
 use console::exit::Failure;
 use console::files::Files;
-use plan_session::{TextFault, read_text};
+use plan_session::{TextFault, lists_in_parts, read_text};
 use std::alloc::Global;
+
+/// Opens an event file, or returns why it can't be opened.
+pub(crate) fn open_events<'a, F: Files>(files: &mut F, path: &'a str) -> Result<F::In, Failure<'a>>
+    ensures bytes { IfOk result (λ file. Keeps (F.known files.old path.now)
+        (F.In.remaining file)) }
+    ensures fault { IfErr result (λ failure. IsReadFailure path.now failure) }
+{
+    match files.open(path) {
+        Ok(file) => Ok(file),
+        Err(fault) => Err(Failure::of_file(fault, path)),
+    }
+}
+
+/// The failure to report for a text that can't be read.
+pub(crate) fn unreadable<'a>(fault: TextFault, path: &'a str) -> Failure<'a>
+    ensures { IsReadFailure path.now result }
+{
+    match fault {
+        TextFault::Memory => Failure::Memory,
+        TextFault::Failed | TextFault::NotUtf8 => Failure::Read(path),
+    }
+}
+
+/// Whether an event file can be read again, and be played part by part then; or why it can't be read. It is read to its
+/// end, and nothing is kept.
+#[tactic(auto, using(crate::proofs::EventFiles::still_known))]
+pub(crate) fn is_in_parts<'a, F: Files>(files: &mut F, path: &'a str) -> Result<bool, Failure<'a>>
+    ensures parts { result ≡ Ok true → (text : List ℕ) → F.known files.old path.now ≡ Some text
+        → ListsInParts text }
+    ensures fault { IfErr result (λ failure. IsReadFailure path.now failure) }
+{
+    if !files.can_reread(path) {
+        return Ok(false);
+    }
+    let file = match open_events(files, path) {
+        Ok(file) => file,
+        Err(failure) => return Err(failure),
+    };
+    match lists_in_parts(file) {
+        Ok(is_in_parts) => Ok(is_in_parts),
+        Err(fault) => Err(unreadable(fault, path)),
+    }
+}
 
 /// The text of an event or command file, or why it can't be read. The file is read to its end; after
 /// a character that is invalid in such a text nothing is kept. A file that is not UTF-8 can't be read.
@@ -22,7 +68,6 @@ pub fn read_event_text<'a, F: Files>(
     let file = file.map_err(|fault| Failure::of_file(fault, path))?;
     match read_text(alloc, file) {
         Ok(text) => Ok(text),
-        Err(TextFault::Memory) => Err(Failure::Memory),
-        Err(TextFault::Failed | TextFault::NotUtf8) => Err(Failure::Read(path)),
+        Err(fault) => Err(unreadable(fault, path)),
     }
 }

@@ -1,6 +1,5 @@
 mod Going
 mod Growing
-mod JoinedTexts
 mod Joining
 mod Lines
 mod OneFile

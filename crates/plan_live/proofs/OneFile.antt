@@ -18,7 +18,7 @@ use Rattle.plan_live.specs.Beginning.{Begins}
 use Rattle.plan_live.specs.Lines.{LineHolds, IsLineFault, LineDoes, LinesDo}
 use Rattle.plan_live.specs.Living.{kept_bytes}
 use Rattle.plan_live.specs.OneFile.{ListsNone, AreListing, ListInTurn, Fits, LinesListInTurn, over, LiveIsPlayback, InputIsPlayback}
-use Rattle.plan_live.proofs.JoinedTexts.{holds_joined}
+use Rattle.plan_session.proofs.JoinedTexts.{holds_joined}
 
 -- ---- one event file
 

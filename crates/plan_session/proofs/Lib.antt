@@ -4,11 +4,19 @@ mod Cutting
 mod Holding
 mod ItemTexts
 mod KeptTexts
+pub mod JoinedTexts
 mod KeptVectors
 mod Listed
 mod ListingVectors
 mod OneByOne
+mod PartEnds
+mod PartLoop
+mod PartOutcomes
+mod PartReads
+mod PartTexts
+mod PartVectors
 mod Readings
 pub mod Requests
 mod StepLexemes
 mod Steps
+mod Windows

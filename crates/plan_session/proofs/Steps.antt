@@ -1,5 +1,5 @@
 -- The events of steps, and of more steps.
-use Rattle.std.proofs.Common.{◌≡◌, ◌⊎◌, inl, inr, ℕ, ◌<◌, ◌≤◌, List, [], ◌∷◌, ◌++◌, length, refl, sym, ap, subst, ◌∙◌, arith, append_assoc, append-nil}
+use Rattle.std.proofs.Common.{◌≡◌, ◌⊎◌, inl, inr, ◌<◌, ◌≤◌, List, [], ◌∷◌, ◌++◌, length, refl, sym, ap, subst, ◌∙◌, arith, append_assoc, append-nil}
 use Rattle.plan_runs.specs.declared.event.Event.{Event}
 use Rattle.script_tokens.specs.Scanning.{Scan, bytes_left}
 use Rattle.plan_session.specs.declared.step.Step.{Step}

@@ -1,10 +1,14 @@
 pub mod Buffering
 pub mod Commands
 pub mod Events
+pub mod FilePlayback
 pub mod Gathered
+pub mod InParts
 pub mod Items
 pub mod Kept
 pub mod Listing
+pub mod PartPlaying
+pub mod PartReading
 pub mod Parts
 pub mod Playback
 pub mod Keywords

@@ -4,6 +4,7 @@ ghost use Rattle.std.specs.Prelude.{◌≡◌, ◌≢◌, ◌+◌, ◌≤◌, �
 ghost use Rattle.script_tokens.specs.declared.fault.ScriptFault.TheVariants.{Memory as NoMemory};
 ghost use Rattle.script_tokens.specs.declared.token.Token.{Token};
 ghost use Rattle.script_tokens.specs.Reading.{AreWithin, lexemes_of};
+ghost use Rattle.script_tokens.specs.Scanning.{bytes_left};
 ghost use Rattle.plan_session.specs.declared.event_fault.EventFault.TheVariants.{Memory};
 ghost use Rattle.plan_session.specs.Items.{HoldsItems};
 ghost use Rattle.plan_session.specs.Kept.{ReportsFirstFault, cut_of};
@@ -107,6 +108,7 @@ pub(crate) fn list_items<'a, T: Item>(text: &'a str) -> Result<Scanner<'a>, Even
         → HoldsItems T.spelled T.is_item text.now items → ⊥) }
     ensures first { IfErr result (λ e. ReportsFirstFault text.now e) }
     ensures named { IfErr result (λ e. e ≢ Memory) }
+    ensures few { IfOk result (λ s. bytes_left s ≤ length text.now) }
 {
     check_tokens(text)?;
     let mut scanner = Scanner::new(text, NO_LIMITS);

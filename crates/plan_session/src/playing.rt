@@ -1,11 +1,12 @@
 //! Playing the steps of an event file into a sink, one by one.
 
-ghost use Rattle.std.specs.Prelude.{◌≡◌, List, false, true, replicate, IfOk, OnOk, IfErr, OnErr};
+ghost use Rattle.std.specs.Prelude.{◌≡◌, ◌≤◌, ◌*◌, List, false, true, replicate, IfOk, OnOk, IfErr, OnErr};
 ghost use Rattle.plan_runs.specs.declared.event.Event.TheVariants.{Frame};
 ghost use Rattle.plan_player.specs.Delivery.{Delivered, Stopped};
 ghost use Rattle.plan_session.specs.declared.step.Step.{Step};
 ghost use Rattle.plan_session.specs.Events.{events_of_step, events_of};
 ghost use Rattle.plan_session.specs.Listing.{ListsSteps};
+ghost use Rattle.script_tokens.specs.Scanning.{bytes_left};
 
 use crate::step::Step;
 use crate::step_list::StepList;
@@ -102,6 +103,8 @@ pub(crate) fn play_list<'a, S: Store, K: Sink>(
         → Stopped player.old player.new (events_of all) (K.taken sink.old) (K.taken sink.new)
         cut.frames cut.bytes) }
     ensures fails { OnErr result (K.has_failed sink.new ≡ true) }
+    ensures few { IfOk result (λ n. n ≤ bytes_left steps.old * 3600000) }
+    ensures few_cut { IfErr result (λ cut. cut.frames ≤ bytes_left steps.old * 3600000) }
 {
     let mut frames = 0u128;
     while let Some(step) = steps.next() {

@@ -30,7 +30,8 @@ impl<'a> Model for StepList<'a> {
 }
 
 impl<'a> StepList<'a> {
-    ghost use Rattle.std.specs.Prelude.{◌≢◌, List, IfOk, IfErr};
+    ghost use Rattle.std.specs.Prelude.{◌≢◌, ◌≤◌, List, length, IfOk, IfErr};
+    ghost use Rattle.script_tokens.specs.Scanning.{bytes_left};
     ghost use Rattle.plan_session.specs.declared.step.Step.{Step};
     ghost use Rattle.plan_session.specs.declared.event_fault.EventFault.TheVariants.{Memory};
     ghost use Rattle.plan_session.specs.Events.{Holds};
@@ -50,6 +51,7 @@ impl<'a> StepList<'a> {
         ensures only { IfErr result (λ e. (all : List Step) → Holds text.now all → ⊥) }
         ensures first { IfErr result (λ e. ReportsFirstFault text.now e) }
         ensures named { IfErr result (λ e. e ≢ Memory) }
+        ensures few { IfOk result (λ list. bytes_left list ≤ length text.now) }
     {
         match list_items::<Step>(text) {
             Ok(scanner) => Ok(StepList { scanner }),

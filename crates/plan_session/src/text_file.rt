@@ -46,7 +46,7 @@ pub fn read_text<R: Read + Drop>(alloc: Global, source: R) -> Result<String, Tex
 }
 
 /// The fault for a text whose reader returns an error.
-fn fault_of(error: &io::Error) -> TextFault
+pub(crate) fn fault_of(error: &io::Error) -> TextFault
     ensures { result ≢ NotUtf8 }
 {
     match error.kind() {

@@ -1,0 +1,35 @@
+-- A window filled from the front: bytes read into its rest follow those before them.
+use Rattle.std.proofs.Common.{◌≡◌, ℕ, ◌+◌, ◌-◌, ◌≤◌, List, ◌++◌, Option, None, Some, arith, length, take, slice_range, refl, sym, ap, ◌∙◌, subst, le_refl, drop_at, length-take-le}
+use Rattle.std.proofs.lemmas.Slice.{take-put_mid_below}
+use Rattle.std.specs.Io.KnownBytes.{Consumes, Keeps, prepend_known}
+use Rattle.std.proofs.KnownBytes.{Consumes-trans, Consumes-kept}
+use borrow.Rule.Slice.PartMut.{put_mid, post_of}
+use lib.Seq.{take-add, take-append-le}
+
+take_split : (a b : ℕ) (old new : List ℕ) → a ≤ b → take a new ≡ take a old → take a old ++ slice_range new a b ≡ take b new
+take_split a b old new h front =
+    let same : a + (b - a) ≡ b = omega arith in
+    ap (λ l. l ++ slice_range new a b) (sym front) ∙ sym (take-add a (b - a) new) ∙ ap (λ n. take n new) same
+
+slice_range-put_mid : (a k n : ℕ) (xs ys : List ℕ) → a ≤ length xs → n ≤ length ys → slice_range (put_mid a k xs ys) a (a + n) ≡ take n ys
+slice_range-put_mid a k n xs ys within fits =
+    let same : (a + n) - a ≡ n = omega arith in
+    let after = post_of a k xs in
+    ap (take ((a + n) - a)) (drop_at (take a xs) (ys ++ after) a (length-take-le a xs within)) ∙ ap (λ m. take m (ys ++ after)) same ∙ take-append-le n ys after fits
+
+-- some more bytes
+pub filled_more : (a b c : Option (List ℕ)) (at room n : ℕ) (buffer part : List ℕ) → at ≤ length buffer → n ≤ length part → Consumes a b (take at buffer) → Consumes b c (take n part) → Consumes a c (take (at + n) (put_mid at room buffer part))
+filled_more a b c at room n buffer part within fits before read =
+    let some = slice_range-put_mid at room n buffer part within fits in
+    let joined = take_split at (at + n) buffer (put_mid at room buffer part) (omega arith) (take-put_mid_below _ _ _ _ _ (le_refl _) within) in
+    subst (Consumes a c) (ap (λ l. take at buffer ++ l) (sym some) ∙ joined) (Consumes-trans a b c _ _ before read)
+
+-- no bytes, on an error
+pub filled_as_before : (a b c : Option (List ℕ)) (at room : ℕ) (buffer part : List ℕ) → at ≤ length buffer → Consumes a b (take at buffer) → Keeps b c → Consumes a c (take at (put_mid at room buffer part))
+filled_as_before a b c at room buffer part within before kept =
+    subst (Consumes a c) (sym (take-put_mid_below _ _ _ _ _ (le_refl _) within)) (Consumes-kept a b c _ before kept)
+
+-- before the first piece nothing is kept
+pub none_kept : (left : Option (List ℕ)) (buffer : List ℕ) → Keeps left (prepend_known (slice_range buffer 0 0) left)
+none_kept None buffer = tt
+none_kept (Some xs) buffer = refl
