@@ -1,7 +1,10 @@
+pub mod FewEdits
+mod HearingAgain
 mod ItemByItem
 mod Members
+pub mod MorePages
 mod Named
-mod Pacing
+pub mod Pacing
 mod PlainScripts
 mod Ranged
 mod Scriptable

@@ -1,7 +1,14 @@
 -- Test vectors: small streams for which each definition holds, and for which it fails.
-use Rattle.std.proofs.Common.{◌≡◌, ◌≢◌, ℕ, false, [], ◌∷◌, Some, None, refl, arith, inr}
+use Rattle.std.proofs.Common.{◌≡◌, ◌≢◌, ℕ, false, [], ◌∷◌, length, Some, None, refl, ap, arith, inr}
+use Rattle.fib_codec.specs.declared.frame_layout.FrameLayout.TheVariants.{Whole}
+use Rattle.fib_codec.specs.declared.modes.Mode.TheVariants.{I, II}
 use Rattle.fib_reader.specs.Raw.{Raw}
+use Rattle.mux_config.specs.Configuration.{Configuration}
+use Rattle.script_tokens.specs.declared.fault.ScriptFault.TheVariants.{Expected, Memory as NoMemory}
+use Rattle.script_config.specs.declared.opening.OpeningFault.TheVariants.{Script, Memory}
 use Rattle.script_config.specs.Ensembles.{named_by_entries, NamesAfter}
+use Rattle.script_config.specs.HeardAgain.{steady, page_frames}
+use Rattle.script_config.specs.Openings.{IsOpeningReason}
 use Rattle.script_config.specs.Texts.{usual_period}
 use Rattle.script_config.specs.Unsaid.{IsFirstUnsaid, IsSaid}
 
@@ -43,3 +50,31 @@ of_many_pages = refl
 
 not_twice : usual_period 29 ≢ 58
 not_twice e = absurd (omega (arith, e))
+
+-- ---- frames of pages
+
+sent_in_every_fourth : steady (Whole I) 57797 4 ≡ Some (record { eid = 57797; change = 0; al = false; count = 4; occurrence = None })
+sent_in_every_fourth = refl
+
+not_in_others : steady (Whole I) 57797 5 ≡ None
+not_in_others = refl
+
+in_each_of_another_mode : steady (Whole II) 57797 5 ≢ None
+in_each_of_another_mode e = absurd (cc)
+
+a_frame_for_each_page : (c : Configuration) → length (page_frames (Whole I) 57797 0 c 3 0) ≡ 3
+a_frame_for_each_page c = refl
+
+no_page_no_frame : (c : Configuration) → page_frames (Whole I) 57797 0 c 1 0 ≢ []
+no_page_no_frame c e = absurd (let lengths : 1 ≡ 0 = ap length e in omega (arith, lengths))
+
+-- ---- reasons
+
+out_of_memory : IsOpeningReason Memory → ⊥
+out_of_memory h = h
+
+out_of_memory_for_the_script : IsOpeningReason (Script NoMemory) → ⊥
+out_of_memory_for_the_script h = h refl
+
+no_script : IsOpeningReason (Script (Expected (record { line = 1; column = 1 })))
+no_script e = absurd (cc)

@@ -1,5 +1,6 @@
 pub mod Ensembles
 pub mod Frames
+pub mod HeardAgain
 pub mod Items
 pub mod Openings
 pub mod Plain

@@ -1,9 +1,10 @@
 -- The opening of the script in a text, or why it has none.
-use Rattle.std.specs.Prelude.{◌≡◌, ℕ, List, Ok, Err}
+use Rattle.std.specs.Prelude.{◌≡◌, ◌≢◌, ℕ, List, Ok, Err}
 use Rattle.mux_types.specs.Configuration.{Configuration, nothing}
 use Rattle.mux_config.specs.Sound.{IsSound, sound_or_fault}
 use Rattle.script_front.specs.Denoting.{IsScriptOf, IsNoScript}
 use Rattle.script_front.specs.Tree.{Tree, IsScript}
+use Rattle.script_tokens.specs.declared.fault.ScriptFault.TheVariants.{Memory as NoMemory}
 use Rattle.plan_code.specs.Program.{IsPlan}
 use Rattle.script_config.specs.Items.{made_by}
 use Rattle.script_config.specs.declared.opening.Opening.{Opening}
@@ -34,3 +35,10 @@ HasNoOpening text (Unsound line fault) =
     (tree : Tree) × IsScript tree × IsScriptOf text tree × (line ≡ tree.begin_line)
     × ((c : Configuration) × (made_by tree.items nothing ≡ Ok c) × (sound_or_fault c ≡ Err fault))
 HasNoOpening text Memory = Unit {0}
+
+-- out of memory is no reason that a text has no opening
+abbrev pub IsOpeningReason : OpeningFault → Type 0
+IsOpeningReason (NoScript fault) = fault ≢ NoMemory
+IsOpeningReason (Item fault) = Unit {0}
+IsOpeningReason (Unsound line fault) = Unit {0}
+IsOpeningReason Memory = ⊥

@@ -7,16 +7,18 @@
 //!   that a picture shows, or the first entry that no configuration has.
 //! - Between two openings: [`fault_between`] says why there is no plan, and [`plan_between`] makes the plan that turns
 //!   one configuration into the other by one reconfiguration.
+//! - The law that a configuration which is sent page by page is heard again is in [`laws`].
 //!
 //! What items make is defined in `specs/Items.antt`, the script of a configuration in `specs/Plain.antt` and its text
 //! in `specs/Texts.antt`; the EId of a stream in `specs/Ensembles.antt`, and entries that no configuration has in
-//! `specs/Unsaid.antt`; the plan in `specs/Plan.antt`, over the edits of `mux_edits` between two configurations, and
-//! the refusals in `specs/Refusals.antt`.
+//! `specs/Unsaid.antt`; the plan in `specs/Plan.antt`, over the edits of `mux_edits` between two configurations,
+//! the refusals in `specs/Refusals.antt`, and what is heard again in `specs/HeardAgain.antt`.
 #![tactic(auto)]
 
 pub mod ensembles;
 pub mod heard;
 pub mod items;
+pub mod laws;
 mod list;
 pub mod opening;
 pub mod plain;

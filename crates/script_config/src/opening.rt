@@ -1,7 +1,8 @@
 //! Reads the opening of a script: its header and the configuration that its items make.
 
-ghost use Rattle.std.specs.Prelude.{IfOk, IfErr};
-ghost use Rattle.script_config.specs.Openings.{IsOpening, Opens, HasNoOpening};
+ghost use Rattle.std.specs.Prelude.{◌≢◌, IfOk, IfErr};
+ghost use Rattle.script_config.specs.Openings.{IsOpening, Opens, HasNoOpening, IsOpeningReason};
+ghost use Rattle.script_config.specs.declared.opening.OpeningFault.TheVariants.{Memory as NoMemory};
 
 use crate::items::{ItemFault, opening_of};
 use mux_config::{Config, ConfigFault, soundness};
@@ -47,6 +48,7 @@ pub fn read_opening(alloc: Global, text: &str) -> Result<Opening, OpeningFault>
     ensures opens { IfOk result (Opens text.now) }
     ensures formed { IfOk result IsOpening }
     ensures fault { IfErr result (HasNoOpening text.now) }
+    ensures reason { IfErr result (λ fault. fault ≢ NoMemory → IsOpeningReason fault) }
 {
     let script = match parse(alloc, text) {
         Ok(script) => script,
