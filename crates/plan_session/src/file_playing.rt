@@ -111,9 +111,8 @@ fn play_again<R: Read + Drop, K: Sink>(
 }
 
 /// Whether an event file can be played part by part: whether each part of the text of a reader, which has less than
-/// 65,536 bytes and ends before a step, lists steps by itself. Such a text lists the steps of its parts, one after
-/// another. None of it is kept. A text that has a fault is not in parts, and neither is one with a comment of 65,536
-/// bytes.
+/// 65,536 bytes and ends before a step, lists steps by itself. None of it is kept. A text that has a fault is not in
+/// parts, and neither is one with a comment of 65,536 bytes.
 ///
 /// # Errors
 ///

@@ -2,8 +2,10 @@
 //!
 //! [`typed_code`] loads a code file; [`read_text`] reads the text of an event file or of a command file, keeping no
 //! more of it than the result depends on; [`read_events`] parses an event file into [`Step`]s, [`read_commands`] a
-//! command file into [`Command`]s; [`StepList`] and [`CommandList`] give them one by one and keep none. [`play`] plays a loaded code over the text of an event file into a sink; [`run`]
-//! does so from the bytes of a code file, and [`run_into`] too, in large pieces. What a text lists is defined in
+//! command file into [`Command`]s; [`StepList`] and [`CommandList`] give them one by one and keep none. [`play`] plays
+//! a loaded code over the text of an event file into a sink; [`run`] does so from the bytes of a code file, and
+//! [`run_into`] too, in large pieces. [`run_again`] plays the text of a reader part by part, if [`lists_in_parts`] was
+//! true of it. What a text lists is defined in
 //! `specs/Events.antt` and `specs/Commands.antt`, what is kept of it in `specs/Kept.antt`; a playback, what it delivers
 //! and its faults in `specs/Playback.antt`.
 #![tactic(auto)]

@@ -49,6 +49,10 @@ The line:
                                 file has
   write failed after 3 frames and 40 bytes
                                 this much of OUT was written: 3 frames, and 40 bytes of the next one
+  events changed after 7281 frames
+                                EVENTS is read twice, and was another text the second time
+  cannot read day.events after 7281 frames
+                                EVENTS could not be read to its end the second time
 
 OUT is created when all of these are found to be good. Where they are refused it stays as it was,
 and is created empty if there is none. '-' is standard output; the line then goes to standard error.
