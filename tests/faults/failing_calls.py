@@ -29,7 +29,9 @@ ROWS = [
     ("compile x.script x.out --explain", ["cannot read x.script\n", "cannot write x.out\n"]),
     ("verify x.code", ["cannot read x.code\n"]),
     ("verify x.code --explain", ["cannot read x.code\n"]),
-    ("play x.code x.events x.out", ["cannot read x.code\n", "cannot read x.events\n", "cannot write x.out\n"]),
+    # the events are read twice
+    ("play x.code x.events x.out",
+     ["cannot read x.code\n", "cannot read x.events\n", "cannot read x.events\n", "cannot write x.out\n"]),
     ("debug x.code x.commands", ["cannot read x.code\n", "cannot read x.commands\n"]),
 ]
 
