@@ -1,6 +1,9 @@
 //! Reads code files, up to a bound that no code file exceeds.
 
-ghost use Rattle.std.specs.Prelude.{◌≡◌, take, IfOk, IfSome};
+ghost use Rattle.std.specs.Prelude.{◌≡◌, ℕ, List, take, IfOk, IfErr, IfSome};
+ghost use Rattle.std.specs.Io.KnownBytes.{Keeps};
+ghost use Rattle.console.specs.Failures.{IsReadFailure};
+ghost use Rattle.console.specs.World.{Stays};
 
 use crate::exit::{Failure, read_file};
 use crate::files::Files;
@@ -11,14 +14,18 @@ use std::alloc::Global;
 const MOST_BYTES: usize = 1_048_576;
 
 /// Reads a code file, or returns why it can't be read. A file longer than any code file is read only as far as
-/// its first fault needs.
+/// its first fault needs. Files keep their bytes.
 pub fn read_code<'a, F: Files>(
     alloc: Global,
     files: &mut F,
     path: &'a str,
 ) -> Result<Vec<u8>, Failure<'a>>
-    ensures { IfOk result (λ read. IfSome (F.known files.old path.now)
+    ensures bytes { IfOk result (λ read. IfSome (F.known files.old path.now)
         (λ bytes. read.items ≡ take 1048577 bytes)) }
+    ensures files { (other : List ℕ)
+        → Keeps (F.known files.old other) (F.known files.new other) }
+    ensures world { Stays (F.world files.old) (F.world files.new) }
+    ensures fault { IfErr result (IsReadFailure path.now) }
 {
     read_file(alloc, files, path, MOST_BYTES + 1)
 }

@@ -162,6 +162,8 @@ pub fn pieces_of<'a, F: Files>(
     ensures file { path.now ≢ codes "-" → IfOk result (λ pieces.
         Keeps (F.known files.old path.now) pieces.left) }
     ensures first { IfOk result (λ pieces. pieces.piece ≡ []) }
+    ensures files { (other : List ℕ)
+        → Keeps (F.known files.old other) (F.known files.new other) }
     ensures world { Stays (F.world files.old) (F.world files.new) }
     ensures fault { IfErr result (IsReadFailure path.now) }
 {
@@ -169,7 +171,7 @@ pub fn pieces_of<'a, F: Files>(
     Pieces::new(alloc, source).map_err(|_| Failure::Memory)
 }
 
-/// The first bytes of the file of this path, at most `most`.
+/// The first bytes of the file of this path, at most `most`. Files keep their bytes.
 ///
 /// If `most` is one more than the longest valid file, a longer file is recognised by its length, and the rest of it is
 /// not read.
@@ -181,6 +183,8 @@ pub fn read_file<'a, F: Files>(
 ) -> Result<Vec<u8>, Failure<'a>>
     ensures bytes { IfOk result (λ read. IfSome (F.known files.old path.now)
         (λ bytes. read.items ≡ take most bytes)) }
+    ensures files { (other : List ℕ)
+        → Keeps (F.known files.old other) (F.known files.new other) }
     ensures world { Stays (F.world files.old) (F.world files.new) }
     ensures fault { IfErr result (IsReadFailure path.now) }
 {
@@ -200,6 +204,8 @@ pub fn read_input<'a, F: Files>(
         IfSome (F.known_input files.old) (λ bytes. read.items ≡ take most bytes)) }
     ensures file { path.now ≢ codes "-" → IfOk result (λ read.
         IfSome (F.known files.old path.now) (λ bytes. read.items ≡ take most bytes)) }
+    ensures files { (other : List ℕ)
+        → Keeps (F.known files.old other) (F.known files.new other) }
     ensures world { Stays (F.world files.old) (F.world files.new) }
     ensures fault { IfErr result (IsReadFailure path.now) }
 {

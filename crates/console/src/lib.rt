@@ -10,6 +10,7 @@ pub mod hexadecimal;
 pub mod laws;
 pub mod lines;
 pub mod memory;
+pub mod named;
 pub mod output;
 pub mod pieces;
 pub mod waiting;
