@@ -6,14 +6,14 @@ use Rattle.script_front.specs.declared.tree.Act.{Act}
 use Rattle.script_front.specs.declared.tree.Act.TheVariants.{Edit as Edits, Wait, WaitContact, Until, CommitIn, CommitAt, Join, Settle}
 use Rattle.script_tokens.specs.declared.keyword.Keyword.{Keyword}
 use Rattle.script_tokens.specs.declared.keyword.Keyword.TheVariants as the
-use Rattle.script_tokens.specs.Keywords.{letters}
+use Rattle.script_tokens.specs.Keywords.{letters, begins_statement}
 use Rattle.script_front.specs.Block.{Block, nothing, basic, stop, when, either, repeat, forever, apply}
 use Rattle.script_front.specs.Alike.{unlined}
 use Rattle.script_front.specs.Tree.{IsAct, IsInBounds, counted}
 use Rattle.script_front.specs.Spelled.{name_at, act_lexemes, braced, block_lexemes}
 use Rattle.script_front.specs.Parsing.{Stops}
 use Rattle.script_tokens.proofs.Keys.{first_is, rest_is, same_key, letters_injective}
-use Rattle.script_front.proofs.Refusing.{act_key, act_begins, key_of_act, begins_edit, edit_key_begins}
+use Rattle.script_front.proofs.Refusing.{act_key, act_begins, key_of_act, edit_key, begins_edit, edit_key_begins}
 use Rattle.script_tokens.specs.Reading.{Spelled}
 
 -- ---- first tokens
@@ -30,23 +30,23 @@ key (apply line number named rest) = the.Apply
 
 -- the keywords that begin a statement without a block, other than `end` and `apply`
 abbrev pub begins_act : Keyword → Bool
-begins_act the.Wait = true
-begins_act the.Until = true
-begins_act the.Commit = true
-begins_act the.Join = true
-begins_act the.Settle = true
-begins_act k = begins_edit k
+begins_act the.End = false
+begins_act the.If = false
+begins_act the.Repeat = false
+begins_act the.Forever = false
+begins_act the.Apply = false
+begins_act k = begins_statement k
+
+pub edit_begins_act : (k : Keyword) → begins_edit k ≡ true → begins_act k ≡ true
+edit_begins_act the.Wait e = refl
+edit_begins_act the.Until e = refl
+edit_begins_act the.Commit e = refl
+edit_begins_act the.Join e = refl
+edit_begins_act the.Settle e = refl
+edit_begins_act k e = e
 
 pub act_key_begins : (a : Act) → begins_act (act_key a) ≡ true
-act_key_begins (Edits e) = through (act_key (Edits e)) (edit_key_begins e)
-  where
-    through : (k : Keyword) → begins_edit k ≡ true → begins_act k ≡ true
-    through the.Wait e = refl
-    through the.Until e = refl
-    through the.Commit e = refl
-    through the.Join e = refl
-    through the.Settle e = refl
-    through k e = e
+act_key_begins (Edits e) = edit_begins_act (edit_key e) (edit_key_begins e)
 act_key_begins (Wait frames) = refl
 act_key_begins (WaitContact contact closed) = refl
 act_key_begins (Until second) = refl

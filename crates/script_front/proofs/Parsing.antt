@@ -2,12 +2,14 @@
 use Rattle.std.proofs.Common.{◌≡◌, ◌≢◌, inl, inr, length, drop, ℕ, ◌+◌, ◌-◌, ◌<◌, ◌≤◌, List, [], ◌∷◌, ◌++◌, refl, sym, ap, ◌∙◌, subst, append_assoc, arith}
 use Rattle.script_front.specs.declared.tree.Act.{Act}
 use Rattle.script_front.specs.declared.tree.Statement.{Statement}
+use Rattle.script_front.specs.declared.tree.Statement.TheOpen.{Statement-F}
+use Rattle.script_front.specs.declared.tree.Statement.TheFolds.{fold-roll-Statement, map-Statement, ind-Statement}
 use Rattle.script_tokens.specs.declared.keyword.Keyword.{Keyword}
 use Rattle.script_tokens.specs.declared.keyword.Keyword.TheVariants as the
 use Rattle.std.specs.Fmt.{decimal}
 use Rattle.script_tokens.specs.Keywords.{letters}
 use Rattle.script_tokens.specs.Reading.{Spelled, Input, Passes, preceded_by, line_of}
-use Rattle.script_front.specs.Block.{Block, Before, nothing, basic, stop, when, either, repeat, forever, apply, before, and_then, block_of}
+use Rattle.script_front.specs.Block.{Block, Before, nothing, basic, stop, when, either, repeat, forever, apply, statement_step, before, and_then, block_of}
 use Rattle.script_front.specs.Spelled.{name_at, act_lexemes, braced, block_lexemes, BlockOn}
 use Rattle.script_front.specs.Tree.{IsAct, counted}
 use Rattle.script_front.specs.Parsing.{IsRead, IsBraced, IsApplied}
@@ -41,6 +43,25 @@ more_read names depth old mid new i j k ss ts s is h l = rw (is) (record {
       record { next = y.next; can = y.can; counts = (let p = x.counts in let q = y.counts in omega (arith, p, q)) }
       );
 })
+
+-- a statement counts
+abbrev IsCounted : Before → Type 0
+IsCounted added = 1 ≤ counted (added nothing)
+
+layer_counted : (y : Statement-F ((s : Statement) × IsCounted (before [] s)))
+    → IsCounted (statement_step [] (map-Statement Statement Before (before []) (map-Statement ((s : Statement) × IsCounted (before [] s)) Statement (λ e. e.0) y)))
+layer_counted (Statement-F.Act line act) = omega arith
+layer_counted (Statement-F.End line) = omega arith
+layer_counted (Statement-F.If line contact first) = omega arith
+layer_counted (Statement-F.IfElse line contact first second) = omega arith
+layer_counted (Statement-F.Repeat line times body) = omega arith
+layer_counted (Statement-F.Forever line body) = omega arith
+layer_counted (Statement-F.Apply line block) = omega arith
+
+pub statement_counted : (s : Statement) → 1 ≤ counted (before [] s nothing)
+statement_counted = ind-Statement (λ s. IsCounted (before [] s)) (λ x y is.
+    subst IsCounted (sym (fold-roll-Statement Before (statement_step []) x))
+    (subst (λ z. IsCounted (statement_step [] (map-Statement Statement Before (before []) z))) is (layer_counted y)))
 
 -- an input is given by its tokens and lines
 pub same_input : (i : Input) (ws : Spelled) (ls : List ℕ) → i.lexemes ≡ ws → i.lines ≡ ls → i ≡ record { lexemes = ws; lines = ls }

@@ -1,5 +1,5 @@
 -- Where a part of a script is refused, its tokens are not those of any such part.
-use Rattle.std.proofs.Common.{◌≡◌, ◌≢◌, ℕ, ◌<◌, ◌≤◌, Bool, true, false, List, [], ◌∷◌, ◌++◌, length, drop, refl, sym, ap, ◌∙◌, subst, append_assoc, arith}
+use Rattle.std.proofs.Common.{◌≡◌, ◌≢◌, ℕ, ◌<◌, ◌≤◌, Bool, true, false, [], ◌∷◌, ◌++◌, length, drop, refl, sym, ap, ◌∙◌, subst, append_assoc, arith}
 use Rattle.std.specs.Fmt.{decimal}
 use Rattle.mux_config.specs.declared.edit.Edit.{Edit}
 use Rattle.mux_config.specs.declared.edit.Edit.TheVariants.{AddSub, DropSub, MoveSub, RateSub, AddService, DropService, AddComponent, DropComponent, AddPacket, DropPacket}
@@ -33,7 +33,7 @@ use Rattle.script_tokens.specs.Reading.{Spelled, Input, Passes, preceded_by}
 use Rattle.script_front.specs.Spelled.{within_lexemes, groups_text, carried_lexemes, carrier_lexemes, edit_lexemes, act_lexemes}
 use Rattle.script_front.specs.Parsing.{NoneOf}
 use Rattle.script_tokens.proofs.Keys.{word_the, rest_is, same_key}
-use Rattle.script_front.proofs.Edits.{same_carried, same_carrier, edit_in, edit_by, edit_again, act_in, act_by, act_again, wait_by, commit_by}
+use Rattle.script_front.proofs.Edits.{same_carried, same_carrier, carried_by, edit_in, edit_by, edit_again, dropped_by, act_in, act_by, act_again, wait_by, commit_by}
 
 -- the tokens that remain after some were passed
 pub left_over : (ws vs : Spelled) (i j : Input) (rest : Spelled) → length ws ≡ length vs → Passes ws i j → i.lexemes ≡ vs ++ rest → j.lexemes ≡ rest
@@ -98,35 +98,30 @@ no_component i none q rest k e = none q.1 (within_lexemes q.0 ++ rest) k.1 (e �
 -- ---- edits
 
 -- tokens that spell an edit give that edit
-edit_is : (k : Keyword) (ws : Spelled) (e : Edit) (rest : Spelled) → IsEdit e → letters k ∷ ws ≡ edit_lexemes e ++ rest → edit_by (is k) (letters k ∷ ws) ≡ (e, rest)
-edit_is k ws e rest h eq = ap (λ w. edit_by w (letters k ∷ ws)) (sym (word_the k)) ∙ ap edit_in eq ∙ edit_again e rest h
-
 record IsSeen (ws : Spelled) (e : Edit) (rest : Spelled) : Type 0 where
   pub formed : IsEdit e
   pub spelled : ws ≡ edit_lexemes e ++ rest
 
-seen : (ws : Spelled) (x e : Edit) (rest : Spelled) → x ≡ e → IsEdit e → ws ≡ edit_lexemes e ++ rest → IsSeen ws x rest
-seen ws x e rest same h eq = record { formed = subst IsEdit (sym same) h; spelled = subst (λ (y : Edit). ws ≡ edit_lexemes y ++ rest) (sym same) eq }
+edit_seen : (k : Keyword) (ws : Spelled) (e : Edit) (rest : Spelled) → IsEdit e → letters k ∷ ws ≡ edit_lexemes e ++ rest → IsSeen (letters k ∷ ws) (edit_by (is k) (letters k ∷ ws)).0 rest
+edit_seen k ws e rest h eq =
+    let all = ap (λ w. edit_by w (letters k ∷ ws)) (sym (word_the k)) ∙ ap edit_in eq ∙ edit_again e rest h in
+    let same = ap (λ p. p.0) all in
+    record { formed = subst IsEdit (sym same) h; spelled = subst (λ (y : Edit). letters k ∷ ws ≡ edit_lexemes y ++ rest) (sym same) eq }
 
 pub no_new_sub : (i : Input) → NoneOf Sub IsNewSub (λ s. edit_lexemes (AddSub s)) (preceded_by the.Sub i) → NoneOf Edit IsEdit edit_lexemes (preceded_by the.Sub i)
-no_new_sub i none e rest h eq =
-    let s = seen (letters the.Sub ∷ i.lexemes) _ e rest (ap (λ p. p.0) (edit_is the.Sub i.lexemes e rest h eq)) h eq in none _ rest s.formed s.spelled
+no_new_sub i none e rest h eq = let s = edit_seen the.Sub i.lexemes e rest h eq in none _ rest s.formed s.spelled
 
 pub no_new_packet : (i : Input) → NoneOf Packet IsNewPacket (λ s. edit_lexemes (AddPacket s)) (preceded_by the.Packet i) → NoneOf Edit IsEdit edit_lexemes (preceded_by the.Packet i)
-no_new_packet i none e rest h eq =
-    let s = seen (letters the.Packet ∷ i.lexemes) _ e rest (ap (λ p. p.0) (edit_is the.Packet i.lexemes e rest h eq)) h eq in none _ rest s.formed s.spelled
+no_new_packet i none e rest h eq = let s = edit_seen the.Packet i.lexemes e rest h eq in none _ rest s.formed s.spelled
 
 pub no_new_service : (i : Input) → ((s : Sid) (rest : Spelled) → IsSid s → i.lexemes ≢ sid_text s ∷ rest) → NoneOf Edit IsEdit edit_lexemes (preceded_by the.Service i)
-no_new_service i none e rest h eq =
-    let s = seen (letters the.Service ∷ i.lexemes) _ e rest (ap (λ p. p.0) (edit_is the.Service i.lexemes e rest h eq)) h eq in none _ rest s.formed (rest_is _ _ _ _ s.spelled)
+no_new_service i none e rest h eq = let s = edit_seen the.Service i.lexemes e rest h eq in none _ rest s.formed (rest_is _ _ _ _ s.spelled)
 
 pub no_move : (i : Input) → NoneOf (ℕ × ℕ) (λ p. (p.0 < 64) × (p.1 < 1024)) (λ p. edit_lexemes (MoveSub p.0 p.1)) (preceded_by the.Move i) → NoneOf Edit IsEdit edit_lexemes (preceded_by the.Move i)
-no_move i none e rest h eq =
-    let s = seen (letters the.Move ∷ i.lexemes) _ e rest (ap (λ p. p.0) (edit_is the.Move i.lexemes e rest h eq)) h eq in none (_, _) rest s.formed s.spelled
+no_move i none e rest h eq = let s = edit_seen the.Move i.lexemes e rest h eq in none (_, _) rest s.formed s.spelled
 
 pub no_rate : (i : Input) → NoneOf (ℕ × ℕ) (λ p. (p.0 < 64) × (p.1 < 65536)) (λ p. edit_lexemes (RateSub p.0 p.1)) (preceded_by the.Rate i) → NoneOf Edit IsEdit edit_lexemes (preceded_by the.Rate i)
-no_rate i none e rest h eq =
-    let s = seen (letters the.Rate ∷ i.lexemes) _ e rest (ap (λ p. p.0) (edit_is the.Rate i.lexemes e rest h eq)) h eq in none (_, _) rest s.formed s.spelled
+no_rate i none e rest h eq = let s = edit_seen the.Rate i.lexemes e rest h eq in none (_, _) rest s.formed s.spelled
 
 -- the keyword that begins an edit
 abbrev pub edit_key : Edit → Keyword
@@ -161,20 +156,6 @@ pub key_of_edit : (first : Keyword) (ws : Spelled) (e : Edit) (rest : Spelled) �
 key_of_edit first ws e rest eq = same_key first (edit_key e) ws (drop 1 (edit_lexemes e ++ rest)) (eq ∙ edit_begins e rest)
 
 -- no other edit begins with the keyword of a component, or of an item
-abbrev begins_component : Keyword → Bool
-begins_component the.Audio = true
-begins_component the.Data = true
-begins_component the.Carry = true
-begins_component _ = false
-
-component_begins : (k : ComponentKeyword) → begins_component (component_keyword k) ≡ true
-component_begins component.Audio = refl
-component_begins component.Data = refl
-component_begins component.Carry = refl
-
-no_component_key : (k : ComponentKeyword) (other : Keyword) → begins_component other ≡ false → component_keyword k ≡ other → ⊥
-no_component_key k other none same = false≢true (sym none ∙ ap begins_component (sym same) ∙ component_begins k)
-
 pub item_begins : (k : ItemKeyword) → begins_item (item_keyword k) ≡ true
 item_begins item.Sub = refl
 item_begins item.Service = refl
@@ -189,16 +170,9 @@ no_item_key k other none same = false≢true (sym none ∙ ap begins_item (sym s
 pub no_other_item : (k : ComponentKeyword) (i : Input)
     → NoneOf (Sid × Component) (λ p. IsSid p.0 × IsComponent p.1) (λ p. edit_lexemes (AddComponent p.0 p.1)) (preceded_by (component_keyword k) i)
     → NoneOf Edit (λ e. IsEdit e × Adds e) edit_lexemes (preceded_by (component_keyword k) i)
-no_other_item k i none (AddSub s) rest h eq = no_component_key k the.Sub refl (key_of_edit (component_keyword k) i.lexemes (AddSub s) rest eq)
-no_other_item k i none (AddService sid) rest h eq = no_component_key k the.Service refl (key_of_edit (component_keyword k) i.lexemes (AddService sid) rest eq)
-no_other_item k i none (AddPacket p) rest h eq = no_component_key k the.Packet refl (key_of_edit (component_keyword k) i.lexemes (AddPacket p) rest eq)
-no_other_item k i none (AddComponent sid m) rest h eq = none (sid, m) rest h.0 eq
-no_other_item k i none (DropSub id) rest h eq = absurd h.1
-no_other_item k i none (MoveSub id start) rest h eq = absurd h.1
-no_other_item k i none (RateSub id kbits) rest h eq = absurd h.1
-no_other_item k i none (DropService sid) rest h eq = absurd h.1
-no_other_item k i none (DropComponent sid m) rest h eq = absurd h.1
-no_other_item k i none (DropPacket scid) rest h eq = absurd h.1
+no_other_item component.Audio i none e rest h eq = let s = edit_seen the.Audio i.lexemes e rest h.0 eq in none (_, (carried_by (is the.Audio) (letters the.Audio ∷ i.lexemes)).0) rest s.formed s.spelled
+no_other_item component.Data i none e rest h eq = let s = edit_seen the.Data i.lexemes e rest h.0 eq in none (_, (carried_by (is the.Data) (letters the.Data ∷ i.lexemes)).0) rest s.formed s.spelled
+no_other_item component.Carry i none e rest h eq = let s = edit_seen the.Carry i.lexemes e rest h.0 eq in none (_, (carried_by (is the.Carry) (letters the.Carry ∷ i.lexemes)).0) rest s.formed s.spelled
 
 pub no_item : (i : Input) → NoneOf Edit IsEdit edit_lexemes i → NoneOf Edit (λ e. IsEdit e × Adds e) edit_lexemes i
 no_item i none e rest h eq = none e rest h.0 eq
@@ -217,42 +191,23 @@ no_other_edit k i none (DropPacket scid) rest h eq = no_item_key k the.Drop refl
 
 -- ---- what follows `drop`
 
-second : (a b : List ℕ) (x y : List ℕ) (vs ws : Spelled) → a ∷ x ∷ vs ≡ b ∷ y ∷ ws → x ∷ vs ≡ y ∷ ws
-second a b x y vs ws e = cc
-
 abbrev NoDropped : Spelled → Type 0
 NoDropped ws = (e : Edit) (rest : Spelled) → IsEdit e → letters the.Drop ∷ ws ≢ edit_lexemes e ++ rest
 
+-- the edit that begins with `drop` and this keyword
+drop_seen : (k : Keyword) (ws : Spelled) (e : Edit) (rest : Spelled) → IsEdit e → letters the.Drop ∷ letters k ∷ ws ≡ edit_lexemes e ++ rest
+    → IsSeen (letters the.Drop ∷ letters k ∷ ws) (dropped_by (is k) (letters the.Drop ∷ letters k ∷ ws)).0 rest
+drop_seen k ws e rest h eq =
+    subst (λ w. IsSeen (letters the.Drop ∷ letters k ∷ ws) (dropped_by w (letters the.Drop ∷ letters k ∷ ws)).0 rest) (word_the k) (edit_seen the.Drop (letters k ∷ ws) e rest h eq)
+
 pub no_drop_service : (ws : Spelled) → ((s : Sid) (rest : Spelled) → IsSid s → ws ≢ sid_text s ∷ rest) → NoDropped (letters the.Service ∷ ws)
-no_drop_service ws none (DropService sid) rest h eq = none sid rest h (rest_is _ _ _ _ (rest_is _ _ _ _ eq))
-no_drop_service ws none (DropSub id) rest h eq = let f = same_key the.Service the.Sub _ _ (rest_is _ _ _ _ eq) in absurd cc
-no_drop_service ws none (DropComponent sid m) rest h eq = let f = same_key the.Service the.Component _ _ (rest_is _ _ _ _ eq) in absurd cc
-no_drop_service ws none (DropPacket scid) rest h eq = let f = same_key the.Service the.Packet _ _ (rest_is _ _ _ _ eq) in absurd cc
-no_drop_service ws none (AddSub s) rest h eq = let f = key_of_edit the.Drop _ (AddSub s) rest eq in absurd cc
-no_drop_service ws none (AddService sid) rest h eq = let f = key_of_edit the.Drop _ (AddService sid) rest eq in absurd cc
-no_drop_service ws none (AddPacket p) rest h eq = let f = key_of_edit the.Drop _ (AddPacket p) rest eq in absurd cc
-no_drop_service ws none (MoveSub id start) rest h eq = let f = key_of_edit the.Drop _ (MoveSub id start) rest eq in absurd cc
-no_drop_service ws none (RateSub id kbits) rest h eq = let f = key_of_edit the.Drop _ (RateSub id kbits) rest eq in absurd cc
-no_drop_service ws none (AddComponent sid (Sound ty sub)) rest h eq = let f = key_of_edit the.Drop _ (AddComponent sid (Sound ty sub)) rest eq in absurd cc
-no_drop_service ws none (AddComponent sid (Stream ty sub)) rest h eq = let f = key_of_edit the.Drop _ (AddComponent sid (Stream ty sub)) rest eq in absurd cc
-no_drop_service ws none (AddComponent sid (InPackets scid)) rest h eq = let f = key_of_edit the.Drop _ (AddComponent sid (InPackets scid)) rest eq in absurd cc
+no_drop_service ws none e rest h eq = let s = drop_seen the.Service ws e rest h eq in none _ rest s.formed (rest_is _ _ _ _ (rest_is _ _ _ _ s.spelled))
 
 abbrev NoPlaced : Spelled → Type 0
 NoPlaced ws = (m : Carrier) (sid : Sid) (rest : Spelled) → IsCarrier m → IsSid sid → ws ≢ (carrier_lexemes m ++ within_lexemes sid) ++ rest
 
 pub no_drop_component : (ws : Spelled) → NoPlaced ws → NoDropped (letters the.Component ∷ ws)
-no_drop_component ws none (DropComponent sid m) rest h eq = none m sid rest h.1 h.0 (rest_is _ _ _ _ (rest_is _ _ _ _ eq))
-no_drop_component ws none (DropService sid) rest h eq = let f = same_key the.Component the.Service _ _ (rest_is _ _ _ _ eq) in absurd cc
-no_drop_component ws none (DropSub id) rest h eq = let f = same_key the.Component the.Sub _ _ (rest_is _ _ _ _ eq) in absurd cc
-no_drop_component ws none (DropPacket scid) rest h eq = let f = same_key the.Component the.Packet _ _ (rest_is _ _ _ _ eq) in absurd cc
-no_drop_component ws none (AddSub s) rest h eq = let f = key_of_edit the.Drop _ (AddSub s) rest eq in absurd cc
-no_drop_component ws none (AddService sid) rest h eq = let f = key_of_edit the.Drop _ (AddService sid) rest eq in absurd cc
-no_drop_component ws none (AddPacket p) rest h eq = let f = key_of_edit the.Drop _ (AddPacket p) rest eq in absurd cc
-no_drop_component ws none (MoveSub id start) rest h eq = let f = key_of_edit the.Drop _ (MoveSub id start) rest eq in absurd cc
-no_drop_component ws none (RateSub id kbits) rest h eq = let f = key_of_edit the.Drop _ (RateSub id kbits) rest eq in absurd cc
-no_drop_component ws none (AddComponent sid (Sound ty sub)) rest h eq = let f = key_of_edit the.Drop _ (AddComponent sid (Sound ty sub)) rest eq in absurd cc
-no_drop_component ws none (AddComponent sid (Stream ty sub)) rest h eq = let f = key_of_edit the.Drop _ (AddComponent sid (Stream ty sub)) rest eq in absurd cc
-no_drop_component ws none (AddComponent sid (InPackets scid)) rest h eq = let f = key_of_edit the.Drop _ (AddComponent sid (InPackets scid)) rest eq in absurd cc
+no_drop_component ws none e rest h eq = let s = drop_seen the.Component ws e rest h eq in none _ _ rest s.formed.1 s.formed.0 (rest_is _ _ _ _ (rest_is _ _ _ _ s.spelled))
 
 pub no_drop_other : (lexemes : Spelled) → NoneNext lexemes the.Service → NoneNext lexemes the.Component
     → ((m : Carrier) (rest : Spelled) → IsCarrier m → lexemes ≢ carrier_lexemes m ++ rest) → NoDropped lexemes
@@ -279,15 +234,15 @@ no_dropped_place i j n good p none m sid rest h k eq =
 
 -- ---- statements without a block
 
-act_is : (k : Keyword) (ws : Spelled) (a : Act) (rest : Spelled) → IsAct a → letters k ∷ ws ≡ act_lexemes a ++ rest → act_by (is k) (letters k ∷ ws) ≡ (a, rest)
-act_is k ws a rest h eq = ap (λ w. act_by w (letters k ∷ ws)) (sym (word_the k)) ∙ ap act_in eq ∙ act_again a rest h
-
 record IsRan (ws : Spelled) (a : Act) (rest : Spelled) : Type 0 where
   pub formed : IsAct a
   pub spelled : ws ≡ act_lexemes a ++ rest
 
-ran : (ws : Spelled) (x a : Act) (rest : Spelled) → x ≡ a → IsAct a → ws ≡ act_lexemes a ++ rest → IsRan ws x rest
-ran ws x a rest same h eq = record { formed = subst IsAct (sym same) h; spelled = subst (λ (y : Act). ws ≡ act_lexemes y ++ rest) (sym same) eq }
+act_ran : (k : Keyword) (ws : Spelled) (a : Act) (rest : Spelled) → IsAct a → letters k ∷ ws ≡ act_lexemes a ++ rest → IsRan (letters k ∷ ws) (act_by (is k) (letters k ∷ ws)).0 rest
+act_ran k ws a rest h eq =
+    let all = ap (λ w. act_by w (letters k ∷ ws)) (sym (word_the k)) ∙ ap act_in eq ∙ act_again a rest h in
+    let same = ap (λ p. p.0) all in
+    record { formed = subst IsAct (sym same) h; spelled = subst (λ (y : Act). letters k ∷ ws ≡ act_lexemes y ++ rest) (sym same) eq }
 
 abbrev pub act_key : Act → Keyword
 act_key (Edits e) = edit_key e
@@ -346,17 +301,14 @@ abbrev pub NoAct : Keyword → Spelled → Type 0
 NoAct k ws = (a : Act) (rest : Spelled) → IsAct a → letters k ∷ ws ≢ act_lexemes a ++ rest
 
 pub no_until : (ws : Spelled) → ((t : ℕ) (rest : Spelled) → t < 86400 → ws ≢ time_text t ∷ rest) → NoAct the.Until ws
-no_until ws none a rest h eq = let s = ran (letters the.Until ∷ ws) _ a rest (ap (λ p. p.0) (act_is the.Until ws a rest h eq)) h eq in none _ rest s.formed (rest_is _ _ _ _ s.spelled)
-
-waits_is : (k : Keyword) (ws : Spelled) (a : Act) (rest : Spelled) → IsAct a → letters the.Wait ∷ letters k ∷ ws ≡ act_lexemes a ++ rest → wait_by (is k) (letters the.Wait ∷ letters k ∷ ws) ≡ (a, rest)
-waits_is k ws a rest h eq = ap (λ w. wait_by w (letters the.Wait ∷ letters k ∷ ws)) (sym (word_the k)) ∙ act_is the.Wait (letters k ∷ ws) a rest h eq
+no_until ws none a rest h eq = let s = act_ran the.Until ws a rest h eq in none _ rest s.formed (rest_is _ _ _ _ s.spelled)
 
 abbrev pub NoLevel : Spelled → Type 0
 NoLevel ws = (contact : ℕ) (closed : Bool) (rest : Spelled) → contact < 16 → ws ≢ decimal contact ∷ level_text closed ∷ rest
 
 pub no_wait_contact : (ws : Spelled) → NoLevel ws → NoAct the.Wait (letters the.Contact ∷ ws)
 no_wait_contact ws none a rest h eq =
-    let s = ran (letters the.Wait ∷ letters the.Contact ∷ ws) _ a rest (ap (λ p. p.0) (waits_is the.Contact ws a rest h eq)) h eq in
+    let s = subst (λ w. IsRan (letters the.Wait ∷ letters the.Contact ∷ ws) (wait_by w (letters the.Wait ∷ letters the.Contact ∷ ws)).0 rest) (word_the the.Contact) (act_ran the.Wait _ a rest h eq) in
     none _ _ rest s.formed (rest_is _ _ _ _ (rest_is _ _ _ _ s.spelled))
 
 pub no_wait : (ws : Spelled) → ((rest : Spelled) → ws ≢ letters the.Contact ∷ rest) → ((n : ℕ) (rest : Spelled) → 1 ≤ n → n < 65536 → ws ≢ decimal n ∷ rest) → NoAct the.Wait ws
@@ -369,18 +321,16 @@ no_wait ws other none (CommitAt count) rest h eq = let f = key_of_act the.Wait w
 no_wait ws other none Join rest h eq = let f = key_of_act the.Wait ws Join rest eq in absurd cc
 no_wait ws other none Settle rest h eq = let f = key_of_act the.Wait ws Settle rest eq in absurd cc
 
-commits_is : (k : Keyword) (ws : Spelled) (a : Act) (rest : Spelled) → IsAct a → letters the.Commit ∷ letters k ∷ ws ≡ act_lexemes a ++ rest → commit_by (is k) (letters the.Commit ∷ letters k ∷ ws) ≡ (a, rest)
-commits_is k ws a rest h eq = ap (λ w. commit_by w (letters the.Commit ∷ letters k ∷ ws)) (sym (word_the k)) ∙ act_is the.Commit (letters k ∷ ws) a rest h eq
+commit_ran : (k : Keyword) (ws : Spelled) (a : Act) (rest : Spelled) → IsAct a → letters the.Commit ∷ letters k ∷ ws ≡ act_lexemes a ++ rest
+    → IsRan (letters the.Commit ∷ letters k ∷ ws) (commit_by (is k) (letters the.Commit ∷ letters k ∷ ws)).0 rest
+commit_ran k ws a rest h eq =
+    subst (λ w. IsRan (letters the.Commit ∷ letters k ∷ ws) (commit_by w (letters the.Commit ∷ letters k ∷ ws)).0 rest) (word_the k) (act_ran the.Commit (letters k ∷ ws) a rest h eq)
 
 pub no_commit_in : (ws : Spelled) → ((n : ℕ) (rest : Spelled) → 1 ≤ n → n ≤ 60000 → ws ≢ decimal n ∷ rest) → NoAct the.Commit (letters the.In ∷ ws)
-no_commit_in ws none a rest h eq =
-    let s = ran (letters the.Commit ∷ letters the.In ∷ ws) _ a rest (ap (λ p. p.0) (commits_is the.In ws a rest h eq)) h eq in
-    none _ rest s.formed.0 s.formed.1 (rest_is _ _ _ _ (rest_is _ _ _ _ s.spelled))
+no_commit_in ws none a rest h eq = let s = commit_ran the.In ws a rest h eq in none _ rest s.formed.0 s.formed.1 (rest_is _ _ _ _ (rest_is _ _ _ _ s.spelled))
 
 pub no_commit_at : (ws : Spelled) → ((n : ℕ) (rest : Spelled) → n < 65536 → ws ≢ decimal n ∷ rest) → NoAct the.Commit (letters the.At ∷ ws)
-no_commit_at ws none a rest h eq =
-    let s = ran (letters the.Commit ∷ letters the.At ∷ ws) _ a rest (ap (λ p. p.0) (commits_is the.At ws a rest h eq)) h eq in
-    none _ rest s.formed (rest_is _ _ _ _ (rest_is _ _ _ _ s.spelled))
+no_commit_at ws none a rest h eq = let s = commit_ran the.At ws a rest h eq in none _ rest s.formed (rest_is _ _ _ _ (rest_is _ _ _ _ s.spelled))
 
 -- the tokens after `commit` begin with neither `in` nor `at`
 pub no_commit : (lexemes : Spelled) → ((rest : Spelled) → lexemes ≢ letters the.In ∷ rest) → ((rest : Spelled) → lexemes ≢ letters the.At ∷ rest) → NoAct the.Commit lexemes
@@ -393,7 +343,7 @@ no_commit lexemes x y (Until second) rest h eq = let g = key_of_act the.Commit l
 no_commit lexemes x y Join rest h eq = let g = key_of_act the.Commit lexemes Join rest eq in absurd cc
 no_commit lexemes x y Settle rest h eq = let g = key_of_act the.Commit lexemes Settle rest eq in absurd cc
 
-begins_as_edit : (k : EditKeyword) → begins_edit (edit_keyword k) ≡ true
+pub begins_as_edit : (k : EditKeyword) → begins_edit (edit_keyword k) ≡ true
 begins_as_edit edit.Drop = refl
 begins_as_edit edit.Move = refl
 begins_as_edit edit.Rate = refl

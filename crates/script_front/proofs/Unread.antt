@@ -8,10 +8,6 @@ use Rattle.script_tokens.specs.declared.keyword.Keyword.{Keyword}
 use Rattle.script_tokens.specs.declared.keyword.Keyword.TheVariants as the
 use Rattle.script_tokens.specs.Keywords.{letters, begins_statement}
 use Rattle.script_tokens.specs.First.{edit_keyword, act_keyword}
-use Rattle.script_tokens.specs.declared.first_keyword.ComponentKeyword.TheVariants as component
-use Rattle.script_tokens.specs.declared.first_keyword.ItemKeyword.TheVariants as item
-use Rattle.script_tokens.specs.declared.first_keyword.EditKeyword.{EditKeyword}
-use Rattle.script_tokens.specs.declared.first_keyword.EditKeyword.TheVariants as edit
 use Rattle.script_tokens.specs.declared.first_keyword.ActKeyword.{ActKeyword}
 use Rattle.script_tokens.specs.declared.first_keyword.ActKeyword.TheVariants as act
 use Rattle.std.proofs.lemmas.Bool.{false≢true}
@@ -21,8 +17,8 @@ use Rattle.script_tokens.specs.Reading.{Spelled, Input, Passes, BeginsWith, prec
 use Rattle.script_front.specs.Spelled.{name_at, act_lexemes, block_lexemes}
 use Rattle.script_front.specs.Parsing.{Stops, CanBe, NoBlock, NoBody, NoApplied, IsRead, IsBraced}
 use Rattle.script_tokens.proofs.Keys.{first_is, rest_is}
-use Rattle.script_front.proofs.Refusing.{NoAct}
-use Rattle.script_front.proofs.Blocks.{key, begins_act, act_key_begins, key_is, key_first, all_read, after_apply, after_forever, after_repeat, after_if, no_else}
+use Rattle.script_front.proofs.Refusing.{NoAct, act_key, begins_as_edit}
+use Rattle.script_front.proofs.Blocks.{key, begins_act, edit_begins_act, act_key_begins, key_is, key_first, all_read, after_apply, after_forever, after_repeat, after_if, no_else}
 
 pub refused : {X T : Type 0} (r : Result X ScriptFault) → T → IfErr r (λ e. e ≢ Memory → T)
 refused (Ok x) t = tt
@@ -35,50 +31,15 @@ passes_two a b i m j p q = (p.0 ∙ ap (λ (ws : Spelled). a ∷ ws) q.0, q.1 �
 
 key_begins : (b : Block) → (b ≡ nothing → ⊥) → begins_statement (key b) ≡ true
 key_begins nothing some = absurd (some refl)
-key_begins (basic line act r) some = through (key (basic line act r)) (act_key_begins act)
+key_begins (basic line act r) some = through (act_key act) (act_key_begins act)
   where
     through : (k : Keyword) → begins_act k ≡ true → begins_statement k ≡ true
-    through the.Wait e = refl
-    through the.Until e = refl
-    through the.Commit e = refl
-    through the.Join e = refl
-    through the.Settle e = refl
-    through the.Sub e = refl
-    through the.Drop e = refl
-    through the.Move e = refl
-    through the.Rate e = refl
-    through the.Service e = refl
-    through the.Audio e = refl
-    through the.Data e = refl
-    through the.Carry e = refl
-    through the.Packet e = refl
     through the.End e = refl
     through the.If e = refl
     through the.Repeat e = refl
     through the.Forever e = refl
     through the.Apply e = refl
-    through the.Ensemble e = e
-    through the.Mode e = e
-    through the.Period e = e
-    through the.Notice e = e
-    through the.Budget e = e
-    through the.Reserve e = e
-    through the.Define e = e
-    through the.Begin e = e
-    through the.At e = e
-    through the.Eep e = e
-    through the.In e = e
-    through the.Groups e = e
-    through the.Raw e = e
-    through the.TypeWord e = e
-    through the.Address e = e
-    through the.Component e = e
-    through the.Contact e = e
-    through the.Closed e = e
-    through the.Open e = e
-    through the.Else e = e
-    through the.OpenBrace e = e
-    through the.CloseBrace e = e
+    through k e = e
 key_begins (stop line r) some = refl
 key_begins (when line contact first r) some = refl
 key_begins (either line contact first second r) some = refl
@@ -114,24 +75,13 @@ no_block_at names depth n m lexemes vs e f none named b rest few can =
 
 -- ---- each kind of statement
 
-edit_begins_act : (k : EditKeyword) → begins_act (edit_keyword k) ≡ true
-edit_begins_act edit.Drop = refl
-edit_begins_act edit.Move = refl
-edit_begins_act edit.Rate = refl
-edit_begins_act (edit.Item item.Sub) = refl
-edit_begins_act (edit.Item item.Service) = refl
-edit_begins_act (edit.Item item.Packet) = refl
-edit_begins_act (edit.Item (item.Component component.Audio)) = refl
-edit_begins_act (edit.Item (item.Component component.Data)) = refl
-edit_begins_act (edit.Item (item.Component component.Carry)) = refl
-
 begins_as_act : (k : ActKeyword) → begins_act (act_keyword k) ≡ true
 begins_as_act act.Wait = refl
 begins_as_act act.Until = refl
 begins_as_act act.Commit = refl
 begins_as_act act.Join = refl
 begins_as_act act.Settle = refl
-begins_as_act (act.Edit k) = edit_begins_act k
+begins_as_act (act.Edit k) = edit_begins_act (edit_keyword k) (begins_as_edit k)
 
 no_act_key : (k : ActKeyword) (other : Keyword) → begins_act other ≡ false → other ≡ act_keyword k → ⊥
 no_act_key k other none same = false≢true (sym none ∙ ap begins_act same ∙ begins_as_act k)

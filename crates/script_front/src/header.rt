@@ -30,7 +30,6 @@ fn declared(reader: &mut Reader, keyword: Keyword, low: u8, high: u8) -> Result<
     ensures range { IfOk result (λ n. (low ≤ n) × (n ≤ high)) }
     ensures none { OnErr result (NoneOf ℕ (λ n. (low ≤ n) × (n ≤ high)) (λ n. letters keyword ∷
         decimal n ∷ []) reader.old) }
-    ensures shorter { OnOk result (length reader.new.lexemes < length reader.old.lexemes) }
 {
     reader.expect(keyword)?;
     let value = decimal(reader, u32::from(low), u32::from(high))?;
@@ -45,7 +44,6 @@ fn mode(reader: &mut Reader) -> Result<Mode, ScriptFault>
     ensures only { OnOk result ((m : Mode) (rest : List (List ℕ))
         → reader.old.lexemes ≡ mode_lexemes m ++ letters the.Period ∷ rest → reader.new.lexemes ≡
         letters the.Period ∷ rest) }
-    ensures shorter { OnOk result (length reader.new.lexemes ≤ length reader.old.lexemes) }
 {
     if !reader.is_next(Keyword::Mode) {
         return Ok(Mode::I);
@@ -61,7 +59,6 @@ fn later_mode(reader: &mut Reader) -> Result<Mode, ScriptFault>
     ensures spells { IfOk result (λ m. Passes (mode_lexemes m) (preceded_by the.Mode reader.old)
         reader.new) }
     ensures none { OnErr result (NoneOf Mode (λ m. m ≢ I) mode_lexemes (preceded_by the.Mode reader.old)) }
-    ensures shorter { OnOk result (length reader.new.lexemes < length reader.old.lexemes) }
 {
     let number = decimal(reader, 2, 4)?;
     match number {
@@ -79,7 +76,6 @@ fn layout(reader: &mut Reader, mode: Mode) -> Result<FrameLayout, ScriptFault>
         → BeginsNoReserve rest → reader.old.lexemes ≢ reserve_lexemes l ++ rest) }
     ensures only { OnOk result ((l : FrameLayout) (rest : List (List ℕ)) → BeginsNoReserve rest
         → reader.old.lexemes ≡ reserve_lexemes l ++ rest → reader.new.lexemes ≡ rest) }
-    ensures shorter { OnOk result (length reader.new.lexemes ≤ length reader.old.lexemes) }
 {
     if !reader.is_next(Keyword::Reserve) {
         return Ok(FrameLayout::Whole(mode));
@@ -97,7 +93,6 @@ fn reserving(reader: &mut Reader, mode: Mode) -> Result<FrameLayout, ScriptFault
         reader.new) }
     ensures none { OnErr result ((l : FrameLayout) (rest : List (List ℕ)) → layout_mode l ≡ mode
         → 1 ≤ reserved_fibs l → reader.old.lexemes ≢ decimal (reserved_fibs l) ∷ rest) }
-    ensures shorter { OnOk result (length reader.new.lexemes < length reader.old.lexemes) }
 {
     let most = mode.fibs() as u32 - 2;
     let number = decimal(reader, 1, most)?;
@@ -114,7 +109,6 @@ pub fn header(reader: &mut Reader) -> Result<Plan, ScriptFault>
     ensures none { OnErr result (NoHeader reader.old) }
     ensures only { OnOk result ((h : Plan) (rest : List (List ℕ)) → BeginsNoReserve rest
         → reader.old.lexemes ≡ header_lexemes h ++ rest → reader.new.lexemes ≡ rest) }
-    ensures shorter { OnOk result (length reader.new.lexemes < length reader.old.lexemes) }
 {
     reader.expect(Keyword::Ensemble)?;
     let eid = eid(reader)?;

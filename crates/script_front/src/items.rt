@@ -40,7 +40,6 @@ fn sub(reader: &mut Reader) -> Result<SubId, ScriptFault>
     ensures range { IfOk result (λ s. s < 64) }
     ensures none { OnErr result (NoneOf ℕ (λ s. s < 64) (λ s. letters the.Sub ∷ decimal s ∷ [])
         reader.old) }
-    ensures shorter { OnOk result (length reader.new.lexemes < length reader.old.lexemes) }
 {
     reader.expect(Keyword::Sub)?;
     sub_id(reader)
@@ -51,7 +50,6 @@ fn in_service(reader: &mut Reader) -> Result<Sid, ScriptFault>
     ensures spells { IfOk result (λ s. Passes (within_lexemes s) reader.old reader.new) }
     ensures range { IfOk result IsSid }
     ensures none { OnErr result (NoneOf Sid IsSid within_lexemes reader.old) }
-    ensures shorter { OnOk result (length reader.new.lexemes < length reader.old.lexemes) }
 {
     reader.expect(Keyword::In)?;
     sid(reader)
@@ -64,7 +62,6 @@ fn new_sub(reader: &mut Reader) -> Result<NewSub, ScriptFault>
     ensures range { IfOk result IsNewSub }
     ensures none { OnErr result (NoneOf Sub IsNewSub (λ s. edit_lexemes (AddSub s)) (preceded_by
         the.Sub reader.old)) }
-    ensures shorter { OnOk result (length reader.new.lexemes < length reader.old.lexemes) }
 {
     let id = sub_id(reader)?;
     reader.expect(Keyword::At)?;
@@ -82,7 +79,6 @@ fn new_packet(reader: &mut Reader) -> Result<Packet, ScriptFault>
     ensures range { IfOk result IsNewPacket }
     ensures none { OnErr result (NoneOf Packet IsNewPacket (λ p. edit_lexemes (AddPacket p))
         (preceded_by the.Packet reader.old)) }
-    ensures shorter { OnOk result (length reader.new.lexemes < length reader.old.lexemes) }
 {
     let scid = sc_id(reader)?;
     let dg = data_groups(reader)?;
@@ -104,7 +100,6 @@ fn new_packet(reader: &mut Reader) -> Result<Packet, ScriptFault>
 fn data_groups(reader: &mut Reader) -> Result<bool, ScriptFault>
     ensures spells { IfOk result (λ b. Passes (groups_text b ∷ []) reader.old reader.new) }
     ensures none { OnErr result (NoneOf Bool (λ b. Unit {0}) (λ b. groups_text b ∷ []) reader.old) }
-    ensures shorter { OnOk result (length reader.new.lexemes < length reader.old.lexemes) }
 {
     if reader.is_next(Keyword::Groups) {
         reader.advance();
@@ -121,7 +116,6 @@ fn typed_sub(reader: &mut Reader) -> Result<(ScTy, SubId), ScriptFault>
     ensures range { IfOk result (λ p. (p.0 < 64) × (p.1 < 64)) }
     ensures none { OnErr result (NoneOf (ℕ × ℕ) (λ p. (p.0 < 64) × (p.1 < 64)) (λ p. decimal p.0
         ∷ letters the.Sub ∷ decimal p.1 ∷ []) reader.old) }
-    ensures shorter { OnOk result (length reader.new.lexemes < length reader.old.lexemes) }
 {
     let ty = sc_ty(reader)?;
     let sub = sub(reader)?;
@@ -136,7 +130,6 @@ fn component(reader: &mut Reader, first: ComponentKeyword) -> Result<Edit, Scrip
     ensures adds { IfOk result Adds }
     ensures none { OnErr result (NoneOf (Sid × Component) (λ p. IsSid p.0 × IsComponent p.1) (λ
         p. edit_lexemes (AddComponent p.0 p.1)) (from_component first reader.old)) }
-    ensures shorter { OnOk result (length reader.new.lexemes < length reader.old.lexemes) }
 {
     let component = carried(reader, first)?;
     let sid = in_service(reader)?;
@@ -150,7 +143,6 @@ fn carried(reader: &mut Reader, first: ComponentKeyword) -> Result<Component, Sc
     ensures range { IfOk result IsComponent }
     ensures none { OnErr result (NoneOf Component IsComponent carried_lexemes
         (from_component first reader.old)) }
-    ensures shorter { OnOk result (length reader.new.lexemes < length reader.old.lexemes) }
 {
     match first {
         ComponentKeyword::Audio => {
@@ -176,7 +168,6 @@ fn item(reader: &mut Reader, first: ItemKeyword) -> Result<Edit, ScriptFault>
     ensures adds { IfOk result Adds }
     ensures none { OnErr result (NoneOf Edit (λ e. IsEdit e × Adds e) edit_lexemes
         (from_item first reader.old)) }
-    ensures shorter { OnOk result (length reader.new.lexemes < length reader.old.lexemes) }
 {
     match first {
         ItemKeyword::Sub => {
@@ -200,7 +191,6 @@ fn carrier(reader: &mut Reader) -> Result<Carrier, ScriptFault>
     ensures spells { IfOk result (λ m. Passes (carrier_lexemes m) reader.old reader.new) }
     ensures range { IfOk result IsCarrier }
     ensures none { OnErr result (NoneOf Carrier IsCarrier carrier_lexemes reader.old) }
-    ensures shorter { OnOk result (length reader.new.lexemes < length reader.old.lexemes) }
 {
     if reader.is_next(Keyword::Sub) {
         reader.advance();
@@ -218,7 +208,6 @@ fn dropped(reader: &mut Reader) -> Result<Edit, ScriptFault>
         reader.new) }
     ensures range { IfOk result IsEdit }
     ensures none { OnErr result (NoneOf Edit IsEdit edit_lexemes (preceded_by the.Drop reader.old)) }
-    ensures shorter { OnOk result (length reader.new.lexemes < length reader.old.lexemes) }
 {
     if reader.is_next(Keyword::Service) {
         reader.advance();
@@ -240,7 +229,6 @@ fn dropped_carrier(reader: &mut Reader) -> Result<Edit, ScriptFault>
         reader.new) }
     ensures range { IfOk result IsEdit }
     ensures none { OnErr result (NoneOf Carrier IsCarrier carrier_lexemes reader.old) }
-    ensures shorter { OnOk result (length reader.new.lexemes < length reader.old.lexemes) }
 {
     match carrier(reader)? {
         Carrier::Sub(id) => Ok(Edit::DropSub(id)),
@@ -255,7 +243,6 @@ fn moved(reader: &mut Reader) -> Result<Edit, ScriptFault>
     ensures range { IfOk result IsEdit }
     ensures none { OnErr result (NoneOf (ℕ × ℕ) (λ p. (p.0 < 64) × (p.1 < 1024)) (λ p.
         edit_lexemes (MoveSub p.0 p.1)) (preceded_by the.Move reader.old)) }
-    ensures shorter { OnOk result (length reader.new.lexemes < length reader.old.lexemes) }
 {
     let id = sub(reader)?;
     reader.expect(Keyword::At)?;
@@ -270,7 +257,6 @@ fn rated(reader: &mut Reader) -> Result<Edit, ScriptFault>
     ensures range { IfOk result IsEdit }
     ensures none { OnErr result (NoneOf (ℕ × ℕ) (λ p. (p.0 < 64) × (p.1 < 65536)) (λ p.
         edit_lexemes (RateSub p.0 p.1)) (preceded_by the.Rate reader.old)) }
-    ensures shorter { OnOk result (length reader.new.lexemes < length reader.old.lexemes) }
 {
     let id = sub(reader)?;
     let kbits = any_u16(reader)?;
@@ -283,7 +269,6 @@ fn edit(reader: &mut Reader, first: EditKeyword) -> Result<Edit, ScriptFault>
         reader.new) }
     ensures range { IfOk result IsEdit }
     ensures none { OnErr result (NoneOf Edit IsEdit edit_lexemes (from_edit first reader.old)) }
-    ensures shorter { OnOk result (length reader.new.lexemes < length reader.old.lexemes) }
 {
     match first {
         EditKeyword::Drop => dropped(reader),
@@ -299,7 +284,6 @@ fn waiting(reader: &mut Reader) -> Result<Act, ScriptFault>
         reader.new) }
     ensures range { IfOk result IsAct }
     ensures none { OnErr result (NoneOf Act IsAct act_lexemes (preceded_by the.Wait reader.old)) }
-    ensures shorter { OnOk result (length reader.new.lexemes < length reader.old.lexemes) }
 {
     if reader.is_next(Keyword::Contact) {
         reader.advance();
@@ -317,7 +301,6 @@ fn committing(reader: &mut Reader) -> Result<Act, ScriptFault>
         reader.new) }
     ensures range { IfOk result IsAct }
     ensures none { OnErr result (NoneOf Act IsAct act_lexemes (preceded_by the.Commit reader.old)) }
-    ensures shorter { OnOk result (length reader.new.lexemes < length reader.old.lexemes) }
 {
     if reader.is_next(Keyword::In) {
         reader.advance();
@@ -335,7 +318,6 @@ pub fn act(reader: &mut Reader, first: ActKeyword) -> Result<Act, ScriptFault>
         reader.new) }
     ensures range { IfOk result IsAct }
     ensures none { OnErr result (NoneOf Act IsAct act_lexemes (from_act first reader.old)) }
-    ensures shorter { OnOk result (length reader.new.lexemes ≤ length reader.old.lexemes) }
 {
     match first {
         ActKeyword::Wait => waiting(reader),
@@ -385,7 +367,6 @@ fn one_more(reader: &mut Reader, list: &mut Vec<Item>) -> Result<(), ScriptFault
     ensures formed { OnOk result (IsOneMore list.old.items list.new.items reader.old reader.new) }
     ensures none { IfErr result (λ e. e ≢ Memory → NoneOf Edit (λ e. IsEdit e × Adds e) edit_lexemes
         reader.old) }
-    ensures shorter { OnOk result (length reader.new.lexemes < length reader.old.lexemes) }
 {
     let Some(first) = reader.item_keyword() else {
         return Err(reader.expected());

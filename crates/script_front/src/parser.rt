@@ -72,7 +72,6 @@ fn definition(
         reader.new (block_of [] v.items)) }
     ensures none { IfErr result (λ e. e ≢ Memory → NoDefinitions names.old left.old
         reader.old.lexemes) }
-    ensures shorter { OnOk result (length reader.new.lexemes < length reader.old.lexemes) }
 {
     reader.advance();
     let name = new_name(reader, names)?;

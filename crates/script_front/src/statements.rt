@@ -36,7 +36,6 @@ fn statement(
         (before [] s)) }
     ensures none { IfErr result (λ e. e ≢ Memory → NoBlock names.now depth left.old
         reader.old.lexemes) }
-    ensures shorter { OnOk result (length reader.new.lexemes < length reader.old.lexemes) }
 {
     let Some(first) = reader.statement_keyword() else {
         return Err(reader.expected());
@@ -87,7 +86,6 @@ pub fn statements(
     ensures stops { OnOk result (Stops reader.new.lexemes) }
     ensures none { IfErr result (λ e. e ≢ Memory → NoBlock names.now depth left.old
         reader.old.lexemes) }
-    ensures shorter { OnOk result (length reader.new.lexemes ≤ length reader.old.lexemes) }
 {
     let mut list = Vec::new(alloc);
     'statements: while !ends(reader) {
@@ -128,7 +126,6 @@ pub fn block(
         reader.new (block_of [] v.items)) }
     ensures none { IfErr result (λ e. e ≢ Memory → NoBody names.now depth left.old
         reader.old.lexemes) }
-    ensures shorter { OnOk result (length reader.new.lexemes < length reader.old.lexemes) }
 {
     open(reader, depth)?;
     let body = statements(alloc, reader, names, left, depth - 1)?;
@@ -142,7 +139,6 @@ fn open(reader: &mut Reader, depth: u8) -> Result<(), ScriptFault>
     ensures spells { OnOk result (Passes (letters the.OpenBrace ∷ []) reader.old reader.new) }
     ensures none { OnErr result (1 ≤ depth → (rest : List (List ℕ))
         → reader.old.lexemes ≢ letters the.OpenBrace ∷ rest) }
-    ensures shorter { OnOk result (length reader.new.lexemes < length reader.old.lexemes) }
 {
     if !reader.is_next(Keyword::OpenBrace) {
         return Err(reader.expected());
@@ -170,7 +166,6 @@ fn choice(
         reader.old) reader.new (before [] s)) }
     ensures none { IfErr result (λ e. e ≢ Memory → NoBlock names.now depth (left.old + 1)
         (letters the.If ∷ reader.old.lexemes)) }
-    ensures shorter { OnOk result (length reader.new.lexemes ≤ length reader.old.lexemes) }
 {
     reader.expect(Keyword::Contact)?;
     let contact = contact(reader)?;
@@ -199,7 +194,6 @@ fn repetition(
         the.Repeat reader.old) reader.new (before [] s)) }
     ensures none { IfErr result (λ e. e ≢ Memory → NoBlock names.now depth (left.old + 1)
         (letters the.Repeat ∷ reader.old.lexemes)) }
-    ensures shorter { OnOk result (length reader.new.lexemes ≤ length reader.old.lexemes) }
 {
     let times = times(reader)?;
     let body = block(alloc, reader, names, left, depth)?;
@@ -222,7 +216,6 @@ fn endless(
         the.Forever reader.old) reader.new (before [] s)) }
     ensures none { IfErr result (λ e. e ≢ Memory → NoBlock names.now depth (left.old + 1)
         (letters the.Forever ∷ reader.old.lexemes)) }
-    ensures shorter { OnOk result (length reader.new.lexemes ≤ length reader.old.lexemes) }
 {
     let body = block(alloc, reader, names, left, depth)?;
     Ok(looping(line, body))
@@ -233,7 +226,6 @@ fn application(reader: &mut Reader, names: &Names, line: u16) -> Result<Statemen
     requires { length names.now ≤ 64 }
     ensures read { IfOk result (λ s. IsApplied names.now line reader.old reader.new (before [] s)) }
     ensures none { OnErr result (NoApplied names.now reader.old.lexemes) }
-    ensures shorter { OnOk result (length reader.new.lexemes ≤ length reader.old.lexemes) }
 {
     let name = name(reader)?;
     let Some(index) = names.find(name) else {

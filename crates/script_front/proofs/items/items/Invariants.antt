@@ -12,4 +12,4 @@ invariant-loop-reader l = record {
 }
 
 abbrev pub decreases-loop-reader : goal.decreases-loop-reader
-decreases-loop-reader l = length l.reader.lexemes
+decreases-loop-reader l = l.left

@@ -5,20 +5,23 @@ use Rattle.std.specs.Fmt.{decimal}
 use Rattle.script_tokens.specs.declared.keyword.Keyword.TheVariants as the
 use Rattle.script_tokens.specs.Keywords.{letters}
 use Rattle.script_tokens.specs.First.{act_keyword, statement_keyword}
-use Rattle.script_front.specs.Block.{before, block_of}
+use Rattle.script_front.specs.Block.{nothing, before, block_of}
 use Rattle.script_tokens.specs.Reading.{BeginsWith}
 use Rattle.script_front.specs.Spelled.{act_lexemes}
-use Rattle.script_front.proofs.Parsing.{more_read, body_read, when_read, either_read, repeat_read, forever_read, stop_read, act_read, apply_read}
+use Rattle.script_front.proofs.Parsing.{more_read, statement_counted, body_read, when_read, either_read, repeat_read, forever_read, stop_read, act_read, apply_read}
 use Rattle.script_front.proofs.Unread.{refused, passes_two, no_start, no_more, no_act_block, no_apply_block, no_times, no_repeated, no_looped, no_test, no_contact, no_first_block, no_second_block, passes_behind}
 use Rattle.script_front.proofs.statements.+statements.Goals as goal
 
 pub statements-statements-preserved : goal.statements-statements-preserved
 statements-statements-preserved t c =
     let pushed = chosen _ _ _ _ c.push.ensures.items (c.is_err.ensures.negation ∙ ap not c.if-is_err.false) in
-    record {
-      read = more_read c.args.names.now c.args.depth c.args.left.now c.statements.left c.statement.new.left c.args.reader.now c.statements.reader c.statement.new.reader c.statements.list.items c.push.new.self.items c.in_ok-next.next pushed c.statements.invariant.read c.in_ok-next.ensures.read;
-      shorter = omega (arith, c.statements.invariant.shorter, c.in_ok-next.ensures.shorter);
-    }
+    more_read c.args.names.now c.args.depth c.args.left.now c.statements.left c.statement.new.left c.args.reader.now c.statements.reader c.statement.new.reader c.statements.list.items c.push.new.self.items c.in_ok-next.next pushed c.statements.invariant c.in_ok-next.ensures.read
+
+pub statements-statements-smaller : goal.statements-statements-smaller
+statements-statements-smaller t c =
+    let counts = c.in_ok-next.ensures.read.counts nothing in
+    let some = statement_counted c.in_ok-next.next in
+    omega (arith, counts, some)
 
 pub block-returns-clause-read : goal.block-returns-clause-read
 block-returns-clause-read t c =

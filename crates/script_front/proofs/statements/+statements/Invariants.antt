@@ -1,4 +1,4 @@
-use Rattle.std.proofs.Common.{◌+◌, ◌*◌, ◌≤◌, [], length}
+use Rattle.std.proofs.Common.{◌+◌, ◌*◌, []}
 use Rattle.script_front.specs.Block.{and_then}
 use Rattle.script_front.specs.Parsing.{IsRead}
 use Rattle.script_front.proofs.statements.+statements.Given as goal
@@ -22,10 +22,7 @@ abbrev pub decreases-statements : goal.decreases-statements
 decreases-statements l = 5 * l.depth + 4
 
 abbrev pub invariant-statements-statements : goal.invariant-statements-statements
-invariant-statements-statements l = record {
-  read : IsRead l.names l.depth l.fn.left l.left l.fn.reader l.reader (and_then [] l.list.items);
-  shorter : length l.reader.lexemes ≤ length l.fn.reader.lexemes;
-}
+invariant-statements-statements l = IsRead l.names l.depth l.fn.left l.left l.fn.reader l.reader (and_then [] l.list.items)
 
 abbrev pub decreases-statements-statements : goal.decreases-statements-statements
-decreases-statements-statements l = length l.reader.lexemes
+decreases-statements-statements l = l.left
