@@ -3,7 +3,7 @@ use Rattle.std.proofs.Common.{◌≡◌, ◌⊎◌, inl, inr, ℕ, ◌+◌, ◌-
 use Rattle.std.proofs.lemmas.Bool.{false≢true}
 use Rattle.std.specs.Fmt.{decimal}
 use Rattle.script_front.specs.declared.tree.Act.{Act}
-use Rattle.script_front.specs.declared.tree.Act.TheVariants.{Edit as Edits, Wait, WaitContact, Until, CommitIn, CommitAt, Join, Settle}
+use Rattle.script_front.specs.declared.tree.Act.TheVariants.{Edit as Edits}
 use Rattle.script_tokens.specs.declared.keyword.Keyword.{Keyword}
 use Rattle.script_tokens.specs.declared.keyword.Keyword.TheVariants as the
 use Rattle.script_tokens.specs.Keywords.{letters, begins_statement}
@@ -13,7 +13,8 @@ use Rattle.script_front.specs.Tree.{IsAct, IsInBounds, counted}
 use Rattle.script_front.specs.Spelled.{name_at, act_lexemes, braced, block_lexemes}
 use Rattle.script_front.specs.Parsing.{Stops}
 use Rattle.script_tokens.proofs.Keys.{first_is, rest_is, same_key, letters_injective}
-use Rattle.script_front.proofs.Refusing.{act_key, act_begins, key_of_act, edit_key, begins_edit, edit_key_begins}
+use Rattle.script_front.proofs.Refusing.{act_key, act_begins, key_of_act, begins_edit, edit_key_begins}
+use Rattle.script_front.proofs.Edits.{edit_key}
 use Rattle.script_tokens.specs.Reading.{Spelled}
 
 -- ---- first tokens
@@ -47,13 +48,7 @@ edit_begins_act k e = e
 
 pub act_key_begins : (a : Act) → begins_act (act_key a) ≡ true
 act_key_begins (Edits e) = edit_begins_act (edit_key e) (edit_key_begins e)
-act_key_begins (Wait frames) = refl
-act_key_begins (WaitContact contact closed) = refl
-act_key_begins (Until second) = refl
-act_key_begins (CommitIn delay) = refl
-act_key_begins (CommitAt count) = refl
-act_key_begins Join = refl
-act_key_begins Settle = refl
+act_key_begins a = refl
 
 pub no_act_key : (k : Keyword) (a : Act) → begins_act k ≡ false → act_key a ≡ k → ⊥
 no_act_key k a other same = false≢true (sym other ∙ ap begins_act (sym same) ∙ act_key_begins a)
@@ -67,12 +62,7 @@ pub key_is : (names : List (List ℕ)) (b : Block) (rest : Spelled) (k : Keyword
 key_is names nothing rest k ws h e = nothing_key rest k ws h e
 key_is names (basic line act r) rest k ws h e =
     sym (key_of_act k ws act (block_lexemes names r ++ rest) (sym e ∙ append_assoc (act_lexemes act) (block_lexemes names r) rest))
-key_is names (stop line r) rest k ws h e = same_key _ _ _ _ e
-key_is names (when line contact first r) rest k ws h e = same_key _ _ _ _ e
-key_is names (either line contact first second r) rest k ws h e = same_key _ _ _ _ e
-key_is names (repeat line times body r) rest k ws h e = same_key _ _ _ _ e
-key_is names (forever line body r) rest k ws h e = same_key _ _ _ _ e
-key_is names (apply line number named r) rest k ws h e = same_key _ _ _ _ e
+key_is names b rest k ws h e = same_key _ _ _ _ e
 
 -- the tokens of a block with statements begin with its keyword
 pub key_first : (names : List (List ℕ)) (b : Block) (rest : Spelled) → (b ≡ nothing → ⊥) → block_lexemes names b ++ rest ≡ letters (key b) ∷ drop 1 (block_lexemes names b ++ rest)
@@ -80,22 +70,12 @@ key_first names nothing rest some = absurd (some refl)
 key_first names (basic line act r) rest some =
     let e = append_assoc (act_lexemes act) (block_lexemes names r) rest in
     e ∙ act_begins act (block_lexemes names r ++ rest) ∙ ap (λ (ws : Spelled). letters (act_key act) ∷ drop 1 ws) (sym e)
-key_first names (stop line r) rest some = refl
-key_first names (when line contact first r) rest some = refl
-key_first names (either line contact first second r) rest some = refl
-key_first names (repeat line times body r) rest some = refl
-key_first names (forever line body r) rest some = refl
-key_first names (apply line number named r) rest some = refl
+key_first names b rest some = refl
 
 is_nothing : (b : Block) → key b ≡ the.CloseBrace → b ≡ nothing
 is_nothing nothing e = refl
 is_nothing (basic line act r) e = absurd (no_act_key the.CloseBrace act refl e)
-is_nothing (stop line r) e = absurd cc
-is_nothing (when line contact first r) e = absurd cc
-is_nothing (either line contact first second r) e = absurd cc
-is_nothing (repeat line times body r) e = absurd cc
-is_nothing (forever line body r) e = absurd cc
-is_nothing (apply line number named r) e = absurd cc
+is_nothing b e = absurd cc
 
 stops_so : (names : List (List ℕ)) (b : Block) (rest lexemes : Spelled) → Stops rest → Stops lexemes → lexemes ≡ block_lexemes names b ++ rest → (b ≡ nothing → ⊥) → ⊥
 stops_so names b rest [] h k e some = let l = ap length (e ∙ key_first names b rest some) in omega (arith, l)
@@ -105,13 +85,7 @@ stops_so names b rest (w ∷ ws) h k e some =
 
 pub some_or : (b : Block) → (b ≡ nothing) ⊎ (b ≡ nothing → ⊥)
 some_or nothing = inl refl
-some_or (basic line act r) = inr (λ e. cc)
-some_or (stop line r) = inr (λ e. cc)
-some_or (when line contact first r) = inr (λ e. cc)
-some_or (either line contact first second r) = inr (λ e. cc)
-some_or (repeat line times body r) = inr (λ e. cc)
-some_or (forever line body r) = inr (λ e. cc)
-some_or (apply line number named r) = inr (λ e. cc)
+some_or b = inr (λ e. cc)
 
 -- where statements end, nothing remains of the block
 pub all_read : (names : List (List ℕ)) (b : Block) (rest lexemes : Spelled) → Stops rest → Stops lexemes → lexemes ≡ block_lexemes names b ++ rest → b ≡ nothing
@@ -133,7 +107,6 @@ pub record AfterAct (names : List (List ℕ)) (known depth : ℕ) (k : Keyword) 
 
 pub after_act : (names : List (List ℕ)) (known depth : ℕ) (k : Keyword) (ws : Spelled) (b : Block) (rest : Spelled) → begins_act k ≡ true → key b ≡ k → IsInBounds known depth b
     → letters k ∷ ws ≡ block_lexemes names b ++ rest → AfterAct names known depth k ws b rest
-after_act names known depth k ws nothing rest act e f eq = let g : begins_act the.CloseBrace ≡ true = ap begins_act e ∙ act in absurd (false≢true g)
 after_act names known depth k ws (basic line a r) rest act e f eq = record {
   act = a;
   next = r;
@@ -143,12 +116,7 @@ after_act names known depth k ws (basic line a r) rest act e f eq = record {
   counts = refl;
   lexemes = eq ∙ append_assoc (act_lexemes a) (block_lexemes names r) rest;
 }
-after_act names known depth k ws (stop line r) rest act e f eq = let g : begins_act the.End ≡ true = ap begins_act e ∙ act in absurd (false≢true g)
-after_act names known depth k ws (when line contact first r) rest act e f eq = let g : begins_act the.If ≡ true = ap begins_act e ∙ act in absurd (false≢true g)
-after_act names known depth k ws (either line contact first second r) rest act e f eq = let g : begins_act the.If ≡ true = ap begins_act e ∙ act in absurd (false≢true g)
-after_act names known depth k ws (repeat line times body r) rest act e f eq = let g : begins_act the.Repeat ≡ true = ap begins_act e ∙ act in absurd (false≢true g)
-after_act names known depth k ws (forever line body r) rest act e f eq = let g : begins_act the.Forever ≡ true = ap begins_act e ∙ act in absurd (false≢true g)
-after_act names known depth k ws (apply line number named r) rest act e f eq = let g : begins_act the.Apply ≡ true = ap begins_act e ∙ act in absurd (false≢true g)
+after_act names known depth k ws b rest act e f eq = let g : begins_act (key b) ≡ true = ap begins_act e ∙ act in absurd (false≢true g)
 
 pub record AfterStop (names : List (List ℕ)) (known depth : ℕ) (ws : Spelled) (b : Block) (rest : Spelled) : Type 0 where
   pub next : Block
@@ -161,12 +129,7 @@ pub after_stop : (names : List (List ℕ)) (known depth : ℕ) (ws : Spelled) (b
     → letters the.End ∷ ws ≡ block_lexemes names b ++ rest → AfterStop names known depth ws b rest
 after_stop names known depth ws (stop line r) rest e f eq = record { next = r; is = refl; fits = f; counts = refl; lexemes = rest_is _ _ _ _ eq }
 after_stop names known depth ws (basic line a r) rest e f eq = absurd (no_act_key the.End a refl e)
-after_stop names known depth ws nothing rest e f eq = absurd cc
-after_stop names known depth ws (when line contact first r) rest e f eq = absurd cc
-after_stop names known depth ws (either line contact first second r) rest e f eq = absurd cc
-after_stop names known depth ws (repeat line times body r) rest e f eq = absurd cc
-after_stop names known depth ws (forever line body r) rest e f eq = absurd cc
-after_stop names known depth ws (apply line number named r) rest e f eq = absurd cc
+after_stop names known depth ws b rest e f eq = absurd cc
 
 pub record AfterApply (names : List (List ℕ)) (known depth : ℕ) (ws : Spelled) (b : Block) (rest : Spelled) : Type 0 where
   pub number : ℕ
@@ -181,12 +144,7 @@ pub after_apply : (names : List (List ℕ)) (known depth : ℕ) (ws : Spelled) (
     → letters the.Apply ∷ ws ≡ block_lexemes names b ++ rest → AfterApply names known depth ws b rest
 after_apply names known depth ws (apply line number named r) rest e f eq = record { number = number; next = r; is = refl; in_range = f.0; fits = f.1; counts = refl; lexemes = rest_is _ _ _ _ eq }
 after_apply names known depth ws (basic line a r) rest e f eq = absurd (no_act_key the.Apply a refl e)
-after_apply names known depth ws nothing rest e f eq = absurd cc
-after_apply names known depth ws (stop line r) rest e f eq = absurd cc
-after_apply names known depth ws (when line contact first r) rest e f eq = absurd cc
-after_apply names known depth ws (either line contact first second r) rest e f eq = absurd cc
-after_apply names known depth ws (repeat line times body r) rest e f eq = absurd cc
-after_apply names known depth ws (forever line body r) rest e f eq = absurd cc
+after_apply names known depth ws b rest e f eq = absurd cc
 
 -- a block in braces, and the tokens after it
 abbrev pub in_braces : List (List ℕ) → Block → Spelled → Spelled
@@ -218,12 +176,7 @@ after_forever names known depth ws (forever line body r) rest e f eq = record {
   lexemes = rest_is _ _ _ _ eq ∙ braced_then names body (block_lexemes names r) rest;
 }
 after_forever names known depth ws (basic line a r) rest e f eq = absurd (no_act_key the.Forever a refl e)
-after_forever names known depth ws nothing rest e f eq = absurd cc
-after_forever names known depth ws (stop line r) rest e f eq = absurd cc
-after_forever names known depth ws (when line contact first r) rest e f eq = absurd cc
-after_forever names known depth ws (either line contact first second r) rest e f eq = absurd cc
-after_forever names known depth ws (repeat line times body r) rest e f eq = absurd cc
-after_forever names known depth ws (apply line number named r) rest e f eq = absurd cc
+after_forever names known depth ws b rest e f eq = absurd cc
 
 pub record AfterRepeat (names : List (List ℕ)) (known depth : ℕ) (ws : Spelled) (b : Block) (rest : Spelled) : Type 0 where
   pub times : ℕ
@@ -254,12 +207,7 @@ after_repeat names known depth ws (repeat line times body r) rest e f eq = recor
   lexemes = rest_is _ _ _ _ eq ∙ ap (λ (x : Spelled). decimal times ∷ x) (braced_then names body (block_lexemes names r) rest);
 }
 after_repeat names known depth ws (basic line a r) rest e f eq = absurd (no_act_key the.Repeat a refl e)
-after_repeat names known depth ws nothing rest e f eq = absurd cc
-after_repeat names known depth ws (stop line r) rest e f eq = absurd cc
-after_repeat names known depth ws (when line contact first r) rest e f eq = absurd cc
-after_repeat names known depth ws (either line contact first second r) rest e f eq = absurd cc
-after_repeat names known depth ws (forever line body r) rest e f eq = absurd cc
-after_repeat names known depth ws (apply line number named r) rest e f eq = absurd cc
+after_repeat names known depth ws b rest e f eq = absurd cc
 
 -- after the first block of `if`: the next statement, or `else`
 pub record Alone (names : List (List ℕ)) (known depth : ℕ) (b : Block) (contact : ℕ) (first : Block) (later : Spelled) (counts : ℕ) (rest : Spelled) : Type 0 where
@@ -318,22 +266,12 @@ after_if names known depth ws (either line contact first second r) rest e f eq =
       not_stopped = inr (record { second = second; next = r; is = refl; within = f.3; fits = f.4; same = refl; lexemes = ap (λ (x : Spelled). letters the.Else ∷ x) (braced_then names second (block_lexemes names r) rest) });
     }
 after_if names known depth ws (basic line a r) rest e f eq = absurd (no_act_key the.If a refl e)
-after_if names known depth ws nothing rest e f eq = absurd cc
-after_if names known depth ws (stop line r) rest e f eq = absurd cc
-after_if names known depth ws (repeat line times body r) rest e f eq = absurd cc
-after_if names known depth ws (forever line body r) rest e f eq = absurd cc
-after_if names known depth ws (apply line number named r) rest e f eq = absurd cc
+after_if names known depth ws b rest e f eq = absurd cc
 
 -- no block begins with `else`
 pub no_else : (names : List (List ℕ)) (b : Block) (rest ws : Spelled) → Stops rest → letters the.Else ∷ ws ≡ block_lexemes names b ++ rest → ⊥
 no_else names b rest ws h e = no_key b (key_is names b rest the.Else ws h (sym e))
   where
     no_key : (b : Block) → key b ≡ the.Else → ⊥
-    no_key nothing f = absurd cc
     no_key (basic line a r) f = no_act_key the.Else a refl f
-    no_key (stop line r) f = absurd cc
-    no_key (when line contact first r) f = absurd cc
-    no_key (either line contact first second r) f = absurd cc
-    no_key (repeat line times body r) f = absurd cc
-    no_key (forever line body r) f = absurd cc
-    no_key (apply line number named r) f = absurd cc
+    no_key b f = absurd cc

@@ -3,7 +3,7 @@ use Rattle.std.proofs.Common.{◌≡◌, ℕ, ◌+◌, ◌-◌, List, [], ◌∷
 use Rattle.std.proofs.Math.Seq.{drop-append_seam, take-append_seam}
 use Rattle.script_tokens.specs.declared.token.Token.{Token}
 use Rattle.script_tokens.specs.declared.token.Kind.{Kind}
-use Rattle.script_tokens.specs.declared.token.Kind.TheVariants.{Blank, LineEnd, Hash, Brace, Letter, Bad}
+use Rattle.script_tokens.specs.declared.token.Kind.TheVariants.{LineEnd}
 use Rattle.script_tokens.specs.declared.token.Place.{Place}
 use Rattle.script_tokens.specs.Bytes.{kind_of, position_after, position_past, first_position}
 use Rattle.script_tokens.specs.Texts.{Piece, blank, comment, brace, atom, text_of, tokens_of, AreTokens, TokensFit, script_limits}
@@ -19,11 +19,7 @@ use Rattle.script_tokens.proofs.Pieces.{texts_are_cut}
 
 after_byte : (p : Place) (k : Kind) → (position_after p k).at ≡ p.at + 1
 after_byte p LineEnd = refl
-after_byte p Blank = refl
-after_byte p Hash = refl
-after_byte p Brace = refl
-after_byte p Letter = refl
-after_byte p Bad = refl
+after_byte p k = refl
 
 pub past_bytes : (p : Place) (bs : List ℕ) → (position_past p bs).at ≡ p.at + length bs
 past_bytes p [] = omega arith

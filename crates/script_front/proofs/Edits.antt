@@ -12,6 +12,7 @@ use Rattle.mux_config.specs.Configuration.{IsSid, IsComponent}
 use Rattle.plan_code.specs.Program.{IsEdit, IsCarrier}
 use Rattle.script_front.specs.declared.tree.Act.{Act}
 use Rattle.script_front.specs.declared.tree.Act.TheVariants.{Edit as Edits, Wait, WaitContact, Until, CommitIn, CommitAt, Join, Settle}
+use Rattle.script_tokens.specs.declared.keyword.Keyword.{Keyword}
 use Rattle.script_tokens.specs.declared.keyword.Keyword.TheVariants as the
 use Rattle.script_tokens.specs.Keywords.{Lexeme, the as is, word_of}
 use Rattle.script_front.specs.Tree.{IsAct}
@@ -168,19 +169,24 @@ act_by k ws = edits_by (edit_by k ws)
 abbrev pub act_in : Spelled → Act × Spelled
 act_in ws = act_by (key_at ws 0) ws
 
+-- the keyword that begins an edit
+abbrev pub edit_key : Edit → Keyword
+edit_key (AddSub s) = the.Sub
+edit_key (DropSub id) = the.Drop
+edit_key (MoveSub id start) = the.Move
+edit_key (RateSub id kbits) = the.Rate
+edit_key (AddService sid) = the.Service
+edit_key (DropService sid) = the.Drop
+edit_key (AddComponent sid (Sound ty sub)) = the.Audio
+edit_key (AddComponent sid (Stream ty sub)) = the.Data
+edit_key (AddComponent sid (InPackets scid)) = the.Carry
+edit_key (DropComponent sid m) = the.Drop
+edit_key (AddPacket p) = the.Packet
+edit_key (DropPacket scid) = the.Drop
+
 edit_found : (e : Edit) (rest : Spelled) → act_in (edit_lexemes e ++ rest) ≡ edits_by (edit_in (edit_lexemes e ++ rest))
-edit_found (AddSub s) rest = rw (word_the the.Sub) refl
-edit_found (DropSub id) rest = rw (word_the the.Drop) refl
-edit_found (MoveSub id start) rest = rw (word_the the.Move) refl
-edit_found (RateSub id kbits) rest = rw (word_the the.Rate) refl
-edit_found (AddService sid) rest = rw (word_the the.Service) refl
-edit_found (DropService sid) rest = rw (word_the the.Drop) refl
 edit_found (AddComponent sid (Sound ty sub)) rest = rw (word_the the.Audio) refl
-edit_found (AddComponent sid (Stream ty sub)) rest = rw (word_the the.Data) refl
-edit_found (AddComponent sid (InPackets scid)) rest = rw (word_the the.Carry) refl
-edit_found (DropComponent sid m) rest = rw (word_the the.Drop) refl
-edit_found (AddPacket p) rest = rw (word_the the.Packet) refl
-edit_found (DropPacket scid) rest = rw (word_the the.Drop) refl
+edit_found e rest = rw (word_the (edit_key e)) refl
 
 pub act_again : (a : Act) (rest : Spelled) → IsAct a → act_in (act_lexemes a ++ rest) ≡ (a, rest)
 act_again (Edits e) rest h = edit_found e rest ∙ ap edits_by (edit_again e rest h)

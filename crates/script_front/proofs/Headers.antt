@@ -19,7 +19,8 @@ use Rattle.script_front.specs.Block.{block_of}
 use Rattle.script_front.specs.Spelled.{mode_lexemes, reserve_lexemes, limits_lexemes, header_lexemes, block_lexemes, items_lexemes, defined_lexemes}
 use Rattle.script_front.specs.Parsing.{NoneOf, BeginsNoReserve}
 use Rattle.script_front.specs.Tree.{Tree, IsScript, IsItem}
-use Rattle.script_front.proofs.Refusing.{left_over, edit_key, edit_begins}
+use Rattle.script_front.proofs.Refusing.{left_over, edit_begins}
+use Rattle.script_front.proofs.Edits.{edit_key}
 use Rattle.script_front.proofs.ItemLists.{item_first, adds_first}
 use Rattle.script_front.proofs.Undefined.{after_items}
 

@@ -2,14 +2,14 @@
 use Rattle.std.proofs.Common.{◌≡◌, ◌≢◌, ℕ, suc, true, ◌+◌, List, [], ◌∷◌, ◌++◌, length, refl, sym, ap, ◌∙◌, subst, append_assoc, arith}
 use Rattle.std.specs.List.{All}
 use Rattle.mux_config.specs.declared.edit.Edit.{Edit}
-use Rattle.mux_config.specs.declared.edit.Edit.TheVariants.{AddSub, DropSub, MoveSub, RateSub, AddService, DropService, AddComponent, DropComponent, AddPacket, DropPacket}
+use Rattle.mux_config.specs.declared.edit.Edit.TheVariants.{AddSub, AddService, AddComponent, AddPacket}
 use Rattle.mux_types.specs.declared.parts.Component.TheVariants.{Sound, Stream, Packet as InPackets}
 use Rattle.plan_code.specs.Program.{IsEdit}
 use Rattle.script_tokens.specs.declared.keyword.Keyword.{Keyword}
 use Rattle.script_tokens.specs.Keywords.{letters, begins_item}
 use Rattle.script_front.specs.Tree.{IsItem, Adds}
-use Rattle.script_front.proofs.Edits.{same_edit}
-use Rattle.script_front.proofs.Refusing.{edit_key, edit_begins}
+use Rattle.script_front.proofs.Edits.{edit_key, same_edit}
+use Rattle.script_front.proofs.Refusing.{edit_begins}
 use Rattle.script_front.specs.declared.tree.Item.{Item}
 use Rattle.script_tokens.specs.Reading.{Spelled, Input, line_of}
 use Rattle.script_front.specs.Spelled.{edit_lexemes, items_lexemes, ItemsOn}
@@ -58,12 +58,7 @@ adds_first (AddComponent sid (Sound ty sub)) h = refl
 adds_first (AddComponent sid (Stream ty sub)) h = refl
 adds_first (AddComponent sid (InPackets scid)) h = refl
 adds_first (AddPacket p) h = refl
-adds_first (DropSub id) h = absurd h
-adds_first (MoveSub id start) h = absurd h
-adds_first (RateSub id kbits) h = absurd h
-adds_first (DropService sid) h = absurd h
-adds_first (DropComponent sid m) h = absurd h
-adds_first (DropPacket scid) h = absurd h
+adds_first e h = absurd h
 
 -- where no item begins, there are no items
 pub none_here : (lexemes : Spelled) (is : List Item) (after : Spelled) → All IsItem is → BeginsNoItem lexemes → lexemes ≡ items_lexemes is ++ after → is ≡ []

@@ -51,12 +51,7 @@ IsCounted added = 1 ≤ counted (added nothing)
 layer_counted : (y : Statement-F ((s : Statement) × IsCounted (before [] s)))
     → IsCounted (statement_step [] (map-Statement Statement Before (before []) (map-Statement ((s : Statement) × IsCounted (before [] s)) Statement (λ e. e.0) y)))
 layer_counted (Statement-F.Act line act) = omega arith
-layer_counted (Statement-F.End line) = omega arith
-layer_counted (Statement-F.If line contact first) = omega arith
-layer_counted (Statement-F.IfElse line contact first second) = omega arith
-layer_counted (Statement-F.Repeat line times body) = omega arith
-layer_counted (Statement-F.Forever line body) = omega arith
-layer_counted (Statement-F.Apply line block) = omega arith
+layer_counted y = omega arith
 
 pub statement_counted : (s : Statement) → 1 ≤ counted (before [] s nothing)
 statement_counted = ind-Statement (λ s. IsCounted (before [] s)) (λ x y is.

@@ -15,15 +15,13 @@ use Rattle.plan_code.specs.Program.{IsEdit, IsNewSub, IsNewPacket, IsCarrier}
 use Rattle.script_tokens.specs.declared.keyword.Keyword.{Keyword}
 use Rattle.script_tokens.specs.declared.keyword.Keyword.TheVariants as the
 use Rattle.script_tokens.specs.Keywords.{the as is, letters, begins_item}
-use Rattle.script_tokens.specs.First.{component_keyword, item_keyword, edit_keyword, act_keyword}
+use Rattle.script_tokens.specs.First.{component_keyword, item_keyword, edit_keyword}
 use Rattle.script_tokens.specs.declared.first_keyword.ComponentKeyword.{ComponentKeyword}
 use Rattle.script_tokens.specs.declared.first_keyword.ComponentKeyword.TheVariants as component
 use Rattle.script_tokens.specs.declared.first_keyword.ItemKeyword.{ItemKeyword}
 use Rattle.script_tokens.specs.declared.first_keyword.ItemKeyword.TheVariants as item
 use Rattle.script_tokens.specs.declared.first_keyword.EditKeyword.{EditKeyword}
 use Rattle.script_tokens.specs.declared.first_keyword.EditKeyword.TheVariants as edit
-use Rattle.script_tokens.specs.declared.first_keyword.ActKeyword.{ActKeyword}
-use Rattle.script_tokens.specs.declared.first_keyword.ActKeyword.TheVariants as act
 use Rattle.script_tokens.specs.Spelling.{sid_text, level_text, time_text}
 use Rattle.std.proofs.lemmas.Bool.{false≢true}
 use Rattle.script_front.specs.declared.tree.Act.{Act}
@@ -33,7 +31,7 @@ use Rattle.script_tokens.specs.Reading.{Spelled, Input, Passes, preceded_by}
 use Rattle.script_front.specs.Spelled.{within_lexemes, groups_text, carried_lexemes, carrier_lexemes, edit_lexemes, act_lexemes}
 use Rattle.script_front.specs.Parsing.{NoneOf}
 use Rattle.script_tokens.proofs.Keys.{word_the, rest_is, same_key}
-use Rattle.script_front.proofs.Edits.{same_carried, same_carrier, carried_by, edit_in, edit_by, edit_again, dropped_by, act_in, act_by, act_again, wait_by, commit_by}
+use Rattle.script_front.proofs.Edits.{edit_key, same_carried, same_carrier, carried_by, edit_in, edit_by, edit_again, dropped_by, act_in, act_by, act_again, wait_by, commit_by}
 
 -- the tokens that remain after some were passed
 pub left_over : (ws vs : Spelled) (i j : Input) (rest : Spelled) → length ws ≡ length vs → Passes ws i j → i.lexemes ≡ vs ++ rest → j.lexemes ≡ rest
@@ -123,46 +121,17 @@ no_move i none e rest h eq = let s = edit_seen the.Move i.lexemes e rest h eq in
 pub no_rate : (i : Input) → NoneOf (ℕ × ℕ) (λ p. (p.0 < 64) × (p.1 < 65536)) (λ p. edit_lexemes (RateSub p.0 p.1)) (preceded_by the.Rate i) → NoneOf Edit IsEdit edit_lexemes (preceded_by the.Rate i)
 no_rate i none e rest h eq = let s = edit_seen the.Rate i.lexemes e rest h eq in none (_, _) rest s.formed s.spelled
 
--- the keyword that begins an edit
-abbrev pub edit_key : Edit → Keyword
-edit_key (AddSub s) = the.Sub
-edit_key (DropSub id) = the.Drop
-edit_key (MoveSub id start) = the.Move
-edit_key (RateSub id kbits) = the.Rate
-edit_key (AddService sid) = the.Service
-edit_key (DropService sid) = the.Drop
-edit_key (AddComponent sid (Sound ty sub)) = the.Audio
-edit_key (AddComponent sid (Stream ty sub)) = the.Data
-edit_key (AddComponent sid (InPackets scid)) = the.Carry
-edit_key (DropComponent sid m) = the.Drop
-edit_key (AddPacket p) = the.Packet
-edit_key (DropPacket scid) = the.Drop
-
 pub edit_begins : (e : Edit) (rest : Spelled) → edit_lexemes e ++ rest ≡ letters (edit_key e) ∷ drop 1 (edit_lexemes e ++ rest)
-edit_begins (AddSub s) rest = refl
-edit_begins (DropSub id) rest = refl
-edit_begins (MoveSub id start) rest = refl
-edit_begins (RateSub id kbits) rest = refl
-edit_begins (AddService sid) rest = refl
-edit_begins (DropService sid) rest = refl
 edit_begins (AddComponent sid (Sound ty sub)) rest = refl
-edit_begins (AddComponent sid (Stream ty sub)) rest = refl
-edit_begins (AddComponent sid (InPackets scid)) rest = refl
-edit_begins (DropComponent sid m) rest = refl
-edit_begins (AddPacket p) rest = refl
-edit_begins (DropPacket scid) rest = refl
+edit_begins e rest = refl
 
 pub key_of_edit : (first : Keyword) (ws : Spelled) (e : Edit) (rest : Spelled) → letters first ∷ ws ≡ edit_lexemes e ++ rest → first ≡ edit_key e
 key_of_edit first ws e rest eq = same_key first (edit_key e) ws (drop 1 (edit_lexemes e ++ rest)) (eq ∙ edit_begins e rest)
 
 -- no other edit begins with the keyword of a component, or of an item
 pub item_begins : (k : ItemKeyword) → begins_item (item_keyword k) ≡ true
-item_begins item.Sub = refl
-item_begins item.Service = refl
-item_begins item.Packet = refl
 item_begins (item.Component component.Audio) = refl
-item_begins (item.Component component.Data) = refl
-item_begins (item.Component component.Carry) = refl
+item_begins k = refl
 
 no_item_key : (k : ItemKeyword) (other : Keyword) → begins_item other ≡ false → item_keyword k ≡ other → ⊥
 no_item_key k other none same = false≢true (sym none ∙ ap begins_item (sym same) ∙ item_begins k)
@@ -182,12 +151,7 @@ no_other_edit k i none (AddSub s) rest h eq = none (AddSub s) rest (h, tt) eq
 no_other_edit k i none (AddService sid) rest h eq = none (AddService sid) rest (h, tt) eq
 no_other_edit k i none (AddPacket p) rest h eq = none (AddPacket p) rest (h, tt) eq
 no_other_edit k i none (AddComponent sid m) rest h eq = none (AddComponent sid m) rest (h, tt) eq
-no_other_edit k i none (DropSub id) rest h eq = no_item_key k the.Drop refl (key_of_edit (item_keyword k) i.lexemes (DropSub id) rest eq)
-no_other_edit k i none (MoveSub id start) rest h eq = no_item_key k the.Move refl (key_of_edit (item_keyword k) i.lexemes (MoveSub id start) rest eq)
-no_other_edit k i none (RateSub id kbits) rest h eq = no_item_key k the.Rate refl (key_of_edit (item_keyword k) i.lexemes (RateSub id kbits) rest eq)
-no_other_edit k i none (DropService sid) rest h eq = no_item_key k the.Drop refl (key_of_edit (item_keyword k) i.lexemes (DropService sid) rest eq)
-no_other_edit k i none (DropComponent sid m) rest h eq = no_item_key k the.Drop refl (key_of_edit (item_keyword k) i.lexemes (DropComponent sid m) rest eq)
-no_other_edit k i none (DropPacket scid) rest h eq = no_item_key k the.Drop refl (key_of_edit (item_keyword k) i.lexemes (DropPacket scid) rest eq)
+no_other_edit k i none e rest h eq = no_item_key k (edit_key e) refl (key_of_edit (item_keyword k) i.lexemes e rest eq)
 
 -- ---- what follows `drop`
 
@@ -215,14 +179,8 @@ no_drop_other lexemes a b none (DropService sid) rest h eq = a (sid_text sid ∷
 no_drop_other lexemes a b none (DropComponent sid m) rest h eq = b _ (rest_is _ _ _ _ eq)
 no_drop_other lexemes a b none (DropSub id) rest h eq = none (BySub id) rest h (rest_is _ _ _ _ eq)
 no_drop_other lexemes a b none (DropPacket scid) rest h eq = none (ByPacket scid) rest h (rest_is _ _ _ _ eq)
-no_drop_other lexemes a b none (AddSub s) rest h eq = let f = key_of_edit the.Drop _ (AddSub s) rest eq in absurd cc
-no_drop_other lexemes a b none (AddService sid) rest h eq = let f = key_of_edit the.Drop _ (AddService sid) rest eq in absurd cc
-no_drop_other lexemes a b none (AddPacket p) rest h eq = let f = key_of_edit the.Drop _ (AddPacket p) rest eq in absurd cc
-no_drop_other lexemes a b none (MoveSub id start) rest h eq = let f = key_of_edit the.Drop _ (MoveSub id start) rest eq in absurd cc
-no_drop_other lexemes a b none (RateSub id kbits) rest h eq = let f = key_of_edit the.Drop _ (RateSub id kbits) rest eq in absurd cc
 no_drop_other lexemes a b none (AddComponent sid (Sound ty sub)) rest h eq = let f = key_of_edit the.Drop _ (AddComponent sid (Sound ty sub)) rest eq in absurd cc
-no_drop_other lexemes a b none (AddComponent sid (Stream ty sub)) rest h eq = let f = key_of_edit the.Drop _ (AddComponent sid (Stream ty sub)) rest eq in absurd cc
-no_drop_other lexemes a b none (AddComponent sid (InPackets scid)) rest h eq = let f = key_of_edit the.Drop _ (AddComponent sid (InPackets scid)) rest eq in absurd cc
+no_drop_other lexemes a b none e rest h eq = let f = key_of_edit the.Drop _ e rest eq in absurd cc
 
 -- where the carrier or the service is refused, no component is dropped
 pub no_carried_by : (ws : Spelled) → ((m : Carrier) (rest : Spelled) → IsCarrier m → ws ≢ carrier_lexemes m ++ rest) → NoPlaced ws
@@ -256,13 +214,7 @@ act_key Settle = the.Settle
 
 pub act_begins : (a : Act) (rest : Spelled) → act_lexemes a ++ rest ≡ letters (act_key a) ∷ drop 1 (act_lexemes a ++ rest)
 act_begins (Edits e) rest = edit_begins e rest
-act_begins (Wait frames) rest = refl
-act_begins (WaitContact contact closed) rest = refl
-act_begins (Until second) rest = refl
-act_begins (CommitIn delay) rest = refl
-act_begins (CommitAt count) rest = refl
-act_begins Join rest = refl
-act_begins Settle rest = refl
+act_begins a rest = refl
 
 pub key_of_act : (first : Keyword) (ws : Spelled) (a : Act) (rest : Spelled) → letters first ∷ ws ≡ act_lexemes a ++ rest → first ≡ act_key a
 key_of_act first ws a rest eq = same_key first (act_key a) ws (drop 1 (act_lexemes a ++ rest)) (eq ∙ act_begins a rest)
@@ -281,18 +233,8 @@ begins_edit the.Packet = true
 begins_edit _ = false
 
 pub edit_key_begins : (e : Edit) → begins_edit (edit_key e) ≡ true
-edit_key_begins (AddSub s) = refl
-edit_key_begins (DropSub id) = refl
-edit_key_begins (MoveSub id start) = refl
-edit_key_begins (RateSub id kbits) = refl
-edit_key_begins (AddService sid) = refl
-edit_key_begins (DropService sid) = refl
 edit_key_begins (AddComponent sid (Sound ty sub)) = refl
-edit_key_begins (AddComponent sid (Stream ty sub)) = refl
-edit_key_begins (AddComponent sid (InPackets scid)) = refl
-edit_key_begins (DropComponent sid m) = refl
-edit_key_begins (AddPacket p) = refl
-edit_key_begins (DropPacket scid) = refl
+edit_key_begins e = refl
 
 pub no_edit : (k : Keyword) (e : Edit) → begins_edit k ≡ false → k ≡ edit_key e → ⊥
 no_edit k e other same = false≢true (sym other ∙ ap begins_edit same ∙ edit_key_begins e)
@@ -315,11 +257,7 @@ pub no_wait : (ws : Spelled) → ((rest : Spelled) → ws ≢ letters the.Contac
 no_wait ws other none (Wait frames) rest h eq = none frames rest h.0 h.1 (rest_is _ _ _ _ eq)
 no_wait ws other none (WaitContact contact closed) rest h eq = other _ (rest_is _ _ _ _ eq)
 no_wait ws other none (Edits e) rest h eq = no_edit the.Wait e refl (key_of_act the.Wait ws (Edits e) rest eq)
-no_wait ws other none (Until second) rest h eq = let f = key_of_act the.Wait ws (Until second) rest eq in absurd cc
-no_wait ws other none (CommitIn delay) rest h eq = let f = key_of_act the.Wait ws (CommitIn delay) rest eq in absurd cc
-no_wait ws other none (CommitAt count) rest h eq = let f = key_of_act the.Wait ws (CommitAt count) rest eq in absurd cc
-no_wait ws other none Join rest h eq = let f = key_of_act the.Wait ws Join rest eq in absurd cc
-no_wait ws other none Settle rest h eq = let f = key_of_act the.Wait ws Settle rest eq in absurd cc
+no_wait ws other none a rest h eq = let f = key_of_act the.Wait ws a rest eq in absurd cc
 
 commit_ran : (k : Keyword) (ws : Spelled) (a : Act) (rest : Spelled) → IsAct a → letters the.Commit ∷ letters k ∷ ws ≡ act_lexemes a ++ rest
     → IsRan (letters the.Commit ∷ letters k ∷ ws) (commit_by (is k) (letters the.Commit ∷ letters k ∷ ws)).0 rest
@@ -337,57 +275,15 @@ pub no_commit : (lexemes : Spelled) → ((rest : Spelled) → lexemes ≢ letter
 no_commit lexemes x y (CommitIn delay) rest h eq = x _ (rest_is _ _ _ _ eq)
 no_commit lexemes x y (CommitAt count) rest h eq = y _ (rest_is _ _ _ _ eq)
 no_commit lexemes x y (Edits e) rest h eq = no_edit the.Commit e refl (key_of_act the.Commit lexemes (Edits e) rest eq)
-no_commit lexemes x y (Wait frames) rest h eq = let g = key_of_act the.Commit lexemes (Wait frames) rest eq in absurd cc
-no_commit lexemes x y (WaitContact contact closed) rest h eq = let g = key_of_act the.Commit lexemes (WaitContact contact closed) rest eq in absurd cc
-no_commit lexemes x y (Until second) rest h eq = let g = key_of_act the.Commit lexemes (Until second) rest eq in absurd cc
-no_commit lexemes x y Join rest h eq = let g = key_of_act the.Commit lexemes Join rest eq in absurd cc
-no_commit lexemes x y Settle rest h eq = let g = key_of_act the.Commit lexemes Settle rest eq in absurd cc
+no_commit lexemes x y a rest h eq = let g = key_of_act the.Commit lexemes a rest eq in absurd cc
 
 pub begins_as_edit : (k : EditKeyword) → begins_edit (edit_keyword k) ≡ true
-begins_as_edit edit.Drop = refl
-begins_as_edit edit.Move = refl
-begins_as_edit edit.Rate = refl
-begins_as_edit (edit.Item item.Sub) = refl
-begins_as_edit (edit.Item item.Service) = refl
-begins_as_edit (edit.Item item.Packet) = refl
 begins_as_edit (edit.Item (item.Component component.Audio)) = refl
-begins_as_edit (edit.Item (item.Component component.Data)) = refl
-begins_as_edit (edit.Item (item.Component component.Carry)) = refl
+begins_as_edit k = refl
 
 no_edit_key : (k : EditKeyword) (other : Keyword) → begins_edit other ≡ false → edit_keyword k ≡ other → ⊥
 no_edit_key k other none same = false≢true (sym none ∙ ap begins_edit (sym same) ∙ begins_as_edit k)
 
 pub no_other_act : (k : EditKeyword) (ws : Spelled) → ((e : Edit) (rest : Spelled) → IsEdit e → letters (edit_keyword k) ∷ ws ≢ edit_lexemes e ++ rest) → NoAct (edit_keyword k) ws
 no_other_act k ws none (Edits e) rest h eq = none e rest h eq
-no_other_act k ws none (Wait frames) rest h eq = no_edit_key k the.Wait refl (key_of_act (edit_keyword k) ws (Wait frames) rest eq)
-no_other_act k ws none (WaitContact contact closed) rest h eq = no_edit_key k the.Wait refl (key_of_act (edit_keyword k) ws (WaitContact contact closed) rest eq)
-no_other_act k ws none (Until second) rest h eq = no_edit_key k the.Until refl (key_of_act (edit_keyword k) ws (Until second) rest eq)
-no_other_act k ws none (CommitIn delay) rest h eq = no_edit_key k the.Commit refl (key_of_act (edit_keyword k) ws (CommitIn delay) rest eq)
-no_other_act k ws none (CommitAt count) rest h eq = no_edit_key k the.Commit refl (key_of_act (edit_keyword k) ws (CommitAt count) rest eq)
-no_other_act k ws none Join rest h eq = no_edit_key k the.Join refl (key_of_act (edit_keyword k) ws Join rest eq)
-no_other_act k ws none Settle rest h eq = no_edit_key k the.Settle refl (key_of_act (edit_keyword k) ws Settle rest eq)
-
--- ---- where the result of a call is returned
-
--- the same first keyword
-pub behind_same : (A : Type 0) (In : A → Type 0) (lexemes : A → Spelled) (i : Input) (j k : Keyword) → j ≡ k → NoneOf A In lexemes (preceded_by k i) → NoneOf A In lexemes (preceded_by j i)
-behind_same A In lexemes i j k same none a rest h eq = none a rest h (ap (λ x. letters x ∷ i.lexemes) (sym same) ∙ eq)
-
-pub no_move_at : (first : EditKeyword) (i : Input) → first ≡ edit.Move → NoneOf (ℕ × ℕ) (λ p. (p.0 < 64) × (p.1 < 1024)) (λ p. edit_lexemes (MoveSub p.0 p.1)) (preceded_by the.Move i) → NoneOf Edit IsEdit edit_lexemes (preceded_by (edit_keyword first) i)
-no_move_at first i same none = behind_same Edit IsEdit edit_lexemes i (edit_keyword first) the.Move (ap edit_keyword same) (no_move i none)
-
-pub no_rate_at : (first : EditKeyword) (i : Input) → first ≡ edit.Rate → NoneOf (ℕ × ℕ) (λ p. (p.0 < 64) × (p.1 < 65536)) (λ p. edit_lexemes (RateSub p.0 p.1)) (preceded_by the.Rate i) → NoneOf Edit IsEdit edit_lexemes (preceded_by (edit_keyword first) i)
-no_rate_at first i same none = behind_same Edit IsEdit edit_lexemes i (edit_keyword first) the.Rate (ap edit_keyword same) (no_rate i none)
-
-pub no_other_item_at : (first : ItemKeyword) (k : ComponentKeyword) (i : Input) → first ≡ item.Component k
-    → NoneOf (Sid × Component) (λ p. IsSid p.0 × IsComponent p.1) (λ p. edit_lexemes (AddComponent p.0 p.1)) (preceded_by (component_keyword k) i)
-    → NoneOf Edit (λ e. IsEdit e × Adds e) edit_lexemes (preceded_by (item_keyword first) i)
-no_other_item_at first k i same none = behind_same Edit (λ e. IsEdit e × Adds e) edit_lexemes i (item_keyword first) (component_keyword k) (ap item_keyword same) (no_other_item k i none)
-
-pub no_other_edit_at : (first : EditKeyword) (k : ItemKeyword) (i : Input) → first ≡ edit.Item k → NoneOf Edit (λ e. IsEdit e × Adds e) edit_lexemes (preceded_by (item_keyword k) i)
-    → NoneOf Edit IsEdit edit_lexemes (preceded_by (edit_keyword first) i)
-no_other_edit_at first k i same none = behind_same Edit IsEdit edit_lexemes i (edit_keyword first) (item_keyword k) (ap edit_keyword same) (no_other_edit k i none)
-
-pub no_other_act_at : (first : ActKeyword) (k : EditKeyword) (i : Input) → first ≡ act.Edit k → NoneOf Edit IsEdit edit_lexemes (preceded_by (edit_keyword k) i)
-    → NoneOf Act IsAct act_lexemes (preceded_by (act_keyword first) i)
-no_other_act_at first k i same none = behind_same Act IsAct act_lexemes i (act_keyword first) (edit_keyword k) (ap act_keyword same) (no_other_act k i.lexemes none)
+no_other_act k ws none a rest h eq = no_edit_key k (act_key a) refl (key_of_act (edit_keyword k) ws a rest eq)

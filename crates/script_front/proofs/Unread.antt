@@ -11,7 +11,7 @@ use Rattle.script_tokens.specs.First.{edit_keyword, act_keyword}
 use Rattle.script_tokens.specs.declared.first_keyword.ActKeyword.{ActKeyword}
 use Rattle.script_tokens.specs.declared.first_keyword.ActKeyword.TheVariants as act
 use Rattle.std.proofs.lemmas.Bool.{false≢true}
-use Rattle.script_front.specs.Block.{Block, Before, nothing, basic, stop, when, either, repeat, forever, apply}
+use Rattle.script_front.specs.Block.{Block, Before, nothing, basic}
 use Rattle.script_front.specs.Tree.{IsInBounds, counted}
 use Rattle.script_tokens.specs.Reading.{Spelled, Input, Passes, BeginsWith, preceded_by}
 use Rattle.script_front.specs.Spelled.{name_at, act_lexemes, block_lexemes}
@@ -40,12 +40,7 @@ key_begins (basic line act r) some = through (act_key act) (act_key_begins act)
     through the.Forever e = refl
     through the.Apply e = refl
     through k e = e
-key_begins (stop line r) some = refl
-key_begins (when line contact first r) some = refl
-key_begins (either line contact first second r) some = refl
-key_begins (repeat line times body r) some = refl
-key_begins (forever line body r) some = refl
-key_begins (apply line number named r) some = refl
+key_begins b some = refl
 
 not_empty : (names : List (List ℕ)) (depth : ℕ) (lexemes : Spelled) (b : Block) (rest : Spelled) → (Stops lexemes → ⊥) → CanBe names depth lexemes b rest → b ≡ nothing → ⊥
 not_empty names depth lexemes b rest go can is = go (subst Stops (sym (can.spelled ∙ ap (λ (x : Block). block_lexemes names x ++ rest) is)) can.stops)
@@ -58,13 +53,7 @@ no_start names depth left lexemes go none named b rest few can =
 
 some_counted : (b : Block) → counted b ≤ 0 → b ≡ nothing
 some_counted nothing le = refl
-some_counted (basic line act r) le = absurd (omega (arith, le))
-some_counted (stop line r) le = absurd (omega (arith, le))
-some_counted (when line contact first r) le = absurd (omega (arith, le))
-some_counted (either line contact first second r) le = absurd (omega (arith, le))
-some_counted (repeat line times body r) le = absurd (omega (arith, le))
-some_counted (forever line body r) le = absurd (omega (arith, le))
-some_counted (apply line number named r) le = absurd (omega (arith, le))
+some_counted b le = absurd (omega (arith, le))
 
 pub no_more : (names : List (List ℕ)) (depth left : ℕ) (lexemes : Spelled) → (Stops lexemes → ⊥) → left ≡ 0 → NoBlock names depth left lexemes
 no_more names depth left lexemes go none named b rest few can = not_empty names depth lexemes b rest go can (some_counted b (omega (arith, few, none)))
@@ -76,12 +65,8 @@ no_block_at names depth n m lexemes vs e f none named b rest few can =
 -- ---- each kind of statement
 
 begins_as_act : (k : ActKeyword) → begins_act (act_keyword k) ≡ true
-begins_as_act act.Wait = refl
-begins_as_act act.Until = refl
-begins_as_act act.Commit = refl
-begins_as_act act.Join = refl
-begins_as_act act.Settle = refl
 begins_as_act (act.Edit k) = edit_begins_act (edit_keyword k) (begins_as_edit k)
+begins_as_act k = refl
 
 no_act_key : (k : ActKeyword) (other : Keyword) → begins_act other ≡ false → other ≡ act_keyword k → ⊥
 no_act_key k other none same = false≢true (sym none ∙ ap begins_act same ∙ begins_as_act k)
@@ -90,12 +75,7 @@ act_only : (names : List (List ℕ)) (depth : ℕ) (k : ActKeyword) (ws : Spelle
     → (b : Block) (rest : Spelled) → IsInBounds (length names) depth b → (b ≡ nothing → ⊥) → key b ≡ act_keyword k → letters (act_keyword k) ∷ ws ≡ block_lexemes names b ++ rest → ⊥
 act_only names depth k ws none (basic line a next) rest f some same eq = none a _ f.0 (eq ∙ append_assoc (act_lexemes a) (block_lexemes names next) rest)
 act_only names depth k ws none nothing rest f some same eq = some refl
-act_only names depth k ws none (stop line next) rest f some same eq = no_act_key k the.End refl same
-act_only names depth k ws none (when line contact one next) rest f some same eq = no_act_key k the.If refl same
-act_only names depth k ws none (either line contact one two next) rest f some same eq = no_act_key k the.If refl same
-act_only names depth k ws none (repeat line times body next) rest f some same eq = no_act_key k the.Repeat refl same
-act_only names depth k ws none (forever line body next) rest f some same eq = no_act_key k the.Forever refl same
-act_only names depth k ws none (apply line number named next) rest f some same eq = no_act_key k the.Apply refl same
+act_only names depth k ws none b rest f some same eq = no_act_key k (key b) refl same
 
 pub no_act_block : (names : List (List ℕ)) (depth left : ℕ) (k : ActKeyword) (lexemes ws : Spelled) → (Stops lexemes → ⊥) → lexemes ≡ letters (act_keyword k) ∷ ws → NoAct (act_keyword k) ws
     → NoBlock names depth left lexemes

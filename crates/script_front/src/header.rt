@@ -1,6 +1,6 @@
 //! Parsing the header of a script.
 
-ghost use Rattle.std.specs.Prelude.{◌≡◌, ◌<◌, ◌≤◌, ◌∷◌, [], length, IfOk, OnOk};
+ghost use Rattle.std.specs.Prelude.{◌≡◌, ◌<◌, ◌≤◌, ◌∷◌, [], IfOk, OnOk};
 ghost use Rattle.std.specs.Fmt.{decimal};
 ghost use Rattle.script_tokens.specs.declared.keyword.Keyword.TheVariants as the;
 ghost use Rattle.script_tokens.specs.Keywords.{letters};

@@ -2,7 +2,7 @@ use Rattle.std.proofs.Common.{◌∷◌, sym, ap, ◌∙◌}
 use Rattle.script_tokens.specs.Keywords.{letters}
 use Rattle.script_tokens.specs.First.{act_keyword}
 use Rattle.script_tokens.proofs.Atoms.{told}
-use Rattle.script_front.proofs.Refusing.{no_until, no_other_act_at}
+use Rattle.script_front.proofs.Refusing.{no_until, no_other_act}
 use Rattle.script_front.proofs.items.act.Goals as goal
 
 pub returns-in_err-time-in-Until-clause-none : goal.returns-in_err-time-in-Until-clause-none
@@ -10,4 +10,4 @@ returns-in_err-time-in-Until-clause-none c = told c.from_residual.result (λ a r
 
 pub returns-in_err-edit-in-Edit-clause-none : goal.returns-in_err-edit-in-Edit-clause-none
 returns-in_err-edit-in-Edit-clause-none c =
-    told c.from_residual-in_err-edit-in-Edit.result (no_other_act_at c.args.first c.in-Edit.keyword c.args.reader.now c.in-Edit.is c.in_err-edit-in-Edit.ensures.none)
+    told c.from_residual-in_err-edit-in-Edit.result (λ a rest h e. no_other_act c.in-Edit.keyword c.args.reader.now.lexemes c.in_err-edit-in-Edit.ensures.none a rest h (ap (λ k. letters (act_keyword k) ∷ c.args.reader.now.lexemes) (sym c.in-Edit.is) ∙ e))

@@ -2,7 +2,7 @@ use Rattle.std.proofs.Common.{◌∷◌, sym, ap, ◌∙◌}
 use Rattle.script_tokens.specs.Keywords.{letters}
 use Rattle.script_tokens.specs.First.{item_keyword}
 use Rattle.script_tokens.proofs.Atoms.{told, handed_on}
-use Rattle.script_front.proofs.Refusing.{no_new_sub, no_new_service, no_new_packet, no_other_item_at}
+use Rattle.script_front.proofs.Refusing.{no_new_sub, no_new_service, no_new_packet, no_other_item}
 use Rattle.script_front.proofs.items.item.Goals as goal
 
 pub returns-in_err-sub-in-Sub-clause-none : goal.returns-in_err-sub-in-Sub-clause-none
@@ -15,4 +15,4 @@ pub returns-in_err-packet-in-Packet-clause-none : goal.returns-in_err-packet-in-
 returns-in_err-packet-in-Packet-clause-none c = told c.from_residual-in_err-packet-in-Packet.result (λ x rest h e. no_new_packet c.args.reader.now c.in_err-packet-in-Packet.ensures.none x rest h.0 (ap (λ k. letters (item_keyword k) ∷ c.args.reader.now.lexemes) (sym c.in-Packet.is) ∙ e))
 
 pub returns-in-Component-clause-none : goal.returns-in-Component-clause-none
-returns-in-Component-clause-none c = handed_on c.component.result (no_other_item_at c.args.first c.in-Component.keyword c.args.reader.now c.in-Component.is) c.component.ensures.none
+returns-in-Component-clause-none c = handed_on c.component.result (λ none x rest h e. no_other_item c.in-Component.keyword c.args.reader.now none x rest h (ap (λ k. letters (item_keyword k) ∷ c.args.reader.now.lexemes) (sym c.in-Component.is) ∙ e)) c.component.ensures.none
