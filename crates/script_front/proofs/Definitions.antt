@@ -2,12 +2,11 @@
 use Rattle.std.proofs.Common.{◌≡◌, ℕ, zero, suc, ◌+◌, ◌-◌, ◌<◌, ◌≤◌, List, [], ◌∷◌, ◌++◌, length, refl, sym, ap, ◌∙◌, subst, append_assoc, arith}
 use Rattle.script_front.specs.declared.tree.Statement.{Statement}
 use Rattle.script_tokens.specs.declared.keyword.Keyword.TheVariants as the
-use Rattle.std.specs.Fmt.{decimal}
 use Rattle.script_tokens.specs.Keywords.{letters}
 use Rattle.script_tokens.specs.Reading.{Spelled, line_of}
 use Rattle.script_front.specs.Block.{Block, nothing, basic, stop, when, either, repeat, forever, apply, block_of}
 use Rattle.script_front.specs.Tree.{IsInBounds, AllFit}
-use Rattle.script_front.specs.Spelled.{name_at, act_lexemes, braced, block_lexemes, defined_lexemes, BlockOn, DefinedOn}
+use Rattle.script_front.specs.Spelled.{name_at, braced, block_lexemes, defined_lexemes, BlockOn, DefinedOn}
 
 -- two lists of names agree on the first `known`
 abbrev pub Agree : ℕ → (names more : List (List ℕ)) → Type 0
@@ -27,24 +26,17 @@ both_braced a b c d e f = ap (λ (x : Spelled). braced x c) e ∙ ap (λ (x : Sp
 
 pub words_agree : (known depth : ℕ) (names more : List (List ℕ)) → Agree known names more → (b : Block) → IsInBounds known depth b → block_lexemes names b ≡ block_lexemes more b
 words_agree known depth names more a nothing h = refl
-words_agree known depth names more a (basic line act rest) h = ap (λ (x : Spelled). act_lexemes act ++ x) (words_agree known depth names more a rest h.1)
-words_agree known depth names more a (stop line rest) h = ap (λ (x : Spelled). letters the.End ∷ x) (words_agree known depth names more a rest h)
+words_agree known depth names more a (basic line act rest) h = let r = words_agree known depth names more a rest h.1 in cc
+words_agree known depth names more a (stop line rest) h = let r = words_agree known depth names more a rest h in cc
 words_agree known depth names more a (when line contact first rest) h =
-    ap (λ (x : Spelled). letters the.If ∷ letters the.Contact ∷ decimal contact ∷ x)
-    (both_braced _ _ _ _ (words_agree known (depth - 1) names more a first h.2) (words_agree known depth names more a rest h.3))
+    let x = words_agree known (depth - 1) names more a first h.2 in let r = words_agree known depth names more a rest h.3 in cc
 words_agree known depth names more a (either line contact first second rest) h =
-    ap (λ (x : Spelled). letters the.If ∷ letters the.Contact ∷ decimal contact ∷ x)
-    (both_braced _ _ _ _ (words_agree known (depth - 1) names more a first h.2) (
-    ap (λ (x : Spelled). letters the.Else ∷ x) (both_braced _ _ _ _ (words_agree known (depth - 1) names more a second h.3) (words_agree known depth names more a rest h.4))))
+    let x = words_agree known (depth - 1) names more a first h.2 in let y = words_agree known (depth - 1) names more a second h.3 in let r = words_agree known depth names more a rest h.4 in cc
 words_agree known depth names more a (repeat line times body rest) h =
-    ap (λ (x : Spelled). letters the.Repeat ∷ decimal times ∷ x)
-    (both_braced _ _ _ _ (words_agree known (depth - 1) names more a body h.3) (words_agree known depth names more a rest h.4))
+    let x = words_agree known (depth - 1) names more a body h.3 in let r = words_agree known depth names more a rest h.4 in cc
 words_agree known depth names more a (forever line body rest) h =
-    ap (λ (x : Spelled). letters the.Forever ∷ x)
-    (both_braced _ _ _ _ (words_agree known (depth - 1) names more a body h.1) (words_agree known depth names more a rest h.2))
-words_agree known depth names more a (apply line number named rest) h =
-    ap (λ (n : List ℕ). letters the.Apply ∷ n ∷ block_lexemes names rest) (a number h.0)
-    ∙ ap (λ (x : Spelled). letters the.Apply ∷ name_at more number ∷ x) (words_agree known depth names more a rest h.1)
+    let x = words_agree known (depth - 1) names more a body h.1 in let r = words_agree known depth names more a rest h.2 in cc
+words_agree known depth names more a (apply line number named rest) h = let n = a number h.0 in let r = words_agree known depth names more a rest h.1 in cc
 
 -- the line of a statement that is spelled in the same way
 same_line : (lines : List ℕ) (line : ℕ) (x y after later : Spelled) → x ≡ y → after ≡ later → line ≡ line_of lines (x ++ after) → line ≡ line_of lines (y ++ later)

@@ -1,6 +1,5 @@
 -- A text is that of at most one script.
 use Rattle.std.proofs.Common.{◌≡◌, ℕ, ◌+◌, List, [], ◌∷◌, ◌++◌, map, refl, sym, ap, ◌∙◌, subst}
-use Rattle.std.specs.Fmt.{decimal}
 use Rattle.mux_config.specs.declared.edit.Edit.{Edit}
 use Rattle.script_tokens.specs.declared.token.Token.{Token}
 use Rattle.script_front.specs.declared.tree.Item.{Item}
@@ -14,7 +13,7 @@ use Rattle.script_tokens.specs.Texts.{tokens_of}
 use Rattle.script_tokens.specs.Reading.{Spelled, lines_of, line_of}
 use Rattle.script_front.specs.Block.{Block, Before, nothing, basic, stop, when, either, repeat, forever, apply, whole, statement_step, before, block_of}
 use Rattle.script_front.specs.Tree.{Tree}
-use Rattle.script_front.specs.Spelled.{edit_lexemes, name_at, act_lexemes, braced, block_lexemes, items_lexemes, defined_lexemes, begin_lexemes, tree_lexemes, ItemsOn, BlockOn, DefinedOn, HasLines}
+use Rattle.script_front.specs.Spelled.{edit_lexemes, name_at, braced, block_lexemes, items_lexemes, defined_lexemes, begin_lexemes, tree_lexemes, ItemsOn, BlockOn, DefinedOn, HasLines}
 use Rattle.script_front.specs.Alike.{unlined, said_by, added_by, AreAlike, AreTheSame, TextsAreOfOneScript}
 use Rattle.script_front.proofs.Alike.{scripts_alike}
 use Rattle.script_front.proofs.Denoting.{are_tokens, denoted_words, are_its_tokens}
@@ -65,22 +64,13 @@ plain (s ∷ ss) = statement_plain s _ (plain ss)
 
 words_unlined : (names : List (List ℕ)) (b : Block) → block_lexemes names b ≡ block_lexemes names (unlined b)
 words_unlined names nothing = refl
-words_unlined names (basic line act rest) = ap (λ (ws : Spelled). act_lexemes act ++ ws) (words_unlined names rest)
-words_unlined names (stop line rest) = ap (λ (ws : Spelled). letters the.End ∷ ws) (words_unlined names rest)
-words_unlined names (when line contact first rest) =
-    ap (λ (ws : Spelled). letters the.If ∷ letters the.Contact ∷ decimal contact ∷ braced ws (block_lexemes names rest)) (words_unlined names first)
-    ∙ ap (λ (ws : Spelled). letters the.If ∷ letters the.Contact ∷ decimal contact ∷ braced (block_lexemes names (unlined first)) ws) (words_unlined names rest)
-words_unlined names (either line contact first second rest) =
-    ap (λ (ws : Spelled). letters the.If ∷ letters the.Contact ∷ decimal contact ∷ braced ws (letters the.Else ∷ braced (block_lexemes names second) (block_lexemes names rest))) (words_unlined names first)
-    ∙ ap (λ (ws : Spelled). letters the.If ∷ letters the.Contact ∷ decimal contact ∷ braced (block_lexemes names (unlined first)) (letters the.Else ∷ braced ws (block_lexemes names rest))) (words_unlined names second)
-    ∙ ap (λ (ws : Spelled). letters the.If ∷ letters the.Contact ∷ decimal contact ∷ braced (block_lexemes names (unlined first)) (letters the.Else ∷ braced (block_lexemes names (unlined second)) ws)) (words_unlined names rest)
-words_unlined names (repeat line times body rest) =
-    ap (λ (ws : Spelled). letters the.Repeat ∷ decimal times ∷ braced ws (block_lexemes names rest)) (words_unlined names body)
-    ∙ ap (λ (ws : Spelled). letters the.Repeat ∷ decimal times ∷ braced (block_lexemes names (unlined body)) ws) (words_unlined names rest)
-words_unlined names (forever line body rest) =
-    ap (λ (ws : Spelled). letters the.Forever ∷ braced ws (block_lexemes names rest)) (words_unlined names body)
-    ∙ ap (λ (ws : Spelled). letters the.Forever ∷ braced (block_lexemes names (unlined body)) ws) (words_unlined names rest)
-words_unlined names (apply line number named rest) = ap (λ (ws : Spelled). letters the.Apply ∷ name_at names number ∷ ws) (words_unlined names rest)
+words_unlined names (basic line act rest) = let r = words_unlined names rest in cc
+words_unlined names (stop line rest) = let r = words_unlined names rest in cc
+words_unlined names (when line contact first rest) = let a = words_unlined names first in let r = words_unlined names rest in cc
+words_unlined names (either line contact first second rest) = let a = words_unlined names first in let b = words_unlined names second in let r = words_unlined names rest in cc
+words_unlined names (repeat line times body rest) = let a = words_unlined names body in let r = words_unlined names rest in cc
+words_unlined names (forever line body rest) = let a = words_unlined names body in let r = words_unlined names rest in cc
+words_unlined names (apply line number named rest) = let r = words_unlined names rest in cc
 
 -- the block on the lines of its tokens, where `after` follows it
 abbrev lined : List (List ℕ) → List ℕ → Block → Spelled → Block
