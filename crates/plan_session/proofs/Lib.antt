@@ -15,6 +15,7 @@ mod PartOutcomes
 mod PartReads
 mod PartTexts
 mod PartVectors
+pub mod ReadParts
 mod Readings
 pub mod Requests
 mod StepLexemes

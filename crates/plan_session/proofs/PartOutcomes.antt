@@ -22,9 +22,10 @@ use Rattle.plan_session.specs.Events.{Holds, HoldsOneList, events_of}
 use Rattle.plan_session.specs.Parts.{IsCodeFault}
 use Rattle.plan_session.specs.Playback.{Request, start_of, IsTypedFileOf, IsStarted}
 use Rattle.plan_session.specs.FilePlayback.{over, Begins, DeliversAgain, IsPlayed, IsFileFault, is_file_write, IsFileSilent}
-use Rattle.plan_session.specs.PartPlaying.{HoldsInParts, Fits, IsFrom, PlaysInto, outcome_at, outcome_of, PlaysFile}
-use Rattle.plan_session.proofs.PartLoop.{gives_known}
-use Rattle.plan_session.proofs.Requests.{same_start, asked_for}
+use Rattle.plan_session.specs.PartPlaying.{HoldsInParts, IsFrom, PlaysInto, outcome_at, outcome_of, PlaysFile}
+use Rattle.plan_session.specs.PartReading.{Fits}
+use Rattle.plan_session.proofs.ReadParts.{gives_known}
+use Rattle.plan_session.proofs.Requests.{same_start, asked_for, begins_of}
 
 -- ---- whether the sink has failed
 
@@ -65,16 +66,6 @@ module _ (left before after : Option (List ℕ)) (text : List ℕ) (groups : Lis
       (s.0, subst (λ (es : List Event). Stopped p s.0 es before after c.frames c.bytes) same (stopped_before p s.0 events f.1 before after c.frames c.bytes s.1))
 
 -- ---- the file of a request
-
-begins_of : (r : Request) (p : Playing) (code : Program) (start : Starting) → IsTypedFileOf code r.file → start ≡ start_of code r → start_fault start ≡ None → IsAtStart code start p → Begins r p
-begins_of r p code start file starts none begins =
-    let codes : code ≡ p.code = sym begins.code_is in
-    let at : IsAtStart code (start_of code r) p = subst (λ (s : Starting). IsAtStart code s p) starts begins in
-    let in_range : start_fault (start_of code r) ≡ None = subst (λ (s : Starting). start_fault s ≡ None) starts none in
-    record {
-      ready = record { file = subst (λ (c : Program). IsTypedFileOf c r.file) codes file; start = subst (λ (c : Program). start_fault (start_of c r) ≡ None) codes in_range };
-      begins = subst (λ (c : Program). IsAtStart c (start_of c r) p) codes at;
-    }
 
 module _ (r : Request) (code : Program) (start : Starting) (left before after : Option (List ℕ)) (file : IsTypedFileOf code r.file) (starts : start ≡ start_of code r) where
   pub again_delivers : (outcome : Result ℕ FileRunFault) (text : List ℕ) (groups : List (List Step)) (q : Playing) (steps : List Step) → HoldsOneList → PlaysFile code start left before after outcome

@@ -10,7 +10,7 @@ use Rattle.plan_session.specs.declared.file_run_fault.FileRunFault.TheVariants.{
 use Rattle.plan_session.specs.Events.{IsStep, step_lexemes}
 use Rattle.plan_session.specs.FilePlayback.{DeliversAgain, is_file_write, IsFileSilent}
 use Rattle.plan_session.specs.InParts.{separates, begins_item, EndsPart, last_end, InParts}
-use Rattle.plan_session.specs.PartPlaying.{Gives}
+use Rattle.plan_session.specs.PartReading.{Gives}
 
 -- ---- where a text can be cut
 

@@ -15,6 +15,7 @@ use Rattle.plan_session.specs.declared.event_fault.EventFault.{EventFault}
 use Rattle.plan_session.specs.declared.event_fault.EventFault.TheVariants.{Byte, Number, Expected, Memory}
 use Rattle.plan_session.specs.declared.step.Step.{Step}
 use Rattle.plan_session.specs.Events.{events_of}
+use Rattle.plan_session.specs.FilePlayback.{Begins}
 use Rattle.plan_session.specs.declared.run_fault.RunFault.{RunFault}
 use Rattle.plan_session.specs.declared.run_fault.RunFault.TheVariants.{Code, Refused, Start as StartFault, Events, Write}
 use Rattle.plan_session.specs.Playback.{Request, start_of, IsTypedFileOf, IsPlayback, IsStarted, IsPlayFault, IsRunFault}
@@ -65,6 +66,17 @@ asked_for r p steps code start file starts h =
       ready = record { file = subst (λ (c : Program). IsTypedFileOf c r.file) codes file; start = there.in_range };
       begins = there.begins;
       holds = there.holds;
+    }
+
+-- a player at its start
+pub begins_of : (r : Request) (p : Playing) (code : Program) (start : Starting) → IsTypedFileOf code r.file → start ≡ start_of code r → start_fault start ≡ None → IsAtStart code start p → Begins r p
+begins_of r p code start file starts none begins =
+    let codes : code ≡ p.code = sym begins.code_is in
+    let at : IsAtStart code (start_of code r) p = subst (λ (s : Starting). IsAtStart code s p) starts begins in
+    let in_range : start_fault (start_of code r) ≡ None = subst (λ (s : Starting). start_fault s ≡ None) starts none in
+    record {
+      ready = record { file = subst (λ (c : Program). IsTypedFileOf c r.file) codes file; start = subst (λ (c : Program). start_fault (start_of c r) ≡ None) codes in_range };
+      begins = subst (λ (c : Program). IsAtStart c (start_of c r) p) codes at;
     }
 
 -- a fault of playing a code is one of the request

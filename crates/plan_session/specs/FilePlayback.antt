@@ -9,7 +9,8 @@ use Rattle.plan_session.specs.declared.run_fault.RunFault.TheVariants.{Code, Ref
 use Rattle.plan_session.specs.declared.file_run_fault.FileRunFault.{FileRunFault}
 use Rattle.plan_session.specs.declared.file_run_fault.FileRunFault.TheVariants.{Run, Changed, Unread}
 use Rattle.plan_session.specs.Events.{events_of}
-use Rattle.plan_session.specs.PartPlaying.{HoldsInParts, Gives, WritesAll}
+use Rattle.plan_session.specs.PartPlaying.{HoldsInParts, WritesAll}
+use Rattle.plan_session.specs.PartReading.{Gives}
 use Rattle.plan_session.specs.Playback.{Request, CanStart, start_of, IsPlayback, Delivers, IsRunFault}
 
 -- each part of the text lists steps

@@ -1,4 +1,5 @@
 pub mod Buffering
+pub mod CommandParts
 pub mod Commands
 pub mod Events
 pub mod FilePlayback

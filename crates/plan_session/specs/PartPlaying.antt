@@ -17,6 +17,7 @@ use Rattle.plan_session.specs.declared.part_playing.End.TheVariants.{Done as AtE
 use Rattle.plan_session.specs.declared.part_playing.Ended.{Ended}
 use Rattle.plan_session.specs.Events.{IsStep, step_lexemes, Holds, events_of}
 use Rattle.plan_session.specs.InParts.{PartHolds, InParts}
+use Rattle.plan_session.specs.PartReading.{Gives, Fits}
 
 abbrev pub HoldsPart : List ℕ → List Step → Type 0
 HoldsPart part steps = PartHolds step_lexemes IsStep part steps
@@ -26,15 +27,6 @@ abbrev pub HoldsInParts : List ℕ → List (List Step) → Type 0
 HoldsInParts text groups = InParts step_lexemes IsStep text groups
 
 -- ---- the bytes that were read
-
--- these are the bytes of a reader, if they are known
-abbrev pub Gives : Option (List ℕ) → List ℕ → Type 0
-Gives None text = Unit {0}
-Gives (Some bytes) text = text ≡ bytes
-
--- a text that fits into memory has at most 2^64 - 1 bytes
-abbrev pub Fits : List ℕ → Type 0
-Fits text = length text ≤ 18446744073709551615
 
 -- a text in parts that is known lists steps, and these are the first of their events
 abbrev pub IsFront : Option (List ℕ) → List Event → Type 0

@@ -9,7 +9,8 @@ ghost use Rattle.plan_session.specs.declared.step.Step.{Step as EventStep};
 ghost use Rattle.plan_session.specs.Events.{events_of};
 ghost use Rattle.plan_session.specs.Playback.{asked, IsPlayback};
 ghost use Rattle.plan_session.specs.FilePlayback.{ListsInParts, DeliversAgain, IsPlayed, IsFileFault, IsFileSilent, is_file_write};
-ghost use Rattle.plan_session.specs.PartPlaying.{Fits, PlaysInto, PlaysFile, outcome_of};
+ghost use Rattle.plan_session.specs.PartPlaying.{PlaysInto, PlaysFile, outcome_of};
+ghost use Rattle.plan_session.specs.PartReading.{Fits};
 
 use crate::buffer::{Buffer, delivered};
 use crate::code_file::typed_code;

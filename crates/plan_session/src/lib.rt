@@ -5,7 +5,7 @@
 //! command file into [`Command`]s; [`StepList`] and [`CommandList`] give them one by one and keep none. [`play`] plays
 //! a loaded code over the text of an event file into a sink; [`run`] does so from the bytes of a code file, and
 //! [`run_into`] too, in large pieces. [`run_again`] plays the text of a reader part by part, if [`lists_in_parts`] was
-//! true of it. What a text lists is defined in
+//! true of it; [`Parts`] reads the parts, and [`commands_in`] gives the commands of one. What a text lists is defined in
 //! `specs/Events.antt` and `specs/Commands.antt`, what is kept of it in `specs/Kept.antt`; a playback, what it delivers
 //! and its faults in `specs/Playback.antt`.
 #![tactic(auto)]
@@ -17,6 +17,7 @@ mod characters;
 pub mod code_file;
 pub mod command;
 pub mod command_list;
+pub mod command_parts;
 pub mod commands;
 pub mod event_fault;
 pub mod events;
@@ -28,7 +29,7 @@ mod items;
 pub mod laws;
 mod listing;
 mod part_playing;
-mod parts;
+pub mod parts;
 pub mod playback;
 mod playing;
 pub mod run_fault;
@@ -42,11 +43,13 @@ pub use buffered::run_into;
 pub use code_file::typed_code;
 pub use command::Command;
 pub use command_list::CommandList;
+pub use command_parts::{commands_in, lists_commands_in_parts};
 pub use commands::read_commands;
 pub use event_fault::EventFault;
 pub use events::read_events;
 pub use file_playing::{lists_in_parts, run_again};
 pub use file_run_fault::FileRunFault;
+pub use parts::{NoPart, Parts};
 pub use playback::{play, run};
 pub use run_fault::RunFault;
 pub use step::Step;

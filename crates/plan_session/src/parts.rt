@@ -14,16 +14,19 @@ const WINDOW: usize = 65_536;
 
 /// Why there is no further part.
 #[derive(Clone, Copy, Debug, PartialEq, Eq)]
-pub(crate) enum NoPart {
+pub enum NoPart {
     /// The text can't be read.
     Unread(TextFault),
     /// The bytes of the window have no end of a part.
     Endless,
 }
 
-/// The parts of a text, one by one: each is in memory alone.
+/// The parts of a text, one by one: each is in memory alone. A part is what fits into 65,536 bytes, up to the last blank
+/// or line end in front of an item; the last part is what is left when the rest fits.
+///
+/// Contracts refer to what is left of the text, if it is known, and to the last part read.
 #[derive(Drop)]
-pub(crate) struct Parts<R: Read + Drop> {
+pub struct Parts<R: Read + Drop> {
     source: R,
     window: [u8; WINDOW],
     /// The length of the last part.
@@ -56,7 +59,7 @@ impl<R: Read + Drop> Parts<R> {
     ghost use Rattle.plan_session.specs.PartReading.{Takes, HasNoEnd};
 
     /// The parts of what is left to a reader, before the first.
-    pub(crate) fn new(source: R) -> Self
+    pub fn new(source: R) -> Self
         ensures left { Keeps (R.remaining source) result.left }
     {
         Parts {
@@ -69,7 +72,11 @@ impl<R: Read + Drop> Parts<R> {
     }
 
     /// Reads the next part, and returns whether there are further ones.
-    pub(crate) fn advance(&mut self) -> Result<bool, NoPart>
+    ///
+    /// # Errors
+    ///
+    /// `Unread` if the text can't be read; `Endless` if no part ends within 65,536 bytes. There is no part then.
+    pub fn advance(&mut self) -> Result<bool, NoPart>
         ensures found { IfOk result (λ more. Takes more self.old.left self.new) }
         ensures none { IfErr result (λ e. e ≡ Endless → HasNoEnd self.old.left) }
     {
@@ -96,8 +103,8 @@ impl<R: Read + Drop> Parts<R> {
         Ok(true)
     }
 
-    /// The last part read.
-    pub(crate) fn part(&self) -> &[u8]
+    /// The last part read; empty before the first.
+    pub fn part(&self) -> &[u8]
         ensures { result.now ≡ self.now.part }
     {
         &self.window[..self.len]
