@@ -29,10 +29,10 @@ ROWS = [
     ("compile x.script x.out --explain", ["cannot read x.script\n", "cannot write x.out\n"]),
     ("verify x.code", ["cannot read x.code\n"]),
     ("verify x.code --explain", ["cannot read x.code\n"]),
-    # the events are read twice
+    # the events and the commands are read twice
     ("play x.code x.events x.out",
      ["cannot read x.code\n", "cannot read x.events\n", "cannot read x.events\n", "cannot write x.out\n"]),
-    ("debug x.code x.commands", ["cannot read x.code\n", "cannot read x.commands\n"]),
+    ("debug x.code x.commands", ["cannot read x.code\n", "cannot read x.commands\n", "cannot read x.commands\n"]),
 ]
 
 # A plan driven for 30 frames of 96 bytes, with a notice and a swap.

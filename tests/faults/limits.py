@@ -258,8 +258,8 @@ def try_zeros(tally, program, folder):
 
 
 def try_long_texts(tally, program, folder):
-    """75 MB of steps in a file in 64 MB of memory: none is kept. 20 MB through a pipe in 128 MB; 20 MB of commands in
-    128 MB: their text is kept, and no list of them. A fault at the end comes first."""
+    """75 MB of steps and of commands in a file in 64 MB of memory: none is kept. 20 MB through a pipe in 128 MB: their text is
+    kept, and no list of them. A fault at the end comes first."""
     common.write(folder, "small.code", (common.SAMPLES / "contact_lowers_a_rate.code").read_bytes())
     for name, steps in (("lines", b"contact 3 open\n"), ("one line", b"contact 3 open "), ("a token a line", b"contact\n3\nopen\n"),
                         ("comments", b"contact 3 # frames 1\n  open # frames 2\n")):
@@ -279,8 +279,14 @@ def try_long_texts(tally, program, folder):
     command = b"contact 3 open\n"
     count = 20_000_000 // len(command)
     common.write(folder, "long.commands", command * count)
+    for name, line in (("", f"'{program}' debug small.code long.commands"), (" through a pipe", f"cat long.commands | '{program}' debug small.code /dev/stdin")):
+        ended = common.run(["bash", "-c", f"set -o pipefail; {line} | wc -l"], folder, memory=131_072)
+        tally.same(f"20 MB of commands{name}", (0, f"{count}\n".encode()), ended.lines())
+    command = b"contact 3 open # " + b"show " * 20 + b"\n"
+    count = 75_000_000 // len(command)
+    common.write(folder, "long.commands", command * count)
     line = f"set -o pipefail; '{program}' debug small.code long.commands | wc -l"
-    tally.same("20 MB of commands", (0, f"{count}\n".encode()), common.run(["bash", "-c", line], folder, memory=131_072).lines())
+    tally.same("75 MB of commands", (0, f"{count}\n".encode()), common.run(["bash", "-c", line], folder, memory=65_536).lines())
 
 
 def try_stacks(tally, program, folder):

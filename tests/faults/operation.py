@@ -178,6 +178,38 @@ def two_readings(tally, program, folder):
         tally.hold(streamed.printed == pathlib.Path(folder, "a.fib").read_bytes(), f"events, {name}: other frames on standard output")
 
 
+def two_readings_of_commands(tally, program, folder):
+    """Commands in a file, which are read part by part, and through a pipe, where they are kept: the same lines."""
+    common.write(folder, "s.code", CODE.read_bytes())
+    commands = [f"contact {n % 16} {'closed' if n % 3 else 'open'}" for n in range(6000)] + ["run 3", "next", "break 9", "clear", "show"] * 60
+    texts = {
+        "lines": "\n".join(commands), "indented lines": "".join(f"\t  {command} # show\n\n" for command in commands),
+        "one line": " ".join(commands), "a token a line": "\r\n".join(commands).replace(" ", "\r\n;"),
+        "a comment of 70,000 bytes": "run 2 #" + "show " * 14_000 + "\nshow", "nothing": "",
+        "a command that is cut": "\n".join(commands) + "\nrun", "a cut command in the middle": "run\n" + "\n".join(commands),
+        "a number out of range": "\n".join(commands) + "\nrun 0\n" + "show\n" * 9000, "a bad byte": "\n".join(commands) + " @",
+        "a bad byte behind a fault": "run\n" * 20_000 + "@", "a brace": "show\n" * 20_000 + "{",
+    }
+    for name, text in texts.items():
+        common.write(folder, "e.commands", text)
+        in_parts = common.run([program, "debug", "s.code", "e.commands"], folder)
+        kept = common.run(["bash", "-c", f"cat e.commands | '{program}' debug s.code /dev/stdin"], folder)
+        tally.hold(kept.lines() == in_parts.lines(), f"commands, {name}: {kept.printed[-99:]} and {in_parts.printed[-99:]}")
+
+
+def changed_commands(tally, program, folder):
+    """Standard output is another name of COMMANDS, which is overwritten while it is executed: behind the lines of its first
+    part, 13,107 commands of 5 bytes in 65,536, the second part lists no commands."""
+    common.write(folder, "s.code", CODE.read_bytes())
+    common.write(folder, "e.commands", "show\n" * 13_107)
+    wanted = common.run([program, "debug", "s.code", "e.commands"], folder).printed + b"commands changed\n"
+    common.write(folder, "e.commands", "show\n" * 20_000)
+    with open(f"{folder}/e.commands", "r+b") as out:
+        done = subprocess.run([str(program), "debug", "s.code", "e.commands"], cwd=folder, stdout=out, check=False)
+    tally.same("commands that are overwritten", 1, done.returncode)
+    tally.hold(pathlib.Path(folder, "e.commands").read_bytes().startswith(wanted), "commands that are overwritten: other lines")
+
+
 def changed_events(tally, program, folder):
     """OUT is another name of EVENTS, which is overwritten while it is played: after the frames of its first part, 7,281
     steps of 9 bytes in 65,536, with no step cut, the second part lists no steps."""
@@ -313,7 +345,7 @@ def main():
     tally = common.Tally()
     program = common.dabplan()
     for part in (streams_that_do_not_block, messages_that_do_not_block, equal_paths, refusals, two_readings,
-                 changed_events, size_limits, hostile_names,
+                 two_readings_of_commands, changed_events, changed_commands, size_limits, hostile_names,
                  a_folder_that_is_no_text, standard_output, messages_after_frames,
                  messages_that_nobody_reads):
         with tempfile.TemporaryDirectory() as folder:

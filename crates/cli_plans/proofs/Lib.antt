@@ -1,2 +1,3 @@
 mod EventFiles
+mod PartTranscripts
 mod Transcripts

@@ -1,2 +1,3 @@
+pub mod FileTranscript
 pub mod LiveEnding
 pub mod Transcript

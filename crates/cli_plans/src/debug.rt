@@ -11,7 +11,8 @@ ghost use Rattle.plan_session.specs.Listing.{ListsCommands};
 ghost use Rattle.plan_session.specs.Playback.{asked};
 ghost use Rattle.cli_plans.specs.Transcript.{place_text, swap_text, break_line, report_lines, announcement_line, shown_lines, Transcript, IsSession, Prints, IsDebugFault, IsUnprinted};
 
-use crate::event_file::read_event_text;
+use crate::event_file::{are_commands_in_parts, open_events, read_event_text, unreadable};
+use crate::file_debugging::{FileDebugFault, debug_again};
 use crate::start::StartOptions;
 use console::code_file::read_code;
 use console::exit::{Failure, Status};
@@ -55,6 +56,8 @@ pub enum DebugFault {
 
 /// Runs `debug`: executes the commands and prints the lines of each; or prints why the code can't be
 /// debugged.
+///
+/// Commands that can be read again are read twice, and none of them is kept; others are kept.
 pub fn show_debug<'a, F: Files, W: Write>(
     alloc: Global,
     request: &DebugRequest<'a>,
@@ -62,20 +65,50 @@ pub fn show_debug<'a, F: Files, W: Write>(
     out: &mut W,
 ) -> Result<Status, Failure<'a>> {
     let code = read_code(alloc, files, request.code)?;
+    if are_commands_in_parts(files, request.commands)? {
+        let commands = open_events(files, request.commands)?;
+        let ended = debug_again(alloc, code.as_slice(), commands, request.start, out);
+        return end_debug(ended, request.commands, out);
+    }
     let commands = read_event_text(alloc, files, request.commands)?;
-    match debug(
-        alloc,
-        code.as_slice(),
-        commands.as_str(),
-        request.start,
-        out,
-    ) {
+    let text = commands.as_str();
+    let ended = debug(alloc, code.as_slice(), text, request.start, out);
+    end_debug(of_text(ended), request.commands, out)
+}
+
+/// How a session over a text ended, which is not read again.
+fn of_text(ended: Result<(), DebugFault>) -> Result<(), FileDebugFault> {
+    match ended {
+        Ok(()) => Ok(()),
+        Err(fault) => Err(FileDebugFault::Debug(fault)),
+    }
+}
+
+/// Prints why a session ended early, if it did.
+fn end_debug<'a, W: Write>(
+    ended: Result<(), FileDebugFault>,
+    commands: &'a str,
+    out: &mut W,
+) -> Result<Status, Failure<'a>> {
+    match ended {
         Ok(()) => Ok(Status::Done),
-        Err(DebugFault::Output) => Err(Failure::Output),
-        Err(DebugFault::Memory) => Err(Failure::Memory),
-        Err(DebugFault::Playback(RunFault::Code(CodeFault::Memory))) => Err(Failure::Memory),
-        Err(DebugFault::Commands(EventFault::Memory)) => Err(Failure::Memory),
-        Err(fault) => {
+        Err(FileDebugFault::Debug(fault)) => print_fault(fault, out),
+        Err(FileDebugFault::Changed) => {
+            writeln!(out, "commands changed")?;
+            Ok(Status::Refused)
+        }
+        Err(FileDebugFault::Unread(fault)) => Err(unreadable(fault, commands)),
+    }
+}
+
+/// Prints why a session was not run to its end.
+fn print_fault<'a, W: Write>(fault: DebugFault, out: &mut W) -> Result<Status, Failure<'a>> {
+    match fault {
+        DebugFault::Output => Err(Failure::Output),
+        DebugFault::Memory => Err(Failure::Memory),
+        DebugFault::Playback(RunFault::Code(CodeFault::Memory)) => Err(Failure::Memory),
+        DebugFault::Commands(EventFault::Memory) => Err(Failure::Memory),
+        fault => {
             writeln!(out, "{fault}")?;
             Ok(Status::Refused)
         }
@@ -132,7 +165,7 @@ pub fn debug<W: Write>(
 }
 
 /// Executes the commands of a list in order, and prints the lines of each.
-fn drive<W: Write>(
+pub(crate) fn drive<W: Write>(
     debugger: &mut Debugger<'_, Tables>,
     commands: &mut CommandList<'_>,
     out: &mut W,

@@ -3,15 +3,16 @@
 ghost use Rattle.std.specs.Prelude.{◌≡◌, ℕ, List, IfOk, IfErr, IfSome, Ok, Some, true, string_bytes};
 ghost use Rattle.std.specs.Io.KnownBytes.{Keeps};
 ghost use Rattle.console.specs.Failures.{IsReadFailure};
+ghost use Rattle.plan_session.specs.CommandParts.{ListsCommandsInParts};
 ghost use Rattle.plan_session.specs.FilePlayback.{ListsInParts};
 ghost use Rattle.plan_session.specs.Kept.{IsKeptOf};
 
 use console::exit::Failure;
 use console::files::Files;
-use plan_session::{TextFault, lists_in_parts, read_text};
+use plan_session::{TextFault, lists_commands_in_parts, lists_in_parts, read_text};
 use std::alloc::Global;
 
-/// Opens an event file, or returns why it can't be opened.
+/// Opens an event or command file, or returns why it can't be opened.
 pub(crate) fn open_events<'a, F: Files>(files: &mut F, path: &'a str) -> Result<F::In, Failure<'a>>
     ensures bytes { IfOk result (λ file. Keeps (F.known files.old path.now)
         (F.In.remaining file)) }
@@ -49,6 +50,29 @@ pub(crate) fn is_in_parts<'a, F: Files>(files: &mut F, path: &'a str) -> Result<
         Err(failure) => return Err(failure),
     };
     match lists_in_parts(file) {
+        Ok(is_in_parts) => Ok(is_in_parts),
+        Err(fault) => Err(unreadable(fault, path)),
+    }
+}
+
+/// The same of a command file.
+#[tactic(auto, using(crate::proofs::EventFiles::still_known))]
+pub(crate) fn are_commands_in_parts<'a, F: Files>(
+    files: &mut F,
+    path: &'a str,
+) -> Result<bool, Failure<'a>>
+    ensures parts { result ≡ Ok true → (text : List ℕ) → F.known files.old path.now ≡ Some text
+        → ListsCommandsInParts text }
+    ensures fault { IfErr result (λ failure. IsReadFailure path.now failure) }
+{
+    if !files.can_reread(path) {
+        return Ok(false);
+    }
+    let file = match open_events(files, path) {
+        Ok(file) => file,
+        Err(failure) => return Err(failure),
+    };
+    match lists_commands_in_parts(file) {
         Ok(is_in_parts) => Ok(is_in_parts),
         Err(fault) => Err(unreadable(fault, path)),
     }

@@ -3,7 +3,9 @@
 
 pub mod debug;
 pub mod event_file;
+pub mod file_debugging;
 mod late_file;
 pub mod live;
+mod part_debugging;
 pub mod play;
 pub mod start;
