@@ -1,3 +1,7 @@
 mod EventFiles
+mod Keeping
 mod PartTranscripts
+mod Played
+mod PlayedFiles
 mod Transcripts
+mod VectorsOfPlaying

@@ -1,3 +1,5 @@
 pub mod FileTranscript
+pub mod LateFiles
 pub mod LiveEnding
+pub mod PlayFiles
 pub mod Transcript

@@ -4,6 +4,7 @@ ghost use Rattle.std.specs.Prelude.{◌≡◌, ℕ, List, IfOk, IfErr, IfSome, O
 ghost use Rattle.std.specs.Io.KnownBytes.{Keeps};
 ghost use Rattle.console.specs.Failures.{IsReadFailure};
 ghost use Rattle.plan_session.specs.CommandParts.{ListsCommandsInParts};
+ghost use Rattle.console.specs.World.{Stays};
 ghost use Rattle.plan_session.specs.FilePlayback.{ListsInParts};
 ghost use Rattle.plan_session.specs.Kept.{IsKeptOf};
 
@@ -16,6 +17,9 @@ use std::alloc::Global;
 pub(crate) fn open_events<'a, F: Files>(files: &mut F, path: &'a str) -> Result<F::In, Failure<'a>>
     ensures bytes { IfOk result (λ file. Keeps (F.known files.old path.now)
         (F.In.remaining file)) }
+    ensures files { (other : List ℕ)
+        → Keeps (F.known files.old other) (F.known files.new other) }
+    ensures world { Stays (F.world files.old) (F.world files.new) }
     ensures fault { IfErr result (λ failure. IsReadFailure path.now failure) }
 {
     match files.open(path) {
@@ -40,6 +44,9 @@ pub(crate) fn unreadable<'a>(fault: TextFault, path: &'a str) -> Failure<'a>
 pub(crate) fn is_in_parts<'a, F: Files>(files: &mut F, path: &'a str) -> Result<bool, Failure<'a>>
     ensures parts { result ≡ Ok true → (text : List ℕ) → F.known files.old path.now ≡ Some text
         → ListsInParts text }
+    ensures files { (other : List ℕ)
+        → Keeps (F.known files.old other) (F.known files.new other) }
+    ensures world { Stays (F.world files.old) (F.world files.new) }
     ensures fault { IfErr result (λ failure. IsReadFailure path.now failure) }
 {
     if !files.can_reread(path) {
@@ -85,11 +92,15 @@ pub fn read_event_text<'a, F: Files>(
     files: &mut F,
     path: &'a str,
 ) -> Result<String, Failure<'a>>
-    ensures { IfOk result (λ text. IfSome (F.known files.old path.now)
+    ensures text { IfOk result (λ text. IfSome (F.known files.old path.now)
         (λ bytes. IsKeptOf bytes (string_bytes text))) }
+    ensures world { Stays (F.world files.old) (F.world files.new) }
+    ensures fault { IfErr result (λ failure. IsReadFailure path.now failure) }
 {
-    let file = files.open(path);
-    let file = file.map_err(|fault| Failure::of_file(fault, path))?;
+    let file = match open_events(files, path) {
+        Ok(file) => file,
+        Err(failure) => return Err(failure),
+    };
     match read_text(alloc, file) {
         Ok(text) => Ok(text),
         Err(fault) => Err(unreadable(fault, path)),

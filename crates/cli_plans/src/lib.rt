@@ -4,6 +4,7 @@
 pub mod debug;
 pub mod event_file;
 pub mod file_debugging;
+mod file_play;
 mod late_file;
 pub mod live;
 mod part_debugging;

@@ -1,11 +1,21 @@
 //! `dabplan play`: plays a plan code over events, and writes its frames to a file.
 
+ghost use Rattle.std.specs.Prelude.{◌≡◌, ◌≢◌, ℕ, List, [], take, Ok, Some, true, IfOk, OnOk};
+ghost use Rattle.std.specs.Io.KnownBytes.{Appends};
+ghost use Rattle.console.specs.World.{Becomes, Stays, IsSameBut, HasWritten};
+ghost use Rattle.console.specs.declared.exit.Status.TheVariants.{Done as PlayedToEnd};
+ghost use Rattle.plan_session.specs.FilePlayback.{ListsInParts};
+ghost use Rattle.plan_session.specs.PartPlaying.{Fits};
+ghost use Rattle.cli_plans.specs.PlayFiles.{asked_from, played_line, IsWritable, IsPlayedInto};
+ghost use Rattle.cli_plans.specs.declared.late_file.Creation.TheVariants as end;
+
 use crate::event_file::{is_in_parts, open_events, read_event_text, unreadable};
-use crate::late_file::{Creation, LateFile};
+use crate::file_play::{of_text, play_again, play_kept};
+use crate::late_file::Creation;
 use crate::start::StartOptions;
 use console::code_file::read_code;
 use console::escaped::Escaped;
-use console::exit::{Failure, Status, create_file, touch_file};
+use console::exit::{Failure, Status, touch_file, write_file};
 use console::files::Files;
 use plan_code::CodeFault;
 use plan_player::Writer;
@@ -34,41 +44,113 @@ pub struct PlayRequest<'a> {
 /// The file is created when its first byte is written, after the code, the start and the events were found to be good.
 /// Where they are refused an empty file is created if there is none; a file that is there keeps its bytes, as it does
 /// where the code or the events can't be read.
+#[tactic(auto, using(console::proofs::Worlds::stays_but))]
 pub fn show_play<'a, F: Files, W: Write>(
     alloc: Global,
     request: &PlayRequest<'a>,
     files: &mut F,
     out: &mut W,
-) -> Result<Status, Failure<'a>> {
-    let code = read_code(alloc, files, request.code)?;
-    if is_in_parts(files, request.events)? {
-        let events = open_events(files, request.events)?;
-        let (ended, creation) = play_again(alloc, code.as_slice(), events, request, files);
-        return end_play(ended, creation, request, files, out);
+) -> Result<Status, Failure<'a>>
+    // What is in the file is the run of the code over the events.
+    ensures played { IfOk result (λ status. status ≡ PlayedToEnd → (code text : List ℕ)
+        → F.known files.old request.now.code.now ≡ Some code
+        → F.known files.old request.now.events.now ≡ Some text → Fits text
+        → IsPlayedInto request.now.out.now
+        (asked_from (take 1048577 code) text request.now.start)
+        (F.world files.old) (F.world files.new) (W.contents out.old) (W.contents out.new)) }
+    ensures others { Becomes (IsSameBut request.now.out.now)
+        (F.world files.old) (F.world files.new) }
+{
+    let code = match read_code(alloc, files, request.code) {
+        Ok(code) => code,
+        Err(failure) => return Err(failure),
+    };
+    match is_in_parts(files, request.events) {
+        Ok(true) => show_again(alloc, code.as_slice(), request, files, out),
+        Ok(false) => show_kept(alloc, code.as_slice(), request, files, out),
+        Err(failure) => Err(failure),
     }
-    let events = read_event_text(alloc, files, request.events)?;
-    let text = events.as_str();
-    let (ended, creation) = play_late(alloc, code.as_slice(), text, request, files);
-    end_play(ended, creation, request, files, out)
+}
+
+/// Plays a code over events that can be read again, part by part, and prints how it ended.
+#[tactic(auto, using(crate::proofs::PlayedFiles::file_played))]
+fn show_again<'a, F: Files, W: Write>(
+    alloc: Global,
+    code: &[u8],
+    request: &PlayRequest<'a>,
+    files: &mut F,
+    out: &mut W,
+) -> Result<Status, Failure<'a>>
+    ensures played { IfOk result (λ status. status ≡ PlayedToEnd → (text : List ℕ)
+        → F.known files.old request.now.events.now ≡ Some text → Fits text → ListsInParts text
+        → IsPlayedInto request.now.out.now (asked_from code.now text request.now.start)
+        (F.world files.old) (F.world files.new) (W.contents out.old) (W.contents out.new)) }
+    ensures others { Becomes (IsSameBut request.now.out.now)
+        (F.world files.old) (F.world files.new) }
+{
+    let events = match open_events(files, request.events) {
+        Ok(events) => events,
+        Err(failure) => return Err(failure),
+    };
+    let play = play_again(alloc, code, events, request, files);
+    end_play(play.ended, play.creation, request, files, out)
+}
+
+/// Plays a code over events that are kept, and prints how it ended.
+#[tactic(auto, using(crate::proofs::PlayedFiles::file_played))]
+fn show_kept<'a, F: Files, W: Write>(
+    alloc: Global,
+    code: &[u8],
+    request: &PlayRequest<'a>,
+    files: &mut F,
+    out: &mut W,
+) -> Result<Status, Failure<'a>>
+    ensures played { IfOk result (λ status. status ≡ PlayedToEnd → (text : List ℕ)
+        → F.known files.old request.now.events.now ≡ Some text
+        → IsPlayedInto request.now.out.now (asked_from code.now text request.now.start)
+        (F.world files.old) (F.world files.new) (W.contents out.old) (W.contents out.new)) }
+    ensures others { Becomes (IsSameBut request.now.out.now)
+        (F.world files.old) (F.world files.new) }
+{
+    let events = match read_event_text(alloc, files, request.events) {
+        Ok(events) => events,
+        Err(failure) => return Err(failure),
+    };
+    let play = play_kept(alloc, code, events, request, files);
+    end_play(play.ended, play.creation, request, files, out)
 }
 
 /// Creates the file of a playback that wrote no byte, unless its events could not be read, and prints how it ended.
+#[tactic(auto, using(console::proofs::Worlds::stays_but, crate::proofs::PlayedFiles::touched_but, crate::proofs::PlayedFiles::same_stays))]
 fn end_play<'a, F: Files, W: Write>(
     ended: Result<u128, FileRunFault>,
     creation: Creation,
     request: &PlayRequest<'a>,
     files: &mut F,
     out: &mut W,
-) -> Result<Status, Failure<'a>> {
+) -> Result<Status, Failure<'a>>
+    ensures printed { IfOk result (λ status. status ≡ PlayedToEnd → (frames : ℕ)
+        × (ended ≡ Ok frames)
+        × Appends (W.contents out.old) (W.contents out.new) (played_line frames)) }
+    ensures failed { IfOk result (λ status. status ≡ PlayedToEnd → IsWritable creation) }
+    ensures done { creation ≡ end.Done → Stays (F.world files.old) (F.world files.new) }
+    ensures due { creation ≡ end.Due → IfOk result (λ status. status ≡ PlayedToEnd
+        → Becomes (HasWritten request.now.out.now []) (F.world files.old) (F.world files.new)) }
+    ensures others { Becomes (IsSameBut request.now.out.now)
+        (F.world files.old) (F.world files.new) }
+{
     if is_unread(ended) {
         return print_ending(ended, request.events, out);
     }
-    match creation {
-        Creation::Done => {}
-        Creation::Failed(fault) => return Err(Failure::of_output(fault, request.out)),
-        Creation::Due => create_or_touch(ended.is_ok(), files, request.out)?,
+    let written = match creation {
+        Creation::Done => Ok(()),
+        Creation::Failed(fault) => Err(Failure::of_output(fault, request.out)),
+        Creation::Due => create_or_touch(ended.is_ok(), files, request.out),
+    };
+    match written {
+        Ok(()) => print_ending(ended, request.events, out),
+        Err(failure) => Err(failure),
     }
-    print_ending(ended, request.events, out)
 }
 
 /// Runs `play` with standard output in place of the file: the frames go to `out`, and the line to `lines`.
@@ -131,56 +213,10 @@ fn stream_text<W: Write>(
     of_text(ended)
 }
 
-/// Plays a code over the text of a reader into the file of the request, which is created with its first byte.
-fn play_again<F: Files>(
-    alloc: Global,
-    code: &[u8],
-    events: F::In,
-    request: &PlayRequest<'_>,
-    files: &mut F,
-) -> (Result<u128, FileRunFault>, Creation) {
-    let (ended, sink) = run_again(
-        alloc,
-        code,
-        events,
-        request.start.count,
-        request.start.day,
-        request.start.contacts,
-        Writer::new(LateFile::new(files, request.out)),
-    );
-    (ended, sink.inner().creation())
-}
-
-/// Plays a code over a text into the file of the request, which is created with its first byte.
-fn play_late<F: Files>(
-    alloc: Global,
-    code: &[u8],
-    events: &str,
-    request: &PlayRequest<'_>,
-    files: &mut F,
-) -> (Result<u128, FileRunFault>, Creation) {
-    let (ended, sink) = run_into(
-        alloc,
-        code,
-        events,
-        request.start.count,
-        request.start.day,
-        request.start.contacts,
-        Writer::new(LateFile::new(files, request.out)),
-    );
-    (of_text(ended), sink.inner().creation())
-}
-
-/// How a playback of a text ended, which is not read again.
-fn of_text(ended: Result<u128, RunFault>) -> Result<u128, FileRunFault> {
-    match ended {
-        Ok(frames) => Ok(frames),
-        Err(fault) => Err(FileRunFault::Run(fault)),
-    }
-}
-
 /// Whether the events could not be read again for the first frame: then it is as if they were not read at all.
-fn is_unread(ended: Result<u128, FileRunFault>) -> bool {
+fn is_unread(ended: Result<u128, FileRunFault>) -> bool
+    ensures { result ≡ true → (frames : ℕ) → ended ≡ Ok frames → ⊥ }
+{
     match ended {
         Err(FileRunFault::Unread { frames, fault: _ }) => frames == 0,
         _ => false,
@@ -188,16 +224,20 @@ fn is_unread(ended: Result<u128, FileRunFault>) -> bool {
 }
 
 /// Creates the file of a playback without a byte: truncated if it was played, else only if there is none.
+#[tactic(auto, using(crate::proofs::PlayedFiles::written_but, crate::proofs::PlayedFiles::touched_but, console::proofs::Worlds::stays_but))]
 fn create_or_touch<'a, F: Files>(
     is_played: bool,
     files: &mut F,
     path: &'a str,
-) -> Result<(), Failure<'a>> {
-    if !is_played {
-        return touch_file(files, path);
+) -> Result<(), Failure<'a>>
+    ensures written { is_played ≡ true → OnOk result
+        (Becomes (HasWritten path.now []) (F.world files.old) (F.world files.new)) }
+    ensures others { Becomes (IsSameBut path.now) (F.world files.old) (F.world files.new) }
+{
+    if is_played {
+        return write_file(files, path, &[]);
     }
-    let _file = create_file(files, path)?;
-    Ok(())
+    touch_file(files, path)
 }
 
 /// Prints the number of frames played, or why playback failed.
@@ -205,7 +245,10 @@ fn print_ending<'a, W: Write>(
     ended: Result<u128, FileRunFault>,
     events: &'a str,
     out: &mut W,
-) -> Result<Status, Failure<'a>> {
+) -> Result<Status, Failure<'a>>
+    ensures { IfOk result (λ status. status ≡ PlayedToEnd → (frames : ℕ) × (ended ≡ Ok frames)
+        × Appends (W.contents out.old) (W.contents out.new) (played_line frames)) }
+{
     match ended {
         Ok(frames) => {
             writeln!(out, "played {frames} frames")?;
@@ -228,7 +271,9 @@ fn print_ending<'a, W: Write>(
 }
 
 /// Prints why a playback failed.
-fn print_fault<'a, W: Write>(fault: RunFault, out: &mut W) -> Result<Status, Failure<'a>> {
+fn print_fault<'a, W: Write>(fault: RunFault, out: &mut W) -> Result<Status, Failure<'a>>
+    ensures { IfOk result (λ status. status ≢ PlayedToEnd) }
+{
     match fault {
         RunFault::Code(CodeFault::Memory) => Err(Failure::Memory),
         RunFault::Events(EventFault::Memory) => Err(Failure::Memory),

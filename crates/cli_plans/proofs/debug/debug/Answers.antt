@@ -1,4 +1,4 @@
-use Rattle.std.proofs.Common.{◌≡◌, ℕ, ap, subst, ◌∙◌}
+use Rattle.std.proofs.Common.{◌≡◌, ℕ, ap, subst}
 use Rattle.plan_code.specs.Program.{Program}
 use Rattle.plan_runs.specs.declared.event.Start.{Start as Starting}
 use Rattle.plan_player.specs.Playing.{Playing, IsAtStart}

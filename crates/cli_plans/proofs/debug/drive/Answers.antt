@@ -1,11 +1,11 @@
-use Rattle.std.specs.Prelude.{Option, None, Some}
-use Rattle.std.proofs.Common.{◌≡◌, ℕ, List, [], ◌∷◌, ◌++◌, sym, ap, subst, ◌∙◌, append_assoc, append-nil}
+use Rattle.std.specs.Prelude.{Option, Some}
+use Rattle.std.proofs.Common.{◌≡◌, ℕ, List, [], ◌∷◌, ◌++◌, sym, ap, subst, ◌∙◌, append_assoc}
 use Rattle.std.proofs.KnownBytes.{Appends-trans}
 use Rattle.plan_session.specs.declared.command.Command.{Command}
 use Rattle.plan_session.specs.Listing.{TakesCommand}
 use Rattle.plan_debug.specs.declared.report.Report.{Report}
 use Rattle.plan_debug.specs.Commands.{Debugging}
-use Rattle.cli_plans.specs.Transcript.{report_lines, shown_lines, Transcript}
+use Rattle.cli_plans.specs.Transcript.{report_lines, shown_lines}
 use Rattle.cli_plans.proofs.Transcripts.{transcript_more}
 use Rattle.cli_plans.proofs.debug.drive.Goals as goal
 

@@ -1,5 +1,4 @@
 use Rattle.std.proofs.KnownBytes.{Appends-trans}
-use Rattle.plan_debug.specs.declared.report.Report.{Report}
 use Rattle.plan_debug.specs.Commands.{Answers}
 use Rattle.std.proofs.lemmas.Result.{on_ok_weaker}
 use Rattle.cli_plans.proofs.debug.run_command.Goals as goal

@@ -1,0 +1,105 @@
+-- Vectors of what `play` leaves in its file.
+use Rattle.std.proofs.Common.{◌≡◌, ℕ, List, [], ◌∷◌, length, Option, None, Some, refl}
+use Rattle.std.proofs.lemmas.Bool.{false≢true}
+use Rattle.console.specs.World.{World}
+use Rattle.plan_player.specs.Playing.{Playing}
+use Rattle.plan_player.specs.Delivery.{frames_of, played_bytes}
+use Rattle.plan_session.specs.declared.step.Step.{Step}
+use Rattle.plan_session.specs.Events.{events_of}
+use Rattle.plan_session.specs.Playback.{Request, IsPlayback}
+use Rattle.console.specs.declared.files.FileFault.TheVariants.{Failed as OfSystem}
+use Rattle.cli_plans.specs.declared.late_file.Creation.TheVariants.{Done, Failed}
+use Rattle.cli_plans.specs.LateFiles.{IsKept, IsKeptBut, taken_in}
+use Rattle.cli_plans.specs.PlayFiles.{IsWritable, IsUnwritten, EndsInFile, IsPlayedInto, played_line}
+
+path : List ℕ
+path = 111 ∷ []
+
+-- each path has a file with these bytes
+holding : List ℕ → World
+holding bytes = record { files = λ (q : List ℕ). Some bytes; errors = [] }
+
+-- no path has a file
+empty : World
+empty = record { files = λ (q : List ℕ). None; errors = [] }
+
+-- ---- a file that is created with its first byte
+
+kept : IsKept (Some (holding [])) (Some (holding []))
+kept = record { known = λ e. e; files = λ e q. refl; errors = λ e. refl }
+
+lost : IsKept (Some (holding [])) None → ⊥
+lost k = absurd (false≢true (k.known refl))
+
+no_file : (bytes : List ℕ) → None ≡ Some bytes → ⊥
+no_file bytes e = absurd cc
+
+some : (byte : ℕ) (bytes : List ℕ) → byte ∷ bytes ≡ [] → ⊥
+some byte bytes e = absurd cc
+
+different : [] ≡ path → ⊥
+unfolding path
+different e = cc
+
+other_changed : IsKeptBut path (Some (holding [])) (Some empty) → ⊥
+unfolding empty holding
+other_changed k = absurd (no_file [] (k.others refl [] different))
+
+nothing_taken : taken_in (λ (o : List ℕ). Some o) (Some empty) None ≡ Some []
+nothing_taken = refl
+
+bytes_taken : taken_in (λ (o : List ℕ). Some o) (Some empty) (Some (1 ∷ [])) ≡ Some [] → ⊥
+bytes_taken e = cc
+
+-- ---- what is left in the file
+
+writable : IsWritable Done
+writable = tt
+
+not_writable : IsWritable (Failed OfSystem) → ⊥
+not_writable w = w
+
+unwritten : IsUnwritten [] (holding []) (holding [])
+unwritten = record { same = record { files = λ q. refl; errors = refl }; none = refl }
+
+not_unwritten : IsUnwritten (1 ∷ []) (holding []) (holding []) → ⊥
+not_unwritten u = absurd (some 1 [] u.none)
+
+-- the bytes of the playback are in the file, and the number of its frames is printed
+played_into : (r : Request) (p : Playing) (steps : List Step) → IsPlayback r p steps
+    → IsPlayedInto path r (Some (holding (played_bytes p (events_of steps)))) (Some (holding (played_bytes p (events_of steps)))) (Some []) (Some (played_line (length (frames_of p (events_of steps)))))
+unfolding holding
+played_into r p steps plays =
+    record {
+      p = p;
+      steps = steps;
+      playback = plays;
+      written = record { written = refl; rest = record { others = λ other not. refl; errors = refl } };
+      printed = refl;
+    }
+
+ended_in_file : (r : Request) (p : Playing) (steps : List Step) → IsPlayback r p steps
+    → EndsInFile path r (Some (holding (played_bytes p (events_of steps)))) (Some (holding (played_bytes p (events_of steps)))) (length (frames_of p (events_of steps))) Done
+unfolding holding
+ended_in_file r p steps plays =
+    record {
+      p = p;
+      steps = steps;
+      playback = plays;
+      counted = refl;
+      done = λ e. record { written = refl; rest = record { others = λ other not. refl; errors = refl } };
+      due = λ e. absurd cc;
+    }
+
+-- there is no file
+without_file : (r : Request) (before : World) (old new : Option (List ℕ)) → IsPlayedInto path r (Some before) (Some empty) old new → ⊥
+unfolding empty
+without_file r before old new i = let never : None ≡ Some (played_bytes i.p (events_of i.steps)) = i.written.written in absurd cc
+
+ended_without_file : (r : Request) (before : World) (n : ℕ) → EndsInFile path r (Some before) (Some empty) n Done → ⊥
+unfolding empty
+ended_without_file r before n e = let never : None ≡ Some (played_bytes e.p (events_of e.steps)) = (e.done refl).written in absurd cc
+
+-- nothing is printed
+silent : (r : Request) (before after : Option World) → IsPlayedInto path r before after (Some []) (Some []) → ⊥
+silent r before after i = let never : [] ≡ played_line (length (frames_of i.p (events_of i.steps))) = i.printed in absurd cc
