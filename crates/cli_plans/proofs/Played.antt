@@ -11,7 +11,7 @@ use Rattle.plan_session.specs.declared.step.Step.{Step}
 use Rattle.plan_session.specs.Events.{events_of}
 use Rattle.plan_session.specs.FilePlayback.{ListsInParts, DeliversAgain, IsPlayed}
 use Rattle.plan_session.specs.Kept.{IsKeptOf, KeptTextsHaveSameResult}
-use Rattle.plan_session.specs.PartPlaying.{Fits, Gives}
+use Rattle.plan_session.specs.PartReading.{Fits, Gives}
 use Rattle.plan_session.specs.Playback.{Request, asked, IsPlayback, Delivers}
 use Rattle.cli_plans.specs.declared.late_file.Creation.{Creation}
 use Rattle.cli_plans.specs.declared.late_file.Creation.TheVariants.{Due, Done}

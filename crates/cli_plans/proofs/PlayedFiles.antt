@@ -9,7 +9,7 @@ use Rattle.plan_session.specs.declared.file_run_fault.FileRunFault.{FileRunFault
 use Rattle.plan_session.specs.Events.{events_of}
 use Rattle.plan_session.specs.FilePlayback.{ListsInParts}
 use Rattle.plan_session.specs.Kept.{IsKeptOf}
-use Rattle.plan_session.specs.PartPlaying.{Fits}
+use Rattle.plan_session.specs.PartReading.{Fits}
 use Rattle.plan_session.specs.Playback.{Request}
 use Rattle.cli_plans.specs.declared.late_file.Creation.{Creation}
 use Rattle.cli_plans.specs.declared.late_file.Creation.TheVariants.{Due, Done, Failed}

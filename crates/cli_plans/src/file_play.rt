@@ -4,7 +4,7 @@ ghost use Rattle.std.specs.Prelude.{◌≡◌, ◌≢◌, ℕ, List, Some, IfOk,
 ghost use Rattle.console.specs.World.{Becomes, IsSameBut};
 ghost use Rattle.plan_session.specs.FilePlayback.{ListsInParts};
 ghost use Rattle.plan_session.specs.Kept.{IsKeptOf};
-ghost use Rattle.plan_session.specs.PartPlaying.{Fits};
+ghost use Rattle.plan_session.specs.PartReading.{Fits};
 ghost use Rattle.cli_plans.specs.PlayFiles.{asked_from, EndsInFile};
 
 use crate::late_file::{Creation, LateFile, LateStart, Lent};

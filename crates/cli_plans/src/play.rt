@@ -5,7 +5,7 @@ ghost use Rattle.std.specs.Io.KnownBytes.{Appends};
 ghost use Rattle.console.specs.World.{Becomes, Stays, IsSameBut, HasWritten};
 ghost use Rattle.console.specs.declared.exit.Status.TheVariants.{Done as PlayedToEnd};
 ghost use Rattle.plan_session.specs.FilePlayback.{ListsInParts};
-ghost use Rattle.plan_session.specs.PartPlaying.{Fits};
+ghost use Rattle.plan_session.specs.PartReading.{Fits};
 ghost use Rattle.cli_plans.specs.PlayFiles.{asked_from, played_line, IsWritable, IsPlayedInto};
 ghost use Rattle.cli_plans.specs.declared.late_file.Creation.TheVariants as end;
 
