@@ -1,5 +1,12 @@
 pub mod Compiled
+pub mod Compiling
+pub mod Diffing
+pub mod FileTexts
+pub mod FramingScripts
+pub mod ListenScript
 pub mod Naming
 pub mod Planned
+pub mod RefusalTexts
+pub mod Refusing
 pub mod ScriptFrame
 pub mod Verdict

@@ -3,10 +3,11 @@ use Rattle.std.specs.Prelude.{◌≡◌, ◌≢◌, ℕ, List}
 use Rattle.mux_edits.specs.Making.{edits_that_make}
 use Rattle.plan_code.specs.Program.{Program}
 use Rattle.plan_verifier.specs.Typing.{IsTyped}
+use Rattle.script_config.specs.Openings.{IsOpening}
 use Rattle.script_config.specs.declared.opening.Opening.{Opening}
 use Rattle.script_config.specs.declared.refusal.DiffFault.{DiffFault}
 use Rattle.script_config.specs.Plan.{plan_acts}
-use Rattle.script_config.specs.Refusals.{CanBePlanned, IsInTheWay}
+use Rattle.script_config.specs.Refusals.{FitsPeriod, CanBePlanned, IsInTheWay}
 use Rattle.cli_scripts.specs.declared.diff.PlanFault.{PlanFault}
 use Rattle.cli_scripts.specs.declared.diff.PlanFault.TheVariants.{Between, Refused, Memory}
 use Rattle.script_compiler.specs.declared.fault.CompileFault.{CompileFault}
@@ -37,8 +38,9 @@ pub record IsRefusedPlan (from to : Opening) (fault : CompileFault) : Type 0 whe
   pub plain : IsPlain to.header (edits_that_make from.config) (plan_acts to.header from.config to.config) tree
   pub refused : fault ≢ Unavailable → IsAccepted tree → ⊥
 
--- this prevents a plan; where nothing does, the plan itself is refused, or an allocation failed
+-- this prevents a plan; where nothing does, an allocation failed, or the plan itself is refused: only if the first
+-- configuration is not sound, or the pages of the second one do not fit its own period
 abbrev pub IsPlanFault : Opening → Opening → PlanFault → Type 0
 IsPlanFault from to (Between fault) = IsInTheWay from to fault
-IsPlanFault from to (Refused fault) = CanBePlanned from to × IsRefusedPlan from to fault
+IsPlanFault from to (Refused fault) = CanBePlanned from to × IsRefusedPlan from to fault × (IsOpening from → FitsPeriod to → ⊥)
 IsPlanFault from to Memory = CanBePlanned from to

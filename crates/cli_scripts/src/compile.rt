@@ -1,12 +1,14 @@
 //! `dabplan compile`: compiles a script into a code file.
 
-ghost use Rattle.std.specs.Prelude.{IfOk, IfErr, OnOk};
+ghost use Rattle.std.specs.Prelude.{◌≡◌, ℕ, List, take, IfOk, IfErr, IfSome, OnOk};
 ghost use Rattle.std.specs.Io.KnownBytes.{Appends};
+ghost use Rattle.console.specs.World.{Stays};
 ghost use Rattle.cli_scripts.specs.Compiled.{IsCompiled, IsMadeOf, IsUncompiled, counts_line};
+ghost use Rattle.cli_scripts.specs.Compiling.{CompilesFile, CompilesStream, FindsCompiled, IsReasonOrMemory, KeepsFiles};
 
 use crate::explained::show_script_refusal;
-use crate::script_file::{read_script, text_of, whole_characters};
-use console::exit::{Failure, Status, create_file};
+use crate::script_file::{read_script, script_text};
+use console::exit::{Failure, Status, write_file};
 use console::files::Files;
 use console::output::write_out;
 use plan_code::{Code, encode};
@@ -14,7 +16,6 @@ use script_compiler::{CompileFault, compile};
 use script_front::{Script, ScriptFault, parse};
 use std::alloc::{AllocError, Global};
 use std::io::{self, Write};
-use thiserror::Error;
 
 /// The arguments of `compile`.
 #[derive(Clone, Copy)]
@@ -41,16 +42,13 @@ pub struct Compiled {
 }
 
 /// Why a script is not compiled.
-#[derive(Clone, Copy, Debug, PartialEq, Eq, Error)]
+#[derive(Clone, Copy, Debug, PartialEq, Eq)]
 pub enum ScriptRefusal {
     /// The text is not a script.
-    #[error("{0}")]
     Script(ScriptFault),
     /// The plan is refused.
-    #[error("{0}")]
     Plan(CompileFault),
     /// Out of memory.
-    #[error("no memory")]
     Memory,
 }
 
@@ -62,60 +60,124 @@ impl From<AllocError> for ScriptRefusal {
 
 /// Runs `compile`: writes the code file of the script, and prints the numbers of instructions, labels and
 /// configurations; or prints why the script is refused, with an explanation if requested. The file is created last,
-/// so that an earlier failure leaves it as it was.
+/// so that an earlier failure leaves it as it was; no other file is changed.
+///
+/// `Read` if the script can't be read, or is not UTF-8; `Create` if the file can't be written; `Output` if `out`
+/// fails; `Memory` if out of memory.
 pub fn show_compile<'a, F: Files, W: Write>(
     alloc: Global,
     request: &CompileRequest<'a>,
     files: &mut F,
     out: &mut W,
-) -> Result<Status, Failure<'a>> {
-    let Some(compiled) = compile_script(alloc, request, files, out)? else {
-        return Ok(Status::Refused);
+) -> Result<Status, Failure<'a>>
+    ensures script { IfSome (F.known files.old request.now.script.now) (λ bytes.
+        CompilesFile bytes request.now (W.contents out.old) (W.contents out.new)
+        (F.world files.old) (F.world files.new) result) }
+    ensures files { KeepsFiles request.now (F.world files.old) (F.world files.new) result }
+{
+    let compiled = match compile_script(alloc, request, files, out) {
+        Ok(Some(compiled)) => compiled,
+        Ok(None) => return Ok(Status::Refused),
+        Err(failure) => return Err(failure),
     };
-    let mut file = create_file(files, request.out)?;
-    let (_taken, written) = write_out(compiled.file.as_slice(), &mut file);
-    if written.is_err() {
-        return Err(Failure::Create(request.out));
+    match write_file(files, request.out, compiled.file.as_slice()) {
+        Ok(()) => {}
+        Err(failure) => return Err(failure),
     }
-    print_counts(&compiled, out)?;
-    Ok(Status::Done)
+    match print_counts(&compiled, out) {
+        Ok(()) => Ok(Status::Done),
+        Err(_) => Err(Failure::Output),
+    }
 }
 
-/// Runs `compile` with standard output in place of the file: the code file goes to `out`, and the lines to `lines`.
+/// Runs `compile` with standard output in place of the file: the code file goes to `out`, and the lines to `lines`. No
+/// file is changed.
+///
+/// The failures are those of [`show_compile`]: `Create` if `out` fails, which may have taken some bytes then, and
+/// `Output` if `lines` fails.
 pub fn stream_compile<'a, F: Files, W: Write, L: Write>(
     alloc: Global,
     request: &CompileRequest<'a>,
     files: &mut F,
     out: &mut W,
     lines: &mut L,
-) -> Result<Status, Failure<'a>> {
-    let Some(compiled) = compile_script(alloc, request, files, lines)? else {
-        return Ok(Status::Refused);
+) -> Result<Status, Failure<'a>>
+    ensures script { IfSome (F.known files.old request.now.script.now) (λ bytes.
+        CompilesStream bytes request.now (L.contents lines.old) (L.contents lines.new)
+        (W.contents out.old) (W.contents out.new) result) }
+    ensures files { Stays (F.world files.old) (F.world files.new) }
+{
+    let compiled = match compile_script(alloc, request, files, lines) {
+        Ok(Some(compiled)) => compiled,
+        Ok(None) => return Ok(Status::Refused),
+        Err(failure) => return Err(failure),
     };
-    let (_taken, written) = write_out(compiled.file.as_slice(), out);
-    if written.is_err() || out.flush().is_err() {
-        return Err(Failure::Create(request.out));
+    match write_through(compiled.file.as_slice(), out) {
+        Ok(()) => {}
+        Err(_) => return Err(Failure::Create(request.out)),
     }
-    print_counts(&compiled, lines)?;
-    Ok(Status::Done)
+    match print_counts(&compiled, lines) {
+        Ok(()) => Ok(Status::Done),
+        Err(_) => Err(Failure::Output),
+    }
 }
 
-/// The compiled script of the request; `None` after printing why it is refused, with an explanation if requested.
+/// Writes all bytes, and flushes the writer.
+#[tactic(auto, using(crate::proofs::CompilingFiles::all_taken))]
+fn write_through<W: Write>(bytes: &[u8], out: &mut W) -> io::Result<()>
+    ensures { OnOk result (Appends (W.contents out.old) (W.contents out.new) bytes.now) }
+{
+    let (_taken, written) = write_out(bytes, out);
+    match written {
+        Ok(()) => out.flush(),
+        Err(error) => Err(error),
+    }
+}
+
+/// The compiled script of the request; `None` after printing why it is refused, with an explanation if requested. No
+/// file is changed.
 fn compile_script<'a, F: Files, W: Write>(
     alloc: Global,
     request: &CompileRequest<'a>,
     files: &mut F,
     out: &mut W,
-) -> Result<Option<Compiled>, Failure<'a>> {
-    let bytes = read_script(alloc, files, request.script)?;
-    let text = text_of(whole_characters(bytes.as_slice()), request.script)?;
+) -> Result<Option<Compiled>, Failure<'a>>
+    ensures script { IfSome (F.known files.old request.now.script.now) (λ bytes.
+        FindsCompiled bytes request.now (Appends (W.contents out.old) (W.contents out.new)) result) }
+    ensures files { Stays (F.world files.old) (F.world files.new) }
+{
+    match read_script(alloc, files, request.script) {
+        Ok(bytes) => compile_bytes(alloc, request, bytes.as_slice(), out),
+        Err(failure) => Err(failure),
+    }
+}
+
+/// The same for the first bytes of the script's file, which are all that was read of it.
+fn compile_bytes<'a, W: Write>(
+    alloc: Global,
+    request: &CompileRequest<'a>,
+    bytes: &[u8],
+    out: &mut W,
+) -> Result<Option<Compiled>, Failure<'a>>
+    ensures { (file : List ℕ) → bytes.now ≡ take 1048581 file → FindsCompiled file request.now
+        (Appends (W.contents out.old) (W.contents out.new)) result }
+{
+    let text = match script_text(bytes, request.script) {
+        Ok(text) => text,
+        Err(failure) => return Err(failure),
+    };
     match compile_text(alloc, text) {
         Ok(compiled) => Ok(Some(compiled)),
-        Err(ScriptRefusal::Memory) => Err(Failure::Memory),
-        Err(refusal) => {
-            show_script_refusal(alloc, request.script, text, refusal, request.explain, out)?;
-            Ok(None)
-        }
+        Err(refusal) => match refusal {
+            ScriptRefusal::Memory => Err(Failure::Memory),
+            _ => {
+                let explain = request.explain;
+                match show_script_refusal(alloc, request.script, text, refusal, explain, out) {
+                    Ok(()) => Ok(None),
+                    Err(failure) => Err(failure),
+                }
+            }
+        },
     }
 }
 
@@ -125,6 +187,7 @@ fn compile_script<'a, F: Files, W: Write>(
 pub fn compile_text(alloc: Global, text: &str) -> Result<Compiled, ScriptRefusal>
     ensures compiled { IfOk result (IsCompiled text.now) }
     ensures refused { IfErr result (IsUncompiled text.now) }
+    ensures reason { IfErr result IsReasonOrMemory }
 {
     let (_script, code) = match made_of(alloc, text) {
         Ok(made) => made,
@@ -148,6 +211,7 @@ pub fn compile_text(alloc: Global, text: &str) -> Result<Compiled, ScriptRefusal
 pub(crate) fn made_of(alloc: Global, text: &str) -> Result<(Script, Code), ScriptRefusal>
     ensures made { IfOk result (λ made. IsMadeOf text.now made.0 made.1) }
     ensures refused { IfErr result (IsUncompiled text.now) }
+    ensures reason { IfErr result IsReasonOrMemory }
 {
     let script = match parse(alloc, text) {
         Ok(script) => script,

@@ -1,9 +1,12 @@
 //! Refusals with their explanation.
 
-ghost use Rattle.std.specs.Prelude.{◌++◌, OnOk, IfSome, codes};
+ghost use Rattle.std.specs.Prelude.{◌≡◌, Bool, [], true, false, ◌++◌, OnOk, OnErr, IfOk, IfSome, codes};
 ghost use Rattle.std.specs.Io.KnownBytes.{Appends};
+ghost use Rattle.cli_scripts.specs.Refusing.{ShowsRefusal};
+ghost use Rattle.cli_scripts.specs.RefusalTexts.{refusal_text, code_refusal_text};
 
 use crate::compile::ScriptRefusal;
+use crate::refusal_text::CodeRefusal;
 use console::escaped::Escaped;
 use console::exit::Failure;
 use explain::{explain_code, explain_fault, explain_script};
@@ -33,16 +36,37 @@ pub(crate) fn show_script_refusal<'a, W: Write>(
     refusal: ScriptRefusal,
     explain: bool,
     out: &mut W,
-) -> Result<(), Failure<'a>> {
-    match script_notes(alloc, path, text, &refusal, explain) {
-        Ok(notes) => {
-            print_refusal(&refusal, notes.as_slice(), out)?;
-            Ok(())
-        }
-        Err(_) => {
-            print_refusal(&refusal, b"", out)?;
-            Err(Failure::Memory)
-        }
+) -> Result<(), Failure<'a>>
+    ensures { ShowsRefusal explain (Appends (W.contents out.old) (W.contents out.new))
+        (refusal_text refusal) result }
+{
+    show_refusal(
+        &refusal,
+        script_notes(alloc, path, text, &refusal, explain),
+        out,
+    )
+}
+
+/// Prints a refusal and its explanation; if out of memory for it, the line alone, and `Memory` is returned.
+#[tactic(auto, using(crate::proofs::Showing::noted, crate::proofs::Showing::unnoted, crate::proofs::Showing::unprinted))]
+fn show_refusal<'a, D: Display, W: Write>(
+    refusal: &D,
+    notes: io::Result<Vec<u8>>,
+    out: &mut W,
+) -> Result<(), Failure<'a>>
+    ensures { (explain : Bool) → IfOk notes (λ notes. explain ≡ false → notes.items ≡ [])
+        → OnErr notes (explain ≡ true) → IfSome (D.output refusal.now) (λ line.
+        ShowsRefusal explain (Appends (W.contents out.old) (W.contents out.new)) line result) }
+{
+    match notes {
+        Ok(notes) => match print_refusal(refusal, notes.as_slice(), out) {
+            Ok(()) => Ok(()),
+            Err(_) => Err(Failure::Output),
+        },
+        Err(_) => match print_refusal(refusal, b"", out) {
+            Ok(()) => Err(Failure::Memory),
+            Err(_) => Err(Failure::Output),
+        },
     }
 }
 
@@ -54,7 +78,10 @@ fn script_notes(
     text: &str,
     refusal: &ScriptRefusal,
     explain: bool,
-) -> io::Result<Vec<u8>> {
+) -> io::Result<Vec<u8>>
+    ensures unasked { IfOk result (λ notes. explain ≡ false → notes.items ≡ []) }
+    ensures failed { OnErr result (explain ≡ true) }
+{
     let mut notes: Vec<u8> = Vec::new(alloc);
     if explain {
         let path = Escaped::in_line(path).to_string(alloc)?;
@@ -92,17 +119,12 @@ pub(crate) fn show_code_refusal<'a, W: Write>(
     fault: RunFault,
     explain: bool,
     out: &mut W,
-) -> Result<(), Failure<'a>> {
-    match code_notes(alloc, path, file, &fault, explain) {
-        Ok(notes) => {
-            print_refusal(&fault, notes.as_slice(), out)?;
-            Ok(())
-        }
-        Err(_) => {
-            print_refusal(&fault, b"", out)?;
-            Err(Failure::Memory)
-        }
-    }
+) -> Result<(), Failure<'a>>
+    ensures { IfSome (code_refusal_text fault) (λ line. ShowsRefusal explain
+        (Appends (W.contents out.old) (W.contents out.new)) line result) }
+{
+    let notes = code_notes(alloc, path, file, &fault, explain);
+    show_refusal(&CodeRefusal(fault), notes, out)
 }
 
 /// Explains why a code is refused, if requested. The error is out of memory.
@@ -113,7 +135,10 @@ fn code_notes(
     file: &[u8],
     fault: &RunFault,
     explain: bool,
-) -> io::Result<Vec<u8>> {
+) -> io::Result<Vec<u8>>
+    ensures unasked { IfOk result (λ notes. explain ≡ false → notes.items ≡ []) }
+    ensures failed { OnErr result (explain ≡ true) }
+{
     let mut notes: Vec<u8> = Vec::new(alloc);
     if explain {
         let path = Escaped::in_line(path).to_string(alloc)?;

@@ -1,10 +1,16 @@
 //! `dabplan frame --script`: prints one frame of the initial configuration of a script.
 
-ghost use Rattle.std.specs.Prelude.{◌<◌};
+ghost use Rattle.std.specs.Prelude.{◌≡◌, ◌≢◌, ◌<◌, ℕ, List, codes, take, IfErr, IfSome, IsSome};
+ghost use Rattle.std.specs.Io.KnownBytes.{Appends};
+ghost use Rattle.console.specs.World.{Stays};
 ghost use Rattle.mux_entries.specs.declared.limits.TheConstants.{COUNTS};
+ghost use Rattle.cli_scripts.specs.FramingScripts.{ShowsScriptFrame, IsFrameReason, count_of, frame_fault_text};
 ghost use Rattle.cli_scripts.specs.ScriptFrame.{GivesFrame};
+ghost use Rattle.cli_scripts.specs.declared.frame_script.ScriptFrameFault.TheVariants.{Memory as Unavailable};
 
-use crate::script_file::{read_script_input, text_of, whole_characters};
+use crate::diff::print_refused;
+use crate::frame_text::FrameText;
+use crate::script_file::{read_script_input, script_text};
 use cli_streams::frame::{FrameFault, page_of, print_frame};
 use console::exit::{Failure, Status};
 use console::files::Files;
@@ -14,7 +20,6 @@ use script_config::{ItemFault, opening_of};
 use script_front::{ScriptFault, parse};
 use std::alloc::Global;
 use std::io::Write;
-use thiserror::Error;
 
 /// The last CIF count; the command line refuses a higher one.
 const LAST_COUNT: u16 = 4999;
@@ -33,42 +38,76 @@ pub struct FrameScriptRequest<'a> {
 }
 
 /// Why a script gives no frame, in the order in which [`frame_of_script`] tests.
-#[derive(Clone, Copy, Debug, PartialEq, Eq, Error)]
+#[derive(Clone, Copy, Debug, PartialEq, Eq)]
 pub enum ScriptFrameFault {
     /// The text is not a script.
-    #[error("{0}")]
     Script(ScriptFault),
     /// An item of the script has a fault.
-    #[error("{0}")]
     Item(ItemFault),
     /// The initial configuration is not sound, or has no page of this number.
-    #[error("{0}")]
     Frame(FrameFault),
     /// Out of memory.
-    #[error("no memory")]
     Memory,
 }
 
-/// Runs `frame --script`: prints the FIBs of the frame.
+/// Runs `frame --script`: prints the FIBs of the frame, or why there is none.
+///
+/// `Read` if the script can't be read, or is not UTF-8; `Output` if `out` fails; `Memory` if out of memory.
 pub fn show_script_frame<'a, F: Files, W: Write>(
     alloc: Global,
     request: &FrameScriptRequest<'a>,
     files: &mut F,
     out: &mut W,
-) -> Result<Status, Failure<'a>> {
-    let bytes = read_script_input(alloc, files, request.script)?;
-    let text = text_of(whole_characters(bytes.as_slice()), request.script)?;
-    let count = request.count.min(LAST_COUNT);
-    match frame_of_script(alloc, text, count, request.page) {
-        Ok(frame) => {
-            print_frame(&frame, request.raw, out)?;
-            Ok(Status::Done)
-        }
-        Err(ScriptFrameFault::Memory) => Err(Failure::Memory),
-        Err(fault) => {
-            writeln!(out, "{fault}")?;
-            Ok(Status::Refused)
-        }
+) -> Result<Status, Failure<'a>>
+    ensures input { request.now.script.now ≡ codes "-" → IfSome (F.known_input files.old)
+        (λ bytes. ShowsScriptFrame bytes request.now
+        (Appends (W.contents out.old) (W.contents out.new)) result) }
+    ensures file { request.now.script.now ≢ codes "-"
+        → IfSome (F.known files.old request.now.script.now) (λ bytes. ShowsScriptFrame bytes
+        request.now (Appends (W.contents out.old) (W.contents out.new)) result) }
+    ensures files { Stays (F.world files.old) (F.world files.new) }
+{
+    match read_script_input(alloc, files, request.script) {
+        Ok(bytes) => show_frame_of(alloc, request, bytes.as_slice(), out),
+        Err(failure) => Err(failure),
+    }
+}
+
+/// The same for the first bytes of the script's file, which are all that was read of it.
+fn show_frame_of<'a, W: Write>(
+    alloc: Global,
+    request: &FrameScriptRequest<'a>,
+    bytes: &[u8],
+    out: &mut W,
+) -> Result<Status, Failure<'a>>
+    ensures { (file : List ℕ) → bytes.now ≡ take 1048581 file → ShowsScriptFrame file request.now
+        (Appends (W.contents out.old) (W.contents out.new)) result }
+{
+    let text = match script_text(bytes, request.script) {
+        Ok(text) => text,
+        Err(failure) => return Err(failure),
+    };
+    match frame_of_script(alloc, text, count_of(request), request.page) {
+        Ok(frame) => match print_frame(&frame, request.raw, out) {
+            Ok(()) => Ok(Status::Done),
+            Err(_) => Err(Failure::Output),
+        },
+        Err(fault) => match fault {
+            ScriptFrameFault::Memory => Err(Failure::Memory),
+            _ => print_refused(&FrameText(fault), out),
+        },
+    }
+}
+
+/// The count of the request; one out of range, which the command line refuses, becomes the last.
+fn count_of(request: &FrameScriptRequest<'_>) -> u16
+    ensures value { result ≡ count_of request.now }
+    ensures range { result < COUNTS }
+{
+    if request.count <= LAST_COUNT {
+        request.count
+    } else {
+        LAST_COUNT
     }
 }
 
@@ -84,7 +123,9 @@ pub fn frame_of_script(
     index: u16,
 ) -> Result<FibFrame, ScriptFrameFault>
     requires { count < COUNTS }
-    ensures { GivesFrame text.now count index result }
+    ensures gives { GivesFrame text.now count index result }
+    ensures reason { IfErr result (λ fault. fault ≢ Unavailable → IsFrameReason fault) }
+    ensures line { IfErr result (λ fault. fault ≢ Unavailable → IsSome (frame_fault_text fault)) }
 {
     let script = match parse(alloc, text) {
         Ok(script) => script,

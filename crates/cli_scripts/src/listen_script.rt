@@ -1,8 +1,15 @@
 //! `dabplan listen --script`: prints the current configuration of a stream of FIBs as a script.
 
-ghost use Rattle.std.specs.Prelude.{◌≡◌, ℕ, ◌≤◌, List, IfOk};
-ghost use Rattle.std.specs.Io.KnownBytes.{Consumes, IsAtEnd};
+ghost use Rattle.std.specs.Prelude.{◌≡◌, ◌≢◌, ◌⊎◌, ℕ, ◌≤◌, ◌++◌, [], List, codes, Ok, IfOk, IfErr, OnOk, IfSome};
+ghost use Rattle.std.specs.Io.KnownBytes.{Appends, Consumes, IsAtEnd};
+ghost use Rattle.console.specs.declared.exit.Failure.TheVariants.{Memory, Output};
+ghost use Rattle.console.specs.declared.exit.Status.TheVariants.{Done, Refused};
+ghost use Rattle.mux_entries.specs.declared.entry.Entry.{Entry as EntryOf};
+ghost use Rattle.fib_reader.specs.Raw.{IsValue};
 ghost use Rattle.plan_code.specs.Program.{IsPlan};
+ghost use Rattle.script_config.specs.Texts.{IsTextOf};
+ghost use Rattle.cli_streams.specs.Lines.{head_line};
+ghost use Rattle.cli_scripts.specs.ListenScript.{ShowsScript, ShowsNamed, clamped, header_of};
 ghost use Rattle.cli_scripts.specs.Naming.{HearsNamed, ended_named};
 
 use cli_streams::entries::print_head;
@@ -12,12 +19,12 @@ use console::files::{FileFault, Files};
 use console::pieces::Pieces;
 use fib_codec::FrameLayout;
 use fib_reader::OwnedEntry;
-use mux_config::Config;
+use mux_config::{Config, Entry};
 use plan_code::Plan;
 use plan_code::limits::{LONGEST_NOTICE, LONGEST_PERIOD, SHORTEST_NOTICE};
 use script_config::{config_heard, config_text, eid_after, usual_period};
 use std::alloc::Global;
-use std::io::{Read, Write};
+use std::io::{self, Read, Write};
 use stream_monitor::Hints;
 
 /// The arguments of `listen --script`.
@@ -46,24 +53,29 @@ pub struct Named {
 
 /// Runs `listen --script`: prints the script of the current configuration at the end of the file, or of
 /// standard input if the path is `-`.
+///
+/// `Read` if the file can't be read; `Output` if `out` fails; `Memory` if out of memory.
+#[tactic(auto, using(crate::proofs::ListeningScripts::unread, crate::proofs::ListeningScripts::shown))]
 pub fn show_script<'a, F: Files, W: Write>(
     alloc: Global,
     request: &ListenScriptRequest<'a>,
     files: &mut F,
     out: &mut W,
-) -> Result<Status, Failure<'a>> {
-    let mut pieces = pieces_of(alloc, files, request.file)?;
+) -> Result<Status, Failure<'a>>
+    ensures input { request.now.file.now ≡ codes "-" → IfSome (F.known_input files.old) (λ stream.
+        ShowsScript request.now stream (Appends (W.contents out.old) (W.contents out.new)) result) }
+    ensures file { request.now.file.now ≢ codes "-"
+        → IfSome (F.known files.old request.now.file.now) (λ stream. ShowsScript request.now stream
+        (Appends (W.contents out.old) (W.contents out.new)) result) }
+{
+    let mut pieces = match pieces_of(alloc, files, request.file) {
+        Ok(pieces) => pieces,
+        Err(failure) => return Err(failure),
+    };
     let mut hints = Hints::new(files, request.file);
-    let heard = name_of(&mut pieces, &mut hints).map_err(|fault| Failure::of_file(
-        fault,
-        request.file,
-    ))?;
-    match heard {
-        Ok(named) => print_named(alloc, request, &named, out),
-        Err(fault) => {
-            writeln!(out, "{fault}")?;
-            Ok(Status::Refused)
-        }
+    match name_of(&mut pieces, &mut hints) {
+        Ok(heard) => print_heard(alloc, request, &heard, out),
+        Err(fault) => Err(Failure::of_file(fault, request.file)),
     }
 }
 
@@ -114,15 +126,46 @@ fn ended(has_room: bool, heard: Heard, eid: Option<u16>) -> Result<Named, Stream
 }
 
 /// Prints the script of a decoded stream, or why there is none.
+fn print_heard<'a, W: Write>(
+    alloc: Global,
+    request: &ListenScriptRequest<'a>,
+    heard: &Result<Named, StreamFault>,
+    out: &mut W,
+) -> Result<Status, Failure<'a>>
+    ensures { ShowsNamed request.now heard.now
+        (Appends (W.contents out.old) (W.contents out.new)) result }
+{
+    match heard {
+        Ok(named) => print_named(alloc, request, named, out),
+        Err(StreamFault::NotWhole) => print_line(b"refused: not whole FIBs\n", out),
+        Err(StreamFault::Full) => print_line(b"refused: Full\n", out),
+    }
+}
+
+/// Prints the line of a refusal.
+fn print_line<'a, W: Write>(line: &[u8], out: &mut W) -> Result<Status, Failure<'a>>
+    ensures printed { OnOk result (Appends (W.contents out.old) (W.contents out.new) line.now) }
+    ensures refused { IfOk result (λ status. status ≡ Refused) }
+    ensures failed { IfErr result (λ failure. failure ≡ Output) }
+{
+    match out.write_all(line) {
+        Ok(()) => Ok(Status::Refused),
+        Err(_) => Err(Failure::Output),
+    }
+}
+
+/// Prints the script of a decoded stream with an ensemble, or why there is none.
 fn print_named<'a, W: Write>(
     alloc: Global,
     request: &ListenScriptRequest<'a>,
     named: &Named,
     out: &mut W,
-) -> Result<Status, Failure<'a>> {
+) -> Result<Status, Failure<'a>>
+    ensures { ShowsNamed request.now (Ok named.now)
+        (Appends (W.contents out.old) (W.contents out.new)) result }
+{
     let Some(eid) = named.eid else {
-        writeln!(out, "refused: no ensemble")?;
-        return Ok(Status::Refused);
+        return print_line(b"refused: no ensemble\n", out);
     };
     match config_heard(named.heard.listener.current()) {
         Ok(config) => print_config(alloc, request, eid, &config, out),
@@ -137,19 +180,45 @@ fn print_config<'a, W: Write>(
     eid: u16,
     config: &Config,
     out: &mut W,
-) -> Result<Status, Failure<'a>> {
+) -> Result<Status, Failure<'a>>
+    ensures printed { OnOk result ((text : List ℕ)
+        × IsTextOf (header_of request.now eid config.now) config.now text
+        × Appends (W.contents out.old) (W.contents out.new) text) }
+    ensures done { IfOk result (λ status. status ≡ Done) }
+    ensures failed { IfErr result (λ failure. (failure ≡ Output) ⊎ ((failure ≡ Memory)
+        × Appends (W.contents out.old) (W.contents out.new) [])) }
+{
     let header = header_for(request, eid, config);
-    let Ok(text) = config_text(alloc, header, config) else {
-        return Err(Failure::Memory);
+    let text = match config_text(alloc, header, config) {
+        Ok(text) => text,
+        Err(_) => return Err(Failure::Memory),
     };
-    out.write_all(text.as_str().as_bytes())?;
-    Ok(Status::Done)
+    match out.write_all(text.as_str().as_bytes()) {
+        Ok(()) => Ok(Status::Done),
+        Err(_) => Err(Failure::Output),
+    }
+}
+
+/// A number within bounds, or the nearest one.
+fn clamped(low: u8, high: u8, number: u8) -> u8
+    requires { low ≤ high }
+    ensures value { result ≡ clamped low high number }
+    ensures range { (low ≤ result) × (result ≤ high) }
+{
+    if number < low {
+        low
+    } else if number > high {
+        high
+    } else {
+        number
+    }
 }
 
 /// The header of the script, from the request and the stream. An out-of-range number, which the command line
 /// refuses, is clamped.
 fn header_for(request: &ListenScriptRequest<'_>, eid: u16, config: &Config) -> Plan
-    ensures { IsPlan result }
+    ensures value { result ≡ header_of request.now eid config.now }
+    ensures headed { IsPlan result }
 {
     let period = match request.period {
         Some(period) => period,
@@ -158,18 +227,32 @@ fn header_for(request: &ListenScriptRequest<'_>, eid: u16, config: &Config) -> P
     Plan {
         eid,
         layout: request.layout,
-        period: period.clamp(1, LONGEST_PERIOD),
-        notice: request.notice.clamp(SHORTEST_NOTICE, LONGEST_NOTICE),
-        budget: request.budget.max(1),
+        period: clamped(1, LONGEST_PERIOD, period),
+        notice: clamped(SHORTEST_NOTICE, LONGEST_NOTICE, request.notice),
+        budget: clamped(1, 255, request.budget),
     }
 }
 
 /// Prints that an entry is part of no configuration.
-fn print_unscriptable<'a, W: Write>(
-    entry: &OwnedEntry,
-    out: &mut W,
-) -> Result<Status, Failure<'a>> {
+fn print_unscriptable<'a, W: Write>(entry: &OwnedEntry, out: &mut W) -> Result<Status, Failure<'a>>
+    ensures printed { OnOk result ((value : EntryOf) × IsValue entry.now value
+        × Appends (W.contents out.old) (W.contents out.new)
+        (codes "refused: cannot be written: " ++ head_line value)) }
+    ensures refused { IfOk result (λ status. status ≡ Refused) }
+    ensures failed { IfErr result (λ failure. failure ≡ Output) }
+{
+    let value = entry.as_raw_entry().value();
+    match print_unsaid(&value, out) {
+        Ok(()) => Ok(Status::Refused),
+        Err(_) => Err(Failure::Output),
+    }
+}
+
+/// Prints the line of an entry that is part of no configuration.
+fn print_unsaid<W: Write>(value: &Entry, out: &mut W) -> io::Result<()>
+    ensures { OnOk result (Appends (W.contents out.old) (W.contents out.new)
+        (codes "refused: cannot be written: " ++ head_line value.now)) }
+{
     out.write_all(b"refused: cannot be written: ")?;
-    print_head(&entry.as_raw_entry().value(), out)?;
-    Ok(Status::Refused)
+    print_head(value, out)
 }

@@ -1,9 +1,14 @@
 //! Reads scripts, up to a bound that no script exceeds.
 
-ghost use Rattle.std.specs.Prelude.{◌≡◌, ◌≢◌, codes, ◌<◌, ◌≤◌, take, length, IfOk, IfSome};
+ghost use Rattle.std.specs.Prelude.{◌≡◌, ◌≢◌, ℕ, List, codes, ◌<◌, ◌≤◌, take, length, IfOk, IfErr, OnOk, OnErr, IfSome, IsUtf8};
+ghost use Rattle.std.specs.Io.KnownBytes.{Keeps};
+ghost use Rattle.console.specs.Failures.{IsReadFailure};
+ghost use Rattle.console.specs.World.{Stays};
+ghost use Rattle.cli_scripts.specs.FileTexts.{IsReadOf, IsUnreadable};
 
-use console::exit::{Failure, read_file, read_input};
+use console::exit::{Failure, read_input};
 use console::files::Files;
+use console::pieces::read_within;
 use script_tokens::token::MOST_BYTES;
 use std::alloc::Global;
 use std::str;
@@ -12,16 +17,39 @@ use std::str;
 const READ: usize = MOST_BYTES + 5;
 
 /// The first bytes of a script's file, or why it can't be read: all bytes of a file within the size limit of
-/// scripts, and of a longer one just enough to detect that it is longer.
+/// scripts, and of a longer one just enough to detect that it is longer. All files keep their bytes.
 pub fn read_script<'a, F: Files>(
     alloc: Global,
     files: &mut F,
     path: &'a str,
 ) -> Result<Vec<u8>, Failure<'a>>
-    ensures { IfOk result (λ read. IfSome (F.known files.old path.now)
+    ensures bytes { IfOk result (λ read. IfSome (F.known files.old path.now)
         (λ bytes. read.items ≡ take 1048581 bytes)) }
+    ensures known { (other : List ℕ)
+        → Keeps (F.known files.old other) (F.known files.new other) }
+    ensures world { Stays (F.world files.old) (F.world files.new) }
+    ensures fault { IfErr result (IsReadFailure path.now) }
 {
-    read_file(alloc, files, path, READ)
+    read_first(alloc, files, path, READ)
+}
+
+/// The first bytes of a file, at most `most`, or why it can't be read. All files keep their bytes.
+fn read_first<'a, F: Files>(
+    alloc: Global,
+    files: &mut F,
+    path: &'a str,
+    most: usize,
+) -> Result<Vec<u8>, Failure<'a>>
+    ensures bytes { IfOk result (λ read. IfSome (F.known files.old path.now)
+        (λ bytes. read.items ≡ take most bytes)) }
+    ensures known { (other : List ℕ)
+        → Keeps (F.known files.old other) (F.known files.new other) }
+    ensures world { Stays (F.world files.old) (F.world files.new) }
+    ensures fault { IfErr result (IsReadFailure path.now) }
+{
+    let file = files.open(path);
+    let file = file.map_err(|fault| Failure::of_file(fault, path))?;
+    read_within(alloc, file, most).map_err(|fault| Failure::of_file(fault, path))
 }
 
 /// Like [`read_script`], with standard input for the path `-`.
@@ -34,6 +62,8 @@ pub fn read_script_input<'a, F: Files>(
         IfSome (F.known_input files.old) (λ bytes. read.items ≡ take 1048581 bytes)) }
     ensures file { path.now ≢ codes "-" → IfOk result (λ read.
         IfSome (F.known files.old path.now) (λ bytes. read.items ≡ take 1048581 bytes)) }
+    ensures world { Stays (F.world files.old) (F.world files.new) }
+    ensures fault { IfErr result (IsReadFailure path.now) }
 {
     read_input(alloc, files, path, READ)
 }
@@ -57,9 +87,28 @@ pub fn whole_characters(bytes: &[u8]) -> &[u8]
 }
 
 /// The bytes of a file as text; a file that is not UTF-8 can't be read.
-pub fn text_of<'b, 'a>(bytes: &'b [u8], path: &'a str) -> Result<&'b str, Failure<'a>> {
+pub fn text_of<'b, 'a>(bytes: &'b [u8], path: &'a str) -> Result<&'b str, Failure<'a>>
+    ensures text { IfOk result (λ text. text.now ≡ bytes.now) }
+    ensures utf8 { OnOk result (IsUtf8 bytes.now) }
+    ensures fault { OnErr result (IsUtf8 bytes.now → ⊥) }
+    ensures named { IfErr result (IsUnreadable path.now) }
+{
     match str::from_utf8(bytes) {
         Ok(text) => Ok(text),
         Err(_) => Err(Failure::Read(path)),
+    }
+}
+
+/// The text of a script's file, of which these are the first bytes, as [`read_script`] reads them; a file that is not
+/// UTF-8 can't be read. Of a file longer than any script it is more than any script has.
+pub(crate) fn script_text<'b, 'a>(bytes: &'b [u8], path: &'a str) -> Result<&'b str, Failure<'a>>
+    ensures text { (file : List ℕ) → bytes.now ≡ take 1048581 file
+        → IfOk result (λ text. IsReadOf file text.now) }
+    ensures named { IfErr result (IsUnreadable path.now) }
+{
+    let kept = whole_characters(bytes);
+    match text_of(kept, path) {
+        Ok(text) => Ok(text),
+        Err(failure) => Err(failure),
     }
 }
