@@ -6,9 +6,8 @@ ghost use Rattle.console.specs.Failures.{IsReadFailure};
 ghost use Rattle.console.specs.World.{Stays};
 ghost use Rattle.cli_scripts.specs.FileTexts.{IsReadOf, IsUnreadable};
 
-use console::exit::{Failure, read_input};
+use console::exit::{Failure, read_file, read_input};
 use console::files::Files;
-use console::pieces::read_within;
 use script_tokens::token::MOST_BYTES;
 use std::alloc::Global;
 use std::str;
@@ -30,26 +29,7 @@ pub fn read_script<'a, F: Files>(
     ensures world { Stays (F.world files.old) (F.world files.new) }
     ensures fault { IfErr result (IsReadFailure path.now) }
 {
-    read_first(alloc, files, path, READ)
-}
-
-/// The first bytes of a file, at most `most`, or why it can't be read. All files keep their bytes.
-fn read_first<'a, F: Files>(
-    alloc: Global,
-    files: &mut F,
-    path: &'a str,
-    most: usize,
-) -> Result<Vec<u8>, Failure<'a>>
-    ensures bytes { IfOk result (λ read. IfSome (F.known files.old path.now)
-        (λ bytes. read.items ≡ take most bytes)) }
-    ensures known { (other : List ℕ)
-        → Keeps (F.known files.old other) (F.known files.new other) }
-    ensures world { Stays (F.world files.old) (F.world files.new) }
-    ensures fault { IfErr result (IsReadFailure path.now) }
-{
-    let file = files.open(path);
-    let file = file.map_err(|fault| Failure::of_file(fault, path))?;
-    read_within(alloc, file, most).map_err(|fault| Failure::of_file(fault, path))
+    read_file(alloc, files, path, READ)
 }
 
 /// Like [`read_script`], with standard input for the path `-`.

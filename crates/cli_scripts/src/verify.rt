@@ -8,15 +8,13 @@ ghost use Rattle.plan_session.specs.declared.run_fault.RunFault.TheVariants.{Cod
 ghost use Rattle.cli_scripts.specs.Verdict.{IsAcceptedFile, IsRefusedFile, Verifies};
 
 use crate::explained::show_code_refusal;
-use console::exit::{Failure, Status, read_file};
+use console::code_file::read_code;
+use console::exit::{Failure, Status};
 use console::files::Files;
 use plan_code::CodeFault;
 use plan_session::{RunFault, typed_code};
 use std::alloc::Global;
 use std::io::Write;
-
-/// The most bytes read of a file: one more than the bound of `console::code_file`, which no code file exceeds.
-const READ: usize = 1_048_577;
 
 /// The arguments of `verify`.
 #[derive(Clone, Copy)]
@@ -42,7 +40,7 @@ pub fn show_verdict<'a, F: Files, W: Write>(
         (Appends (W.contents out.old) (W.contents out.new)) result) }
     ensures files { Stays (F.world files.old) (F.world files.new) }
 {
-    match read_file(alloc, files, request.code, READ) {
+    match read_code(alloc, files, request.code) {
         Ok(file) => print_verdict(alloc, request, file.as_slice(), out),
         Err(failure) => Err(failure),
     }
