@@ -1,2 +1,5 @@
+mod Finding
 mod Sharing
 pub mod Vectors
+pub mod VectorsPaths
+mod Walks

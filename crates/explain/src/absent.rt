@@ -1,8 +1,9 @@
 //! Explains edits of what is missing.
 
 use crate::edit::put_since;
-use crate::history::{Past, Since};
 use crate::names::{put_carrier, put_service, put_sid};
+use crate::past::{Past, Since};
+use crate::sought::Member;
 use mux_config::{Carrier, Config, Edit, Sid, Store};
 use std::io::{self, Write};
 
@@ -28,7 +29,7 @@ fn carrier_absent<W: Write>(
 ) -> io::Result<()> {
     put_carrier(carrier, out)?;
     out.write_all(b" is not there")?;
-    match (past.dropped(carrier)?, carrier) {
+    match (past.dropped(Member::Carried(*carrier))?, carrier) {
         (Since::Never, Carrier::Sub(_)) => put_subs(config, out),
         (since, _) => put_since(since, "dropped", out),
     }
@@ -39,7 +40,7 @@ fn service_absent<W: Write>(config: &Config, past: Past, sid: Sid, out: &mut W) 
     out.write_all(b"service ")?;
     put_sid(sid, out)?;
     out.write_all(b" is not there")?;
-    match past.service_dropped(sid)? {
+    match past.dropped(Member::Service(sid))? {
         Since::Never => put_services(config, out),
         since => put_since(since, "dropped", out),
     }
@@ -79,7 +80,12 @@ fn component_absent<W: Write>(
     put_service(service, out)?;
     out.write_all(b" has no component on ")?;
     put_carrier(carrier, out)?;
-    put_since(past.component_dropped(sid, carrier)?, "dropped", out)
+    let carrier = *carrier;
+    put_since(
+        past.dropped(Member::Component { sid, carrier })?,
+        "dropped",
+        out,
+    )
 }
 
 /// Advises on a missing component, or its missing service.

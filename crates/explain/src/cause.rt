@@ -2,7 +2,7 @@
 
 use crate::config::{advise_config, explain_config};
 use crate::edit::{advise_edit, explain_edit};
-use crate::history::Past;
+use crate::past::Past;
 use crate::room::{advise_round, explain_round};
 use crate::swap::{
     advise_count, advise_join, advise_no_change, advise_notice, advise_pending, advise_wait,
@@ -47,7 +47,8 @@ fn explain_frames<W: Write>(refused: &Refused, out: &mut W) -> io::Result<()> {
     let Instr::Wait(frames) = refused.instr else {
         return writeln!(out, "the wait is refused");
     };
-    explain_wait(refused.flow.pending, frames, refused.past.commit(), out)
+    let since = refused.past.pending()?;
+    explain_wait(refused.flow.pending, frames, since, out)
 }
 
 /// Explains why an instruction is refused, on the lines after its position. Causes that do not depend on what an
@@ -57,7 +58,7 @@ pub(crate) fn explain_instr<W: Write>(refused: &Refused, out: &mut W) -> io::Res
     match refused.cause {
         Cause::Edit(fault) => explain_change(refused, fault, out),
         Cause::Config(fault) => explain_config(&flow.next, refused.past, fault, out),
-        Cause::Pending => explain_pending(flow.pending, refused.past.commit(), out),
+        Cause::Pending => explain_pending(flow.pending, refused.past.pending()?, out),
         Cause::NoChange => explain_no_change(out),
         Cause::Notice | Cause::Count => explain_commit(refused.plan, &refused.instr, out),
         Cause::JoinIdle => explain_join(flow.pending, out),
@@ -94,7 +95,7 @@ pub(crate) fn advise_instr<W: Write>(refused: &Refused, out: &mut W) -> io::Resu
     match refused.cause {
         Cause::Edit(fault) => advise_change(refused, fault, out),
         Cause::Config(fault) => advise_config(&flow.next, fault, out),
-        Cause::Pending => advise_pending(refused.past.commit(), out),
+        Cause::Pending => advise_pending(refused.past.pending()?, out),
         Cause::NoChange => advise_no_change(out),
         Cause::Notice | Cause::Count => advise_commit(refused, out),
         Cause::JoinIdle => advise_join(flow.pending, out),

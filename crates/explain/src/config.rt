@@ -1,9 +1,10 @@
 //! Explains configurations that are not sound.
 
 use crate::edit::{is_there, put_since};
-use crate::history::Past;
 use crate::names::{end_of, put_carrier, put_packet, put_sid, put_sub, put_units, units_of};
 use crate::overlap::{Overlap, overlap_of};
+use crate::past::Past;
+use crate::sought::Member;
 use mux_config::{
     Carrier, Component, Config, ConfigFault, Packet, Service, Sid, Store, Sub, SubId,
 };
@@ -145,7 +146,7 @@ pub(crate) fn put_orphan<W: Write>(
     out.write_all(b" has a component on ")?;
     put_carrier(carrier, out)?;
     out.write_all(b", which is not there")?;
-    put_since(past.dropped(carrier)?, "dropped", out)
+    put_since(past.dropped(Member::Carried(*carrier))?, "dropped", out)
 }
 
 /// Explains a packet component whose sub-channel is missing.
@@ -156,7 +157,8 @@ pub(crate) fn put_orphan_packet<W: Write>(
 ) -> io::Result<()> {
     put_packet(packet, out)?;
     out.write_all(b" names a sub-channel that is not there")?;
-    put_since(past.dropped(&Carrier::Sub(packet.sub))?, "dropped", out)
+    let carrier = Carrier::Sub(packet.sub);
+    put_since(past.dropped(Member::Carried(carrier))?, "dropped", out)
 }
 
 /// Explains a component or a packet component that refers to a missing object.

@@ -3,8 +3,9 @@
 ghost use Rattle.std.specs.Prelude.{◌≤◌};
 
 use crate::absent::{advise_absent, explain_absent};
-use crate::history::{Past, Since};
 use crate::names::{put_carrier, put_packet, put_profile, put_service, put_sid, put_sub, units_of};
+use crate::past::{Past, Since};
+use crate::sought::Member;
 use mux_config::{Carrier, Component, Config, Edit, EditFault, Sid, Store, Sub};
 use mux_eep::{EepFault, EepSet, Protection, size_of};
 use std::io::{self, Write};
@@ -46,7 +47,7 @@ fn carrier_used<W: Write>(
         }
     }
     out.write_all(b" is there already")?;
-    put_since(past.added(carrier)?, "added", out)
+    put_since(past.added(Member::Carried(*carrier))?, "added", out)
 }
 
 /// Explains a service that exists already.

@@ -5,14 +5,15 @@ use crate::config::{
 };
 use crate::hint_edit::{put_edit_before, sub_words, words_of};
 use crate::hint_statement::Place;
-use crate::history::{Past, Since, Sought};
+use crate::past::{Past, Since};
+use crate::sought::{Member, added_by};
 use crate::trier::Trier;
 use mux_config::{Carrier, Component, Config, ConfigFault, Edit, Packet, Sid, Store, Sub, SubId};
 use std::alloc::{AllocError, Global};
 
-/// The line of the statement that did this last, if it is the same on every path.
-fn line_of(past: Past, sought: Sought) -> Result<Option<u16>, AllocError> {
-    match past.last(sought)? {
+/// The line of the statement that added an object, if it is the same on every path.
+fn line_of(past: Past, member: Member) -> Result<Option<u16>, AllocError> {
+    match past.added(member)? {
         Since::Line(line) => Ok(Some(line)),
         Since::Never | Since::OnePath(_) => Ok(None),
     }
@@ -20,7 +21,7 @@ fn line_of(past: Past, sought: Sought) -> Result<Option<u16>, AllocError> {
 
 /// Tries to add a sub-channel at another start, where it was added.
 fn try_other_start(trier: &mut Trier, past: Past, sub: &Sub, start: u16) -> Result<(), AllocError> {
-    let Some(line) = line_of(past, Sought::Adding(Carrier::Sub(sub.id)))? else {
+    let Some(line) = line_of(past, Member::Carried(Carrier::Sub(sub.id)))? else {
         return Ok(());
     };
     let old = sub_words(trier.alloc, sub)?;
@@ -66,14 +67,12 @@ fn component_on(config: &Config, sid: Sid, carrier: &Carrier) -> Option<Componen
     None
 }
 
-/// Tries to leave out an edit where it was made.
-fn try_without(
-    trier: &mut Trier,
-    past: Past,
-    sought: Sought,
-    edit: Edit,
-) -> Result<(), AllocError> {
-    let Some(line) = line_of(past, sought)? else {
+/// Tries to leave out an edit that adds an object, where it was made.
+fn try_without(trier: &mut Trier, past: Past, edit: Edit) -> Result<(), AllocError> {
+    let Some(member) = added_by(&edit) else {
+        return Ok(());
+    };
+    let Some(line) = line_of(past, member)? else {
         return Ok(());
     };
     let words = words_of(trier.alloc, edit)?;
@@ -96,12 +95,7 @@ fn try_orphan(
         put_edit_before(trier, place, Edit::DropService(sid))?;
     }
     match component_on(config, sid, &carrier) {
-        Some(component) => try_without(
-            trier,
-            past,
-            Sought::Giving(sid, carrier),
-            Edit::AddComponent { sid, component },
-        ),
+        Some(component) => try_without(trier, past, Edit::AddComponent { sid, component }),
         None => Ok(()),
     }
 }
@@ -117,12 +111,7 @@ fn try_orphan_packet(
         return Ok(());
     };
     put_edit_before(trier, place, Edit::DropPacket(packet.scid))?;
-    try_without(
-        trier,
-        past,
-        Sought::Adding(Carrier::Packet(packet.scid)),
-        Edit::AddPacket(packet),
-    )
+    try_without(trier, past, Edit::AddPacket(packet))
 }
 
 /// The least packet address that no packet component of a sub-channel has.
@@ -148,7 +137,7 @@ fn try_address(trier: &mut Trier, config: &Config, past: Past) -> Result<(), All
     let Some((_packet, twin)) = twins(config) else {
         return Ok(());
     };
-    let Some(line) = line_of(past, Sought::Adding(Carrier::Packet(twin.scid)))? else {
+    let Some(line) = line_of(past, Member::Carried(Carrier::Packet(twin.scid)))? else {
         return Ok(());
     };
     let address = free_address(config, twin.sub);
@@ -169,12 +158,7 @@ fn try_empty(
     };
     let sid = service.sid;
     put_edit_before(trier, place, Edit::DropService(sid))?;
-    try_without(
-        trier,
-        past,
-        Sought::Doing(Edit::AddService(sid)),
-        Edit::AddService(sid),
-    )
+    try_without(trier, past, Edit::AddService(sid))
 }
 
 /// Corrections of a configuration that is not sound.

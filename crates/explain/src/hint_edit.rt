@@ -3,7 +3,6 @@
 use crate::config::{has_room, room_for};
 use crate::edit::{edited_sub, latest_start, most_rate, rate_step};
 use crate::hint_statement::Place;
-use crate::history::drop_of;
 use crate::trier::Trier;
 use mux_config::{Carrier, Component, Config, Edit, EditFault, Packet, Sid, Store, Sub, SubId};
 use mux_eep::{EepFault, EepSet, size_of};
@@ -119,7 +118,7 @@ fn try_used(
     match edit {
         Edit::AddSub(sub) => try_used_sub(trier, config, place, &sub.get()),
         Edit::AddPacket(Packet { scid, .. }) => {
-            put_edit_before(trier, place, drop_of(&Carrier::Packet(*scid)))
+            put_edit_before(trier, place, Edit::DropPacket(*scid))
         }
         Edit::AddService(_) => trier.leave_out(place.line, place.words),
         Edit::AddComponent { sid, component } => {

@@ -2,8 +2,9 @@
 //! involved.
 //!
 //! [`explain_fault`] explains why a text is not a script, [`explain_script`] why a script is not compiled, and
-//! [`explain_code`] why a code is refused. [`put_warning`] writes a warning about an accepted plan. Most facts come from the functions that refuse: `parse` decides what is valid
-//! at a position, `Flow::apply` is called up to the refused statement, and the longest path is found with `compile`.
+//! [`explain_code`] why a code is refused. [`put_warning`] writes a warning about an accepted plan. Most facts come from the
+//! functions that refuse: `parse` decides what is valid at a position, `Flow::apply` is called up to the refused statement,
+//! and the longest path is found with `compile`. Which statements did something last is found over all paths (`past`).
 //! Counters and allowances of a code, pages and limits are looked up here.
 #![tactic(auto)]
 
@@ -28,6 +29,7 @@ mod names;
 mod opening;
 mod others;
 mod overlap;
+mod past;
 mod paths;
 mod place;
 mod probe;
@@ -36,6 +38,7 @@ mod repair;
 mod room;
 mod script;
 mod script_fault;
+mod sought;
 mod source;
 mod state;
 mod swap;

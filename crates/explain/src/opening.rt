@@ -5,7 +5,7 @@ use crate::edit::{advise_edit, explain_edit};
 use crate::hint_config::try_config;
 use crate::hint_edit::{try_edit, words_of};
 use crate::hint_statement::{Place, try_header};
-use crate::history::{History, PathEnd};
+use crate::history::{Deed, History, PathEnd};
 use crate::room::{advise_opening, explain_opening, period_of};
 use crate::script::PlanPath;
 use crate::trier::Trier;
@@ -49,8 +49,12 @@ impl ItemFaults {
                     fault,
                 })?;
             } else {
-                let instr = Instr::Edit(item.edit);
-                let next = history.extend(*end, item.line, &instr)?;
+                let deed = Deed {
+                    line: item.line,
+                    instr: Instr::Edit(item.edit),
+                    is_idle: true,
+                };
+                let next = history.extend(*end, &deed)?;
                 *end = next;
             }
         }

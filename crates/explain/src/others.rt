@@ -2,11 +2,12 @@
 
 use crate::config::{explain_overlap, missing_of, put_orphan, put_orphan_packet};
 use crate::edit::{explain_edit, is_there};
-use crate::history::{Past, Since, Sought, adds};
 use crate::names::put_sid;
 use crate::opening::ItemFault;
 use crate::overlap::overlap_of;
+use crate::past::{Past, Since};
 use crate::script::PlanPath;
+use crate::sought::{Member, added_by};
 use mux_config::{Carrier, Config, ConfigFault, Edit, EditFault, Service, Sid, SubId};
 use plan_flow::Cause;
 use std::io::{self, Write};
@@ -34,7 +35,7 @@ fn service_given(edit: &Edit) -> Option<Sid> {
 /// Whether an item with a fault adds this carrier.
 fn is_refused(faults: &[ItemFault], carrier: &Carrier) -> bool {
     for item in faults {
-        if adds(&item.edit, carrier) {
+        if Member::Carried(*carrier).is(&added_by(&item.edit)) {
             return true;
         }
     }
@@ -67,9 +68,9 @@ impl<'a> Others<'a> {
         write!(out, "{path}:{line}: ")
     }
 
-    /// Writes the path and the line in which something was done, or else that of `begin`.
-    fn put_since<W: Write>(&self, sought: Sought, out: &mut W) -> io::Result<()> {
-        match self.past.last(sought)? {
+    /// Writes the path and the line in which an object was added, or else that of `begin`.
+    fn put_since<W: Write>(&self, member: Member, out: &mut W) -> io::Result<()> {
+        match self.past.added(member)? {
             Since::Line(line) => self.put_line(line, out),
             Since::Never | Since::OnePath(_) => self.put_line(self.begin, out),
         }
@@ -94,7 +95,7 @@ impl<'a> Others<'a> {
         let Some(overlap) = overlap_of(self.config, first, second) else {
             return Ok(());
         };
-        self.put_since(Sought::Adding(Carrier::Sub(second)), out)?;
+        self.put_since(Member::Carried(Carrier::Sub(second)), out)?;
         explain_overlap(&overlap, out)
     }
 
@@ -120,7 +121,7 @@ impl<'a> Others<'a> {
     fn put_service<W: Write>(&self, service: &Service, out: &mut W) -> io::Result<()> {
         let sid = service.sid;
         if service.components.len() == 0 && !concerns_service(self.faults, sid) {
-            self.put_since(Sought::Doing(Edit::AddService(sid)), out)?;
+            self.put_since(Member::Service(sid), out)?;
             out.write_all(b"service ")?;
             put_sid(sid, out)?;
             return out.write_all(b" has no component\n");
@@ -131,7 +132,7 @@ impl<'a> Others<'a> {
         if is_refused(self.faults, &carrier) {
             return Ok(());
         }
-        self.put_since(Sought::Giving(sid, carrier), out)?;
+        self.put_since(Member::Component { sid, carrier }, out)?;
         put_orphan(self.past, sid, &carrier, out)
     }
 
@@ -162,7 +163,7 @@ impl<'a> Others<'a> {
         for packet in self.config.packets() {
             let carrier = Carrier::Sub(packet.sub);
             if !is_there(self.config, &carrier) && !is_refused(self.faults, &carrier) {
-                self.put_since(Sought::Adding(Carrier::Packet(packet.scid)), out)?;
+                self.put_since(Member::Carried(Carrier::Packet(packet.scid)), out)?;
                 put_orphan_packet(self.past, packet, out)?;
             }
         }

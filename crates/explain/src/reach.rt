@@ -1,11 +1,11 @@
 //! The state before an instruction of a code, from the instructions before it in the order of the code.
 
-use crate::history::{History, Past, PathEnd};
+use crate::history::{History, PathEnd};
+use crate::past::Past;
 use crate::state::{Allowance, PathState, copied};
 use mux_config::Config;
-use plan_code::{Code, Instr, Label, Line, Swap};
+use plan_code::{Code, Instr, Label, Line};
 use plan_flow::Flow;
-use plan_flow::flow::is_idle;
 use plan_flow::successors::{continues, target_of};
 use std::alloc::{AllocError, Global};
 
@@ -16,8 +16,6 @@ struct Jump {
     target: u16,
     /// What was executed on it.
     end: PathEnd,
-    /// What is known of its swap.
-    pending: Swap,
 }
 
 /// What is known on entry to an instruction from the one before.
@@ -52,11 +50,6 @@ pub(crate) fn declared_at(code: &Code, pc: u16) -> Option<Flow<Config>> {
     }
 }
 
-/// What is known of the swap where two paths meet: a swap that is or may be pending, if one has such.
-fn swap_of(one: Swap, other: Swap) -> Swap {
-    if is_idle(one) { other } else { one }
-}
-
 impl Reach {
     /// The state before the first instruction of a code.
     fn new(alloc: Global) -> Reach {
@@ -70,7 +63,7 @@ impl Reach {
 
     /// What was executed before.
     pub(crate) fn past(&self) -> Past {
-        self.history.past(self.state.end)
+        Past::new(&self.history, self.state.end)
     }
 
     /// Changes to what the label at an instruction declares, if it has one.
@@ -97,18 +90,15 @@ impl Reach {
     /// The end of the path from the instruction before, if it continues, and of those that jumped to this one.
     fn end_at(&mut self, pc: u16) -> Result<PathEnd, AllocError> {
         let mut merged = None;
-        let mut known = Swap::Idle;
         if self.comes {
             merged = Some(self.state.end);
-            known = self.state.flow.pending;
         }
         for jump in self.jumps.as_slice() {
             if jump.target == pc {
                 merged = match merged {
                     None => Some(jump.end),
-                    Some(end) => Some(self.history.merge(end, known, jump.end, jump.pending)?),
+                    Some(end) => Some(self.history.merge(end, jump.end)?),
                 };
-                known = swap_of(known, jump.pending);
             }
         }
         match merged {
@@ -125,7 +115,6 @@ impl Reach {
         let jump = Jump {
             target,
             end: self.state.end,
-            pending: self.state.flow.pending,
         };
         match self.jumps.push(jump) {
             Ok(()) => Ok(()),

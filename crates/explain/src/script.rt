@@ -8,6 +8,7 @@ use crate::history::{History, PathEnd};
 use crate::limit::explain_code_limit;
 use crate::opening::{ItemFaults, advise_first, explain_first, try_first};
 use crate::others::put_others;
+use crate::past::Past;
 use crate::paths::{Lines, advise_loop, advise_paths, explain_loop, explain_paths};
 use crate::state::PathState;
 use crate::trial::Refusal;
@@ -124,7 +125,8 @@ fn explain_loop_at<W: Write>(
         try_loop(trier, plan, braces, end, &other.flow)?;
     }
     if trier.is_at_loss() {
-        let has_same_commit = walk.past().commit() == other.end.commit();
+        let before = Past::new(&walk.history, other.end);
+        let has_same_commit = walk.past().pending()? == before.pending()?;
         return advise_loop(end, &other.flow, lines, has_same_commit, out);
     }
     trier.put_hint(out)

@@ -1,8 +1,9 @@
 //! What is known at a point of a plan, with the path to it: one value, saved and restored as a whole.
 
-use crate::history::{History, PathEnd};
+use crate::history::{Deed, History, PathEnd};
 use mux_config::{Config, Store};
 use plan_code::{Counters, Instr, Plan, Swap};
+use plan_flow::flow::is_idle;
 use plan_flow::successors::suspends;
 use plan_flow::{Cause, Flow};
 use std::alloc::AllocError;
@@ -106,7 +107,12 @@ impl PathState {
         }
         self.counters = counters_after(self.counters, *instr);
         self.allowance = self.allowance.after(plan, *instr);
-        self.end = history.extend(self.end, line, instr)?;
+        let deed = Deed {
+            line,
+            instr: *instr,
+            is_idle: is_idle(self.flow.pending),
+        };
+        self.end = history.extend(self.end, &deed)?;
         Ok(None)
     }
 
@@ -116,11 +122,10 @@ impl PathState {
         history: &mut History,
         other: &PathState,
     ) -> Result<bool, AllocError> {
-        let pending = self.flow.pending;
         if !self.flow.meet(&other.flow) {
             return Ok(false);
         }
-        self.end = history.merge(self.end, pending, other.end, other.flow.pending)?;
+        self.end = history.merge(self.end, other.end)?;
         if other.allowance.left < self.allowance.left {
             self.allowance = other.allowance;
         }

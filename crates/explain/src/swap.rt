@@ -1,5 +1,6 @@
 //! Explains refused commits and waits.
 
+use crate::past::PendingSince;
 use plan_code::{Delay, Frames, Plan, Swap};
 use std::io::{self, Write};
 
@@ -26,12 +27,12 @@ pub(crate) fn put_swap<W: Write>(pending: Swap, out: &mut W) -> io::Result<()> {
 /// Explains an edit or a commit while a swap is or may be pending, by the commit in this line if it is known.
 pub(crate) fn explain_pending<W: Write>(
     pending: Swap,
-    commit: Option<u16>,
+    since: Option<PendingSince>,
     out: &mut W,
 ) -> io::Result<()> {
     put_swap(pending, out)?;
-    match commit {
-        Some(line) => writeln!(
+    match since {
+        Some(PendingSince { line }) => writeln!(
             out,
             ", by the commit in line {line}; until then the next configuration stays as it is"
         ),
@@ -40,9 +41,9 @@ pub(crate) fn explain_pending<W: Write>(
 }
 
 /// Advises on an edit or a commit while a swap is or may be pending.
-pub(crate) fn advise_pending<W: Write>(commit: Option<u16>, out: &mut W) -> io::Result<()> {
-    match commit {
-        Some(line) => writeln!(
+pub(crate) fn advise_pending<W: Write>(since: Option<PendingSince>, out: &mut W) -> io::Result<()> {
+    match since {
+        Some(PendingSince { line }) => writeln!(
             out,
             "hint: 'join' after the commit in line {line}, or 'settle' before this line"
         ),
@@ -123,7 +124,7 @@ pub(crate) fn advise_join<W: Write>(pending: Swap, out: &mut W) -> io::Result<()
 pub(crate) fn explain_wait<W: Write>(
     pending: Swap,
     frames: Frames,
-    commit: Option<u16>,
+    since: Option<PendingSince>,
     out: &mut W,
 ) -> io::Result<()> {
     let frames = frames.get();
@@ -134,8 +135,8 @@ pub(crate) fn explain_wait<W: Write>(
         out,
         "after {frames} frames the swap has come or not, as the count allows: it comes after {low} to {high} frames"
     )?;
-    match commit {
-        Some(line) => writeln!(out, ", by the commit in line {line}"),
+    match since {
+        Some(PendingSince { line }) => writeln!(out, ", by the commit in line {line}"),
         None => writeln!(out),
     }
 }

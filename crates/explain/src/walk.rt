@@ -1,6 +1,7 @@
 //! Walks through a script up to the refused statement, with the transfer function of plans.
 
-use crate::history::{History, Past};
+use crate::history::History;
+use crate::past::Past;
 use crate::state::PathState;
 use plan_code::Plan;
 use plan_flow::Cause;
@@ -108,7 +109,7 @@ impl Walk {
 
     /// What was executed on the path so far.
     pub(crate) fn past(&self) -> Past {
-        self.history.past(self.state.end)
+        Past::new(&self.history, self.state.end)
     }
 
     /// Executes one instruction; if refused, nothing changes.
