@@ -1,3 +1,4 @@
+mod DebugVectors
 mod EventFiles
 mod Keeping
 mod PartTranscripts

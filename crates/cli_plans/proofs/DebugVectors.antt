@@ -1,0 +1,46 @@
+-- What is said of a session without commands, and of each way in which it can end early.
+use Rattle.std.proofs.Common.{◌≡◌, ℕ, List, [], ◌∷◌, Option, Some, Ok, Err, refl, ◌∙◌}
+use Rattle.plan_player.specs.declared.fault.StartFault.TheVariants.{Count}
+use Rattle.plan_player.specs.Playing.{Playing}
+use Rattle.plan_session.specs.declared.command.Command.{Command}
+use Rattle.plan_session.specs.declared.event_fault.EventFault.TheVariants.{Memory as NoMemoryForCommands}
+use Rattle.plan_session.specs.declared.run_fault.RunFault.TheVariants.{Start}
+use Rattle.plan_session.specs.declared.text_fault.TextFault.TheVariants.{Failed}
+use Rattle.plan_session.specs.CommandParts.{ListsCommandsInParts}
+use Rattle.plan_session.specs.Playback.{Request}
+use Rattle.plan_debug.specs.Commands.{fresh}
+use Rattle.cli_plans.specs.declared.debug.DebugFault.TheVariants.{Playback, Commands}
+use Rattle.cli_plans.specs.declared.file_debugging.FileDebugFault.TheVariants.{Debug, Changed, Unread}
+use Rattle.cli_plans.specs.FileTranscript.{PrintsAgain, IsFileDebugFault, IsFileUnprinted}
+
+-- ---- what is printed
+
+no_commands : (p : Playing) → PrintsAgain p [] (Some []) (Some []) (Ok tt)
+no_commands p = ([], fresh p, (refl, refl), refl)
+
+-- a byte that no command prints
+a_byte_too_many : (p : Playing) → PrintsAgain p [] (Some []) (Some (33 ∷ [])) (Ok tt) → ⊥
+a_byte_too_many p h =
+    let none : 33 ∷ [] ≡ [] = h.3 ∙ h.2.0 in
+    absurd cc
+
+-- the reader failed before a command was read
+nothing_was_read : (p : Playing) (all : List Command) → PrintsAgain p all (Some []) (Some []) (Err (Unread Failed))
+nothing_was_read p all = ([], all, refl, (fresh p, ([], (refl, refl), refl)))
+
+a_text_in_parts_is_not_changed : (p : Playing) (all : List Command) (x y : Option (List ℕ)) → PrintsAgain p all x y (Err Changed) → ⊥
+a_text_in_parts_is_not_changed p all x y h = h
+
+-- ---- faults
+
+a_file_has_no_kept_commands : (left x y : Option (List ℕ)) (r : Request) → IsFileDebugFault left r x y (Debug (Commands NoMemoryForCommands)) → ⊥
+a_file_has_no_kept_commands left x y r h = h
+
+changed_is_not_in_parts : (text : List ℕ) (x y : Option (List ℕ)) (r : Request) → ListsCommandsInParts text → IsFileDebugFault (Some text) r x y Changed → ⊥
+changed_is_not_in_parts text x y r parts h = h.1 text refl parts
+
+a_refused_start_prints_nothing : IsFileUnprinted (Some []) (Some []) (Debug (Playback (Start Count)))
+a_refused_start_prints_nothing = refl
+
+a_byte_of_a_refused_start : IsFileUnprinted (Some []) (Some (33 ∷ [])) (Debug (Playback (Start Count))) → ⊥
+a_byte_of_a_refused_start h = absurd cc
