@@ -7,7 +7,7 @@ use Rattle.clap.specs.declared.parser.matches.Found.{Found}
 use Rattle.clap.proofs.WalkLemmas.{one_text-rows}
 use Rattle.cli.specs.Given.{HasFlag, HasNumber, HasOptionalNumber}
 
-no_some : {X : Type 0} {x : X} → Some x ≡ None → ⊥
+pub no_some : {X : Type 0} {x : X} → Some x ≡ None → ⊥
 no_some {X} e = subst (λ (o : Option X). IfNone o ⊥) e tt
 
 pub number_given : {E : Type 0} (gives : Text → Result ℕ E → Type 0) (f : Found) (name : Text) (result : Option ℕ) → ((t : Text) (r : Result ℕ E) → gives t r → ParsesUnsigned 32 10 t r)

@@ -4,4 +4,5 @@ pub mod Given
 pub mod Grammar
 pub mod Numbers
 pub mod Program
+pub mod Refusals
 pub mod Requests

@@ -70,6 +70,7 @@ pub record AsksFrame (rows : List Row) (r : FrameRequest) : Type 0 where
   pub ensemble : HasText rows (codes "ensemble") (hex_of_u16 r.ensemble.eid)
   pub count : HasNumber rows (codes "count") r.ensemble.count
   pub change : r.ensemble.change ≡ 0
+  pub alarm : r.ensemble.al ≡ false
   pub page : HasNumber rows (codes "page") r.page
   pub raw : HasFlag rows (codes "raw") r.raw
 

@@ -16,11 +16,13 @@ mod shared;
 pub mod start;
 mod verify;
 
-ghost use Rattle.std.specs.Prelude.{◌≡◌, IfOk, List, ℕ, map};
+ghost use Rattle.std.specs.Prelude.{◌≡◌, IfErr, IfOk, List, ℕ, map};
 ghost use Rattle.cli.specs.Asked.{IsAsked};
 ghost use Rattle.cli.specs.Grammar.{Describes};
 ghost use Rattle.cli.specs.Program.{dabplan};
 ghost use Rattle.cli.specs.Asking.{AsksBy, AsksFramesBy, IsFound};
+ghost use Rattle.cli.specs.Refusals.{IsRefused, IsUnparsed, Refuses, RefusesFrames};
+ghost use Rattle.cli.specs.Refusals.{commands, frames_commands};
 
 use crate::args::parser::{Grammar, Parsed};
 use cli_plans::debug::DebugRequest;
@@ -125,9 +127,15 @@ impl From<AllocError> for UsageError<'_> {
 /// Parses the arguments after the program's name. Those of `live` and `merge` are parsed by [`frames_request_of`], and
 /// are refused here.
 pub fn request_of<'a, S: AsStr>(alloc: Global, args: &'a [S]) -> Result<Request<'a>, UsageError<'a>>
-    ensures { IfOk result (AsksBy (map S.text args.now)) }
+    ensures asked { IfOk result (AsksBy (map S.text args.now)) }
+    // Out of memory; or the grammar does not take the words, or they name none of these commands;
+    // or a value is missing, or refused by its field.
+    ensures refused { IfErr result (IsRefused Refuses commands (map S.text args.now)) }
 {
-    let parsed = parse(alloc, args)?;
+    let parsed = match parse(alloc, args) {
+        Ok(parsed) => parsed,
+        Err(error) => return Err(error),
+    };
     match parsed.command() {
         Some(("frame", values)) => frame::request(&values),
         Some(("listen", values)) => listen::request(&values),
@@ -147,23 +155,43 @@ pub fn frames_request_of<'a, S: AsStr>(
     alloc: Global,
     args: &'a [S],
 ) -> Result<FramesRequest<'a>, UsageError<'a>>
-    ensures { IfOk result (AsksFramesBy (map S.text args.now)) }
+    ensures asked { IfOk result (AsksFramesBy (map S.text args.now)) }
+    ensures refused { IfErr result
+        (IsRefused RefusesFrames frames_commands (map S.text args.now)) }
 {
-    let parsed = parse(alloc, args)?;
+    let parsed = match parse(alloc, args) {
+        Ok(parsed) => parsed,
+        Err(error) => return Err(error),
+    };
     match parsed.command() {
-        Some(("live", values)) => Ok(FramesRequest::Live(live::request(&values)?)),
-        Some(("merge", values)) => Ok(FramesRequest::Merge(merge::request(&values)?)),
+        Some(("live", values)) => match live::request(&values) {
+            Ok(request) => Ok(FramesRequest::Live(request)),
+            Err(error) => Err(error),
+        },
+        Some(("merge", values)) => match merge::request(&values) {
+            Ok(request) => Ok(FramesRequest::Merge(request)),
+            Err(error) => Err(error),
+        },
         _ => Err(UsageError::Nothing),
     }
 }
 
 /// Parses a command line. A mistake shows the control bytes of arguments as `\xHH`.
 fn parse<'a, S: AsStr>(alloc: Global, args: &'a [S]) -> Result<Parsed<'a>, UsageError<'a>>
-    ensures { IfOk result (λ p. IsFound (map S.text args.now) p.matches) }
+    ensures found { IfOk result (λ p. IsFound (map S.text args.now) p.matches) }
+    ensures refused { IfErr result (λ error. (asked : List (List ℕ))
+        × IsAsked (map S.text args.now) asked × IsUnparsed dabplan asked error) }
 {
-    match program(alloc)?.parsed(args) {
+    let grammar = match program(alloc) {
+        Ok(grammar) => grammar,
+        Err(_) => return Err(UsageError::Memory),
+    };
+    match grammar.parsed(args) {
         Ok(parsed) => Ok(parsed),
-        Err(UsageError::Mistake(message)) => Err(UsageError::Mistake(shown(alloc, args, message)?)),
+        Err(UsageError::Mistake(message)) => match shown(alloc, args, message) {
+            Ok(message) => Err(UsageError::Mistake(message)),
+            Err(_) => Err(UsageError::Memory),
+        },
         Err(unasked) => Err(unasked),
     }
 }

@@ -1,13 +1,14 @@
 //! The command line of `check`.
 
-ghost use Rattle.std.specs.Prelude.{◌≡◌, IfOk, codes, pos, None, Some};
+ghost use Rattle.std.specs.Prelude.{◌≡◌, IfErr, IfOk, codes, pos, None, Some};
 ghost use Rattle.cli.specs.Given.{rows_in};
 ghost use Rattle.cli.specs.Grammar.{Describes, number, rule_for, text};
 ghost use Rattle.cli.specs.Program.{only, check};
+ghost use Rattle.cli.specs.Refusals.{RefusesCheck, RefusesTime};
 ghost use Rattle.cli.specs.Requests.{Asks, HasOptionalTime};
 
 use crate::args::parser::{Argument, Grammar, Kind, Page, Rule, Values};
-use crate::args::shared::{file, flag, mode, mode_of, number};
+use crate::args::shared::{file, flag, mode, number, some_mode};
 use crate::args::start::second_at;
 use crate::args::{Request, UsageError};
 use cli_streams::check::CheckRequest;
@@ -146,10 +147,11 @@ fn time() -> Argument
 
 /// Reads the arguments of `check`.
 pub(crate) fn request<'a>(values: &Values<'_, 'a>) -> Result<Request<'a>, UsageError<'a>>
-    ensures { IfOk result (Asks (codes "check") (rows_in values.now)) }
+    ensures asked { IfOk result (Asks (codes "check") (rows_in values.now)) }
+    ensures refused { IfErr result (RefusesCheck (rows_in values.now)) }
 {
     let file = values.some_text("file")?;
-    let mode = mode_of(values.some_number("mode")?).ok_or(UsageError::Nothing)?;
+    let mode = some_mode(values)?;
     let period = values.some_u16("period")?;
     let is_json = values.flag("json");
     let start = start_of(values)?;
@@ -167,7 +169,8 @@ pub(crate) fn request<'a>(values: &Values<'_, 'a>) -> Result<Request<'a>, UsageE
 
 /// The second of the day of frame 0.
 fn start_of<'a>(values: &Values<'_, 'a>) -> Result<Option<u32>, UsageError<'a>>
-    ensures { IfOk result (HasOptionalTime (rows_in values.now)) }
+    ensures time { IfOk result (HasOptionalTime (rows_in values.now)) }
+    ensures refused { IfErr result (RefusesTime (rows_in values.now)) }
 {
     match values.text("time") {
         Some(text) => match second_at(text) {

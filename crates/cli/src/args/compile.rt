@@ -1,9 +1,10 @@
 //! The command line of `compile`.
 
-ghost use Rattle.std.specs.Prelude.{IfOk, codes};
+ghost use Rattle.std.specs.Prelude.{IfErr, IfOk, codes};
 ghost use Rattle.cli.specs.Given.{rows_in};
 ghost use Rattle.cli.specs.Grammar.{Describes};
 ghost use Rattle.cli.specs.Program.{only, compile};
+ghost use Rattle.cli.specs.Refusals.{RefusesCompile};
 ghost use Rattle.cli.specs.Requests.{Asks};
 
 use crate::args::parser::{Grammar, Page, Values};
@@ -95,7 +96,8 @@ pub(crate) fn grammar<'a>(alloc: Global) -> Result<Grammar<'a>, AllocError>
 
 /// Reads the arguments of `compile`.
 pub(crate) fn request<'a>(values: &Values<'_, 'a>) -> Result<Request<'a>, UsageError<'a>>
-    ensures { IfOk result (Asks (codes "compile") (rows_in values.now)) }
+    ensures asked { IfOk result (Asks (codes "compile") (rows_in values.now)) }
+    ensures refused { IfErr result (RefusesCompile (rows_in values.now)) }
 {
     let script = values.some_text("script")?;
     let out = values.some_text("out")?;

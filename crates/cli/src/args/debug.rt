@@ -1,9 +1,10 @@
 //! The command line of `debug`.
 
-ghost use Rattle.std.specs.Prelude.{IfOk, codes};
+ghost use Rattle.std.specs.Prelude.{IfErr, IfOk, codes};
 ghost use Rattle.cli.specs.Given.{rows_in};
 ghost use Rattle.cli.specs.Grammar.{Describes};
 ghost use Rattle.cli.specs.Program.{only, debug};
+ghost use Rattle.cli.specs.Refusals.{RefusesDebug};
 ghost use Rattle.cli.specs.Requests.{Asks};
 
 use crate::args::parser::{Grammar, Page, Values};
@@ -89,7 +90,8 @@ pub(crate) fn grammar<'a>(alloc: Global) -> Result<Grammar<'a>, AllocError>
 
 /// Reads the arguments of `debug`.
 pub(crate) fn request<'a>(values: &Values<'_, 'a>) -> Result<Request<'a>, UsageError<'a>>
-    ensures { IfOk result (Asks (codes "debug") (rows_in values.now)) }
+    ensures asked { IfOk result (Asks (codes "debug") (rows_in values.now)) }
+    ensures refused { IfErr result (RefusesDebug (rows_in values.now)) }
 {
     let start = start_options(values)?;
     Ok(Request::Debug(DebugRequest {

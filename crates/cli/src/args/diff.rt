@@ -1,9 +1,10 @@
 //! The command line of `diff`.
 
-ghost use Rattle.std.specs.Prelude.{IfOk, codes};
+ghost use Rattle.std.specs.Prelude.{IfErr, IfOk, codes};
 ghost use Rattle.cli.specs.Given.{rows_in};
 ghost use Rattle.cli.specs.Grammar.{Describes};
 ghost use Rattle.cli.specs.Program.{only, diff};
+ghost use Rattle.cli.specs.Refusals.{RefusesDiff};
 ghost use Rattle.cli.specs.Requests.{Asks};
 
 use crate::args::parser::{Grammar, Page, Values};
@@ -73,7 +74,8 @@ pub(crate) fn grammar<'a>(alloc: Global) -> Result<Grammar<'a>, AllocError>
 
 /// Reads the arguments of `diff`.
 pub(crate) fn request<'a>(values: &Values<'_, 'a>) -> Result<Request<'a>, UsageError<'a>>
-    ensures { IfOk result (Asks (codes "diff") (rows_in values.now)) }
+    ensures asked { IfOk result (Asks (codes "diff") (rows_in values.now)) }
+    ensures refused { IfErr result (RefusesDiff (rows_in values.now)) }
 {
     let from = values.some_text("from")?;
     let to = values.some_text("to")?;

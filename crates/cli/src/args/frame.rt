@@ -1,9 +1,10 @@
 //! The command line of `frame`, for a record or a script.
 
-ghost use Rattle.std.specs.Prelude.{◌≡◌, IfOk, codes, true, pos, None};
+ghost use Rattle.std.specs.Prelude.{◌≡◌, IfErr, IfOk, codes, true, pos, None};
 ghost use Rattle.cli.specs.Given.{HasFlag, rows_in};
 ghost use Rattle.cli.specs.Grammar.{Describes, bound, flag, number, required, rule_for, text};
 ghost use Rattle.cli.specs.Program.{only, frame};
+ghost use Rattle.cli.specs.Refusals.{RefusesFrame};
 ghost use Rattle.cli.specs.Requests.{Asks};
 
 use crate::args::parser::{Argument, Grammar, Kind, Page, Rule, Values};
@@ -130,7 +131,8 @@ fn script() -> Argument
 
 /// Reads the arguments of `frame`.
 pub(crate) fn request<'a>(values: &Values<'_, 'a>) -> Result<Request<'a>, UsageError<'a>>
-    ensures { IfOk result (Asks (codes "frame") (rows_in values.now)) }
+    ensures asked { IfOk result (Asks (codes "frame") (rows_in values.now)) }
+    ensures refused { IfErr result (RefusesFrame (rows_in values.now)) }
 {
     if values.flag("script") {
         return script_request(values);
@@ -146,7 +148,9 @@ pub(crate) fn request<'a>(values: &Values<'_, 'a>) -> Result<Request<'a>, UsageE
     let count = values.some_u16("count")?;
     let page = values.some_u16("page")?;
     let layout = layout_of(values)?;
-    let ensemble = Ensemble::new(eid, 0, false, count, None).ok_or(UsageError::Nothing)?;
+    let Some(ensemble) = Ensemble::new(eid, 0, false, count, None) else {
+        return Err(UsageError::Nothing);
+    };
     Ok(Request::Frame(FrameRequest {
         config,
         layout,
@@ -159,7 +163,8 @@ pub(crate) fn request<'a>(values: &Values<'_, 'a>) -> Result<Request<'a>, UsageE
 /// Reads the arguments of `frame --script`.
 fn script_request<'a>(values: &Values<'_, 'a>) -> Result<Request<'a>, UsageError<'a>>
     requires { HasFlag (rows_in values.now) (codes "script") true }
-    ensures { IfOk result (Asks (codes "frame") (rows_in values.now)) }
+    ensures asked { IfOk result (Asks (codes "frame") (rows_in values.now)) }
+    ensures refused { IfErr result (RefusesFrame (rows_in values.now)) }
 {
     Ok(Request::FrameScript(FrameScriptRequest {
         script: values.some_text("config")?,

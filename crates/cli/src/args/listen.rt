@@ -1,9 +1,10 @@
 //! The command line of `listen`, whose result is a listing or a script.
 
-ghost use Rattle.std.specs.Prelude.{◌≡◌, IfOk, codes, true, pos, None, Some};
+ghost use Rattle.std.specs.Prelude.{◌≡◌, IfErr, IfOk, codes, true, pos, None, Some};
 ghost use Rattle.cli.specs.Given.{HasFlag, rows_in};
 ghost use Rattle.cli.specs.Grammar.{Describes, bound, number, rule_for};
 ghost use Rattle.cli.specs.Program.{listen, mode, only};
+ghost use Rattle.cli.specs.Refusals.{RefusesListen};
 ghost use Rattle.cli.specs.Requests.{Asks};
 
 use crate::args::parser::{Argument, Grammar, Page, Rule, Values};
@@ -120,7 +121,8 @@ fn period() -> Argument
 
 /// The notice of the printed script.
 fn notice() -> Argument
-    ensures { rule_for result ≡ bound (number (codes "notice") (pos 12) (pos 248) (Some (codes "240"))) }
+    ensures { rule_for result
+        ≡ bound (number (codes "notice") (pos 12) (pos 248) (Some (codes "240"))) }
 {
     let help = "The notice of the script in frames, 12 to 248";
     let shortest = i64::from(SHORTEST_NOTICE);
@@ -133,7 +135,8 @@ fn notice() -> Argument
 
 /// The budget of the printed script.
 fn budget() -> Argument
-    ensures { rule_for result ≡ bound (number (codes "budget") (pos 1) (pos 255) (Some (codes "20"))) }
+    ensures { rule_for result
+        ≡ bound (number (codes "budget") (pos 1) (pos 255) (Some (codes "20"))) }
 {
     let help = "The budget of the script in instructions per frame, 1 to 255";
     with_rule(
@@ -144,7 +147,8 @@ fn budget() -> Argument
 
 /// Reads the arguments of `listen`.
 pub(crate) fn request<'a>(values: &Values<'_, 'a>) -> Result<Request<'a>, UsageError<'a>>
-    ensures { IfOk result (Asks (codes "listen") (rows_in values.now)) }
+    ensures asked { IfOk result (Asks (codes "listen") (rows_in values.now)) }
+    ensures refused { IfErr result (RefusesListen (rows_in values.now)) }
 {
     if values.flag("script") {
         return script_request(values);
@@ -158,7 +162,8 @@ pub(crate) fn request<'a>(values: &Values<'_, 'a>) -> Result<Request<'a>, UsageE
 /// Reads the arguments of `listen --script`.
 fn script_request<'a>(values: &Values<'_, 'a>) -> Result<Request<'a>, UsageError<'a>>
     requires { HasFlag (rows_in values.now) (codes "script") true }
-    ensures { IfOk result (Asks (codes "listen") (rows_in values.now)) }
+    ensures asked { IfOk result (Asks (codes "listen") (rows_in values.now)) }
+    ensures refused { IfErr result (RefusesListen (rows_in values.now)) }
 {
     let file = values.some_text("file")?;
     let layout = layout_of(values)?;

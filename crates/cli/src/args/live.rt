@@ -1,9 +1,10 @@
 //! The command line of `live`.
 
-ghost use Rattle.std.specs.Prelude.{◌≡◌, IfOk, codes, pos, None, Some};
+ghost use Rattle.std.specs.Prelude.{◌≡◌, IfErr, IfOk, codes, pos, None, Some};
 ghost use Rattle.cli.specs.Given.{rows_in};
 ghost use Rattle.cli.specs.Grammar.{Describes, number, rule_for};
 ghost use Rattle.cli.specs.Program.{only, live};
+ghost use Rattle.cli.specs.Refusals.{RefusesLive};
 ghost use Rattle.cli.specs.Requests.{AsksLive};
 
 use crate::args::UsageError;
@@ -117,7 +118,8 @@ fn skip() -> Argument
 
 /// Reads the arguments of `live`.
 pub(crate) fn request<'a>(values: &Values<'_, 'a>) -> Result<LiveRequest<'a>, UsageError<'a>>
-    ensures { IfOk result (AsksLive (rows_in values.now)) }
+    ensures asked { IfOk result (AsksLive (rows_in values.now)) }
+    ensures refused { IfErr result (RefusesLive (rows_in values.now)) }
 {
     let start = start_options(values)?;
     Ok(LiveRequest {

@@ -1,9 +1,10 @@
 //! The command line of `map`.
 
-ghost use Rattle.std.specs.Prelude.{◌≡◌, IfOk, codes, None};
+ghost use Rattle.std.specs.Prelude.{◌≡◌, IfErr, IfOk, codes, None};
 ghost use Rattle.cli.specs.Given.{rows_in};
 ghost use Rattle.cli.specs.Grammar.{Describes, rule_for, text};
 ghost use Rattle.cli.specs.Program.{only, map};
+ghost use Rattle.cli.specs.Refusals.{RefusesMap};
 ghost use Rattle.cli.specs.Requests.{Asks};
 
 use crate::args::parser::{Argument, Grammar, Kind, Page, Rule, Values};
@@ -106,7 +107,8 @@ fn drawing() -> Argument
 
 /// Reads the arguments of `map`.
 pub(crate) fn request<'a>(values: &Values<'_, 'a>) -> Result<Request<'a>, UsageError<'a>>
-    ensures { IfOk result (Asks (codes "map") (rows_in values.now)) }
+    ensures asked { IfOk result (Asks (codes "map") (rows_in values.now)) }
+    ensures refused { IfErr result (RefusesMap (rows_in values.now)) }
 {
     let script = values.some_text("script")?;
     let drawing = values.text("svg");

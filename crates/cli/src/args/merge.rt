@@ -1,14 +1,15 @@
 //! The command line of `merge`.
 
-ghost use Rattle.std.specs.Prelude.{IfOk};
+ghost use Rattle.std.specs.Prelude.{IfErr, IfOk};
 ghost use Rattle.cli.specs.Given.{rows_in};
 ghost use Rattle.cli.specs.Grammar.{Describes};
 ghost use Rattle.cli.specs.Program.{only, merge};
+ghost use Rattle.cli.specs.Refusals.{RefusesMerge};
 ghost use Rattle.cli.specs.Requests.{AsksMerge};
 
 use crate::args::UsageError;
 use crate::args::parser::{Grammar, Page, Values};
-use crate::args::shared::{file, mode, mode_of};
+use crate::args::shared::{file, mode, some_mode};
 use cli_streams::merge::MergeRequest;
 use std::alloc::{AllocError, Global};
 
@@ -76,13 +77,14 @@ pub(crate) fn grammar<'a>(alloc: Global) -> Result<Grammar<'a>, AllocError>
 
 /// Reads the arguments of `merge`.
 pub(crate) fn request<'a>(values: &Values<'_, 'a>) -> Result<MergeRequest<'a>, UsageError<'a>>
-    ensures { IfOk result (AsksMerge (rows_in values.now)) }
+    ensures asked { IfOk result (AsksMerge (rows_in values.now)) }
+    ensures refused { IfErr result (RefusesMerge (rows_in values.now)) }
 {
     let plan = values.some_text("plan")?;
     let other = values.some_text("other")?;
     if plan == "-" && other == "-" {
         return Err(UsageError::TwiceInput);
     }
-    let mode = mode_of(values.some_number("mode")?).ok_or(UsageError::Nothing)?;
+    let mode = some_mode(values)?;
     Ok(MergeRequest { plan, other, mode })
 }

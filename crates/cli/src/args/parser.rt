@@ -1,11 +1,12 @@
 //! The command-line grammar and its parsed values. Only this file names the kit's parser, `clap`.
 
-ghost use Rattle.std.specs.Prelude.{◌≡◌, IfOk, List, ℕ, map, option_map, false, true};
+ghost use Rattle.std.specs.Prelude.{◌≡◌, IfErr, IfOk, List, ℕ, map, option_map, false, true};
 ghost use Rattle.clap.specs.Words.{App, Rule as RuleOf, rule_of, new_app, with_rule};
 ghost use Rattle.clap.specs.Words.{HasMatchesOf, with_subcommand};
 ghost use Rattle.cli.specs.Asked.{IsAsked, IsHelpWord};
 ghost use Rattle.cli.specs.Grammar.{Describes, dependent, new_program, parser_between};
 ghost use Rattle.cli.specs.Grammar.{plain_rule, rule_for, with_default};
+ghost use Rattle.cli.specs.Refusals.{IsReported, IsUnparsed};
 
 use crate::args::UsageError;
 use clap::builder::ValueParser;
@@ -139,14 +140,20 @@ impl<'a> Grammar<'a> {
 
     /// Parses a command line. Help on `help` is help: `help -h` and `help help` are `help`.
     pub fn parsed<S: AsStr>(self, args: &'a [S]) -> Result<Parsed<'a>, UsageError<'a>>
-        ensures { IfOk result (λ p. (a : App) → Describes self.entry.command a
+        ensures found { IfOk result (λ p. (a : App) → Describes self.entry.command a
             → (asked : List (List ℕ)) × IsAsked (map S.text args.entry.now) asked
             × HasMatchesOf a asked p.matches) }
+        ensures refused { IfErr result (λ error. (a : App) → Describes self.entry.command a
+            → (asked : List (List ℕ)) × IsAsked (map S.text args.entry.now) asked
+            × IsUnparsed a asked error) }
     {
-        let matches = self
+        match self
             .command
-            .try_get_matches_from(without_help_of_help(args))?;
-        Ok(Parsed { matches })
+            .try_get_matches_from(without_help_of_help(args))
+        {
+            Ok(matches) => Ok(Parsed { matches }),
+            Err(error) => Err(usage_error(error)),
+        }
     }
 }
 
@@ -255,6 +262,9 @@ pub(crate) struct Values<'m, 'a> {
 impl<'m, 'a> Values<'m, 'a> {
     ghost use Rattle.cli.specs.Given.{HasFlag, HasNumber, HasOptionalNumber, rows_in};
     ghost use Rattle.cli.specs.Given.{HasOptionalText, HasText};
+    ghost use Rattle.cli.specs.Refusals.{GivesText};
+    ghost use Rattle.cli.specs.declared.args.UsageError.TheVariants.{Nothing};
+    ghost use Rattle.std.specs.Prelude.{◌<◌};
 
     /// The text of an argument; `None` if it has none.
     pub fn text(&self, name: &'static str) -> Option<&'a str>
@@ -265,7 +275,9 @@ impl<'m, 'a> Values<'m, 'a> {
 
     /// The text of an argument that is required or has a default.
     pub fn some_text(&self, name: &'static str) -> Result<&'a str, UsageError<'a>>
-        ensures { IfOk result (λ text. HasText (rows_in self.now) name.now text.now) }
+        ensures text { IfOk result (λ text. HasText (rows_in self.now) name.now text.now) }
+        ensures none { IfErr result (λ error. (error ≡ Nothing)
+            × (GivesText (rows_in self.now) name.now → ⊥)) }
     {
         match self.text(name) {
             Some(text) => Ok(text),
@@ -282,7 +294,9 @@ impl<'m, 'a> Values<'m, 'a> {
 
     /// The number of an argument that is required or has a default.
     pub fn some_number(&self, name: &'static str) -> Result<u32, UsageError<'a>>
-        ensures { IfOk result (HasNumber (rows_in self.now) name.now) }
+        ensures number { IfOk result (HasNumber (rows_in self.now) name.now) }
+        ensures none { IfErr result (λ error. (error ≡ Nothing)
+            × ((n : ℕ) → HasNumber (rows_in self.now) name.now n → ⊥)) }
     {
         match self.number(name) {
             Some(number) => Ok(number),
@@ -292,9 +306,14 @@ impl<'m, 'a> Values<'m, 'a> {
 
     /// [`some_number`](Self::some_number), below 65,536.
     pub fn some_u16(&self, name: &'static str) -> Result<u16, UsageError<'a>>
-        ensures { IfOk result (HasNumber (rows_in self.now) name.now) }
+        ensures number { IfOk result (HasNumber (rows_in self.now) name.now) }
+        ensures none { IfErr result (λ error. (error ≡ Nothing)
+            × ((n : ℕ) → HasNumber (rows_in self.now) name.now n → n < 65536 → ⊥)) }
     {
-        let number = self.some_number(name)?;
+        let number = match self.some_number(name) {
+            Ok(number) => number,
+            Err(error) => return Err(error),
+        };
         match u16::try_from(number) {
             Ok(number) => Ok(number),
             Err(_) => Err(UsageError::Nothing),
@@ -303,9 +322,14 @@ impl<'m, 'a> Values<'m, 'a> {
 
     /// [`some_number`](Self::some_number), below 256.
     pub fn some_u8(&self, name: &'static str) -> Result<u8, UsageError<'a>>
-        ensures { IfOk result (HasNumber (rows_in self.now) name.now) }
+        ensures number { IfOk result (HasNumber (rows_in self.now) name.now) }
+        ensures none { IfErr result (λ error. (error ≡ Nothing)
+            × ((n : ℕ) → HasNumber (rows_in self.now) name.now n → n < 256 → ⊥)) }
     {
-        let number = self.some_number(name)?;
+        let number = match self.some_number(name) {
+            Ok(number) => number,
+            Err(error) => return Err(error),
+        };
         match u8::try_from(number) {
             Ok(number) => Ok(number),
             Err(_) => Err(UsageError::Nothing),
@@ -332,14 +356,14 @@ impl fmt::Display for Message {
     }
 }
 
-impl From<clap::Error> for UsageError<'_> {
-    fn from(error: clap::Error) -> Self {
-        match error.kind() {
-            ErrorKind::OutOfMemory => UsageError::Memory,
-            ErrorKind::DisplayHelp | ErrorKind::DisplayVersion => UsageError::Help(Message {
-                error,
-            }),
-            _ => UsageError::Mistake(Message { error }),
-        }
+/// What is reported of an error of the parser.
+fn usage_error<'a>(error: clap::Error) -> UsageError<'a>
+    ensures { IsReported error result }
+{
+    match error.kind() {
+        ErrorKind::OutOfMemory => UsageError::Memory,
+        ErrorKind::DisplayHelp => UsageError::Help(Message { error }),
+        ErrorKind::DisplayVersion => UsageError::Help(Message { error }),
+        _ => UsageError::Mistake(Message { error }),
     }
 }

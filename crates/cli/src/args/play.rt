@@ -1,9 +1,10 @@
 //! The command line of `play`.
 
-ghost use Rattle.std.specs.Prelude.{IfOk, codes};
+ghost use Rattle.std.specs.Prelude.{IfErr, IfOk, codes};
 ghost use Rattle.cli.specs.Given.{rows_in};
 ghost use Rattle.cli.specs.Grammar.{Describes};
 ghost use Rattle.cli.specs.Program.{only, play};
+ghost use Rattle.cli.specs.Refusals.{RefusesPlay};
 ghost use Rattle.cli.specs.Requests.{Asks};
 
 use crate::args::parser::{Grammar, Page, Values};
@@ -83,7 +84,8 @@ pub(crate) fn grammar<'a>(alloc: Global) -> Result<Grammar<'a>, AllocError>
 
 /// Reads the arguments of `play`.
 pub(crate) fn request<'a>(values: &Values<'_, 'a>) -> Result<Request<'a>, UsageError<'a>>
-    ensures { IfOk result (Asks (codes "play") (rows_in values.now)) }
+    ensures asked { IfOk result (Asks (codes "play") (rows_in values.now)) }
+    ensures refused { IfErr result (RefusesPlay (rows_in values.now)) }
 {
     let start = start_options(values)?;
     let code = values.some_text("code")?;

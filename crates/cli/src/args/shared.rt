@@ -1,11 +1,13 @@
 //! Arguments that several commands share.
 
-ghost use Rattle.std.specs.Prelude.{◌≡◌, IfOk, option_map};
+ghost use Rattle.std.specs.Prelude.{◌≡◌, IfErr, IfOk, codes, option_map};
 ghost use Rattle.cli.specs.Numbers.{mode_of_number};
 ghost use Rattle.cli.specs.Grammar.{dependent, flag, number, operand, plain_rule, rule_for};
 ghost use Rattle.cli.specs.Given.{rows_in};
 ghost use Rattle.cli.specs.Program.{explain, mode, reserve};
-ghost use Rattle.cli.specs.Requests.{HasLayout};
+ghost use Rattle.cli.specs.Refusals.{GivesNumber, IsSameFile, RefusesLayout};
+ghost use Rattle.cli.specs.Requests.{HasLayout, HasMode};
+ghost use Rattle.cli.specs.declared.args.UsageError.TheVariants.{Nothing};
 
 use crate::args::UsageError;
 use crate::args::parser::{Argument, Kind, Rule, Values};
@@ -87,7 +89,7 @@ pub(crate) fn explain() -> Argument
 }
 
 /// The mode of this number; `None` if it is not 1 to 4.
-pub(crate) fn mode_of(number: u32) -> Option<Mode>
+fn mode_of(number: u32) -> Option<Mode>
     ensures { result ≡ mode_of_number number }
 {
     match number {
@@ -96,6 +98,22 @@ pub(crate) fn mode_of(number: u32) -> Option<Mode>
         3 => Some(Mode::III),
         4 => Some(Mode::IV),
         _ => None,
+    }
+}
+
+/// The mode that is given, or the default.
+pub(crate) fn some_mode<'a>(values: &Values<'_, 'a>) -> Result<Mode, UsageError<'a>>
+    ensures mode { IfOk result (HasMode (rows_in values.now)) }
+    ensures none { IfErr result (λ error. (error ≡ Nothing)
+        × (GivesNumber (rows_in values.now) (codes "mode") 1 4 → ⊥)) }
+{
+    let number = match values.some_number("mode") {
+        Ok(number) => number,
+        Err(error) => return Err(error),
+    };
+    match mode_of(number) {
+        Some(mode) => Ok(mode),
+        None => Err(UsageError::Nothing),
     }
 }
 
@@ -111,14 +129,18 @@ pub(crate) fn reserve() -> Argument
 /// The layout of a frame: the transmission mode, and the reserve, if there is one. `Reserve` if it is not one of the
 /// mode.
 pub(crate) fn layout_of<'a>(values: &Values<'_, 'a>) -> Result<FrameLayout, UsageError<'a>>
-    ensures { IfOk result (HasLayout (rows_in values.now)) }
+    ensures layout { IfOk result (HasLayout (rows_in values.now)) }
+    ensures refused { IfErr result (RefusesLayout (rows_in values.now)) }
 {
-    let mode = mode_of(values.some_number("mode")?).ok_or(UsageError::Nothing)?;
+    let mode = some_mode(values)?;
     if values.number("reserve").is_none() {
         return Ok(FrameLayout::Whole(mode));
     }
     let reserve = values.some_u8("reserve")?;
-    FrameLayout::new(mode, reserve).ok_or(UsageError::Reserve(reserve))
+    match FrameLayout::new(mode, reserve) {
+        Some(layout) => Ok(layout),
+        None => Err(UsageError::Reserve(reserve)),
+    }
 }
 
 /// Checks that the path of an output is not that of an input, whose file would be written over; else `SameFile`. An
@@ -128,7 +150,9 @@ pub(crate) fn check_output<'a>(
     path: &'a str,
     input: &'static str,
     input_path: &str,
-) -> Result<(), UsageError<'a>> {
+) -> Result<(), UsageError<'a>>
+    ensures { IfErr result (IsSameFile input_path.now path.now) }
+{
     if path != "-" && path == input_path {
         return Err(UsageError::SameFile {
             input,

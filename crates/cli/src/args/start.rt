@@ -1,11 +1,12 @@
 //! The start options of `play`, `debug` and `live`: CIF count, time of day and contacts of the first frame.
 
-ghost use Rattle.std.specs.Prelude.{◌≡◌, ◌≢◌, ◌<◌, ℕ, None, IfOk, IfSome};
+ghost use Rattle.std.specs.Prelude.{◌≡◌, ◌≢◌, ◌<◌, ℕ, None, IfErr, IfOk, IfSome};
 ghost use Rattle.script_tokens.specs.Spelling.{time_text};
 ghost use Rattle.script_tokens.specs.Times.{frame_at};
 ghost use Rattle.cli.specs.Given.{rows_in};
 ghost use Rattle.cli.specs.Grammar.{rule_for};
 ghost use Rattle.cli.specs.Program.{contacts, count, day, time};
+ghost use Rattle.cli.specs.Refusals.{RefusesDay, RefusesStart};
 ghost use Rattle.cli.specs.Requests.{HasDay, HasStart};
 
 use crate::args::UsageError;
@@ -60,7 +61,8 @@ pub(crate) fn contacts() -> Argument
 
 /// Reads the start options.
 pub(crate) fn start_options<'a>(values: &Values<'_, 'a>) -> Result<StartOptions, UsageError<'a>>
-    ensures { IfOk result (HasStart (rows_in values.now)) }
+    ensures start { IfOk result (HasStart (rows_in values.now)) }
+    ensures refused { IfErr result (RefusesStart (rows_in values.now)) }
 {
     let digits = values.some_text("contacts")?;
     let Some(contacts) = u16_of(digits) else {
@@ -80,7 +82,8 @@ pub(crate) fn start_options<'a>(values: &Values<'_, 'a>) -> Result<StartOptions,
 
 /// The first frame's index in the day, from `--time` or else from `--day`.
 fn day_option<'a>(values: &Values<'_, 'a>) -> Result<u32, UsageError<'a>>
-    ensures { IfOk result (HasDay (rows_in values.now)) }
+    ensures day { IfOk result (HasDay (rows_in values.now)) }
+    ensures refused { IfErr result (RefusesDay (rows_in values.now)) }
 {
     match values.text("time") {
         Some(text) => match day_at(text) {
