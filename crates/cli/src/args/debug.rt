@@ -63,8 +63,8 @@ The line of a refusal:
   start: Count         --count is 5000 or more; 'start: Day': --day is 3600000 or more
   commands 1:5: Number line 1, column 5 of COMMANDS has no number in range; 'Expected': another
                        word is expected there; 'Byte': a character that no command file has
-  commands changed     COMMANDS is read twice, and was another text the second time; this comes behind
-                       the lines of the commands that were carried out, as does 'cannot read' there
+  commands changed     COMMANDS is read twice, and was another text the second time; this comes
+                       behind the lines of the commands that were carried out
 
 Example: a plan stopped at line 9, then stepped through the swap that contact 3 causes
   printf 'break 9 run 100 contact 3 closed run 2 next' > day.commands
