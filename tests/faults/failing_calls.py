@@ -35,6 +35,13 @@ ROWS = [
     ("debug x.code x.commands", ["cannot read x.code\n", "cannot read x.commands\n", "cannot read x.commands\n"]),
 ]
 
+# The same where the events or the commands have a fault: they are read twice, too.
+REFUSED_ROWS = [
+    ("play x.code x.mistake x.out",
+     ["cannot read x.code\n", "cannot read x.mistake\n", "cannot read x.mistake\n", "cannot write x.out\n"]),
+    ("debug x.code x.mistake", ["cannot read x.code\n", "cannot read x.mistake\n", "cannot read x.mistake\n"]),
+]
+
 # A plan driven for 30 frames of 96 bytes, with a notice and a swap.
 LIVE = "live x.code --status"
 LINES = b"frames 1\ncontact 3 closed\nframes 29\n"
@@ -60,6 +67,7 @@ class Failing:
         common.write(folder, "x.script", (common.SAMPLES / "contact_rate.plan").read_bytes())
         common.write(folder, "x.code", (common.SAMPLES / "contact_lowers_a_rate.code").read_bytes())
         common.write(folder, "x.events", "contact 3 closed frames 30")
+        common.write(folder, "x.mistake", "contact 3 shut")
         common.write(folder, "x.commands", "contact 3 closed run 30 show")
         common.run([self.program, "play", "x.code", "x.events", "x.fib"], folder)
         common.write(folder, "y.fib", REAL.read_bytes()[:30 * FRAME])
@@ -85,9 +93,9 @@ class Failing:
 
 def try_files(tally, failing):
     """Each call that opens, creates or reads a file fails, also with out of memory, or is interrupted."""
-    for line, refusals in ROWS:
+    for line, refusals, status in [(*row, 0) for row in ROWS] + [(*row, 1) for row in REFUSED_ROWS]:
         ended, calls = failing.run(line)
-        tally.same(f"{line}: status", 0, ended.status)
+        tally.same(f"{line}: status", status, ended.status)
         printed, calls = ended.printed, calls.replace("w", "")
         # standard input is open from the start
         files = [calls[:number].count("o") + calls[:number].count("c") for number in range(1, len(calls) + 1)]
@@ -104,7 +112,7 @@ def try_files(tally, failing):
                 tally.hold(not failing.is_made(), f"{what}: a file is made")
             ended, made = failing.run(line, at=number, **{"as": EINTR})
             what = f"{line}: call {number} is interrupted"
-            tally.same(what, (0, printed, b""), (*ended.lines(), ended.messages))
+            tally.same(what, (status, printed, b""), (*ended.lines(), ended.messages))
             tally.same(f"{what}: calls", calls[:number] + calls[number - 1:], made.replace("w", ""))
 
 

@@ -18,6 +18,19 @@ PLAN = HEAD + "sub 1 at 0 eep 3-A 128 service C221 audio 63 sub 1 in C221 begin\
 END = b"\x00\x01\x07"
 
 
+# Commands over 75 MB that end so, and the line that they print, where LINE is the number of the last line.
+LONG_FAULTS = [
+    ("play", ["long.fib"], b"frames 0", "events LINE:8: Number"),
+    ("play", ["long.fib"], b"frames", "events LINE:7: Expected"),
+    ("play", ["long.fib"], b"frames 0 frames 1 @", "events LINE:19: Byte"),
+    ("play", ["long.fib"], b"frames 1 # \x80", "cannot read long.text"),
+    ("debug", [], b"run 0", "commands LINE:5: Number"),
+    ("debug", [], b"show show show9", "commands LINE:11: Expected"),
+    ("debug", [], b"run 0 run 1 @", "commands LINE:13: Byte"),
+    ("debug", [], b"next # \x80", "cannot read long.text"),
+]
+
+
 def word(number):
     """Two bytes, the high one first."""
     return number.to_bytes(2, "big")
@@ -259,7 +272,7 @@ def try_zeros(tally, program, folder):
 
 def try_long_texts(tally, program, folder):
     """75 MB of steps and of commands in a file in 64 MB of memory: none is kept. 20 MB through a pipe in 128 MB: their text is
-    kept, and no list of them. A fault at the end comes first."""
+    kept, and no list of them."""
     common.write(folder, "small.code", (common.SAMPLES / "contact_lowers_a_rate.code").read_bytes())
     for name, steps in (("lines", b"contact 3 open\n"), ("one line", b"contact 3 open "), ("a token a line", b"contact\n3\nopen\n"),
                         ("comments", b"contact 3 # frames 1\n  open # frames 2\n")):
@@ -272,10 +285,6 @@ def try_long_texts(tally, program, folder):
     line = f"cat long.events | '{program}' play small.code /dev/stdin /dev/null"
     ended = common.run(["bash", "-c", line], folder, memory=131_072)
     tally.same("20 MB of events through a pipe", (0, f"played {count} frames\n".encode()), ended.lines())
-    common.write(folder, "long.events", step * count + b"frames 0")
-    ended = common.run([program, "play", "small.code", "long.events", "long.fib"], folder, memory=131_072)
-    tally.same("20 MB of events and a fault", (1, f"events {count + 1}:8: Number\n".encode()), ended.lines())
-    tally.same("its frames", 0, os.path.getsize(f"{folder}/long.fib"))
     command = b"contact 3 open\n"
     count = 20_000_000 // len(command)
     common.write(folder, "long.commands", command * count)
@@ -287,6 +296,19 @@ def try_long_texts(tally, program, folder):
     common.write(folder, "long.commands", command * count)
     line = f"set -o pipefail; '{program}' debug small.code long.commands | wc -l"
     tally.same("75 MB of commands", (0, f"{count}\n".encode()), common.run(["bash", "-c", line], folder, memory=65_536).lines())
+
+
+def try_long_faults(tally, program, folder):
+    """75 MB of steps and of commands with a fault at the end, in 64 MB of memory: it comes before the first frame and line."""
+    common.write(folder, "small.code", (common.SAMPLES / "contact_lowers_a_rate.code").read_bytes())
+    step = b"contact 3 open\n"
+    count = 75_000_000 // len(step)
+    for command, out, end, wanted in LONG_FAULTS:
+        common.write(folder, "long.text", step * count + end)
+        ended = common.run([program, command, "small.code", "long.text", *out], folder, memory=65_536)
+        line = wanted.replace("LINE", str(count + 1))
+        tally.same(f"{command}, 75 MB and {end}", (1, f"{line}\n".encode()), ended.lines())
+    tally.same("its frames", 0, os.path.getsize(f"{folder}/long.fib"))
 
 
 def try_stacks(tally, program, folder):
@@ -310,7 +332,7 @@ def main():
     tally = common.Tally()
     program = common.dabplan()
     with tempfile.TemporaryDirectory() as folder:
-        for part in (try_scripts, try_codes, try_frames, try_texts, try_zeros, try_long_texts, try_stacks):
+        for part in (try_scripts, try_codes, try_frames, try_texts, try_zeros, try_long_texts, try_long_faults, try_stacks):
             part(tally, program, folder)
     tally.end()
 

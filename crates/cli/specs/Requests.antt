@@ -7,7 +7,7 @@ use Rattle.fib_codec.specs.declared.frame_layout.FrameLayout.{FrameLayout}
 use Rattle.fib_codec.specs.declared.modes.Mode.{Mode}
 use Rattle.script_tokens.specs.Spelling.{time_text}
 use Rattle.script_tokens.specs.Times.{frame_at}
-use Rattle.cli_plans.specs.declared.start.StartOptions.{StartOptions}
+use Rattle.plan_session.specs.declared.start.StartOptions.{StartOptions}
 use Rattle.cli_plans.specs.declared.play.PlayRequest.{PlayRequest}
 use Rattle.cli_plans.specs.declared.debug.DebugRequest.{DebugRequest}
 use Rattle.cli_plans.specs.declared.live.LiveRequest.{LiveRequest}

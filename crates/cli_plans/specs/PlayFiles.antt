@@ -7,14 +7,9 @@ use Rattle.plan_player.specs.Playing.{Playing}
 use Rattle.plan_player.specs.Delivery.{frames_of, played_bytes}
 use Rattle.plan_session.specs.declared.step.Step.{Step}
 use Rattle.plan_session.specs.Events.{events_of}
-use Rattle.plan_session.specs.Playback.{Request, asked, IsPlayback}
-use Rattle.cli_plans.specs.declared.start.StartOptions.{StartOptions}
+use Rattle.plan_session.specs.Playback.{Request, IsPlayback}
 use Rattle.cli_plans.specs.declared.late_file.Creation.{Creation}
 use Rattle.cli_plans.specs.declared.late_file.Creation.TheVariants.{Due, Done, Failed}
-
--- the playback of a code over a text of events, from this start
-abbrev pub asked_from : List ℕ → List ℕ → StartOptions → Request
-asked_from code text start = asked code text start.count start.day start.contacts
 
 -- the line of a playback to its end
 abbrev pub played_line : ℕ → List ℕ

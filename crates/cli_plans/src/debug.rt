@@ -8,20 +8,23 @@ ghost use Rattle.plan_debug.specs.declared.report.Report.{Report};
 ghost use Rattle.plan_debug.specs.Commands.{Answers};
 ghost use Rattle.plan_session.specs.declared.command.Command.{Command};
 ghost use Rattle.plan_session.specs.Listing.{ListsCommands};
-ghost use Rattle.plan_session.specs.Playback.{asked};
+ghost use Rattle.plan_session.specs.Playback.{asked_from};
+ghost use Rattle.cli_plans.specs.RefusedTexts.{IsFaultOfCommands};
 ghost use Rattle.cli_plans.specs.Transcript.{place_text, swap_text, break_line, report_lines, announcement_line, shown_lines, Transcript, IsSession, Prints, IsDebugFault, IsUnprinted};
 
-use crate::event_file::{are_commands_in_parts, open_events, read_event_text, unreadable};
+use crate::event_file::{examine_command_file, open_events, read_event_text, unreadable};
 use crate::file_debugging::{FileDebugFault, debug_again};
-use crate::start::StartOptions;
 use console::code_file::read_code;
 use console::exit::{Failure, Status};
 use console::files::Files;
 use mux_tables::Tables;
 use plan_code::CodeFault;
 use plan_debug::{Announcement, Command, Debugger, Report};
-use plan_player::{Player, Start};
-use plan_session::{CommandList, EventFault, RunFault, laws, typed_code};
+use plan_player::Player;
+use plan_session::{
+    CommandList, EventFault, FirstReading, RunFault, StartOptions, laws, refuse, start_with,
+    typed_code,
+};
 use std::alloc::Global;
 use std::io::{self, Write};
 use thiserror::Error;
@@ -57,7 +60,8 @@ pub enum DebugFault {
 /// Runs `debug`: executes the commands and prints the lines of each; or prints why the code can't be
 /// debugged.
 ///
-/// Commands that can be read again are read twice, and none of them is kept; others are kept.
+/// Commands that can be read again are read twice, and none of them is kept, whether they are executed or refused; others
+/// are kept, and so are those with a comment, or another piece without an end, of 65,536 bytes.
 pub fn show_debug<'a, F: Files, W: Write>(
     alloc: Global,
     request: &DebugRequest<'a>,
@@ -65,15 +69,33 @@ pub fn show_debug<'a, F: Files, W: Write>(
     out: &mut W,
 ) -> Result<Status, Failure<'a>> {
     let code = read_code(alloc, files, request.code)?;
-    if are_commands_in_parts(files, request.commands)? {
-        let commands = open_events(files, request.commands)?;
-        let ended = debug_again(alloc, code.as_slice(), commands, request.start, out);
-        return end_debug(ended, request.commands, out);
+    let ended = match examine_command_file(files, request.commands)? {
+        FirstReading::InParts => {
+            let commands = open_events(files, request.commands)?;
+            debug_again(alloc, code.as_slice(), commands, request.start, out)
+        }
+        FirstReading::Refused(fault) => {
+            let fault = refusal_of(alloc, code.as_slice(), fault, request.start);
+            Err(FileDebugFault::Debug(fault))
+        }
+        FirstReading::Unparted => {
+            let commands = read_event_text(alloc, files, request.commands)?;
+            let text = commands.as_str();
+            of_text(debug(alloc, code.as_slice(), text, request.start, out))
+        }
+    };
+    end_debug(ended, request.commands, out)
+}
+
+/// Why commands that have this fault are not executed on a code, from a start: the fault that [`debug`] returns for them.
+fn refusal_of(alloc: Global, code: &[u8], fault: EventFault, start: StartOptions) -> DebugFault
+    ensures { (text : List ℕ) → IsFaultOfCommands text fault
+        → IsDebugFault (asked_from code.now text start) result }
+{
+    match refuse(alloc, code, fault, start) {
+        RunFault::Events(fault) => DebugFault::Commands(fault),
+        fault => DebugFault::Playback(fault),
     }
-    let commands = read_event_text(alloc, files, request.commands)?;
-    let text = commands.as_str();
-    let ended = debug(alloc, code.as_slice(), text, request.start, out);
-    end_debug(of_text(ended), request.commands, out)
 }
 
 /// How a session over a text ended, which is not read again.
@@ -127,12 +149,12 @@ pub fn debug<W: Write>(
     out: &mut W,
 ) -> Result<(), DebugFault>
     ensures printed { (p : Playing) (commands : List Command)
-        → IsSession (asked code.now text.now start.count start.day start.contacts) p commands
+        → IsSession (asked_from code.now text.now start) p commands
         → Prints p commands (W.contents out.old) (W.contents out.new) result }
     ensures only { OnOk result ((p : Playing) × (commands : List Command)
-        × IsSession (asked code.now text.now start.count start.day start.contacts) p commands) }
+        × IsSession (asked_from code.now text.now start) p commands) }
     ensures first_fault { IfErr result (λ e.
-        IsDebugFault (asked code.now text.now start.count start.day start.contacts) e) }
+        IsDebugFault (asked_from code.now text.now start) e) }
     ensures silent { IfErr result (λ e. IsUnprinted (W.contents out.old) (W.contents out.new) e) }
 {
     laws::one_list_of_commands();
@@ -140,12 +162,7 @@ pub fn debug<W: Write>(
         Ok(verified) => verified,
         Err(fault) => return Err(DebugFault::Playback(fault)),
     };
-    let begin = Start {
-        eid: verified.code().plan().eid,
-        count: start.count,
-        day: start.day,
-        contacts: start.contacts,
-    };
+    let begin = start_with(&verified, start);
     let player: Player<Tables> = match Player::new(&verified, begin) {
         Ok(player) => player,
         Err(fault) => return Err(DebugFault::Playback(RunFault::Start(fault))),

@@ -1,16 +1,22 @@
 //! Reads event and command files.
 
-ghost use Rattle.std.specs.Prelude.{◌≡◌, ℕ, List, IfOk, IfErr, IfSome, Ok, Some, true, string_bytes};
+ghost use Rattle.std.specs.Prelude.{◌≡◌, ℕ, List, IfOk, IfErr, IfSome, Ok, Some, string_bytes};
 ghost use Rattle.std.specs.Io.KnownBytes.{Keeps};
 ghost use Rattle.console.specs.Failures.{IsReadFailure};
-ghost use Rattle.plan_session.specs.CommandParts.{ListsCommandsInParts};
 ghost use Rattle.console.specs.World.{Stays};
+ghost use Rattle.plan_session.specs.declared.event_fault.EventFault.{EventFault as TextsFault};
+ghost use Rattle.plan_session.specs.declared.first_reading.FirstReading.TheVariants.{InParts, Refused};
+ghost use Rattle.plan_session.specs.CommandParts.{ListsCommandsInParts};
 ghost use Rattle.plan_session.specs.FilePlayback.{ListsInParts};
 ghost use Rattle.plan_session.specs.Kept.{IsKeptOf};
+ghost use Rattle.plan_session.specs.PartReading.{Fits};
+ghost use Rattle.cli_plans.specs.RefusedTexts.{IsFaultFound, IsFaultOfSteps, IsFaultOfCommands};
 
 use console::exit::Failure;
 use console::files::Files;
-use plan_session::{TextFault, lists_commands_in_parts, lists_in_parts, read_text};
+use plan_session::{
+    EventFault, FirstReading, TextFault, examine_commands, examine_events, read_text, refused_byte,
+};
 use std::alloc::Global;
 
 /// Opens an event or command file, or returns why it can't be opened.
@@ -38,49 +44,88 @@ pub(crate) fn unreadable<'a>(fault: TextFault, path: &'a str) -> Failure<'a>
     }
 }
 
-/// Whether an event file can be read again, and be played part by part then; or why it can't be read. It is read to its
-/// end, and nothing is kept.
+/// What a first reading found of a file that can be read again, corrected by its bytes: unless the file is in parts they
+/// are read once more, and the first one that is not allowed is the fault of the text, before any other.
 #[tactic(auto, using(crate::proofs::EventFiles::still_known))]
-pub(crate) fn is_in_parts<'a, F: Files>(files: &mut F, path: &'a str) -> Result<bool, Failure<'a>>
-    ensures parts { result ≡ Ok true → (text : List ℕ) → F.known files.old path.now ≡ Some text
+fn with_first_byte<'a, F: Files>(
+    files: &mut F,
+    path: &'a str,
+    found: FirstReading,
+) -> Result<FirstReading, Failure<'a>>
+    ensures parts { result ≡ Ok InParts → found ≡ InParts }
+    ensures refused { (fault : TextsFault) → result ≡ Ok (Refused fault) → (text : List ℕ)
+        → F.known files.old path.now ≡ Some text → IsFaultFound found text fault }
+    ensures world { Stays (F.world files.old) (F.world files.new) }
+    ensures files { (other : List ℕ)
+        → Keeps (F.known files.old other) (F.known files.new other) }
+    ensures fault { IfErr result (λ failure. IsReadFailure path.now failure) }
+{
+    if found == FirstReading::InParts {
+        return Ok(FirstReading::InParts);
+    }
+    let file = match open_events(files, path) {
+        Ok(file) => file,
+        Err(failure) => return Err(failure),
+    };
+    match refused_byte(file) {
+        Ok(Some(position)) => Ok(FirstReading::Refused(EventFault::Byte(position))),
+        Ok(None) => Ok(found),
+        Err(fault) => Err(unreadable(fault, path)),
+    }
+}
+
+/// What a first reading finds of an event file: whether it can be played part by part, or the fault of its text. Nothing
+/// is kept. `Unparted` is found of what can be read once only, too: then nothing was read. A failure says why the file
+/// can't be read.
+#[tactic(auto, using(crate::proofs::EventFiles::still_known))]
+pub(crate) fn examine_event_file<'a, F: Files>(
+    files: &mut F,
+    path: &'a str,
+) -> Result<FirstReading, Failure<'a>>
+    ensures parts { result ≡ Ok InParts → (text : List ℕ) → F.known files.old path.now ≡ Some text
         → ListsInParts text }
+    ensures refused { (fault : TextsFault) → result ≡ Ok (Refused fault) → (text : List ℕ)
+        → F.known files.old path.now ≡ Some text → Fits text → IsFaultOfSteps text fault }
     ensures files { (other : List ℕ)
         → Keeps (F.known files.old other) (F.known files.new other) }
     ensures world { Stays (F.world files.old) (F.world files.new) }
     ensures fault { IfErr result (λ failure. IsReadFailure path.now failure) }
 {
     if !files.can_reread(path) {
-        return Ok(false);
+        return Ok(FirstReading::Unparted);
     }
     let file = match open_events(files, path) {
         Ok(file) => file,
         Err(failure) => return Err(failure),
     };
-    match lists_in_parts(file) {
-        Ok(is_in_parts) => Ok(is_in_parts),
+    match examine_events(file) {
+        Ok(found) => with_first_byte(files, path, found),
         Err(fault) => Err(unreadable(fault, path)),
     }
 }
 
 /// The same of a command file.
 #[tactic(auto, using(crate::proofs::EventFiles::still_known))]
-pub(crate) fn are_commands_in_parts<'a, F: Files>(
+pub(crate) fn examine_command_file<'a, F: Files>(
     files: &mut F,
     path: &'a str,
-) -> Result<bool, Failure<'a>>
-    ensures parts { result ≡ Ok true → (text : List ℕ) → F.known files.old path.now ≡ Some text
+) -> Result<FirstReading, Failure<'a>>
+    ensures parts { result ≡ Ok InParts → (text : List ℕ) → F.known files.old path.now ≡ Some text
         → ListsCommandsInParts text }
+    ensures refused { (fault : TextsFault) → result ≡ Ok (Refused fault) → (text : List ℕ)
+        → F.known files.old path.now ≡ Some text → Fits text → IsFaultOfCommands text fault }
+    ensures world { Stays (F.world files.old) (F.world files.new) }
     ensures fault { IfErr result (λ failure. IsReadFailure path.now failure) }
 {
     if !files.can_reread(path) {
-        return Ok(false);
+        return Ok(FirstReading::Unparted);
     }
     let file = match open_events(files, path) {
         Ok(file) => file,
         Err(failure) => return Err(failure),
     };
-    match lists_commands_in_parts(file) {
-        Ok(is_in_parts) => Ok(is_in_parts),
+    match examine_commands(file) {
+        Ok(found) => with_first_byte(files, path, found),
         Err(fault) => Err(unreadable(fault, path)),
     }
 }

@@ -5,17 +5,16 @@ ghost use Rattle.plan_player.specs.Playing.{Playing};
 ghost use Rattle.plan_session.specs.declared.command.Command.{Command};
 ghost use Rattle.plan_session.specs.CommandParts.{ListsCommandsInParts};
 ghost use Rattle.plan_session.specs.PartReading.{Fits};
-ghost use Rattle.plan_session.specs.Playback.{asked};
+ghost use Rattle.plan_session.specs.Playback.{asked_from};
 ghost use Rattle.cli_plans.specs.Transcript.{IsSession};
 ghost use Rattle.cli_plans.specs.FileTranscript.{PrintsAgain, IsDebugged, IsFileDebugFault, IsFileUnprinted};
 
 use crate::debug::DebugFault;
 use crate::part_debugging::{End, drive_parts};
-use crate::start::StartOptions;
 use mux_tables::Tables;
 use plan_debug::Debugger;
-use plan_player::{Player, Start};
-use plan_session::{RunFault, TextFault, laws, typed_code};
+use plan_player::Player;
+use plan_session::{RunFault, StartOptions, TextFault, laws, start_with, typed_code};
 use std::alloc::Global;
 use std::io::{Read, Write};
 
@@ -32,7 +31,7 @@ pub enum FileDebugFault {
 }
 
 /// Like [`debug`](crate::debug::debug), over the text of a reader, of which one part is in memory at a time: for a text
-/// of which [`lists_commands_in_parts`](plan_session::lists_commands_in_parts) is true the lines of the same commands are
+/// that [`examine_commands`](plan_session::examine_commands) finds to be in parts the lines of the same commands are
 /// printed.
 ///
 /// # Errors
@@ -50,13 +49,13 @@ pub fn debug_again<R: Read + Drop, W: Write>(
     // The commands of a text in parts of at most 2^64 - 1 bytes are executed.
     ensures printed { (text : List ℕ) (p : Playing) (all : List Command)
         → R.remaining commands ≡ Some text → Fits text → ListsCommandsInParts text
-        → IsSession (asked code.now text start.count start.day start.contacts) p all
+        → IsSession (asked_from code.now text start) p all
         → PrintsAgain p all (W.contents out.old) (W.contents out.new) result }
     // Nothing else is executed to its end.
     ensures only { OnOk result (IsDebugged (R.remaining commands)
-        (asked code.now [] start.count start.day start.contacts)) }
+        (asked_from code.now [] start)) }
     ensures first_fault { IfErr result (λ e. IsFileDebugFault (R.remaining commands)
-        (asked code.now [] start.count start.day start.contacts)
+        (asked_from code.now [] start)
         (W.contents out.old) (W.contents out.new) e) }
     ensures silent { IfErr result (λ e.
         IsFileUnprinted (W.contents out.old) (W.contents out.new) e) }
@@ -66,12 +65,7 @@ pub fn debug_again<R: Read + Drop, W: Write>(
         Ok(verified) => verified,
         Err(fault) => return Err(FileDebugFault::Debug(DebugFault::Playback(fault))),
     };
-    let begin = Start {
-        eid: verified.code().plan().eid,
-        count: start.count,
-        day: start.day,
-        contacts: start.contacts,
-    };
+    let begin = start_with(&verified, start);
     let player: Player<Tables> = match Player::new(&verified, begin) {
         Ok(player) => player,
         Err(fault) => {

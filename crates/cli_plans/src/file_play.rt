@@ -5,7 +5,8 @@ ghost use Rattle.console.specs.World.{Becomes, IsSameBut};
 ghost use Rattle.plan_session.specs.FilePlayback.{ListsInParts};
 ghost use Rattle.plan_session.specs.Kept.{IsKeptOf};
 ghost use Rattle.plan_session.specs.PartReading.{Fits};
-ghost use Rattle.cli_plans.specs.PlayFiles.{asked_from, EndsInFile};
+ghost use Rattle.plan_session.specs.Playback.{asked_from};
+ghost use Rattle.cli_plans.specs.PlayFiles.{EndsInFile};
 
 use crate::late_file::{Creation, LateFile, LateStart, Lent};
 use crate::play::PlayRequest;
@@ -49,16 +50,7 @@ fn end_again<'f, S: LateStart, F: Files>(
         S.before (F.world result.files.now) frames play.new.creation) }
 {
     let late: LateFile<'f, '_, S, F> = LateFile::new(lent, request.out);
-    let start = request.start;
-    let (ended, sink) = run_again(
-        alloc,
-        code,
-        events,
-        start.count,
-        start.day,
-        start.contacts,
-        late,
-    );
+    let (ended, sink) = run_again(alloc, code, events, request.start, late);
     let (lent, creation) = sink.close();
     *play = FilePlay { ended, creation };
     lent
@@ -85,16 +77,7 @@ fn end_kept<'f, S: LateStart, F: Files>(
 {
     laws::kept_texts();
     let late: LateFile<'f, '_, S, F> = LateFile::new(lent, request.out);
-    let start = request.start;
-    let (ended, sink) = run_into(
-        alloc,
-        code,
-        events.as_str(),
-        start.count,
-        start.day,
-        start.contacts,
-        late,
-    );
+    let (ended, sink) = run_into(alloc, code, events.as_str(), request.start, late);
     let (lent, creation) = sink.close();
     let ended = of_text(ended);
     *play = FilePlay { ended, creation };

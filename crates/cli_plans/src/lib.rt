@@ -9,4 +9,3 @@ mod late_file;
 pub mod live;
 mod part_debugging;
 pub mod play;
-pub mod start;

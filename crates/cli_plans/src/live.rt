@@ -10,7 +10,6 @@ ghost use Rattle.plan_live.specs.Living.{streamed, IsPrompt};
 ghost use Rattle.cli_plans.specs.declared.live.LiveEnding.TheVariants.{Live};
 ghost use Rattle.cli_plans.specs.LiveEnding.{BeginsWith, IsLiveEnding};
 
-use crate::start::StartOptions;
 use console::code_file::read_code;
 use console::exit::{Failure, JsonFailure};
 use console::files::Files;
@@ -18,7 +17,7 @@ use plan_code::CodeFault;
 use plan_live::{
     Ends, JsonMessage, LiveFault, LiveOptions, Message, Messages, Streams, Wanted, live,
 };
-use plan_session::RunFault;
+use plan_session::{RunFault, StartOptions};
 use std::alloc::Global;
 use std::fmt::{self, Display, Formatter};
 use std::io::{BufReader, Write};
@@ -206,16 +205,7 @@ pub fn drive_code<E: Ends>(
         skip: request.skip,
         wanted: request.wanted,
     };
-    let start = request.start;
-    live(
-        alloc,
-        code,
-        start.count,
-        start.day,
-        start.contacts,
-        options,
-        ends,
-    )
+    live(alloc, code, request.start, options, ends)
 }
 
 /// Whether the fault is out of memory for the code.

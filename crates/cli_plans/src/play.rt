@@ -6,20 +6,23 @@ ghost use Rattle.console.specs.World.{Becomes, Stays, IsSameBut, HasWritten};
 ghost use Rattle.console.specs.declared.exit.Status.TheVariants.{Done as PlayedToEnd};
 ghost use Rattle.plan_session.specs.FilePlayback.{ListsInParts};
 ghost use Rattle.plan_session.specs.PartReading.{Fits};
-ghost use Rattle.cli_plans.specs.PlayFiles.{asked_from, played_line, IsWritable, IsPlayedInto};
+ghost use Rattle.plan_session.specs.Playback.{asked_from};
+ghost use Rattle.cli_plans.specs.PlayFiles.{played_line, IsWritable, IsPlayedInto};
 ghost use Rattle.cli_plans.specs.declared.late_file.Creation.TheVariants as end;
 
-use crate::event_file::{is_in_parts, open_events, read_event_text, unreadable};
+use crate::event_file::{examine_event_file, open_events, read_event_text, unreadable};
 use crate::file_play::{of_text, play_again, play_kept};
 use crate::late_file::Creation;
-use crate::start::StartOptions;
 use console::code_file::read_code;
 use console::escaped::Escaped;
 use console::exit::{Failure, Status, touch_file, write_file};
 use console::files::Files;
 use plan_code::CodeFault;
 use plan_player::Writer;
-use plan_session::{EventFault, FileRunFault, RunFault, TextFault, run_again, run_into};
+use plan_session::{
+    EventFault, FileRunFault, FirstReading, RunFault, StartOptions, TextFault, refuse, run_again,
+    run_into,
+};
 use std::alloc::Global;
 use std::io::{Read, Write};
 
@@ -39,7 +42,8 @@ pub struct PlayRequest<'a> {
 /// Runs `play`: plays the code over the events, writes the FIBs of each frame to the file, and prints
 /// the number of frames written, or why playback failed.
 ///
-/// Events that can be read again are read twice, and none of them is kept; others are kept.
+/// Events that can be read again are read twice, and none of them is kept, whether they are played or refused; others are
+/// kept, and so are those with a comment, or another piece without an end, of 65,536 bytes.
 ///
 /// The file is created when its first byte is written, after the code, the start and the events were found to be good.
 /// Where they are refused an empty file is created if there is none; a file that is there keeps its bytes, as it does
@@ -65,9 +69,12 @@ pub fn show_play<'a, F: Files, W: Write>(
         Ok(code) => code,
         Err(failure) => return Err(failure),
     };
-    match is_in_parts(files, request.events) {
-        Ok(true) => show_again(alloc, code.as_slice(), request, files, out),
-        Ok(false) => show_kept(alloc, code.as_slice(), request, files, out),
+    match examine_event_file(files, request.events) {
+        Ok(FirstReading::InParts) => show_again(alloc, code.as_slice(), request, files, out),
+        Ok(FirstReading::Refused(fault)) => {
+            show_refused(alloc, code.as_slice(), fault, request, files, out)
+        }
+        Ok(FirstReading::Unparted) => show_kept(alloc, code.as_slice(), request, files, out),
         Err(failure) => Err(failure),
     }
 }
@@ -94,6 +101,28 @@ fn show_again<'a, F: Files, W: Write>(
     };
     let play = play_again(alloc, code, events, request, files);
     end_play(play.ended, play.creation, request, files, out)
+}
+
+/// Prints why a code is not played over events that have this fault.
+fn show_refused<'a, F: Files, W: Write>(
+    alloc: Global,
+    code: &[u8],
+    fault: EventFault,
+    request: &PlayRequest<'a>,
+    files: &mut F,
+    out: &mut W,
+) -> Result<Status, Failure<'a>>
+    ensures refused { IfOk result (λ status. status ≢ PlayedToEnd) }
+    ensures others { Becomes (IsSameBut request.now.out.now)
+        (F.world files.old) (F.world files.new) }
+{
+    let refusal = refusal_of(alloc, code, fault, request.start);
+    end_play(Err(refusal), Creation::Due, request, files, out)
+}
+
+/// Why a code is not played from a start over events that have this fault.
+fn refusal_of(alloc: Global, code: &[u8], fault: EventFault, start: StartOptions) -> FileRunFault {
+    FileRunFault::Run(refuse(alloc, code, fault, start))
 }
 
 /// Plays a code over events that are kept, and prints how it ended.
@@ -162,14 +191,19 @@ pub fn stream_play<'a, F: Files, W: Write, L: Write>(
     lines: &mut L,
 ) -> Result<Status, Failure<'a>> {
     let code = read_code(alloc, files, request.code)?;
-    if is_in_parts(files, request.events)? {
-        let events = open_events(files, request.events)?;
-        let ended = stream_again(alloc, code.as_slice(), events, request.start, out);
-        return print_ending(ended, request.events, lines);
-    }
-    let events = read_event_text(alloc, files, request.events)?;
-    let text = events.as_str();
-    let ended = stream_text(alloc, code.as_slice(), text, request.start, out);
+    let ended = match examine_event_file(files, request.events)? {
+        FirstReading::InParts => {
+            let events = open_events(files, request.events)?;
+            stream_again(alloc, code.as_slice(), events, request.start, out)
+        }
+        FirstReading::Refused(fault) => {
+            Err(refusal_of(alloc, code.as_slice(), fault, request.start))
+        }
+        FirstReading::Unparted => {
+            let events = read_event_text(alloc, files, request.events)?;
+            stream_text(alloc, code.as_slice(), events.as_str(), request.start, out)
+        }
+    };
     print_ending(ended, request.events, lines)
 }
 
@@ -181,15 +215,7 @@ fn stream_again<R: Read + Drop, W: Write>(
     start: StartOptions,
     out: &mut W,
 ) -> Result<u128, FileRunFault> {
-    let (ended, _sink) = run_again(
-        alloc,
-        code,
-        events,
-        start.count,
-        start.day,
-        start.contacts,
-        Writer::new(out),
-    );
+    let (ended, _sink) = run_again(alloc, code, events, start, Writer::new(out));
     ended
 }
 
@@ -201,15 +227,7 @@ fn stream_text<W: Write>(
     start: StartOptions,
     out: &mut W,
 ) -> Result<u128, FileRunFault> {
-    let (ended, _sink) = run_into(
-        alloc,
-        code,
-        events,
-        start.count,
-        start.day,
-        start.contacts,
-        Writer::new(out),
-    );
+    let (ended, _sink) = run_into(alloc, code, events, start, Writer::new(out));
     of_text(ended)
 }
 

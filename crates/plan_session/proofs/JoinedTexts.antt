@@ -22,7 +22,7 @@ use Rattle.plan_session.specs.InParts.{outside_after, is_outside, separates}
 
 -- ---- positions
 
-at_after : (p : Place) (k : Kind) → (position_after p k).at ≡ p.at + 1
+pub at_after : (p : Place) (k : Kind) → (position_after p k).at ≡ p.at + 1
 at_after p LineEnd = refl
 at_after p Blank = refl
 at_after p Hash = refl
@@ -30,7 +30,7 @@ at_after p Brace = refl
 at_after p Letter = refl
 at_after p Bad = refl
 
-line_after : (p : Place) (k : Kind) → (position_after p k).position.line ≤ p.position.line + 1
+pub line_after : (p : Place) (k : Kind) → (position_after p k).position.line ≤ p.position.line + 1
 line_after p LineEnd = omega arith
 line_after p Blank = omega arith
 line_after p Hash = omega arith
@@ -54,7 +54,7 @@ line_past p (b ∷ bs) =
 
 -- ---- the tokens of pieces, as their bytes
 
-abbrev words_of : List Piece → List (List ℕ)
+abbrev pub words_of : List Piece → List (List ℕ)
 words_of [] = []
 words_of (blank b ∷ ps) = words_of ps
 words_of (comment bs ∷ ps) = words_of ps
@@ -97,7 +97,7 @@ words_are front p (atom bs ∷ ps) at =
 
 -- ---- no token of a text of at most 2^64 - 1 bytes is past a limit
 
-fits_here : (p : Place) (to : ℕ) → to ≤ p.at + 18446744073709551615 → p.position.line ≤ 18446744073709551615 → fits NO_LIMITS (token_at p to) ≡ true
+pub fits_here : (p : Place) (to : ℕ) → to ≤ p.at + 18446744073709551615 → p.position.line ≤ 18446744073709551615 → fits NO_LIMITS (token_at p to) ≡ true
 fits_here p to short near = rw (le-leb to (p.at + 18446744073709551615) short, le-leb p.position.line 18446744073709551615 near) refl
 
 -- where the line of the place is at most one more than its offset, so is that of the place after these bytes
@@ -191,11 +191,11 @@ pub outside_join : (out : Bool) (xs ys : List ℕ) → is_outside out (xs ++ ys)
 outside_join out [] ys = refl
 outside_join out (x ∷ xs) ys = outside_join (outside_after out (kind_of x)) xs ys
 
-letters_outside : (bs : List ℕ) → AreLetters bs → is_outside true bs ≡ true
+pub letters_outside : (bs : List ℕ) → AreLetters bs → is_outside true bs ≡ true
 letters_outside [] h = refl
 letters_outside (b ∷ bs) h = ap (λ (k : Kind). is_outside (outside_after true k) bs) h.0 ∙ letters_outside bs h.1
 
-inside_still : (k : Kind) → (k ≡ LineEnd → ⊥) → outside_after false k ≡ false
+pub inside_still : (k : Kind) → (k ≡ LineEnd → ⊥) → outside_after false k ≡ false
 inside_still LineEnd other = absurd (other refl)
 inside_still Blank other = refl
 inside_still Hash other = refl
@@ -207,11 +207,11 @@ comment_inside : (bs : List ℕ) → HaveNoLineEnd bs → is_outside false bs �
 comment_inside [] h = refl
 comment_inside (b ∷ bs) h = ap (λ (out : Bool). is_outside out bs) (inside_still (kind_of b) h.0) ∙ comment_inside bs h.1
 
-blank_outside : (k : Kind) → (k ≡ Blank) ⊎ (k ≡ LineEnd) → outside_after true k ≡ true
+pub blank_outside : (k : Kind) → (k ≡ Blank) ⊎ (k ≡ LineEnd) → outside_after true k ≡ true
 blank_outside k (inl e) = ap (λ (j : Kind). outside_after true j) e
 blank_outside k (inr e) = ap (λ (j : Kind). outside_after true j) e
 
-only_line_end : (k : Kind) → separates false k ≡ true → k ≡ LineEnd
+pub only_line_end : (k : Kind) → separates false k ≡ true → k ≡ LineEnd
 only_line_end LineEnd e = refl
 only_line_end Blank e = absurd cc
 only_line_end Hash e = absurd cc
@@ -219,7 +219,7 @@ only_line_end Brace e = absurd cc
 only_line_end Letter e = absurd cc
 only_line_end Bad e = absurd cc
 
-separator : (out : Bool) (k : Kind) → separates out k ≡ true → (k ≡ Blank) ⊎ (k ≡ LineEnd)
+pub separator : (out : Bool) (k : Kind) → separates out k ≡ true → (k ≡ Blank) ⊎ (k ≡ LineEnd)
 separator out LineEnd e = inr refl
 separator out Blank e = inl refl
 separator out Hash e = absurd cc
@@ -227,7 +227,7 @@ separator out Brace e = absurd cc
 separator out Letter e = absurd cc
 separator out Bad e = absurd cc
 
-through_comment : (bs ps : List ℕ) → HaveNoLineEnd bs → is_outside false (bs ++ ps) ≡ is_outside false ps
+pub through_comment : (bs ps : List ℕ) → HaveNoLineEnd bs → is_outside false (bs ++ ps) ≡ is_outside false ps
 through_comment bs ps h = outside_join false bs ps ∙ ap (λ (o : Bool). is_outside o ps) (comment_inside bs h)
 
 -- a byte that separates follows a comment only as a line end
@@ -255,13 +255,13 @@ ends_before (atom bs ∷ ps) g h e =
 -- ---- texts with such a byte between them
 
 -- a text and its tokens as their bytes
-record Cut (text : List ℕ) (words : List (List ℕ)) : Type 0 where
-  pieces : List Piece
-  formed : AreText pieces
-  whole : text_of pieces ≡ text
-  are : words_of pieces ≡ words
+pub record Cut (text : List ℕ) (words : List (List ℕ)) : Type 0 where
+  pub pieces : List Piece
+  pub formed : AreText pieces
+  pub whole : text_of pieces ≡ text
+  pub are : words_of pieces ≡ words
 
-cut_of_tokens : (text : List ℕ) (tokens : List Token) → lexed NO_LIMITS Nothing first_position text ≡ Ok tokens → Cut text (lexemes_of text tokens)
+pub cut_of_tokens : (text : List ℕ) (tokens : List Token) → lexed NO_LIMITS Nothing first_position text ≡ Ok tokens → Cut text (lexemes_of text tokens)
 cut_of_tokens text tokens e =
     let h : IsCutInto NO_LIMITS text tokens = cut_into NO_LIMITS text tokens e in
     record {
@@ -281,12 +281,12 @@ cut_joined g a b xs ys e h k = record {
 }
 
 -- the tokens of a text that is short enough
-record Tokens (text : List ℕ) (words : List (List ℕ)) : Type 0 where
-  tokens : List Token
-  cut : lexed NO_LIMITS Nothing first_position text ≡ Ok tokens
-  are : lexemes_of text tokens ≡ words
+pub record Tokens (text : List ℕ) (words : List (List ℕ)) : Type 0 where
+  pub tokens : List Token
+  pub cut : lexed NO_LIMITS Nothing first_position text ≡ Ok tokens
+  pub are : lexemes_of text tokens ≡ words
 
-tokens_of_cut : (text : List ℕ) (words : List (List ℕ)) → length text ≤ 18446744073709551615 → Cut text words → Tokens text words
+pub tokens_of_cut : (text : List ℕ) (words : List (List ℕ)) → length text ≤ 18446744073709551615 → Cut text words → Tokens text words
 tokens_of_cut text words short h =
     let ts : List Token = tokens_of first_position h.pieces in
     let long : length (text_of h.pieces) ≡ length text = ap (λ (l : List ℕ). length l) h.whole in

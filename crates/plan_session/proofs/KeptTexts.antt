@@ -25,7 +25,7 @@ use Rattle.plan_session.specs.Gathered.{is_comment, Reaches, AreRefused, past_ch
 abbrev Cuts : Type 0
 Cuts = Result (List Token) ScriptFault
 
-before_before : (ts us : List Token) (r : Cuts) → tokens_before NO_LIMITS ts (tokens_before NO_LIMITS us r) ≡ tokens_before NO_LIMITS (ts ++ us) r
+pub before_before : (ts us : List Token) (r : Cuts) → tokens_before NO_LIMITS ts (tokens_before NO_LIMITS us r) ≡ tokens_before NO_LIMITS (ts ++ us) r
 before_before [] us r = refl
 before_before (t ∷ ts) us r = ap (λ x. cond (fits NO_LIMITS t) (added t x) (Err (Limit t.position))) (before_before ts us r)
 
@@ -34,7 +34,7 @@ either_fault true t r e h = (e, rw (h) refl)
 either_fault false t r e h = (Limit t.position, refl)
 
 -- an error after these tokens: the first fault is that error, or one of the tokens
-first_fault : (ts : List Token) (e : ScriptFault) → (f : ScriptFault) × (tokens_before NO_LIMITS ts (Err e) ≡ Err f)
+pub first_fault : (ts : List Token) (e : ScriptFault) → (f : ScriptFault) × (tokens_before NO_LIMITS ts (Err e) ≡ Err f)
 first_fault [] e = (e, refl)
 first_fault (t ∷ ts) e =
     let later = first_fault ts e in

@@ -1,7 +1,12 @@
+mod ByteReadings
+mod ByteScanning
+mod ByteVectors
 mod CharacterSteps
 mod CommandLexemes
 mod Cutting
+mod FirstReadings
 mod Holding
+mod ItemHeads
 mod ItemTexts
 mod KeptTexts
 pub mod JoinedTexts
@@ -17,7 +22,9 @@ mod PartTexts
 mod PartVectors
 pub mod ReadParts
 mod Readings
+mod Refusals
 pub mod Requests
+mod SplitTexts
 mod StepLexemes
 mod Steps
 mod Windows

@@ -1,6 +1,7 @@
 -- A text in parts, each of which lists items by itself. A part is what fits into a window of 65,536 bytes, up to the
 -- last blank or line end in front of an item; the last part is what is left when the rest fits.
 use Rattle.std.specs.Prelude.{◌≡◌, ℕ, ◌+◌, ◌<◌, ◌≤◌, ◌==◌, ◌||◌, ◌&&◌, Bool, true, false, if◌then◌else◌, List, [], ◌∷◌, ◌++◌, take, drop, length, Option, None, Some, IsUtf8}
+use Rattle.std.specs.List.{AllByRecursion}
 use Rattle.script_tokens.specs.declared.token.Kind.{Kind}
 use Rattle.script_tokens.specs.declared.token.Kind.TheVariants.{Blank, LineEnd, Hash, Brace, Letter, Bad}
 use Rattle.script_tokens.specs.Bytes.{kind_of}
@@ -49,6 +50,14 @@ continues_item (b ∷ bs) = (b == 111) || ((b == 108) && ends_clear bs)
 abbrev pub begins_item : List ℕ → Bool
 begins_item [] = false
 begins_item (b ∷ bs) = (b == 102) || (b == 114) || (b == 110) || (b == 98) || (b == 115) || ((b == 99) && continues_item bs)
+
+-- no item begins with this token, whatever follows it
+abbrev pub NeverBegins : List ℕ → Type 0
+NeverBegins word = (more : List ℕ) → begins_item (word ++ more) ≡ false
+
+-- an item begins with its first token alone
+abbrev pub BeginOnce : {T : Type 0} → (T → List (List ℕ)) → (T → Type 0) → Type 0
+BeginOnce {T} spelled IsItem = (s : T) → IsItem s → (word : List ℕ) × (others : List (List ℕ)) × (spelled s ≡ word ∷ others) × AllByRecursion NeverBegins others
 
 -- the offset of the last byte that separates, with an item behind it; `found` before these bytes, which are at `at`
 unfoldable pub last_end : Option ℕ → Bool → ℕ → List ℕ → Option ℕ

@@ -1,4 +1,5 @@
 pub mod Buffering
+pub mod ByteScans
 pub mod CommandParts
 pub mod Commands
 pub mod Events
@@ -12,4 +13,5 @@ pub mod PartPlaying
 pub mod PartReading
 pub mod Parts
 pub mod Playback
+pub mod Refusing
 pub mod Keywords

@@ -13,6 +13,7 @@ use Rattle.plan_runs.specs.declared.event.Start.{Start as Starting}
 use Rattle.plan_player.specs.Playing.{Playing, IsAtStart, start_fault}
 use Rattle.plan_player.specs.Delivery.{frames_of, played_bytes, Stopped}
 use Rattle.plan_session.specs.declared.event_fault.EventFault.TheVariants.{Memory as NoMemoryForEvents}
+use Rattle.plan_session.specs.declared.start.StartOptions.{StartOptions}
 use Rattle.plan_session.specs.declared.step.Step.{Step}
 use Rattle.plan_session.specs.Events.{Holds}
 use Rattle.plan_session.specs.declared.run_fault.RunFault.{RunFault}
@@ -30,6 +31,9 @@ pub record Request : Type 0 where
 
 abbrev pub asked : (file text : List ℕ) (count day : ℕ) (contacts : Contacts) → Request
 asked file text count day contacts = record { file = file; text = text; count = count; day = day; contacts = contacts }
+
+abbrev pub asked_from : (file text : List ℕ) → StartOptions → Request
+asked_from file text start = asked file text start.count start.day start.contacts
 
 -- the ensemble is that of the code's plan
 abbrev pub start_of : Program → Request → Starting

@@ -5,13 +5,13 @@ ghost use Rattle.plan_player.specs.Playing.{Playing};
 ghost use Rattle.plan_player.specs.Delivery.{frames_of};
 ghost use Rattle.plan_session.specs.declared.step.Step.{Step};
 ghost use Rattle.plan_session.specs.Events.{events_of};
-ghost use Rattle.plan_session.specs.Playback.{asked, IsPlayback, IsStarted, Delivers, IsRunFault, IsPlayFault, is_write, IsSilent};
+ghost use Rattle.plan_session.specs.Playback.{asked_from, IsPlayback, IsStarted, Delivers, IsRunFault, IsPlayFault, is_write, IsSilent};
 
 use crate::buffer::{Buffer, delivered};
 use crate::code_file::typed_code;
-use crate::playback::{play, start_with};
+use crate::playback::play;
 use crate::run_fault::RunFault;
-use plan_code::Contacts;
+use crate::start::{StartOptions, start_with};
 use plan_player::{Sink, Start};
 use plan_verifier::Verified;
 use std::alloc::Global;
@@ -77,25 +77,23 @@ pub fn run_into<K: Sink>(
     alloc: Global,
     code: &[u8],
     events: &str,
-    count: u16,
-    day: u32,
-    contacts: Contacts,
+    start: StartOptions,
     out: K,
 ) -> (Result<u128, RunFault>, K)
     requires working { K.has_failed out ≡ false }
     // A sink that reports its bytes and has none yet receives the bytes that `run` puts into a sink.
     ensures played { (p : Playing) (steps : List Step)
-        → IsPlayback (asked code.now events.now count day contacts) p steps
+        → IsPlayback (asked_from code.now events.now start) p steps
         → K.taken out ≡ Some []
         → Delivers p (events_of steps) (K.taken out) (K.taken result.1) result.0 }
     // The number of frames is right for every sink.
     ensures counted { IfOk result.0 (λ n. (p : Playing) (steps : List Step)
-        → IsPlayback (asked code.now events.now count day contacts) p steps
+        → IsPlayback (asked_from code.now events.now start) p steps
         → n ≡ length (frames_of p (events_of steps))) }
     ensures only { OnOk result.0 ((p : Playing) × (steps : List Step)
-        × IsPlayback (asked code.now events.now count day contacts) p steps) }
+        × IsPlayback (asked_from code.now events.now start) p steps) }
     ensures first_fault { IfErr result.0 (λ e.
-        IsRunFault (asked code.now events.now count day contacts) e) }
+        IsRunFault (asked_from code.now events.now start) e) }
     // The sink has failed exactly if the fault is `Write`.
     ensures failed { K.has_failed result.1 ≡ is_write result.0 }
     ensures silent { IfErr result.0 (λ e. K.taken out ≡ Some []
@@ -105,6 +103,6 @@ pub fn run_into<K: Sink>(
         Ok(verified) => verified,
         Err(fault) => return (Err(fault), out),
     };
-    let start = start_with(&verified, count, day, contacts);
-    play_into(&verified, start, events, out)
+    let begin = start_with(&verified, start);
+    play_into(&verified, begin, events, out)
 }

@@ -1,31 +1,38 @@
 //! The commands of a command file that is read twice, part by part, so that none of it is kept.
 
-ghost use Rattle.std.specs.Prelude.{◌≡◌, ℕ, List, Some, Ok, true, false, IfSome, IfNone};
+ghost use Rattle.std.specs.Prelude.{◌≡◌, ◌≢◌, ℕ, List, Some, Ok, IfOk, IfSome, IfNone};
 ghost use Rattle.plan_session.specs.declared.command.Command.{Command as FileCommand};
+ghost use Rattle.plan_session.specs.declared.event_fault.EventFault.{EventFault as TextsFault};
+ghost use Rattle.plan_session.specs.declared.first_reading.FirstReading.TheVariants.{InParts as IsInParts, Refused};
+ghost use Rattle.plan_session.specs.Commands.{HoldsCommands};
 ghost use Rattle.plan_session.specs.CommandParts.{HoldsPartOfCommands, ListsCommandsInParts};
 ghost use Rattle.plan_session.specs.Listing.{ListsCommands};
+ghost use Rattle.plan_session.specs.PartReading.{Fits};
 
 use crate::command::Command;
 use crate::command_list::CommandList;
-use crate::first_reading::is_in_parts;
+use crate::first_reading::{FirstReading, first_reading};
 use crate::text_fault::TextFault;
 use std::io::Read;
 use std::str;
 
-/// Whether a command file can be read part by part: whether each part of the text of a reader, which has less than
-/// 65,536 bytes and ends before a command, lists commands by itself. None of it is kept. A text that has a fault is not
-/// in parts, and neither is one with a comment of 65,536 bytes.
+/// What the first reading of a command file finds: whether each part of the text of a reader, which has less than 65,536
+/// bytes and ends before a command, lists commands by itself; or the fault of the first part that does not. None of the
+/// text is kept.
 ///
 /// # Errors
 ///
 /// Why the text can't be read.
-pub fn lists_commands_in_parts<R: Read + Drop>(commands: R) -> Result<bool, TextFault>
-    ensures yes { result ≡ Ok true → (text : List ℕ) → R.remaining commands ≡ Some text
+pub fn examine_commands<R: Read + Drop>(commands: R) -> Result<FirstReading, TextFault>
+    ensures yes { result ≡ Ok IsInParts → (text : List ℕ) → R.remaining commands ≡ Some text
         → ListsCommandsInParts text }
-    ensures no { result ≡ Ok false → (text : List ℕ) → R.remaining commands ≡ Some text
-        → ListsCommandsInParts text → ⊥ }
+    ensures no { IfOk result (λ found. found ≢ IsInParts → (text : List ℕ)
+        → R.remaining commands ≡ Some text → ListsCommandsInParts text → ⊥) }
+    ensures refused { (fault : TextsFault) → result ≡ Ok (Refused fault) → (text : List ℕ)
+        (all : List FileCommand) → R.remaining commands ≡ Some text → Fits text
+        → HoldsCommands text all → ⊥ }
 {
-    is_in_parts::<R, Command>(commands)
+    first_reading::<R, Command>(commands)
 }
 
 /// The commands of a part of a text, one by one; None if it is not UTF-8, or lists no commands.

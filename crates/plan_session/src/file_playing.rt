@@ -1,13 +1,15 @@
 //! Playback of an event file that is read twice, so that none of it is kept.
 
-ghost use Rattle.std.specs.Prelude.{◌≡◌, ◌<◌, ◌≤◌, ◌*◌, List, ℕ, [], Some, Ok, false, true, IfOk, IfErr, OnOk, OnErr};
+ghost use Rattle.std.specs.Prelude.{◌≡◌, ◌≢◌, ◌<◌, ◌≤◌, ◌*◌, List, ℕ, [], Some, Ok, false, true, IfOk, IfErr, OnOk, OnErr};
 ghost use Rattle.fib_codec.specs.Layouts.{frame_fibs};
 ghost use Rattle.plan_runs.specs.declared.event.Event.{Event};
 ghost use Rattle.plan_runs.specs.RightBytes.{FramesAreRight};
 ghost use Rattle.plan_player.specs.Playing.{Playing};
 ghost use Rattle.plan_session.specs.declared.step.Step.{Step as EventStep};
-ghost use Rattle.plan_session.specs.Events.{events_of};
-ghost use Rattle.plan_session.specs.Playback.{asked, IsPlayback};
+ghost use Rattle.plan_session.specs.declared.event_fault.EventFault.{EventFault as TextsFault};
+ghost use Rattle.plan_session.specs.declared.first_reading.FirstReading.TheVariants.{InParts as IsInParts, Refused};
+ghost use Rattle.plan_session.specs.Events.{Holds, events_of};
+ghost use Rattle.plan_session.specs.Playback.{asked_from, IsPlayback};
 ghost use Rattle.plan_session.specs.FilePlayback.{ListsInParts, DeliversAgain, IsPlayed, IsFileFault, IsFileSilent, is_file_write};
 ghost use Rattle.plan_session.specs.PartPlaying.{PlaysInto, PlaysFile, outcome_of};
 ghost use Rattle.plan_session.specs.PartReading.{Fits};
@@ -15,17 +17,16 @@ ghost use Rattle.plan_session.specs.PartReading.{Fits};
 use crate::buffer::{Buffer, delivered};
 use crate::code_file::typed_code;
 use crate::file_run_fault::FileRunFault;
-use crate::first_reading::is_in_parts;
+use crate::first_reading::{FirstReading, first_reading};
 use crate::laws;
 use crate::part_playing::{End, Ended, play_parts};
-use crate::playback::start_with;
 use crate::playing::Cut;
 use crate::run_fault::RunFault;
+use crate::start::{StartOptions, start_with};
 use crate::step::Step;
 use crate::text_fault::TextFault;
 use mux_config::Store;
 use mux_tables::Tables;
-use plan_code::Contacts;
 use plan_player::{Player, Sink, Start};
 use plan_verifier::Verified;
 use std::alloc::Global;
@@ -111,24 +112,27 @@ fn play_again<R: Read + Drop, K: Sink>(
     (outcome_of(ended), sink)
 }
 
-/// Whether an event file can be played part by part: whether each part of the text of a reader, which has less than
-/// 65,536 bytes and ends before a step, lists steps by itself. None of it is kept. A text that has a fault is not in
-/// parts, and neither is one with a comment of 65,536 bytes.
+/// What the first reading of an event file finds: whether each part of the text of a reader, which has less than 65,536
+/// bytes and ends before a step, lists steps by itself; or the fault of the first part that does not. None of the text is
+/// kept.
 ///
 /// # Errors
 ///
 /// Why the text can't be read.
-pub fn lists_in_parts<R: Read + Drop>(events: R) -> Result<bool, TextFault>
-    ensures yes { result ≡ Ok true → (text : List ℕ) → R.remaining events ≡ Some text
+pub fn examine_events<R: Read + Drop>(events: R) -> Result<FirstReading, TextFault>
+    ensures yes { result ≡ Ok IsInParts → (text : List ℕ) → R.remaining events ≡ Some text
         → ListsInParts text }
-    ensures no { result ≡ Ok false → (text : List ℕ) → R.remaining events ≡ Some text
-        → ListsInParts text → ⊥ }
+    ensures no { IfOk result (λ found. found ≢ IsInParts → (text : List ℕ)
+        → R.remaining events ≡ Some text → ListsInParts text → ⊥) }
+    ensures refused { (fault : TextsFault) → result ≡ Ok (Refused fault) → (text : List ℕ)
+        (steps : List EventStep) → R.remaining events ≡ Some text → Fits text → Holds text steps
+        → ⊥ }
 {
-    is_in_parts::<R, Step>(events)
+    first_reading::<R, Step>(events)
 }
 
 /// Like [`run_into`](crate::run_into), over the text of a reader, of which one part is in memory at a time: a text for
-/// which [`lists_in_parts`] is true is played as by `run_into`.
+/// which [`examine_events`] returns `InParts` is played as by `run_into`.
 ///
 /// # Errors
 ///
@@ -139,22 +143,20 @@ pub fn run_again<R: Read + Drop, K: Sink>(
     alloc: Global,
     code: &[u8],
     events: R,
-    count: u16,
-    day: u32,
-    contacts: Contacts,
+    start: StartOptions,
     out: K,
 ) -> (Result<u128, FileRunFault>, K)
     requires working { K.has_failed out ≡ false }
     // A text in parts of at most 2^64 - 1 bytes is played, into a sink that reports its bytes and has none yet.
     ensures played { (text : List ℕ) (p : Playing) (steps : List EventStep)
         → R.remaining events ≡ Some text → Fits text → ListsInParts text
-        → IsPlayback (asked code.now text count day contacts) p steps → K.taken out ≡ Some []
+        → IsPlayback (asked_from code.now text start) p steps → K.taken out ≡ Some []
         → DeliversAgain p (events_of steps) (K.taken out) (K.taken result.1) result.0 }
     // Nothing else is played to its end, and the number of frames is right for every sink.
     ensures only { IfOk result.0 (λ n. IsPlayed (R.remaining events)
-        (asked code.now [] count day contacts) n) }
+        (asked_from code.now [] start) n) }
     ensures first_fault { IfErr result.0 (λ e. IsFileFault (R.remaining events)
-        (asked code.now [] count day contacts) e) }
+        (asked_from code.now [] start) e) }
     // The sink has failed exactly if the fault is `Write`.
     ensures failed { K.has_failed result.1 ≡ is_file_write result.0 }
     ensures silent { IfErr result.0 (λ e. IsFileSilent (K.taken out) (K.taken result.1) e) }
@@ -164,6 +166,6 @@ pub fn run_again<R: Read + Drop, K: Sink>(
         Err(fault) => return (Err(FileRunFault::Run(fault)), out),
     };
     laws::one_list();
-    let start = start_with(&verified, count, day, contacts);
-    play_again(&verified, start, events, out)
+    let begin = start_with(&verified, start);
+    play_again(&verified, begin, events, out)
 }

@@ -21,6 +21,7 @@ use std::alloc::Global;
 pub(crate) trait Item: Copy {
     ghost use Rattle.std.specs.Prelude.{◌≡◌, ◌≢◌, ◌≤◌, ℕ, List, ◌∷◌, ◌++◌, length, IfOk, IfErr};
     ghost use Rattle.script_tokens.specs.declared.fault.ScriptFault.TheVariants.{Memory};
+    ghost use Rattle.plan_session.specs.InParts.{BeginOnce};
     ghost use Rattle.plan_session.specs.Items.{AreUnique, HasLexemes};
 
     /// The tokens that spell it.
@@ -29,10 +30,11 @@ pub(crate) trait Item: Copy {
     /// Whether its numbers are in their ranges.
     ghost is_item: { Self → Type 0 };
 
-    /// The law of items: their tokens identify them. The function does nothing; its contract is the law.
+    /// The law of items: their tokens identify them, and the first alone begins like one. The function does nothing; its contract is the law.
     fn uniqueness()
         ensures unique { AreUnique spelled is_item }
-        ensures some { HasLexemes spelled };
+        ensures some { HasLexemes spelled }
+        ensures once { BeginOnce spelled is_item };
 
     /// The number of tokens after the first one, for an item that begins with this token.
     fn further(word: &[u8]) -> usize

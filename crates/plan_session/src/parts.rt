@@ -3,7 +3,7 @@
 ghost use Rattle.std.specs.Prelude.{◌≡◌, ◌≤◌, ◌<◌, ◌+◌, ℕ, List, Option, length, take, IfOk, OnErr, slice_range};
 ghost use Rattle.std.specs.Io.KnownBytes.{Consumes, IsAtEnd, prepend_known};
 
-use crate::separation::part_end;
+use crate::separation::{letters_len, part_end};
 use crate::text_fault::TextFault;
 use crate::text_file::fault_of;
 use std::io::{self, ErrorKind, Read};
@@ -109,6 +109,17 @@ impl<R: Read + Drop> Parts<R> {
     {
         &self.window[..self.len]
     }
+
+    /// The last part read, and the byte behind it if there are further ones.
+    pub(crate) fn part_and_gap(&self) -> &[u8] {
+        &self.window[..self.next]
+    }
+
+    /// The last part read, the byte behind it, and the letters that follow, as far as they were read.
+    pub(crate) fn part_and_next(&self) -> &[u8] {
+        let count = letters_len(&self.window[self.next..self.filled]);
+        &self.window[..self.next + count]
+    }
 }
 
 /// Moves these bytes of a window to its front, reads behind them until it is full or the source ends, and returns the
@@ -134,7 +145,11 @@ fn refill<R: Read>(
 
 /// Reads behind the first bytes of a window until it is full or the source ends, and returns the number of bytes that
 /// it then has; or why the source fails.
-fn fill<R: Read>(source: &mut R, window: &mut [u8], kept: usize) -> Result<usize, TextFault>
+pub(crate) fn fill<R: Read>(
+    source: &mut R,
+    window: &mut [u8],
+    kept: usize,
+) -> Result<usize, TextFault>
     requires bound { kept ≤ length window.old }
     ensures kept { length window.new ≡ length window.old }
     ensures bound { IfOk result (λ n. n ≤ length window.new) }

@@ -10,29 +10,13 @@ use crate::code_file::typed_code;
 use crate::laws;
 use crate::playing::play_list;
 use crate::run_fault::RunFault;
+use crate::start::{StartOptions, start_with};
 use crate::step_list::StepList;
 use mux_tables::Tables;
 use plan_code::Contacts;
 use plan_player::{Player, Sink, Start};
 use plan_verifier::Verified;
 use std::alloc::Global;
-
-/// The start of a code's player. The ensemble is that of the code's plan.
-pub(crate) fn start_with(code: &Verified, count: u16, day: u32, contacts: Contacts) -> Start
-    ensures { result ≡ record {
-      eid = code.now.plan.eid;
-      count = count;
-      day = day;
-      contacts = contacts;
-    } }
-{
-    Start {
-        eid: code.code().plan().eid,
-        count,
-        day,
-        contacts,
-    }
-}
 
 /// Plays a typed code from this start over the events of a text. Each frame is put into the sink, which must not have
 /// failed. Returns the number of frames. No memory is allocated for the steps of the text or their frames.
@@ -112,6 +96,11 @@ pub fn run<K: Sink>(
     ensures silent { IfErr result (λ e. IsSilent (K.taken out.old) (K.taken out.new) e) }
 {
     let verified = typed_code(alloc, code)?;
-    let start = start_with(&verified, count, day, contacts);
-    play(&verified, start, events, out)
+    let start = StartOptions {
+        count,
+        day,
+        contacts,
+    };
+    let begin = start_with(&verified, start);
+    play(&verified, begin, events, out)
 }

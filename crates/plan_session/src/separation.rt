@@ -1,6 +1,6 @@
 //! Where a text can be cut: between two items.
 
-ghost use Rattle.std.specs.Prelude.{◌≡◌, ◌&&◌, None, true, IfSome};
+ghost use Rattle.std.specs.Prelude.{◌≡◌, ◌≤◌, ◌&&◌, None, true, IfSome, length};
 ghost use Rattle.plan_session.specs.InParts.{outside_after, separates, ends_clear, continues_item, begins_item, EndsPart, last_end};
 
 use script_tokens::kind_of;
@@ -101,4 +101,18 @@ pub(crate) fn part_end(bytes: &[u8]) -> Option<usize>
         Some(len) => Some(len),
         None => None,
     }
+}
+
+/// The number of letters before the first other byte.
+pub(crate) fn letters_len(bytes: &[u8]) -> usize
+    ensures { result ≤ length bytes.now }
+{
+    let mut count = 0;
+    for byte in bytes {
+        if kind_of(*byte) != Kind::Letter {
+            return count;
+        }
+        count += 1;
+    }
+    count
 }

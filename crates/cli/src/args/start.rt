@@ -12,9 +12,9 @@ ghost use Rattle.cli.specs.Requests.{HasDay, HasStart};
 use crate::args::UsageError;
 use crate::args::parser::{Argument, Kind, Rule, Values};
 use crate::args::shared::number;
-use cli_plans::start::StartOptions;
 use console::hexadecimal::u16_of;
 use plan_code::Contacts;
+use plan_session::StartOptions;
 use script_tokens::number as numbers;
 
 /// The CIF count of the first frame.

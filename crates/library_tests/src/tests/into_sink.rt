@@ -3,10 +3,17 @@
 use super::codes::{ENDED, LOWERED, played};
 use plan_code::Contacts;
 use plan_player::{Sink, Writer};
-use plan_session::{RunFault, run_into};
+use plan_session::{RunFault, StartOptions, run_into};
 use std::alloc::Global;
 use std::io::{self, Error, ErrorKind, Write};
 use std::test::Fail;
+
+/// The start of the tests: CIF count 0, the first frame of the day, all contacts open.
+const FROM_ZERO: StartOptions = StartOptions {
+    count: 0,
+    day: 0,
+    contacts: Contacts(0),
+};
 
 /// What a full writer returns.
 #[derive(Clone, Copy)]
@@ -56,7 +63,7 @@ fn into(
     text: &str,
     writer: Narrow,
 ) -> (Result<u128, RunFault>, Writer<Narrow>) {
-    run_into(alloc, file, text, 0, 0, Contacts(0), Writer::new(writer))
+    run_into(alloc, file, text, FROM_ZERO, Writer::new(writer))
 }
 
 /// An empty writer.

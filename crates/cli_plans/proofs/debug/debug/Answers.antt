@@ -1,9 +1,9 @@
-use Rattle.std.proofs.Common.{◌≡◌, ℕ, ap, subst}
+use Rattle.std.proofs.Common.{◌≡◌, subst}
 use Rattle.plan_code.specs.Program.{Program}
 use Rattle.plan_runs.specs.declared.event.Start.{Start as Starting}
 use Rattle.plan_player.specs.Playing.{Playing, IsAtStart}
 use Rattle.plan_debug.specs.Commands.{Debugging, fresh}
-use Rattle.plan_session.specs.Playback.{Request, asked, start_of}
+use Rattle.plan_session.specs.Playback.{Request, asked_from, start_of}
 use Rattle.plan_session.proofs.Requests.{same_start}
 use Rattle.cli_plans.specs.Transcript.{Transcript}
 use Rattle.cli_plans.proofs.Transcripts.{transcript_of}
@@ -14,12 +14,11 @@ returns-in-Err-new-2-clause-printed g c = λ p commands h. absurd (c.in-Err-new-
 
 pub returns-in-Ok-drive-clause-printed : goal.returns-in-Ok-drive-clause-printed
 returns-in-Ok-drive-clause-printed g c = λ p commands h.
-    let r : Request = asked c.args.code.now c.args.text.now c.args.start.count c.args.start.day c.args.start.contacts in
+    let r : Request = asked_from c.args.code.now c.args.text.now c.args.start in
     let v : Program = c.in-Ok.verified in
     let q : Playing = c.in-Ok-new.player in
-    let start : Starting = record { eid = c.plan.result.eid; count = c.args.start.count; day = c.args.start.day; contacts = c.args.start.contacts } in
-    let eid : c.plan.result.eid ≡ v.plan.eid = cc (c.plan.ensures.value, c.code.ensures.value) in
-    let starts : start ≡ start_of v r = ap (λ (e : ℕ). let s : Starting = record { eid = e; count = c.args.start.count; day = c.args.start.day; contacts = c.args.start.contacts } in s) eid in
+    let start : Starting = c.start_with-begin.result in
+    let starts : start ≡ start_of v r = c.start_with-begin.ensures in
     let codes : v ≡ p.code = c.in-Ok.ensures.only p.code h.ready.file in
     let at : IsAtStart v (start_of v r) q = subst (λ (s : Starting). IsAtStart v s q) starts c.in-Ok-new.ensures.begins in
     let there : IsAtStart p.code (start_of p.code r) q = subst (λ (k : Program). IsAtStart k (start_of k r) q) codes at in

@@ -1,10 +1,10 @@
-use Rattle.std.proofs.Common.{◌≡◌, ℕ, List, [], Option, sym, ap, subst}
+use Rattle.std.proofs.Common.{◌≡◌, ℕ, List, [], Option, sym, subst}
 use Rattle.plan_code.specs.Program.{Program}
 use Rattle.plan_runs.specs.declared.event.Start.{Start as Starting}
 use Rattle.plan_player.specs.Playing.{Playing}
 use Rattle.plan_debug.specs.Commands.{Debugging, fresh}
 use Rattle.plan_session.specs.FilePlayback.{Begins}
-use Rattle.plan_session.specs.Playback.{Request, asked, start_of}
+use Rattle.plan_session.specs.Playback.{Request, asked_from, start_of}
 use Rattle.plan_session.proofs.Requests.{begins_of}
 use Rattle.cli_plans.specs.declared.part_debugging.End.{End}
 use Rattle.cli_plans.specs.declared.part_debugging.End.TheVariants.{Done as AtEnd, Changed as AtChange, Unread as AtFailure}
@@ -14,12 +14,11 @@ use Rattle.cli_plans.proofs.file_debugging.debug_again.Goals as goal
 
 pub returns-in-Ok-Done-clause-printed : goal.returns-in-Ok-Done-clause-printed
 returns-in-Ok-Done-clause-printed g c = λ text p all known fits parts h.
-    let r : Request = asked c.args.code.now text c.args.start.count c.args.start.day c.args.start.contacts in
+    let r : Request = asked_from c.args.code.now text c.args.start in
     let v : Program = c.in-Ok.verified in
     let q : Playing = c.in-Ok-new.player in
-    let start : Starting = record { eid = c.plan.result.eid; count = c.args.start.count; day = c.args.start.day; contacts = c.args.start.contacts } in
-    let eid : c.plan.result.eid ≡ v.plan.eid = cc (c.plan.ensures.value, c.code.ensures.value) in
-    let starts : start ≡ start_of v r = ap (λ (e : ℕ). let s : Starting = record { eid = e; count = c.args.start.count; day = c.args.start.day; contacts = c.args.start.contacts } in s) eid in
+    let start : Starting = c.start_with-begin.result in
+    let starts : start ≡ start_of v r = c.start_with-begin.ensures in
     let players : q ≡ p = same_player r v start p q (c.in-Ok.ensures.only p.code h.ready.file) starts c.in-Ok-new.ensures.begins h.begins in
     let left : Option (List ℕ) = g.R.Read.remaining c.args.commands in
     let x : Option (List ℕ) = g.W.Write.contents c.args.out.now in
@@ -30,12 +29,11 @@ returns-in-Ok-Done-clause-printed g c = λ text p all known fits parts h.
 
 pub returns-in-Ok-Changed-clause-printed : goal.returns-in-Ok-Changed-clause-printed
 returns-in-Ok-Changed-clause-printed g c = λ text p all known fits parts h.
-    let r : Request = asked c.args.code.now text c.args.start.count c.args.start.day c.args.start.contacts in
+    let r : Request = asked_from c.args.code.now text c.args.start in
     let v : Program = c.in-Ok.verified in
     let q : Playing = c.in-Ok-new.player in
-    let start : Starting = record { eid = c.plan.result.eid; count = c.args.start.count; day = c.args.start.day; contacts = c.args.start.contacts } in
-    let eid : c.plan.result.eid ≡ v.plan.eid = cc (c.plan.ensures.value, c.code.ensures.value) in
-    let starts : start ≡ start_of v r = ap (λ (e : ℕ). let s : Starting = record { eid = e; count = c.args.start.count; day = c.args.start.day; contacts = c.args.start.contacts } in s) eid in
+    let start : Starting = c.start_with-begin.result in
+    let starts : start ≡ start_of v r = c.start_with-begin.ensures in
     let players : q ≡ p = same_player r v start p q (c.in-Ok.ensures.only p.code h.ready.file) starts c.in-Ok-new.ensures.begins h.begins in
     let left : Option (List ℕ) = g.R.Read.remaining c.args.commands in
     let x : Option (List ℕ) = g.W.Write.contents c.args.out.now in
@@ -46,12 +44,11 @@ returns-in-Ok-Changed-clause-printed g c = λ text p all known fits parts h.
 
 pub returns-in-Ok-Unread-clause-printed : goal.returns-in-Ok-Unread-clause-printed
 returns-in-Ok-Unread-clause-printed g c = λ text p all known fits parts h.
-    let r : Request = asked c.args.code.now text c.args.start.count c.args.start.day c.args.start.contacts in
+    let r : Request = asked_from c.args.code.now text c.args.start in
     let v : Program = c.in-Ok.verified in
     let q : Playing = c.in-Ok-new.player in
-    let start : Starting = record { eid = c.plan.result.eid; count = c.args.start.count; day = c.args.start.day; contacts = c.args.start.contacts } in
-    let eid : c.plan.result.eid ≡ v.plan.eid = cc (c.plan.ensures.value, c.code.ensures.value) in
-    let starts : start ≡ start_of v r = ap (λ (e : ℕ). let s : Starting = record { eid = e; count = c.args.start.count; day = c.args.start.day; contacts = c.args.start.contacts } in s) eid in
+    let start : Starting = c.start_with-begin.result in
+    let starts : start ≡ start_of v r = c.start_with-begin.ensures in
     let players : q ≡ p = same_player r v start p q (c.in-Ok.ensures.only p.code h.ready.file) starts c.in-Ok-new.ensures.begins h.begins in
     let left : Option (List ℕ) = g.R.Read.remaining c.args.commands in
     let x : Option (List ℕ) = g.W.Write.contents c.args.out.now in
@@ -62,12 +59,11 @@ returns-in-Ok-Unread-clause-printed g c = λ text p all known fits parts h.
 
 pub returns-in-Ok-Done-clause-only : goal.returns-in-Ok-Done-clause-only
 returns-in-Ok-Done-clause-only g c =
-    let r : Request = asked c.args.code.now [] c.args.start.count c.args.start.day c.args.start.contacts in
+    let r : Request = asked_from c.args.code.now [] c.args.start in
     let v : Program = c.in-Ok.verified in
     let q : Playing = c.in-Ok-new.player in
-    let start : Starting = record { eid = c.plan.result.eid; count = c.args.start.count; day = c.args.start.day; contacts = c.args.start.contacts } in
-    let eid : c.plan.result.eid ≡ v.plan.eid = cc (c.plan.ensures.value, c.code.ensures.value) in
-    let starts : start ≡ start_of v r = ap (λ (e : ℕ). let s : Starting = record { eid = e; count = c.args.start.count; day = c.args.start.day; contacts = c.args.start.contacts } in s) eid in
+    let start : Starting = c.start_with-begin.result in
+    let starts : start ≡ start_of v r = c.start_with-begin.ensures in
     let begins : Begins r q = begins_of r q v start c.in-Ok.ensures.found starts (sym c.in-Ok-new.ensures.fault) c.in-Ok-new.ensures.begins in
     let left : Option (List ℕ) = g.R.Read.remaining c.args.commands in
     let x : Option (List ℕ) = g.W.Write.contents c.args.out.now in
@@ -78,12 +74,11 @@ returns-in-Ok-Done-clause-only g c =
 
 pub returns-in-Ok-Changed-clause-first_fault : goal.returns-in-Ok-Changed-clause-first_fault
 returns-in-Ok-Changed-clause-first_fault g c =
-    let r : Request = asked c.args.code.now [] c.args.start.count c.args.start.day c.args.start.contacts in
+    let r : Request = asked_from c.args.code.now [] c.args.start in
     let v : Program = c.in-Ok.verified in
     let q : Playing = c.in-Ok-new.player in
-    let start : Starting = record { eid = c.plan.result.eid; count = c.args.start.count; day = c.args.start.day; contacts = c.args.start.contacts } in
-    let eid : c.plan.result.eid ≡ v.plan.eid = cc (c.plan.ensures.value, c.code.ensures.value) in
-    let starts : start ≡ start_of v r = ap (λ (e : ℕ). let s : Starting = record { eid = e; count = c.args.start.count; day = c.args.start.day; contacts = c.args.start.contacts } in s) eid in
+    let start : Starting = c.start_with-begin.result in
+    let starts : start ≡ start_of v r = c.start_with-begin.ensures in
     let begins : Begins r q = begins_of r q v start c.in-Ok.ensures.found starts (sym c.in-Ok-new.ensures.fault) c.in-Ok-new.ensures.begins in
     let left : Option (List ℕ) = g.R.Read.remaining c.args.commands in
     let x : Option (List ℕ) = g.W.Write.contents c.args.out.now in
@@ -94,12 +89,11 @@ returns-in-Ok-Changed-clause-first_fault g c =
 
 pub returns-in-Ok-Unread-clause-first_fault : goal.returns-in-Ok-Unread-clause-first_fault
 returns-in-Ok-Unread-clause-first_fault g c =
-    let r : Request = asked c.args.code.now [] c.args.start.count c.args.start.day c.args.start.contacts in
+    let r : Request = asked_from c.args.code.now [] c.args.start in
     let v : Program = c.in-Ok.verified in
     let q : Playing = c.in-Ok-new.player in
-    let start : Starting = record { eid = c.plan.result.eid; count = c.args.start.count; day = c.args.start.day; contacts = c.args.start.contacts } in
-    let eid : c.plan.result.eid ≡ v.plan.eid = cc (c.plan.ensures.value, c.code.ensures.value) in
-    let starts : start ≡ start_of v r = ap (λ (e : ℕ). let s : Starting = record { eid = e; count = c.args.start.count; day = c.args.start.day; contacts = c.args.start.contacts } in s) eid in
+    let start : Starting = c.start_with-begin.result in
+    let starts : start ≡ start_of v r = c.start_with-begin.ensures in
     let begins : Begins r q = begins_of r q v start c.in-Ok.ensures.found starts (sym c.in-Ok-new.ensures.fault) c.in-Ok-new.ensures.begins in
     let left : Option (List ℕ) = g.R.Read.remaining c.args.commands in
     let x : Option (List ℕ) = g.W.Write.contents c.args.out.now in
@@ -110,11 +104,10 @@ returns-in-Ok-Unread-clause-first_fault g c =
 
 pub returns-in-Err-new-2-clause-first_fault : goal.returns-in-Err-new-2-clause-first_fault
 returns-in-Err-new-2-clause-first_fault g c =
-    let r : Request = asked c.args.code.now [] c.args.start.count c.args.start.day c.args.start.contacts in
+    let r : Request = asked_from c.args.code.now [] c.args.start in
     let v : Program = c.in-Ok.verified in
     let q : Playing = c.in-Ok-new.player in
-    let start : Starting = record { eid = c.plan.result.eid; count = c.args.start.count; day = c.args.start.day; contacts = c.args.start.contacts } in
-    let eid : c.plan.result.eid ≡ v.plan.eid = cc (c.plan.ensures.value, c.code.ensures.value) in
-    let starts : start ≡ start_of v r = ap (λ (e : ℕ). let s : Starting = record { eid = e; count = c.args.start.count; day = c.args.start.day; contacts = c.args.start.contacts } in s) eid in
+    let start : Starting = c.start_with-begin.result in
+    let starts : start ≡ start_of v r = c.start_with-begin.ensures in
     let begins : Begins r q = begins_of r q v start c.in-Ok.ensures.found starts (sym c.in-Ok-new.ensures.fault) c.in-Ok-new.ensures.begins in
     (q, begins)

@@ -1,7 +1,7 @@
 use Rattle.std.proofs.Common.{ℕ, List}
 use Rattle.cli_plans.proofs.play.show_kept.Goals as goal
 use Rattle.cli_plans.proofs.PlayedFiles.{kept_shown}
-use Rattle.cli_plans.specs.PlayFiles.{asked_from}
+use Rattle.plan_session.specs.Playback.{asked_from}
 
 pub returns-clause-played : goal.returns-clause-played
 returns-clause-played g c =

@@ -1,10 +1,9 @@
-use Rattle.std.proofs.Common.{◌≡◌, ℕ, List, [], ap, subst, ◌∙◌}
+use Rattle.std.proofs.Common.{◌≡◌, ℕ, List, [], subst}
 use Rattle.std.specs.Io.KnownBytes.{IsAtEnd}
 use Rattle.plan_code.specs.Program.{Program}
-use Rattle.plan_code.specs.declared.plan.Plan.{Plan}
 use Rattle.plan_runs.specs.declared.event.Start.{Start}
 use Rattle.plan_player.specs.Playing.{Playing}
-use Rattle.plan_session.specs.Playback.{Request, asked, start_of}
+use Rattle.plan_session.specs.Playback.{Request, asked_from, start_of}
 use Rattle.plan_live.specs.Living.{Streamed, streamed, Reached, StoppedBy, IsPrompt}
 use Rattle.plan_live.proofs.Growing.{grows_none}
 use Rattle.plan_live.proofs.Starts.{one_player}
@@ -17,11 +16,10 @@ returns-in-Ok-drive-clause-played g c = λ p h.
     let reported = g.E.Ends.reported in
     let old : Streamed = streamed (left c.args.ends.now) (written c.args.ends.now) (reported c.args.ends.now) in
     let new : Streamed = streamed (left c.drive.new.ends) (written c.drive.new.ends) (reported c.drive.new.ends) in
-    let r : Request = asked c.args.code.now [] c.args.count c.args.day c.args.contacts in
+    let r : Request = asked_from c.args.code.now [] c.args.start in
     let verified : Program = c.in-Ok.verified in
-    let start : Start = record { eid = c.plan.result.eid; count = c.args.count; day = c.args.day; contacts = c.args.contacts } in
-    let plan : c.plan.result ≡ verified.plan = c.plan.ensures.value ∙ ap (λ (code : Program). code.plan) c.code.ensures.value in
-    let starts : start ≡ start_of verified r = ap (λ (l : Plan). let s : Start = record { eid = l.eid; count = c.args.count; day = c.args.day; contacts = c.args.contacts } in s) plan in
+    let start : Start = c.start_with-begin.result in
+    let starts : start ≡ start_of verified r = c.start_with-begin.ensures in
     let codes : verified ≡ p.code = c.in-Ok.ensures.only p.code h.ready.file in
     let same : c.in-Ok-new.player ≡ p = one_player r verified start p c.in-Ok-new.player h codes starts c.in-Ok-new.ensures.begins in
     subst (λ (x : Playing). (lines : List (List ℕ)) × Reached c.args.options.skip c.args.options.wanted x old new lines × IsAtEnd (left c.drive.new.ends)) same c.in-Ok-drive.ensures.whole
@@ -33,11 +31,10 @@ returns-clause-played g c = λ p h.
     let reported = g.E.Ends.reported in
     let old : Streamed = streamed (left c.args.ends.now) (written c.args.ends.now) (reported c.args.ends.now) in
     let new : Streamed = streamed (left c.drive.new.ends) (written c.drive.new.ends) (reported c.drive.new.ends) in
-    let r : Request = asked c.args.code.now [] c.args.count c.args.day c.args.contacts in
+    let r : Request = asked_from c.args.code.now [] c.args.start in
     let verified : Program = c.in-Ok.verified in
-    let start : Start = record { eid = c.plan.result.eid; count = c.args.count; day = c.args.day; contacts = c.args.contacts } in
-    let plan : c.plan.result ≡ verified.plan = c.plan.ensures.value ∙ ap (λ (code : Program). code.plan) c.code.ensures.value in
-    let starts : start ≡ start_of verified r = ap (λ (l : Plan). let s : Start = record { eid = l.eid; count = c.args.count; day = c.args.day; contacts = c.args.contacts } in s) plan in
+    let start : Start = c.start_with-begin.result in
+    let starts : start ≡ start_of verified r = c.start_with-begin.ensures in
     let codes : verified ≡ p.code = c.in-Ok.ensures.only p.code h.ready.file in
     let same : c.in-Ok-new.player ≡ p = one_player r verified start p c.in-Ok-new.player h codes starts c.in-Ok-new.ensures.begins in
     subst (λ (x : Playing). StoppedBy c.args.options.skip c.args.options.wanted x old new c.in-Err-drive.stop) same c.in-Err-drive.ensures.stopped
@@ -49,11 +46,10 @@ returns-clause-prompt g c = λ p h.
     let reported = g.E.Ends.reported in
     let moments = g.E.Ends.moments in
     let old : Streamed = streamed (left c.args.ends.now) (written c.args.ends.now) (reported c.args.ends.now) in
-    let r : Request = asked c.args.code.now [] c.args.count c.args.day c.args.contacts in
+    let r : Request = asked_from c.args.code.now [] c.args.start in
     let verified : Program = c.in-Ok.verified in
-    let start : Start = record { eid = c.plan.result.eid; count = c.args.count; day = c.args.day; contacts = c.args.contacts } in
-    let plan : c.plan.result ≡ verified.plan = c.plan.ensures.value ∙ ap (λ (code : Program). code.plan) c.code.ensures.value in
-    let starts : start ≡ start_of verified r = ap (λ (l : Plan). let s : Start = record { eid = l.eid; count = c.args.count; day = c.args.day; contacts = c.args.contacts } in s) plan in
+    let start : Start = c.start_with-begin.result in
+    let starts : start ≡ start_of verified r = c.start_with-begin.ensures in
     let codes : verified ≡ p.code = c.in-Ok.ensures.only p.code h.ready.file in
     let same : c.in-Ok-new.player ≡ p = one_player r verified start p c.in-Ok-new.player h codes starts c.in-Ok-new.ensures.begins in
     subst (λ (x : Playing). IsPrompt c.args.options.skip c.args.options.wanted x old (moments c.args.ends.now) (moments c.drive.new.ends)) same c.drive.ensures.prompt
