@@ -1,17 +1,20 @@
 -- What is said of a session without commands, and of each way in which it can end early.
-use Rattle.std.proofs.Common.{◌≡◌, ℕ, List, [], ◌∷◌, Option, Some, Ok, Err, refl, ◌∙◌}
+use Rattle.std.proofs.Common.{◌≡◌, ℕ, List, [], ◌∷◌, ◌++◌, Option, None, Some, Ok, Err, refl, ◌∙◌}
+use Rattle.script_tokens.specs.declared.fault.Position.{Position}
 use Rattle.plan_player.specs.declared.fault.StartFault.TheVariants.{Count}
 use Rattle.plan_player.specs.Playing.{Playing}
 use Rattle.plan_session.specs.declared.command.Command.{Command}
-use Rattle.plan_session.specs.declared.event_fault.EventFault.TheVariants.{Memory as NoMemoryForCommands}
+use Rattle.plan_session.specs.declared.command.Command.TheVariants.{Next}
+use Rattle.plan_session.specs.declared.event_fault.EventFault.TheVariants.{Byte, Memory as NoMemoryForCommands}
 use Rattle.plan_session.specs.declared.run_fault.RunFault.TheVariants.{Start}
 use Rattle.plan_session.specs.declared.text_fault.TextFault.TheVariants.{Failed}
 use Rattle.plan_session.specs.CommandParts.{ListsCommandsInParts}
 use Rattle.plan_session.specs.Playback.{Request}
-use Rattle.plan_debug.specs.Commands.{fresh}
+use Rattle.plan_debug.specs.Commands.{Debugging, fresh}
 use Rattle.cli_plans.specs.declared.debug.DebugFault.TheVariants.{Playback, Commands}
 use Rattle.cli_plans.specs.declared.file_debugging.FileDebugFault.TheVariants.{Debug, Changed, Unread}
-use Rattle.cli_plans.specs.FileTranscript.{PrintsAgain, IsFileDebugFault, IsFileUnprinted}
+use Rattle.cli_plans.specs.FileTranscript.{PrintsAll, PrintsAgain, IsFileCutShort, IsFileDebugFault, IsFileUnprinted, ShowsSession}
+use Rattle.cli_plans.specs.Transcript.{report_lines, shown_lines, IsCutShort}
 
 -- ---- what is printed
 
@@ -44,3 +47,24 @@ a_refused_start_prints_nothing = refl
 
 a_byte_of_a_refused_start : IsFileUnprinted (Some []) (Some (33 ∷ [])) (Debug (Playback (Start Count))) → ⊥
 a_byte_of_a_refused_start h = absurd cc
+
+-- ---- what is printed, and how a session is cut short
+
+-- a command prints a line
+no_line : (d end : Debugging) → PrintsAll d (Next ∷ []) end (Some []) (Some []) → ⊥
+no_line d end (lines, (r, mid, rest, answers, is, more), out) =
+    let both : [] ≡ report_lines r ++ shown_lines Next mid.announcements ++ rest = out ∙ is in
+    absurd cc
+
+-- the lines of a session are not those of another writer, of which nothing is known
+nothing_is_known : (r : Request) → ShowsSession r (Some []) None → ⊥
+nothing_is_known r h = h.shown.2
+
+no_memory_cuts_short : IsCutShort (Commands NoMemoryForCommands)
+no_memory_cuts_short = refl
+
+a_wrong_byte_does_not : (place : Position) → IsCutShort (Commands (Byte place)) → ⊥
+a_wrong_byte_does_not place h = absurd cc
+
+a_change_does_not : IsFileCutShort Changed → ⊥
+a_change_does_not h = h

@@ -1,8 +1,10 @@
+mod CutShort
 mod DebugVectors
 mod EventFiles
 mod Keeping
 mod PartTranscripts
 mod Played
 mod PlayedFiles
+mod ShownSessions
 mod Transcripts
 mod VectorsOfPlaying

@@ -51,7 +51,7 @@ ends_in_file {O} contents path r (Some w) after file n creation p steps plays co
       due = λ e. unwritten_of bytes w after (stays (due e)) (none_of contents w bytes file (due e) (took refl));
     }
 
-known_text : (left : Option (List ℕ)) (text whole : List ℕ) → Gives left text → left ≡ Some whole → text ≡ whole
+pub known_text : (left : Option (List ℕ)) (text whole : List ℕ) → Gives left text → left ≡ Some whole → text ≡ whole
 known_text None text whole gives e = absurd cc
 known_text (Some bytes) text whole gives e =
     let same : bytes ≡ whole = cc e in

@@ -130,7 +130,7 @@ kept_shown {E} path r known kept before lent mid after ended creation old new (O
 
 -- ---- the code, which was read before
 
-read_code_is : (known : Option (List ℕ)) (code items read : List ℕ) → IfSome known (λ bytes. items ≡ take 1048577 bytes) → known ≡ Some code → read ≡ items → read ≡ take 1048577 code
+pub read_code_is : (known : Option (List ℕ)) (code items read : List ℕ) → IfSome known (λ bytes. items ≡ take 1048577 bytes) → known ≡ Some code → read ≡ items → read ≡ take 1048577 code
 read_code_is known code items read holds e same = same ∙ subst (λ (k : Option (List ℕ)). IfSome k (λ bytes. items ≡ take 1048577 bytes)) e holds
 
 -- the files were as they were before the code was read, and before it was found whether the events are in parts

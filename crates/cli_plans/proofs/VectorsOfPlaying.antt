@@ -1,16 +1,19 @@
 -- Vectors of what `play` leaves in its file.
-use Rattle.std.proofs.Common.{◌≡◌, ℕ, List, [], ◌∷◌, length, Option, None, Some, refl}
+use Rattle.std.proofs.Common.{◌≡◌, inl, inr, ℕ, List, [], ◌∷◌, length, Option, None, Some, Ok, refl}
 use Rattle.std.proofs.lemmas.Bool.{false≢true}
+use Rattle.console.specs.declared.exit.Status.TheVariants.{Done as PlayedToEnd, Refused}
 use Rattle.console.specs.World.{World}
 use Rattle.plan_player.specs.Playing.{Playing}
 use Rattle.plan_player.specs.Delivery.{frames_of, played_bytes}
+use Rattle.plan_session.specs.declared.file_run_fault.FileRunFault.TheVariants.{Run, Changed}
+use Rattle.plan_session.specs.declared.run_fault.RunFault.TheVariants.{Write}
 use Rattle.plan_session.specs.declared.step.Step.{Step}
 use Rattle.plan_session.specs.Events.{events_of}
 use Rattle.plan_session.specs.Playback.{Request, IsPlayback}
 use Rattle.console.specs.declared.files.FileFault.TheVariants.{Failed as OfSystem}
 use Rattle.cli_plans.specs.declared.late_file.Creation.TheVariants.{Done, Failed}
 use Rattle.cli_plans.specs.LateFiles.{IsKept, IsKeptBut, taken_in}
-use Rattle.cli_plans.specs.PlayFiles.{IsWritable, IsUnwritten, EndsInFile, IsPlayedInto, played_line}
+use Rattle.cli_plans.specs.PlayFiles.{IsWritable, IsUnwritten, EndsInFile, IsPlayedInto, played_line, write_failed_line, IsCutLine, CutsShort, IsEnding, EndsOrIsCut}
 
 path : List ℕ
 path = 111 ∷ []
@@ -103,3 +106,28 @@ ended_without_file r before n e = let never : None ≡ Some (played_bytes e.p (e
 -- nothing is printed
 silent : (r : Request) (before after : Option World) → IsPlayedInto path r before after (Some []) (Some []) → ⊥
 silent r before after i = let never : [] ≡ played_line (length (frames_of i.p (events_of i.steps))) = i.printed in absurd cc
+
+-- ---- a playback that is cut short
+
+a_line_says_so : (events : List ℕ) → IsCutLine events (Some []) (Some (write_failed_line 1 2))
+a_line_says_so events = inl (1, 2, refl)
+
+no_line_says_so : (events : List ℕ) → IsCutLine events (Some []) (Some []) → ⊥
+no_line_says_so events (inl (frames, bytes, none)) = absurd cc
+no_line_says_so events (inr (frames, none)) = absurd cc
+
+a_failed_write_cuts_short : CutsShort (Run (Write 1 2))
+a_failed_write_cuts_short = tt
+
+a_changed_file_does_not : CutsShort (Changed 1) → ⊥
+a_changed_file_does_not h = h
+
+no_refusal_is_an_end : (events : List ℕ) → EndsOrIsCut events Refused (Some []) (Some []) → ⊥
+no_refusal_is_an_end events (inl end) = absurd cc
+no_refusal_is_an_end events (inr line) = no_line_says_so events line
+
+played_frames_are_an_end : (events : List ℕ) → IsEnding events (Ok 3) PlayedToEnd (Some []) (Some [])
+played_frames_are_an_end events = refl
+
+played_frames_are_no_refusal : (events : List ℕ) → IsEnding events (Ok 3) Refused (Some []) (Some []) → ⊥
+played_frames_are_no_refusal events h = absurd cc

@@ -15,7 +15,7 @@ use Rattle.cli_plans.specs.declared.file_debugging.FileDebugFault.{FileDebugFaul
 use Rattle.cli_plans.specs.declared.file_debugging.FileDebugFault.TheVariants.{Debug, Changed, Unread}
 use Rattle.cli_plans.specs.declared.part_debugging.End.{End}
 use Rattle.cli_plans.specs.declared.part_debugging.End.TheVariants.{Done as AtEnd, Changed as AtChange, Unread as AtFailure}
-use Rattle.cli_plans.specs.Transcript.{Transcript, IsSession, Prints, IsUnprinted}
+use Rattle.cli_plans.specs.Transcript.{Transcript, IsSession, IsCutShort, Prints, IsUnprinted}
 
 -- the lines of these commands were printed
 abbrev pub PrintsAll : Debugging → List Command → Debugging → Option (List ℕ) → Option (List ℕ) → Type 0
@@ -32,6 +32,12 @@ PrintsAgain p commands before after (Err Changed) = ⊥
 PrintsAgain p commands before after (Err (Unread fault)) =
     (done : List Command) × (later : List Command) × (commands ≡ done ++ later) × ((end : Debugging) × PrintsAll (fresh p) done end before after)
 
+-- the same over a file that is read again: it may fail to be read, too
+abbrev pub IsFileCutShort : FileDebugFault → Type 0
+IsFileCutShort (Debug fault) = IsCutShort fault
+IsFileCutShort Changed = ⊥
+IsFileCutShort (Unread fault) = Unit {0}
+
 -- the text that was read lists commands, and the code can be played from the start
 pub record IsDebugged (left : Option (List ℕ)) (r : Request) : Type 0 where
   pub text : List ℕ
@@ -39,6 +45,14 @@ pub record IsDebugged (left : Option (List ℕ)) (r : Request) : Type 0 where
   pub commands : List Command
   pub gives : Gives left text
   pub session : IsSession (over text r) p commands
+
+-- the code is played from the start, and the lines of all commands of the text were printed
+pub record ShowsSession (r : Request) (before after : Option (List ℕ)) : Type 0 where
+  pub p : Playing
+  pub commands : List Command
+  pub session : IsSession r p commands
+  pub end : Debugging
+  pub shown : PrintsAll (fresh p) commands end before after
 
 -- ---- faults
 

@@ -1,10 +1,20 @@
 -- What `play` leaves in its file, and prints.
-use Rattle.std.specs.Prelude.{◌≡◌, ℕ, List, [], ◌++◌, codes, length, Option}
+use Rattle.std.specs.Prelude.{◌≡◌, ◌⊎◌, ℕ, List, [], ◌++◌, codes, length, Option, Result, Ok, Err}
 use Rattle.std.specs.Fmt.{decimal}
 use Rattle.std.specs.Io.KnownBytes.{Appends}
+use Rattle.console.specs.declared.escaped.Form.TheVariants.{Line}
+use Rattle.console.specs.declared.exit.Status.{Status}
+use Rattle.console.specs.declared.exit.Status.TheVariants.{Done as PlayedToEnd}
+use Rattle.console.specs.Escapes.{escaped}
 use Rattle.console.specs.World.{World, Becomes, IsSame, HasWritten}
+use Rattle.plan_code.specs.declared.fault.CodeFault.TheVariants.{Memory as NoMemoryForCode}
 use Rattle.plan_player.specs.Playing.{Playing}
 use Rattle.plan_player.specs.Delivery.{frames_of, played_bytes}
+use Rattle.plan_session.specs.declared.event_fault.EventFault.TheVariants.{Memory as NoMemoryForEvents}
+use Rattle.plan_session.specs.declared.file_run_fault.FileRunFault.{FileRunFault}
+use Rattle.plan_session.specs.declared.file_run_fault.FileRunFault.TheVariants.{Run, Changed, Unread}
+use Rattle.plan_session.specs.declared.run_fault.RunFault.{RunFault}
+use Rattle.plan_session.specs.declared.run_fault.RunFault.TheVariants.{Code, Refused, Start, Events, Write}
 use Rattle.plan_session.specs.declared.step.Step.{Step}
 use Rattle.plan_session.specs.Events.{events_of}
 use Rattle.plan_session.specs.Playback.{Request, IsPlayback}
@@ -44,3 +54,40 @@ pub record IsPlayedInto (path : List ℕ) (r : Request) (before after : Option W
   pub playback : IsPlayback r p steps
   pub written : Becomes (HasWritten path (played_bytes p (events_of steps))) before after
   pub printed : Appends old new (played_line (length (frames_of p (events_of steps))))
+
+-- ---- a playback that is cut short
+
+-- its file takes no more bytes
+abbrev pub write_failed_line : (frames bytes : ℕ) → List ℕ
+write_failed_line frames bytes = codes "write failed after " ++ (decimal frames ++ (codes " frames and " ++ (decimal bytes ++ codes " bytes\n")))
+
+-- its events can't be read on
+abbrev pub unread_line : List ℕ → ℕ → List ℕ
+unread_line events frames = codes "cannot read " ++ (escaped Line events ++ (codes " after " ++ (decimal frames ++ codes " frames\n")))
+
+-- one of these lines was printed
+abbrev pub IsCutLine : (events : List ℕ) (old new : Option (List ℕ)) → Type 0
+IsCutLine events old new = ((frames : ℕ) × (bytes : ℕ) × Appends old new (write_failed_line frames bytes)) ⊎ ((frames : ℕ) × Appends old new (unread_line events frames))
+
+-- with these faults alone a playback that is possible is cut short: memory, its file or its events failed
+abbrev pub CutsShort : FileRunFault → Type 0
+CutsShort (Run (Code fault)) = fault ≡ NoMemoryForCode
+CutsShort (Run (Refused pc line cause)) = ⊥
+CutsShort (Run (Start fault)) = ⊥
+CutsShort (Run (Events fault)) = fault ≡ NoMemoryForEvents
+CutsShort (Run (Write frames bytes)) = Unit {0}
+CutsShort (Changed frames) = ⊥
+CutsShort (Unread frames fault) = Unit {0}
+
+-- the file takes no more bytes
+abbrev pub IsWriteFault : RunFault → Type 0
+IsWriteFault fault = (frames : ℕ) × (bytes : ℕ) × (fault ≡ Write frames bytes)
+
+-- the status of a playback that ended so, and the line of one that was cut short
+abbrev pub IsEnding : List ℕ → Result ℕ FileRunFault → Status → Option (List ℕ) → Option (List ℕ) → Type 0
+IsEnding events (Ok frames) status old new = status ≡ PlayedToEnd
+IsEnding events (Err fault) status old new = CutsShort fault → IsCutLine events old new
+
+-- a playback came to its end, or its line says that it was cut short
+abbrev pub EndsOrIsCut : List ℕ → Status → Option (List ℕ) → Option (List ℕ) → Type 0
+EndsOrIsCut events status old new = (status ≡ PlayedToEnd) ⊎ IsCutLine events old new

@@ -64,18 +64,22 @@ pub record IsSession (r : Request) (p : Playing) (commands : List Command) : Typ
   pub begins : IsAtStart p.code (start_of p.code r) p
   pub holds : HoldsCommands r.text commands
 
--- the lines of all commands are printed; nothing is claimed where an allocation or the writer failed
+-- with these faults alone a session that is possible is cut short: memory or the writer failed
+abbrev pub IsCutShort : DebugFault → Type 0
+IsCutShort (Playback (Code fault)) = fault ≡ NoMemoryForCode
+IsCutShort (Playback (Refused pc line cause)) = ⊥
+IsCutShort (Playback (Start fault)) = ⊥
+IsCutShort (Playback (Events fault)) = ⊥
+IsCutShort (Playback (Write frames bytes)) = ⊥
+IsCutShort (Commands fault) = fault ≡ NoMemoryForCommands
+IsCutShort Memory = Unit {0}
+IsCutShort Output = Unit {0}
+
+-- the lines of all commands are printed; nothing is claimed of them where an allocation or the writer failed
 abbrev pub Prints : Playing → List Command → Option (List ℕ) → Option (List ℕ) → Result (Unit {0}) DebugFault → Type 0
 Prints p commands before after (Ok done) =
     (lines : List ℕ) × (end : Debugging) × Transcript (fresh p) commands lines end × Appends before after lines
-Prints p commands before after (Err (Playback (Code fault))) = fault ≡ NoMemoryForCode
-Prints p commands before after (Err (Playback (Refused pc line cause))) = ⊥
-Prints p commands before after (Err (Playback (Start fault))) = ⊥
-Prints p commands before after (Err (Playback (Events fault))) = ⊥
-Prints p commands before after (Err (Playback (Write frames bytes))) = ⊥
-Prints p commands before after (Err (Commands fault)) = fault ≡ NoMemoryForCommands
-Prints p commands before after (Err Memory) = Unit {0}
-Prints p commands before after (Err Output) = Unit {0}
+Prints p commands before after (Err fault) = IsCutShort fault
 
 -- ---- faults
 

@@ -1,24 +1,29 @@
 //! `dabplan debug`: steps through a plan code by the commands of a file.
 
-ghost use Rattle.std.specs.Prelude.{ℕ, List, ◌++◌, OnOk, IfErr};
+ghost use Rattle.std.specs.Prelude.{◌≡◌, ◌≢◌, ℕ, List, Some, ◌++◌, take, OnOk, IfOk, IfErr, IfNone};
 ghost use Rattle.std.specs.List.{flat_map};
 ghost use Rattle.std.specs.Io.KnownBytes.{Appends};
+ghost use Rattle.console.specs.World.{Stays};
+ghost use Rattle.console.specs.declared.exit.Status.TheVariants.{Done as DebuggedToEnd};
 ghost use Rattle.plan_player.specs.Playing.{Playing};
 ghost use Rattle.plan_debug.specs.declared.report.Report.{Report};
 ghost use Rattle.plan_debug.specs.Commands.{Answers};
 ghost use Rattle.plan_session.specs.declared.command.Command.{Command};
+ghost use Rattle.plan_session.specs.CommandParts.{ListsCommandsInParts};
 ghost use Rattle.plan_session.specs.Listing.{ListsCommands};
+ghost use Rattle.plan_session.specs.PartReading.{Fits};
 ghost use Rattle.plan_session.specs.Playback.{asked_from};
+ghost use Rattle.cli_plans.specs.FileTranscript.{IsFileCutShort, ShowsSession};
 ghost use Rattle.cli_plans.specs.RefusedTexts.{IsFaultOfCommands};
-ghost use Rattle.cli_plans.specs.Transcript.{place_text, swap_text, break_line, report_lines, announcement_line, shown_lines, Transcript, IsSession, Prints, IsDebugFault, IsUnprinted};
+ghost use Rattle.cli_plans.specs.Transcript.{place_text, swap_text, break_line, report_lines, announcement_line, shown_lines, Transcript, IsSession, IsCutShort, Prints, IsDebugFault, IsUnprinted};
 
 use crate::event_file::{examine_command_file, open_events, read_event_text, unreadable};
 use crate::file_debugging::{FileDebugFault, debug_again};
+use crate::live::is_no_memory;
 use console::code_file::read_code;
 use console::exit::{Failure, Status};
 use console::files::Files;
 use mux_tables::Tables;
-use plan_code::CodeFault;
 use plan_debug::{Announcement, Command, Debugger, Report};
 use plan_player::Player;
 use plan_session::{
@@ -67,24 +72,95 @@ pub fn show_debug<'a, F: Files, W: Write>(
     request: &DebugRequest<'a>,
     files: &mut F,
     out: &mut W,
-) -> Result<Status, Failure<'a>> {
-    let code = read_code(alloc, files, request.code)?;
-    let ended = match examine_command_file(files, request.commands)? {
-        FirstReading::InParts => {
-            let commands = open_events(files, request.commands)?;
-            debug_again(alloc, code.as_slice(), commands, request.start, out)
-        }
-        FirstReading::Refused(fault) => {
-            let fault = refusal_of(alloc, code.as_slice(), fault, request.start);
-            Err(FileDebugFault::Debug(fault))
-        }
-        FirstReading::Unparted => {
-            let commands = read_event_text(alloc, files, request.commands)?;
-            let text = commands.as_str();
-            of_text(debug(alloc, code.as_slice(), text, request.start, out))
-        }
+) -> Result<Status, Failure<'a>>
+    // The lines of all commands are printed.
+    ensures printed { IfOk result (λ status. status ≡ DebuggedToEnd → (code text : List ℕ)
+        → F.known files.old request.now.code.now ≡ Some code
+        → F.known files.old request.now.commands.now ≡ Some text → Fits text
+        → ShowsSession (asked_from (take 1048577 code) text request.now.start)
+        (W.contents out.old) (W.contents out.new)) }
+    // A session that is possible is run to its end, unless memory, the output or a file fails.
+    ensures runs { IfOk result (λ status. (code text : List ℕ) (p : Playing)
+        (commands : List Command) → F.known files.old request.now.code.now ≡ Some code
+        → F.known files.old request.now.commands.now ≡ Some text → Fits text
+        → IsSession (asked_from (take 1048577 code) text request.now.start) p commands
+        → status ≡ DebuggedToEnd) }
+    ensures files { Stays (F.world files.old) (F.world files.new) }
+{
+    let code = match read_code(alloc, files, request.code) {
+        Ok(code) => code,
+        Err(failure) => return Err(failure),
     };
-    end_debug(ended, request.commands, out)
+    match examine_command_file(files, request.commands) {
+        Ok(FirstReading::InParts) => debug_parts(alloc, code.as_slice(), request, files, out),
+        Ok(FirstReading::Refused(fault)) => {
+            print_fault(
+                refusal_of(alloc, code.as_slice(), fault, request.start),
+                out,
+            )
+        }
+        Ok(FirstReading::Unparted) => debug_kept(alloc, code.as_slice(), request, files, out),
+        Err(failure) => Err(failure),
+    }
+}
+
+/// Executes commands that can be read again, part by part, and prints the lines of each.
+fn debug_parts<'a, F: Files, W: Write>(
+    alloc: Global,
+    code: &[u8],
+    request: &DebugRequest<'a>,
+    files: &mut F,
+    out: &mut W,
+) -> Result<Status, Failure<'a>>
+    ensures printed { IfOk result (λ status. status ≡ DebuggedToEnd → (text : List ℕ)
+        → F.known files.old request.now.commands.now ≡ Some text → Fits text
+        → ListsCommandsInParts text
+        → ShowsSession (asked_from code.now text request.now.start)
+        (W.contents out.old) (W.contents out.new)) }
+    ensures runs { IfOk result (λ status. (text : List ℕ) (p : Playing) (commands : List Command)
+        → F.known files.old request.now.commands.now ≡ Some text → Fits text
+        → ListsCommandsInParts text
+        → IsSession (asked_from code.now text request.now.start) p commands
+        → status ≡ DebuggedToEnd) }
+    ensures files { Stays (F.world files.old) (F.world files.new) }
+{
+    let commands = match open_events(files, request.commands) {
+        Ok(commands) => commands,
+        Err(failure) => return Err(failure),
+    };
+    match debug_again(alloc, code, commands, request.start, out) {
+        Ok(()) => Ok(Status::Done),
+        Err(fault) => end_early(fault, request.commands, out),
+    }
+}
+
+/// Executes commands that are kept, and prints the lines of each.
+fn debug_kept<'a, F: Files, W: Write>(
+    alloc: Global,
+    code: &[u8],
+    request: &DebugRequest<'a>,
+    files: &mut F,
+    out: &mut W,
+) -> Result<Status, Failure<'a>>
+    ensures printed { IfOk result (λ status. status ≡ DebuggedToEnd → (text : List ℕ)
+        → F.known files.old request.now.commands.now ≡ Some text
+        → ShowsSession (asked_from code.now text request.now.start)
+        (W.contents out.old) (W.contents out.new)) }
+    ensures runs { IfOk result (λ status. (text : List ℕ) (p : Playing) (commands : List Command)
+        → F.known files.old request.now.commands.now ≡ Some text
+        → IsSession (asked_from code.now text request.now.start) p commands
+        → status ≡ DebuggedToEnd) }
+    ensures files { Stays (F.world files.old) (F.world files.new) }
+{
+    laws::kept_texts();
+    let commands = match read_event_text(alloc, files, request.commands) {
+        Ok(commands) => commands,
+        Err(failure) => return Err(failure),
+    };
+    match debug(alloc, code, commands.as_str(), request.start, out) {
+        Ok(()) => Ok(Status::Done),
+        Err(fault) => print_fault(fault, out),
+    }
 }
 
 /// Why commands that have this fault are not executed on a code, from a start: the fault that [`debug`] returns for them.
@@ -98,41 +174,56 @@ fn refusal_of(alloc: Global, code: &[u8], fault: EventFault, start: StartOptions
     }
 }
 
-/// How a session over a text ended, which is not read again.
-fn of_text(ended: Result<(), DebugFault>) -> Result<(), FileDebugFault> {
-    match ended {
-        Ok(()) => Ok(()),
-        Err(fault) => Err(FileDebugFault::Debug(fault)),
-    }
-}
-
-/// Prints why a session ended early, if it did.
-fn end_debug<'a, W: Write>(
-    ended: Result<(), FileDebugFault>,
+/// Prints why a session over a file that is read again ended early.
+fn end_early<'a, W: Write>(
+    fault: FileDebugFault,
     commands: &'a str,
     out: &mut W,
-) -> Result<Status, Failure<'a>> {
-    match ended {
-        Ok(()) => Ok(Status::Done),
-        Err(FileDebugFault::Debug(fault)) => print_fault(fault, out),
-        Err(FileDebugFault::Changed) => {
+) -> Result<Status, Failure<'a>>
+    ensures refused { IfOk result (λ status. status ≢ DebuggedToEnd) }
+    ensures failed { IfOk result (λ status. IsFileCutShort fault → ⊥) }
+{
+    match fault {
+        FileDebugFault::Debug(fault) => print_fault(fault, out),
+        FileDebugFault::Changed => {
             writeln!(out, "commands changed")?;
             Ok(Status::Refused)
         }
-        Err(FileDebugFault::Unread(fault)) => Err(unreadable(fault, commands)),
+        FileDebugFault::Unread(fault) => Err(unreadable(fault, commands)),
     }
 }
 
 /// Prints why a session was not run to its end.
-fn print_fault<'a, W: Write>(fault: DebugFault, out: &mut W) -> Result<Status, Failure<'a>> {
+fn print_fault<'a, W: Write>(fault: DebugFault, out: &mut W) -> Result<Status, Failure<'a>>
+    ensures refused { IfOk result (λ status. status ≢ DebuggedToEnd) }
+    ensures failed { IfOk result (λ status. IsCutShort fault → ⊥) }
+{
+    if let Some(failure) = failure_of(fault) {
+        return Err(failure);
+    }
+    writeln!(out, "{fault}")?;
+    Ok(Status::Refused)
+}
+
+/// The failure that is reported for a fault, where memory or the writer failed.
+#[tactic(auto, using(crate::proofs::ShownSessions::no_code_memory))]
+fn failure_of<'a>(fault: DebugFault) -> Option<Failure<'a>>
+    ensures { IfNone result (IsCutShort fault → ⊥) }
+{
     match fault {
-        DebugFault::Output => Err(Failure::Output),
-        DebugFault::Memory => Err(Failure::Memory),
-        DebugFault::Playback(RunFault::Code(CodeFault::Memory)) => Err(Failure::Memory),
-        DebugFault::Commands(EventFault::Memory) => Err(Failure::Memory),
-        fault => {
-            writeln!(out, "{fault}")?;
-            Ok(Status::Refused)
+        DebugFault::Output => Some(Failure::Output),
+        DebugFault::Memory => Some(Failure::Memory),
+        DebugFault::Playback(fault) => {
+            if is_no_memory(&fault) {
+                return Some(Failure::Memory);
+            }
+            None
+        }
+        DebugFault::Commands(fault) => {
+            if fault == EventFault::Memory {
+                return Some(Failure::Memory);
+            }
+            None
         }
     }
 }

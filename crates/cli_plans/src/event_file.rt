@@ -114,6 +114,8 @@ pub(crate) fn examine_command_file<'a, F: Files>(
         → ListsCommandsInParts text }
     ensures refused { (fault : TextsFault) → result ≡ Ok (Refused fault) → (text : List ℕ)
         → F.known files.old path.now ≡ Some text → Fits text → IsFaultOfCommands text fault }
+    ensures files { (other : List ℕ)
+        → Keeps (F.known files.old other) (F.known files.new other) }
     ensures world { Stays (F.world files.old) (F.world files.new) }
     ensures fault { IfErr result (λ failure. IsReadFailure path.now failure) }
 {

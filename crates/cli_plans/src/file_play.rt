@@ -1,12 +1,16 @@
 //! Playing into a file that is created with its first byte.
 
-ghost use Rattle.std.specs.Prelude.{◌≡◌, ◌≢◌, ℕ, List, Some, IfOk, IfSome, string_bytes};
-ghost use Rattle.console.specs.World.{Becomes, IsSameBut};
+ghost use Rattle.std.specs.Prelude.{◌≡◌, ℕ, List, Some, Ok, Err, IfOk, IfErr, string_bytes};
+ghost use Rattle.console.specs.World.{World, Becomes, IsSameBut};
+ghost use Rattle.plan_player.specs.Playing.{Playing};
+ghost use Rattle.plan_session.specs.declared.file_run_fault.FileRunFault.TheVariants.{Run};
+ghost use Rattle.plan_session.specs.declared.run_fault.RunFault.{RunFault as TextsRunFault};
+ghost use Rattle.plan_session.specs.declared.step.Step.{Step};
 ghost use Rattle.plan_session.specs.FilePlayback.{ListsInParts};
 ghost use Rattle.plan_session.specs.Kept.{IsKeptOf};
 ghost use Rattle.plan_session.specs.PartReading.{Fits};
-ghost use Rattle.plan_session.specs.Playback.{asked_from};
-ghost use Rattle.cli_plans.specs.PlayFiles.{EndsInFile};
+ghost use Rattle.plan_session.specs.Playback.{asked_from, IsPlayback};
+ghost use Rattle.cli_plans.specs.PlayFiles.{EndsInFile, CutsShort};
 
 use crate::late_file::{Creation, LateFile, LateStart, Lent};
 use crate::play::PlayRequest;
@@ -48,6 +52,9 @@ fn end_again<'f, S: LateStart, F: Files>(
         → F.In.remaining events ≡ Some text → Fits text → ListsInParts text
         → EndsInFile S.path (asked_from code.now text request.now.start)
         S.before (F.world result.files.now) frames play.new.creation) }
+    ensures cut { IfErr play.new.ended (λ e. (w : World) (text : List ℕ) (p : Playing) (steps : List Step)
+        → S.before ≡ Some w → F.In.remaining events ≡ Some text → Fits text → ListsInParts text
+        → IsPlayback (asked_from code.now text request.now.start) p steps → CutsShort e) }
 {
     let late: LateFile<'f, '_, S, F> = LateFile::new(lent, request.out);
     let (ended, sink) = run_again(alloc, code, events, request.start, late);
@@ -74,6 +81,9 @@ fn end_kept<'f, S: LateStart, F: Files>(
         → IsKeptOf text (string_bytes events)
         → EndsInFile S.path (asked_from code.now text request.now.start)
         S.before (F.world result.files.now) frames play.new.creation) }
+    ensures cut { IfErr play.new.ended (λ e. (w : World) (text : List ℕ) (p : Playing) (steps : List Step)
+        → S.before ≡ Some w → IsKeptOf text (string_bytes events)
+        → IsPlayback (asked_from code.now text request.now.start) p steps → CutsShort e) }
 {
     laws::kept_texts();
     let late: LateFile<'f, '_, S, F> = LateFile::new(lent, request.out);
@@ -99,6 +109,9 @@ pub(crate) fn play_again<F: Files>(
         → F.In.remaining events ≡ Some text → Fits text → ListsInParts text
         → EndsInFile request.now.out.now (asked_from code.now text request.now.start)
         (F.world files.old) (F.world files.new) frames result.creation) }
+    ensures cut { IfErr result.ended (λ e. (w : World) (text : List ℕ) (p : Playing) (steps : List Step)
+        → F.world files.old ≡ Some w → F.In.remaining events ≡ Some text → Fits text → ListsInParts text
+        → IsPlayback (asked_from code.now text request.now.start) p steps → CutsShort e) }
 {
     let mut play = NO_PLAY;
     let _lent = end_again::<Brand, F>(Lent::new(files), alloc, code, events, request, &mut play);
@@ -120,6 +133,9 @@ pub(crate) fn play_kept<F: Files>(
         → IsKeptOf text (string_bytes events)
         → EndsInFile request.now.out.now (asked_from code.now text request.now.start)
         (F.world files.old) (F.world files.new) frames result.creation) }
+    ensures cut { IfErr result.ended (λ e. (w : World) (text : List ℕ) (p : Playing) (steps : List Step)
+        → F.world files.old ≡ Some w → IsKeptOf text (string_bytes events)
+        → IsPlayback (asked_from code.now text request.now.start) p steps → CutsShort e) }
 {
     let mut play = NO_PLAY;
     let _lent = end_kept::<Brand, F>(Lent::new(files), alloc, code, events, request, &mut play);
@@ -128,7 +144,9 @@ pub(crate) fn play_kept<F: Files>(
 
 /// How a playback of a text ended, which is not read again.
 pub(crate) fn of_text(ended: Result<u128, RunFault>) -> Result<u128, FileRunFault>
-    ensures { IfOk result (λ frames. ended ≡ Ok frames) }
+    ensures frames { IfOk result (λ frames. ended ≡ Ok frames) }
+    ensures fault { IfErr result (λ e. (fault : TextsRunFault) × (ended ≡ Err fault)
+        × (e ≡ Run fault)) }
 {
     match ended {
         Ok(frames) => Ok(frames),

@@ -219,7 +219,7 @@ fn has_no_code_memory(fault: &LiveFault) -> bool
 }
 
 /// Whether a code was not read because it is out of memory.
-fn is_no_memory(fault: &RunFault) -> bool
+pub(crate) fn is_no_memory(fault: &RunFault) -> bool
     ensures { result ≡ true ↔ fault.now ≡ OfCode NoMemoryForCode }
 {
     match fault {

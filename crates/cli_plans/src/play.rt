@@ -1,13 +1,16 @@
 //! `dabplan play`: plays a plan code over events, and writes its frames to a file.
 
-ghost use Rattle.std.specs.Prelude.{◌≡◌, ◌≢◌, ℕ, List, [], take, Ok, Some, true, IfOk, OnOk};
+ghost use Rattle.std.specs.Prelude.{◌≡◌, ◌≢◌, ℕ, List, [], take, Ok, Some, true, false, IfOk, OnOk};
 ghost use Rattle.std.specs.Io.KnownBytes.{Appends};
-ghost use Rattle.console.specs.World.{Becomes, Stays, IsSameBut, HasWritten};
+ghost use Rattle.console.specs.World.{World, Becomes, Stays, IsSameBut, HasWritten};
 ghost use Rattle.console.specs.declared.exit.Status.TheVariants.{Done as PlayedToEnd};
+ghost use Rattle.plan_player.specs.Playing.{Playing};
+ghost use Rattle.plan_session.specs.declared.file_run_fault.FileRunFault.TheVariants.{Run};
+ghost use Rattle.plan_session.specs.declared.step.Step.{Step};
 ghost use Rattle.plan_session.specs.FilePlayback.{ListsInParts};
 ghost use Rattle.plan_session.specs.PartReading.{Fits};
-ghost use Rattle.plan_session.specs.Playback.{asked_from};
-ghost use Rattle.cli_plans.specs.PlayFiles.{played_line, IsWritable, IsPlayedInto};
+ghost use Rattle.plan_session.specs.Playback.{asked_from, IsPlayback};
+ghost use Rattle.cli_plans.specs.PlayFiles.{played_line, write_failed_line, IsWritable, IsPlayedInto, CutsShort, IsEnding, EndsOrIsCut, IsWriteFault};
 ghost use Rattle.cli_plans.specs.declared.late_file.Creation.TheVariants as end;
 
 use crate::event_file::{examine_event_file, open_events, read_event_text, unreadable};
@@ -62,6 +65,13 @@ pub fn show_play<'a, F: Files, W: Write>(
         → IsPlayedInto request.now.out.now
         (asked_from (take 1048577 code) text request.now.start)
         (F.world files.old) (F.world files.new) (W.contents out.old) (W.contents out.new)) }
+    // A playback that is possible comes to its end, unless memory or a file fails: a line says so then.
+    ensures plays { IfOk result (λ status. (w : World) (code text : List ℕ) (p : Playing)
+        (steps : List Step) → F.world files.old ≡ Some w
+        → F.known files.old request.now.code.now ≡ Some code
+        → F.known files.old request.now.events.now ≡ Some text → Fits text
+        → IsPlayback (asked_from (take 1048577 code) text request.now.start) p steps
+        → EndsOrIsCut request.now.events.now status (W.contents out.old) (W.contents out.new)) }
     ensures others { Becomes (IsSameBut request.now.out.now)
         (F.world files.old) (F.world files.new) }
 {
@@ -92,6 +102,11 @@ fn show_again<'a, F: Files, W: Write>(
         → F.known files.old request.now.events.now ≡ Some text → Fits text → ListsInParts text
         → IsPlayedInto request.now.out.now (asked_from code.now text request.now.start)
         (F.world files.old) (F.world files.new) (W.contents out.old) (W.contents out.new)) }
+    ensures plays { IfOk result (λ status. (w : World) (text : List ℕ) (p : Playing)
+        (steps : List Step) → F.world files.old ≡ Some w
+        → F.known files.old request.now.events.now ≡ Some text → Fits text → ListsInParts text
+        → IsPlayback (asked_from code.now text request.now.start) p steps
+        → EndsOrIsCut request.now.events.now status (W.contents out.old) (W.contents out.new)) }
     ensures others { Becomes (IsSameBut request.now.out.now)
         (F.world files.old) (F.world files.new) }
 {
@@ -138,6 +153,11 @@ fn show_kept<'a, F: Files, W: Write>(
         → F.known files.old request.now.events.now ≡ Some text
         → IsPlayedInto request.now.out.now (asked_from code.now text request.now.start)
         (F.world files.old) (F.world files.new) (W.contents out.old) (W.contents out.new)) }
+    ensures plays { IfOk result (λ status. (w : World) (text : List ℕ) (p : Playing)
+        (steps : List Step) → F.world files.old ≡ Some w
+        → F.known files.old request.now.events.now ≡ Some text
+        → IsPlayback (asked_from code.now text request.now.start) p steps
+        → EndsOrIsCut request.now.events.now status (W.contents out.old) (W.contents out.new)) }
     ensures others { Becomes (IsSameBut request.now.out.now)
         (F.world files.old) (F.world files.new) }
 {
@@ -161,6 +181,8 @@ fn end_play<'a, F: Files, W: Write>(
     ensures printed { IfOk result (λ status. status ≡ PlayedToEnd → (frames : ℕ)
         × (ended ≡ Ok frames)
         × Appends (W.contents out.old) (W.contents out.new) (played_line frames)) }
+    ensures ends { IfOk result (λ status. IsEnding request.now.events.now ended status
+        (W.contents out.old) (W.contents out.new)) }
     ensures failed { IfOk result (λ status. status ≡ PlayedToEnd → IsWritable creation) }
     ensures done { creation ≡ end.Done → Stays (F.world files.old) (F.world files.new) }
     ensures due { creation ≡ end.Due → IfOk result (λ status. status ≡ PlayedToEnd
@@ -264,8 +286,10 @@ fn print_ending<'a, W: Write>(
     events: &'a str,
     out: &mut W,
 ) -> Result<Status, Failure<'a>>
-    ensures { IfOk result (λ status. status ≡ PlayedToEnd → (frames : ℕ) × (ended ≡ Ok frames)
+    ensures played { IfOk result (λ status. status ≡ PlayedToEnd → (frames : ℕ) × (ended ≡ Ok frames)
         × Appends (W.contents out.old) (W.contents out.new) (played_line frames)) }
+    ensures ends { IfOk result (λ status. IsEnding events.now ended status
+        (W.contents out.old) (W.contents out.new)) }
 {
     match ended {
         Ok(frames) => {
@@ -290,12 +314,41 @@ fn print_ending<'a, W: Write>(
 
 /// Prints why a playback failed.
 fn print_fault<'a, W: Write>(fault: RunFault, out: &mut W) -> Result<Status, Failure<'a>>
-    ensures { IfOk result (λ status. status ≢ PlayedToEnd) }
+    ensures refused { IfOk result (λ status. status ≢ PlayedToEnd) }
+    ensures cut { IfOk result (λ status. CutsShort (Run fault) → (frames : ℕ) × (bytes : ℕ)
+        × Appends (W.contents out.old) (W.contents out.new) (write_failed_line frames bytes)) }
+{
+    if lacks_memory(&fault) {
+        return Err(Failure::Memory);
+    }
+    print_line(&fault, out)
+}
+
+/// Whether a playback failed because it is out of memory.
+fn lacks_memory(fault: &RunFault) -> bool
+    ensures { result ≡ false → CutsShort (Run fault.now) → IsWriteFault fault.now }
 {
     match fault {
-        RunFault::Code(CodeFault::Memory) => Err(Failure::Memory),
-        RunFault::Events(EventFault::Memory) => Err(Failure::Memory),
-        fault => {
+        RunFault::Code(fault) => *fault == CodeFault::Memory,
+        RunFault::Events(fault) => *fault == EventFault::Memory,
+        RunFault::Refused { .. } => false,
+        RunFault::Start(_) => false,
+        RunFault::Write { .. } => false,
+    }
+}
+
+/// Prints the line of a fault.
+fn print_line<'a, W: Write>(fault: &RunFault, out: &mut W) -> Result<Status, Failure<'a>>
+    ensures refused { IfOk result (λ status. status ≢ PlayedToEnd) }
+    ensures line { IfOk result (λ status. IsWriteFault fault.now → (frames : ℕ) × (bytes : ℕ)
+        × Appends (W.contents out.old) (W.contents out.new) (write_failed_line frames bytes)) }
+{
+    match fault {
+        RunFault::Write { frames, bytes } => {
+            writeln!(out, "write failed after {frames} frames and {bytes} bytes")?;
+            Ok(Status::Refused)
+        }
+        RunFault::Code(_) | RunFault::Refused { .. } | RunFault::Start(_) | RunFault::Events(_) => {
             writeln!(out, "{fault}")?;
             Ok(Status::Refused)
         }
