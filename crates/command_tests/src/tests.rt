@@ -1,0 +1,6 @@
+//! Tests of commands: what is printed, what the output file holds, and how the command ends.
+
+mod comparing;
+mod compiling;
+mod playing;
+mod verifying;
