@@ -1,7 +1,7 @@
 -- A name is found exactly if it is among the names.
 use Rattle.std.proofs.Common.{◌≡◌, ◌≢◌, ℕ, zero, suc, ◌<◌, Bool, true, false, ◌||◌, List, [], ◌∷◌, ◌++◌, map, length, get_or, Option, Some, None, slice_get, refl, sym, ap, ◌∙◌, arith}
 use Rattle.std.specs.Prelude.{position, string_bytes, IfSome}
-use Rattle.std.specs.List.{list_any}
+use Rattle.std.specs.List.{list_any, position_or_len}
 use Rattle.std.specs.Str.{bytes_eq}
 use Rattle.std.specs.String.{string_eq}
 use Rattle.std.proofs.lemmas.Bool.{false≢true}
@@ -70,6 +70,13 @@ module _ {Y : Type 0} where
   map_length : (ks : List (String Y)) → length (map string_bytes ks) ≡ length ks
   map_length [] = refl
   map_length (k ∷ ks) = ap suc (map_length ks)
+
+  places : (bs : List ℕ) (ks : List (String Y)) → position_or_len (is_name bs) ks ≡ position_or_len (bytes_eq bs) (map string_bytes ks)
+  places bs [] = refl
+  places bs (k ∷ ks) = let r = places bs ks in cc
+
+  pub place_is : (bs : List ℕ) (ks : List (String Y)) → position (is_name bs) ks ≡ position (bytes_eq bs) (map string_bytes ks)
+  place_is bs ks = rw (places bs ks, map_length ks) refl
 
   pub within_if : (ks : List (String Y)) (r : Option ℕ) → IfSome r (λ i. i < length ks) → IfSome r (λ i. i < length (map string_bytes ks))
   within_if ks None h = tt

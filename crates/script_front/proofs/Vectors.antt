@@ -1,5 +1,6 @@
 -- Short scripts that have the same tokens, and some that have not.
-use Rattle.std.proofs.Common.{◌≡◌, ◌≢◌, ℕ, ◌≤◌, List, [], ◌∷◌, ◌++◌, refl, sym, ap, ◌∙◌, arith}
+use Rattle.std.proofs.Common.{◌≡◌, ◌≢◌, ℕ, ◌≤◌, true, false, List, [], ◌∷◌, ◌++◌, refl, sym, ap, ◌∙◌, arith}
+use Rattle.std.specs.Prelude.{Some, None}
 use Rattle.std.specs.Fmt.{decimal}
 use Rattle.fib_codec.specs.Layouts.{reserved_fibs}
 use Rattle.fib_codec.specs.declared.frame_layout.FrameLayout.{FrameLayout}
@@ -12,14 +13,16 @@ use Rattle.script_front.specs.Tree.{Tree, IsScript}
 use Rattle.plan_code.specs.Program.{IsPlan}
 use Rattle.script_tokens.specs.declared.keyword.Keyword.TheVariants as the
 use Rattle.script_tokens.specs.Keywords.{letters}
-use Rattle.script_tokens.specs.Reading.{Input}
-use Rattle.script_tokens.proofs.Keys.{same_key}
+use Rattle.script_tokens.specs.Reading.{is_next, after}
+use Rattle.script_tokens.proofs.Combining.{other_next, not_after}
 use Rattle.script_front.specs.Spelled.{reserve_lexemes, header_lexemes, tree_lexemes}
-use Rattle.script_front.specs.Parsing.{BeginsNoReserve, NoHeader}
+use Rattle.script_front.specs.Readers.{header_at}
+use Rattle.script_front.specs.BlockReader.{stops, content_of, script_at}
 use Rattle.script_front.specs.Alike.{unlined}
 use Rattle.script_front.specs.Denoting.{IsScriptOf}
-use Rattle.script_front.proofs.Alike.{scripts_alike}
-use Rattle.script_front.proofs.OneScript.{one_script}
+use Rattle.script_front.proofs.FoundBlocks.{closing_stops}
+use Rattle.script_front.proofs.ReadingHeaders.{header_found}
+use Rattle.script_front.proofs.ReadingScripts.{scripts_are_read, scripts_alike, one_script}
 
 -- `ensemble E1C5 period 4 notice 24 budget 20`, with this layout and period
 abbrev headed : FrameLayout → (period : ℕ) → Plan
@@ -89,18 +92,29 @@ reserved = refl
 two_reserved : reserve_lexemes ReserveTwo ≡ letters the.Reserve ∷ decimal 2 ∷ []
 two_reserved = refl
 
-begins_no_reserve : BeginsNoReserve (letters the.Begin ∷ [])
-begins_no_reserve rest e = let f = same_key the.Begin the.Reserve _ _ e in absurd cc
+-- a header is read, and `begin` is not read as one
+header_read : header_at (header_lexemes (headed (Whole I) 4) ++ letters the.Begin ∷ []) ≡ Some (headed (Whole I) 4, letters the.Begin ∷ [])
+header_read = header_found (headed (Whole I) 4) (letters the.Begin ∷ []) (headed_is (Whole I) 4 (omega arith) (omega arith)) (other_next the.Begin the.Reserve [] (λ e. cc))
 
-begins_with_reserve : BeginsNoReserve (letters the.Reserve ∷ []) → ⊥
-begins_with_reserve h = h [] refl
+no_header_read : header_at (letters the.Begin ∷ []) ≡ None
+unfolding header_at
+no_header_read = rw (not_after the.Begin the.Ensemble [] (λ e. cc)) refl
 
--- a header is next, or is not
-no_header_before_begin : (i : Input) → i.lexemes ≡ header_lexemes (headed (Whole I) 4) ++ letters the.Begin ∷ [] → NoHeader i → ⊥
-no_header_before_begin i e none = none (headed (Whole I) 4) (letters the.Begin ∷ []) (headed_is (Whole I) 4 (omega arith) (omega arith)) begins_no_reserve e
+-- statements end at a closing brace, and not at `end`
+stops_at_a_brace : stops (letters the.CloseBrace ∷ []) ≡ true
+stops_at_a_brace = closing_stops []
 
-no_header_of_begin : (i : Input) → i.lexemes ≡ letters the.Begin ∷ [] → NoHeader i
-no_header_of_begin i e p rest is ends f = let g = same_key the.Begin the.Ensemble _ _ (sym e ∙ f) in absurd cc
+goes_on_at_end : stops (letters the.End ∷ []) ≡ false
+unfolding stops
+goes_on_at_end = other_next the.End the.CloseBrace [] (λ e. cc)
+
+-- a script without statements is read, and nothing is no script
+script_is_read : script_at (record { lexemes = tree_lexemes (brief 4 0); lines = [] }) ≡ Some (content_of (brief 4 0))
+script_is_read = scripts_are_read.found _ (brief 4 0) (brief_is 4 0 (omega arith) (omega arith)) (record { spells = refl; lined = record { items = tt; blocks = tt; begin = refl; statements = tt; last = refl } })
+
+nothing_is_read : script_at (record { lexemes = []; lines = [] }) ≡ None
+unfolding script_at header_at after is_next
+nothing_is_read = refl
 
 -- and so does another wait
 of_other_waits : (s t : Tree) → IsScript s → IsScript t → block_of [] s.statements ≡ basic 3 (Wait 1) nothing → block_of [] t.statements ≡ basic 3 (Wait 2) nothing → tree_lexemes s ≢ tree_lexemes t

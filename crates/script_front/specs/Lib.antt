@@ -1,8 +1,10 @@
 pub mod Alike
 pub mod Block
+pub mod BlockReader
 pub mod Denoting
 pub mod Parsing
 pub mod Printing
+pub mod Readers
 pub mod Spelled
 pub mod Tree
 pub use Rattle.script_tokens.specs.Bytes

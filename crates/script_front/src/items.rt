@@ -1,26 +1,11 @@
 //! Parsing items and the statements without a block.
 
-ghost use Rattle.std.specs.Prelude.{◌≡◌, ℕ, ◌+◌, ◌∷◌, [], ◌<◌, length, IfOk, OnOk};
-ghost use Rattle.std.specs.List.{All};
-ghost use Rattle.mux_config.specs.Configuration.{IsSid, IsComponent};
-ghost use Rattle.plan_code.specs.Program.{IsEdit, IsNewSub, IsNewPacket, IsCarrier};
-ghost use Rattle.std.specs.Fmt.{decimal};
-ghost use Rattle.mux_config.specs.declared.edit.Edit.TheVariants.{AddSub, AddPacket, AddComponent, MoveSub, RateSub};
-ghost use Rattle.script_tokens.specs.declared.keyword.Keyword.TheVariants as the;
-ghost use Rattle.script_tokens.specs.Keywords.{letters};
-ghost use Rattle.script_tokens.specs.Reading.{Passes, preceded_by};
-ghost use Rattle.script_front.specs.Spelled.{within_lexemes, groups_text, carried_lexemes, carrier_lexemes, edit_lexemes, act_lexemes};
-ghost use Rattle.script_front.specs.Tree.{IsAct, IsItem, Adds};
-ghost use Rattle.script_front.specs.Parsing.{from_component, from_item, from_edit, from_act, IsOneMore, AreItems, NoneOf, BeginsItem, BeginsNoItem, NoItems};
-ghost use Rattle.std.specs.Prelude.{true, false, ◌≢◌, OnErr, IfErr, Bool};
+ghost use Rattle.std.specs.Prelude.{◌≡◌, ℕ, ◌≢◌, true, false, None, IfOk, OnOk, IfErr, suc};
 ghost use Rattle.script_tokens.specs.declared.fault.ScriptFault.TheVariants.{Memory};
-ghost use Rattle.script_front.specs.declared.tree.Act.{Act};
-ghost use Rattle.mux_config.specs.declared.edit.Edit.{Edit};
-ghost use Rattle.mux_types.specs.declared.numbers.Sid.{Sid};
-ghost use Rattle.mux_types.specs.declared.parts.Sub.{Sub};
-ghost use Rattle.mux_types.specs.declared.parts.Packet.{Packet};
-ghost use Rattle.mux_types.specs.declared.parts.Component.{Component};
-ghost use Rattle.mux_types.specs.declared.parts.Carrier.{Carrier};
+ghost use Rattle.script_tokens.specs.declared.first_keyword.ItemKeyword.TheVariants as the;
+ghost use Rattle.script_tokens.specs.Reading.{Takes, first_item};
+ghost use Rattle.script_front.specs.Readers.{sub_at, service_at, new_sub_at, new_packet_at, groups_at, typed_sub_at, component_from, item_from, carrier_at, dropping, dropped_at, moved_at, rated_at, edit_from, waiting_at, committing_at, act_from, items_at};
+ghost use Rattle.script_front.specs.Parsing.{ReadsItems, HasMore};
 
 use crate::tree::{Act, Item};
 use mux_config::{Carrier, Component, Edit, NewSub, Packet, ScTy, Sid, SubId};
@@ -34,34 +19,27 @@ use script_tokens::values::{
 use std::alloc::Global;
 
 /// `sub ID`
+#[tactic(auto, unfolding(crate::specs::Readers::sub_at))]
 fn sub(reader: &mut Reader) -> Result<SubId, ScriptFault>
-    ensures spells { IfOk result (λ s. Passes (letters the.Sub ∷ decimal s ∷ []) reader.old
-        reader.new) }
-    ensures range { IfOk result (λ s. s < 64) }
-    ensures none { OnErr result (NoneOf ℕ (λ s. s < 64) (λ s. letters the.Sub ∷ decimal s ∷ [])
-        reader.old) }
+    ensures { Takes (sub_at reader.old.lexemes) result reader.old reader.new }
 {
     reader.expect(Keyword::Sub)?;
     sub_id(reader)
 }
 
 /// `in SID`
+#[tactic(auto, unfolding(crate::specs::Readers::service_at))]
 fn in_service(reader: &mut Reader) -> Result<Sid, ScriptFault>
-    ensures spells { IfOk result (λ s. Passes (within_lexemes s) reader.old reader.new) }
-    ensures range { IfOk result IsSid }
-    ensures none { OnErr result (NoneOf Sid IsSid within_lexemes reader.old) }
+    ensures { Takes (service_at reader.old.lexemes) result reader.old reader.new }
 {
     reader.expect(Keyword::In)?;
     sid(reader)
 }
 
 /// `ID at START eep PROFILE RATE`
+#[tactic(auto, unfolding(crate::specs::Readers::new_sub_at))]
 fn new_sub(reader: &mut Reader) -> Result<NewSub, ScriptFault>
-    ensures spells { IfOk result (λ s. Passes (edit_lexemes (AddSub s)) (preceded_by the.Sub reader.old)
-        reader.new) }
-    ensures range { IfOk result IsNewSub }
-    ensures none { OnErr result (NoneOf Sub IsNewSub (λ s. edit_lexemes (AddSub s)) (preceded_by
-        the.Sub reader.old)) }
+    ensures { Takes (new_sub_at reader.old.lexemes) result reader.old reader.new }
 {
     let id = sub_id(reader)?;
     reader.expect(Keyword::At)?;
@@ -73,12 +51,9 @@ fn new_sub(reader: &mut Reader) -> Result<NewSub, ScriptFault>
 }
 
 /// `SCID groups type TYPE sub ID address ADDR`, or with `raw` in place of `groups`
+#[tactic(auto, unfolding(crate::specs::Readers::new_packet_at))]
 fn new_packet(reader: &mut Reader) -> Result<Packet, ScriptFault>
-    ensures spells { IfOk result (λ p. Passes (edit_lexemes (AddPacket p)) (preceded_by the.Packet
-        reader.old) reader.new) }
-    ensures range { IfOk result IsNewPacket }
-    ensures none { OnErr result (NoneOf Packet IsNewPacket (λ p. edit_lexemes (AddPacket p))
-        (preceded_by the.Packet reader.old)) }
+    ensures { Takes (new_packet_at reader.old.lexemes) result reader.old reader.new }
 {
     let scid = sc_id(reader)?;
     let dg = data_groups(reader)?;
@@ -97,9 +72,9 @@ fn new_packet(reader: &mut Reader) -> Result<Packet, ScriptFault>
 }
 
 /// `groups` for DG flag 0, or `raw` for 1
+#[tactic(auto, unfolding(crate::specs::Readers::groups_at))]
 fn data_groups(reader: &mut Reader) -> Result<bool, ScriptFault>
-    ensures spells { IfOk result (λ b. Passes (groups_text b ∷ []) reader.old reader.new) }
-    ensures none { OnErr result (NoneOf Bool (λ b. Unit {0}) (λ b. groups_text b ∷ []) reader.old) }
+    ensures { Takes (groups_at reader.old.lexemes) result reader.old reader.new }
 {
     if reader.is_next(Keyword::Groups) {
         reader.advance();
@@ -110,12 +85,9 @@ fn data_groups(reader: &mut Reader) -> Result<bool, ScriptFault>
 }
 
 /// `TYPE sub ID`
+#[tactic(auto, unfolding(crate::specs::Readers::typed_sub_at))]
 fn typed_sub(reader: &mut Reader) -> Result<(ScTy, SubId), ScriptFault>
-    ensures spells { IfOk result (λ p. Passes (decimal p.0 ∷ letters the.Sub ∷ decimal p.1 ∷ [])
-        reader.old reader.new) }
-    ensures range { IfOk result (λ p. (p.0 < 64) × (p.1 < 64)) }
-    ensures none { OnErr result (NoneOf (ℕ × ℕ) (λ p. (p.0 < 64) × (p.1 < 64)) (λ p. decimal p.0
-        ∷ letters the.Sub ∷ decimal p.1 ∷ []) reader.old) }
+    ensures { Takes (typed_sub_at reader.old.lexemes) result reader.old reader.new }
 {
     let ty = sc_ty(reader)?;
     let sub = sub(reader)?;
@@ -123,13 +95,9 @@ fn typed_sub(reader: &mut Reader) -> Result<(ScTy, SubId), ScriptFault>
 }
 
 /// `audio`, `data` or `carry`, then the rest of the component
+#[tactic(auto, unfolding(crate::specs::Readers::item_from))]
 fn component(reader: &mut Reader, first: ComponentKeyword) -> Result<Edit, ScriptFault>
-    ensures spells { IfOk result (λ e. Passes (edit_lexemes e) (from_component first reader.old)
-        reader.new) }
-    ensures range { IfOk result IsEdit }
-    ensures adds { IfOk result Adds }
-    ensures none { OnErr result (NoneOf (Sid × Component) (λ p. IsSid p.0 × IsComponent p.1) (λ
-        p. edit_lexemes (AddComponent p.0 p.1)) (from_component first reader.old)) }
+    ensures { Takes (item_from (the.Component first) reader.old.lexemes) result reader.old reader.new }
 {
     let component = carried(reader, first)?;
     let sid = in_service(reader)?;
@@ -137,12 +105,9 @@ fn component(reader: &mut Reader, first: ComponentKeyword) -> Result<Edit, Scrip
 }
 
 /// What is carried: `audio`, `data` or `carry` with its arguments, up to `in`
+#[tactic(auto, unfolding(crate::specs::Readers::component_from))]
 fn carried(reader: &mut Reader, first: ComponentKeyword) -> Result<Component, ScriptFault>
-    ensures spells { IfOk result (λ m. Passes (carried_lexemes m) (from_component first reader.old)
-        reader.new) }
-    ensures range { IfOk result IsComponent }
-    ensures none { OnErr result (NoneOf Component IsComponent carried_lexemes
-        (from_component first reader.old)) }
+    ensures { Takes (component_from first reader.old.lexemes) result reader.old reader.new }
 {
     match first {
         ComponentKeyword::Audio => {
@@ -161,13 +126,9 @@ fn carried(reader: &mut Reader, first: ComponentKeyword) -> Result<Component, Sc
 }
 
 /// An item, after its first keyword.
+#[tactic(auto, unfolding(crate::specs::Readers::item_from))]
 fn item(reader: &mut Reader, first: ItemKeyword) -> Result<Edit, ScriptFault>
-    ensures spells { IfOk result (λ e. Passes (edit_lexemes e) (from_item first reader.old)
-        reader.new) }
-    ensures range { IfOk result IsEdit }
-    ensures adds { IfOk result Adds }
-    ensures none { OnErr result (NoneOf Edit (λ e. IsEdit e × Adds e) edit_lexemes
-        (from_item first reader.old)) }
+    ensures { Takes (item_from first reader.old.lexemes) result reader.old reader.new }
 {
     match first {
         ItemKeyword::Sub => {
@@ -187,10 +148,9 @@ fn item(reader: &mut Reader, first: ItemKeyword) -> Result<Edit, ScriptFault>
 }
 
 /// `sub ID` or `packet SCID`
+#[tactic(auto, unfolding(crate::specs::Readers::carrier_at))]
 fn carrier(reader: &mut Reader) -> Result<Carrier, ScriptFault>
-    ensures spells { IfOk result (λ m. Passes (carrier_lexemes m) reader.old reader.new) }
-    ensures range { IfOk result IsCarrier }
-    ensures none { OnErr result (NoneOf Carrier IsCarrier carrier_lexemes reader.old) }
+    ensures { Takes (carrier_at reader.old.lexemes) result reader.old reader.new }
 {
     if reader.is_next(Keyword::Sub) {
         reader.advance();
@@ -203,46 +163,39 @@ fn carrier(reader: &mut Reader) -> Result<Carrier, ScriptFault>
 }
 
 /// The rest of an edit after `drop`
+#[tactic(auto, unfolding(crate::specs::Readers::dropped_at))]
 fn dropped(reader: &mut Reader) -> Result<Edit, ScriptFault>
-    ensures spells { IfOk result (λ e. Passes (edit_lexemes e) (preceded_by the.Drop reader.old)
-        reader.new) }
-    ensures range { IfOk result IsEdit }
-    ensures none { OnErr result (NoneOf Edit IsEdit edit_lexemes (preceded_by the.Drop reader.old)) }
+    ensures { Takes (dropped_at reader.old.lexemes) result reader.old reader.new }
 {
     if reader.is_next(Keyword::Service) {
         reader.advance();
         let sid = sid(reader)?;
         return Ok(Edit::DropService(sid));
     }
-    if !reader.is_next(Keyword::Component) {
-        return dropped_carrier(reader);
+    if reader.is_next(Keyword::Component) {
+        reader.advance();
+        let carrier = carrier(reader)?;
+        let sid = in_service(reader)?;
+        return Ok(Edit::DropComponent { sid, carrier });
     }
-    reader.advance();
     let carrier = carrier(reader)?;
-    let sid = in_service(reader)?;
-    Ok(Edit::DropComponent { sid, carrier })
+    Ok(dropping(carrier))
 }
 
-/// `sub ID` or `packet SCID` after `drop`
-fn dropped_carrier(reader: &mut Reader) -> Result<Edit, ScriptFault>
-    ensures spells { IfOk result (λ e. Passes (edit_lexemes e) (preceded_by the.Drop reader.old)
-        reader.new) }
-    ensures range { IfOk result IsEdit }
-    ensures none { OnErr result (NoneOf Carrier IsCarrier carrier_lexemes reader.old) }
+/// An edit that drops this carrier.
+fn dropping(carrier: Carrier) -> Edit
+    ensures { result ≡ dropping carrier }
 {
-    match carrier(reader)? {
-        Carrier::Sub(id) => Ok(Edit::DropSub(id)),
-        Carrier::Packet(scid) => Ok(Edit::DropPacket(scid)),
+    match carrier {
+        Carrier::Sub(id) => Edit::DropSub(id),
+        Carrier::Packet(scid) => Edit::DropPacket(scid),
     }
 }
 
 /// `sub ID at START` after `move`
+#[tactic(auto, unfolding(crate::specs::Readers::moved_at))]
 fn moved(reader: &mut Reader) -> Result<Edit, ScriptFault>
-    ensures spells { IfOk result (λ e. Passes (edit_lexemes e) (preceded_by the.Move reader.old)
-        reader.new) }
-    ensures range { IfOk result IsEdit }
-    ensures none { OnErr result (NoneOf (ℕ × ℕ) (λ p. (p.0 < 64) × (p.1 < 1024)) (λ p.
-        edit_lexemes (MoveSub p.0 p.1)) (preceded_by the.Move reader.old)) }
+    ensures { Takes (moved_at reader.old.lexemes) result reader.old reader.new }
 {
     let id = sub(reader)?;
     reader.expect(Keyword::At)?;
@@ -251,12 +204,9 @@ fn moved(reader: &mut Reader) -> Result<Edit, ScriptFault>
 }
 
 /// `sub ID RATE` after `rate`
+#[tactic(auto, unfolding(crate::specs::Readers::rated_at))]
 fn rated(reader: &mut Reader) -> Result<Edit, ScriptFault>
-    ensures spells { IfOk result (λ e. Passes (edit_lexemes e) (preceded_by the.Rate reader.old)
-        reader.new) }
-    ensures range { IfOk result IsEdit }
-    ensures none { OnErr result (NoneOf (ℕ × ℕ) (λ p. (p.0 < 64) × (p.1 < 65536)) (λ p.
-        edit_lexemes (RateSub p.0 p.1)) (preceded_by the.Rate reader.old)) }
+    ensures { Takes (rated_at reader.old.lexemes) result reader.old reader.new }
 {
     let id = sub(reader)?;
     let kbits = any_u16(reader)?;
@@ -264,11 +214,9 @@ fn rated(reader: &mut Reader) -> Result<Edit, ScriptFault>
 }
 
 /// An edit, after its first keyword.
+#[tactic(auto, unfolding(crate::specs::Readers::edit_from))]
 fn edit(reader: &mut Reader, first: EditKeyword) -> Result<Edit, ScriptFault>
-    ensures spells { IfOk result (λ e. Passes (edit_lexemes e) (from_edit first reader.old)
-        reader.new) }
-    ensures range { IfOk result IsEdit }
-    ensures none { OnErr result (NoneOf Edit IsEdit edit_lexemes (from_edit first reader.old)) }
+    ensures { Takes (edit_from first reader.old.lexemes) result reader.old reader.new }
 {
     match first {
         EditKeyword::Drop => dropped(reader),
@@ -279,11 +227,9 @@ fn edit(reader: &mut Reader, first: EditKeyword) -> Result<Edit, ScriptFault>
 }
 
 /// The rest of a statement after `wait`
+#[tactic(auto, unfolding(crate::specs::Readers::waiting_at))]
 fn waiting(reader: &mut Reader) -> Result<Act, ScriptFault>
-    ensures spells { IfOk result (λ a. Passes (act_lexemes a) (preceded_by the.Wait reader.old)
-        reader.new) }
-    ensures range { IfOk result IsAct }
-    ensures none { OnErr result (NoneOf Act IsAct act_lexemes (preceded_by the.Wait reader.old)) }
+    ensures { Takes (waiting_at reader.old.lexemes) result reader.old reader.new }
 {
     if reader.is_next(Keyword::Contact) {
         reader.advance();
@@ -296,11 +242,9 @@ fn waiting(reader: &mut Reader) -> Result<Act, ScriptFault>
 }
 
 /// `in K` or `at COUNT`, after `commit`
+#[tactic(auto, unfolding(crate::specs::Readers::committing_at))]
 fn committing(reader: &mut Reader) -> Result<Act, ScriptFault>
-    ensures spells { IfOk result (λ a. Passes (act_lexemes a) (preceded_by the.Commit reader.old)
-        reader.new) }
-    ensures range { IfOk result IsAct }
-    ensures none { OnErr result (NoneOf Act IsAct act_lexemes (preceded_by the.Commit reader.old)) }
+    ensures { Takes (committing_at reader.old.lexemes) result reader.old reader.new }
 {
     if reader.is_next(Keyword::In) {
         reader.advance();
@@ -313,11 +257,9 @@ fn committing(reader: &mut Reader) -> Result<Act, ScriptFault>
 }
 
 /// A statement without a block, after its first keyword.
+#[tactic(auto, unfolding(crate::specs::Readers::act_from))]
 pub fn act(reader: &mut Reader, first: ActKeyword) -> Result<Act, ScriptFault>
-    ensures spells { IfOk result (λ a. Passes (act_lexemes a) (from_act first reader.old)
-        reader.new) }
-    ensures range { IfOk result IsAct }
-    ensures none { OnErr result (NoneOf Act IsAct act_lexemes (from_act first reader.old)) }
+    ensures { Takes (act_from first reader.old.lexemes) result reader.old reader.new }
 {
     match first {
         ActKeyword::Wait => waiting(reader),
@@ -337,19 +279,18 @@ pub fn act(reader: &mut Reader, first: ActKeyword) -> Result<Act, ScriptFault>
 
 /// Whether the next token begins an item.
 pub fn begins_item(reader: &Reader) -> bool
-    ensures begins { result ≡ true → BeginsItem reader.now.lexemes }
-    ensures none { result ≡ false → BeginsNoItem reader.now.lexemes }
+    ensures begins { result ≡ true → first_item reader.now.lexemes ≢ None }
+    ensures none { result ≡ false → first_item reader.now.lexemes ≡ None }
 {
     reader.item_keyword().is_some()
 }
 
 /// Items, as long as one begins; `left` is how many more items and statements the script may have.
+#[tactic(auto, using(crate::proofs::ReadingItems::goes_on, crate::proofs::ReadingItems::all_read, crate::proofs::ReadingItems::none_left, crate::proofs::ReadingItems::none_next))]
 pub fn items(alloc: Global, reader: &mut Reader, left: &mut u16) -> Result<Vec<Item>, ScriptFault>
-    ensures formed { IfOk result (λ v. All IsItem v.items) }
-    ensures counts { IfOk result (λ v. length v.items + left.new ≡ left.old) }
-    ensures spells { IfOk result (λ v. AreItems v.items reader.old reader.new) }
-    ensures stops { OnOk result (BeginsNoItem reader.new.lexemes) }
-    ensures none { IfErr result (λ e. e ≢ Memory → NoItems left.old reader.old.lexemes) }
+    ensures read { IfOk result (λ v. ReadsItems v.items left.old left.new reader.old reader.new) }
+    ensures none { IfErr result (λ e. e ≢ Memory → items_at left.old reader.old.lines
+        reader.old.lexemes ≡ None) }
 {
     let mut list = Vec::new(alloc);
     while begins_item(reader) {
@@ -363,10 +304,12 @@ pub fn items(alloc: Global, reader: &mut Reader, left: &mut u16) -> Result<Vec<I
 }
 
 /// Reads an item and appends it to a list.
+#[tactic(auto, unfolding(crate::specs::Readers::items_at))]
 fn one_more(reader: &mut Reader, list: &mut Vec<Item>) -> Result<(), ScriptFault>
-    ensures formed { OnOk result (IsOneMore list.old.items list.new.items reader.old reader.new) }
-    ensures none { IfErr result (λ e. e ≢ Memory → NoneOf Edit (λ e. IsEdit e × Adds e) edit_lexemes
-        reader.old) }
+    requires { first_item reader.old.lexemes ≢ None }
+    ensures more { OnOk result (HasMore list.old.items list.new.items reader.old reader.new) }
+    ensures none { IfErr result (λ e. e ≢ Memory → (left : ℕ) → items_at (suc left) reader.old.lines
+        reader.old.lexemes ≡ None) }
 {
     let Some(first) = reader.item_keyword() else {
         return Err(reader.expected());

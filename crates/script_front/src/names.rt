@@ -1,6 +1,7 @@
 //! The names of defined blocks.
 
-ghost use Rattle.std.specs.Prelude.{◌≡◌, ◌≢◌, ℕ, ◌<◌, ◌++◌, ◌∷◌, [], length, slice_get, Some, IfSome, OnOk, List, option_map};
+ghost use Rattle.std.specs.Prelude.{◌≡◌, ◌≢◌, ℕ, ◌<◌, ◌++◌, ◌∷◌, [], length, slice_get, Some, IfSome, OnOk, List, option_map, position};
+ghost use Rattle.std.specs.Str.{bytes_eq};
 
 use indexmap::IndexSet;
 use std::alloc::{AllocError, Global};
@@ -39,6 +40,7 @@ impl Names {
 
     /// The index of this name; None if it is not among the names.
     pub fn find(&self, name: &str) -> Option<usize>
+        ensures is { result ≡ position (bytes_eq name.now) self.now }
         ensures within { IfSome result (λ i. i < length self.now) }
         ensures found { IfSome result (λ i. slice_get self.now i ≡ Some name.now) }
         ensures none { result ≡ None → (i : ℕ) → slice_get self.now i ≢ Some name.now }

@@ -1,14 +1,13 @@
 //! Parsing a script.
 
-ghost use Rattle.std.specs.Prelude.{◌≡◌, ◌≢◌, ℕ, ◌∷◌, [], ◌<◌, length, slice_get, Some, IfOk, OnOk};
-ghost use Rattle.script_front.specs.Block.{block_of};
-ghost use Rattle.script_tokens.specs.declared.keyword.Keyword.TheVariants as the;
-ghost use Rattle.script_tokens.specs.Keywords.{letters, IsName};
-ghost use Rattle.script_tokens.specs.Reading.{BeginsWith};
-ghost use Rattle.script_front.specs.Parsing.{AreDefined, IsDefined, SpellsTree, NoDefinitions, NoNewName, SpellsNone};
-ghost use Rattle.script_front.specs.Denoting.{IsScriptOf, IsNoScript};
-ghost use Rattle.std.specs.Prelude.{IfErr, OnErr, List};
+ghost use Rattle.std.specs.Prelude.{◌≡◌, ◌≢◌, ℕ, [], ◌<◌, length, drop, slice_get, true, Some, None, IfOk, OnOk, IfErr, OnErr};
 ghost use Rattle.script_tokens.specs.declared.fault.ScriptFault.TheVariants.{Memory};
+ghost use Rattle.script_tokens.specs.declared.keyword.Keyword.TheVariants as the;
+ghost use Rattle.script_tokens.specs.Reading.{is_next};
+ghost use Rattle.script_front.specs.Block.{block_of};
+ghost use Rattle.script_front.specs.BlockReader.{new_name_at, definition_at, definitions_at, content_of, script_at};
+ghost use Rattle.script_front.specs.Parsing.{ReadsDefinition, ReadsDefinitions};
+ghost use Rattle.script_front.specs.Denoting.{IsScriptOf, IsNoScript};
 
 use crate::header::header;
 use crate::items::items;
@@ -33,6 +32,7 @@ const MOST_BLOCKS: usize = 64;
 const DEEPEST: u8 = 16;
 
 /// Definitions, as long as one begins. A name is defined at the end of its block.
+#[tactic(auto, using(crate::proofs::ReadingDefinitions::begins_on, crate::proofs::ReadingDefinitions::goes_on))]
 fn definitions(
     alloc: Global,
     reader: &mut Reader,
@@ -40,11 +40,10 @@ fn definitions(
     left: &mut u16,
 ) -> Result<Vec<Vec<Statement>>, ScriptFault>
     requires { names.old ≡ [] }
-    ensures defined { IfOk result (λ v. AreDefined names.new left.old left.new reader.old reader.new
-        v.items) }
-    ensures ends { OnOk result ((rest : List (List ℕ)) → reader.new.lexemes ≢ letters the.Define ∷
-        rest) }
-    ensures none { IfErr result (λ e. e ≢ Memory → NoDefinitions [] left.old reader.old.lexemes) }
+    ensures defined { IfOk result (λ v. ReadsDefinitions names.new left.old left.new reader.old
+        reader.new v.items) }
+    ensures none { IfErr result (λ e. e ≢ Memory → definitions_at 64 [] reader.old.lines left.old
+        reader.old.lexemes ≡ None) }
 {
     let mut blocks = Vec::new(alloc);
     while reader.is_next(Keyword::Define) {
@@ -60,6 +59,7 @@ fn definitions(
 }
 
 /// `define NAME`, then a block
+#[tactic(auto, unfolding(crate::specs::BlockReader::definition_at))]
 fn definition(
     alloc: Global,
     reader: &mut Reader,
@@ -67,11 +67,11 @@ fn definition(
     left: &mut u16,
 ) -> Result<Vec<Statement>, ScriptFault>
     requires few { length names.old < 64 }
-    requires begins { BeginsWith reader.old.lexemes (letters the.Define) }
-    ensures defined { IfOk result (λ v. IsDefined names.old names.new left.old left.new reader.old
-        reader.new (block_of [] v.items)) }
-    ensures none { IfErr result (λ e. e ≢ Memory → NoDefinitions names.old left.old
-        reader.old.lexemes) }
+    requires begins { is_next the.Define reader.old.lexemes ≡ true }
+    ensures defined { IfOk result (λ v. ReadsDefinition names.old names.new left.old left.new
+        reader.old reader.new (block_of [] v.items)) }
+    ensures none { IfErr result (λ e. e ≢ Memory → definition_at names.old reader.old.lines left.old
+        (drop 1 reader.old.lexemes) ≡ None) }
 {
     reader.advance();
     let name = new_name(reader, names)?;
@@ -82,11 +82,15 @@ fn definition(
 }
 
 /// A name that is not defined yet; the reader does not advance
+#[tactic(auto, unfolding(crate::specs::BlockReader::new_name_at))]
 fn new_name<'a>(reader: &Reader<'a>, names: &Names) -> Result<&'a str, ScriptFault>
-    ensures formed { IfOk result (λ s. IsName s.now) }
-    ensures begins { IfOk result (λ s. BeginsWith reader.now.lexemes s.now) }
+    ensures read { IfOk result (λ s. new_name_at names.now reader.now.lexemes ≡ Some (
+      s.now,
+      drop 1
+          reader.now.lexemes,
+    )) }
     ensures new { IfOk result (λ s. (i : ℕ) → slice_get names.now i ≢ Some s.now) }
-    ensures none { OnErr result (NoNewName names.now reader.now.lexemes) }
+    ensures none { OnErr result (new_name_at names.now reader.now.lexemes ≡ None) }
 {
     let name = name(reader)?;
     match names.find(name) {
@@ -107,9 +111,10 @@ fn end(reader: &Reader) -> Result<(), ScriptFault>
 }
 
 /// Parses the tokens of a whole script.
+#[tactic(auto, unfolding(crate::specs::BlockReader::script_at))]
 fn script(alloc: Global, reader: &mut Reader) -> Result<Script, ScriptFault>
-    ensures spelled { IfOk result (λ s. SpellsTree s reader.old) }
-    ensures none { IfErr result (λ e. e ≢ Memory → SpellsNone reader.old.lexemes) }
+    ensures read { IfOk result (λ s. script_at reader.old ≡ Some (content_of s)) }
+    ensures none { IfErr result (λ e. e ≢ Memory → script_at reader.old ≡ None) }
 {
     let last_line = reader.last_line();
     let header = header(reader)?;

@@ -1,13 +1,12 @@
 //! Parsing statements.
 
-ghost use Rattle.std.specs.Prelude.{◌≡◌, ℕ, ◌+◌, ◌<◌, ◌≤◌, ◌∷◌, [], length, IfOk, OnOk};
-ghost use Rattle.script_front.specs.Block.{and_then, before, block_of};
-ghost use Rattle.script_tokens.specs.declared.keyword.Keyword.TheVariants as the;
-ghost use Rattle.script_tokens.specs.Keywords.{letters};
-ghost use Rattle.script_tokens.specs.Reading.{Passes, preceded_by, line_of};
-ghost use Rattle.script_front.specs.Parsing.{IsRead, IsBraced, IsApplied, Stops, NoBlock, NoBody, NoApplied};
-ghost use Rattle.std.specs.Prelude.{◌≢◌, List, true, false, IfErr, OnErr};
+ghost use Rattle.std.specs.Prelude.{◌≡◌, ◌≢◌, ◌≤◌, [], length, true, false, None, IfOk, OnOk, IfErr, OnErr};
 ghost use Rattle.script_tokens.specs.declared.fault.ScriptFault.TheVariants.{Memory};
+ghost use Rattle.script_tokens.specs.declared.first_keyword.StatementKeyword.TheVariants as the;
+ghost use Rattle.script_tokens.specs.Reading.{Leaves};
+ghost use Rattle.script_front.specs.Block.{before, block_of};
+ghost use Rattle.script_front.specs.BlockReader.{stops, open_at, applied_at};
+ghost use Rattle.script_front.specs.Parsing.{ReadsBlock, ReadsNone, ReadsBody, ReadsNoBody, ReadsStatement, ReadsAfter, ReadsNoneAfter, IsApplied};
 
 use crate::items::act;
 use crate::make::{acting, applying, choosing, conditional, ending, looping, repeating};
@@ -23,6 +22,7 @@ use std::alloc::Global;
 /// A statement; `left` is how many more items and statements the script may have, and `depth` how many more braces may
 /// be nested.
 #[cycle(statements)]
+#[tactic(auto, unfolding(crate::specs::BlockReader::block_at, crate::specs::BlockReader::begun_at))]
 fn statement(
     alloc: Global,
     reader: &mut Reader,
@@ -31,11 +31,10 @@ fn statement(
     depth: u8,
 ) -> Result<Statement, ScriptFault>
     requires known { length names.now ≤ 64 }
-    requires not_stopped { Stops reader.old.lexemes → ⊥ }
-    ensures read { IfOk result (λ s. IsRead names.now depth left.old left.new reader.old reader.new
-        (before [] s)) }
-    ensures none { IfErr result (λ e. e ≢ Memory → NoBlock names.now depth left.old
-        reader.old.lexemes) }
+    requires not_stopped { stops reader.old.lexemes ≡ false }
+    ensures read { IfOk result (λ s. ReadsStatement names.now depth left.old left.new reader.old
+        reader.new (before [] s)) }
+    ensures none { IfErr result (λ e. e ≢ Memory → ReadsNone names.now depth left.old reader.old) }
 {
     let Some(first) = reader.statement_keyword() else {
         return Err(reader.expected());
@@ -46,20 +45,33 @@ fn statement(
     *left -= 1;
     let line = reader.line();
     reader.advance();
+    let statement = after_keyword(alloc, reader, names, left, depth, line, first)?;
+    Ok(statement)
+}
+
+/// A statement, after its first keyword.
+#[cycle(statements)]
+#[tactic(auto, unfolding(crate::specs::BlockReader::statement_from, crate::specs::BlockReader::branch_at))]
+fn after_keyword(
+    alloc: Global,
+    reader: &mut Reader,
+    names: &Names,
+    left: &mut u16,
+    depth: u8,
+    line: u16,
+    first: StatementKeyword,
+) -> Result<Statement, ScriptFault>
+    requires { length names.now ≤ 64 }
+    ensures read { IfOk result (λ s. ReadsAfter first names.now line depth left.old left.new
+        reader.old reader.new (before [] s)) }
+    ensures none { IfErr result (λ e. e ≢ Memory → ReadsNoneAfter first names.now line depth left.old
+        reader.old) }
+{
     match first {
         StatementKeyword::End => Ok(ending(line)),
-        StatementKeyword::If => {
-            let chosen = choice(alloc, reader, names, left, depth, line)?;
-            Ok(chosen)
-        }
-        StatementKeyword::Repeat => {
-            let repeated = repetition(alloc, reader, names, left, depth, line)?;
-            Ok(repeated)
-        }
-        StatementKeyword::Forever => {
-            let endless = endless(alloc, reader, names, left, depth, line)?;
-            Ok(endless)
-        }
+        StatementKeyword::If => choice(alloc, reader, names, left, depth, line),
+        StatementKeyword::Repeat => repetition(alloc, reader, names, left, depth, line),
+        StatementKeyword::Forever => endless(alloc, reader, names, left, depth, line),
         StatementKeyword::Apply => {
             let applied = application(reader, names, line)?;
             Ok(applied)
@@ -73,6 +85,7 @@ fn statement(
 
 /// Statements, up to a closing brace or the end of the text.
 #[cycle(statements)]
+#[tactic(auto, using(crate::proofs::ReadingOn::none_next))]
 pub fn statements(
     alloc: Global,
     reader: &mut Reader,
@@ -81,11 +94,9 @@ pub fn statements(
     depth: u8,
 ) -> Result<Vec<Statement>, ScriptFault>
     requires { length names.now ≤ 64 }
-    ensures read { IfOk result (λ v. IsRead names.now depth left.old left.new reader.old reader.new
-        (and_then [] v.items)) }
-    ensures stops { OnOk result (Stops reader.new.lexemes) }
-    ensures none { IfErr result (λ e. e ≢ Memory → NoBlock names.now depth left.old
-        reader.old.lexemes) }
+    ensures read { IfOk result (λ v. ReadsBlock names.now depth left.old left.new reader.old
+        reader.new (block_of [] v.items)) }
+    ensures none { IfErr result (λ e. e ≢ Memory → ReadsNone names.now depth left.old reader.old) }
 {
     let mut list = Vec::new(alloc);
     'statements: while !ends(reader) {
@@ -98,22 +109,19 @@ pub fn statements(
 }
 
 /// Whether no token is left, or a closing brace is next.
-#[tactic(auto, unfolding(script_tokens::specs::Keywords::letters))]
+#[tactic(auto, unfolding(crate::specs::BlockReader::stops))]
 fn ends(reader: &Reader) -> bool
-    ensures stops { result ≡ true → Stops reader.now.lexemes }
-    ensures not_stopped { result ≡ false → Stops reader.now.lexemes → ⊥ }
+    ensures { result ≡ stops reader.now.lexemes }
 {
-    match reader.peek() {
-        None => true,
-        Some(word) => match word {
-            b"}" => true,
-            _ => false,
-        },
+    if reader.is_empty() {
+        return true;
     }
+    reader.is_next(Keyword::CloseBrace)
 }
 
 /// A block in braces.
 #[cycle(statements)]
+#[tactic(auto, unfolding(crate::specs::BlockReader::body_at))]
 pub fn block(
     alloc: Global,
     reader: &mut Reader,
@@ -122,10 +130,9 @@ pub fn block(
     depth: u8,
 ) -> Result<Vec<Statement>, ScriptFault>
     requires { length names.now ≤ 64 }
-    ensures read { IfOk result (λ v. IsBraced names.now depth left.old left.new reader.old
+    ensures read { IfOk result (λ v. ReadsBody names.now depth left.old left.new reader.old
         reader.new (block_of [] v.items)) }
-    ensures none { IfErr result (λ e. e ≢ Memory → NoBody names.now depth left.old
-        reader.old.lexemes) }
+    ensures none { IfErr result (λ e. e ≢ Memory → ReadsNoBody names.now depth left.old reader.old) }
 {
     open(reader, depth)?;
     let body = statements(alloc, reader, names, left, depth - 1)?;
@@ -134,11 +141,10 @@ pub fn block(
 }
 
 /// An opening brace, if `depth` allows one more.
+#[tactic(auto, unfolding(crate::specs::BlockReader::open_at, script_tokens::specs::Reading::after))]
 fn open(reader: &mut Reader, depth: u8) -> Result<(), ScriptFault>
     ensures room { OnOk result (1 ≤ depth) }
-    ensures spells { OnOk result (Passes (letters the.OpenBrace ∷ []) reader.old reader.new) }
-    ensures none { OnErr result (1 ≤ depth → (rest : List (List ℕ))
-        → reader.old.lexemes ≢ letters the.OpenBrace ∷ rest) }
+    ensures leaves { Leaves (open_at depth reader.old.lexemes) result reader.old reader.new }
 {
     if !reader.is_next(Keyword::OpenBrace) {
         return Err(reader.expected());
@@ -152,6 +158,7 @@ fn open(reader: &mut Reader, depth: u8) -> Result<(), ScriptFault>
 
 /// The rest of a statement after `if`.
 #[cycle(statements)]
+#[tactic(auto, unfolding(crate::specs::BlockReader::statement_from, crate::specs::BlockReader::branch_at))]
 fn choice(
     alloc: Global,
     reader: &mut Reader,
@@ -160,12 +167,11 @@ fn choice(
     depth: u8,
     line: u16,
 ) -> Result<Statement, ScriptFault>
-    requires known { length names.now ≤ 64 }
-    requires line { line ≡ line_of reader.old.lines (letters the.If ∷ reader.old.lexemes) }
-    ensures read { IfOk result (λ s. IsRead names.now depth (left.old + 1) left.new (preceded_by the.If
-        reader.old) reader.new (before [] s)) }
-    ensures none { IfErr result (λ e. e ≢ Memory → NoBlock names.now depth (left.old + 1)
-        (letters the.If ∷ reader.old.lexemes)) }
+    requires { length names.now ≤ 64 }
+    ensures read { IfOk result (λ s. ReadsAfter the.If names.now line depth left.old left.new
+        reader.old reader.new (before [] s)) }
+    ensures none { IfErr result (λ e. e ≢ Memory → ReadsNoneAfter the.If names.now line depth
+        left.old reader.old) }
 {
     reader.expect(Keyword::Contact)?;
     let contact = contact(reader)?;
@@ -180,6 +186,7 @@ fn choice(
 
 /// The rest of a statement after `repeat`.
 #[cycle(statements)]
+#[tactic(auto, unfolding(crate::specs::BlockReader::statement_from, crate::specs::BlockReader::branch_at))]
 fn repetition(
     alloc: Global,
     reader: &mut Reader,
@@ -188,12 +195,11 @@ fn repetition(
     depth: u8,
     line: u16,
 ) -> Result<Statement, ScriptFault>
-    requires known { length names.now ≤ 64 }
-    requires line { line ≡ line_of reader.old.lines (letters the.Repeat ∷ reader.old.lexemes) }
-    ensures read { IfOk result (λ s. IsRead names.now depth (left.old + 1) left.new (preceded_by
-        the.Repeat reader.old) reader.new (before [] s)) }
-    ensures none { IfErr result (λ e. e ≢ Memory → NoBlock names.now depth (left.old + 1)
-        (letters the.Repeat ∷ reader.old.lexemes)) }
+    requires { length names.now ≤ 64 }
+    ensures read { IfOk result (λ s. ReadsAfter the.Repeat names.now line depth left.old left.new
+        reader.old reader.new (before [] s)) }
+    ensures none { IfErr result (λ e. e ≢ Memory → ReadsNoneAfter the.Repeat names.now line depth
+        left.old reader.old) }
 {
     let times = times(reader)?;
     let body = block(alloc, reader, names, left, depth)?;
@@ -202,6 +208,7 @@ fn repetition(
 
 /// The rest of a statement after `forever`.
 #[cycle(statements)]
+#[tactic(auto, unfolding(crate::specs::BlockReader::statement_from, crate::specs::BlockReader::branch_at))]
 fn endless(
     alloc: Global,
     reader: &mut Reader,
@@ -210,22 +217,22 @@ fn endless(
     depth: u8,
     line: u16,
 ) -> Result<Statement, ScriptFault>
-    requires known { length names.now ≤ 64 }
-    requires line { line ≡ line_of reader.old.lines (letters the.Forever ∷ reader.old.lexemes) }
-    ensures read { IfOk result (λ s. IsRead names.now depth (left.old + 1) left.new (preceded_by
-        the.Forever reader.old) reader.new (before [] s)) }
-    ensures none { IfErr result (λ e. e ≢ Memory → NoBlock names.now depth (left.old + 1)
-        (letters the.Forever ∷ reader.old.lexemes)) }
+    requires { length names.now ≤ 64 }
+    ensures read { IfOk result (λ s. ReadsAfter the.Forever names.now line depth left.old left.new
+        reader.old reader.new (before [] s)) }
+    ensures none { IfErr result (λ e. e ≢ Memory → ReadsNoneAfter the.Forever names.now line depth
+        left.old reader.old) }
 {
     let body = block(alloc, reader, names, left, depth)?;
     Ok(looping(line, body))
 }
 
 /// The name after `apply`.
+#[tactic(auto, unfolding(crate::specs::BlockReader::applied_at))]
 fn application(reader: &mut Reader, names: &Names, line: u16) -> Result<Statement, ScriptFault>
     requires { length names.now ≤ 64 }
     ensures read { IfOk result (λ s. IsApplied names.now line reader.old reader.new (before [] s)) }
-    ensures none { OnErr result (NoApplied names.now reader.old.lexemes) }
+    ensures none { OnErr result (applied_at names.now reader.old.lexemes ≡ None) }
 {
     let name = name(reader)?;
     let Some(index) = names.find(name) else {

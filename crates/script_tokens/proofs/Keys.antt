@@ -1,5 +1,5 @@
 -- The keywords of the grammar have different letters.
-use Rattle.std.proofs.Common.{◌≡◌, ◌≢◌, ℕ, true, false, ◌<◌, List, [], ◌∷◌, refl, sym, ap, ◌∙◌, subst, arith}
+use Rattle.std.proofs.Common.{◌≡◌, ◌≢◌, ℕ, true, false, ◌<◌, List, [], ◌∷◌, ◌++◌, refl, sym, ap, ◌∙◌, subst, arith}
 use Rattle.std.specs.Str.{bytes_eq, all_ascii_digits}
 use denote.Enum.Bare.{sameb}
 use denote.Enum.Declared.{tag_of}
@@ -71,12 +71,6 @@ letters_injective j k e = the_injective j k (sym (word_the j) ∙ ap word_of e �
 pub first_is : (v w : List ℕ) (vs ws : Spelled) → v ∷ vs ≡ w ∷ ws → v ≡ w
 first_is v w vs ws e = cc
 
-pub rest_is : (v w : List ℕ) (vs ws : Spelled) → v ∷ vs ≡ w ∷ ws → vs ≡ ws
-rest_is v w vs ws e = cc
-
-pub same_key : (j k : Keyword) (vs ws : Spelled) → letters j ∷ vs ≡ letters k ∷ ws → j ≡ k
-same_key j k vs ws e = letters_injective j k (first_is (letters j) (letters k) vs ws e)
-
 -- ---- bytes that are not a keyword
 
 false_if : (b : Bool) → (b ≡ true → ⊥) → b ≡ false
@@ -91,52 +85,9 @@ pub word_text : (w : List ℕ) → IsNoKeyword w → word_of w ≡ text w
 unfolding word_of
 word_text w h = none_among keywords w h
 
-no_digits : (k : Keyword) → all_ascii_digits (letters k) ≡ false
+pub no_decimal : (n : ℕ) → n < 1000000000 → decimal n ≢ letters Contact
 unfolding letters
-no_digits Ensemble = refl
-no_digits Mode = refl
-no_digits Period = refl
-no_digits Notice = refl
-no_digits Budget = refl
-no_digits Reserve = refl
-no_digits Define = refl
-no_digits Begin = refl
-no_digits Sub = refl
-no_digits At = refl
-no_digits Eep = refl
-no_digits Service = refl
-no_digits Audio = refl
-no_digits In = refl
-no_digits Data = refl
-no_digits Carry = refl
-no_digits Packet = refl
-no_digits Groups = refl
-no_digits Raw = refl
-no_digits TypeWord = refl
-no_digits Address = refl
-no_digits Drop = refl
-no_digits Component = refl
-no_digits Move = refl
-no_digits Rate = refl
-no_digits Wait = refl
-no_digits Contact = refl
-no_digits Closed = refl
-no_digits Open = refl
-no_digits Until = refl
-no_digits Commit = refl
-no_digits Join = refl
-no_digits Settle = refl
-no_digits End = refl
-no_digits If = refl
-no_digits Else = refl
-no_digits Repeat = refl
-no_digits Forever = refl
-no_digits Apply = refl
-no_digits OpenBrace = refl
-no_digits CloseBrace = refl
-
-pub decimal_own : (n : ℕ) → n < 1000000000 → IsNoKeyword (decimal n)
-decimal_own n small k e = false≢true (sym (no_digits k) ∙ ap all_ascii_digits (sym e) ∙ digits_decimal own n (omega arith))
+no_decimal n small e = let digits : all_ascii_digits (letters Contact) ≡ true = subst (λ (w : List ℕ). all_ascii_digits w ≡ true) e (digits_decimal own n (omega arith)) in false≢true digits
 
 -- a keyword is equal to itself
 pub itself : (j k : Keyword) → Some j ≡ Some k → sameb the_type j k ≡ false → ⊥
@@ -149,58 +100,26 @@ pub found_of : (r : Option Keyword) (w : List ℕ) → IfSome r (λ k. w ≡ let
 found_of None w h none k e = absurd (none refl k e)
 found_of (Some j) w h none k e = ap Some (letters_injective j k (sym h ∙ e))
 
--- tokens that begin with this keyword, where another was found
-pub found_is : (r : Option Keyword) (lexemes : Spelled) (found : Keyword) → ((k : Keyword) (rest : Spelled) → lexemes ≡ letters k ∷ rest → r ≡ Some k) → r ≡ Some found
-    → (k : Keyword) (rest : Spelled) → lexemes ≡ letters k ∷ rest → found ≡ k
-found_is r lexemes found h is k rest e = some_is found k (sym is ∙ h k rest e)
-  where
-    some_is : (x y : Keyword) → Some x ≡ Some y → x ≡ y
-    some_is x y f = cc
-
 -- bytes that spell no keyword of any subject spell no keyword
+both_none : (js ks : List Keyword) (w : List ℕ) → IsNoneOf js w → IsNoneOf ks w → IsNoneOf (js ++ ks) w
+both_none [] ks w h k = k
+both_none (j ∷ js) ks w h k = (h.0, both_none js ks w h.1 k)
+
+not_among : (ks : List Keyword) (w : List ℕ) → IsNoneOf ks w → lexeme_among ks w ≡ text w
+not_among [] w h = refl
+not_among (k ∷ ks) w h = let e = false_if (bytes_eq w (letters k)) (λ f. h.0 ((bytes_eq-Decides w (letters k)).0 f)) in rw (e) (not_among ks w h.1)
+
 pub no_keyword : (w : List ℕ) → IsNoneOf head_keywords w → IsNoneOf item_keywords w → IsNoneOf packet_keywords w
     → IsNoneOf change_keywords w → IsNoneOf wait_keywords w → IsNoneOf flow_keywords w → IsNoKeyword w
-no_keyword w h i p c t f Ensemble = h.0
-no_keyword w h i p c t f Mode = h.1.0
-no_keyword w h i p c t f Period = h.1.1.0
-no_keyword w h i p c t f Notice = h.1.1.1.0
-no_keyword w h i p c t f Budget = h.1.1.1.1.0
-no_keyword w h i p c t f Reserve = h.1.1.1.1.1.0
-no_keyword w h i p c t f Define = h.1.1.1.1.1.1.0
-no_keyword w h i p c t f Begin = h.1.1.1.1.1.1.1.0
-no_keyword w h i p c t f Sub = i.0
-no_keyword w h i p c t f At = i.1.0
-no_keyword w h i p c t f Eep = i.1.1.0
-no_keyword w h i p c t f Service = i.1.1.1.0
-no_keyword w h i p c t f Audio = i.1.1.1.1.0
-no_keyword w h i p c t f In = i.1.1.1.1.1.0
-no_keyword w h i p c t f Data = i.1.1.1.1.1.1.0
-no_keyword w h i p c t f Carry = i.1.1.1.1.1.1.1.0
-no_keyword w h i p c t f Packet = p.0
-no_keyword w h i p c t f Groups = p.1.0
-no_keyword w h i p c t f Raw = p.1.1.0
-no_keyword w h i p c t f TypeWord = p.1.1.1.0
-no_keyword w h i p c t f Address = p.1.1.1.1.0
-no_keyword w h i p c t f Drop = c.0
-no_keyword w h i p c t f Component = c.1.0
-no_keyword w h i p c t f Move = c.1.1.0
-no_keyword w h i p c t f Rate = c.1.1.1.0
-no_keyword w h i p c t f Commit = c.1.1.1.1.0
-no_keyword w h i p c t f Join = c.1.1.1.1.1.0
-no_keyword w h i p c t f Settle = c.1.1.1.1.1.1.0
-no_keyword w h i p c t f Wait = t.0
-no_keyword w h i p c t f Contact = t.1.0
-no_keyword w h i p c t f Closed = t.1.1.0
-no_keyword w h i p c t f Open = t.1.1.1.0
-no_keyword w h i p c t f Until = t.1.1.1.1.0
-no_keyword w h i p c t f End = f.0
-no_keyword w h i p c t f If = f.1.0
-no_keyword w h i p c t f Else = f.1.1.0
-no_keyword w h i p c t f Repeat = f.1.1.1.0
-no_keyword w h i p c t f Forever = f.1.1.1.1.0
-no_keyword w h i p c t f Apply = f.1.1.1.1.1.0
-no_keyword w h i p c t f OpenBrace = f.1.1.1.1.1.1.0
-no_keyword w h i p c t f CloseBrace = f.1.1.1.1.1.1.1.0
+unfolding word_of
+no_keyword w h i p c t f k e =
+    let a = both_none wait_keywords flow_keywords w t f in
+    let b = both_none change_keywords (wait_keywords ++ flow_keywords) w c a in
+    let d = both_none packet_keywords (change_keywords ++ (wait_keywords ++ flow_keywords)) w p b in
+    let g = both_none item_keywords (packet_keywords ++ (change_keywords ++ (wait_keywords ++ flow_keywords))) w i d in
+    let none = both_none head_keywords (item_keywords ++ (packet_keywords ++ (change_keywords ++ (wait_keywords ++ flow_keywords)))) w h g in
+    let other : the k ≡ text w = sym (word_the k) ∙ ap word_of (sym e) ∙ not_among keywords w none in
+    absurd cc
 
 -- ---- levels of contacts
 

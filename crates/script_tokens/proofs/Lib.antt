@@ -2,7 +2,6 @@ pub mod Atoms
 pub mod Braces
 pub mod Digits
 pub mod Ending
-mod First
 pub mod Keys
 pub mod KindTable
 mod Lexing
@@ -12,3 +11,6 @@ pub mod Scanning
 pub mod Spans
 mod Vectors
 pub mod Wording
+pub mod Taking
+pub mod Combining
+pub mod FirstKeywords

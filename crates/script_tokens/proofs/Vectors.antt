@@ -10,6 +10,15 @@ use Rattle.script_tokens.specs.Lexing.{lexed}
 use Rattle.script_tokens.specs.Scanning.{Scan, FindsNext, tokens_left}
 use Rattle.script_tokens.specs.Texts.{AreTokens, script_limits}
 use Rattle.script_tokens.proofs.Pieces.{texts_are_cut, cut_into, not_cut}
+use Rattle.std.specs.Fmt.{decimal}
+use Rattle.script_tokens.specs.declared.keyword.Keyword.TheVariants as the
+use Rattle.script_tokens.specs.declared.first_keyword.ItemKeyword.TheVariants as item
+use Rattle.script_tokens.specs.declared.first_keyword.StatementKeyword.TheVariants as statement
+use Rattle.script_tokens.specs.Keywords.{letters, word_of}
+use Rattle.script_tokens.specs.Reading.{first_statement, first_item}
+use Rattle.script_tokens.specs.Taking.{number_at, name_next}
+use Rattle.script_tokens.proofs.FirstKeywords.{statement_found, item_found}
+use Rattle.script_tokens.proofs.Taking.{number_law, number_out}
 
 -- `ab` is one atom
 one_atom : AreTokens (97 ∷ 98 ∷ []) (token_at first_position 2 ∷ [])
@@ -50,3 +59,32 @@ unfolding lexed a_and_b
 not_the_end new f =
     let some : tokens_left (a_and_b first_position) ≡ Ok [] = f.0 in
     absurd cc
+
+-- 15 is a contact, and 16 is none
+a_contact : number_at 0 15 (decimal 15 ∷ []) ≡ Some (15, [])
+a_contact = (number_law 0 15 (omega arith)).found 15 [] (omega arith, omega arith)
+
+no_contact : number_at 0 15 (decimal 16 ∷ []) ≡ None
+no_contact = number_out 0 15 16 (decimal 16) (decimal 16 ∷ []) (record { rest = []; begins = refl }) refl (omega arith) (λ low. omega arith)
+
+-- `if` begins a statement, and `else` none; `sub` begins an item, and `drop` none
+a_statement : first_statement (letters the.If ∷ []) ≡ Some statement.If
+a_statement = statement_found the.If []
+
+no_statement : first_statement (letters the.Else ∷ []) ≡ None
+no_statement = statement_found the.Else []
+
+an_item : first_item (letters the.Sub ∷ []) ≡ Some item.Sub
+an_item = item_found the.Sub []
+
+no_item : first_item (letters the.Drop ∷ []) ≡ None
+no_item = item_found the.Drop []
+
+-- a keyword is no name, `a` is one
+no_name : name_next (letters the.Sub ∷ []) ≡ None
+unfolding name_next letters word_of
+no_name = refl
+
+a_name : name_next ((97 ∷ []) ∷ []) ≡ Some (97 ∷ [], [])
+unfolding name_next letters word_of
+a_name = refl

@@ -1,4 +1,5 @@
 -- The keywords that begin items, edits and statements, as keywords of the grammar.
+use Rattle.std.specs.Prelude.{Option, Some, None}
 use Rattle.script_tokens.specs.declared.keyword.Keyword.{Keyword}
 use Rattle.script_tokens.specs.declared.keyword.Keyword.TheVariants as the
 use Rattle.script_tokens.specs.declared.first_keyword.ComponentKeyword.{ComponentKeyword}
@@ -44,3 +45,31 @@ statement_keyword statement.Repeat = the.Repeat
 statement_keyword statement.Forever = the.Forever
 statement_keyword statement.Apply = the.Apply
 statement_keyword (statement.Act k) = act_keyword k
+
+-- this keyword as one that begins a statement, if it is one
+abbrev pub statement_of : Keyword → Option StatementKeyword
+statement_of the.Sub = Some (statement.Act (act.Edit (edit.Item item.Sub)))
+statement_of the.Service = Some (statement.Act (act.Edit (edit.Item item.Service)))
+statement_of the.Packet = Some (statement.Act (act.Edit (edit.Item item.Packet)))
+statement_of the.Audio = Some (statement.Act (act.Edit (edit.Item (item.Component component.Audio))))
+statement_of the.Data = Some (statement.Act (act.Edit (edit.Item (item.Component component.Data))))
+statement_of the.Carry = Some (statement.Act (act.Edit (edit.Item (item.Component component.Carry))))
+statement_of the.Drop = Some (statement.Act (act.Edit edit.Drop))
+statement_of the.Move = Some (statement.Act (act.Edit edit.Move))
+statement_of the.Rate = Some (statement.Act (act.Edit edit.Rate))
+statement_of the.Wait = Some (statement.Act act.Wait)
+statement_of the.Until = Some (statement.Act act.Until)
+statement_of the.Commit = Some (statement.Act act.Commit)
+statement_of the.Join = Some (statement.Act act.Join)
+statement_of the.Settle = Some (statement.Act act.Settle)
+statement_of the.End = Some statement.End
+statement_of the.If = Some statement.If
+statement_of the.Repeat = Some statement.Repeat
+statement_of the.Forever = Some statement.Forever
+statement_of the.Apply = Some statement.Apply
+statement_of _ = None
+
+-- the same for an item
+abbrev pub item_of : StatementKeyword → Option ItemKeyword
+item_of (statement.Act (act.Edit (edit.Item k))) = Some k
+item_of _ = None

@@ -90,32 +90,6 @@ IsNoneOf ks bytes = AllByRecursion (λ k. bytes ≢ letters k) ks
 abbrev pub IsNoKeyword : List ℕ → Type 0
 IsNoKeyword bytes = (k : Keyword) → bytes ≢ letters k
 
--- the keywords that begin an item, and those that begin a statement
-abbrev pub begins_item : Keyword → Bool
-begins_item Sub = true
-begins_item Service = true
-begins_item Audio = true
-begins_item Data = true
-begins_item Carry = true
-begins_item Packet = true
-begins_item _ = false
-
-abbrev pub begins_statement : Keyword → Bool
-begins_statement Drop = true
-begins_statement Move = true
-begins_statement Rate = true
-begins_statement Wait = true
-begins_statement Until = true
-begins_statement Commit = true
-begins_statement Join = true
-begins_statement Settle = true
-begins_statement End = true
-begins_statement If = true
-begins_statement Repeat = true
-begins_statement Forever = true
-begins_statement Apply = true
-begins_statement k = begins_item k
-
 -- ---- names
 
 abbrev pub is_lower : ℕ → Bool

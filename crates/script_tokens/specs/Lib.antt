@@ -7,3 +7,4 @@ pub mod Spelling
 pub mod Texts
 pub mod Times
 pub mod Keywords
+pub mod Taking

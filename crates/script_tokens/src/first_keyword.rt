@@ -1,8 +1,10 @@
 //! The keywords that begin items, edits and statements.
 
-ghost use Rattle.std.specs.Prelude.{◌≡◌, IfSome, None, false};
-ghost use Rattle.script_tokens.specs.Keywords.{begins_item, begins_statement};
-ghost use Rattle.script_tokens.specs.First.{item_keyword, edit_keyword, statement_keyword};
+ghost use Rattle.std.specs.Prelude.{◌≡◌};
+ghost use Rattle.script_tokens.specs.First.{statement_of, item_of};
+ghost use Rattle.script_tokens.specs.declared.first_keyword.EditKeyword.TheVariants as edit;
+ghost use Rattle.script_tokens.specs.declared.first_keyword.ActKeyword.TheVariants as act;
+ghost use Rattle.script_tokens.specs.declared.first_keyword.StatementKeyword.TheVariants as statement;
 
 use crate::keyword::Keyword;
 
@@ -55,13 +57,13 @@ pub enum StatementKeyword {
 }
 
 fn edit(keyword: EditKeyword) -> StatementKeyword
-    ensures { statement_keyword result ≡ edit_keyword keyword }
+    ensures { result ≡ statement.Act (act.Edit keyword) }
 {
     StatementKeyword::Act(ActKeyword::Edit(keyword))
 }
 
 fn item(keyword: ItemKeyword) -> StatementKeyword
-    ensures { statement_keyword result ≡ item_keyword keyword }
+    ensures { result ≡ statement.Act (act.Edit (edit.Item keyword)) }
 {
     edit(EditKeyword::Item(keyword))
 }
@@ -69,8 +71,7 @@ fn item(keyword: ItemKeyword) -> StatementKeyword
 impl Keyword {
     /// This keyword as one that begins a statement; None if it begins none.
     pub fn statement(self) -> Option<StatementKeyword>
-        ensures found { IfSome result (λ k. self ≡ statement_keyword k) }
-        ensures none { result ≡ None → begins_statement self ≡ false }
+        ensures { result ≡ statement_of self }
     {
         match self {
             Keyword::Sub => Some(item(ItemKeyword::Sub)),
@@ -121,8 +122,7 @@ impl Keyword {
 impl StatementKeyword {
     /// This keyword as one that begins an item; None if it begins none.
     pub fn item(self) -> Option<ItemKeyword>
-        ensures found { IfSome result (λ k. statement_keyword self ≡ item_keyword k) }
-        ensures none { result ≡ None → begins_item (statement_keyword self) ≡ false }
+        ensures { result ≡ item_of self }
     {
         match self {
             StatementKeyword::Act(ActKeyword::Edit(EditKeyword::Item(item))) => Some(item),

@@ -34,9 +34,8 @@ impl<'a> Model for Reader<'a> {
 
 impl<'a> Reader<'a> {
     ghost use Rattle.std.specs.Prelude.{◌≡◌, ◌≢◌, ◌↔◌, ℕ, ◌<◌, length, drop, List, [], ◌∷◌, IsTrue, MatchOption, IsSome, IfSome, None, Some, true, false, IfOk, IfErr, OnOk, OnErr};
-    ghost use Rattle.script_tokens.specs.Reading.{lexemes_of, lines_of, shown_lines, line_of_left, line_of, AreWithin, AreOnScriptLines, BeginsWith, Passes};
-    ghost use Rattle.script_tokens.specs.Keywords.{letters, begins_item, begins_statement};
-    ghost use Rattle.script_tokens.specs.First.{item_keyword, statement_keyword};
+    ghost use Rattle.script_tokens.specs.Reading.{lexemes_of, lines_of, shown_lines, line_of_left, line_of, AreWithin, AreOnScriptLines, BeginsWith, Passes, is_next, first_key, first_statement, first_item, after, Leaves};
+    ghost use Rattle.script_tokens.specs.Keywords.{letters};
     ghost use Rattle.script_tokens.specs.Texts.{AreLetters};
     ghost use Rattle.script_tokens.specs.declared.fault.ScriptFault.TheVariants.{Memory};
     ghost use Rattle.script_tokens.specs.declared.keyword.Keyword.{Keyword};
@@ -124,6 +123,7 @@ impl<'a> Reader<'a> {
             → self.now.lexemes ≢ letters k ∷ rest }
         ensures is { (k : Keyword) (rest : List (List ℕ)) → self.now.lexemes ≡ letters k ∷ rest
             → result ≡ Some k }
+        ensures first { result ≡ first_key self.now.lexemes }
     {
         match self.peek() {
             None => None,
@@ -132,12 +132,10 @@ impl<'a> Reader<'a> {
     }
 
     /// The next token, if it is a keyword that begins a statement.
+    #[tactic(auto, unfolding(crate::specs::Reading::first_statement))]
     pub fn statement_keyword(&self) -> Option<StatementKeyword>
+        ensures first { result ≡ first_statement self.now.lexemes }
         ensures some { IsSome result → 0 < length self.now.lexemes }
-        ensures begins { IfSome result (λ k. BeginsWith self.now.lexemes (letters (statement_keyword
-            k))) }
-        ensures none { result ≡ None → (k : Keyword) (rest : List (List ℕ))
-            → begins_statement k ≡ true → self.now.lexemes ≢ letters k ∷ rest }
     {
         match self.keyword() {
             None => None,
@@ -146,11 +144,10 @@ impl<'a> Reader<'a> {
     }
 
     /// The next token, if it is a keyword that begins an item.
+    #[tactic(auto, unfolding(crate::specs::Reading::first_item))]
     pub fn item_keyword(&self) -> Option<ItemKeyword>
+        ensures first { result ≡ first_item self.now.lexemes }
         ensures some { IsSome result → 0 < length self.now.lexemes }
-        ensures begins { IfSome result (λ k. BeginsWith self.now.lexemes (letters (item_keyword k))) }
-        ensures none { result ≡ None → (k : Keyword) (rest : List (List ℕ))
-            → begins_item k ≡ true → self.now.lexemes ≢ letters k ∷ rest }
     {
         match self.statement_keyword() {
             None => None,
@@ -160,6 +157,17 @@ impl<'a> Reader<'a> {
 
     /// Whether the next token is this keyword.
     pub fn is_next(&self, keyword: Keyword) -> bool
+        ensures is { result ≡ is_next keyword self.now.lexemes }
+        ensures some { result ≡ true → 0 < length self.now.lexemes }
+        ensures begins { result ≡ true → BeginsWith self.now.lexemes (letters keyword) }
+        ensures none { result ≡ false → (rest : List (List ℕ)) → self.now.lexemes ≢ letters keyword ∷
+            rest }
+    {
+        self.finds(keyword)
+    }
+
+    /// Whether the next token is this keyword, by comparison of keywords.
+    fn finds(&self, keyword: Keyword) -> bool
         ensures some { result ≡ true → 0 < length self.now.lexemes }
         ensures begins { result ≡ true → BeginsWith self.now.lexemes (letters keyword) }
         ensures none { result ≡ false → (rest : List (List ℕ)) → self.now.lexemes ≢ letters keyword ∷
@@ -211,7 +219,9 @@ impl<'a> Reader<'a> {
     /// # Errors
     ///
     /// `Expected` if it is not.
+    #[tactic(auto, unfolding(crate::specs::Reading::after))]
     pub fn expect(&mut self, keyword: Keyword) -> Result<(), ScriptFault>
+        ensures leaves { Leaves (after keyword self.old.lexemes) result self.old self.new }
         ensures spells { OnOk result (Passes (letters keyword ∷ []) self.old self.new) }
         ensures none { OnErr result ((rest : List (List ℕ)) → self.old.lexemes ≢ letters keyword ∷
             rest) }

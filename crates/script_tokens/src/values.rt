@@ -5,14 +5,12 @@
 //! has ended.
 
 ghost use Rattle.std.specs.Prelude.{◌≡◌, ℕ, ◌∷◌, ◌<◌, ◌≤◌, [], length, List, ◌≢◌, Bool, IfOk, IfErr, OnOk, OnErr};
-ghost use Rattle.mux_types.specs.declared.numbers.Sid.{Sid};
-ghost use Rattle.mux_eep.specs.Sizes.{Profile};
 ghost use Rattle.std.specs.Fmt.{decimal};
 ghost use Rattle.script_tokens.specs.declared.fault.ScriptFault.TheVariants.{Memory};
-ghost use Rattle.script_tokens.specs.Reading.{Passes, BeginsWith};
-ghost use Rattle.script_tokens.specs.Spelling.{hex_text, sid_text, profile_text, level_text, time_text};
-ghost use Rattle.mux_config.specs.Configuration.{IsSid};
-ghost use Rattle.std.specs.Prelude.{true, false};
+ghost use Rattle.script_tokens.specs.Reading.{Passes, BeginsWith, Takes};
+ghost use Rattle.script_tokens.specs.Taking.{number_at, eid_at, sid_at, profile_at, time_at, level_at, name_next};
+ghost use Rattle.script_tokens.specs.Spelling.{level_text};
+ghost use Rattle.std.specs.Prelude.{true, false, Some, None, drop};
 ghost use Rattle.std.specs.List.{list_all};
 ghost use Rattle.script_tokens.specs.Keywords.{IsName, has_name_letters, is_name_byte};
 
@@ -26,8 +24,9 @@ use mux_eep::Protection;
 use plan_code::{ContactId, Delay, Frames, Times};
 
 /// A decimal from `low` to `high`.
-#[tactic(auto, using(crate::proofs::Wording::decimal_letters, crate::proofs::Atoms::decimal_below, crate::proofs::Atoms::decimal_above))]
+#[tactic(auto, using(crate::proofs::Wording::decimal_letters, crate::proofs::Atoms::decimal_below, crate::proofs::Atoms::decimal_above, crate::proofs::Taking::number_next, crate::proofs::Taking::number_other, crate::proofs::Taking::number_out, crate::proofs::Taking::number_no_atom))]
 pub fn decimal(reader: &mut Reader, low: u32, high: u32) -> Result<u32, ScriptFault>
+    ensures read { Takes (number_at low high reader.old.lexemes) result reader.old reader.new }
     ensures spells { IfOk result (λ n. Passes (decimal n ∷ []) reader.old reader.new) }
     ensures none { OnErr result ((n : ℕ) (rest : List (List ℕ)) → low ≤ n → n ≤ high → n <
         1000000000
@@ -52,10 +51,7 @@ pub fn decimal(reader: &mut Reader, low: u32, high: u32) -> Result<u32, ScriptFa
 
 /// A decimal from 0 to 65,535.
 pub fn any_u16(reader: &mut Reader) -> Result<u16, ScriptFault>
-    ensures spells { IfOk result (λ n. Passes (decimal n ∷ []) reader.old reader.new) }
-    ensures none { OnErr result ((n : ℕ) (rest : List (List ℕ)) → n < 65536
-        → reader.old.lexemes ≢ decimal n ∷ rest) }
-    ensures shorter { OnOk result (length reader.new.lexemes < length reader.old.lexemes) }
+    ensures { Takes (number_at 0 65535 reader.old.lexemes) result reader.old reader.new }
 {
     let value = decimal(reader, 0, 65_535)?;
     Ok(value as u16)
@@ -63,11 +59,7 @@ pub fn any_u16(reader: &mut Reader) -> Result<u16, ScriptFault>
 
 /// A SubChId, 0 to 63.
 pub fn sub_id(reader: &mut Reader) -> Result<SubId, ScriptFault>
-    ensures spells { IfOk result (λ n. Passes (decimal n ∷ []) reader.old reader.new) }
-    ensures none { OnErr result ((n : ℕ) (rest : List (List ℕ)) → n < 64
-        → reader.old.lexemes ≢ decimal n ∷ rest) }
-    ensures range { IfOk result (λ s. s < 64) }
-    ensures shorter { OnOk result (length reader.new.lexemes < length reader.old.lexemes) }
+    ensures { Takes (number_at 0 63 reader.old.lexemes) result reader.old reader.new }
 {
     let value = decimal(reader, 0, 63)?;
     match SubId::new(value as u8) {
@@ -78,11 +70,7 @@ pub fn sub_id(reader: &mut Reader) -> Result<SubId, ScriptFault>
 
 /// An SCId, 0 to 4095.
 pub fn sc_id(reader: &mut Reader) -> Result<ScId, ScriptFault>
-    ensures spells { IfOk result (λ n. Passes (decimal n ∷ []) reader.old reader.new) }
-    ensures none { OnErr result ((n : ℕ) (rest : List (List ℕ)) → n < 4096
-        → reader.old.lexemes ≢ decimal n ∷ rest) }
-    ensures range { IfOk result (λ s. s < 4096) }
-    ensures shorter { OnOk result (length reader.new.lexemes < length reader.old.lexemes) }
+    ensures { Takes (number_at 0 4095 reader.old.lexemes) result reader.old reader.new }
 {
     let value = decimal(reader, 0, 4095)?;
     match ScId::new(value as u16) {
@@ -93,11 +81,7 @@ pub fn sc_id(reader: &mut Reader) -> Result<ScId, ScriptFault>
 
 /// A component type (ASCTy or DSCTy), 0 to 63.
 pub fn sc_ty(reader: &mut Reader) -> Result<ScTy, ScriptFault>
-    ensures spells { IfOk result (λ n. Passes (decimal n ∷ []) reader.old reader.new) }
-    ensures none { OnErr result ((n : ℕ) (rest : List (List ℕ)) → n < 64
-        → reader.old.lexemes ≢ decimal n ∷ rest) }
-    ensures range { IfOk result (λ t. t < 64) }
-    ensures shorter { OnOk result (length reader.new.lexemes < length reader.old.lexemes) }
+    ensures { Takes (number_at 0 63 reader.old.lexemes) result reader.old reader.new }
 {
     let value = decimal(reader, 0, 63)?;
     match ScTy::new(value as u8) {
@@ -108,11 +92,7 @@ pub fn sc_ty(reader: &mut Reader) -> Result<ScTy, ScriptFault>
 
 /// A start address, 0 to 1023.
 pub fn start(reader: &mut Reader) -> Result<StartAddress, ScriptFault>
-    ensures spells { IfOk result (λ n. Passes (decimal n ∷ []) reader.old reader.new) }
-    ensures none { OnErr result ((n : ℕ) (rest : List (List ℕ)) → n < 1024
-        → reader.old.lexemes ≢ decimal n ∷ rest) }
-    ensures range { IfOk result (λ s. s < 1024) }
-    ensures shorter { OnOk result (length reader.new.lexemes < length reader.old.lexemes) }
+    ensures { Takes (number_at 0 1023 reader.old.lexemes) result reader.old reader.new }
 {
     let value = decimal(reader, 0, 1023)?;
     match StartAddress::new(value as u16) {
@@ -123,6 +103,7 @@ pub fn start(reader: &mut Reader) -> Result<StartAddress, ScriptFault>
 
 /// A contact, 0 to 15.
 pub fn contact(reader: &mut Reader) -> Result<ContactId, ScriptFault>
+    ensures read { Takes (number_at 0 15 reader.old.lexemes) result reader.old reader.new }
     ensures spells { IfOk result (λ n. Passes (decimal n ∷ []) reader.old reader.new) }
     ensures none { OnErr result ((n : ℕ) (rest : List (List ℕ)) → n < 16
         → reader.old.lexemes ≢ decimal n ∷ rest) }
@@ -142,7 +123,9 @@ pub fn contact(reader: &mut Reader) -> Result<ContactId, ScriptFault>
 /// # Errors
 ///
 /// `Expected` where the next token is neither.
+#[tactic(auto, unfolding(crate::specs::Taking::level_at))]
 pub fn level(reader: &mut Reader) -> Result<bool, ScriptFault>
+    ensures read { Takes (level_at reader.old.lexemes) result reader.old reader.new }
     ensures spells { IfOk result (λ closed. Passes (level_text closed ∷ []) reader.old reader.new) }
     ensures none { OnErr result ((closed : Bool) (rest : List (List ℕ))
         → reader.old.lexemes ≢ level_text closed ∷ rest) }
@@ -159,11 +142,7 @@ pub fn level(reader: &mut Reader) -> Result<bool, ScriptFault>
 
 /// A number of frames to wait, 1 to 65,535.
 pub fn frames(reader: &mut Reader) -> Result<Frames, ScriptFault>
-    ensures spells { IfOk result (λ n. Passes (decimal n ∷ []) reader.old reader.new) }
-    ensures none { OnErr result ((n : ℕ) (rest : List (List ℕ)) → 1 ≤ n → n < 65536
-        → reader.old.lexemes ≢ decimal n ∷ rest) }
-    ensures range { IfOk result (λ f. (1 ≤ f) × (f < 65536)) }
-    ensures shorter { OnOk result (length reader.new.lexemes < length reader.old.lexemes) }
+    ensures { Takes (number_at 1 65535 reader.old.lexemes) result reader.old reader.new }
 {
     let value = decimal(reader, 1, 65_535)?;
     match Frames::new(value as u16) {
@@ -174,11 +153,7 @@ pub fn frames(reader: &mut Reader) -> Result<Frames, ScriptFault>
 
 /// The number of times that a loop repeats, 1 to 65,535.
 pub fn times(reader: &mut Reader) -> Result<Times, ScriptFault>
-    ensures spells { IfOk result (λ n. Passes (decimal n ∷ []) reader.old reader.new) }
-    ensures none { OnErr result ((n : ℕ) (rest : List (List ℕ)) → 1 ≤ n → n < 65536
-        → reader.old.lexemes ≢ decimal n ∷ rest) }
-    ensures range { IfOk result (λ t. (1 ≤ t) × (t < 65536)) }
-    ensures shorter { OnOk result (length reader.new.lexemes < length reader.old.lexemes) }
+    ensures { Takes (number_at 1 65535 reader.old.lexemes) result reader.old reader.new }
 {
     let value = decimal(reader, 1, 65_535)?;
     match Times::new(value as u16) {
@@ -189,11 +164,7 @@ pub fn times(reader: &mut Reader) -> Result<Times, ScriptFault>
 
 /// The delay of a swap in frames, 1 to 60,000.
 pub fn delay(reader: &mut Reader) -> Result<Delay, ScriptFault>
-    ensures spells { IfOk result (λ n. Passes (decimal n ∷ []) reader.old reader.new) }
-    ensures none { OnErr result ((n : ℕ) (rest : List (List ℕ)) → 1 ≤ n → n ≤ 60000
-        → reader.old.lexemes ≢ decimal n ∷ rest) }
-    ensures range { IfOk result (λ d. (1 ≤ d) × (d ≤ 60000)) }
-    ensures shorter { OnOk result (length reader.new.lexemes < length reader.old.lexemes) }
+    ensures { Takes (number_at 1 60000 reader.old.lexemes) result reader.old reader.new }
 {
     let value = decimal(reader, 1, 60_000)?;
     match Delay::new(value as u16) {
@@ -203,12 +174,9 @@ pub fn delay(reader: &mut Reader) -> Result<Delay, ScriptFault>
 }
 
 /// An EId: four digits 0-9 or A-F.
-#[tactic(auto, using(crate::proofs::Wording::hex_letters))]
+#[tactic(auto, using(crate::proofs::Taking::eid_next, crate::proofs::Taking::eid_other, crate::proofs::Taking::eid_no_atom))]
 pub fn eid(reader: &mut Reader) -> Result<u16, ScriptFault>
-    ensures spells { IfOk result (λ n. Passes (hex_text n ∷ []) reader.old reader.new) }
-    ensures none { OnErr result ((n : ℕ) (rest : List (List ℕ)) → n < 65536
-        → reader.old.lexemes ≢ hex_text n ∷ rest) }
-    ensures shorter { OnOk result (length reader.new.lexemes < length reader.old.lexemes) }
+    ensures { Takes (eid_at reader.old.lexemes) result reader.old reader.new }
 {
     let atom = reader.atom()?;
     match number::hex_text(atom) {
@@ -221,13 +189,9 @@ pub fn eid(reader: &mut Reader) -> Result<u16, ScriptFault>
 }
 
 /// An SId: four digits 0-9 or A-F for a short one, eight for a long one.
-#[tactic(auto, using(crate::proofs::Wording::sid_letters))]
+#[tactic(auto, using(crate::proofs::Taking::sid_next, crate::proofs::Taking::sid_other, crate::proofs::Taking::sid_no_atom))]
 pub fn sid(reader: &mut Reader) -> Result<Sid, ScriptFault>
-    ensures spells { IfOk result (λ s. Passes (sid_text s ∷ []) reader.old reader.new) }
-    ensures none { OnErr result ((n : Sid) (rest : List (List ℕ)) → IsSid n
-        → reader.old.lexemes ≢ sid_text n ∷ rest) }
-    ensures range { IfOk result IsSid }
-    ensures shorter { OnOk result (length reader.new.lexemes < length reader.old.lexemes) }
+    ensures { Takes (sid_at reader.old.lexemes) result reader.old reader.new }
 {
     let atom = reader.atom()?;
     match number::sid(atom) {
@@ -240,13 +204,9 @@ pub fn sid(reader: &mut Reader) -> Result<Sid, ScriptFault>
 }
 
 /// A protection profile, `1-A` to `4-A` or `1-B` to `4-B`.
-#[tactic(auto, using(crate::proofs::Wording::profile_letters))]
+#[tactic(auto, using(crate::proofs::Taking::profile_next, crate::proofs::Taking::profile_other, crate::proofs::Taking::profile_no_atom))]
 pub fn profile(reader: &mut Reader) -> Result<Protection, ScriptFault>
-    ensures spells { IfOk result (λ p. Passes (profile_text p ∷ []) reader.old reader.new) }
-    ensures none { OnErr result ((n : Profile) (rest : List (List ℕ)) → 1 ≤ n.level → n.level ≤ 4
-        → reader.old.lexemes ≢ profile_text n ∷ rest) }
-    ensures range { IfOk result (λ p. (1 ≤ p.level) × (p.level ≤ 4)) }
-    ensures shorter { OnOk result (length reader.new.lexemes < length reader.old.lexemes) }
+    ensures { Takes (profile_at reader.old.lexemes) result reader.old reader.new }
 {
     let atom = reader.atom()?;
     match number::profile(atom) {
@@ -259,13 +219,9 @@ pub fn profile(reader: &mut Reader) -> Result<Protection, ScriptFault>
 }
 
 /// A time of day, 00:00:00 to 23:59:59.
-#[tactic(auto, using(crate::proofs::Wording::time_letters))]
+#[tactic(auto, using(crate::proofs::Taking::time_next, crate::proofs::Taking::time_other, crate::proofs::Taking::time_no_atom))]
 pub fn time(reader: &mut Reader) -> Result<TimeOfDay, ScriptFault>
-    ensures spells { IfOk result (λ t. Passes (time_text t ∷ []) reader.old reader.new) }
-    ensures none { OnErr result ((n : ℕ) (rest : List (List ℕ)) → n < 86400
-        → reader.old.lexemes ≢ time_text n ∷ rest) }
-    ensures range { IfOk result (λ t. t < 86400) }
-    ensures shorter { OnOk result (length reader.new.lexemes < length reader.old.lexemes) }
+    ensures { Takes (time_at reader.old.lexemes) result reader.old reader.new }
 {
     let atom = reader.atom()?;
     match number::time(atom) {
@@ -283,12 +239,14 @@ pub fn time(reader: &mut Reader) -> Result<TimeOfDay, ScriptFault>
 ///
 /// `Expected` where the next token is not a name: a brace, an ill-formed atom or a keyword; or where the text has
 /// ended.
+#[tactic(auto, using(crate::proofs::Taking::name_shown))]
 pub fn name<'a>(reader: &Reader<'a>) -> Result<&'a str, ScriptFault>
-    ensures formed { IfOk result (λ s. IsName s.now) }
-    ensures begins { IfOk result (λ s. BeginsWith reader.now.lexemes s.now) }
-    ensures some { OnOk result (0 < length reader.now.lexemes) }
-    ensures none { OnErr result ((name : List ℕ) (rest : List (List ℕ)) → IsName name
-        → reader.now.lexemes ≢ name ∷ rest) }
+    ensures next { IfOk result (λ s. name_next reader.now.lexemes ≡ Some (
+      s.now,
+      drop 1
+          reader.now.lexemes,
+    )) }
+    ensures other { OnErr result (name_next reader.now.lexemes ≡ None) }
 {
     let atom = reader.atom()?;
     if !is_name(atom) {

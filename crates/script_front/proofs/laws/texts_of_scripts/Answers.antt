@@ -1,4 +1,4 @@
-use Rattle.script_front.proofs.OneScript.{one_script}
+use Rattle.script_front.proofs.ReadingScripts.{one_script}
 use Rattle.script_front.proofs.laws.texts_of_scripts.Goals as goal
 
 pub returns : goal.returns

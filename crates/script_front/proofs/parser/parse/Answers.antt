@@ -6,7 +6,8 @@ use Rattle.script_front.proofs.Denoting.{is_script}
 use Rattle.std.proofs.lemmas.Result.{err_from_is_err_and}
 use Rattle.script_tokens.specs.Bytes.{first_position}
 use Rattle.script_tokens.specs.Texts.{tokens_of}
-use Rattle.script_front.proofs.Denoting.{are_tokens, denoted_words}
+use Rattle.script_front.proofs.Denoting.{are_tokens}
+use Rattle.script_front.proofs.ReadingScripts.{script_given, none_spelled}
 use Rattle.script_front.proofs.parser.parse.Goals as goal
 
 pub returns-clause-script : goal.returns-clause-script
@@ -15,8 +16,9 @@ returns-clause-script c =
     ∙ ap (λ (ts : List Token). lexemes_of c.args.text.now ts) c.deref.ensures.value in
     let on_lines = subst AreOnScriptLines (sym c.deref.ensures.value) c.in_ok-tokens.ensures.lines in
     let lines = c.new-reader.ensures.lines on_lines ∙ ap lines_of c.deref.ensures.value in
-    is_script c.args.text.now c.in_ok-tokens.tokens.items c.in_ok-found.found c.in_ok-tokens.ensures.tokens (sym lexemes ∙ c.in_ok-found.ensures.spelled.spells)
-    (subst (λ (ls : List ℕ). HasLines ls c.in_ok-found.found) lines c.in_ok-found.ensures.spelled.lined)
+    let spelled = (script_given c.new-reader.result c.in_ok-found.found c.in_ok-found.ensures.read).1 in
+    is_script c.args.text.now c.in_ok-tokens.tokens.items c.in_ok-found.found c.in_ok-tokens.ensures.tokens (sym lexemes ∙ spelled.spells)
+    (subst (λ (ls : List ℕ). HasLines ls c.in_ok-found.found) lines spelled.lined)
 
 pub returns-in_err-tokens-clause-none : goal.returns-in_err-tokens-clause-none
 returns-in_err-tokens-clause-none c =
@@ -27,5 +29,7 @@ pub returns-in_err-found-clause-none : goal.returns-in_err-found-clause-none
 returns-in_err-found-clause-none c =
     let lexemes = ap (λ (i : Input). i.lexemes) c.new-reader.ensures.reads ∙ ap (λ (t : List ℕ). lexemes_of t c.deref.result.now) c.as_bytes.ensures.value
     ∙ ap (λ (ts : List Token). lexemes_of c.args.text.now ts) c.deref.ensures.value in
+    let on_lines = subst AreOnScriptLines (sym c.deref.ensures.value) c.in_ok-tokens.ensures.lines in
+    let lines = c.new-reader.ensures.lines on_lines ∙ ap lines_of c.deref.ensures.value in
     let r = err_from_is_err_and c.from_residual-in_err-found.result c.from_residual-in_err-found.ensures.1 in
-    rw (r.1, r.2) (λ ne t is s. c.in_err-found.ensures.none ne t is (lexemes ∙ denoted_words c.args.text.now c.in_ok-tokens.tokens.items t c.in_ok-tokens.ensures.tokens s))
+    rw (r.1, r.2) (λ ne. none_spelled c.args.text.now c.in_ok-tokens.tokens.items c.new-reader.result c.in_ok-tokens.ensures.tokens lexemes lines (c.in_err-found.ensures.none ne))

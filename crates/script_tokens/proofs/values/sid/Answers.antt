@@ -1,7 +1,7 @@
-use Rattle.script_tokens.specs.Spelling.{sid_text}
-use Rattle.script_tokens.proofs.Atoms.{told}
-use Rattle.script_tokens.proofs.Wording.{sid_letters}
+use Rattle.script_tokens.proofs.Taking.{onward, sid_next}
 use Rattle.script_tokens.proofs.values.sid.Goals as goal
 
-pub returns-in_err-atom-clause-none : goal.returns-in_err-atom-clause-none
-returns-in_err-atom-clause-none c = told c.from_residual.result (λ n rest is e. c.in_err-atom.ensures.none (sid_text n) rest (sid_letters n is) e)
+pub returns-in-Some : goal.returns-in-Some
+returns-in-Some c =
+    let next = sid_next c.in-Some.sid c.in_ok-atom.atom.now c.args.reader.now.lexemes c.in_ok-atom.ensures.begins c.in-Some.ensures.spells c.in-Some.ensures.range in
+    (onward _ c.in-Some.sid c.args.reader.now.lexemes c.advance.new.self.lexemes next c.advance.ensures.lexemes, c.advance.ensures.lines)

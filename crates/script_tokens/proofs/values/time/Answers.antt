@@ -1,7 +1,7 @@
-use Rattle.script_tokens.specs.Spelling.{time_text}
-use Rattle.script_tokens.proofs.Atoms.{told}
-use Rattle.script_tokens.proofs.Wording.{time_letters}
+use Rattle.script_tokens.proofs.Taking.{onward, time_next}
 use Rattle.script_tokens.proofs.values.time.Goals as goal
 
-pub returns-in_err-atom-clause-none : goal.returns-in_err-atom-clause-none
-returns-in_err-atom-clause-none c = told c.from_residual.result (λ n rest small e. c.in_err-atom.ensures.none (time_text n) rest (time_letters n small) e)
+pub returns-in-Some : goal.returns-in-Some
+returns-in-Some c =
+    let next = time_next c.in-Some.time c.in_ok-atom.atom.now c.args.reader.now.lexemes c.in_ok-atom.ensures.begins c.in-Some.ensures.spells c.in-Some.ensures.range in
+    (onward _ c.in-Some.time c.args.reader.now.lexemes c.advance.new.self.lexemes next c.advance.ensures.lexemes, c.advance.ensures.lines)

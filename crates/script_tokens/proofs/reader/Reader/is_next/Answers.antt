@@ -1,6 +1,5 @@
-use Rattle.std.proofs.Common.{sym, ◌∙◌}
-use Rattle.script_tokens.proofs.Keys.{itself}
+use Rattle.script_tokens.proofs.Taking.{next_is}
 use Rattle.script_tokens.proofs.reader.Reader.is_next.Goals as goal
 
-pub returns-in-Some-clause-none : goal.returns-in-Some-clause-none
-returns-in-Some-clause-none c = λ no rest e. itself c.in-Some.found c.args.keyword (sym c.in-Some.is ∙ c.keyword.ensures.is c.args.keyword rest e) (sym c.eq.ensures ∙ no)
+pub returns-clause-is : goal.returns-clause-is
+returns-clause-is c = next_is c.finds.result c.args.keyword c.args.self.now.lexemes c.finds.ensures.begins c.finds.ensures.none
