@@ -1,5 +1,6 @@
 -- A live run continues over events, and then over more; or it stops in one of them.
-use Rattle.std.proofs.Common.{◌≡◌, ℕ, suc, ◌+◌, ◌-◌, ◌<◌, ◌≤◌, Bool, List, [], ◌∷◌, ◌++◌, length, take, drop, Option, refl, sym, ap, subst, ◌∙◌, arith, append_assoc, append-nil, inl, inr}
+use Rattle.std.proofs.Common.{◌≡◌, ℕ, suc, ◌+◌, ◌-◌, ◌<◌, ◌≤◌, Bool, List, [], ◌∷◌, ◌++◌, length, take, drop, Option, Result, Ok, Err, refl, sym, ap, subst, ◌∙◌, arith, append_assoc, append-nil, inl, inr}
+use Rattle.std.specs.Prelude.{IfErr}
 use Rattle.std.specs.List.{concat}
 use Rattle.std.specs.Io.KnownBytes.{Appends, Keeps}
 use Rattle.std.proofs.KnownBytes.{Appends-trans, Appends-nil, Appends-kept}
@@ -10,11 +11,12 @@ use Rattle.plan_runs.specs.declared.event.Event.{Event}
 use Rattle.plan_runs.specs.declared.event.Event.TheVariants.{Contact, Frame}
 use Rattle.plan_player.specs.Playing.{Playing, played}
 use Rattle.plan_player.specs.Delivery.{frames_of, next_frame}
+use Rattle.plan_live.specs.declared.options.LiveOptions.{LiveOptions}
 use Rattle.plan_live.specs.declared.options.Wanted.{Wanted}
 use Rattle.plan_live.specs.declared.fault.Stop.{Stop}
 use Rattle.plan_live.specs.declared.fault.Stop.TheVariants.{Write, Read, Memory, TooMany}
 use Rattle.plan_live.specs.declared.message.Message.{Message}
-use Rattle.plan_live.specs.Going.{kept, FrameWent, FrameStops, Went, CutIn, StopsIn}
+use Rattle.plan_live.specs.Going.{kept, FrameWent, FrameStops, Went, CutIn, StopsIn, Plays}
 use Rattle.plan_live.specs.Living.{Streamed, kept_bytes, IsCutAt, most}
 use Rattle.plan_live.specs.Notes.{notes}
 use Rattle.plan_live.specs.Growing.{Grows}
@@ -223,3 +225,16 @@ stops_before skip wanted p n xs ys a b (Write f k) h = (h.0, cut_before skip wan
 stops_before skip wanted p n xs ys a b Read h = absurd h
 stops_before skip wanted p n xs ys a b Memory h = absurd h
 stops_before skip wanted p n xs ys a b TooMany h = (h.0, cut_before skip wanted p n xs ys a b most h.0 0 h.1)
+
+-- ---- whether or not the run stops
+
+pub plays_later : {A : Type 0} (o : LiveOptions) (p q r : Playing) (n m k : ℕ) (xs ys : List Event) (a b c : Streamed) (x : Result A Stop)
+    → Went o.skip o.wanted p n xs q m a b → Plays o q m ys r k b c x → Plays o p n (xs ++ ys) r k a c x
+plays_later o p q r n m k xs ys a b c (Ok done) h g = went_join o.skip o.wanted p q r n m k xs ys a b c h g
+plays_later o p q r n m k xs ys a b c (Err stop) h g = stops_later o.skip o.wanted p q n m xs ys a b c stop h g
+
+-- then the output is flushed, if it can be
+pub plays_flushed : {A : Type 0} (o : LiveOptions) (p q : Playing) (n m : ℕ) (events : List Event) (a b c : Streamed) (x : Result A Stop) → Went o.skip o.wanted p n events q m a b
+    → c.left ≡ b.left → Keeps b.written c.written → c.reported ≡ b.reported → IfErr x (λ stop. stop ≡ Write (m - o.skip) 0) → Plays o p n events q m a c x
+plays_flushed o p q n m events a b c (Ok done) h left keeps reported fault = went_flushed o.skip o.wanted p q n m events a b c h left keeps reported
+plays_flushed o p q n m events a b c (Err stop) h left keeps reported fault = stops_after o.skip o.wanted p q n m events a b c stop h left keeps reported fault

@@ -1,5 +1,5 @@
 -- Lines, and then one more.
-use Rattle.std.proofs.Common.{◌≡◌, ℕ, ◌+◌, ◌-◌, List, [], ◌∷◌, ◌++◌, length, take, Option, None, Some, refl, sym, ap, subst, ◌∙◌, arith, append_assoc, append-nil, length-append, inl, inr}
+use Rattle.std.proofs.Common.{◌≡◌, ℕ, ◌+◌, ◌-◌, List, [], ◌∷◌, ◌++◌, length, take, Option, None, Some, Result, Ok, Err, refl, sym, ap, subst, ◌∙◌, arith, append_assoc, append-nil, length-append, inl, inr}
 use Rattle.std.specs.List.{AllByRecursion}
 use Rattle.std.specs.Io.KnownBytes.{Keeps, IsAtEnd}
 use Rattle.std.proofs.KnownBytes.{Appends-trans, Appends-nil}
@@ -9,13 +9,14 @@ use Rattle.plan_player.specs.Playing.{Playing, played}
 use Rattle.plan_player.specs.Delivery.{frames_of, next_frame}
 use Rattle.plan_session.specs.declared.step.Step.{Step}
 use Rattle.plan_session.specs.Events.{events_of}
+use Rattle.plan_live.specs.declared.options.LiveOptions.{LiveOptions}
 use Rattle.plan_live.specs.declared.options.Wanted.{Wanted}
 use Rattle.plan_live.specs.declared.fault.Stop.{Stop}
 use Rattle.plan_live.specs.declared.fault.Stop.TheVariants.{Write, Read, Memory, TooMany}
 use Rattle.plan_live.specs.declared.message.LineFault.{LineFault}
 use Rattle.plan_live.specs.declared.message.Message.{Message}
 use Rattle.plan_live.specs.declared.message.Message.TheVariants.{Bad}
-use Rattle.plan_live.specs.Going.{Went, CutIn, StopsIn, LineWent, LineStops, Going}
+use Rattle.plan_live.specs.Going.{Went, CutIn, StopsIn, Plays, LineWent, LineStops, TakesLine, Going}
 use Rattle.plan_live.specs.Lines.{LineHolds, IsLineFault, LineDoes, LinesDo}
 use Rattle.plan_live.specs.Living.{Streamed, streamed, kept_bytes, IsCutAt, Reached, Whole, Broken, Unserved, Cut, StoppedBy, AreDone, IsPrompt, most}
 use Rattle.plan_live.specs.Notes.{notes}
@@ -163,6 +164,12 @@ line_cut skip wanted q m line steps a b (Write f k) holds s = (steps, holds, s)
 line_cut skip wanted q m line steps a b Read holds s = absurd s
 line_cut skip wanted q m line steps a b Memory holds s = absurd s
 line_cut skip wanted q m line steps a b TooMany holds s = (steps, holds, s)
+
+-- the steps of a line are played, or the run stops
+pub line_taken : {A : Type 0} (o : LiveOptions) (q r : Playing) (m k number : ℕ) (line : List ℕ) (steps : List Step) (a b : Streamed) (x : Result A Stop)
+    → LineHolds line steps → Plays o q m (events_of steps) r k a b x → TakesLine o q m number line r k a b x
+line_taken o q r m k number line steps a b (Ok done) holds h = line_good o.skip o.wanted q r m k number line steps a b holds h
+line_taken o q r m k number line steps a b (Err stop) holds h = line_cut o.skip o.wanted q m line steps a b stop holds h
 
 -- ---- the run stops
 

@@ -1,6 +1,6 @@
 -- A live run from one point to the next, by the line `frames 2`: each definition where it holds, and where it
 -- fails.
-use Rattle.std.proofs.Common.{◌≡◌, ℕ, ◌-◌, ◌≤◌, List, [], ◌∷◌, ◌++◌, length, Some, None, true, false, refl, ap, arith, inl, inr, ◌+◌, length-append}
+use Rattle.std.proofs.Common.{◌≡◌, ℕ, ◌-◌, ◌≤◌, List, [], ◌∷◌, ◌++◌, length, Some, None, true, false, Ok, Err, refl, ap, arith, inl, inr, ◌+◌, length-append}
 use Rattle.console.specs.Lines.{lines_of}
 use Rattle.plan_code.specs.declared.hold.Hold.TheVariants.{Ended}
 use Rattle.plan_player.specs.Playing.{Playing, played}
@@ -12,9 +12,10 @@ use Rattle.plan_live.specs.declared.fault.Stop.TheVariants.{Write, Memory, TooMa
 use Rattle.plan_live.specs.declared.message.Message.{Message}
 use Rattle.plan_live.specs.declared.message.Message.TheVariants.{Swap, End}
 use Rattle.plan_live.specs.Lines.{LineDoes}
-use Rattle.plan_live.specs.Living.{Streamed, streamed}
+use Rattle.plan_live.specs.declared.options.LiveOptions.{LiveOptions}
+use Rattle.plan_live.specs.Living.{Streamed, streamed, streams_at}
 use Rattle.plan_live.specs.Looking.{look_of, notes_between}
-use Rattle.plan_live.specs.Going.{kept, FrameWent, FrameCut, FrameStops, Went, CutIn, StopsIn, LineWent, LineStops, Going}
+use Rattle.plan_live.specs.Going.{kept, FrameWent, FrameCut, FrameStops, Went, CutIn, StopsIn, Plays, LineWent, LineStops, TakesLine, Going}
 use Rattle.plan_live.proofs.Vectors.{plan, first, fresh, frames, two_frames, at_sign, no_steps, two_are_held, end_told, bad_told, two_are_played, bad_is_told, with_status}
 use Rattle.plan_live.proofs.VectorsOfRuns.{input, before, after, one, reached, reached_first, in_a_frame, four_bytes}
 
@@ -49,6 +50,11 @@ stops_at_the_most = (refl, refl)
 
 stops_before_the_most : FrameStops 2 [] 5 (taken []) (taken []) TooMany → ⊥
 stops_before_the_most h = let e : 5 ≡ 18446744073709551615 = h.1 in omega (arith, e)
+
+-- ---- what is known of the streams in one state
+
+known : streams_at (λ (e : List ℕ). Some e) (λ _. None) (λ _. Some bad_told) (7 ∷ []) ≡ streamed (Some (7 ∷ [])) None (Some bad_told)
+known = refl
 
 -- ---- what is known before a frame
 
@@ -88,6 +94,20 @@ stops = (1, cut)
 stops_by_memory : StopsIn 1 with_status fresh 0 (frames 2) before before Memory → ⊥
 stops_by_memory h = h
 
+-- ---- events, or a stop
+
+abbrev options : LiveOptions
+options = record { skip = 1; wanted = with_status }
+
+plays : Plays {A = ℕ} options fresh 0 (frames 2) later 2 before (record after { left = Some input }) (Ok 0)
+plays = went
+
+plays_to_a_stop : Plays {A = ℕ} options fresh 0 (frames 2) later 2 (record before { left = Some [] }) four_bytes (Err (Write 0 4))
+plays_to_a_stop = stops
+
+plays_to_no_memory : Plays {A = ℕ} options fresh 0 (frames 2) later 2 before before (Err Memory) → ⊥
+plays_to_no_memory h = stops_by_memory h
+
 -- ---- lines
 
 line_went : LineWent 1 with_status fresh 0 1 two_frames later 2 before (record after { left = Some input })
@@ -109,6 +129,12 @@ line_stops = (Frames 2 ∷ [], two_are_held, (1, cut))
 
 bad_stops : LineStops 1 with_status fresh 0 at_sign before before (Write 0 0) → ⊥
 bad_stops h = no_steps.none h.0 h.1.holds
+
+line_is_taken : TakesLine {A = ℕ} options fresh 0 1 two_frames later 2 before (record after { left = Some input }) (Ok 0)
+line_is_taken = line_went
+
+bad_is_cut : TakesLine {A = ℕ} options fresh 0 1 at_sign fresh 0 before before (Err (Write 0 0)) → ⊥
+bad_is_cut h = bad_stops h
 
 -- ---- lines one after another
 

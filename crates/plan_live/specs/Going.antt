@@ -1,5 +1,5 @@
 -- A live run from one point to the next. No public contract needs this to be believed.
-use Rattle.std.specs.Prelude.{◌≡◌, ℕ, ◌+◌, ◌-◌, ◌<◌, ◌≤◌, nat_lt, if◌then◌else◌, List, [], ◌++◌, length, take}
+use Rattle.std.specs.Prelude.{◌≡◌, ℕ, ◌+◌, ◌-◌, ◌<◌, ◌≤◌, nat_lt, if◌then◌else◌, List, [], ◌++◌, length, take, Result, Ok, Err}
 use Rattle.std.specs.Io.KnownBytes.{Appends}
 use Rattle.plan_runs.specs.declared.event.Event.{Event}
 use Rattle.plan_player.specs.Playing.{Playing, played}
@@ -9,6 +9,7 @@ use Rattle.plan_session.specs.Events.{events_of}
 use Rattle.plan_live.specs.declared.fault.Stop.{Stop}
 use Rattle.plan_live.specs.declared.fault.Stop.TheVariants.{Write, Read, Memory, TooMany}
 use Rattle.plan_live.specs.declared.message.Message.{Message}
+use Rattle.plan_live.specs.declared.options.LiveOptions.{LiveOptions}
 use Rattle.plan_live.specs.declared.options.Wanted.{Wanted}
 use Rattle.plan_live.specs.Lines.{LineHolds, LineDoes}
 use Rattle.plan_live.specs.Living.{Streamed, kept_bytes, IsCutAt, Reached, most}
@@ -69,6 +70,11 @@ StopsIn skip wanted old n events before after Read = ⊥
 StopsIn skip wanted old n events before after Memory = ⊥
 StopsIn skip wanted old n events before after TooMany = (frames : ℕ) × CutIn skip wanted old n events before after most frames 0
 
+-- these events were played; or some of them, up to a stop
+abbrev pub Plays : {A : Type 0} → LiveOptions → Playing → ℕ → List Event → Playing → ℕ → Streamed → Streamed → Result A Stop → Type 0
+Plays o old n events new m before after (Ok _) = Went o.skip o.wanted old n events new m before after
+Plays o old n events new m before after (Err stop) = StopsIn o.skip o.wanted old n events before after stop
+
 -- a line was processed
 pub record LineWent (skip : ℕ) (wanted : Wanted) (old : Playing) (n number : ℕ) (line : List ℕ) (new : Playing) (m : ℕ) (before after : Streamed) : Type 0 where
   pub steps : List Step
@@ -87,6 +93,11 @@ LineStops skip wanted old n line before after Read = ⊥
 LineStops skip wanted old n line before after Memory = after ≡ before
 LineStops skip wanted old n line before after TooMany =
     (steps : List Step) × LineHolds line steps × ((frames : ℕ) × CutIn skip wanted old n (events_of steps) before after most frames 0)
+
+-- a line was processed, or the run stopped
+abbrev pub TakesLine : {A : Type 0} → LiveOptions → Playing → ℕ → ℕ → List ℕ → Playing → ℕ → Streamed → Streamed → Result A Stop → Type 0
+TakesLine o old n number line new m before after (Ok _) = LineWent o.skip o.wanted old n number line new m before after
+TakesLine o old n number line new m before after (Err stop) = LineStops o.skip o.wanted old n line before after stop
 
 -- some lines are processed: this is the player, its next frame has number m, and this many lines precede the next line
 pub record Going (skip : ℕ) (wanted : Wanted) (p : Playing) (old now : Streamed) (q : Playing) (m number : ℕ) : Type 0 where

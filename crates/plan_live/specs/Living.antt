@@ -31,6 +31,10 @@ pub record Streamed : Type 0 where
 abbrev pub streamed : Option (List ℕ) → Option (List ℕ) → Option (List Message) → Streamed
 streamed left written reported = record { left = left; written = written; reported = reported }
 
+-- the streams in one state, given what is known of each
+abbrev pub streams_at : {E : Type 0} → (E → Option (List ℕ)) → (E → Option (List ℕ)) → (E → Option (List Message)) → E → Streamed
+streams_at left written reported ends = streamed (left ends) (written ends) (reported ends)
+
 -- ---- lines that are processed
 
 -- these lines were read; the frames of the steps that they list were written, except the first `skip`; and their

@@ -1,8 +1,8 @@
 //! Drives a player line by line.
 
 ghost use Rattle.std.specs.Prelude.{◌≡◌, ◌<◌, ◌≤◌, length, true, OnOk, IfErr};
-ghost use Rattle.plan_live.specs.Going.{LineWent, LineStops};
-ghost use Rattle.plan_live.specs.Living.{streamed, Whole, StoppedBy, IsPrompt, HasFailed};
+ghost use Rattle.plan_live.specs.Going.{TakesLine};
+ghost use Rattle.plan_live.specs.Living.{streams_at, Whole, StoppedBy, IsPrompt, HasFailed};
 
 use crate::ends::Ends;
 use crate::fault::Stop;
@@ -29,24 +29,16 @@ fn take_line<'a, S: Store, E: Ends>(
     requires short { length line.now ≤ 65536 }
     requires flushed { E.is_flushed ends.old ≡ true }
     requires room { E.held ends.old < 64 }
-    ensures done { OnOk result (LineWent options.skip options.wanted
-        player.old made.old number line.now player.new made.new
-        (streamed (E.left ends.old) (E.written ends.old) (E.reported ends.old))
-        (streamed (E.left ends.new) (E.written ends.new) (E.reported ends.new))) }
-    ensures stopped { IfErr result (λ stop. LineStops options.skip options.wanted
-        player.old made.old line.now
-        (streamed (E.left ends.old) (E.written ends.old) (E.reported ends.old))
-        (streamed (E.left ends.new) (E.written ends.new) (E.reported ends.new)) stop) }
+    ensures taken { let at = streams_at E.left E.written E.reported in
+        TakesLine options player.old made.old number line.now player.new made.new
+        (at ends.old) (at ends.new) result }
     ensures failed { IfErr result (λ stop.
         HasFailed stop (E.input_failed ends.new) (E.output_failed ends.new)) }
     ensures moments { E.moments ends.new ≡ E.moments ends.old }
     ensures flushed { OnOk result (E.is_flushed ends.new ≡ true) }
 {
     match steps_of_line(alloc, line) {
-        Ok(steps) => match play_line(player, made, steps.as_slice(), options, ends) {
-            Ok(()) => Ok(()),
-            Err(stop) => Err(stop),
-        },
+        Ok(steps) => play_line(player, made, steps.as_slice(), options, ends),
         Err(unread) => match unread {
             Unread::Bad(fault) => {
                 ends.report(Message::Bad(number, fault));
@@ -74,17 +66,15 @@ pub fn drive<'a, S: Store, E: Ends>(
     ends: &mut E,
 ) -> Result<(), Stop>
     requires flushed { E.is_flushed ends.old ≡ true }
-    ensures whole { OnOk result (Whole options.skip options.wanted player.old
-        (streamed (E.left ends.old) (E.written ends.old) (E.reported ends.old))
-        (streamed (E.left ends.new) (E.written ends.new) (E.reported ends.new))) }
-    ensures stopped { IfErr result (λ stop. StoppedBy options.skip options.wanted player.old
-        (streamed (E.left ends.old) (E.written ends.old) (E.reported ends.old))
-        (streamed (E.left ends.new) (E.written ends.new) (E.reported ends.new)) stop) }
+    ensures whole { let at = streams_at E.left E.written E.reported in OnOk result
+        (Whole options.skip options.wanted player.old (at ends.old) (at ends.new)) }
+    ensures stopped { let at = streams_at E.left E.written E.reported in IfErr result (λ stop.
+        StoppedBy options.skip options.wanted player.old (at ends.old) (at ends.new) stop) }
     ensures failed { IfErr result (λ stop.
         HasFailed stop (E.input_failed ends.new) (E.output_failed ends.new)) }
     // Each time a line is requested, all lines before it have been processed.
-    ensures prompt { IsPrompt options.skip options.wanted player.old
-        (streamed (E.left ends.old) (E.written ends.old) (E.reported ends.old))
+    ensures prompt { let at = streams_at E.left E.written E.reported in
+        IsPrompt options.skip options.wanted player.old (at ends.old)
         (E.moments ends.old) (E.moments ends.new) }
 {
     let mut line = ArrayVec::new();

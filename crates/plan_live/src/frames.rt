@@ -7,8 +7,8 @@ ghost use Rattle.plan_runs.specs.declared.event.Event.TheVariants.{Frame};
 ghost use Rattle.plan_player.specs.Playing.{played};
 ghost use Rattle.plan_player.specs.Delivery.{next_frame};
 ghost use Rattle.plan_session.specs.Events.{events_of_step, events_of};
-ghost use Rattle.plan_live.specs.Going.{kept, FrameWent, FrameStops, Went, StopsIn};
-ghost use Rattle.plan_live.specs.Living.{streamed, HasFailed};
+ghost use Rattle.plan_live.specs.Going.{kept, FrameWent, FrameStops, Plays};
+ghost use Rattle.plan_live.specs.Living.{streams_at, HasFailed};
 ghost use Rattle.plan_live.specs.declared.fault.Stop.TheVariants.{Write};
 
 use crate::ends::Ends;
@@ -50,12 +50,10 @@ fn put<E: Ends>(bytes: &[u8], number: u64, skip: u32, ends: &mut E) -> Result<()
 /// Writes the bytes of the next frame, unless it is skipped, and counts it.
 fn write_frame<E: Ends>(bytes: &[u8], made: &mut u64, skip: u32, ends: &mut E) -> Result<(), Stop>
     ensures counted { OnOk result (made.old < 18446744073709551615) }
-    ensures done { OnOk result (FrameWent skip bytes.now made.old made.new
-        (streamed (E.left ends.old) (E.written ends.old) (E.reported ends.old))
-        (streamed (E.left ends.new) (E.written ends.new) (E.reported ends.new))) }
-    ensures stopped { IfErr result (λ stop. FrameStops skip bytes.now made.old
-        (streamed (E.left ends.old) (E.written ends.old) (E.reported ends.old))
-        (streamed (E.left ends.new) (E.written ends.new) (E.reported ends.new)) stop) }
+    ensures done { let at = streams_at E.left E.written E.reported in OnOk result
+        (FrameWent skip bytes.now made.old made.new (at ends.old) (at ends.new)) }
+    ensures stopped { let at = streams_at E.left E.written E.reported in IfErr result (λ stop.
+        FrameStops skip bytes.now made.old (at ends.old) (at ends.new) stop) }
     ensures failed { IfErr result (λ stop.
         HasFailed stop (E.input_failed ends.new) (E.output_failed ends.new)) }
     ensures moments { E.moments ends.new ≡ E.moments ends.old }
@@ -138,14 +136,9 @@ fn send_frame<'a, S: Store, E: Ends>(
     ends: &mut E,
 ) -> Result<(), Stop>
     requires room { E.held ends.old + 4 ≤ 64 }
-    ensures done { OnOk result (Went options.skip options.wanted
-        player.old made.old (Frame ∷ []) player.new made.new
-        (streamed (E.left ends.old) (E.written ends.old) (E.reported ends.old))
-        (streamed (E.left ends.new) (E.written ends.new) (E.reported ends.new))) }
-    ensures stopped { IfErr result (λ stop. StopsIn options.skip options.wanted
-        player.old made.old (Frame ∷ [])
-        (streamed (E.left ends.old) (E.written ends.old) (E.reported ends.old))
-        (streamed (E.left ends.new) (E.written ends.new) (E.reported ends.new)) stop) }
+    ensures played { let at = streams_at E.left E.written E.reported in
+        Plays options player.old made.old (Frame ∷ []) player.new made.new
+        (at ends.old) (at ends.new) result }
     ensures failed { IfErr result (λ stop.
         HasFailed stop (E.input_failed ends.new) (E.output_failed ends.new)) }
     ensures moments { E.moments ends.new ≡ E.moments ends.old }
@@ -169,23 +162,15 @@ fn play_frame<'a, S: Store, E: Ends>(
     options: LiveOptions,
     ends: &mut E,
 ) -> Result<(), Stop>
-    ensures done { OnOk result (Went options.skip options.wanted
-        player.old made.old (Frame ∷ []) player.new made.new
-        (streamed (E.left ends.old) (E.written ends.old) (E.reported ends.old))
-        (streamed (E.left ends.new) (E.written ends.new) (E.reported ends.new))) }
-    ensures stopped { IfErr result (λ stop. StopsIn options.skip options.wanted
-        player.old made.old (Frame ∷ [])
-        (streamed (E.left ends.old) (E.written ends.old) (E.reported ends.old))
-        (streamed (E.left ends.new) (E.written ends.new) (E.reported ends.new)) stop) }
+    ensures played { let at = streams_at E.left E.written E.reported in
+        Plays options player.old made.old (Frame ∷ []) player.new made.new
+        (at ends.old) (at ends.new) result }
     ensures failed { IfErr result (λ stop.
         HasFailed stop (E.input_failed ends.new) (E.output_failed ends.new)) }
     ensures moments { E.moments ends.new ≡ E.moments ends.old }
 {
     match make_room(*made, options.skip, ends) {
-        Ok(()) => match send_frame(player, made, options, ends) {
-            Ok(()) => Ok(()),
-            Err(stop) => Err(stop),
-        },
+        Ok(()) => send_frame(player, made, options, ends),
         Err(stop) => Err(stop),
     }
 }
@@ -198,14 +183,9 @@ fn play_frames<'a, S: Store, E: Ends>(
     options: LiveOptions,
     ends: &mut E,
 ) -> Result<(), Stop>
-    ensures done { OnOk result (Went options.skip options.wanted
-        player.old made.old (replicate count Frame) player.new made.new
-        (streamed (E.left ends.old) (E.written ends.old) (E.reported ends.old))
-        (streamed (E.left ends.new) (E.written ends.new) (E.reported ends.new))) }
-    ensures stopped { IfErr result (λ stop. StopsIn options.skip options.wanted
-        player.old made.old (replicate count Frame)
-        (streamed (E.left ends.old) (E.written ends.old) (E.reported ends.old))
-        (streamed (E.left ends.new) (E.written ends.new) (E.reported ends.new)) stop) }
+    ensures played { let at = streams_at E.left E.written E.reported in
+        Plays options player.old made.old (replicate count Frame) player.new made.new
+        (at ends.old) (at ends.new) result }
     ensures failed { IfErr result (λ stop.
         HasFailed stop (E.input_failed ends.new) (E.output_failed ends.new)) }
     ensures moments { E.moments ends.new ≡ E.moments ends.old }
@@ -228,14 +208,9 @@ fn play_step<'a, S: Store, E: Ends>(
     options: LiveOptions,
     ends: &mut E,
 ) -> Result<(), Stop>
-    ensures done { OnOk result (Went options.skip options.wanted
-        player.old made.old (events_of_step step) player.new made.new
-        (streamed (E.left ends.old) (E.written ends.old) (E.reported ends.old))
-        (streamed (E.left ends.new) (E.written ends.new) (E.reported ends.new))) }
-    ensures stopped { IfErr result (λ stop. StopsIn options.skip options.wanted
-        player.old made.old (events_of_step step)
-        (streamed (E.left ends.old) (E.written ends.old) (E.reported ends.old))
-        (streamed (E.left ends.new) (E.written ends.new) (E.reported ends.new)) stop) }
+    ensures played { let at = streams_at E.left E.written E.reported in
+        Plays options player.old made.old (events_of_step step) player.new made.new
+        (at ends.old) (at ends.new) result }
     ensures failed { IfErr result (λ stop.
         HasFailed stop (E.input_failed ends.new) (E.output_failed ends.new)) }
     ensures moments { E.moments ends.new ≡ E.moments ends.old }
@@ -257,14 +232,9 @@ fn play_steps<'a, S: Store, E: Ends>(
     options: LiveOptions,
     ends: &mut E,
 ) -> Result<(), Stop>
-    ensures done { OnOk result (Went options.skip options.wanted
-        player.old made.old (events_of steps.now) player.new made.new
-        (streamed (E.left ends.old) (E.written ends.old) (E.reported ends.old))
-        (streamed (E.left ends.new) (E.written ends.new) (E.reported ends.new))) }
-    ensures stopped { IfErr result (λ stop. StopsIn options.skip options.wanted
-        player.old made.old (events_of steps.now)
-        (streamed (E.left ends.old) (E.written ends.old) (E.reported ends.old))
-        (streamed (E.left ends.new) (E.written ends.new) (E.reported ends.new)) stop) }
+    ensures played { let at = streams_at E.left E.written E.reported in
+        Plays options player.old made.old (events_of steps.now) player.new made.new
+        (at ends.old) (at ends.new) result }
     ensures failed { IfErr result (λ stop.
         HasFailed stop (E.input_failed ends.new) (E.output_failed ends.new)) }
     ensures moments { E.moments ends.new ≡ E.moments ends.old }
@@ -286,24 +256,16 @@ pub(crate) fn play_line<'a, S: Store, E: Ends>(
     options: LiveOptions,
     ends: &mut E,
 ) -> Result<(), Stop>
-    ensures done { OnOk result (Went options.skip options.wanted
-        player.old made.old (events_of steps.now) player.new made.new
-        (streamed (E.left ends.old) (E.written ends.old) (E.reported ends.old))
-        (streamed (E.left ends.new) (E.written ends.new) (E.reported ends.new))) }
-    ensures stopped { IfErr result (λ stop. StopsIn options.skip options.wanted
-        player.old made.old (events_of steps.now)
-        (streamed (E.left ends.old) (E.written ends.old) (E.reported ends.old))
-        (streamed (E.left ends.new) (E.written ends.new) (E.reported ends.new)) stop) }
+    ensures played { let at = streams_at E.left E.written E.reported in
+        Plays options player.old made.old (events_of steps.now) player.new made.new
+        (at ends.old) (at ends.new) result }
     ensures failed { IfErr result (λ stop.
         HasFailed stop (E.input_failed ends.new) (E.output_failed ends.new)) }
     ensures moments { E.moments ends.new ≡ E.moments ends.old }
     ensures flushed { OnOk result (E.is_flushed ends.new ≡ true) }
 {
     match play_steps(player, made, steps, options, ends) {
+        Ok(()) => flush_line(*made, options.skip, ends),
         Err(stop) => Err(stop),
-        Ok(()) => match flush_line(*made, options.skip, ends) {
-            Ok(()) => Ok(()),
-            Err(stop) => Err(stop),
-        },
     }
 }

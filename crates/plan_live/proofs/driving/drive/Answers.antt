@@ -3,14 +3,14 @@ use Rattle.console.specs.Lines.{GivesLine}
 use Rattle.plan_player.specs.Playing.{Playing}
 use Rattle.plan_live.specs.declared.options.Wanted.{Wanted}
 use Rattle.plan_live.specs.declared.message.LineFault.TheVariants.{Limit}
-use Rattle.plan_live.specs.Living.{Streamed, streamed}
+use Rattle.plan_live.specs.Living.{Streamed, streamed, streams_at}
 use Rattle.plan_live.proofs.Lines.{going_first, line_bad, going_line, stops_line, whole_at, broken_at, prompt_first, prompt_more}
 use Rattle.plan_live.proofs.driving.drive.Goals.{in-Long, in-Line+in-Ok}
 use Rattle.plan_live.proofs.driving.drive.Goals as goal
 
 pub loop-number-init : goal.loop-number-init
 loop-number-init g c =
-    let now : Streamed = streamed (g.E.Ends.left c.args.ends.now) (g.E.Ends.written c.args.ends.now) (g.E.Ends.reported c.args.ends.now) in
+    let now : Streamed = streams_at g.E.Ends.left g.E.Ends.written g.E.Ends.reported c.args.ends.now in
     record {
       going = going_first c.args.options.skip c.args.options.wanted c.args.player.now now;
       flushed = c.requires.flushed;
@@ -22,8 +22,9 @@ returns-in-End-clause-whole g c =
     let left = g.E.Ends.left in
     let written = g.E.Ends.written in
     let reported = g.E.Ends.reported in
-    let old : Streamed = streamed (left c.args.ends.now) (written c.args.ends.now) (reported c.args.ends.now) in
-    let now : Streamed = streamed (left c.loop-number.ends) (written c.loop-number.ends) (reported c.loop-number.ends) in
+    let at = streams_at g.E.Ends.left g.E.Ends.written g.E.Ends.reported in
+    let old : Streamed = at c.args.ends.now in
+    let now : Streamed = at c.loop-number.ends in
     let end = c.in-End.ensures.end refl in
     whole_at c.args.options.skip c.args.options.wanted c.args.player.now c.loop-number.player c.loop-number.made c.loop-number.number old now (left c.next.new.self) (written c.next.new.self) (reported c.next.new.self)
     c.loop-number.invariant.going end.0 end.1 c.in-End.ensures.written c.in-End.ensures.reported
@@ -33,8 +34,9 @@ returns-in-Failed-clause-stopped g c =
     let left = g.E.Ends.left in
     let written = g.E.Ends.written in
     let reported = g.E.Ends.reported in
-    let old : Streamed = streamed (left c.args.ends.now) (written c.args.ends.now) (reported c.args.ends.now) in
-    let now : Streamed = streamed (left c.loop-number.ends) (written c.loop-number.ends) (reported c.loop-number.ends) in
+    let at = streams_at g.E.Ends.left g.E.Ends.written g.E.Ends.reported in
+    let old : Streamed = at c.args.ends.now in
+    let now : Streamed = at c.loop-number.ends in
     broken_at c.args.options.skip c.args.options.wanted c.args.player.now c.loop-number.player c.loop-number.made c.loop-number.number old now (left c.next.new.self) (written c.next.new.self) (reported c.next.new.self)
     c.loop-number.invariant.going c.in-Failed.ensures.written c.in-Failed.ensures.reported
 
@@ -43,19 +45,21 @@ returns-in-Err-clause-stopped g c =
     let left = g.E.Ends.left in
     let written = g.E.Ends.written in
     let reported = g.E.Ends.reported in
-    let old : Streamed = streamed (left c.args.ends.now) (written c.args.ends.now) (reported c.args.ends.now) in
-    let now : Streamed = streamed (left c.loop-number.ends) (written c.loop-number.ends) (reported c.loop-number.ends) in
-    let after : Streamed = streamed (left c.take_line.new.ends) (written c.take_line.new.ends) (reported c.take_line.new.ends) in
+    let at = streams_at g.E.Ends.left g.E.Ends.written g.E.Ends.reported in
+    let old : Streamed = at c.args.ends.now in
+    let now : Streamed = at c.loop-number.ends in
+    let after : Streamed = at c.take_line.new.ends in
     let line : List ℕ = c.as_slice-line.result.now in
     let given : GivesLine now.left line (left c.next.new.self) = subst (λ (l : List ℕ). GivesLine now.left l (left c.next.new.self)) (sym c.as_slice-line.ensures.value) (c.in-Line.ensures.line refl) in
     stops_line c.args.options.skip c.args.options.wanted c.args.player.now c.loop-number.player c.loop-number.made c.loop-number.number line old now after (left c.next.new.self) (written c.next.new.self) (reported c.next.new.self) c.in-Err.stop
-    c.loop-number.invariant.going given c.in-Line.ensures.written c.in-Line.ensures.reported c.in-Err.ensures.stopped
+    c.loop-number.invariant.going given c.in-Line.ensures.written c.in-Line.ensures.reported c.in-Err.ensures.taken
 
 pub loop-number-preserved : goal.loop-number-preserved
 loop-number-preserved g c =
     let left = g.E.Ends.left in
     let written = g.E.Ends.written in
     let reported = g.E.Ends.reported in
+    let at = streams_at g.E.Ends.left g.E.Ends.written g.E.Ends.reported in
     let moments = g.E.Ends.moments in
     let skip : ℕ = c.args.options.skip in
     let wanted : Wanted = c.args.options.wanted in
@@ -63,15 +67,15 @@ loop-number-preserved g c =
     let q : Playing = c.loop-number.player in
     let m : ℕ = c.loop-number.made in
     let number : ℕ = c.loop-number.number in
-    let old : Streamed = streamed (left c.args.ends.now) (written c.args.ends.now) (reported c.args.ends.now) in
-    let now : Streamed = streamed (left c.loop-number.ends) (written c.loop-number.ends) (reported c.loop-number.ends) in
+    let old : Streamed = at c.args.ends.now in
+    let now : Streamed = at c.loop-number.ends in
     let rest : Option (List ℕ) = left c.next.new.self in
     let going = c.loop-number.invariant.going in
     elim c.match-next.branch [
       | in-Long w ↦
           let long = w.in-Long.ensures.long refl in
           let mid : Streamed = streamed rest (written c.next.new.self) (reported c.next.new.self) in
-          let after : Streamed = streamed (left w.report.new.self) (written w.report.new.self) (reported w.report.new.self) in
+          let after : Streamed = at w.report.new.self in
           let bad = line_bad skip wanted q m (number + 1) long.0 Limit mid after long.1 w.report.ensures.left w.report.ensures.written w.report.ensures.reported in
           rw (w.ends-is, w.player-is, w.made-is) (record {
             going = going_line skip wanted p q q m m number long.0 old now after rest (written c.next.new.self) (reported c.next.new.self) going long.2 w.in-Long.ensures.written w.in-Long.ensures.reported bad;
@@ -80,10 +84,10 @@ loop-number-preserved g c =
           })
       | in-Line+in-Ok w ↦
           let line : List ℕ = w.as_slice-line.result.now in
-          let after : Streamed = streamed (left w.take_line.new.ends) (written w.take_line.new.ends) (reported w.take_line.new.ends) in
+          let after : Streamed = at w.take_line.new.ends in
           let given : GivesLine now.left line rest = subst (λ (l : List ℕ). GivesLine now.left l rest) (sym w.as_slice-line.ensures.value) (w.in-Line.ensures.line refl) in
           rw (w.ends-is, w.player-is, w.made-is) (record {
-            going = going_line skip wanted p q w.take_line.new.player m w.take_line.new.made number line old now after rest (written c.next.new.self) (reported c.next.new.self) going given w.in-Line.ensures.written w.in-Line.ensures.reported w.in-Ok.ensures.done;
+            going = going_line skip wanted p q w.take_line.new.player m w.take_line.new.made number line old now after rest (written c.next.new.self) (reported c.next.new.self) going given w.in-Line.ensures.written w.in-Line.ensures.reported w.in-Ok.ensures.taken;
             flushed = w.in-Ok.ensures.flushed;
             prompt = prompt_more skip wanted p q m number old now (moments c.args.ends.now) (moments c.loop-number.ends) (moments c.next.new.self) (moments w.take_line.new.ends) going c.loop-number.invariant.prompt w.in-Line.ensures.moments w.take_line.ensures.moments;
           })
@@ -91,33 +95,27 @@ loop-number-preserved g c =
 
 pub returns-in-End-clause-prompt : goal.returns-in-End-clause-prompt
 returns-in-End-clause-prompt g c =
-    let left = g.E.Ends.left in
-    let written = g.E.Ends.written in
-    let reported = g.E.Ends.reported in
+    let at = streams_at g.E.Ends.left g.E.Ends.written g.E.Ends.reported in
     let moments = g.E.Ends.moments in
-    let old : Streamed = streamed (left c.args.ends.now) (written c.args.ends.now) (reported c.args.ends.now) in
-    let now : Streamed = streamed (left c.loop-number.ends) (written c.loop-number.ends) (reported c.loop-number.ends) in
+    let old : Streamed = at c.args.ends.now in
+    let now : Streamed = at c.loop-number.ends in
     prompt_more c.args.options.skip c.args.options.wanted c.args.player.now c.loop-number.player c.loop-number.made c.loop-number.number old now (moments c.args.ends.now) (moments c.loop-number.ends) (moments c.next.new.self) (moments c.next.new.self)
     c.loop-number.invariant.going c.loop-number.invariant.prompt c.in-End.ensures.moments refl
 
 pub returns-in-Failed-clause-prompt : goal.returns-in-Failed-clause-prompt
 returns-in-Failed-clause-prompt g c =
-    let left = g.E.Ends.left in
-    let written = g.E.Ends.written in
-    let reported = g.E.Ends.reported in
+    let at = streams_at g.E.Ends.left g.E.Ends.written g.E.Ends.reported in
     let moments = g.E.Ends.moments in
-    let old : Streamed = streamed (left c.args.ends.now) (written c.args.ends.now) (reported c.args.ends.now) in
-    let now : Streamed = streamed (left c.loop-number.ends) (written c.loop-number.ends) (reported c.loop-number.ends) in
+    let old : Streamed = at c.args.ends.now in
+    let now : Streamed = at c.loop-number.ends in
     prompt_more c.args.options.skip c.args.options.wanted c.args.player.now c.loop-number.player c.loop-number.made c.loop-number.number old now (moments c.args.ends.now) (moments c.loop-number.ends) (moments c.next.new.self) (moments c.next.new.self)
     c.loop-number.invariant.going c.loop-number.invariant.prompt c.in-Failed.ensures.moments refl
 
 pub returns-in-Err-clause-prompt : goal.returns-in-Err-clause-prompt
 returns-in-Err-clause-prompt g c =
-    let left = g.E.Ends.left in
-    let written = g.E.Ends.written in
-    let reported = g.E.Ends.reported in
+    let at = streams_at g.E.Ends.left g.E.Ends.written g.E.Ends.reported in
     let moments = g.E.Ends.moments in
-    let old : Streamed = streamed (left c.args.ends.now) (written c.args.ends.now) (reported c.args.ends.now) in
-    let now : Streamed = streamed (left c.loop-number.ends) (written c.loop-number.ends) (reported c.loop-number.ends) in
+    let old : Streamed = at c.args.ends.now in
+    let now : Streamed = at c.loop-number.ends in
     prompt_more c.args.options.skip c.args.options.wanted c.args.player.now c.loop-number.player c.loop-number.made c.loop-number.number old now (moments c.args.ends.now) (moments c.loop-number.ends) (moments c.next.new.self) (moments c.take_line.new.ends)
     c.loop-number.invariant.going c.loop-number.invariant.prompt c.in-Line.ensures.moments c.take_line.ensures.moments

@@ -1,7 +1,7 @@
 use Rattle.std.proofs.Common.{◌≡◌, ◌-◌, ◌≤◌, replicate}
 use Rattle.plan_runs.specs.declared.event.Event.TheVariants.{Frame}
 use Rattle.plan_live.specs.Going.{Went}
-use Rattle.plan_live.specs.Living.{streamed}
+use Rattle.plan_live.specs.Living.{streams_at}
 use Rattle.plan_live.proofs.frames.play_frames.Given as goal
 
 -- the frames so far
@@ -9,8 +9,8 @@ abbrev pub invariant-loop-done : goal.invariant-loop-done
 invariant-loop-done g l = record {
   within : l.done ≤ l.count;
   went : Went l.options.skip l.options.wanted l.initial.player l.initial.made (replicate l.done Frame) l.player l.made
-      (streamed (g.E.Ends.left l.initial.ends) (g.E.Ends.written l.initial.ends) (g.E.Ends.reported l.initial.ends))
-      (streamed (g.E.Ends.left l.ends) (g.E.Ends.written l.ends) (g.E.Ends.reported l.ends));
+      (streams_at g.E.Ends.left g.E.Ends.written g.E.Ends.reported l.initial.ends)
+      (streams_at g.E.Ends.left g.E.Ends.written g.E.Ends.reported l.ends);
   moments : g.E.Ends.moments l.ends ≡ g.E.Ends.moments l.initial.ends;
 }
 

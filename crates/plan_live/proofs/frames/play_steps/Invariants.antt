@@ -1,14 +1,14 @@
 use Rattle.std.proofs.Common.{◌≡◌, take}
 use Rattle.plan_session.specs.Events.{events_of}
 use Rattle.plan_live.specs.Going.{Went}
-use Rattle.plan_live.specs.Living.{streamed}
+use Rattle.plan_live.specs.Living.{streams_at}
 use Rattle.plan_live.proofs.frames.play_steps.Given as goal
 
 -- the steps so far
 abbrev pub invariant-loop-step : goal.invariant-loop-step
 invariant-loop-step g l = record {
   went : Went l.options.skip l.options.wanted l.initial.player l.initial.made (events_of (take l.step-index l.steps)) l.player l.made
-      (streamed (g.E.Ends.left l.initial.ends) (g.E.Ends.written l.initial.ends) (g.E.Ends.reported l.initial.ends))
-      (streamed (g.E.Ends.left l.ends) (g.E.Ends.written l.ends) (g.E.Ends.reported l.ends));
+      (streams_at g.E.Ends.left g.E.Ends.written g.E.Ends.reported l.initial.ends)
+      (streams_at g.E.Ends.left g.E.Ends.written g.E.Ends.reported l.ends);
   moments : g.E.Ends.moments l.ends ≡ g.E.Ends.moments l.initial.ends;
 }
