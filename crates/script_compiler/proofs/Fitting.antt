@@ -1,6 +1,5 @@
 -- If there is room for a block, there is room for what is emitted of it at each step.
-use Rattle.std.proofs.Common.{◌≡◌, ℕ, ◌+◌, ◌≤◌, ◌<◌, Bool, true, false, if◌then◌else◌, List, [], ◌∷◌, ◌++◌, length, Option, Some, None, is_some, Result, refl, sym, ap, ◌∙◌, subst, arith, append_assoc, append-nil, length-append, get_or, drop}
-use Rattle.std.specs.Prelude.{IfErr}
+use Rattle.std.proofs.Common.{◌≡◌, ℕ, ◌+◌, ◌≤◌, ◌<◌, Bool, true, false, if◌then◌else◌, List, [], ◌∷◌, ◌++◌, length, Option, Some, None, is_some, refl, sym, ap, ◌∙◌, subst, arith, append_assoc, append-nil, length-append, get_or, drop}
 use Rattle.std.proofs.lemmas.List.{length-set}
 use Rattle.plan_code.specs.declared.instr.Instr.{Instr}
 use Rattle.plan_code.specs.declared.instr.Instr.TheVariants.{Test, Jump, Set, Loop, End}
@@ -16,8 +15,6 @@ use Rattle.script_meaning.specs.Compiled.{Tabled, lines_of_placed, nested}
 use Rattle.script_compiler.specs.Working.{Work}
 use Rattle.script_compiler.specs.declared.fault.CodeLimit.{CodeLimit}
 use Rattle.script_compiler.specs.declared.fault.CodeLimit.TheVariants.{Instructions, Labels, Configurations, Counters}
-use Rattle.script_compiler.specs.declared.fault.CompileFault.{CompileFault}
-use Rattle.script_compiler.specs.Refusals.{IfLimit}
 use Rattle.script_compiler.specs.Emission.{Emits, Left, Forks, StartsElse, line_of_instr, jumping, points_of, way}
 use Rattle.script_compiler.specs.Space.{names_of, HasSpace, HasCounters, HasTable, IsCovered, Covers, CanEmit, Keeps}
 use Rattle.script_compiler.specs.Room.{HasRoomFor, Leaves, named_by}
@@ -26,7 +23,7 @@ use Rattle.script_compiler.proofs.Trees.{statements_cut}
 use Rattle.script_compiler.proofs.Continuing.{after_falls}
 use Rattle.script_compiler.proofs.Emitted.{Whole, whole_of, laid_length, length_lines, jump_length}
 use Rattle.script_compiler.proofs.Refusing.{some_is, head_is, when_first, either_first, either_second, repeat_body, forever_body}
-use Rattle.script_compiler.proofs.Spaces.{marks_count, marks_named, space_from, space_after, space_one, space_as, space_left, covered_here, covered_fits, covers_block, limits_map}
+use Rattle.script_compiler.proofs.Spaces.{marks_count, marks_named, space_from, space_after, space_one, space_as, space_left, covered_here, covered_fits, covers_block}
 
 -- ---- one statement after another
 
@@ -48,17 +45,13 @@ can_then limit plan r b c v w left can =
       space = space_after limit v w left.emitted (rest ++ can.more) left.emits (subst (λ ps. HasSpace limit v ps) e can.space);
     }
 
--- the same for a statement, given its shape in a match arm
-pub limited_as : (plan : Plan) (r : ℕ) (w : Work) (x : Result Bool CompileFault) (shape shape' : Block → Block) → ((rest : Block) → shape rest ≡ shape' rest) → IfErr x (λ e. IfLimit e (λ _ limit. (rest : Block) → CanEmit limit plan r (shape' rest) w → ⊥)) → IfErr x (λ e. IfLimit e (λ _ limit. (rest : Block) → CanEmit limit plan r (shape rest) w → ⊥))
-limited_as plan r w x shape shape' e h = limits_map x (λ at limit k rest can. k rest (subst (λ b. CanEmit limit plan r b w) (e rest) can)) h
-
 module _ (limit : CodeLimit) (plan : Plan) (r : ℕ) (table : List Block) (ss : List Statement) (k : ℕ) (s : Statement) (u v : Work) (g : Bool) where
   pub block_limited : s ≡ get_or ss k s → k < length ss → g ≡ true → Left plan r (block_of table ss) u v g (block_of table (drop k ss)) →
-      ((rest : Block) → CanEmit limit plan r (before table s rest) v → ⊥) → CanEmit limit plan r (block_of table ss) u → ⊥
+      (CanEmit limit plan r (before table s (block_of table (drop (k + 1) ss))) v → ⊥) → CanEmit limit plan r (block_of table ss) u → ⊥
   block_limited is lt e l h can =
       let cut : block_of table (drop k ss) ≡ before table s (block_of table (drop (k + 1) ss)) = statements_cut table ss k s lt ∙ ap (λ x. before table x (block_of table (drop (k + 1) ss))) (sym is) in
       let left = subst (λ b. Left plan r (block_of table ss) u v true b) cut (subst (λ x. Left plan r (block_of table ss) u v x (block_of table (drop k ss))) e l) in
-      h (block_of table (drop (k + 1) ss)) (can_then limit plan r (block_of table ss) _ u v left can)
+      h (can_then limit plan r (block_of table ss) _ u v left can)
 
 -- ---- statements that begin with an instruction
 
@@ -408,9 +401,6 @@ can_apply limit plan r line k named rest w can =
       onward = λ u e. onward_covers plan r (pc + length names) rest can.more (point_after plan named w.now) (λ v h. can.onward v h) u e;
       space = subst (λ ps. HasSpace limit w ps) (append_assoc names rests can.more) can.space;
     }
-
-pub apply_limited : (plan : Plan) (r : ℕ) (w : Work) (x : Result Bool CompileFault) (line k : ℕ) (named : Block) → IfErr x (λ e. IfLimit e (λ _ limit. CanEmit limit plan r named w → ⊥)) → IfErr x (λ e. IfLimit e (λ _ limit. (rest : Block) → CanEmit limit plan r (apply line k named rest) w → ⊥))
-apply_limited plan r w x line k named h = limits_map x (λ at limit g rest can. g (can_apply limit plan r line k named rest w can)) h
 
 -- a ninth repeat
 pub repeat_deep : (plan : Plan) (r line n : ℕ) (body rest : Block) (w : Work) → 8 ≤ r → CanEmit Counters plan r (repeat line n body rest) w → ⊥

@@ -23,6 +23,7 @@ mod Typed
 mod Rooms
 mod Spaces
 mod Fitting
+mod Compiling
 mod Deep
 mod Making
 mod Bounded
@@ -32,4 +33,5 @@ mod Pooled
 mod Numbered
 mod Cycles
 mod Uncosted
+mod VectorsOfCompiling
 mod VectorsOfCosts

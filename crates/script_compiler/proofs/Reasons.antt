@@ -15,7 +15,7 @@ use Rattle.script_front.specs.Tree.{Tree}
 use Rattle.script_meaning.specs.Compiled.{opening_of}
 use Rattle.script_front.specs.declared.tree.Act.{Act}
 use Rattle.script_front.specs.declared.tree.Statement.{Statement}
-use Rattle.script_front.specs.Block.{Block, nothing, basic, when, either, repeat, forever, apply, before, block_of}
+use Rattle.script_front.specs.Block.{Block, nothing, basic, when, either, repeat, forever, before, block_of}
 use Rattle.script_meaning.specs.declared.flow.ProgramPoint.{ProgramPoint}
 use Rattle.script_meaning.specs.Scheme.{without_label, at_label, head, instr_of_act, point_after, falls_out}
 use Rattle.script_meaning.specs.Judged.{WaysAgree, BranchesAgree, FitsEntry}
@@ -56,19 +56,9 @@ refused_here e line cause P is h = subst (λ (x : CompileFault). IfRefused x P) 
 pub refused_as_said : (plan : Plan) (line : ℕ) (i : Instr) (t : Flow) (e : CompileFault) → IsRefusedAs plan line i t e → IfRefused e (λ at given. (at ≡ line) × FlowRefused plan i (known_at t) given)
 refused_as_said plan line i t e h = refused_here e line h.0 (λ at given. (at ≡ line) × FlowRefused plan i (known_at t) given) h.1 (refl, h.2)
 
--- ---- a statement, given its shape in a match arm
-
-pub why_as : (plan : Plan) (s : ProgramPoint) (x : Result Bool CompileFault) (shape shape' : Block → Block) → ((rest : Block) → shape rest ≡ shape' rest) → IfErr x (λ e. (rest : Block) → IfRefused e (λ at given. IsRefusedIn plan (shape' rest) s at given)) → IfErr x (λ e. (rest : Block) → IfRefused e (λ at given. IsRefusedIn plan (shape rest) s at given))
-why_as plan s (Ok f) shape shape' e h = h
-why_as plan s (Err y) shape shape' e h = λ rest. subst (λ b. IfRefused y (λ at given. IsRefusedIn plan b s at given)) (sym (e rest)) (h rest)
-
-pub act_why : (plan : Plan) (s : ProgramPoint) (x : Result Bool CompileFault) (line : ℕ) (a : Act) → IfErr x (λ e. IfRefused e (λ at given. (at ≡ line) × FlowRefused plan (instr_of_act a) (known_at s.flow) given)) → IfErr x (λ e. (rest : Block) → IfRefused e (λ at given. IsRefusedIn plan (basic line a rest) s at given))
-act_why plan s (Ok f) line a h = h
-act_why plan s (Err y) line a h = λ rest. refused_map y (λ at given k. inl k) h
-
-pub apply_why : (plan : Plan) (s : ProgramPoint) (x : Result Bool CompileFault) (line number : ℕ) (name : Block) → IfErr x (λ e. IfRefused e (λ at given. IsRefusedIn plan name s at given)) → IfErr x (λ e. (rest : Block) → IfRefused e (λ at given. IsRefusedIn plan (apply line number name rest) s at given))
-apply_why plan s (Ok f) line number name h = h
-apply_why plan s (Err y) line number name h = λ rest. refused_map y (λ at given k. inl k) h
+pub act_why : (plan : Plan) (s : ProgramPoint) (x : Result Bool CompileFault) (line : ℕ) (a : Act) (rest : Block) → IfErr x (λ e. IfRefused e (λ at given. (at ≡ line) × FlowRefused plan (instr_of_act a) (known_at s.flow) given)) → IfErr x (λ e. IfRefused e (λ at given. IsRefusedIn plan (basic line a rest) s at given))
+act_why plan s (Ok f) line a rest h = h
+act_why plan s (Err y) line a rest h = refused_map y (λ at given k. inl k) h
 
 -- ---- a statement with blocks: one of them is refused, or the paths do not agree
 
@@ -157,10 +147,10 @@ module _ (plan : Plan) (r : ℕ) (table : List Block) (ss : List Statement) (k :
   fails_from at given is lt l h = l.fails at given (subst (λ b. IsRefusedAfter (way g v) b (λ t. IsRefusedIn plan b t at given) at given) (sym (rest_is is lt)) h)
 
   pub block_why : (e : CompileFault) → s ≡ get_or ss k s → k < length ss → g ≡ true → Left plan r (block_of table ss) u v g (block_of table (drop k ss)) →
-      ((rest : Block) → IfRefused e (λ at given. IsRefusedIn plan (before table s rest) v.now at given)) → IfRefused e (λ at given. IsRefusedIn plan (block_of table ss) u.now at given)
+      IfRefused e (λ at given. IsRefusedIn plan (before table s (block_of table (drop (k + 1) ss))) v.now at given) → IfRefused e (λ at given. IsRefusedIn plan (block_of table ss) u.now at given)
   block_why e is lt on l h =
       let rest = before table s (block_of table (drop (k + 1) ss)) in
-      refused_map e (λ at given x. fails_from at given is lt l (subst (λ b. IsRefusedAfter (way b v) rest (λ t. IsRefusedIn plan rest t at given) at given) (sym on) x)) (h (block_of table (drop (k + 1) ss)))
+      refused_map e (λ at given x. fails_from at given is lt l (subst (λ b. IsRefusedAfter (way b v) rest (λ t. IsRefusedIn plan rest t at given) at given) (sym on) x)) h
 
   pub block_unreached_why : (line : ℕ) (e : CompileFault) → e ≡ Refused line Table → s ≡ get_or ss k s → k < length ss → g ≡ false → Left plan r (block_of table ss) u v g (block_of table (drop k ss)) →
       ((rest : Block) → IsUnreached (before table s rest) line Table) → IfRefused e (λ at given. IsRefusedIn plan (block_of table ss) u.now at given)

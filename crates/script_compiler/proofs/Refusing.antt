@@ -8,7 +8,7 @@ use Rattle.plan_flow.specs.Flows.{known_at}
 use Rattle.script_front.specs.declared.tree.Act.{Act}
 use Rattle.script_front.specs.declared.tree.Statement.{Statement}
 use Rattle.script_front.specs.declared.tree.Statement.TheOpen.{Statement-F}
-use Rattle.script_front.specs.Block.{Block, nothing, basic, when, either, repeat, forever, apply, Before, statement_step, before, block_of}
+use Rattle.script_front.specs.Block.{Block, nothing, basic, when, either, repeat, forever, Before, statement_step, before, block_of}
 use Rattle.script_meaning.specs.declared.flow.ProgramPoint.{ProgramPoint}
 use Rattle.script_meaning.specs.Scheme.{without_label, at_label, head, instr_of_act, point_after, falls_out}
 use Rattle.script_meaning.specs.Judged.{IsJudged, IsDone, Reached, WaysAgree, BranchesAgree, FitsEntry}
@@ -28,18 +28,9 @@ pub err_map : (x : Result Bool CompileFault) (P Q : CompileFault → Type 0) →
 err_map (Ok f) P Q m h = h
 err_map (Err y) P Q m h = m y h
 
--- the same for a statement, given its shape in a match arm
-pub refused_as : (plan : Plan) (s : ProgramPoint) (x : Result Bool CompileFault) (shape shape' : Block → Block) → ((rest : Block) → shape rest ≡ shape' rest) → IfErr x (λ e. IsRefusal e → (rest : Block) → IsJudged plan (shape' rest) s → ⊥) → IfErr x (λ e. IsRefusal e → (rest : Block) → IsJudged plan (shape rest) s → ⊥)
-refused_as plan s (Ok f) shape shape' e h = h
-refused_as plan s (Err y) shape shape' e h = λ is rest j. h is rest (subst (λ b. IsJudged plan b s) (e rest) j)
-
-pub act_refused : (plan : Plan) (s : ProgramPoint) (x : Result Bool CompileFault) (line : ℕ) (a : Act) → IfErr x (λ e. IsRefusal e → IsFine plan (instr_of_act a) (known_at s.flow) → ⊥) → IfErr x (λ e. IsRefusal e → (rest : Block) → IsJudged plan (basic line a rest) s → ⊥)
-act_refused plan s (Ok f) line a h = h
-act_refused plan s (Err y) line a h = λ is rest j. h is j.0
-
-pub apply_refused : (plan : Plan) (s : ProgramPoint) (x : Result Bool CompileFault) (line number : ℕ) (name : Block) → IfErr x (λ e. IsRefusal e → IsJudged plan name s → ⊥) → IfErr x (λ e. IsRefusal e → (rest : Block) → IsJudged plan (apply line number name rest) s → ⊥)
-apply_refused plan s (Ok f) line number name h = h
-apply_refused plan s (Err y) line number name h = λ is rest j. h is j.0
+pub act_refused : (plan : Plan) (s : ProgramPoint) (x : Result Bool CompileFault) (line : ℕ) (a : Act) (rest : Block) → IfErr x (λ e. IsRefusal e → IsFine plan (instr_of_act a) (known_at s.flow) → ⊥) → IfErr x (λ e. IsRefusal e → IsJudged plan (basic line a rest) s → ⊥)
+act_refused plan s (Ok f) line a rest h = h
+act_refused plan s (Err y) line a rest h = λ is j. h is j.0
 
 -- ---- what the judgement of a statement with blocks implies
 

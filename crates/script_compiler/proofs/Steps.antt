@@ -33,20 +33,15 @@ pub ok_both : (x : Result Bool CompileFault) (C D : Type 0) → OnOk x C → OnO
 ok_both (Ok f) C D h k = (h, k)
 ok_both (Err y) C D h k = h
 
--- the same for a statement, given its shape in a match arm
-pub left_as : (plan : Plan) (r : ℕ) (old new : Work) (x : Result Bool CompileFault) (shape shape' : Block → Block) → ((rest : Block) → shape rest ≡ shape' rest) → IfOk x (λ f. (rest : Block) → Left plan r (shape' rest) old new f rest) → IfOk x (λ f. (rest : Block) → Left plan r (shape rest) old new f rest)
-left_as plan r old new (Ok f) shape shape' e h = λ rest. subst (λ b. Left plan r b old new f rest) (sym (e rest)) (h rest)
-left_as plan r old new (Err y) shape shape' e h = h
+pub act_step : (plan : Plan) (r line : ℕ) (a : Act) (rest : Block) (v w : Work) (x : Result Bool CompileFault) → IfOk x (λ f. f ≡ true) → OnOk x (Emits v w (alone line (instr_of_act a) r v.now)) → OnOk x (w.now ≡ without_label (after_instr plan (instr_of_act a) v.now.flow)) → OnOk x (IsFine plan (instr_of_act a) (known_at v.now.flow)) → IfOk x (λ f. Left plan r (basic line a rest) v w f rest)
+act_step plan r line a rest v w x goes emits now fine = ok_true x _ _ goes (ok_both x _ _ emits (ok_both x _ _ now fine)) (λ (all : Emits v w (alone line (instr_of_act a) r v.now) × ((w.now ≡ without_label (after_instr plan (instr_of_act a) v.now.flow)) × IsFine plan (instr_of_act a) (known_at v.now.flow))). left_act plan r line a rest v w all.0 all.1.0 all.1.1)
 
-pub act_step : (plan : Plan) (r line : ℕ) (a : Act) (v w : Work) (x : Result Bool CompileFault) → IfOk x (λ f. f ≡ true) → OnOk x (Emits v w (alone line (instr_of_act a) r v.now)) → OnOk x (w.now ≡ without_label (after_instr plan (instr_of_act a) v.now.flow)) → OnOk x (IsFine plan (instr_of_act a) (known_at v.now.flow)) → IfOk x (λ f. (rest : Block) → Left plan r (basic line a rest) v w f rest)
-act_step plan r line a v w x goes emits now fine = ok_true x _ _ goes (ok_both x _ _ emits (ok_both x _ _ now fine)) (λ (all : Emits v w (alone line (instr_of_act a) r v.now) × ((w.now ≡ without_label (after_instr plan (instr_of_act a) v.now.flow)) × IsFine plan (instr_of_act a) (known_at v.now.flow))) rest. left_act plan r line a rest v w all.0 all.1.0 all.1.1)
-
-module _ (plan : Plan) (r line c at : ℕ) (first : Block) (w0 w2 w3 w5 : Work) (f : Bool) (x : Result Bool CompileFault) where
+module _ (plan : Plan) (r line c at : ℕ) (first rest : Block) (w0 w2 w3 w5 : Work) (f : Bool) (x : Result Bool CompileFault) where
   pub when_step :
       r ≤ 8 → at ≡ length w0.lines.items → Forks line (Test c 0) r w0 w2 → Left plan r first w2 w3 f nothing → IfOk x (λ g. g ≡ true) →
       OnOk x ((front : List ProgramPoint) (entry : ProgramPoint) → w3.saved.items ≡ front ++ entry ∷ [] → ClosesIf f line c at front entry w3 w5) →
-      IfOk x (λ g. (rest : Block) → Left plan r (when line c first rest) w0 w5 g rest)
-  when_step deep ea fork left goes closes = ok_true x _ _ goes closes (λ h rest. left_when plan r line c first rest w0 w2 w3 w5 f deep fork left (λ front entry e. subst (λ n. ClosesIf f line c n front entry w3 w5) ea (h front entry e)))
+      IfOk x (λ g. Left plan r (when line c first rest) w0 w5 g rest)
+  when_step deep ea fork left goes closes = ok_true x _ _ goes closes (λ h. left_when plan r line c first rest w0 w2 w3 w5 f deep fork left (λ front entry e. subst (λ n. ClosesIf f line c n front entry w3 w5) ea (h front entry e)))
 
 module _ (plan : Plan) (r line c at jump : ℕ) (first second : Block) (w0 w2 w3 w6 w7 w8 : Work) (f1 f2 f : Bool) where
   pub either_step :
@@ -181,7 +176,3 @@ unnamed_step plan r line bs s name k w deep e ek le rest =
     let without_label : named_at (tables bs) name ≡ nothing = named_past (tables bs) name (omega (arith, tables_length bs, ek, le)) in
     let h = left_apply plan r line name nothing rest w w true deep (left_start plan r nothing w) in
     subst (λ b. Left plan r b w w true rest) (sym (e rest ∙ ap (λ b. apply line name b rest) without_label)) h
-
-pub apply_left : (plan : Plan) (r line number : ℕ) (name : Block) (shape : Block → Block) (v w : Work) (x : Result Bool CompileFault) → r ≤ 8 → ((rest : Block) → shape rest ≡ apply line number name rest) → IfOk x (λ f. Left plan r name v w f nothing) → IfOk x (λ f. (rest : Block) → Left plan r (shape rest) v w f rest)
-apply_left plan r line number name shape v w (Ok f) deep e h = λ rest. subst (λ b. Left plan r b v w f rest) (sym (e rest)) (left_apply plan r line number name rest v w f deep h)
-apply_left plan r line number name shape v w (Err y) deep e h = h

@@ -1,5 +1,6 @@
 pub mod Refusals
 pub mod Emission
+pub mod Compiling
 pub mod Longest
 pub mod Room
 pub mod Fingerprint

@@ -87,14 +87,9 @@ fn emit(
         facts: &facts,
         counters: 0,
     };
-    let falls = match work.block(context, script.statements()) {
-        Ok(falls) => falls,
-        Err(fault) => return Err(fault),
-    };
-    match work.close(falls, script.last_line()) {
-        Ok(()) => Ok(work.into_emitted()),
-        Err(fault) => Err(fault),
-    }
+    let falls = work.block(context, script.statements())?;
+    work.close(falls, script.last_line())?;
+    Ok(work.into_emitted())
 }
 
 /// The line number of an instruction.

@@ -42,9 +42,7 @@ pub(crate) fn built(items: &[Item]) -> Result<Config, CompileFault>
 {
     let mut config = Config::empty();
     for item in items {
-        if let Err(fault) = add(item, &mut config) {
-            return Err(fault);
-        }
+        add(item, &mut config)?;
     }
     Ok(config)
 }

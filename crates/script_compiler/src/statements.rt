@@ -1,13 +1,10 @@
 //! Compiles statements one after another, each kind in its own function.
 
-ghost use Rattle.std.specs.Prelude.{◌≡◌, ◌≤◌, ◌<◌, List, length, map, OnOk, IfOk, IfErr};
-ghost use Rattle.script_front.specs.Block.{Block, nothing, when, either, repeat, forever, block_of, before};
+ghost use Rattle.std.specs.Prelude.{List};
+ghost use Rattle.script_front.specs.Block.{Block, nothing, when, either, repeat, forever, before};
 ghost use Rattle.plan_flow.specs.declared.cause.Cause.TheVariants.{Table};
-ghost use Rattle.script_meaning.specs.Judged.{IsJudged};
-ghost use Rattle.script_meaning.specs.Refused.{IsRefusedIn, IsUnreached};
-ghost use Rattle.script_compiler.specs.Emission.{Left, tables, facts_of};
-ghost use Rattle.script_compiler.specs.Refusals.{IsRefusal, IfRefused, IfLimit};
-ghost use Rattle.script_compiler.specs.Space.{HasTable, CanEmit};
+ghost use Rattle.script_meaning.specs.Refused.{IsUnreached};
+ghost use Rattle.script_compiler.specs.Compiling.{CanCompile, Compiles, block_in, statement_in};
 
 use crate::context::Context;
 use crate::falls::all_fall;
@@ -42,22 +39,9 @@ impl Work {
         context: Context,
         statements: &[Statement],
     ) -> Result<bool, CompileFault>
-        requires room { length self.old.lines.items ≤ 4096 }
-        requires counters { context.counters ≤ 8 }
-        requires facts { context.facts.now ≡ map facts_of (tables context.blocks.now) }
-        requires table { HasTable self.old }
-        ensures left { IfOk result (λ f. Left context.entry.plan.now context.entry.counters
-            (block_of (tables context.entry.blocks.now) statements.now) self.old
-            self.new f nothing) }
-        ensures room { OnOk result (length self.new.lines.items ≤ 4096) }
-        ensures refused { IfErr result (λ e. IsRefusal e → IsJudged context.entry.plan.now
-            (block_of (tables context.entry.blocks.now) statements.now) self.old.now → ⊥) }
-        ensures why { IfErr result (λ e. IfRefused e (λ at given. IsRefusedIn context.entry.plan.now
-            (block_of (tables context.entry.blocks.now) statements.now) self.old.now at given)) }
-        ensures table { OnOk result (HasTable self.new) }
-        ensures limited { IfErr result (λ e. IfLimit e (λ _ limit. CanEmit limit
-            context.entry.plan.now context.entry.counters (block_of (tables
-            context.entry.blocks.now) statements.now) self.old → ⊥)) }
+        requires { CanCompile context self.old }
+        ensures { Compiles context.entry (block_in context.entry statements.now) nothing
+            self.old self.new result }
     {
         let mut is_reached = true;
         for statement in statements {
@@ -75,24 +59,9 @@ impl Work {
     /// Compiles one statement; returns whether control reaches its end.
     #[cycle(work)]
     fn statement(&mut self, context: Context, statement: &Statement) -> Result<bool, CompileFault>
-        requires room { length self.old.lines.items ≤ 4096 }
-        requires counters { context.counters ≤ 8 }
-        requires facts { context.facts.now ≡ map facts_of (tables context.blocks.now) }
-        requires table { HasTable self.old }
-        ensures left { IfOk result (λ f. (rest : Block) → Left context.entry.plan.now
-            context.entry.counters (before (tables context.entry.blocks.now) statement.now rest)
-            self.old self.new f rest) }
-        ensures room { OnOk result (length self.new.lines.items ≤ 4096) }
-        ensures refused { IfErr result (λ e. IsRefusal e → (rest : Block) → IsJudged
-            context.entry.plan.now (before (tables context.entry.blocks.now) statement.now rest)
-            self.old.now → ⊥) }
-        ensures why { IfErr result (λ e. (rest : Block) → IfRefused e (λ at given. IsRefusedIn
-            context.entry.plan.now (before (tables context.entry.blocks.now) statement.now rest)
-            self.old.now at given)) }
-        ensures table { OnOk result (HasTable self.new) }
-        ensures limited { IfErr result (λ e. IfLimit e (λ _ limit. (rest : Block) → CanEmit limit
-            context.entry.plan.now context.entry.counters (before (tables context.entry.blocks.now)
-            statement.now rest) self.old → ⊥)) }
+        requires { CanCompile context self.old }
+        ensures { (rest : Block) → Compiles context.entry
+            (statement_in context.entry statement.now rest) rest self.old self.new result }
     {
         match statement {
             Statement::Act { line, act } => self.act(context.plan, *line, context.counters, act),
@@ -142,24 +111,10 @@ impl Work {
         contact: ContactId,
         first: &[Statement],
     ) -> Result<bool, CompileFault>
-        requires room { length self.old.lines.items ≤ 4096 }
-        requires counters { context.counters ≤ 8 }
-        requires facts { context.facts.now ≡ map facts_of (tables context.blocks.now) }
-        requires table { HasTable self.old }
-        ensures left { IfOk result (λ f. (rest : Block) → Left context.entry.plan.now
-            context.entry.counters (when line contact (block_of (tables context.entry.blocks.now)
-            first.now) rest) self.old self.new f rest) }
-        ensures room { OnOk result (length self.new.lines.items ≤ 4096) }
-        ensures refused { IfErr result (λ e. IsRefusal e → (rest : Block) → IsJudged
-            context.entry.plan.now (when line contact (block_of (tables context.entry.blocks.now)
-            first.now) rest) self.old.now → ⊥) }
-        ensures why { IfErr result (λ e. (rest : Block) → IfRefused e (λ at given. IsRefusedIn
-            context.entry.plan.now (when line contact (block_of (tables context.entry.blocks.now)
-            first.now) rest) self.old.now at given)) }
-        ensures table { OnOk result (HasTable self.new) }
-        ensures limited { IfErr result (λ e. IfLimit e (λ _ limit. (rest : Block) → CanEmit limit
-            context.entry.plan.now context.entry.counters (when line contact (block_of (tables
-            context.entry.blocks.now) first.now) rest) self.old → ⊥)) }
+        requires { CanCompile context self.old }
+        ensures { (rest : Block) → Compiles context.entry
+            (when line contact (block_in context.entry first.now) rest) rest
+            self.old self.new result }
     {
         let at = self.len();
         if let Err(fault) = self.fork(line, context.counters, Instr::Test { contact, target: 0 }) {
@@ -182,28 +137,10 @@ impl Work {
         first: &[Statement],
         second: &[Statement],
     ) -> Result<bool, CompileFault>
-        requires room { length self.old.lines.items ≤ 4096 }
-        requires counters { context.counters ≤ 8 }
-        requires facts { context.facts.now ≡ map facts_of (tables context.blocks.now) }
-        requires table { HasTable self.old }
-        ensures left { IfOk result (λ f. (rest : Block) → Left context.entry.plan.now
-            context.entry.counters (either line contact (block_of (tables context.entry.blocks.now)
-            first.now) (block_of (tables context.entry.blocks.now) second.now) rest) self.old
-            self.new f rest) }
-        ensures room { OnOk result (length self.new.lines.items ≤ 4096) }
-        ensures refused { IfErr result (λ e. IsRefusal e → (rest : Block) → IsJudged
-            context.entry.plan.now (either line contact (block_of (tables context.entry.blocks.now)
-            first.now) (block_of (tables context.entry.blocks.now) second.now) rest) self.old.now →
-            ⊥) }
-        ensures why { IfErr result (λ e. (rest : Block) → IfRefused e (λ at given. IsRefusedIn
-            context.entry.plan.now (either line contact (block_of (tables context.entry.blocks.now)
-            first.now) (block_of (tables context.entry.blocks.now) second.now) rest) self.old.now at
-            given)) }
-        ensures table { OnOk result (HasTable self.new) }
-        ensures limited { IfErr result (λ e. IfLimit e (λ _ limit. (rest : Block) → CanEmit limit
-            context.entry.plan.now context.entry.counters (either line contact (block_of (tables
-            context.entry.blocks.now) first.now) (block_of (tables context.entry.blocks.now)
-            second.now) rest) self.old → ⊥)) }
+        requires { CanCompile context self.old }
+        ensures { (rest : Block) → Compiles context.entry
+            (either line contact (block_in context.entry first.now)
+            (block_in context.entry second.now) rest) rest self.old self.new result }
     {
         let at = self.len();
         if let Err(fault) = self.fork(line, context.counters, Instr::Test { contact, target: 0 }) {
@@ -233,24 +170,10 @@ impl Work {
         times: Times,
         body: &[Statement],
     ) -> Result<bool, CompileFault>
-        requires room { length self.old.lines.items ≤ 4096 }
-        requires counters { context.counters ≤ 8 }
-        requires facts { context.facts.now ≡ map facts_of (tables context.blocks.now) }
-        requires table { HasTable self.old }
-        ensures left { IfOk result (λ f. (rest : Block) → Left context.entry.plan.now
-            context.entry.counters (repeat line times (block_of (tables context.entry.blocks.now)
-            body.now) rest) self.old self.new f rest) }
-        ensures room { OnOk result (length self.new.lines.items ≤ 4096) }
-        ensures refused { IfErr result (λ e. IsRefusal e → (rest : Block) → IsJudged
-            context.entry.plan.now (repeat line times (block_of (tables context.entry.blocks.now)
-            body.now) rest) self.old.now → ⊥) }
-        ensures why { IfErr result (λ e. (rest : Block) → IfRefused e (λ at given. IsRefusedIn
-            context.entry.plan.now (repeat line times (block_of (tables context.entry.blocks.now)
-            body.now) rest) self.old.now at given)) }
-        ensures table { OnOk result (HasTable self.new) }
-        ensures limited { IfErr result (λ e. IfLimit e (λ _ limit. (rest : Block) → CanEmit limit
-            context.entry.plan.now context.entry.counters (repeat line times (block_of (tables
-            context.entry.blocks.now) body.now) rest) self.old → ⊥)) }
+        requires { CanCompile context self.old }
+        ensures { (rest : Block) → Compiles context.entry
+            (repeat line times (block_in context.entry body.now) rest) rest
+            self.old self.new result }
     {
         let Some(counter) = CounterId::new(context.counters) else {
             return Err(CompileFault::Limit {
@@ -273,12 +196,8 @@ impl Work {
             Ok(falls) => falls,
             Err(fault) => return Err(fault),
         };
-        if let Err(fault) = self.close_loop(
-            falls,
-            line,
-            inner.counters,
-            Instr::Loop { counter, target },
-        ) {
+        let back = Instr::Loop { counter, target };
+        if let Err(fault) = self.close_loop(falls, line, inner.counters, back) {
             return Err(fault);
         }
         Ok(falls)
@@ -292,24 +211,10 @@ impl Work {
         line: u16,
         body: &[Statement],
     ) -> Result<bool, CompileFault>
-        requires room { length self.old.lines.items ≤ 4096 }
-        requires counters { context.counters ≤ 8 }
-        requires facts { context.facts.now ≡ map facts_of (tables context.blocks.now) }
-        requires table { HasTable self.old }
-        ensures left { IfOk result (λ f. (rest : Block) → Left context.entry.plan.now
-            context.entry.counters (forever line (block_of (tables context.entry.blocks.now)
-            body.now) rest) self.old self.new f rest) }
-        ensures room { OnOk result (length self.new.lines.items ≤ 4096) }
-        ensures refused { IfErr result (λ e. IsRefusal e → (rest : Block) → IsJudged
-            context.entry.plan.now (forever line (block_of (tables context.entry.blocks.now)
-            body.now) rest) self.old.now → ⊥) }
-        ensures why { IfErr result (λ e. (rest : Block) → IfRefused e (λ at given. IsRefusedIn
-            context.entry.plan.now (forever line (block_of (tables context.entry.blocks.now)
-            body.now) rest) self.old.now at given)) }
-        ensures table { OnOk result (HasTable self.new) }
-        ensures limited { IfErr result (λ e. IfLimit e (λ _ limit. (rest : Block) → CanEmit limit
-            context.entry.plan.now context.entry.counters (forever line (block_of (tables
-            context.entry.blocks.now) body.now) rest) self.old → ⊥)) }
+        requires { CanCompile context self.old }
+        ensures { (rest : Block) → Compiles context.entry
+            (forever line (block_in context.entry body.now) rest) rest
+            self.old self.new result }
     {
         let target = self.len() as u16;
         if let Err(fault) = self.enter(all_fall(context.facts, body), line) {

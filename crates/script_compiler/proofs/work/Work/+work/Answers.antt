@@ -1,66 +1,166 @@
-use Rattle.std.proofs.Common.{Vec, Global, true, subst, ◌≡◌, ◌+◌, ◌<◌, ◌≤◌, ap, sym, ◌∙◌, refl, take, length, arith}
-use Rattle.std.proofs.lemmas.List.{length-take}
+use Rattle.std.proofs.Common.{Vec, Global, Err, true, inl, inr, subst, ◌≡◌, ◌+◌, ◌<◌, ◌≤◌, ap, sym, ◌∙◌, refl, take, drop, length, arith}
+use Rattle.std.proofs.lemmas.List.{length-take, at_drop_all}
+use Rattle.std.proofs.lemmas.Bool.{cases_lt, false≢true}
 use Rattle.script_front.specs.declared.tree.Statement.{Statement}
-use Rattle.script_front.specs.Block.{nothing, basic, when, either, repeat, forever, apply, named_at, before, block_of}
+use Rattle.script_front.specs.Block.{nothing, basic, stop, when, either, repeat, forever, apply, named_at, before, block_of}
 use Rattle.script_meaning.specs.Scheme.{alone}
-use Rattle.script_compiler.specs.Emission.{Emits, tables}
+use Rattle.script_compiler.specs.declared.fault.CompileFault.{CompileFault}
+use Rattle.script_compiler.specs.Refusals.{IfLimit}
 use Rattle.script_compiler.specs.Space.{CanEmit}
+use Rattle.script_compiler.specs.Emission.{Emits, tables, way}
+use Rattle.script_compiler.specs.Compiling.{Compiled, block_in, statement_in}
 use Rattle.plan_code.specs.declared.instr.Instr.TheVariants.{Set}
 use Rattle.script_compiler.proofs.Weight.{weight, weight_each, tables_at}
-use Rattle.script_compiler.proofs.Arms.{is_act, is_if, is_if_else, is_repeat, is_forever, is_apply}
-use Rattle.script_compiler.proofs.Steps.{ok_map, left_as, act_step, when_step, either_step, repeat_step, forever_step, block_step, facts_length, facts_take, silent_step, unnamed_step, apply_left}
-use Rattle.script_compiler.proofs.Refusing.{block_refused, block_unreached, refused_as, apply_refused}
+use Rattle.script_compiler.proofs.Arms.{is_act, is_end, is_if, is_if_else, is_repeat, is_forever, is_apply}
+use Rattle.script_compiler.proofs.Steps.{ok_map, act_step, when_step, either_step, repeat_step, forever_step, block_step, facts_length, facts_take, silent_step, unnamed_step}
+use Rattle.script_compiler.proofs.Refusing.{err_map, act_refused, when_first, when_agrees, either_first, either_second, either_saved, either_agrees, some_is, repeat_body, repeat_round, forever_body, forever_round, block_refused, block_unreached}
 use Rattle.script_compiler.proofs.Emitted.{left_start}
-use Rattle.script_compiler.proofs.Reasons.{err_two, no_refusal, why_as, act_why, apply_why, when_body_why, when_why, either_first_why, either_second_why, either_why, repeat_body_why, repeat_why, forever_body_why, forever_why, block_why, block_unreached_why}
-use Rattle.script_compiler.proofs.Arms.{is_end}
+use Rattle.script_compiler.proofs.Reasons.{err_two, act_why, when_body_why, when_why, either_first_why, either_second_why, either_why, repeat_body_why, repeat_why, forever_body_why, forever_why, block_why, block_unreached_why}
 use Rattle.script_compiler.proofs.Spaces.{limit_map, limits_map}
-use Rattle.script_compiler.proofs.Fitting.{limited_as, block_limited, act_limited, stop_limited, when_limited, either_limited, repeat_limited, apply_limited, can_when_first, can_when_closed, can_either_first, can_either_turned, can_either_second, can_either_closed, can_repeat_entered, can_repeat_body, can_repeat_closed, can_forever_entered, can_forever_body, can_forever_closed}
+use Rattle.script_compiler.proofs.Fitting.{block_limited, act_limited, stop_limited, when_limited, either_limited, repeat_limited, repeat_deep, can_when_first, can_when_closed, can_either_first, can_either_turned, can_either_second, can_either_closed, can_repeat_entered, can_repeat_body, can_repeat_closed, can_forever_entered, can_forever_body, can_forever_closed}
+use Rattle.script_compiler.proofs.Compiling.{compiles, fails, compiles_as, compiles_applied}
 use Rattle.script_compiler.proofs.work.Work.+work.Goals as goal
+
+-- ---- a block
+
+pub block-loop-statement-init : goal.block-loop-statement-init
+block-loop-statement-init t c = record {
+  left = left_start c.args.context.plan.now c.args.context.counters (block_in c.args.context c.args.statements.now) c.args.self.now;
+  room = c.requires.room;
+  table = c.requires.table;
+}
 
 pub block-statement-requires : goal.block-statement-requires
 block-statement-requires t c =
-    let w = weight_each (tables c.args.context.blocks.now) c.args.statements.now c.loop-statement.statement-index c.statement-item.result c.statement-item.is c.loop-statement-test.true in
-    (omega (arith, c.decreases, w), (c.loop-statement.invariant.room, (c.requires.counters, (c.requires.facts, c.loop-statement.invariant.table))))
+    let w = weight_each (tables c.args.context.blocks.now) c.args.statements.now c.loop-statement.statement-index c.statement-item.result c.statement-item.is c.loop-statement-test.true in (
+      omega (arith, c.decreases, w),
+      record {
+        room = c.loop-statement.invariant.room;
+        counters = c.requires.counters;
+        facts = c.requires.facts;
+        table = c.loop-statement.invariant.table;
+      },
+    )
 
 pub block-loop-statement-preserved : goal.block-loop-statement-preserved
-block-loop-statement-preserved t c = record {
-  left = block_step c.args.context.plan.now c.args.context.counters (tables c.args.context.blocks.now) c.args.statements.now c.loop-statement.statement-index c.statement-item.result c.args.self.now c.loop-statement.self c.statement.new.self c.loop-statement.is_reached c.in-Ok.falls c.statement-item.is c.loop-statement-test.true c.if-not-is_reached.false c.loop-statement.invariant.left c.in-Ok.ensures.left;
-  room = c.in-Ok.ensures.room;
-  table = c.in-Ok.ensures.table;
-}
+block-loop-statement-preserved t c =
+    let k = c.loop-statement.statement-index in
+    let done = c.in-Ok.ensures (block_in c.args.context (drop (k + 1) c.args.statements.now)) in
+    record {
+      left = block_step c.args.context.plan.now c.args.context.counters (tables c.args.context.blocks.now) c.args.statements.now k c.statement-item.result c.args.self.now c.loop-statement.self c.statement.new.self c.loop-statement.is_reached c.in-Ok.falls c.statement-item.is c.loop-statement-test.true c.if-not-is_reached.false c.loop-statement.invariant.left (λ rest. (c.in-Ok.ensures rest).left);
+      room = done.room;
+      table = done.table;
+    }
 
-pub either-returns-clause-left : goal.either-returns-clause-left
-either-returns-clause-left t c =
-    let first = block_of (tables c.args.context.blocks.now) c.args.first.now in
-    let second = block_of (tables c.args.context.blocks.now) c.args.second.now in
-    ok_map c.close_else.result (λ f h. either_step c.args.context.plan.now c.args.context.counters c.args.line c.args.contact c.len-at.result c.len-jump.result first second c.args.self.now c.fork.new.self c.block.new.self c.start_else.new.self c.block-2.new.self c.close_else.new.self c.in-Ok.falls c.in-Ok-block.falls f
-    c.requires.counters (c.len-at.ensures) (c.len-jump.ensures) c.in_default.ensures.forks c.in-Ok.ensures.left c.in_default-start_else.ensures.starts_else c.in-Ok-block.ensures.left h) c.close_else.ensures.arrives
+pub block-returns-then-not-is_reached : goal.block-returns-then-not-is_reached
+block-returns-then-not-is_reached t c =
+    let x = c.args.context in
+    let w = c.loop-statement in
+    record {
+      refused = λ is judged. block_unreached x.plan.now x.counters (tables x.blocks.now) c.args.statements.now w.statement-index c.statement-item.result c.args.self.now w.self w.is_reached c.statement-item.is c.loop-statement-test.true c.if-not-is_reached.true w.invariant.left judged;
+      why = block_unreached_why x.plan.now x.counters (tables x.blocks.now) c.args.statements.now w.statement-index c.statement-item.result c.args.self.now w.self w.is_reached c.line_of.result c.refused.result c.refused.ensures c.statement-item.is c.loop-statement-test.true c.if-not-is_reached.true w.invariant.left (λ rest. c.line_of.ensures (tables x.blocks.now) rest);
+      limited = subst (λ (e : CompileFault). IfLimit e (λ _ limit. CanEmit limit x.plan.now x.counters (block_in x c.args.statements.now) c.args.self.now → ⊥)) (sym c.refused.ensures) tt;
+    }
 
-pub forever-returns-clause-left : goal.forever-returns-clause-left
-forever-returns-clause-left t c =
-    let body = block_of (tables c.args.context.blocks.now) c.args.body.now in
-    forever_step c.args.context.plan.now c.args.context.counters c.args.line body c.args.self.now c.enter.new.self c.block.new.self c.close_loop.new.self c.in-Ok.falls c.all_fall.result c.len-target.result
-    c.requires.counters (c.len-target.ensures) (c.all_fall.ensures (tables c.args.context.blocks.now) c.requires.facts) c.in_default.ensures.lines c.in_default.ensures.unpriced c.in_default.ensures.now c.in_default.ensures.saved c.in-Ok.ensures.left c.in_default-close_loop.ensures.round
+pub block-returns-in-Err : goal.block-returns-in-Err
+block-returns-in-Err t c =
+    let x = c.args.context in
+    let w = c.loop-statement in
+    let h = c.in-Err.ensures (block_in x (drop (w.statement-index + 1) c.args.statements.now)) in
+    record {
+      refused = λ is judged. block_refused x.plan.now x.counters (tables x.blocks.now) c.args.statements.now w.statement-index c.statement-item.result c.args.self.now w.self w.is_reached c.statement-item.is c.loop-statement-test.true c.if-not-is_reached.false w.invariant.left (λ rest. (c.in-Err.ensures rest).refused is) judged;
+      why = block_why x.plan.now x.counters (tables x.blocks.now) c.args.statements.now w.statement-index c.statement-item.result c.args.self.now w.self w.is_reached c.in-Err.fault c.statement-item.is c.loop-statement-test.true c.if-not-is_reached.false w.invariant.left h.why;
+      limited = limit_map c.in-Err.fault (λ at k full can. block_limited k x.plan.now x.counters (tables x.blocks.now) c.args.statements.now w.statement-index c.statement-item.result c.args.self.now w.self w.is_reached c.statement-item.is c.loop-statement-test.true c.if-not-is_reached.false w.invariant.left full can) h.limited;
+    }
 
-pub repeat-returns-clause-left : goal.repeat-returns-clause-left
-repeat-returns-clause-left t c =
-    let body = block_of (tables c.args.context.blocks.now) c.args.body.now in
-    repeat_step c.args.context.plan.now c.args.context.counters c.args.line c.args.times body c.args.self.now c.put.new.self c.enter.new.self c.block.new.self c.close_loop.new.self c.in-Ok.falls c.all_fall.result c.len-target.result c.in-Some.counter
-    (let lt : c.args.context.counters < 8 = c.in-Some.ensures.in_range.0 refl in omega (arith, lt)) c.in-Some.ensures.value c.in_default-put.ensures.emits c.in_default-put.ensures.now (c.len-target.ensures) (c.all_fall.ensures (tables c.args.context.blocks.now) c.requires.facts) c.in_default-enter.ensures.lines c.in_default-enter.ensures.unpriced c.in_default-enter.ensures.now c.in_default-enter.ensures.saved c.in-Ok.ensures.left c.in_default-close_loop.ensures.round
+pub block-returns : goal.block-returns
+block-returns t c =
+    let x = c.args.context in
+    let w = c.loop-statement in
+    let end : block_in x (drop w.statement-index c.args.statements.now) ≡ nothing = at_drop_all (block_in x) c.args.statements.now w.statement-index c.loop-statement-test.false in
+    subst (λ b. Compiled x (block_in x c.args.statements.now) b c.args.self.now w.self w.is_reached) end w.invariant
 
-pub statement-returns-then-number-context-clause-left : goal.statement-returns-then-number-context-clause-left
-statement-returns-then-number-context-clause-left t c =
-    unnamed_step c.args.context.plan.now c.args.context.counters c.in-Apply.line c.args.context.blocks.now c.args.statement.now c.in-Apply.block c.from-number.result c.args.self.now c.requires.counters (λ rest. is_apply (tables c.args.context.blocks.now) c.args.statement.now c.in-Apply.line c.in-Apply.block c.in-Apply.is rest) (c.from-number.ensures ∙ c.get.ensures.value) c.if-number-context.true
+-- ---- a statement
+
+pub statement-returns-in-Act : goal.statement-returns-in-Act
+statement-returns-in-Act t c = λ rest.
+    let x = c.args.context in
+    let w = c.args.self.now in
+    let line = c.in-Act.line in
+    let act = c.in-Act.act in
+    compiles_as x (statement_in x c.args.statement.now rest) (basic line act rest) rest w c.act.new.self c.act.result (is_act (tables x.blocks.now) c.args.statement.now line act c.in-Act.is rest)
+    (compiles x (basic line act rest) w rest c.act.new.self c.act.result (act_step x.plan.now x.counters line act rest w c.act.new.self c.act.result c.act.ensures.is_reached c.act.ensures.emits c.act.ensures.now c.act.ensures.fine) c.act.ensures.room c.act.ensures.table
+    (act_refused x.plan.now w.now c.act.result line act rest c.act.ensures.refused) (act_why x.plan.now w.now c.act.result line act rest c.act.ensures.why)
+    (limits_map c.act.result (λ at k full can. act_limited k x.plan.now x.counters line act w full rest can) c.act.ensures.limited))
+
+pub statement-returns-in-Err : goal.statement-returns-in-Err
+statement-returns-in-Err t c = λ rest.
+    let x = c.args.context in
+    let w = c.args.self.now in
+    compiles_as x (statement_in x c.args.statement.now rest) (stop c.in-End.line rest) rest w c.put.new.self (Err c.in-Err.fault) (is_end (tables x.blocks.now) c.args.statement.now c.in-End.line c.in-End.is rest)
+    (fails x (stop c.in-End.line rest) w c.in-Err.fault c.in-Err.ensures.refused (limit_map c.in-Err.fault (λ at k full can. stop_limited k x.plan.now x.counters c.in-End.line w full rest can) c.in-Err.ensures.limited))
+
+pub statement-returns-in-If : goal.statement-returns-in-If
+statement-returns-in-If t c = λ rest.
+    let x = c.args.context in
+    let table = tables x.blocks.now in
+    let line = c.in-If.line in
+    let contact = c.in-If.contact in
+    compiles_as x (statement_in x c.args.statement.now rest) (when line contact (block_in x c.deref.result.now) rest) rest c.args.self.now c.when.new.self c.when.result
+    (is_if table c.args.statement.now line contact c.in-If.first c.in-If.is rest ∙ ap (λ ss. when line contact (block_of table ss) rest) (sym c.deref.ensures.value)) (c.when.ensures rest)
+
+pub statement-returns-in-IfElse : goal.statement-returns-in-IfElse
+statement-returns-in-IfElse t c = λ rest.
+    let x = c.args.context in
+    let table = tables x.blocks.now in
+    let line = c.in-IfElse.line in
+    let contact = c.in-IfElse.contact in
+    let first = c.deref-in-IfElse in
+    let second = c.deref-in-IfElse-2 in
+    compiles_as x (statement_in x c.args.statement.now rest) (either line contact (block_in x first.result.now) (block_in x second.result.now) rest) rest c.args.self.now c.either.new.self c.either.result
+    (is_if_else table c.args.statement.now line contact c.in-IfElse.first c.in-IfElse.second c.in-IfElse.is rest ∙ ap (λ ss. either line contact (block_of table ss) (block_of table c.in-IfElse.second.items) rest) (sym first.ensures.value)
+    ∙ ap (λ ss. either line contact (block_of table first.result.now) (block_of table ss) rest) (sym second.ensures.value)) (c.either.ensures rest)
+
+pub statement-returns-in-Repeat : goal.statement-returns-in-Repeat
+statement-returns-in-Repeat t c = λ rest.
+    let x = c.args.context in
+    let table = tables x.blocks.now in
+    let line = c.in-Repeat.line in
+    let times = c.in-Repeat.times in
+    compiles_as x (statement_in x c.args.statement.now rest) (repeat line times (block_in x c.deref-in-Repeat.result.now) rest) rest c.args.self.now c.repeat.new.self c.repeat.result
+    (is_repeat table c.args.statement.now line times c.in-Repeat.body c.in-Repeat.is rest ∙ ap (λ ss. repeat line times (block_of table ss) rest) (sym c.deref-in-Repeat.ensures.value)) (c.repeat.ensures rest)
+
+pub statement-returns-in-Forever : goal.statement-returns-in-Forever
+statement-returns-in-Forever t c = λ rest.
+    let x = c.args.context in
+    let table = tables x.blocks.now in
+    let line = c.in-Forever.line in
+    compiles_as x (statement_in x c.args.statement.now rest) (forever line (block_in x c.deref-in-Forever.result.now) rest) rest c.args.self.now c.forever.new.self c.forever.result
+    (is_forever table c.args.statement.now line c.in-Forever.body c.in-Forever.is rest ∙ ap (λ ss. forever line (block_of table ss) rest) (sym c.deref-in-Forever.ensures.value)) (c.forever.ensures rest)
+
+pub statement-returns-then-number-context : goal.statement-returns-then-number-context
+statement-returns-then-number-context t c = λ rest.
+    let x = c.args.context in
+    record {
+      left = unnamed_step x.plan.now x.counters c.in-Apply.line x.blocks.now c.args.statement.now c.in-Apply.block c.from-number.result c.args.self.now c.requires.counters (λ rest. is_apply (tables x.blocks.now) c.args.statement.now c.in-Apply.line c.in-Apply.block c.in-Apply.is rest) (c.from-number.ensures ∙ c.get.ensures.value) c.if-number-context.true rest;
+      room = c.requires.room;
+      table = c.requires.table;
+    }
 
 pub statement-bounds-context-number : goal.statement-bounds-context-number
 statement-bounds-context-number t c =
     let n = facts_length c.args.context.facts.now c.args.context.blocks.now c.requires.facts in omega (arith, n, c.if-number-context.false)
 
-pub statement-returns-then-context-number-clause-left : goal.statement-returns-then-context-number-clause-left
-statement-returns-then-context-number-clause-left t c =
-    let n = facts_length c.args.context.facts.now c.args.context.blocks.now c.requires.facts in
-    let lt : c.from-number.result < length c.args.context.facts.now = omega (arith, n, c.if-number-context.false) in
-    silent_step c.args.context.plan.now c.args.context.counters c.in-Apply.line c.args.context.blocks.now c.args.statement.now c.in-Apply.block c.from-number.result c.args.context.facts.now _ c.args.self.now c.requires.counters (λ rest. is_apply (tables c.args.context.blocks.now) c.args.statement.now c.in-Apply.line c.in-Apply.block c.in-Apply.is rest) (c.from-number.ensures ∙ c.get.ensures.value) c.requires.facts lt c.if-context-number.true
+pub statement-returns-then-context-number : goal.statement-returns-then-context-number
+statement-returns-then-context-number t c = λ rest.
+    let x = c.args.context in
+    let n = facts_length x.facts.now x.blocks.now c.requires.facts in
+    let lt : c.from-number.result < length x.facts.now = omega (arith, n, c.if-number-context.false) in
+    record {
+      left = silent_step x.plan.now x.counters c.in-Apply.line x.blocks.now c.args.statement.now c.in-Apply.block c.from-number.result x.facts.now _ c.args.self.now c.requires.counters (λ rest. is_apply (tables x.blocks.now) c.args.statement.now c.in-Apply.line c.in-Apply.block c.in-Apply.is rest) (c.from-number.ensures ∙ c.get.ensures.value) c.requires.facts lt c.if-context-number.true rest;
+      room = c.requires.room;
+      table = c.requires.table;
+    }
 
 pub statement-slice_bounds-inner-end-in-Apply : goal.statement-slice_bounds-inner-end-in-Apply
 statement-slice_bounds-inner-end-in-Apply t c =
@@ -77,338 +177,285 @@ statement-block-requires t c =
     let inner = block_of (tables (take k bs)) c.deref-in-Apply.result.now in
     let e : before table c.args.statement.now nothing ≡ apply c.in-Apply.line c.in-Apply.block inner nothing =
     is_apply table c.args.statement.now c.in-Apply.line c.in-Apply.block c.in-Apply.is nothing ∙ ap (λ n. apply c.in-Apply.line c.in-Apply.block (named_at table n) nothing) (sym (c.from-number.ensures ∙ c.get.ensures.value)) ∙ ap (λ b. apply c.in-Apply.line c.in-Apply.block b nothing) at ∙ ap (λ x. apply c.in-Apply.line c.in-Apply.block (block_of (tables (take k bs)) x) nothing) (sym same) in
-    let w : weight (before table c.args.statement.now nothing) ≡ 1 + weight inner + 0 = ap (λ b. weight b) e in
-    (omega (arith, c.decreases, w), (c.requires.room, (c.requires.counters, (facts_take c.args.context.facts.now bs k c.requires.facts, c.requires.table))))
+    let w : weight (before table c.args.statement.now nothing) ≡ 1 + weight inner + 0 = ap (λ b. weight b) e in (
+      omega (arith, c.decreases, w),
+      record {
+        room = c.requires.room;
+        counters = c.requires.counters;
+        facts = facts_take c.args.context.facts.now bs k c.requires.facts;
+        table = c.requires.table;
+      },
+    )
 
-pub statement-returns-in-Act-clause-left : goal.statement-returns-in-Act-clause-left
-statement-returns-in-Act-clause-left t c =
-    let table = tables c.args.context.blocks.now in
-    left_as c.args.context.plan.now c.args.context.counters c.args.self.now c.act.new.self c.act.result (λ rest. before table c.args.statement.now rest) (λ rest. basic c.in-Act.line c.in-Act.act rest) (λ rest. is_act table c.args.statement.now c.in-Act.line c.in-Act.act c.in-Act.is rest)
-    (act_step c.args.context.plan.now c.args.context.counters c.in-Act.line c.in-Act.act c.args.self.now c.act.new.self c.act.result c.act.ensures.is_reached c.act.ensures.emits c.act.ensures.now c.act.ensures.fine)
-
-pub statement-returns-in-If-clause-left : goal.statement-returns-in-If-clause-left
-statement-returns-in-If-clause-left t c =
-    let table = tables c.args.context.blocks.now in
-    left_as c.args.context.plan.now c.args.context.counters c.args.self.now c.when.new.self c.when.result (λ rest. before table c.args.statement.now rest) (λ rest. when c.in-If.line c.in-If.contact (block_of table c.deref.result.now) rest) (λ rest. is_if table c.args.statement.now c.in-If.line c.in-If.contact c.in-If.first c.in-If.is rest ∙ ap (λ x. when c.in-If.line c.in-If.contact (block_of table x) rest) (sym c.deref.ensures.value)) c.when.ensures.left
-
-pub statement-returns-in-IfElse-clause-left : goal.statement-returns-in-IfElse-clause-left
-statement-returns-in-IfElse-clause-left t c =
-    let table = tables c.args.context.blocks.now in
-    left_as c.args.context.plan.now c.args.context.counters c.args.self.now c.either.new.self c.either.result (λ rest. before table c.args.statement.now rest) (λ rest. either c.in-IfElse.line c.in-IfElse.contact (block_of table c.deref-in-IfElse.result.now) (block_of table c.deref-in-IfElse-2.result.now) rest)
-    (λ rest. is_if_else table c.args.statement.now c.in-IfElse.line c.in-IfElse.contact c.in-IfElse.first c.in-IfElse.second c.in-IfElse.is rest ∙ ap (λ x. either c.in-IfElse.line c.in-IfElse.contact (block_of table x) (block_of table c.in-IfElse.second.items) rest) (sym c.deref-in-IfElse.ensures.value) ∙ ap (λ x. either c.in-IfElse.line c.in-IfElse.contact (block_of table c.deref-in-IfElse.result.now) (block_of table x) rest) (sym c.deref-in-IfElse-2.ensures.value)) c.either.ensures.left
-
-pub statement-returns-in-Repeat-clause-left : goal.statement-returns-in-Repeat-clause-left
-statement-returns-in-Repeat-clause-left t c =
-    let table = tables c.args.context.blocks.now in
-    left_as c.args.context.plan.now c.args.context.counters c.args.self.now c.repeat.new.self c.repeat.result (λ rest. before table c.args.statement.now rest) (λ rest. repeat c.in-Repeat.line c.in-Repeat.times (block_of table c.deref-in-Repeat.result.now) rest) (λ rest. is_repeat table c.args.statement.now c.in-Repeat.line c.in-Repeat.times c.in-Repeat.body c.in-Repeat.is rest ∙ ap (λ x. repeat c.in-Repeat.line c.in-Repeat.times (block_of table x) rest) (sym c.deref-in-Repeat.ensures.value)) c.repeat.ensures.left
-
-pub statement-returns-in-Forever-clause-left : goal.statement-returns-in-Forever-clause-left
-statement-returns-in-Forever-clause-left t c =
-    let table = tables c.args.context.blocks.now in
-    left_as c.args.context.plan.now c.args.context.counters c.args.self.now c.forever.new.self c.forever.result (λ rest. before table c.args.statement.now rest) (λ rest. forever c.in-Forever.line (block_of table c.deref-in-Forever.result.now) rest) (λ rest. is_forever table c.args.statement.now c.in-Forever.line c.in-Forever.body c.in-Forever.is rest ∙ ap (λ x. forever c.in-Forever.line (block_of table x) rest) (sym c.deref-in-Forever.ensures.value)) c.forever.ensures.left
-
-pub statement-returns-else-context-number-clause-left : goal.statement-returns-else-context-number-clause-left
-statement-returns-else-context-number-clause-left t c =
-    let bs = c.args.context.blocks.now in
+pub statement-returns-else-context-number : goal.statement-returns-else-context-number
+statement-returns-else-context-number t c = λ rest.
+    let x = c.args.context in
+    let bs = x.blocks.now in
     let table = tables bs in
     let k = c.from-number.result in
     let lt : k < length bs = omega (arith, c.if-number-context.false) in
     let at = tables_at bs k c.index-context-number.result c.index-context-number.is lt in
     let same : c.deref-in-Apply.result.now ≡ c.index-context-number.result.items = c.deref-in-Apply.ensures.value ∙ sym (ap (λ (v : Vec Statement Global). v.items) c.index-context-number.is) in
     let inner = block_of (tables (take k bs)) c.deref-in-Apply.result.now in
-    apply_left c.args.context.plan.now c.args.context.counters c.in-Apply.line c.in-Apply.block inner (λ rest. before table c.args.statement.now rest) c.args.self.now c.block.new.self c.block.result c.requires.counters
-    (λ rest. is_apply table c.args.statement.now c.in-Apply.line c.in-Apply.block c.in-Apply.is rest ∙ ap (λ n. apply c.in-Apply.line c.in-Apply.block (named_at table n) rest) (sym (c.from-number.ensures ∙ c.get.ensures.value)) ∙ ap (λ b. apply c.in-Apply.line c.in-Apply.block b rest) at ∙ ap (λ x. apply c.in-Apply.line c.in-Apply.block (block_of (tables (take k bs)) x) rest) (sym same))
-    c.block.ensures.left
+    let line = c.in-Apply.line in
+    let number = c.in-Apply.block in
+    compiles_as x (statement_in x c.args.statement.now rest) (apply line number inner rest) rest c.args.self.now c.block.new.self c.block.result
+    (is_apply table c.args.statement.now line number c.in-Apply.is rest ∙ ap (λ n. apply line number (named_at table n) rest) (sym (c.from-number.ensures ∙ c.get.ensures.value)) ∙ ap (λ b. apply line number b rest) at ∙ ap (λ ss. apply line number (block_of (tables (take k bs)) ss) rest) (sym same))
+    (compiles_applied x _ line number inner rest c.args.self.now c.block.new.self c.block.result refl refl c.requires.counters c.block.ensures)
 
-pub when-returns-clause-left : goal.when-returns-clause-left
-when-returns-clause-left t c =
-    let first = block_of (tables c.args.context.blocks.now) c.args.first.now in
-    when_step c.args.context.plan.now c.args.context.counters c.args.line c.args.contact c.len-at.result first c.args.self.now c.fork.new.self c.block.new.self c.close_if.new.self c.in-Ok.falls c.close_if.result
-    c.requires.counters (c.len-at.ensures) c.in_default.ensures.forks c.in-Ok.ensures.left c.close_if.ensures.is_reached c.close_if.ensures.closes
+-- ---- `if`
 
-pub block-returns-in-Err-clause-refused : goal.block-returns-in-Err-clause-refused
-block-returns-in-Err-clause-refused t c = λ is judged.
-    block_refused c.args.context.plan.now c.args.context.counters (tables c.args.context.blocks.now) c.args.statements.now c.loop-statement.statement-index c.statement-item.result c.args.self.now c.loop-statement.self c.loop-statement.is_reached c.statement-item.is c.loop-statement-test.true c.if-not-is_reached.false c.loop-statement.invariant.left (c.in-Err.ensures.refused is) judged
+pub when-returns-in-Err : goal.when-returns-in-Err
+when-returns-in-Err t c = λ rest.
+    let x = c.args.context in
+    let first = block_in x c.args.first.now in
+    fails x (when c.args.line c.args.contact first rest) c.args.self.now c.in-Err.fault c.in-Err.ensures.refused
+    (limit_map c.in-Err.fault (λ at k full can. when_limited k x.plan.now x.counters c.args.line c.args.contact first c.args.self.now full rest can) c.in-Err.ensures.limited)
 
-pub statement-returns-in-Repeat-clause-refused : goal.statement-returns-in-Repeat-clause-refused
-statement-returns-in-Repeat-clause-refused t c =
-    let table = tables c.args.context.blocks.now in
-    refused_as c.args.context.plan.now c.args.self.now.now c.repeat.result (λ rest. before table c.args.statement.now rest) (λ rest. repeat c.in-Repeat.line c.in-Repeat.times (block_of table c.deref-in-Repeat.result.now) rest) (λ rest. is_repeat table c.args.statement.now c.in-Repeat.line c.in-Repeat.times c.in-Repeat.body c.in-Repeat.is rest ∙ ap (λ x. repeat c.in-Repeat.line c.in-Repeat.times (block_of table x) rest) (sym c.deref-in-Repeat.ensures.value)) c.repeat.ensures.refused
-
-pub statement-returns-else-context-number-clause-refused : goal.statement-returns-else-context-number-clause-refused
-statement-returns-else-context-number-clause-refused t c =
-    let bs = c.args.context.blocks.now in
-    let table = tables bs in
-    let k = c.from-number.result in
-    let lt : k < length bs = omega (arith, c.if-number-context.false) in
-    let at = tables_at bs k c.index-context-number.result c.index-context-number.is lt in
-    let same : c.deref-in-Apply.result.now ≡ c.index-context-number.result.items = c.deref-in-Apply.ensures.value ∙ sym (ap (λ (v : Vec Statement Global). v.items) c.index-context-number.is) in
-    let inner = block_of (tables (take k bs)) c.deref-in-Apply.result.now in
-    refused_as c.args.context.plan.now c.args.self.now.now c.block.result (λ rest. before table c.args.statement.now rest) (λ rest. apply c.in-Apply.line c.in-Apply.block inner rest)
-    (λ rest. is_apply table c.args.statement.now c.in-Apply.line c.in-Apply.block c.in-Apply.is rest ∙ ap (λ n. apply c.in-Apply.line c.in-Apply.block (named_at table n) rest) (sym (c.from-number.ensures ∙ c.get.ensures.value)) ∙ ap (λ b. apply c.in-Apply.line c.in-Apply.block b rest) at ∙ ap (λ x. apply c.in-Apply.line c.in-Apply.block (block_of (tables (take k bs)) x) rest) (sym same))
-    (apply_refused c.args.context.plan.now c.args.self.now.now c.block.result c.in-Apply.line c.in-Apply.block inner c.block.ensures.refused)
-
-pub block-returns-in-Err-clause-limited : goal.block-returns-in-Err-clause-limited
-block-returns-in-Err-clause-limited t c = limit_map c.in-Err.fault (λ at k without_label can.
-    block_limited k c.args.context.plan.now c.args.context.counters (tables c.args.context.blocks.now) c.args.statements.now c.loop-statement.statement-index c.statement-item.result c.args.self.now c.loop-statement.self c.loop-statement.is_reached c.statement-item.is c.loop-statement-test.true c.if-not-is_reached.false c.loop-statement.invariant.left without_label can) c.in-Err.ensures.limited
-
-pub statement-returns-in-Act-clause-limited : goal.statement-returns-in-Act-clause-limited
-statement-returns-in-Act-clause-limited t c =
-    let table = tables c.args.context.blocks.now in
-    limited_as c.args.context.plan.now c.args.context.counters c.args.self.now c.act.result (λ rest. before table c.args.statement.now rest) (λ rest. basic c.in-Act.line c.in-Act.act rest) (λ rest. is_act table c.args.statement.now c.in-Act.line c.in-Act.act c.in-Act.is rest)
-    (limits_map c.act.result (λ at k without_label rest can. act_limited k c.args.context.plan.now c.args.context.counters c.in-Act.line c.in-Act.act c.args.self.now without_label rest can) c.act.ensures.limited)
-
-pub statement-returns-in-Err-clause-limited : goal.statement-returns-in-Err-clause-limited
-statement-returns-in-Err-clause-limited t c = limit_map c.in-Err.fault (λ at k without_label rest can.
-    stop_limited k c.args.context.plan.now c.args.context.counters c.in-End.line c.args.self.now without_label rest (subst (λ b. CanEmit k c.args.context.plan.now c.args.context.counters b c.args.self.now) (is_end (tables c.args.context.blocks.now) c.args.statement.now c.in-End.line c.in-End.is rest) can)) c.in-Err.ensures.limited
-
-pub statement-returns-in-If-clause-limited : goal.statement-returns-in-If-clause-limited
-statement-returns-in-If-clause-limited t c =
-    let table = tables c.args.context.blocks.now in
-    limited_as c.args.context.plan.now c.args.context.counters c.args.self.now c.when.result (λ rest. before table c.args.statement.now rest) (λ rest. when c.in-If.line c.in-If.contact (block_of table c.deref.result.now) rest) (λ rest. is_if table c.args.statement.now c.in-If.line c.in-If.contact c.in-If.first c.in-If.is rest ∙ ap (λ x. when c.in-If.line c.in-If.contact (block_of table x) rest) (sym c.deref.ensures.value)) c.when.ensures.limited
-
-pub statement-returns-in-IfElse-clause-limited : goal.statement-returns-in-IfElse-clause-limited
-statement-returns-in-IfElse-clause-limited t c =
-    let table = tables c.args.context.blocks.now in
-    limited_as c.args.context.plan.now c.args.context.counters c.args.self.now c.either.result (λ rest. before table c.args.statement.now rest) (λ rest. either c.in-IfElse.line c.in-IfElse.contact (block_of table c.deref-in-IfElse.result.now) (block_of table c.deref-in-IfElse-2.result.now) rest)
-    (λ rest. is_if_else table c.args.statement.now c.in-IfElse.line c.in-IfElse.contact c.in-IfElse.first c.in-IfElse.second c.in-IfElse.is rest ∙ ap (λ x. either c.in-IfElse.line c.in-IfElse.contact (block_of table x) (block_of table c.in-IfElse.second.items) rest) (sym c.deref-in-IfElse.ensures.value) ∙ ap (λ x. either c.in-IfElse.line c.in-IfElse.contact (block_of table c.deref-in-IfElse.result.now) (block_of table x) rest) (sym c.deref-in-IfElse-2.ensures.value)) c.either.ensures.limited
-
-pub statement-returns-in-Repeat-clause-limited : goal.statement-returns-in-Repeat-clause-limited
-statement-returns-in-Repeat-clause-limited t c =
-    let table = tables c.args.context.blocks.now in
-    limited_as c.args.context.plan.now c.args.context.counters c.args.self.now c.repeat.result (λ rest. before table c.args.statement.now rest) (λ rest. repeat c.in-Repeat.line c.in-Repeat.times (block_of table c.deref-in-Repeat.result.now) rest) (λ rest. is_repeat table c.args.statement.now c.in-Repeat.line c.in-Repeat.times c.in-Repeat.body c.in-Repeat.is rest ∙ ap (λ x. repeat c.in-Repeat.line c.in-Repeat.times (block_of table x) rest) (sym c.deref-in-Repeat.ensures.value)) c.repeat.ensures.limited
-
-pub statement-returns-in-Forever-clause-limited : goal.statement-returns-in-Forever-clause-limited
-statement-returns-in-Forever-clause-limited t c =
-    let table = tables c.args.context.blocks.now in
-    limited_as c.args.context.plan.now c.args.context.counters c.args.self.now c.forever.result (λ rest. before table c.args.statement.now rest) (λ rest. forever c.in-Forever.line (block_of table c.deref-in-Forever.result.now) rest) (λ rest. is_forever table c.args.statement.now c.in-Forever.line c.in-Forever.body c.in-Forever.is rest ∙ ap (λ x. forever c.in-Forever.line (block_of table x) rest) (sym c.deref-in-Forever.ensures.value)) c.forever.ensures.limited
-
-pub statement-returns-else-context-number-clause-limited : goal.statement-returns-else-context-number-clause-limited
-statement-returns-else-context-number-clause-limited t c =
-    let bs = c.args.context.blocks.now in
-    let table = tables bs in
-    let k = c.from-number.result in
-    let lt : k < length bs = omega (arith, c.if-number-context.false) in
-    let at = tables_at bs k c.index-context-number.result c.index-context-number.is lt in
-    let same : c.deref-in-Apply.result.now ≡ c.index-context-number.result.items = c.deref-in-Apply.ensures.value ∙ sym (ap (λ (v : Vec Statement Global). v.items) c.index-context-number.is) in
-    let inner = block_of (tables (take k bs)) c.deref-in-Apply.result.now in
-    limited_as c.args.context.plan.now c.args.context.counters c.args.self.now c.block.result (λ rest. before table c.args.statement.now rest) (λ rest. apply c.in-Apply.line c.in-Apply.block inner rest)
-    (λ rest. is_apply table c.args.statement.now c.in-Apply.line c.in-Apply.block c.in-Apply.is rest ∙ ap (λ n. apply c.in-Apply.line c.in-Apply.block (named_at table n) rest) (sym (c.from-number.ensures ∙ c.get.ensures.value)) ∙ ap (λ b. apply c.in-Apply.line c.in-Apply.block b rest) at ∙ ap (λ x. apply c.in-Apply.line c.in-Apply.block (block_of (tables (take k bs)) x) rest) (sym same))
-    (apply_limited c.args.context.plan.now c.args.context.counters c.args.self.now c.block.result c.in-Apply.line c.in-Apply.block inner c.block.ensures.limited)
-
-pub when-returns-in-Err-clause-limited : goal.when-returns-in-Err-clause-limited
-when-returns-in-Err-clause-limited t c = limit_map c.in-Err.fault (λ at k without_label rest can.
-    let first = block_of (tables c.args.context.blocks.now) c.args.first.now in
-    when_limited k c.args.context.plan.now c.args.context.counters c.args.line c.args.contact first c.args.self.now without_label rest can) c.in-Err.ensures.limited
-
-pub when-returns-in-Err-block-clause-limited : goal.when-returns-in-Err-block-clause-limited
-when-returns-in-Err-block-clause-limited t c = limit_map c.in-Err-block.fault (λ at k without_label rest can.
-    let first = block_of (tables c.args.context.blocks.now) c.args.first.now in
-    without_label (can_when_first k c.args.context.plan.now c.args.context.counters c.args.line c.args.contact first rest c.args.self.now c.fork.new.self c.block.new.self true c.in_default.ensures.forks can)) c.in-Err-block.ensures.limited
-
-pub when-returns-clause-limited : goal.when-returns-clause-limited
-when-returns-clause-limited t c =
-    let first = block_of (tables c.args.context.blocks.now) c.args.first.now in
-    limits_map c.close_if.result (λ at k without_label rest can. can_when_closed k c.args.context.plan.now c.args.context.counters c.args.line c.args.contact first rest c.args.self.now c.fork.new.self c.block.new.self c.in-Ok.falls c.in_default.ensures.forks c.in-Ok.ensures.left without_label can) c.close_if.ensures.limited
-
-pub either-returns-in-Err-clause-limited : goal.either-returns-in-Err-clause-limited
-either-returns-in-Err-clause-limited t c = limit_map c.in-Err.fault (λ at k without_label rest can.
-    let first = block_of (tables c.args.context.blocks.now) c.args.first.now in
-    let second = block_of (tables c.args.context.blocks.now) c.args.second.now in
-    either_limited k c.args.context.plan.now c.args.context.counters c.args.line c.args.contact first second c.args.self.now without_label rest can) c.in-Err.ensures.limited
-
-pub either-returns-in-Err-block-clause-limited : goal.either-returns-in-Err-block-clause-limited
-either-returns-in-Err-block-clause-limited t c = limit_map c.in-Err-block.fault (λ at k without_label rest can.
-    let first = block_of (tables c.args.context.blocks.now) c.args.first.now in
-    let second = block_of (tables c.args.context.blocks.now) c.args.second.now in
-    without_label (can_either_first k c.args.context.plan.now c.args.context.counters c.args.line c.args.contact first second rest c.args.self.now c.fork.new.self c.block.new.self c.block.new.self c.block.new.self true true c.in_default.ensures.forks can)) c.in-Err-block.ensures.limited
-
-pub either-returns-in-Err-start_else-clause-limited : goal.either-returns-in-Err-start_else-clause-limited
-either-returns-in-Err-start_else-clause-limited t c = limit_map c.in-Err-start_else.fault (λ at k without_label rest can.
-    let first = block_of (tables c.args.context.blocks.now) c.args.first.now in
-    let second = block_of (tables c.args.context.blocks.now) c.args.second.now in
-    can_either_turned k c.args.context.plan.now c.args.context.counters c.args.line c.args.contact first second rest c.args.self.now c.fork.new.self c.block.new.self c.start_else.new.self c.start_else.new.self c.in-Ok.falls true c.in_default.ensures.forks c.in-Ok.ensures.left without_label can) c.in-Err-start_else.ensures.limited
-
-pub either-returns-in-Err-block-2-clause-limited : goal.either-returns-in-Err-block-2-clause-limited
-either-returns-in-Err-block-2-clause-limited t c = limit_map c.in-Err-block-2.fault (λ at k without_label rest can.
-    let first = block_of (tables c.args.context.blocks.now) c.args.first.now in
-    let second = block_of (tables c.args.context.blocks.now) c.args.second.now in
-    without_label (can_either_second k c.args.context.plan.now c.args.context.counters c.args.line c.args.contact first second rest c.args.self.now c.fork.new.self c.block.new.self c.start_else.new.self c.start_else.new.self c.in-Ok.falls true c.len-at.result c.in_default.ensures.forks c.in-Ok.ensures.left c.in_default-start_else.ensures.starts_else can)) c.in-Err-block-2.ensures.limited
-
-pub either-returns-clause-limited : goal.either-returns-clause-limited
-either-returns-clause-limited t c =
-    let first = block_of (tables c.args.context.blocks.now) c.args.first.now in
-    let second = block_of (tables c.args.context.blocks.now) c.args.second.now in
-    limits_map c.close_else.result (λ at k without_label rest can. can_either_closed k c.args.context.plan.now c.args.context.counters c.args.line c.args.contact first second rest c.args.self.now c.fork.new.self c.block.new.self c.start_else.new.self c.block-2.new.self c.in-Ok.falls c.in-Ok-block.falls c.len-at.result c.in_default.ensures.forks c.in-Ok.ensures.left c.in_default-start_else.ensures.starts_else c.in-Ok-block.ensures.left without_label can) c.close_else.ensures.limited
-
-pub repeat-returns-in-Err-clause-limited : goal.repeat-returns-in-Err-clause-limited
-repeat-returns-in-Err-clause-limited t c = limit_map c.in-Err.fault (λ at k without_label rest can.
-    let body = block_of (tables c.args.context.blocks.now) c.args.body.now in
-    repeat_limited k c.args.context.plan.now c.args.context.counters c.args.line c.args.times body c.args.self.now without_label rest can) c.in-Err.ensures.limited
-
-pub repeat-returns-in-Err-enter-clause-limited : goal.repeat-returns-in-Err-enter-clause-limited
-repeat-returns-in-Err-enter-clause-limited t c = limit_map c.in-Err-enter.fault (λ at k without_label rest can.
-    let body = block_of (tables c.args.context.blocks.now) c.args.body.now in
-    can_repeat_entered k c.args.context.plan.now c.args.context.counters c.args.line c.args.times body rest c.args.self.now c.put.new.self c.enter.new.self c.enter.new.self true c.all_fall.result
-    (let k : c.in-Some.counter ≡ c.args.context.counters = c.in-Some.ensures.value in subst (λ m. Emits c.args.self.now c.put.new.self (alone c.args.line (Set m c.args.times) c.args.context.counters c.args.self.now.now)) k c.in_default-put.ensures.emits) c.in_default-put.ensures.now (c.all_fall.ensures (tables c.args.context.blocks.now) c.requires.facts) without_label can) c.in-Err-enter.ensures.limited
-
-pub repeat-returns-in-Err-block-clause-limited : goal.repeat-returns-in-Err-block-clause-limited
-repeat-returns-in-Err-block-clause-limited t c = limit_map c.in-Err-block.fault (λ at k without_label rest can.
-    let body = block_of (tables c.args.context.blocks.now) c.args.body.now in
-    without_label (can_repeat_body k c.args.context.plan.now c.args.context.counters c.args.line c.args.times body rest c.args.self.now c.put.new.self c.enter.new.self c.enter.new.self true c.all_fall.result
-    (let k : c.in-Some.counter ≡ c.args.context.counters = c.in-Some.ensures.value in subst (λ m. Emits c.args.self.now c.put.new.self (alone c.args.line (Set m c.args.times) c.args.context.counters c.args.self.now.now)) k c.in_default-put.ensures.emits) c.in_default-put.ensures.now (c.all_fall.ensures (tables c.args.context.blocks.now) c.requires.facts) c.in_default-enter.ensures.lines c.in_default-enter.ensures.unpriced c.in_default-enter.ensures.now can)) c.in-Err-block.ensures.limited
-
-pub repeat-returns-in-Err-close_loop-clause-limited : goal.repeat-returns-in-Err-close_loop-clause-limited
-repeat-returns-in-Err-close_loop-clause-limited t c = limit_map c.in-Err-close_loop.fault (λ at k without_label rest can.
-    let body = block_of (tables c.args.context.blocks.now) c.args.body.now in
-    can_repeat_closed k c.args.context.plan.now c.args.context.counters c.args.line c.args.times body rest c.args.self.now c.put.new.self c.enter.new.self c.block.new.self c.in-Ok.falls c.all_fall.result
-    (let k : c.in-Some.counter ≡ c.args.context.counters = c.in-Some.ensures.value in subst (λ m. Emits c.args.self.now c.put.new.self (alone c.args.line (Set m c.args.times) c.args.context.counters c.args.self.now.now)) k c.in_default-put.ensures.emits) c.in_default-put.ensures.now (c.all_fall.ensures (tables c.args.context.blocks.now) c.requires.facts) c.in_default-enter.ensures.lines c.in_default-enter.ensures.unpriced c.in_default-enter.ensures.now c.in-Ok.ensures.left without_label can) c.in-Err-close_loop.ensures.limited
-
-pub forever-returns-in-Err-clause-limited : goal.forever-returns-in-Err-clause-limited
-forever-returns-in-Err-clause-limited t c = limit_map c.in-Err.fault (λ at k without_label rest can.
-    let body = block_of (tables c.args.context.blocks.now) c.args.body.now in
-    can_forever_entered k c.args.context.plan.now c.args.context.counters c.args.line body rest c.args.self.now c.enter.new.self c.enter.new.self true c.all_fall.result (c.all_fall.ensures (tables c.args.context.blocks.now) c.requires.facts) without_label can) c.in-Err.ensures.limited
-
-pub forever-returns-in-Err-block-clause-limited : goal.forever-returns-in-Err-block-clause-limited
-forever-returns-in-Err-block-clause-limited t c = limit_map c.in-Err-block.fault (λ at k without_label rest can.
-    let body = block_of (tables c.args.context.blocks.now) c.args.body.now in
-    without_label (can_forever_body k c.args.context.plan.now c.args.context.counters c.args.line body rest c.args.self.now c.enter.new.self c.enter.new.self true c.all_fall.result (c.all_fall.ensures (tables c.args.context.blocks.now) c.requires.facts) c.in_default.ensures.lines c.in_default.ensures.unpriced c.in_default.ensures.now can)) c.in-Err-block.ensures.limited
-
-pub forever-returns-in-Err-close_loop-clause-limited : goal.forever-returns-in-Err-close_loop-clause-limited
-forever-returns-in-Err-close_loop-clause-limited t c = limit_map c.in-Err-close_loop.fault (λ at k without_label rest can.
-    let body = block_of (tables c.args.context.blocks.now) c.args.body.now in
-    can_forever_closed k c.args.context.plan.now c.args.context.counters c.args.line body rest c.args.self.now c.enter.new.self c.block.new.self c.in-Ok.falls c.all_fall.result (c.all_fall.ensures (tables c.args.context.blocks.now) c.requires.facts) c.in_default.ensures.lines c.in_default.ensures.unpriced c.in_default.ensures.now c.in-Ok.ensures.left without_label can) c.in-Err-close_loop.ensures.limited
-
--- ---- why, and at which line
-
-pub block-returns-in-Err-clause-why : goal.block-returns-in-Err-clause-why
-block-returns-in-Err-clause-why t c =
-    block_why c.args.context.plan.now c.args.context.counters (tables c.args.context.blocks.now) c.args.statements.now c.loop-statement.statement-index c.statement-item.result c.args.self.now c.loop-statement.self c.loop-statement.is_reached c.in-Err.fault c.statement-item.is c.loop-statement-test.true c.if-not-is_reached.false c.loop-statement.invariant.left c.in-Err.ensures.why
-
-pub block-returns-then-not-is_reached-clause-why : goal.block-returns-then-not-is_reached-clause-why
-block-returns-then-not-is_reached-clause-why t c =
-    block_unreached_why c.args.context.plan.now c.args.context.counters (tables c.args.context.blocks.now) c.args.statements.now c.loop-statement.statement-index c.statement-item.result c.args.self.now c.loop-statement.self c.loop-statement.is_reached c.line_of.result c.refused.result c.refused.ensures c.statement-item.is c.loop-statement-test.true c.if-not-is_reached.true c.loop-statement.invariant.left (λ rest. c.line_of.ensures (tables c.args.context.blocks.now) rest)
-
-pub statement-returns-in-Act-clause-why : goal.statement-returns-in-Act-clause-why
-statement-returns-in-Act-clause-why t c =
-    let table = tables c.args.context.blocks.now in
-    let s = c.args.self.now.now in
-    why_as c.args.context.plan.now s c.act.result (λ rest. before table c.args.statement.now rest) (λ rest. basic c.in-Act.line c.in-Act.act rest) (λ rest. is_act table c.args.statement.now c.in-Act.line c.in-Act.act c.in-Act.is rest)
-    (act_why c.args.context.plan.now s c.act.result c.in-Act.line c.in-Act.act c.act.ensures.why)
-
-pub statement-returns-in-Err-clause-why : goal.statement-returns-in-Err-clause-why
-statement-returns-in-Err-clause-why t c = λ rest. no_refusal c.in-Err.fault _ c.in-Err.ensures.refused
-
-pub statement-returns-in-If-clause-why : goal.statement-returns-in-If-clause-why
-statement-returns-in-If-clause-why t c =
-    let table = tables c.args.context.blocks.now in
-    why_as c.args.context.plan.now c.args.self.now.now c.when.result (λ rest. before table c.args.statement.now rest) (λ rest. when c.in-If.line c.in-If.contact (block_of table c.deref.result.now) rest) (λ rest. is_if table c.args.statement.now c.in-If.line c.in-If.contact c.in-If.first c.in-If.is rest ∙ ap (λ x. when c.in-If.line c.in-If.contact (block_of table x) rest) (sym c.deref.ensures.value)) c.when.ensures.why
-
-pub statement-returns-in-IfElse-clause-why : goal.statement-returns-in-IfElse-clause-why
-statement-returns-in-IfElse-clause-why t c =
-    let table = tables c.args.context.blocks.now in
-    why_as c.args.context.plan.now c.args.self.now.now c.either.result (λ rest. before table c.args.statement.now rest) (λ rest. either c.in-IfElse.line c.in-IfElse.contact (block_of table c.deref-in-IfElse.result.now) (block_of table c.deref-in-IfElse-2.result.now) rest)
-    (λ rest. is_if_else table c.args.statement.now c.in-IfElse.line c.in-IfElse.contact c.in-IfElse.first c.in-IfElse.second c.in-IfElse.is rest ∙ ap (λ x. either c.in-IfElse.line c.in-IfElse.contact (block_of table x) (block_of table c.in-IfElse.second.items) rest) (sym c.deref-in-IfElse.ensures.value) ∙ ap (λ x. either c.in-IfElse.line c.in-IfElse.contact (block_of table c.deref-in-IfElse.result.now) (block_of table x) rest) (sym c.deref-in-IfElse-2.ensures.value)) c.either.ensures.why
-
-pub statement-returns-in-Repeat-clause-why : goal.statement-returns-in-Repeat-clause-why
-statement-returns-in-Repeat-clause-why t c =
-    let table = tables c.args.context.blocks.now in
-    why_as c.args.context.plan.now c.args.self.now.now c.repeat.result (λ rest. before table c.args.statement.now rest) (λ rest. repeat c.in-Repeat.line c.in-Repeat.times (block_of table c.deref-in-Repeat.result.now) rest) (λ rest. is_repeat table c.args.statement.now c.in-Repeat.line c.in-Repeat.times c.in-Repeat.body c.in-Repeat.is rest ∙ ap (λ x. repeat c.in-Repeat.line c.in-Repeat.times (block_of table x) rest) (sym c.deref-in-Repeat.ensures.value)) c.repeat.ensures.why
-
-pub statement-returns-in-Forever-clause-why : goal.statement-returns-in-Forever-clause-why
-statement-returns-in-Forever-clause-why t c =
-    let table = tables c.args.context.blocks.now in
-    why_as c.args.context.plan.now c.args.self.now.now c.forever.result (λ rest. before table c.args.statement.now rest) (λ rest. forever c.in-Forever.line (block_of table c.deref-in-Forever.result.now) rest) (λ rest. is_forever table c.args.statement.now c.in-Forever.line c.in-Forever.body c.in-Forever.is rest ∙ ap (λ x. forever c.in-Forever.line (block_of table x) rest) (sym c.deref-in-Forever.ensures.value)) c.forever.ensures.why
-
-pub statement-returns-else-context-number-clause-why : goal.statement-returns-else-context-number-clause-why
-statement-returns-else-context-number-clause-why t c =
-    let bs = c.args.context.blocks.now in
-    let table = tables bs in
-    let k = c.from-number.result in
-    let lt : k < length bs = omega (arith, c.if-number-context.false) in
-    let at = tables_at bs k c.index-context-number.result c.index-context-number.is lt in
-    let same : c.deref-in-Apply.result.now ≡ c.index-context-number.result.items = c.deref-in-Apply.ensures.value ∙ sym (ap (λ (v : Vec Statement Global). v.items) c.index-context-number.is) in
-    let inner = block_of (tables (take k bs)) c.deref-in-Apply.result.now in
-    why_as c.args.context.plan.now c.args.self.now.now c.block.result (λ rest. before table c.args.statement.now rest) (λ rest. apply c.in-Apply.line c.in-Apply.block inner rest)
-    (λ rest. is_apply table c.args.statement.now c.in-Apply.line c.in-Apply.block c.in-Apply.is rest ∙ ap (λ n. apply c.in-Apply.line c.in-Apply.block (named_at table n) rest) (sym (c.from-number.ensures ∙ c.get.ensures.value)) ∙ ap (λ b. apply c.in-Apply.line c.in-Apply.block b rest) at ∙ ap (λ x. apply c.in-Apply.line c.in-Apply.block (block_of (tables (take k bs)) x) rest) (sym same))
-    (apply_why c.args.context.plan.now c.args.self.now.now c.block.result c.in-Apply.line c.in-Apply.block inner c.block.ensures.why)
-
-pub when-returns-in-Err-clause-why : goal.when-returns-in-Err-clause-why
-when-returns-in-Err-clause-why t c = λ rest. no_refusal c.in-Err.fault _ c.in-Err.ensures.refused
-
-pub when-returns-in-Err-block-clause-why : goal.when-returns-in-Err-block-clause-why
-when-returns-in-Err-block-clause-why t c = λ rest.
-    let first = block_of (tables c.args.context.blocks.now) c.args.first.now in
-    when_body_why c.args.context.plan.now c.args.context.counters c.args.line c.args.contact first rest c.args.self.now c.fork.new.self c.fork.new.self true c.in-Err-block.fault c.in_default.ensures.forks c.in-Err-block.ensures.why
-
-pub when-returns-clause-why : goal.when-returns-clause-why
-when-returns-clause-why t c =
-    let first = block_of (tables c.args.context.blocks.now) c.args.first.now in
-    err_two c.close_if.result (λ y h k rest. when_why c.args.context.plan.now c.args.context.counters c.args.line c.args.contact first rest c.args.self.now c.fork.new.self c.block.new.self c.in-Ok.falls y c.in_default.ensures.forks c.in-Ok.ensures.left h k) c.close_if.ensures.why c.close_if.ensures.refused
-
-pub either-returns-in-Err-clause-why : goal.either-returns-in-Err-clause-why
-either-returns-in-Err-clause-why t c = λ rest. no_refusal c.in-Err.fault _ c.in-Err.ensures.refused
-
-pub either-returns-in-Err-block-clause-why : goal.either-returns-in-Err-block-clause-why
-either-returns-in-Err-block-clause-why t c = λ rest.
-    let first = block_of (tables c.args.context.blocks.now) c.args.first.now in
-    let second = block_of (tables c.args.context.blocks.now) c.args.second.now in
+pub when-returns-in-Err-block : goal.when-returns-in-Err-block
+when-returns-in-Err-block t c = λ rest.
+    let x = c.args.context in
+    let first = block_in x c.args.first.now in
     let w = c.fork.new.self in
-    either_first_why c.args.context.plan.now c.args.context.counters c.args.line c.args.contact 0 first second rest c.args.self.now w w w w true true c.in-Err-block.fault c.in_default.ensures.forks c.in-Err-block.ensures.why
+    let forks = c.in_default.ensures.forks in
+    let h = c.in-Err-block.ensures in
+    record {
+      refused = λ is judged. h.refused is (when_first x.plan.now x.counters c.args.line c.args.contact first rest c.args.self.now w w true forks judged);
+      why = when_body_why x.plan.now x.counters c.args.line c.args.contact first rest c.args.self.now w w true c.in-Err-block.fault forks h.why;
+      limited = limit_map c.in-Err-block.fault (λ at k full can. full (can_when_first k x.plan.now x.counters c.args.line c.args.contact first rest c.args.self.now w w true forks can)) h.limited;
+    }
 
-pub either-returns-in-Err-start_else-clause-why : goal.either-returns-in-Err-start_else-clause-why
-either-returns-in-Err-start_else-clause-why t c = λ rest. no_refusal c.in-Err-start_else.fault _ c.in-Err-start_else.ensures.refused
+pub when-returns : goal.when-returns
+when-returns t c = λ rest.
+    let x = c.args.context in
+    let first = block_in x c.args.first.now in
+    let b = when c.args.line c.args.contact first rest in
+    let w0 = c.args.self.now in
+    let w2 = c.fork.new.self in
+    let w3 = c.block.new.self in
+    let f = c.in-Ok.falls in
+    let y = c.close_if.result in
+    let forks = c.in_default.ensures.forks in
+    let left = c.in-Ok.ensures.left in
+    compiles x b w0 rest c.close_if.new.self y
+    (when_step x.plan.now x.counters c.args.line c.args.contact c.len-at.result first rest w0 w2 w3 c.close_if.new.self f y c.requires.counters c.len-at.ensures forks left c.close_if.ensures.is_reached c.close_if.ensures.closes) c.close_if.ensures.room c.close_if.ensures.table
+    (err_map y _ _ (λ e h is judged. h is w0.saved.items w0.now (left.emits.saved ∙ forks.saved) (when_agrees x.plan.now x.counters c.args.line c.args.contact first rest w0 w2 w3 f forks left judged)) c.close_if.ensures.refused)
+    (err_two y (λ e h k. when_why x.plan.now x.counters c.args.line c.args.contact first rest w0 w2 w3 f e forks left h k) c.close_if.ensures.why c.close_if.ensures.refused)
+    (limits_map y (λ at k full can. can_when_closed k x.plan.now x.counters c.args.line c.args.contact first rest w0 w2 w3 f forks left full can) c.close_if.ensures.limited)
 
-pub either-returns-in-Err-block-2-clause-why : goal.either-returns-in-Err-block-2-clause-why
-either-returns-in-Err-block-2-clause-why t c = λ rest.
-    let first = block_of (tables c.args.context.blocks.now) c.args.first.now in
-    let second = block_of (tables c.args.context.blocks.now) c.args.second.now in
+-- ---- `if` with `else`
+
+pub either-returns-in-Err : goal.either-returns-in-Err
+either-returns-in-Err t c = λ rest.
+    let x = c.args.context in
+    let first = block_in x c.args.first.now in
+    let second = block_in x c.args.second.now in
+    fails x (either c.args.line c.args.contact first second rest) c.args.self.now c.in-Err.fault c.in-Err.ensures.refused
+    (limit_map c.in-Err.fault (λ at k full can. either_limited k x.plan.now x.counters c.args.line c.args.contact first second c.args.self.now full rest can) c.in-Err.ensures.limited)
+
+pub either-returns-in-Err-block : goal.either-returns-in-Err-block
+either-returns-in-Err-block t c = λ rest.
+    let x = c.args.context in
+    let first = block_in x c.args.first.now in
+    let second = block_in x c.args.second.now in
+    let w = c.fork.new.self in
+    let forks = c.in_default.ensures.forks in
+    let h = c.in-Err-block.ensures in
+    record {
+      refused = λ is judged. h.refused is (either_first x.plan.now x.counters c.args.line c.args.contact 0 first second rest c.args.self.now w w w w true true forks judged);
+      why = either_first_why x.plan.now x.counters c.args.line c.args.contact 0 first second rest c.args.self.now w w w w true true c.in-Err-block.fault forks h.why;
+      limited = limit_map c.in-Err-block.fault (λ at k full can. full (can_either_first k x.plan.now x.counters c.args.line c.args.contact first second rest c.args.self.now w w w w true true forks can)) h.limited;
+    }
+
+pub either-returns-in-Err-start_else : goal.either-returns-in-Err-start_else
+either-returns-in-Err-start_else t c = λ rest.
+    let x = c.args.context in
+    let first = block_in x c.args.first.now in
+    let second = block_in x c.args.second.now in
     let w = c.start_else.new.self in
-    either_second_why c.args.context.plan.now c.args.context.counters c.args.line c.args.contact c.len-at.result first second rest c.args.self.now c.fork.new.self c.block.new.self w w c.in-Ok.falls true c.in-Err-block-2.fault c.in_default.ensures.forks c.in-Ok.ensures.left c.in_default-start_else.ensures.starts_else c.in-Err-block-2.ensures.why
+    fails x (either c.args.line c.args.contact first second rest) c.args.self.now c.in-Err-start_else.fault c.in-Err-start_else.ensures.refused
+    (limit_map c.in-Err-start_else.fault (λ at k full can. can_either_turned k x.plan.now x.counters c.args.line c.args.contact first second rest c.args.self.now c.fork.new.self c.block.new.self w w c.in-Ok.falls true c.in_default.ensures.forks c.in-Ok.ensures.left full can) c.in-Err-start_else.ensures.limited)
 
-pub either-returns-clause-why : goal.either-returns-clause-why
-either-returns-clause-why t c =
-    let first = block_of (tables c.args.context.blocks.now) c.args.first.now in
-    let second = block_of (tables c.args.context.blocks.now) c.args.second.now in
-    err_two c.close_else.result (λ y h k rest. either_why c.args.context.plan.now c.args.context.counters c.args.line c.args.contact c.len-at.result first second rest c.args.self.now c.fork.new.self c.block.new.self c.start_else.new.self c.block-2.new.self c.in-Ok.falls c.in-Ok-block.falls y c.in_default.ensures.forks c.in-Ok.ensures.left c.in_default-start_else.ensures.starts_else c.in-Ok-block.ensures.left h k) c.close_else.ensures.why c.close_else.ensures.refused
+pub either-returns-in-Err-block-2 : goal.either-returns-in-Err-block-2
+either-returns-in-Err-block-2 t c = λ rest.
+    let x = c.args.context in
+    let first = block_in x c.args.first.now in
+    let second = block_in x c.args.second.now in
+    let w0 = c.args.self.now in
+    let w = c.start_else.new.self in
+    let forks = c.in_default.ensures.forks in
+    let left = c.in-Ok.ensures.left in
+    let starts = c.in_default-start_else.ensures.starts_else in
+    let h = c.in-Err-block-2.ensures in
+    record {
+      refused = λ is judged. h.refused is (either_second x.plan.now x.counters c.args.line c.args.contact c.len-at.result first second rest w0 c.fork.new.self c.block.new.self w w c.in-Ok.falls true forks left starts judged);
+      why = either_second_why x.plan.now x.counters c.args.line c.args.contact c.len-at.result first second rest w0 c.fork.new.self c.block.new.self w w c.in-Ok.falls true c.in-Err-block-2.fault forks left starts h.why;
+      limited = limit_map c.in-Err-block-2.fault (λ at k full can. full (can_either_second k x.plan.now x.counters c.args.line c.args.contact first second rest w0 c.fork.new.self c.block.new.self w w c.in-Ok.falls true c.len-at.result forks left starts can)) h.limited;
+    }
 
-pub repeat-returns-in-Err-clause-why : goal.repeat-returns-in-Err-clause-why
-repeat-returns-in-Err-clause-why t c = λ rest. no_refusal c.in-Err.fault _ c.in-Err.ensures.refused
+pub either-returns : goal.either-returns
+either-returns t c = λ rest.
+    let x = c.args.context in
+    let line = c.args.line in
+    let at = c.len-at.result in
+    let first = block_in x c.args.first.now in
+    let second = block_in x c.args.second.now in
+    let w0 = c.args.self.now in
+    let w2 = c.fork.new.self in
+    let w3 = c.block.new.self in
+    let w6 = c.start_else.new.self in
+    let w7 = c.block-2.new.self in
+    let f = c.in-Ok.falls in
+    let g = c.in-Ok-block.falls in
+    let y = c.close_else.result in
+    let forks = c.in_default.ensures.forks in
+    let left = c.in-Ok.ensures.left in
+    let starts = c.in_default-start_else.ensures.starts_else in
+    let left2 = c.in-Ok-block.ensures.left in
+    compiles x (either line c.args.contact first second rest) w0 rest c.close_else.new.self y
+    (ok_map y (λ falls h. either_step x.plan.now x.counters line c.args.contact at c.len-jump.result first second w0 w2 w3 w6 w7 c.close_else.new.self f g falls c.requires.counters c.len-at.ensures c.len-jump.ensures forks left starts left2 h rest) c.close_else.ensures.arrives) c.close_else.ensures.room c.close_else.ensures.table
+    (err_map y _ _ (λ e h is judged. h is w0.saved.items (way f w3) (some_is f w3) (either_saved x.plan.now x.counters line c.args.contact at first second rest w0 w2 w3 w6 w7 f g forks left starts left2)
+    (either_agrees x.plan.now x.counters line c.args.contact at first second rest w0 w2 w3 w6 w7 f g forks left starts left2 judged)) c.close_else.ensures.refused)
+    (err_two y (λ e h k. either_why x.plan.now x.counters line c.args.contact at first second rest w0 w2 w3 w6 w7 f g e forks left starts left2 h k) c.close_else.ensures.why c.close_else.ensures.refused)
+    (limits_map y (λ _ k full can. can_either_closed k x.plan.now x.counters line c.args.contact first second rest w0 w2 w3 w6 w7 f g at forks left starts left2 full can) c.close_else.ensures.limited)
 
-pub repeat-returns-in-Err-enter-clause-why : goal.repeat-returns-in-Err-enter-clause-why
-repeat-returns-in-Err-enter-clause-why t c = λ rest. no_refusal c.in-Err-enter.fault _ c.in-Err-enter.ensures.refused
+-- ---- `repeat`
 
-pub repeat-returns-in-Err-block-clause-why : goal.repeat-returns-in-Err-block-clause-why
-repeat-returns-in-Err-block-clause-why t c = λ rest.
-    let body = block_of (tables c.args.context.blocks.now) c.args.body.now in
-    repeat_body_why c.args.context.plan.now c.args.context.counters c.args.line c.args.times body rest c.args.self.now c.put.new.self c.enter.new.self c.enter.new.self true c.all_fall.result c.in-Err-block.fault c.in_default-put.ensures.now (c.all_fall.ensures (tables c.args.context.blocks.now) c.requires.facts) c.in_default-enter.ensures.now c.in-Err-block.ensures.why
+pub repeat-returns-in_default : goal.repeat-returns-in_default
+repeat-returns-in_default t c = λ rest.
+    let x = c.args.context in
+    let many : 8 ≤ x.counters = elim (cases_lt x.counters 8) [ inl lt ↦ absurd (false≢true (c.in_default.ensures.in_range.1 lt)) | inr ge ↦ ge ] in
+    record {
+      refused = λ is _. is;
+      why = tt;
+      limited = λ can. repeat_deep x.plan.now x.counters c.args.line c.args.times (block_in x c.args.body.now) rest c.args.self.now many can;
+    }
 
-pub repeat-returns-in-Err-close_loop-clause-why : goal.repeat-returns-in-Err-close_loop-clause-why
-repeat-returns-in-Err-close_loop-clause-why t c = λ rest.
-    let body = block_of (tables c.args.context.blocks.now) c.args.body.now in
-    let deep : c.args.context.counters + 1 ≤ 8 = (let lt : c.args.context.counters < 8 = c.in-Some.ensures.in_range.0 refl in omega (arith, lt)) in
-    repeat_why c.args.context.plan.now c.args.context.counters c.args.line c.args.times body rest c.args.self.now c.put.new.self c.enter.new.self c.block.new.self c.in-Ok.falls c.all_fall.result c.in-Err-close_loop.fault c.in_default-put.ensures.now (c.all_fall.ensures (tables c.args.context.blocks.now) c.requires.facts) c.in_default-enter.ensures.now c.in_default-enter.ensures.saved deep c.in-Ok.ensures.left c.in-Err-close_loop.ensures.why c.in-Err-close_loop.ensures.refused
+pub repeat-returns-in-Err : goal.repeat-returns-in-Err
+repeat-returns-in-Err t c = λ rest.
+    let x = c.args.context in
+    let body = block_in x c.args.body.now in
+    fails x (repeat c.args.line c.args.times body rest) c.args.self.now c.in-Err.fault c.in-Err.ensures.refused
+    (limit_map c.in-Err.fault (λ at k full can. repeat_limited k x.plan.now x.counters c.args.line c.args.times body c.args.self.now full rest can) c.in-Err.ensures.limited)
 
-pub forever-returns-in-Err-clause-why : goal.forever-returns-in-Err-clause-why
-forever-returns-in-Err-clause-why t c = λ rest. no_refusal c.in-Err.fault _ c.in-Err.ensures.refused
+pub repeat-returns-in-Err-enter : goal.repeat-returns-in-Err-enter
+repeat-returns-in-Err-enter t c = λ rest.
+    let x = c.args.context in
+    let body = block_in x c.args.body.now in
+    let w0 = c.args.self.now in
+    let w = c.enter.new.self in
+    let emits = subst (λ m. Emits w0 c.put.new.self (alone c.args.line (Set m c.args.times) x.counters w0.now)) c.in-Some.ensures.value c.in_default-put.ensures.emits in
+    fails x (repeat c.args.line c.args.times body rest) w0 c.in-Err-enter.fault c.in-Err-enter.ensures.refused
+    (limit_map c.in-Err-enter.fault (λ at k full can. can_repeat_entered k x.plan.now x.counters c.args.line c.args.times body rest w0 c.put.new.self w w true c.all_fall.result emits c.in_default-put.ensures.now (c.all_fall.ensures (tables x.blocks.now) c.requires.facts) full can) c.in-Err-enter.ensures.limited)
 
-pub forever-returns-in-Err-block-clause-why : goal.forever-returns-in-Err-block-clause-why
-forever-returns-in-Err-block-clause-why t c = λ rest.
-    let body = block_of (tables c.args.context.blocks.now) c.args.body.now in
-    forever_body_why c.args.context.plan.now c.args.context.counters c.args.line body rest c.args.self.now c.enter.new.self c.enter.new.self true c.all_fall.result c.in-Err-block.fault (c.all_fall.ensures (tables c.args.context.blocks.now) c.requires.facts) c.in_default.ensures.now c.in-Err-block.ensures.why
+pub repeat-returns-in-Err-block : goal.repeat-returns-in-Err-block
+repeat-returns-in-Err-block t c = λ rest.
+    let x = c.args.context in
+    let body = block_in x c.args.body.now in
+    let w0 = c.args.self.now in
+    let w1 = c.put.new.self in
+    let w = c.enter.new.self in
+    let emits = subst (λ m. Emits w0 w1 (alone c.args.line (Set m c.args.times) x.counters w0.now)) c.in-Some.ensures.value c.in_default-put.ensures.emits in
+    let now = c.in_default-put.ensures.now in
+    let falls = c.all_fall.ensures (tables x.blocks.now) c.requires.facts in
+    let entered = c.in_default-enter.ensures in
+    let h = c.in-Err-block.ensures in
+    record {
+      refused = λ is judged. h.refused is (repeat_body x.plan.now x.counters c.args.line c.args.times body rest w0 w1 w w true c.all_fall.result now falls entered.now judged);
+      why = repeat_body_why x.plan.now x.counters c.args.line c.args.times body rest w0 w1 w w true c.all_fall.result c.in-Err-block.fault now falls entered.now h.why;
+      limited = limit_map c.in-Err-block.fault (λ at k full can. full (can_repeat_body k x.plan.now x.counters c.args.line c.args.times body rest w0 w1 w w true c.all_fall.result emits now falls entered.lines entered.unpriced entered.now can)) h.limited;
+    }
 
-pub forever-returns-in-Err-close_loop-clause-why : goal.forever-returns-in-Err-close_loop-clause-why
-forever-returns-in-Err-close_loop-clause-why t c = λ rest.
-    let body = block_of (tables c.args.context.blocks.now) c.args.body.now in
-    forever_why c.args.context.plan.now c.args.context.counters c.args.line body rest c.args.self.now c.enter.new.self c.block.new.self c.in-Ok.falls c.all_fall.result c.in-Err-close_loop.fault (c.all_fall.ensures (tables c.args.context.blocks.now) c.requires.facts) c.in_default.ensures.now c.in_default.ensures.saved c.in-Ok.ensures.left c.in-Err-close_loop.ensures.why c.in-Err-close_loop.ensures.refused
+pub repeat-returns-in-Err-close_loop : goal.repeat-returns-in-Err-close_loop
+repeat-returns-in-Err-close_loop t c = λ rest.
+    let x = c.args.context in
+    let body = block_in x c.args.body.now in
+    let w0 = c.args.self.now in
+    let w1 = c.put.new.self in
+    let w2 = c.enter.new.self in
+    let w3 = c.block.new.self in
+    let f = c.in-Ok.falls in
+    let e = c.in-Err-close_loop.fault in
+    let emits = subst (λ m. Emits w0 w1 (alone c.args.line (Set m c.args.times) x.counters w0.now)) c.in-Some.ensures.value c.in_default-put.ensures.emits in
+    let now = c.in_default-put.ensures.now in
+    let falls = c.all_fall.ensures (tables x.blocks.now) c.requires.facts in
+    let entered = c.in_default-enter.ensures in
+    let left = c.in-Ok.ensures.left in
+    let h = c.in-Err-close_loop.ensures in
+    let deep : x.counters + 1 ≤ 8 = (let lt : x.counters < 8 = c.in-Some.ensures.in_range.0 refl in omega (arith, lt)) in
+    record {
+      refused = λ is judged. h.refused is w1.saved.items w2.now (left.emits.saved ∙ entered.saved) (repeat_round x.plan.now x.counters c.args.line c.args.times body rest w0 w1 w2 w3 f c.all_fall.result now falls entered.now left judged);
+      why = repeat_why x.plan.now x.counters c.args.line c.args.times body rest w0 w1 w2 w3 f c.all_fall.result e now falls entered.now entered.saved deep left h.why h.refused;
+      limited = limit_map e (λ at k full can. can_repeat_closed k x.plan.now x.counters c.args.line c.args.times body rest w0 w1 w2 w3 f c.all_fall.result emits now falls entered.lines entered.unpriced entered.now left full can) h.limited;
+    }
 
-pub block-loop-statement-init : goal.block-loop-statement-init
-block-loop-statement-init t c = record {
-  left = left_start c.args.context.plan.now c.args.context.counters (block_of (tables c.args.context.blocks.now) c.args.statements.now) c.args.self.now;
-  room = c.requires.room;
-  table = c.requires.table;
-}
+pub repeat-returns : goal.repeat-returns
+repeat-returns t c = λ rest.
+    let x = c.args.context in
+    let body = block_in x c.args.body.now in
+    let deep : x.counters + 1 ≤ 8 = (let lt : x.counters < 8 = c.in-Some.ensures.in_range.0 refl in omega (arith, lt)) in
+    let entered = c.in_default-enter.ensures in
+    let closed = c.in_default-close_loop.ensures in
+    record {
+      left = repeat_step x.plan.now x.counters c.args.line c.args.times body c.args.self.now c.put.new.self c.enter.new.self c.block.new.self c.close_loop.new.self c.in-Ok.falls c.all_fall.result c.len-target.result c.in-Some.counter
+          deep c.in-Some.ensures.value c.in_default-put.ensures.emits c.in_default-put.ensures.now c.len-target.ensures (c.all_fall.ensures (tables x.blocks.now) c.requires.facts) entered.lines entered.unpriced entered.now entered.saved c.in-Ok.ensures.left closed.round rest;
+      room = closed.room;
+      table = closed.table;
+    }
 
-pub block-returns-then-not-is_reached-clause-refused : goal.block-returns-then-not-is_reached-clause-refused
-block-returns-then-not-is_reached-clause-refused t c = λ is judged.
-    block_unreached c.args.context.plan.now c.args.context.counters (tables c.args.context.blocks.now) c.args.statements.now c.loop-statement.statement-index c.statement-item.result c.args.self.now c.loop-statement.self c.loop-statement.is_reached c.statement-item.is c.loop-statement-test.true c.if-not-is_reached.true c.loop-statement.invariant.left judged
+-- ---- `forever`
+
+pub forever-returns-in-Err : goal.forever-returns-in-Err
+forever-returns-in-Err t c = λ rest.
+    let x = c.args.context in
+    let body = block_in x c.args.body.now in
+    let w = c.enter.new.self in
+    fails x (forever c.args.line body rest) c.args.self.now c.in-Err.fault c.in-Err.ensures.refused
+    (limit_map c.in-Err.fault (λ at k full can. can_forever_entered k x.plan.now x.counters c.args.line body rest c.args.self.now w w true c.all_fall.result (c.all_fall.ensures (tables x.blocks.now) c.requires.facts) full can) c.in-Err.ensures.limited)
+
+pub forever-returns-in-Err-block : goal.forever-returns-in-Err-block
+forever-returns-in-Err-block t c = λ rest.
+    let x = c.args.context in
+    let body = block_in x c.args.body.now in
+    let w0 = c.args.self.now in
+    let w = c.enter.new.self in
+    let falls = c.all_fall.ensures (tables x.blocks.now) c.requires.facts in
+    let entered = c.in_default.ensures in
+    let h = c.in-Err-block.ensures in
+    record {
+      refused = λ is judged. h.refused is (forever_body x.plan.now x.counters c.args.line body rest w0 w w true c.all_fall.result falls entered.now judged);
+      why = forever_body_why x.plan.now x.counters c.args.line body rest w0 w w true c.all_fall.result c.in-Err-block.fault falls entered.now h.why;
+      limited = limit_map c.in-Err-block.fault (λ at k full can. full (can_forever_body k x.plan.now x.counters c.args.line body rest w0 w w true c.all_fall.result falls entered.lines entered.unpriced entered.now can)) h.limited;
+    }
+
+pub forever-returns-in-Err-close_loop : goal.forever-returns-in-Err-close_loop
+forever-returns-in-Err-close_loop t c = λ rest.
+    let x = c.args.context in
+    let body = block_in x c.args.body.now in
+    let w0 = c.args.self.now in
+    let w2 = c.enter.new.self in
+    let w3 = c.block.new.self in
+    let f = c.in-Ok.falls in
+    let e = c.in-Err-close_loop.fault in
+    let falls = c.all_fall.ensures (tables x.blocks.now) c.requires.facts in
+    let entered = c.in_default.ensures in
+    let left = c.in-Ok.ensures.left in
+    let h = c.in-Err-close_loop.ensures in
+    record {
+      refused = λ is judged. h.refused is w0.saved.items w2.now (left.emits.saved ∙ entered.saved) (forever_round x.plan.now x.counters c.args.line body rest w0 w2 w3 f c.all_fall.result falls entered.now left judged);
+      why = forever_why x.plan.now x.counters c.args.line body rest w0 w2 w3 f c.all_fall.result e falls entered.now entered.saved left h.why h.refused;
+      limited = limit_map e (λ at k full can. can_forever_closed k x.plan.now x.counters c.args.line body rest w0 w2 w3 f c.all_fall.result falls entered.lines entered.unpriced entered.now left full can) h.limited;
+    }
+
+pub forever-returns : goal.forever-returns
+forever-returns t c = λ rest.
+    let x = c.args.context in
+    let body = block_in x c.args.body.now in
+    let entered = c.in_default.ensures in
+    let closed = c.in_default-close_loop.ensures in
+    record {
+      left = forever_step x.plan.now x.counters c.args.line body c.args.self.now c.enter.new.self c.block.new.self c.close_loop.new.self c.in-Ok.falls c.all_fall.result c.len-target.result
+          c.requires.counters c.len-target.ensures (c.all_fall.ensures (tables x.blocks.now) c.requires.facts) entered.lines entered.unpriced entered.now entered.saved c.in-Ok.ensures.left closed.round rest;
+      room = closed.room;
+      table = closed.table;
+    }

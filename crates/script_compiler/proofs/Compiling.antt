@@ -1,0 +1,46 @@
+-- The result of compiling a block or a statement, from its parts.
+use Rattle.std.proofs.Common.{◌≡◌, ℕ, ◌≤◌, Bool, Result, Ok, Err, inl, length, sym, subst}
+use Rattle.std.specs.Prelude.{IfOk, IfErr, OnOk}
+use Rattle.script_front.specs.Block.{Block, nothing, apply}
+use Rattle.script_meaning.specs.Judged.{IsJudged}
+use Rattle.script_meaning.specs.Refused.{IsRefusedIn}
+use Rattle.script_compiler.specs.declared.context.Context.{Context}
+use Rattle.script_compiler.specs.declared.fault.CompileFault.{CompileFault}
+use Rattle.script_compiler.specs.Working.{Work}
+use Rattle.script_compiler.specs.Emission.{Left}
+use Rattle.script_compiler.specs.Compiling.{Fails, Compiles}
+use Rattle.script_compiler.specs.Refusals.{IsRefusal, IfRefused, IfLimit}
+use Rattle.script_compiler.specs.Space.{HasTable, CanEmit}
+use Rattle.script_compiler.proofs.Emitted.{left_apply}
+use Rattle.script_compiler.proofs.Reasons.{refused_map, no_refusal}
+use Rattle.script_compiler.proofs.Spaces.{limit_map}
+use Rattle.script_compiler.proofs.Fitting.{can_apply}
+
+module _ (c : Context) (b : Block) (v : Work) where
+  pub compiles : (rest : Block) (w : Work) (x : Result Bool CompileFault) → IfOk x (λ f. Left c.plan.now c.counters b v w f rest) → OnOk x (length w.lines.items ≤ 4096) → OnOk x (HasTable w) →
+      IfErr x (λ e. IsRefusal e → IsJudged c.plan.now b v.now → ⊥) → IfErr x (λ e. IfRefused e (λ at given. IsRefusedIn c.plan.now b v.now at given)) →
+      IfErr x (λ e. IfLimit e (λ _ limit. CanEmit limit c.plan.now c.counters b v → ⊥)) → Compiles c b rest v w x
+  compiles rest w (Ok f) left room table refused why limited = record { left = left; room = room; table = table }
+  compiles rest w (Err e) left room table refused why limited = record { refused = refused; why = why; limited = limited }
+
+  -- a fault that is no refusal
+  pub fails : (e : CompileFault) → (IsRefusal e → ⊥) → IfLimit e (λ _ limit. CanEmit limit c.plan.now c.counters b v → ⊥) → Fails c b v e
+  fails e unrefused limited = record { refused = λ is _. unrefused is; why = no_refusal e _ unrefused; limited = limited }
+
+-- the same block, written in another way
+pub compiles_as : (c : Context) (b b' rest : Block) (v w : Work) (x : Result Bool CompileFault) → b ≡ b' → Compiles c b' rest v w x → Compiles c b rest v w x
+compiles_as c b b' rest v w x same h = subst (λ z. Compiles c z rest v w x) (sym same) h
+
+-- a block that is applied is compiled in the context of the blocks before it
+pub compiles_applied : (c d : Context) (line number : ℕ) (named rest : Block) (v w : Work) (x : Result Bool CompileFault) → d.plan.now ≡ c.plan.now → d.counters ≡ c.counters → c.counters ≤ 8 →
+    Compiles d named nothing v w x → Compiles c (apply line number named rest) rest v w x
+compiles_applied c d line number named rest v w (Ok f) plan counters deep h = record {
+  left = left_apply c.plan.now c.counters line number named rest v w f deep (subst (λ p. Left p c.counters named v w f nothing) plan (subst (λ r. Left d.plan.now r named v w f nothing) counters h.left));
+  room = h.room;
+  table = h.table;
+}
+compiles_applied c d line number named rest v w (Err e) plan counters deep h = record {
+  refused = λ is judged. h.refused is (subst (λ p. IsJudged p named v.now) (sym plan) judged.0);
+  why = refused_map e (λ at given k. inl (subst (λ p. IsRefusedIn p named v.now at given) plan k)) h.why;
+  limited = limit_map e (λ at limit full can. full (subst (λ p. CanEmit limit p d.counters named v) (sym plan) (subst (λ r. CanEmit limit c.plan.now r named v) (sym counters) (can_apply limit c.plan.now c.counters line number named rest v can)))) h.limited;
+}

@@ -1,0 +1,34 @@
+-- Test vectors of the result of compiling a block: the block without statements.
+use Rattle.std.proofs.Common.{◌≡◌, ℕ, true, false, [], Some, None, Ok, Err, refl, arith}
+use Rattle.plan_flow.specs.declared.cause.Cause.{Cause}
+use Rattle.script_front.specs.declared.tree.Statement.TheVariants.{End}
+use Rattle.script_front.specs.Block.{Block, nothing, stop}
+use Rattle.script_compiler.specs.declared.context.Context.{Context}
+use Rattle.script_compiler.specs.declared.fault.CompileFault.TheVariants.{Refused}
+use Rattle.script_compiler.specs.Working.{Work}
+use Rattle.script_compiler.specs.Emission.{tables}
+use Rattle.script_compiler.specs.Compiling.{CanCompile, Compiles, block_in, statement_in}
+use Rattle.script_compiler.proofs.Arms.{is_end}
+use Rattle.script_compiler.proofs.Emitted.{left_start}
+
+module _ (c : Context) (w : Work) where
+  no_statements : block_in c [] ≡ nothing
+  no_statements = refl
+
+  one_end : (rest : Block) → statement_in c (End 5) rest ≡ stop 5 rest
+  one_end rest = is_end (tables c.blocks.now) (End 5) 5 refl rest
+
+  -- there is no counter for a ninth repeat
+  nine_repeats : c.counters ≡ 9 → CanCompile c w → ⊥
+  nine_repeats nine can = let few = can.counters in omega (arith, nine, few)
+
+  -- nothing is emitted, and control reaches the end
+  compiled : CanCompile c w → Compiles c nothing nothing w w (Ok true)
+  compiled can = record { left = left_start c.plan.now c.counters nothing w; room = can.room; table = can.table }
+
+  ends : Compiles c nothing nothing w w (Ok false) → ⊥
+  ends h = let leads : Some w.now ≡ None = h.left.leads in cc
+
+  -- it is valid anywhere, so it is not refused
+  refused : (line : ℕ) (cause : Cause) → Compiles c nothing nothing w w (Err (Refused line cause)) → ⊥
+  refused line cause h = h.refused tt tt
