@@ -5,27 +5,38 @@ use Rattle.script_front.specs.Block.{Block, nothing, apply}
 use Rattle.script_meaning.specs.Judged.{IsJudged}
 use Rattle.script_meaning.specs.Refused.{IsRefusedIn}
 use Rattle.script_compiler.specs.declared.context.Context.{Context}
+use Rattle.plan_flow.specs.declared.cause.Cause.{Cause}
+use Rattle.script_compiler.specs.declared.fault.CodeLimit.{CodeLimit}
 use Rattle.script_compiler.specs.declared.fault.CompileFault.{CompileFault}
+use Rattle.script_compiler.specs.declared.fault.CompileFault.TheVariants.{Refused, Limit, Memory}
 use Rattle.script_compiler.specs.Working.{Work}
 use Rattle.script_compiler.specs.Emission.{Left}
 use Rattle.script_compiler.specs.Compiling.{Fails, Compiles}
-use Rattle.script_compiler.specs.Refusals.{IsRefusal, IfRefused, IfLimit}
+use Rattle.script_compiler.specs.Refusals.{IsLimitAt, IfRefused, IfLimit}
 use Rattle.script_compiler.specs.Space.{HasTable, CanEmit}
 use Rattle.script_compiler.proofs.Emitted.{left_apply}
-use Rattle.script_compiler.proofs.Reasons.{refused_map, no_refusal}
+use Rattle.script_compiler.proofs.Reasons.{refused_map}
 use Rattle.script_compiler.proofs.Spaces.{limit_map}
 use Rattle.script_compiler.proofs.Fitting.{can_apply}
 
 module _ (c : Context) (b : Block) (v : Work) where
-  pub compiles : (rest : Block) (w : Work) (x : Result Bool CompileFault) → IfOk x (λ f. Left c.plan.now c.counters b v w f rest) → OnOk x (length w.lines.items ≤ 4096) → OnOk x (HasTable w) →
-      IfErr x (λ e. IsRefusal e → IsJudged c.plan.now b v.now → ⊥) → IfErr x (λ e. IfRefused e (λ at given. IsRefusedIn c.plan.now b v.now at given)) →
-      IfErr x (λ e. IfLimit e (λ _ limit. CanEmit limit c.plan.now c.counters b v → ⊥)) → Compiles c b rest v w x
-  compiles rest w (Ok f) left room table refused why limited = record { left = left; room = room; table = table }
-  compiles rest w (Err e) left room table refused why limited = record { refused = refused; why = why; limited = limited }
+  pub compiles : (rest : Block) (w : Work) (x : Result Bool CompileFault) → IfOk x (λ f. Left c.plan.now c.counters b v w f rest) → OnOk x (length w.lines.items ≤ 4096) → OnOk x (HasTable w) → IfErr x (λ e. Fails c b v e) → Compiles c b rest v w x
+  compiles rest w (Ok f) left room table fails = record { left = left; room = room; table = table }
+  compiles rest w (Err e) left room table fails = fails
 
   -- a fault that is no refusal
-  pub fails : (e : CompileFault) → (IsRefusal e → ⊥) → IfLimit e (λ _ limit. CanEmit limit c.plan.now c.counters b v → ⊥) → Fails c b v e
-  fails e unrefused limited = record { refused = λ is _. unrefused is; why = no_refusal e _ unrefused; limited = limited }
+  pub fails : (e : CompileFault) (line : ℕ) {P : CodeLimit → Type 0} → IsLimitAt line P e → ((k : CodeLimit) → P k → CanEmit k c.plan.now c.counters b v → ⊥) → Fails c b v e
+  fails (Refused at cause) line h limited = absurd h
+  fails (Limit at k) line h limited = record { refused = λ is _. is; why = tt; limited = limited k h.1 }
+  fails Memory line h limited = record { refused = λ is _. is; why = tt; limited = tt }
+
+  -- a fault at this line
+  pub fails_at : (e : CompileFault) (line : ℕ) {R : Cause → Type 0} {P : CodeLimit → Type 0} → IfRefused e (λ at cause. (at ≡ line) × R cause) → IfLimit e (λ at k. (at ≡ line) × P k) →
+      ((cause : Cause) → R cause → IsJudged c.plan.now b v.now → ⊥) → ((cause : Cause) → R cause → IsRefusedIn c.plan.now b v.now line cause) →
+      ((k : CodeLimit) → P k → CanEmit k c.plan.now c.counters b v → ⊥) → Fails c b v e
+  fails_at (Refused at cause) line h g refused why limited = record { refused = λ _. refused cause h.1; why = subst (λ n. IsRefusedIn c.plan.now b v.now n cause) (sym h.0) (why cause h.1); limited = tt }
+  fails_at (Limit at k) line h g refused why limited = record { refused = λ is _. is; why = tt; limited = limited k g.1 }
+  fails_at Memory line h g refused why limited = record { refused = λ is _. is; why = tt; limited = tt }
 
 -- the same block, written in another way
 pub compiles_as : (c : Context) (b b' rest : Block) (v w : Work) (x : Result Bool CompileFault) → b ≡ b' → Compiles c b' rest v w x → Compiles c b rest v w x

@@ -16,7 +16,7 @@ use Rattle.script_compiler.specs.Working.{Work}
 use Rattle.script_compiler.specs.declared.fault.CodeLimit.{CodeLimit}
 use Rattle.script_compiler.specs.declared.fault.CodeLimit.TheVariants.{Instructions, Labels, Configurations, Counters}
 use Rattle.script_compiler.specs.Emission.{Emits, Left, Forks, StartsElse, line_of_instr, jumping, points_of, way}
-use Rattle.script_compiler.specs.Space.{names_of, HasSpace, HasCounters, HasTable, IsCovered, Covers, CanEmit, Keeps}
+use Rattle.script_compiler.specs.Space.{names_of, HasSpace, LacksSpace, HasCounters, HasTable, IsCovered, Covers, CanEmit, Keeps}
 use Rattle.script_compiler.specs.Room.{HasRoomFor, Leaves, named_by}
 use Rattle.script_compiler.proofs.Rooms.{leaves_same}
 use Rattle.script_compiler.proofs.Trees.{statements_cut}
@@ -55,22 +55,19 @@ module _ (limit : CodeLimit) (plan : Plan) (r : ℕ) (table : List Block) (ss : 
 
 -- ---- statements that begin with an instruction
 
-abbrev pub NoSpace : CodeLimit → Work → Type 0
-NoSpace limit w = (p : PlacedInstr) (ps : List PlacedInstr) → p.point ≡ w.now → HasSpace limit w (p ∷ ps) → ⊥
-
-pub act_limited : (limit : CodeLimit) (plan : Plan) (r line : ℕ) (a : Act) (w : Work) → NoSpace limit w → (rest : Block) → CanEmit limit plan r (basic line a rest) w → ⊥
+pub act_limited : (limit : CodeLimit) (plan : Plan) (r line : ℕ) (a : Act) (w : Work) → LacksSpace limit w → (rest : Block) → CanEmit limit plan r (basic line a rest) w → ⊥
 act_limited limit plan r line a w h rest can = h (placed_instr line (instr_of_act a) r w.now) _ refl can.space
 
-pub stop_limited : (limit : CodeLimit) (plan : Plan) (r line : ℕ) (w : Work) → NoSpace limit w → (rest : Block) → CanEmit limit plan r (stop line rest) w → ⊥
+pub stop_limited : (limit : CodeLimit) (plan : Plan) (r line : ℕ) (w : Work) → LacksSpace limit w → (rest : Block) → CanEmit limit plan r (stop line rest) w → ⊥
 stop_limited limit plan r line w h rest can = h _ _ refl can.space
 
-pub when_limited : (limit : CodeLimit) (plan : Plan) (r line c : ℕ) (first : Block) (w : Work) → NoSpace limit w → (rest : Block) → CanEmit limit plan r (when line c first rest) w → ⊥
+pub when_limited : (limit : CodeLimit) (plan : Plan) (r line c : ℕ) (first : Block) (w : Work) → LacksSpace limit w → (rest : Block) → CanEmit limit plan r (when line c first rest) w → ⊥
 when_limited limit plan r line c first w h rest can = h _ _ refl can.space
 
-pub either_limited : (limit : CodeLimit) (plan : Plan) (r line c : ℕ) (first second : Block) (w : Work) → NoSpace limit w → (rest : Block) → CanEmit limit plan r (either line c first second rest) w → ⊥
+pub either_limited : (limit : CodeLimit) (plan : Plan) (r line c : ℕ) (first second : Block) (w : Work) → LacksSpace limit w → (rest : Block) → CanEmit limit plan r (either line c first second rest) w → ⊥
 either_limited limit plan r line c first second w h rest can = h _ _ refl can.space
 
-pub repeat_limited : (limit : CodeLimit) (plan : Plan) (r line n : ℕ) (body : Block) (w : Work) → NoSpace limit w → (rest : Block) → CanEmit limit plan r (repeat line n body rest) w → ⊥
+pub repeat_limited : (limit : CodeLimit) (plan : Plan) (r line n : ℕ) (body : Block) (w : Work) → LacksSpace limit w → (rest : Block) → CanEmit limit plan r (repeat line n body rest) w → ⊥
 repeat_limited limit plan r line n body w h rest can = h _ _ refl can.space
 
 -- ---- labels at which paths merge

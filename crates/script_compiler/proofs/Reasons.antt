@@ -13,18 +13,17 @@ use Rattle.mux_config.specs.Configuration.{Configuration}
 use Rattle.mux_config.specs.Sound.{IsSound}
 use Rattle.script_front.specs.Tree.{Tree}
 use Rattle.script_meaning.specs.Compiled.{opening_of}
-use Rattle.script_front.specs.declared.tree.Act.{Act}
 use Rattle.script_front.specs.declared.tree.Statement.{Statement}
-use Rattle.script_front.specs.Block.{Block, nothing, basic, when, either, repeat, forever, before, block_of}
+use Rattle.script_front.specs.Block.{Block, nothing, when, either, repeat, forever, before, block_of}
 use Rattle.script_meaning.specs.declared.flow.ProgramPoint.{ProgramPoint}
-use Rattle.script_meaning.specs.Scheme.{without_label, at_label, head, instr_of_act, point_after, falls_out}
+use Rattle.script_meaning.specs.Scheme.{without_label, at_label, head, point_after, falls_out}
 use Rattle.script_meaning.specs.Judged.{WaysAgree, BranchesAgree, FitsEntry}
 use Rattle.script_meaning.specs.Refused.{IsRefusedIn, IsRefusedAfter, IsUnreached}
 use Rattle.script_compiler.specs.Working.{Work}
 use Rattle.script_compiler.specs.declared.fault.CompileFault.{CompileFault}
 use Rattle.script_compiler.specs.declared.fault.CompileFault.TheVariants.{Refused, Limit, Memory}
 use Rattle.script_compiler.specs.Emission.{Left, Forks, StartsElse, points_of, way}
-use Rattle.script_compiler.specs.Refusals.{IsRefusal, IsRefusedAs, IfRefused}
+use Rattle.script_compiler.specs.Refusals.{IsRefusedAs, IfRefused}
 use Rattle.script_compiler.proofs.Trees.{statements_cut}
 use Rattle.script_compiler.proofs.Emitted.{whole_of}
 use Rattle.script_compiler.proofs.Refusing.{head_is, some_is}
@@ -45,97 +44,64 @@ refused_but_memory (Refused at given) m h = m at given (λ is. cc) h
 refused_but_memory (Limit line limit) m h = tt
 refused_but_memory Memory m h = tt
 
-pub no_refusal : (e : CompileFault) (P : ℕ → Cause → Type 0) → (IsRefusal e → ⊥) → IfRefused e P
-no_refusal (Refused at given) P h = absurd (h tt)
-no_refusal (Limit line limit) P h = tt
-no_refusal Memory P h = tt
-
 pub refused_here : (e : CompileFault) (line : ℕ) (cause : Cause) (P : ℕ → Cause → Type 0) → e ≡ Refused line cause → P line cause → IfRefused e P
 refused_here e line cause P is h = subst (λ (x : CompileFault). IfRefused x P) (sym is) h
 
 pub refused_as_said : (plan : Plan) (line : ℕ) (i : Instr) (t : Flow) (e : CompileFault) → IsRefusedAs plan line i t e → IfRefused e (λ at given. (at ≡ line) × FlowRefused plan i (known_at t) given)
 refused_as_said plan line i t e h = refused_here e line h.0 (λ at given. (at ≡ line) × FlowRefused plan i (known_at t) given) h.1 (refl, h.2)
 
-pub act_why : (plan : Plan) (s : ProgramPoint) (x : Result Bool CompileFault) (line : ℕ) (a : Act) (rest : Block) → IfErr x (λ e. IfRefused e (λ at given. (at ≡ line) × FlowRefused plan (instr_of_act a) (known_at s.flow) given)) → IfErr x (λ e. IfRefused e (λ at given. IsRefusedIn plan (basic line a rest) s at given))
-act_why plan s (Ok f) line a rest h = h
-act_why plan s (Err y) line a rest h = refused_map y (λ at given k. inl k) h
-
 -- ---- a statement with blocks: one of them is refused, or the paths do not agree
 
--- a mismatch at this line
-abbrev pub IsMismatchAt : ℕ → CompileFault → Type 0
-IsMismatchAt line e = IfRefused e (λ at given. (at ≡ line) × (given ≡ Mismatch))
+module _ (plan : Plan) (r line c : ℕ) (first rest : Block) (w0 w2 w3 : Work) (f : Bool) where
+  pub when_body_why : (e : CompileFault) → Forks line (Test c 0) r w0 w2 → IfRefused e (λ at given. IsRefusedIn plan first w2.now at given) → IfRefused e (λ at given. IsRefusedIn plan (when line c first rest) w0.now at given)
+  when_body_why e fork h = refused_map e (λ at given k. inl (subst (λ s. IsRefusedIn plan first s at given) fork.now k)) h
 
-module _ (plan : Plan) (r line c : ℕ) (first rest : Block) (w0 w2 w3 : Work) (f : Bool) (e : CompileFault) where
-  pub when_body_why : Forks line (Test c 0) r w0 w2 → IfRefused e (λ at given. IsRefusedIn plan first w2.now at given) → IfRefused e (λ at given. IsRefusedIn plan (when line c first rest) w0.now at given)
-  when_body_why fork h = refused_map e (λ at given k. inl (subst (λ s. IsRefusedIn plan first s at given) fork.now k)) h
+  pub when_why : (cause : Cause) → Forks line (Test c 0) r w0 w2 → Left plan r first w2 w3 f nothing → (cause ≡ Mismatch) × ((front : List ProgramPoint) (entry : ProgramPoint) → w3.saved.items ≡ front ++ entry ∷ [] → WaysAgree (way f w3) (Some entry) → ⊥) → IsRefusedIn plan (when line c first rest) w0.now line cause
+  when_why cause fork left h =
+      let whole = whole_of plan r (length w2.lines.items) first (without_label w0.now.flow) w2 w3 f refl fork.now left in
+      inr (whole.judged, inl ((λ agree. h.1 w0.saved.items w0.now (left.emits.saved ∙ fork.saved) (subst (λ w. WaysAgree w (Some w0.now)) whole.leads agree)), refl, h.0))
 
-  pub when_why : Forks line (Test c 0) r w0 w2 → Left plan r first w2 w3 f nothing → IsMismatchAt line e → (IsRefusal e → (front : List ProgramPoint) (entry : ProgramPoint) → w3.saved.items ≡ front ++ entry ∷ [] → WaysAgree (way f w3) (Some entry) → ⊥) → IfRefused e (λ at given. IsRefusedIn plan (when line c first rest) w0.now at given)
-  when_why fork left h k = by e h k
-    where
-      by : (y : CompileFault) → IsMismatchAt line y → (IsRefusal y → (front : List ProgramPoint) (entry : ProgramPoint) → w3.saved.items ≡ front ++ entry ∷ [] → WaysAgree (way f w3) (Some entry) → ⊥) → IfRefused y (λ at given. IsRefusedIn plan (when line c first rest) w0.now at given)
-      by (Refused at given) h k =
-          let whole = whole_of plan r (length w2.lines.items) first (without_label w0.now.flow) w2 w3 f refl fork.now left in
-          inr (whole.judged, inl ((λ agree. k tt w0.saved.items w0.now (left.emits.saved ∙ fork.saved) (subst (λ w. WaysAgree w (Some w0.now)) whole.leads agree)), h.0, h.1))
-      by (Limit line limit) h k = tt
-      by Memory h k = tt
+module _ (plan : Plan) (r line c jump : ℕ) (first second rest : Block) (w0 w2 w3 w6 w7 : Work) (f1 f2 : Bool) where
+  pub either_first_why : (e : CompileFault) → Forks line (Test c 0) r w0 w2 → IfRefused e (λ at given. IsRefusedIn plan first w2.now at given) → IfRefused e (λ at given. IsRefusedIn plan (either line c first second rest) w0.now at given)
+  either_first_why e fork h = refused_map e (λ at given k. inl (subst (λ s. IsRefusedIn plan first s at given) fork.now k)) h
 
-module _ (plan : Plan) (r line c jump : ℕ) (first second rest : Block) (w0 w2 w3 w6 w7 : Work) (f1 f2 : Bool) (e : CompileFault) where
-  pub either_first_why : Forks line (Test c 0) r w0 w2 → IfRefused e (λ at given. IsRefusedIn plan first w2.now at given) → IfRefused e (λ at given. IsRefusedIn plan (either line c first second rest) w0.now at given)
-  either_first_why fork h = refused_map e (λ at given k. inl (subst (λ s. IsRefusedIn plan first s at given) fork.now k)) h
-
-  pub either_second_why : Forks line (Test c 0) r w0 w2 → Left plan r first w2 w3 f1 nothing → ((front : List ProgramPoint) (entry : ProgramPoint) → w3.saved.items ≡ front ++ entry ∷ [] → StartsElse f1 line r c jump front entry w3 w6) → IfRefused e (λ at given. IsRefusedIn plan second w6.now at given) → IfRefused e (λ at given. IsRefusedIn plan (either line c first second rest) w0.now at given)
-  either_second_why fork left turning h =
+  pub either_second_why : (e : CompileFault) → Forks line (Test c 0) r w0 w2 → Left plan r first w2 w3 f1 nothing → ((front : List ProgramPoint) (entry : ProgramPoint) → w3.saved.items ≡ front ++ entry ∷ [] → StartsElse f1 line r c jump front entry w3 w6) → IfRefused e (λ at given. IsRefusedIn plan second w6.now at given) → IfRefused e (λ at given. IsRefusedIn plan (either line c first second rest) w0.now at given)
+  either_second_why e fork left turning h =
       let whole = whole_of plan r (length w2.lines.items) first (without_label w0.now.flow) w2 w3 f1 refl fork.now left in
       let start_else = turning w0.saved.items w0.now (left.emits.saved ∙ fork.saved) in
       refused_map e (λ at given k. inr (whole.judged, inl (subst (λ s. IsRefusedIn plan second s at given) start_else.now k))) h
 
-  pub either_why : Forks line (Test c 0) r w0 w2 → Left plan r first w2 w3 f1 nothing → ((front : List ProgramPoint) (entry : ProgramPoint) → w3.saved.items ≡ front ++ entry ∷ [] → StartsElse f1 line r c jump front entry w3 w6) → Left plan r second w6 w7 f2 nothing → IsMismatchAt line e
-      → (IsRefusal e → (front : List ProgramPoint) (a : Option ProgramPoint) → f1 ≡ is_some a → w7.saved.items ≡ front ++ points_of a → BranchesAgree a (way f2 w7) → ⊥) → IfRefused e (λ at given. IsRefusedIn plan (either line c first second rest) w0.now at given)
-  either_why fork left turning left2 h k = by e h k
-    where
-      by : (y : CompileFault) → IsMismatchAt line y → (IsRefusal y → (front : List ProgramPoint) (a : Option ProgramPoint) → f1 ≡ is_some a → w7.saved.items ≡ front ++ points_of a → BranchesAgree a (way f2 w7) → ⊥) → IfRefused y (λ at given. IsRefusedIn plan (either line c first second rest) w0.now at given)
-      by (Refused at given) h k =
-          let start_else = turning w0.saved.items w0.now (left.emits.saved ∙ fork.saved) in
-          let one = whole_of plan r (length w2.lines.items) first (without_label w0.now.flow) w2 w3 f1 refl fork.now left in
-          let two = whole_of plan r (length w6.lines.items) second (at_label w0.now.flow) w6 w7 f2 refl start_else.now left2 in
-          inr (one.judged, inr (two.judged, inl ((λ agree. k tt w0.saved.items (way f1 w3) (some_is f1 w3) (left2.emits.saved ∙ start_else.saved) (subst (λ w. BranchesAgree w (way f2 w7)) one.leads (subst (λ w. BranchesAgree (point_after plan first (without_label w0.now.flow)) w) two.leads agree))), h.0, h.1)))
-      by (Limit line limit) h k = tt
-      by Memory h k = tt
+  pub either_why : (cause : Cause) → Forks line (Test c 0) r w0 w2 → Left plan r first w2 w3 f1 nothing → ((front : List ProgramPoint) (entry : ProgramPoint) → w3.saved.items ≡ front ++ entry ∷ [] → StartsElse f1 line r c jump front entry w3 w6) → Left plan r second w6 w7 f2 nothing
+      → (cause ≡ Mismatch) × ((front : List ProgramPoint) (a : Option ProgramPoint) → f1 ≡ is_some a → w7.saved.items ≡ front ++ points_of a → BranchesAgree a (way f2 w7) → ⊥) → IsRefusedIn plan (either line c first second rest) w0.now line cause
+  either_why cause fork left turning left2 h =
+      let start_else = turning w0.saved.items w0.now (left.emits.saved ∙ fork.saved) in
+      let one = whole_of plan r (length w2.lines.items) first (without_label w0.now.flow) w2 w3 f1 refl fork.now left in
+      let two = whole_of plan r (length w6.lines.items) second (at_label w0.now.flow) w6 w7 f2 refl start_else.now left2 in
+      inr (one.judged, inr (two.judged, inl ((λ agree. h.1 w0.saved.items (way f1 w3) (some_is f1 w3) (left2.emits.saved ∙ start_else.saved) (subst (λ w. BranchesAgree w (way f2 w7)) one.leads (subst (λ w. BranchesAgree (point_after plan first (without_label w0.now.flow)) w) two.leads agree))), refl, h.0)))
 
-module _ (plan : Plan) (r line n : ℕ) (body rest : Block) (w0 w1 w2 w3 : Work) (f falls : Bool) (e : CompileFault) where
-  pub repeat_body_why : w1.now ≡ without_label w0.now.flow → falls ≡ falls_out body → w2.now ≡ record { flow = w1.now.flow; labelled = if falls then true else w1.now.labelled } → IfRefused e (λ at given. IsRefusedIn plan body w2.now at given) → IfRefused e (λ at given. IsRefusedIn plan (repeat line n body rest) w0.now at given)
-  repeat_body_why n1 ef n2 h = refused_map e (λ at given k. inl (subst (λ s. IsRefusedIn plan body s at given) (head_is body falls w1 w2 ef n2 ∙ ap (λ s. head body s) n1) k)) h
+module _ (plan : Plan) (r line n : ℕ) (body rest : Block) (w0 w1 w2 w3 : Work) (f falls : Bool) where
+  pub repeat_body_why : (e : CompileFault) → w1.now ≡ without_label w0.now.flow → falls ≡ falls_out body → w2.now ≡ record { flow = w1.now.flow; labelled = if falls then true else w1.now.labelled } → IfRefused e (λ at given. IsRefusedIn plan body w2.now at given) → IfRefused e (λ at given. IsRefusedIn plan (repeat line n body rest) w0.now at given)
+  repeat_body_why e n1 ef n2 h = refused_map e (λ at given k. inl (subst (λ s. IsRefusedIn plan body s at given) (head_is body falls w1 w2 ef n2 ∙ ap (λ s. head body s) n1) k)) h
 
-  pub repeat_why : w1.now ≡ without_label w0.now.flow → falls ≡ falls_out body → w2.now ≡ record { flow = w1.now.flow; labelled = if falls then true else w1.now.labelled } → w2.saved.items ≡ w1.saved.items ++ w2.now ∷ [] → r + 1 ≤ 8 → Left plan (r + 1) body w2 w3 f nothing → IsMismatchAt line e
-      → (IsRefusal e → (front : List ProgramPoint) (entry : ProgramPoint) → w3.saved.items ≡ front ++ entry ∷ [] → FitsEntry (way f w3) entry → ⊥) → IfRefused e (λ at given. IsRefusedIn plan (repeat line n body rest) w0.now at given)
-  repeat_why n1 ef n2 s2 deep left h k = by e h k
-    where
-      by : (y : CompileFault) → IsMismatchAt line y → (IsRefusal y → (front : List ProgramPoint) (entry : ProgramPoint) → w3.saved.items ≡ front ++ entry ∷ [] → FitsEntry (way f w3) entry → ⊥) → IfRefused y (λ at given. IsRefusedIn plan (repeat line n body rest) w0.now at given)
-      by (Refused at given) h k =
-          let start = head body (without_label w0.now.flow) in
-          let is : w2.now ≡ start = head_is body falls w1 w2 ef n2 ∙ ap (λ s. head body s) n1 in
-          let whole = whole_of plan (r + 1) (length w2.lines.items) body start w2 w3 f refl is left in
-          inr (whole.judged, inl ((λ round. k tt w1.saved.items w2.now (left.emits.saved ∙ s2) (subst (λ s. FitsEntry (way f w3) s) (sym is) (subst (λ w. FitsEntry w start) whole.leads round))), h.0, h.1))
-      by (Limit line limit) h k = tt
-      by Memory h k = tt
+  pub repeat_why : (cause : Cause) → w1.now ≡ without_label w0.now.flow → falls ≡ falls_out body → w2.now ≡ record { flow = w1.now.flow; labelled = if falls then true else w1.now.labelled } → w2.saved.items ≡ w1.saved.items ++ w2.now ∷ [] → Left plan (r + 1) body w2 w3 f nothing
+      → (cause ≡ Mismatch) × ((front : List ProgramPoint) (entry : ProgramPoint) → w3.saved.items ≡ front ++ entry ∷ [] → FitsEntry (way f w3) entry → ⊥) → IsRefusedIn plan (repeat line n body rest) w0.now line cause
+  repeat_why cause n1 ef n2 s2 left h =
+      let start = head body (without_label w0.now.flow) in
+      let is : w2.now ≡ start = head_is body falls w1 w2 ef n2 ∙ ap (λ s. head body s) n1 in
+      let whole = whole_of plan (r + 1) (length w2.lines.items) body start w2 w3 f refl is left in
+      inr (whole.judged, inl ((λ round. h.1 w1.saved.items w2.now (left.emits.saved ∙ s2) (subst (λ s. FitsEntry (way f w3) s) (sym is) (subst (λ w. FitsEntry w start) whole.leads round))), refl, h.0))
 
-module _ (plan : Plan) (r line : ℕ) (body rest : Block) (w0 w2 w3 : Work) (f falls : Bool) (e : CompileFault) where
-  pub forever_body_why : falls ≡ falls_out body → w2.now ≡ record { flow = w0.now.flow; labelled = if falls then true else w0.now.labelled } → IfRefused e (λ at given. IsRefusedIn plan body w2.now at given) → IfRefused e (λ at given. IsRefusedIn plan (forever line body rest) w0.now at given)
-  forever_body_why ef n2 h = refused_map e (λ at given k. inl (subst (λ s. IsRefusedIn plan body s at given) (head_is body falls w0 w2 ef n2) k)) h
+module _ (plan : Plan) (r line : ℕ) (body rest : Block) (w0 w2 w3 : Work) (f falls : Bool) where
+  pub forever_body_why : (e : CompileFault) → falls ≡ falls_out body → w2.now ≡ record { flow = w0.now.flow; labelled = if falls then true else w0.now.labelled } → IfRefused e (λ at given. IsRefusedIn plan body w2.now at given) → IfRefused e (λ at given. IsRefusedIn plan (forever line body rest) w0.now at given)
+  forever_body_why e ef n2 h = refused_map e (λ at given k. inl (subst (λ s. IsRefusedIn plan body s at given) (head_is body falls w0 w2 ef n2) k)) h
 
-  pub forever_why : falls ≡ falls_out body → w2.now ≡ record { flow = w0.now.flow; labelled = if falls then true else w0.now.labelled } → w2.saved.items ≡ w0.saved.items ++ w2.now ∷ [] → Left plan r body w2 w3 f nothing → IsMismatchAt line e
-      → (IsRefusal e → (front : List ProgramPoint) (entry : ProgramPoint) → w3.saved.items ≡ front ++ entry ∷ [] → FitsEntry (way f w3) entry → ⊥) → IfRefused e (λ at given. IsRefusedIn plan (forever line body rest) w0.now at given)
-  forever_why ef n2 s2 left h k = by e h k
-    where
-      by : (y : CompileFault) → IsMismatchAt line y → (IsRefusal y → (front : List ProgramPoint) (entry : ProgramPoint) → w3.saved.items ≡ front ++ entry ∷ [] → FitsEntry (way f w3) entry → ⊥) → IfRefused y (λ at given. IsRefusedIn plan (forever line body rest) w0.now at given)
-      by (Refused at given) h k =
-          let start = head body w0.now in
-          let is : w2.now ≡ start = head_is body falls w0 w2 ef n2 in
-          let whole = whole_of plan r (length w2.lines.items) body start w2 w3 f refl is left in
-          inr (whole.judged, inl ((λ round. k tt w0.saved.items w2.now (left.emits.saved ∙ s2) (subst (λ s. FitsEntry (way f w3) s) (sym is) (subst (λ w. FitsEntry w start) whole.leads round))), h.0, h.1))
-      by (Limit line limit) h k = tt
-      by Memory h k = tt
+  pub forever_why : (cause : Cause) → falls ≡ falls_out body → w2.now ≡ record { flow = w0.now.flow; labelled = if falls then true else w0.now.labelled } → w2.saved.items ≡ w0.saved.items ++ w2.now ∷ [] → Left plan r body w2 w3 f nothing
+      → (cause ≡ Mismatch) × ((front : List ProgramPoint) (entry : ProgramPoint) → w3.saved.items ≡ front ++ entry ∷ [] → FitsEntry (way f w3) entry → ⊥) → IsRefusedIn plan (forever line body rest) w0.now line cause
+  forever_why cause ef n2 s2 left h =
+      let start = head body w0.now in
+      let is : w2.now ≡ start = head_is body falls w0 w2 ef n2 in
+      let whole = whole_of plan r (length w2.lines.items) body start w2 w3 f refl is left in
+      inr (whole.judged, inl ((λ round. h.1 w0.saved.items w2.now (left.emits.saved ∙ s2) (subst (λ s. FitsEntry (way f w3) s) (sym is) (subst (λ w. FitsEntry w start) whole.leads round))), refl, h.0))
 
 -- ---- a block's statements
 

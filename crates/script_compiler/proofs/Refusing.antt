@@ -1,36 +1,22 @@
 -- A script that is refused is not accepted.
-use Rattle.std.proofs.Common.{◌≡◌, ℕ, ◌+◌, ◌<◌, arith, Result, Ok, Err, Bool, true, false, if◌then◌else◌, List, [], ◌∷◌, ◌++◌, length, Some, is_some, refl, sym, ap, ◌∙◌, subst, get_or, drop}
-use Rattle.std.specs.Prelude.{IfErr}
+use Rattle.std.proofs.Common.{◌≡◌, ℕ, ◌+◌, ◌<◌, arith, Bool, true, false, if◌then◌else◌, List, [], ◌∷◌, ◌++◌, length, Some, is_some, refl, sym, ap, ◌∙◌, subst, get_or, drop}
 use Rattle.plan_code.specs.declared.instr.Instr.TheVariants.{Test}
 use Rattle.plan_code.specs.declared.plan.Plan.{Plan}
-use Rattle.plan_flow.specs.Rules.{IsFine}
-use Rattle.plan_flow.specs.Flows.{known_at}
-use Rattle.script_front.specs.declared.tree.Act.{Act}
 use Rattle.script_front.specs.declared.tree.Statement.{Statement}
 use Rattle.script_front.specs.declared.tree.Statement.TheOpen.{Statement-F}
-use Rattle.script_front.specs.Block.{Block, nothing, basic, when, either, repeat, forever, Before, statement_step, before, block_of}
+use Rattle.script_front.specs.Block.{Block, nothing, when, either, repeat, forever, Before, statement_step, before, block_of}
 use Rattle.script_meaning.specs.declared.flow.ProgramPoint.{ProgramPoint}
-use Rattle.script_meaning.specs.Scheme.{without_label, at_label, head, instr_of_act, point_after, falls_out}
+use Rattle.script_meaning.specs.Scheme.{without_label, at_label, head, point_after, falls_out}
 use Rattle.script_meaning.specs.Judged.{IsJudged, IsDone, Reached, WaysAgree, BranchesAgree, FitsEntry}
 use Rattle.script_compiler.specs.Working.{Work}
 use Rattle.plan_code.specs.declared.instr.Line.{Line}
 use Rattle.script_meaning.specs.Compiled.{instrs_of}
 use Rattle.script_meaning.specs.Need.{IsWithinBudget}
 use Rattle.script_compiler.specs.Longest.{longest}
-use Rattle.script_compiler.specs.declared.fault.CompileFault.{CompileFault}
 use Rattle.script_compiler.proofs.Paths.{need_most}
 use Rattle.script_compiler.specs.Emission.{Left, Forks, StartsElse, points_of, way}
-use Rattle.script_compiler.specs.Refusals.{IsRefusal}
 use Rattle.script_compiler.proofs.Trees.{by_step, statements_cut}
 use Rattle.script_compiler.proofs.Emitted.{whole_of}
-
-pub err_map : (x : Result Bool CompileFault) (P Q : CompileFault → Type 0) → ((y : CompileFault) → P y → Q y) → IfErr x P → IfErr x Q
-err_map (Ok f) P Q m h = h
-err_map (Err y) P Q m h = m y h
-
-pub act_refused : (plan : Plan) (s : ProgramPoint) (x : Result Bool CompileFault) (line : ℕ) (a : Act) (rest : Block) → IfErr x (λ e. IsRefusal e → IsFine plan (instr_of_act a) (known_at s.flow) → ⊥) → IfErr x (λ e. IsRefusal e → IsJudged plan (basic line a rest) s → ⊥)
-act_refused plan s (Ok f) line a rest h = h
-act_refused plan s (Err y) line a rest h = λ is j. h is j.0
 
 -- ---- what the judgement of a statement with blocks implies
 

@@ -7,6 +7,7 @@ use Rattle.plan_code.specs.declared.instr.Instr.TheVariants.{Jump}
 use Rattle.plan_code.specs.declared.label.Swap.{Swap}
 use Rattle.plan_code.specs.declared.label.Swap.TheVariants.{Idle, Within, Perhaps}
 use Rattle.plan_code.specs.declared.plan.Plan.{Plan}
+use Rattle.plan_flow.specs.declared.cause.Cause.{Cause}
 use Rattle.plan_flow.specs.Flows.{Flow, known_at, merged, FitsFlow}
 use Rattle.plan_flow.specs.Rules.{FitsSwap}
 use Rattle.script_front.specs.Block.{Block}
@@ -19,7 +20,7 @@ use Rattle.script_compiler.specs.declared.fault.CodeLimit.{CodeLimit}
 use Rattle.script_compiler.specs.declared.fault.CodeLimit.TheVariants.{Instructions, Labels, Configurations, Counters}
 use Rattle.script_compiler.specs.declared.fault.CompileFault.{CompileFault}
 use Rattle.script_compiler.specs.declared.fault.CompileFault.TheVariants.{Refused, Limit, Memory}
-use Rattle.script_compiler.specs.Refusals.{IfLimit}
+use Rattle.script_compiler.specs.Refusals.{IsLimitAt, IfRefused, IfLimit}
 use Rattle.script_compiler.specs.Emission.{Emits, jumping, way}
 use Rattle.script_compiler.specs.Room.{HasRoomFor, Leaves, named_by}
 use Rattle.script_compiler.specs.Space.{count_of_labels, names_of, HasSpace, HasTable, IsCovered, Covers}
@@ -224,6 +225,34 @@ limit_map Memory m h = tt
 pub limits_map : {A : Type 0} (x : Result A CompileFault) {P Q : ℕ → CodeLimit → Type 0} → ((at : ℕ) (k : CodeLimit) → P at k → Q at k) → IfErr x (λ e. IfLimit e P) → IfErr x (λ e. IfLimit e Q)
 limits_map (Ok a) m h = h
 limits_map (Err e) m h = limit_map e m h
+
+-- a fault that is no refusal
+pub limit_at_map : (e : CompileFault) (line : ℕ) {P Q : CodeLimit → Type 0} → ((k : CodeLimit) → P k → Q k) → IsLimitAt line P e → IsLimitAt line Q e
+limit_at_map (Refused at cause) line m h = h
+limit_at_map (Limit at k) line m h = (h.0, m k h.1)
+limit_at_map Memory line m h = tt
+
+pub limits_at_map : {A : Type 0} (x : Result A CompileFault) (line : ℕ) {P Q : CodeLimit → Type 0} → ((k : CodeLimit) → P k → Q k) → IfErr x (λ e. IsLimitAt line P e) → IfErr x (λ e. IsLimitAt line Q e)
+limits_at_map (Ok a) line m h = h
+limits_at_map (Err e) line m h = limit_at_map e line m h
+
+pub limit_here : (e : CompileFault) (line : ℕ) {P Q : CodeLimit → Type 0} → ((k : CodeLimit) → P k → Q k) → IsLimitAt line P e → IfLimit e (λ at k. (at ≡ line) × Q k)
+limit_here (Refused at cause) line m h = absurd h
+limit_here (Limit at k) line m h = (h.0, m k h.1)
+limit_here Memory line m h = tt
+
+pub limits_here : {A : Type 0} (x : Result A CompileFault) (line : ℕ) {P Q : CodeLimit → Type 0} → ((k : CodeLimit) → P k → Q k) → IfErr x (λ e. IsLimitAt line P e) → IfErr x (λ e. IfLimit e (λ at k. (at ≡ line) × Q k))
+limits_here (Ok a) line m h = h
+limits_here (Err e) line m h = limit_here e line m h
+
+pub never_refused : (e : CompileFault) (line : ℕ) (P : CodeLimit → Type 0) (Q : ℕ → Cause → Type 0) → IsLimitAt line P e → IfRefused e Q
+never_refused (Refused at cause) line P Q h = absurd h
+never_refused (Limit at k) line P Q h = tt
+never_refused Memory line P Q h = tt
+
+pub none_refused : {A : Type 0} (x : Result A CompileFault) (line : ℕ) (P : CodeLimit → Type 0) (Q : ℕ → Cause → Type 0) → IfErr x (λ e. IsLimitAt line P e) → IfErr x (λ e. IfRefused e Q)
+none_refused (Ok a) line P Q h = h
+none_refused (Err e) line P Q h = never_refused e line P Q h
 
 pub space_back : (k : CodeLimit) (w : Work) (falls : Bool) (m n : ℕ) (i : Instr) (ps : List PlacedInstr) → falls ≡ true → HasSpace k w (onward (way falls w) [] (alone m i n) ++ ps) → HasSpace k w (placed_instr m i n w.now ∷ ps)
 space_back k w falls m n i ps e h = subst (λ f. HasSpace k w (onward (way f w) [] (alone m i n) ++ ps)) e h

@@ -1,10 +1,15 @@
--- Test vectors of the result of compiling a block: the block without statements.
-use Rattle.std.proofs.Common.{◌≡◌, ℕ, true, false, [], Some, None, Ok, Err, refl, arith}
+-- Test vectors of the result of compiling a block, the block without statements; and of faults and limits.
+use Rattle.std.proofs.Common.{◌≡◌, ℕ, ◌+◌, ◌≤◌, true, false, [], ◌∷◌, length, Some, None, Ok, Err, refl, arith}
+use Rattle.plan_code.specs.declared.instr.Instr.{Instr}
 use Rattle.plan_flow.specs.declared.cause.Cause.{Cause}
 use Rattle.script_front.specs.declared.tree.Statement.TheVariants.{End}
 use Rattle.script_front.specs.Block.{Block, nothing, stop}
 use Rattle.script_compiler.specs.declared.context.Context.{Context}
-use Rattle.script_compiler.specs.declared.fault.CompileFault.TheVariants.{Refused}
+use Rattle.script_meaning.specs.Scheme.{placed_instr}
+use Rattle.script_compiler.specs.declared.fault.CodeLimit.TheVariants.{Instructions, Labels, Counters}
+use Rattle.script_compiler.specs.declared.fault.CompileFault.TheVariants.{Refused, Limit}
+use Rattle.script_compiler.specs.Refusals.{IsLimitAt}
+use Rattle.script_compiler.specs.Space.{LacksSpace}
 use Rattle.script_compiler.specs.Working.{Work}
 use Rattle.script_compiler.specs.Emission.{tables}
 use Rattle.script_compiler.specs.Compiling.{CanCompile, Compiles, block_in, statement_in}
@@ -32,3 +37,21 @@ module _ (c : Context) (w : Work) where
   -- it is valid anywhere, so it is not refused
   refused : (line : ℕ) (cause : Cause) → Compiles c nothing nothing w w (Err (Refused line cause)) → ⊥
   refused line cause h = h.refused tt tt
+
+  -- ---- limits
+
+  no_space : length w.lines.items ≡ 4096 → LacksSpace Instructions w
+  no_space full p ps at space = let more : length w.lines.items + length (p ∷ ps) ≤ 4096 = space in omega (arith, full, more)
+
+  -- repeats need no space
+  space_for_counters : (i : Instr) → LacksSpace Counters w → ⊥
+  space_for_counters i none = none (placed_instr 0 i 0 w.now) [] refl tt
+
+limit_at_5 : IsLimitAt 5 (λ k. k ≡ Labels) (Limit 5 Labels)
+limit_at_5 = (refl, refl)
+
+limit_at_6 : IsLimitAt 5 (λ k. k ≡ Labels) (Limit 6 Labels) → ⊥
+limit_at_6 h = let same : 6 ≡ 5 = h.0 in omega (arith, same)
+
+refusal_at_5 : (cause : Cause) → IsLimitAt 5 (λ k. k ≡ Labels) (Refused 5 cause) → ⊥
+refusal_at_5 cause h = h

@@ -25,6 +25,12 @@ IfRefused (Refused line cause) holds = holds line cause
 IfRefused (Limit line limit) holds = Unit {0}
 IfRefused Memory holds = Unit {0}
 
+-- no refusal: out of memory, or a limit exceeded at this line, of which this holds
+abbrev pub IsLimitAt : ℕ → (CodeLimit → Type 0) → CompileFault → Type 0
+IsLimitAt line holds (Refused at cause) = ⊥
+IsLimitAt line holds (Limit at limit) = (at ≡ line) × holds limit
+IsLimitAt line holds Memory = Unit {0}
+
 -- this holds of its line and limit, if it is an exceeded limit
 abbrev pub IfLimit : CompileFault → (ℕ → CodeLimit → Type 0) → Type 0
 IfLimit (Refused line cause) holds = Unit {0}

@@ -30,6 +30,10 @@ HasSpace Labels w ps = length w.unpriced.items + count_of_labels ps ≤ 1024
 HasSpace Configurations w ps = HasRoomFor [] (named_by w.unpriced.items ++ names_of ps)
 HasSpace Counters w ps = Unit {0}
 
+-- this limit leaves no room for an instruction here, with any that follow
+abbrev pub LacksSpace : CodeLimit → Work → Type 0
+LacksSpace limit w = (p : PlacedInstr) (ps : List PlacedInstr) → p.point ≡ w.now → HasSpace limit w (p ∷ ps) → ⊥
+
 -- this limit allows repeats nested this deep
 abbrev pub HasCounters : CodeLimit → ℕ → Type 0
 HasCounters Instructions deep = Unit {0}

@@ -3,13 +3,13 @@
 ghost use Rattle.std.specs.Prelude.{◌≡◌, ℕ, ◌+◌, ◌<◌, ◌≤◌, true, if◌then◌else◌, [], ◌∷◌, ◌++◌, length, List, Option, Some, is_some, OnOk, IfOk, IfErr};
 ghost use Rattle.plan_code.specs.declared.instr.Instr.{Instr};
 ghost use Rattle.script_meaning.specs.declared.flow.ProgramPoint.{ProgramPoint};
-ghost use Rattle.script_meaning.specs.Scheme.{PlacedInstr, without_label, alone, onward, meet, join, unpriced_labels};
+ghost use Rattle.script_meaning.specs.Scheme.{PlacedInstr, alone, onward, meet, join, unpriced_labels};
 ghost use Rattle.script_meaning.specs.Judged.{WaysAgree, BranchesAgree, FitsEntry};
 ghost use Rattle.script_meaning.specs.Compiled.{lines_of_placed};
 ghost use Rattle.plan_flow.specs.declared.cause.Cause.TheVariants.{Mismatch};
 ghost use Rattle.script_compiler.specs.Pool.{Extends, IsInPool, point_in};
-ghost use Rattle.script_compiler.specs.Refusals.{IsRefusal, IfRefused, IfLimit};
-ghost use Rattle.script_compiler.specs.Space.{HasSpace, HasTable, IsCovered, Covers};
+ghost use Rattle.script_compiler.specs.Refusals.{IsLimitAt, IfRefused, IfLimit};
+ghost use Rattle.script_compiler.specs.Space.{HasSpace, LacksSpace, HasTable, IsCovered, Covers};
 ghost use Rattle.script_compiler.specs.Emission.{Forks, ClosesIf, StartsElse, ClosesLoop, IsAfterBranches, jumping, way, points_of};
 
 use crate::fault::CompileFault;
@@ -28,11 +28,9 @@ impl Work {
         ensures forks { OnOk result (Forks line instr counters self.old self.new) }
         ensures pool { Extends self.old.pool self.new.pool }
         ensures room { OnOk result (length self.new.lines.items ≤ 4096) }
-        ensures refused { IfErr result (λ e. IsRefusal e → ⊥) }
         ensures table { OnOk result (HasTable self.new) }
-        ensures at { IfErr result (λ e. IfLimit e (λ at _. at ≡ line)) }
-        ensures limited { IfErr result (λ e. IfLimit e (λ _ limit. (p : PlacedInstr) (ps : List PlacedInstr)
-            → p.point ≡ self.old.now → HasSpace limit self.old (p ∷ ps) → ⊥)) }
+        ensures limited { IfErr result (λ e. IsLimitAt line
+            (λ limit. LacksSpace limit self.old) e) }
     {
         if let Err(fault) = self.save() {
             return Err(fault);
@@ -53,11 +51,9 @@ impl Work {
         }) }
         ensures saved { OnOk result (self.new.saved.items ≡ self.old.saved.items
             ++ self.new.now ∷ []) }
-        ensures refused { IfErr result (λ e. IsRefusal e → ⊥) }
         ensures table { OnOk result (HasTable self.new) }
-        ensures at { IfErr result (λ e. IfLimit e (λ at _. at ≡ line)) }
-        ensures limited { IfErr result (λ e. IfLimit e (λ _ limit. (ps : List PlacedInstr) → (falls ≡ true
-            → IsCovered self.old.now.flow ps) → HasSpace limit self.old ps → ⊥)) }
+        ensures limited { IfErr result (λ e. IsLimitAt line (λ limit. (ps : List PlacedInstr)
+            → (falls ≡ true → IsCovered self.old.now.flow ps) → HasSpace limit self.old ps → ⊥) e) }
     {
         if falls {
             if let Err(fault) = self.unpriced_label(line) {
@@ -84,16 +80,14 @@ impl Work {
             self.old.saved.items ≡ front ++ entry ∷ [] → ClosesLoop falls line counters back front
             entry self.old self.new) }
         ensures room { OnOk result (length self.new.lines.items ≤ 4096) }
-        ensures refused { IfErr result (λ e. IsRefusal e → (front : List ProgramPoint) (entry :
-            ProgramPoint) → self.old.saved.items ≡ front ++ entry ∷ [] → FitsEntry (way falls
-            self.old) entry → ⊥) }
-        ensures why { IfErr result (λ e. IfRefused e (λ at given. (at ≡ line)
-            × (given ≡ Mismatch))) }
+        ensures refused { IfErr result (λ e. IfRefused e (λ at cause. (at ≡ line)
+            × ((cause ≡ Mismatch) × ((front : List ProgramPoint) (entry : ProgramPoint)
+            → self.old.saved.items ≡ front ++ entry ∷ []
+            → FitsEntry (way falls self.old) entry → ⊥)))) }
         ensures table { OnOk result (HasTable self.new) }
-        ensures at { IfErr result (λ e. IfLimit e (λ at _. at ≡ line)) }
-        ensures limited { IfErr result (λ e. IfLimit e (λ _ limit. (m n : ℕ) (i : Instr)
-            (ps : List PlacedInstr) → HasSpace limit self.old (onward (way falls self.old) [] (alone m i
-            n) ++ ps) → ⊥)) }
+        ensures limited { IfErr result (λ e. IfLimit e (λ at limit. (at ≡ line)
+            × ((m n : ℕ) (i : Instr) (ps : List PlacedInstr) → HasSpace limit self.old
+            (onward (way falls self.old) [] (alone m i n) ++ ps) → ⊥))) }
     {
         let entry = self.restore();
         if !falls {
@@ -116,15 +110,14 @@ impl Work {
             (Some (point_in self.old.pool other.now)) ≡ Some self.new.now) }
         ensures agree { OnOk result (WaysAgree (way falls self.old)
             (Some (point_in self.old.pool other.now))) }
-        ensures refused { IfErr result (λ e. IsRefusal e → WaysAgree (way falls self.old)
-            (Some (point_in self.old.pool other.now)) → ⊥) }
-        ensures why { IfErr result (λ e. IfRefused e (λ at given. (at ≡ line)
-            × (given ≡ Mismatch))) }
+        ensures refused { IfErr result (λ e. IfRefused e (λ at cause. (at ≡ line)
+            × ((cause ≡ Mismatch) × (WaysAgree (way falls self.old)
+            (Some (point_in self.old.pool other.now)) → ⊥)))) }
         ensures table { OnOk result (HasTable self.new) }
-        ensures at { IfErr result (λ e. IfLimit e (λ at _. at ≡ line)) }
-        ensures limited { IfErr result (λ e. IfLimit e (λ _ limit. (ps : List PlacedInstr) → ((u :
-            ProgramPoint) → meet (way falls self.old) (Some (point_in self.old.pool other.now)) ≡
-            Some u → IsCovered u.flow ps) → HasSpace limit self.old ps → ⊥)) }
+        ensures limited { IfErr result (λ e. IfLimit e (λ at limit. (at ≡ line)
+            × ((ps : List PlacedInstr) → ((u : ProgramPoint) → meet (way falls self.old)
+            (Some (point_in self.old.pool other.now)) ≡ Some u → IsCovered u.flow ps)
+            → HasSpace limit self.old ps → ⊥))) }
     {
         if !falls {
             self.take(other);
@@ -154,17 +147,16 @@ impl Work {
             → self.old.saved.items ≡ front
             ++ entry ∷ [] → ClosesIf falls line contact at front entry self.old self.new) }
         ensures room { OnOk result (length self.new.lines.items ≤ 4096) }
-        ensures refused { IfErr result (λ e. IsRefusal e → (front : List ProgramPoint) (entry :
-            ProgramPoint) → self.old.saved.items ≡ front ++ entry ∷ [] → WaysAgree (way falls
-            self.old) (Some entry) → ⊥) }
-        ensures why { IfErr result (λ e. IfRefused e (λ at given. (at ≡ line)
-            × (given ≡ Mismatch))) }
+        ensures refused { IfErr result (λ e. IfRefused e (λ at cause. (at ≡ line)
+            × ((cause ≡ Mismatch) × ((front : List ProgramPoint) (entry : ProgramPoint)
+            → self.old.saved.items ≡ front ++ entry ∷ []
+            → WaysAgree (way falls self.old) (Some entry) → ⊥)))) }
         ensures table { OnOk result (HasTable self.new) }
-        ensures at { IfErr result (λ e. IfLimit e (λ at _. at ≡ line)) }
-        ensures limited { IfErr result (λ e. IfLimit e (λ _ limit. (front : List ProgramPoint)
-            (entry : ProgramPoint) → self.old.saved.items ≡ front ++ entry ∷ [] → (ps : List PlacedInstr)
-            → ((u : ProgramPoint) → meet (way falls self.old) (Some entry) ≡ Some u → IsCovered
-            u.flow ps) → HasSpace limit self.old ps → ⊥)) }
+        ensures limited { IfErr result (λ e. IfLimit e (λ at limit. (at ≡ line)
+            × ((front : List ProgramPoint) (entry : ProgramPoint)
+            → self.old.saved.items ≡ front ++ entry ∷ [] → (ps : List PlacedInstr)
+            → ((u : ProgramPoint) → meet (way falls self.old) (Some entry) ≡ Some u
+            → IsCovered u.flow ps) → HasSpace limit self.old ps → ⊥))) }
     {
         let entry = self.restore();
         let target = self.len() as u16;
@@ -188,11 +180,9 @@ impl Work {
             ++ points_of (way falls self.old)) }
         ensures room { OnOk result (length self.new.lines.items ≤ 4096) }
         ensures table { OnOk result (HasTable self.new) }
-        ensures refused { IfErr result (λ e. IsRefusal e → ⊥) }
-        ensures at { IfErr result (λ e. IfLimit e (λ at _. at ≡ line)) }
-        ensures limited { IfErr result (λ e. IfLimit e (λ _ limit. (m n : ℕ) (i : Instr)
-            (ps : List PlacedInstr) → HasSpace limit self.old (onward (way falls self.old) [] (alone m i
-            n) ++ ps) → ⊥)) }
+        ensures limited { IfErr result (λ e. IsLimitAt line (λ limit. (m n : ℕ) (i : Instr)
+            (ps : List PlacedInstr) → HasSpace limit self.old
+            (onward (way falls self.old) [] (alone m i n) ++ ps) → ⊥) e) }
     {
         if !falls {
             return Ok(());
@@ -219,13 +209,11 @@ impl Work {
             self.old.saved.items ≡ front ++ entry ∷ [] → StartsElse falls line counters contact at front
             entry self.old self.new) }
         ensures room { OnOk result (length self.new.lines.items ≤ 4096) }
-        ensures refused { IfErr result (λ e. IsRefusal e → ⊥) }
         ensures table { OnOk result (HasTable self.new) }
-        ensures at { IfErr result (λ e. IfLimit e (λ at _. at ≡ line)) }
-        ensures limited { IfErr result (λ e. IfLimit e (λ _ limit. (front : List ProgramPoint)
-            (entry : ProgramPoint) → self.old.saved.items ≡ front ++ entry ∷ [] → (m n : ℕ) (i :
-            Instr) (ps : List PlacedInstr) → HasSpace limit self.old (onward (way falls self.old) []
-            (alone m i n) ++ ps) → IsCovered entry.flow ps → ⊥)) }
+        ensures limited { IfErr result (λ e. IsLimitAt line (λ limit. (front : List ProgramPoint)
+            (entry : ProgramPoint) → self.old.saved.items ≡ front ++ entry ∷ []
+            → (m n : ℕ) (i : Instr) (ps : List PlacedInstr) → HasSpace limit self.old
+            (onward (way falls self.old) [] (alone m i n) ++ ps) → IsCovered entry.flow ps → ⊥) e) }
     {
         let entry = self.restore();
         if let Err(fault) = self.jump_past(falls, line, counters) {
@@ -254,17 +242,16 @@ impl Work {
             first ≡ is_some a → self.old.saved.items ≡ front ++ points_of a → IsAfterBranches a (way
             second self.old) front line jump self.old self.new f) }
         ensures room { OnOk result (length self.new.lines.items ≤ 4096) }
-        ensures refused { IfErr result (λ e. IsRefusal e → (front : List ProgramPoint) (a : Option
-            ProgramPoint) → first ≡ is_some a → self.old.saved.items ≡ front ++ points_of a →
-            BranchesAgree a (way second self.old) → ⊥) }
-        ensures why { IfErr result (λ e. IfRefused e (λ at given. (at ≡ line)
-            × (given ≡ Mismatch))) }
+        ensures refused { IfErr result (λ e. IfRefused e (λ at cause. (at ≡ line)
+            × ((cause ≡ Mismatch) × ((front : List ProgramPoint) (a : Option ProgramPoint)
+            → first ≡ is_some a → self.old.saved.items ≡ front ++ points_of a
+            → BranchesAgree a (way second self.old) → ⊥)))) }
         ensures table { OnOk result (HasTable self.new) }
-        ensures at { IfErr result (λ e. IfLimit e (λ at _. at ≡ line)) }
-        ensures limited { IfErr result (λ e. IfLimit e (λ _ limit. (front : List ProgramPoint) (a :
-            Option ProgramPoint) → first ≡ is_some a → self.old.saved.items ≡ front ++ points_of a →
-            (ps : List PlacedInstr) → ((u : ProgramPoint) → join a (way second self.old) ≡ Some u → Covers
-            u ps) → HasSpace limit self.old ps → ⊥)) }
+        ensures limited { IfErr result (λ e. IfLimit e (λ at limit. (at ≡ line)
+            × ((front : List ProgramPoint) (a : Option ProgramPoint) → first ≡ is_some a
+            → self.old.saved.items ≡ front ++ points_of a → (ps : List PlacedInstr)
+            → ((u : ProgramPoint) → join a (way second self.old) ≡ Some u → Covers u ps)
+            → HasSpace limit self.old ps → ⊥))) }
     {
         if !first {
             return Ok(second);

@@ -8,8 +8,8 @@ ghost use Rattle.plan_flow.specs.Rules.{IsFine};
 ghost use Rattle.script_meaning.specs.Scheme.{PlacedInstr, without_label, at_label, alone, onward, unpriced_labels, instr_of_act};
 ghost use Rattle.plan_flow.specs.Causes.{FlowRefused};
 ghost use Rattle.script_compiler.specs.Pool.{Extends, IsInPool, point_in};
-ghost use Rattle.script_compiler.specs.Refusals.{IsRefusal, IfRefused, IfLimit};
-ghost use Rattle.script_compiler.specs.Space.{HasSpace, HasTable, IsCovered, Covers};
+ghost use Rattle.script_compiler.specs.Refusals.{IsLimitAt, IfRefused, IfLimit};
+ghost use Rattle.script_compiler.specs.Space.{HasSpace, LacksSpace, HasTable, IsCovered, Covers};
 ghost use Rattle.script_compiler.specs.declared.fault.CodeLimit.TheVariants.{Instructions};
 ghost use Rattle.script_compiler.specs.Emission.{Emits, line_of_instr, way};
 
@@ -42,11 +42,9 @@ impl Work {
             ≡ self.old.unpriced.items
             ++ unpriced_labels (length self.old.lines.items) (alone line i counters self.old.now)) }
         ensures now { OnOk result (self.new.now ≡ without_label self.old.now.flow) }
-        ensures refused { IfErr result (λ e. IsRefusal e → ⊥) }
         ensures table { OnOk result (HasTable self.new) }
-        ensures at { IfErr result (λ e. IfLimit e (λ at _. at ≡ line)) }
-        ensures limited { IfErr result (λ e. IfLimit e (λ _ limit. (ps : List PlacedInstr) → IsCovered
-            self.old.now.flow ps → HasSpace limit self.old ps → ⊥)) }
+        ensures limited { IfErr result (λ e. IsLimitAt line (λ limit. (ps : List PlacedInstr)
+            → IsCovered self.old.now.flow ps → HasSpace limit self.old ps → ⊥) e) }
     {
         let cur = match self.unpriced.index_of(line, point_here.flow.current) {
             Ok(cur) => cur,
@@ -81,11 +79,9 @@ impl Work {
             ≡ self.old.unpriced.items
             ++ unpriced_labels (length self.old.lines.items) (alone line i counters self.old.now)) }
         ensures now { OnOk result (self.new.now ≡ without_label self.old.now.flow) }
-        ensures refused { IfErr result (λ e. IsRefusal e → ⊥) }
         ensures table { OnOk result (HasTable self.new) }
-        ensures at { IfErr result (λ e. IfLimit e (λ at _. at ≡ line)) }
-        ensures limited { IfErr result (λ e. IfLimit e (λ _ limit. (ps : List PlacedInstr) → Covers
-            self.old.now ps → HasSpace limit self.old ps → ⊥)) }
+        ensures limited { IfErr result (λ e. IsLimitAt line (λ limit. (ps : List PlacedInstr)
+            → Covers self.old.now ps → HasSpace limit self.old ps → ⊥) e) }
     {
         if !self.labelled {
             return Ok(());
@@ -113,11 +109,9 @@ impl Work {
         ensures lines { OnOk result (self.new.lines.items ≡ self.old.lines.items
             ++ line_of_instr line instr ∷ []) }
         ensures room { OnOk result (length self.new.lines.items ≤ 4096) }
-        ensures refused { IfErr result (λ e. IsRefusal e → ⊥) }
         ensures table { HasTable self.new }
-        ensures at { IfErr result (λ e. IfLimit e (λ at _. at ≡ line)) }
-        ensures limited { IfErr result (λ e. IfLimit e (λ _ limit. (limit ≡ Instructions) × (4096
-            ≤ length self.old.lines.items))) }
+        ensures limited { IfErr result (λ e. IsLimitAt line (λ limit. (limit ≡ Instructions)
+            × (4096 ≤ length self.old.lines.items)) e) }
     {
         if self.lines.len() >= usize::from(MOST_INSTRUCTIONS) {
             return Err(CompileFault::Limit {
@@ -142,11 +136,9 @@ impl Work {
         ensures pool { Extends self.old.pool self.new.pool }
         ensures now { OnOk result (self.new.now ≡ without_label self.old.now.flow) }
         ensures room { OnOk result (length self.new.lines.items ≤ 4096) }
-        ensures refused { IfErr result (λ e. IsRefusal e → ⊥) }
         ensures table { OnOk result (HasTable self.new) }
-        ensures at { IfErr result (λ e. IfLimit e (λ at _. at ≡ line)) }
-        ensures limited { IfErr result (λ e. IfLimit e (λ _ limit. (p : PlacedInstr) (ps : List PlacedInstr)
-            → p.point ≡ self.old.now → HasSpace limit self.old (p ∷ ps) → ⊥)) }
+        ensures limited { IfErr result (λ e. IsLimitAt line
+            (λ limit. LacksSpace limit self.old) e) }
     {
         if let Err(fault) = self.put_label(line, counters) {
             return Err(fault);
@@ -173,14 +165,12 @@ impl Work {
         ensures fine { OnOk result (IsFine plan.now (instr_of_act act.now)
             (known_at self.old.now.flow)) }
         ensures room { OnOk result (length self.new.lines.items ≤ 4096) }
-        ensures refused { IfErr result (λ e. IsRefusal e → IsFine plan.now (instr_of_act act.now)
-            (known_at self.old.now.flow) → ⊥) }
-        ensures why { IfErr result (λ e. IfRefused e (λ at given. (at ≡ line) × FlowRefused
-            plan.now (instr_of_act act.now) (known_at self.old.now.flow) given)) }
+        ensures refused { IfErr result (λ e. IfRefused e (λ at cause. (at ≡ line) × (FlowRefused
+            plan.now (instr_of_act act.now) (known_at self.old.now.flow) cause
+            × (IsFine plan.now (instr_of_act act.now) (known_at self.old.now.flow) → ⊥)))) }
         ensures table { OnOk result (HasTable self.new) }
-        ensures at { IfErr result (λ e. IfLimit e (λ at _. at ≡ line)) }
-        ensures limited { IfErr result (λ e. IfLimit e (λ _ limit. (p : PlacedInstr) (ps : List PlacedInstr)
-            → p.point ≡ self.old.now → HasSpace limit self.old (p ∷ ps) → ⊥)) }
+        ensures limited { IfErr result (λ e. IfLimit e (λ at limit. (at ≡ line)
+            × LacksSpace limit self.old)) }
     {
         if let Err(fault) = self.put_label(line, counters) {
             return Err(fault);
@@ -201,11 +191,9 @@ impl Work {
         ensures unpriced { self.new.unpriced ≡ self.old.unpriced }
         ensures saved { self.new.saved ≡ self.old.saved }
         ensures now { OnOk result (self.new.now ≡ at_label self.old.now.flow) }
-        ensures refused { IfErr result (λ e. IsRefusal e → ⊥) }
         ensures table { HasTable self.new }
-        ensures at { IfErr result (λ e. IfLimit e (λ at _. at ≡ line)) }
-        ensures limited { IfErr result (λ e. IfLimit e (λ _ limit. (ps : List PlacedInstr) → IsCovered
-            self.old.now.flow ps → HasSpace limit self.old ps → ⊥)) }
+        ensures limited { IfErr result (λ e. IsLimitAt line (λ limit. (ps : List PlacedInstr)
+            → IsCovered self.old.now.flow ps → HasSpace limit self.old ps → ⊥) e) }
     {
         if !self.labelled && self.unpriced.len() >= usize::from(MOST_LABELS) {
             return Err(CompileFault::Limit {
@@ -253,11 +241,9 @@ impl Work {
         ensures emits { OnOk result (Emits self.old self.new (onward (way falls self.old) []
             (alone line End 0))) }
         ensures room { OnOk result (length self.new.lines.items ≤ 4096) }
-        ensures refused { IfErr result (λ e. IsRefusal e → ⊥) }
         ensures table { OnOk result (HasTable self.new) }
-        ensures at { IfErr result (λ e. IfLimit e (λ at _. at ≡ line)) }
-        ensures limited { IfErr result (λ e. IfLimit e (λ _ limit. HasSpace limit self.old (onward
-            (way falls self.old) [] (alone line End 0)) → ⊥)) }
+        ensures limited { IfErr result (λ e. IsLimitAt line (λ limit. HasSpace limit self.old
+            (onward (way falls self.old) [] (alone line End 0)) → ⊥) e) }
     {
         if !falls {
             return Ok(());

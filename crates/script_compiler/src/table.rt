@@ -2,9 +2,9 @@
 
 ghost use Rattle.std.specs.Prelude.{◌≡◌, ◌≢◌, ◌≤◌, ◌<◌, ℕ, [], ◌∷◌, ◌++◌, length, map, slice_get, false, true, Some, None, OnOk, IfOk, IfErr, IfSome};
 ghost use Rattle.script_meaning.specs.Compiled.{Added};
+ghost use Rattle.script_compiler.specs.Refusals.{IsLimitAt};
 ghost use Rattle.script_compiler.specs.Unpriced.{configuration_at};
 ghost use Rattle.script_compiler.specs.Pool.{AreBelow, Extends, IsDistinct};
-ghost use Rattle.script_compiler.specs.Refusals.{IsRefusal, IfLimit};
 ghost use Rattle.script_compiler.specs.Room.{HasRoomFor};
 ghost use Rattle.script_compiler.specs.declared.fault.CodeLimit.TheVariants.{Configurations};
 ghost use Rattle.script_compiler.specs.declared.fault.CompileFault.TheVariants.{Memory};
@@ -130,10 +130,8 @@ impl ConfigTable {
         ensures index { IfOk result (λ i. slice_get self.new.table i
             ≡ Some (configuration_at self.old.pool number)) }
         ensures unchanged { IfErr result (λ _. self.new.table ≡ self.old.table) }
-        ensures refused { IfErr result (λ e. IsRefusal e → ⊥) }
-        ensures at { IfErr result (λ e. IfLimit e (λ at _. at ≡ line)) }
-        ensures limited { IfErr result (λ e. IfLimit e (λ _ limit. (limit ≡ Configurations)
-            × (HasRoomFor self.old.table (configuration_at self.old.pool number ∷ []) → ⊥))) }
+        ensures limited { IfErr result (λ e. IsLimitAt line (λ limit. (limit ≡ Configurations)
+            × (HasRoomFor self.old.table (configuration_at self.old.pool number ∷ []) → ⊥)) e) }
     {
         if let Some(index) = self.find(number) {
             return Ok(index as u16);

@@ -2,10 +2,10 @@
 
 ghost use Rattle.std.specs.Prelude.{◌≡◌, ℕ, ◌<◌, ◌≤◌, [], ◌∷◌, ◌++◌, length, slice_get, slice_index, false, Some, OnOk, IfOk, IfErr};
 ghost use Rattle.script_meaning.specs.Compiled.{Added, AreLabelsOf};
+ghost use Rattle.script_compiler.specs.Refusals.{IsLimitAt};
 ghost use Rattle.script_compiler.specs.Longest.{Priced};
 ghost use Rattle.script_compiler.specs.Unpriced.{configuration_at, unpriced_in};
 ghost use Rattle.script_compiler.specs.Pool.{Extends};
-ghost use Rattle.script_compiler.specs.Refusals.{IsRefusal, IfLimit};
 ghost use Rattle.script_compiler.specs.Room.{HasRoomFor, IsDeepAtMost};
 ghost use Rattle.script_compiler.specs.declared.fault.CodeLimit.TheVariants.{Configurations};
 ghost use Rattle.script_compiler.specs.declared.fault.CompileFault.TheVariants.{Memory};
@@ -102,10 +102,8 @@ impl UnpricedLabels {
             self.new.table) }
         ensures index { IfOk result (λ i. slice_get self.new.table i
             ≡ Some (configuration_at self.old.pool number)) }
-        ensures refused { IfErr result (λ e. IsRefusal e → ⊥) }
-        ensures at { IfErr result (λ e. IfLimit e (λ at _. at ≡ line)) }
-        ensures limited { IfErr result (λ e. IfLimit e (λ _ limit. (limit ≡ Configurations)
-            × (HasRoomFor self.old.table (configuration_at self.old.pool number ∷ []) → ⊥))) }
+        ensures limited { IfErr result (λ e. IsLimitAt line (λ limit. (limit ≡ Configurations)
+            × (HasRoomFor self.old.table (configuration_at self.old.pool number ∷ []) → ⊥)) e) }
     {
         self.table.index_of(line, number)
     }

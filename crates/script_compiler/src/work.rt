@@ -1,7 +1,6 @@
 //! The compiler's state: the code emitted so far, and what is known at its end.
 
 ghost use Rattle.std.specs.Prelude.{◌≡◌, ◌↔◌, ◌+◌, ◌<◌, true, false, [], ◌∷◌, ◌++◌, length, Some, IsOk, IsTrue, OnOk, IfOk, IfErr};
-ghost use Rattle.plan_code.specs.declared.instr.Instr.{Instr};
 ghost use Rattle.plan_flow.specs.Flows.{known_at, merged, after_instr, FitsFlow};
 ghost use Rattle.plan_flow.specs.Rules.{IsFine};
 ghost use Rattle.script_meaning.specs.declared.flow.ProgramPoint.{ProgramPoint};
@@ -9,10 +8,9 @@ ghost use Rattle.script_meaning.specs.Scheme.{without_label, meet, instr_of_act}
 ghost use Rattle.script_meaning.specs.Judged.{WaysAgree};
 ghost use Rattle.script_meaning.specs.Compiled.{beginning};
 ghost use Rattle.script_compiler.specs.Pool.{Extends, IsInPool, point_in};
-ghost use Rattle.script_compiler.specs.Refusals.{IsRefusal, IfLimit, IsRefusedAs};
+ghost use Rattle.script_compiler.specs.Refusals.{IsRefusedAs};
 ghost use Rattle.script_compiler.specs.Space.{HasTable};
 ghost use Rattle.script_compiler.specs.declared.fault.CompileFault.TheVariants.{Memory};
-ghost use Rattle.script_compiler.specs.Emission.{way};
 
 use crate::fault::CompileFault;
 use crate::judge::judge;
@@ -159,9 +157,8 @@ impl Work {
         ensures pool { Extends self.old.pool self.new.pool }
         ensures saved { OnOk result (self.new.saved.items ≡ self.old.saved.items
             ++ self.old.now ∷ []) }
-        ensures refused { IfErr result (λ e. IsRefusal e → ⊥) }
         ensures table { HasTable self.new }
-        ensures limited { IfErr result (λ e. IfLimit e (λ _ _. ⊥)) }
+        ensures memory { IfErr result (λ e. e ≡ Memory) }
     {
         let point_here = match self.point_here() {
             Ok(point_here) => point_here,

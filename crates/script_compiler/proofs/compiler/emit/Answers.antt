@@ -8,11 +8,11 @@ use Rattle.script_compiler.specs.Emission.{Emits, way, tables}
 use Rattle.script_compiler.specs.Space.{HasSpace}
 use Rattle.script_compiler.proofs.Whole.{laid_whole}
 use Rattle.script_compiler.proofs.Fitting.{table_none, can_whole, space_whole_end}
-use Rattle.script_compiler.proofs.Spaces.{limit_map}
+use Rattle.script_compiler.proofs.Spaces.{limit_map, limit_here, never_refused}
 use Rattle.script_meaning.specs.declared.flow.ProgramPoint.{ProgramPoint}
 use Rattle.script_meaning.specs.Judged.{IsJudged}
 use Rattle.script_meaning.specs.Refused.{IsRefusedIn}
-use Rattle.script_compiler.proofs.Reasons.{refused_map, no_refusal}
+use Rattle.script_compiler.proofs.Reasons.{refused_map}
 use Rattle.script_compiler.proofs.compiler.emit.Goals as goal
 
 pub returns-clause-lines : goal.returns-clause-lines
@@ -76,7 +76,7 @@ returns-in_err-close-clause-limited c =
     let p = err_from_is_err_and c.from_residual-in_err-close.result c.from_residual-in_err-close.ensures.1 in
     rw (p.1, p.2) (limit_map c.in_err-close.field-0.0 (λ at k without_label judged few.
     let space = space_whole_end k c.args.plan.now s.last_line (body_of s) (block_of (tables c.blocks-3.result.now) c.statements.result.now) (beginning c.args.config.now) w0 c.block.new.self c.in_ok-falls.falls same c.new-work.ensures.lines c.new-work.ensures.unpriced c.new-work.ensures.now c.in_ok-falls.ensures.left few in
-    without_label (subst (λ n. HasSpace k c.block.new.self (onward (way c.in_ok-falls.falls c.block.new.self) [] (alone n End 0))) (sym c.last_line.ensures) space)) c.in_err-close.ensures.limited)
+    without_label.1 (subst (λ n. HasSpace k c.block.new.self (onward (way c.in_ok-falls.falls c.block.new.self) [] (alone n End 0))) (sym c.last_line.ensures) space)) (limit_here c.in_err-close.field-0.0 _ (λ k full. full) c.in_err-close.ensures.limited))
 
 pub returns-in_err-falls-clause-refused : goal.returns-in_err-falls-clause-refused
 returns-in_err-falls-clause-refused c =
@@ -99,4 +99,4 @@ returns-in_err-falls-clause-why c =
 pub returns-in_err-close-clause-why : goal.returns-in_err-close-clause-why
 returns-in_err-close-clause-why c =
     let p = err_from_is_err_and c.from_residual-in_err-close.result c.from_residual-in_err-close.ensures.1 in
-    rw (p.1, p.2) (no_refusal c.in_err-close.field-0.0 _ c.in_err-close.ensures.refused)
+    rw (p.1, p.2) (never_refused c.in_err-close.field-0.0 _ _ _ c.in_err-close.ensures.limited)

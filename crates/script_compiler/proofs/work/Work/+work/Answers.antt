@@ -13,12 +13,12 @@ use Rattle.plan_code.specs.declared.instr.Instr.TheVariants.{Set}
 use Rattle.script_compiler.proofs.Weight.{weight, weight_each, tables_at}
 use Rattle.script_compiler.proofs.Arms.{is_act, is_end, is_if, is_if_else, is_repeat, is_forever, is_apply}
 use Rattle.script_compiler.proofs.Steps.{ok_map, act_step, when_step, either_step, repeat_step, forever_step, block_step, facts_length, facts_take, silent_step, unnamed_step}
-use Rattle.script_compiler.proofs.Refusing.{err_map, act_refused, when_first, when_agrees, either_first, either_second, either_saved, either_agrees, some_is, repeat_body, repeat_round, forever_body, forever_round, block_refused, block_unreached}
+use Rattle.script_compiler.proofs.Refusing.{when_first, when_agrees, either_first, either_second, either_saved, either_agrees, some_is, repeat_body, repeat_round, forever_body, forever_round, block_refused, block_unreached}
 use Rattle.script_compiler.proofs.Emitted.{left_start}
-use Rattle.script_compiler.proofs.Reasons.{err_two, act_why, when_body_why, when_why, either_first_why, either_second_why, either_why, repeat_body_why, repeat_why, forever_body_why, forever_why, block_why, block_unreached_why}
-use Rattle.script_compiler.proofs.Spaces.{limit_map, limits_map}
+use Rattle.script_compiler.proofs.Reasons.{err_two, when_body_why, when_why, either_first_why, either_second_why, either_why, repeat_body_why, repeat_why, forever_body_why, forever_why, block_why, block_unreached_why}
+use Rattle.script_compiler.proofs.Spaces.{limit_map}
 use Rattle.script_compiler.proofs.Fitting.{block_limited, act_limited, stop_limited, when_limited, either_limited, repeat_limited, repeat_deep, can_when_first, can_when_closed, can_either_first, can_either_turned, can_either_second, can_either_closed, can_repeat_entered, can_repeat_body, can_repeat_closed, can_forever_entered, can_forever_body, can_forever_closed}
-use Rattle.script_compiler.proofs.Compiling.{compiles, fails, compiles_as, compiles_applied}
+use Rattle.script_compiler.proofs.Compiling.{compiles, fails, fails_at, compiles_as, compiles_applied}
 use Rattle.script_compiler.proofs.work.Work.+work.Goals as goal
 
 -- ---- a block
@@ -90,15 +90,14 @@ statement-returns-in-Act t c = λ rest.
     let act = c.in-Act.act in
     compiles_as x (statement_in x c.args.statement.now rest) (basic line act rest) rest w c.act.new.self c.act.result (is_act (tables x.blocks.now) c.args.statement.now line act c.in-Act.is rest)
     (compiles x (basic line act rest) w rest c.act.new.self c.act.result (act_step x.plan.now x.counters line act rest w c.act.new.self c.act.result c.act.ensures.is_reached c.act.ensures.emits c.act.ensures.now c.act.ensures.fine) c.act.ensures.room c.act.ensures.table
-    (act_refused x.plan.now w.now c.act.result line act rest c.act.ensures.refused) (act_why x.plan.now w.now c.act.result line act rest c.act.ensures.why)
-    (limits_map c.act.result (λ at k full can. act_limited k x.plan.now x.counters line act w full rest can) c.act.ensures.limited))
+    (err_two c.act.result (λ e h g. fails_at x (basic line act rest) w e line h g (λ cause r judged. r.1 judged.0) (λ cause r. inl (refl, r.0)) (λ k full can. act_limited k x.plan.now x.counters line act w full rest can)) c.act.ensures.refused c.act.ensures.limited))
 
 pub statement-returns-in-Err : goal.statement-returns-in-Err
 statement-returns-in-Err t c = λ rest.
     let x = c.args.context in
     let w = c.args.self.now in
     compiles_as x (statement_in x c.args.statement.now rest) (stop c.in-End.line rest) rest w c.put.new.self (Err c.in-Err.fault) (is_end (tables x.blocks.now) c.args.statement.now c.in-End.line c.in-End.is rest)
-    (fails x (stop c.in-End.line rest) w c.in-Err.fault c.in-Err.ensures.refused (limit_map c.in-Err.fault (λ at k full can. stop_limited k x.plan.now x.counters c.in-End.line w full rest can) c.in-Err.ensures.limited))
+    (fails x (stop c.in-End.line rest) w c.in-Err.fault c.in-End.line c.in-Err.ensures.limited (λ k full can. stop_limited k x.plan.now x.counters c.in-End.line w full rest can))
 
 pub statement-returns-in-If : goal.statement-returns-in-If
 statement-returns-in-If t c = λ rest.
@@ -209,8 +208,7 @@ pub when-returns-in-Err : goal.when-returns-in-Err
 when-returns-in-Err t c = λ rest.
     let x = c.args.context in
     let first = block_in x c.args.first.now in
-    fails x (when c.args.line c.args.contact first rest) c.args.self.now c.in-Err.fault c.in-Err.ensures.refused
-    (limit_map c.in-Err.fault (λ at k full can. when_limited k x.plan.now x.counters c.args.line c.args.contact first c.args.self.now full rest can) c.in-Err.ensures.limited)
+    fails x (when c.args.line c.args.contact first rest) c.args.self.now c.in-Err.fault c.args.line c.in-Err.ensures.limited (λ k full can. when_limited k x.plan.now x.counters c.args.line c.args.contact first c.args.self.now full rest can)
 
 pub when-returns-in-Err-block : goal.when-returns-in-Err-block
 when-returns-in-Err-block t c = λ rest.
@@ -239,9 +237,10 @@ when-returns t c = λ rest.
     let left = c.in-Ok.ensures.left in
     compiles x b w0 rest c.close_if.new.self y
     (when_step x.plan.now x.counters c.args.line c.args.contact c.len-at.result first rest w0 w2 w3 c.close_if.new.self f y c.requires.counters c.len-at.ensures forks left c.close_if.ensures.is_reached c.close_if.ensures.closes) c.close_if.ensures.room c.close_if.ensures.table
-    (err_map y _ _ (λ e h is judged. h is w0.saved.items w0.now (left.emits.saved ∙ forks.saved) (when_agrees x.plan.now x.counters c.args.line c.args.contact first rest w0 w2 w3 f forks left judged)) c.close_if.ensures.refused)
-    (err_two y (λ e h k. when_why x.plan.now x.counters c.args.line c.args.contact first rest w0 w2 w3 f e forks left h k) c.close_if.ensures.why c.close_if.ensures.refused)
-    (limits_map y (λ at k full can. can_when_closed k x.plan.now x.counters c.args.line c.args.contact first rest w0 w2 w3 f forks left full can) c.close_if.ensures.limited)
+    (err_two y (λ e h g. fails_at x b w0 e c.args.line h g
+    (λ cause r judged. r.1 w0.saved.items w0.now (left.emits.saved ∙ forks.saved) (when_agrees x.plan.now x.counters c.args.line c.args.contact first rest w0 w2 w3 f forks left judged))
+    (λ cause r. when_why x.plan.now x.counters c.args.line c.args.contact first rest w0 w2 w3 f cause forks left r)
+    (λ k full can. can_when_closed k x.plan.now x.counters c.args.line c.args.contact first rest w0 w2 w3 f forks left full can)) c.close_if.ensures.refused c.close_if.ensures.limited)
 
 -- ---- `if` with `else`
 
@@ -250,8 +249,7 @@ either-returns-in-Err t c = λ rest.
     let x = c.args.context in
     let first = block_in x c.args.first.now in
     let second = block_in x c.args.second.now in
-    fails x (either c.args.line c.args.contact first second rest) c.args.self.now c.in-Err.fault c.in-Err.ensures.refused
-    (limit_map c.in-Err.fault (λ at k full can. either_limited k x.plan.now x.counters c.args.line c.args.contact first second c.args.self.now full rest can) c.in-Err.ensures.limited)
+    fails x (either c.args.line c.args.contact first second rest) c.args.self.now c.in-Err.fault c.args.line c.in-Err.ensures.limited (λ k full can. either_limited k x.plan.now x.counters c.args.line c.args.contact first second c.args.self.now full rest can)
 
 pub either-returns-in-Err-block : goal.either-returns-in-Err-block
 either-returns-in-Err-block t c = λ rest.
@@ -273,8 +271,7 @@ either-returns-in-Err-start_else t c = λ rest.
     let first = block_in x c.args.first.now in
     let second = block_in x c.args.second.now in
     let w = c.start_else.new.self in
-    fails x (either c.args.line c.args.contact first second rest) c.args.self.now c.in-Err-start_else.fault c.in-Err-start_else.ensures.refused
-    (limit_map c.in-Err-start_else.fault (λ at k full can. can_either_turned k x.plan.now x.counters c.args.line c.args.contact first second rest c.args.self.now c.fork.new.self c.block.new.self w w c.in-Ok.falls true c.in_default.ensures.forks c.in-Ok.ensures.left full can) c.in-Err-start_else.ensures.limited)
+    fails x (either c.args.line c.args.contact first second rest) c.args.self.now c.in-Err-start_else.fault c.args.line c.in-Err-start_else.ensures.limited (λ k full can. can_either_turned k x.plan.now x.counters c.args.line c.args.contact first second rest c.args.self.now c.fork.new.self c.block.new.self w w c.in-Ok.falls true c.in_default.ensures.forks c.in-Ok.ensures.left full can)
 
 pub either-returns-in-Err-block-2 : goal.either-returns-in-Err-block-2
 either-returns-in-Err-block-2 t c = λ rest.
@@ -314,10 +311,11 @@ either-returns t c = λ rest.
     let left2 = c.in-Ok-block.ensures.left in
     compiles x (either line c.args.contact first second rest) w0 rest c.close_else.new.self y
     (ok_map y (λ falls h. either_step x.plan.now x.counters line c.args.contact at c.len-jump.result first second w0 w2 w3 w6 w7 c.close_else.new.self f g falls c.requires.counters c.len-at.ensures c.len-jump.ensures forks left starts left2 h rest) c.close_else.ensures.arrives) c.close_else.ensures.room c.close_else.ensures.table
-    (err_map y _ _ (λ e h is judged. h is w0.saved.items (way f w3) (some_is f w3) (either_saved x.plan.now x.counters line c.args.contact at first second rest w0 w2 w3 w6 w7 f g forks left starts left2)
-    (either_agrees x.plan.now x.counters line c.args.contact at first second rest w0 w2 w3 w6 w7 f g forks left starts left2 judged)) c.close_else.ensures.refused)
-    (err_two y (λ e h k. either_why x.plan.now x.counters line c.args.contact at first second rest w0 w2 w3 w6 w7 f g e forks left starts left2 h k) c.close_else.ensures.why c.close_else.ensures.refused)
-    (limits_map y (λ _ k full can. can_either_closed k x.plan.now x.counters line c.args.contact first second rest w0 w2 w3 w6 w7 f g at forks left starts left2 full can) c.close_else.ensures.limited)
+    (err_two y (λ e h l. fails_at x (either line c.args.contact first second rest) w0 e line h l
+    (λ cause r judged. r.1 w0.saved.items (way f w3) (some_is f w3) (either_saved x.plan.now x.counters line c.args.contact at first second rest w0 w2 w3 w6 w7 f g forks left starts left2)
+    (either_agrees x.plan.now x.counters line c.args.contact at first second rest w0 w2 w3 w6 w7 f g forks left starts left2 judged))
+    (λ cause r. either_why x.plan.now x.counters line c.args.contact at first second rest w0 w2 w3 w6 w7 f g cause forks left starts left2 r)
+    (λ k full can. can_either_closed k x.plan.now x.counters line c.args.contact first second rest w0 w2 w3 w6 w7 f g at forks left starts left2 full can)) c.close_else.ensures.refused c.close_else.ensures.limited)
 
 -- ---- `repeat`
 
@@ -335,8 +333,7 @@ pub repeat-returns-in-Err : goal.repeat-returns-in-Err
 repeat-returns-in-Err t c = λ rest.
     let x = c.args.context in
     let body = block_in x c.args.body.now in
-    fails x (repeat c.args.line c.args.times body rest) c.args.self.now c.in-Err.fault c.in-Err.ensures.refused
-    (limit_map c.in-Err.fault (λ at k full can. repeat_limited k x.plan.now x.counters c.args.line c.args.times body c.args.self.now full rest can) c.in-Err.ensures.limited)
+    fails x (repeat c.args.line c.args.times body rest) c.args.self.now c.in-Err.fault c.args.line c.in-Err.ensures.limited (λ k full can. repeat_limited k x.plan.now x.counters c.args.line c.args.times body c.args.self.now full rest can)
 
 pub repeat-returns-in-Err-enter : goal.repeat-returns-in-Err-enter
 repeat-returns-in-Err-enter t c = λ rest.
@@ -345,8 +342,7 @@ repeat-returns-in-Err-enter t c = λ rest.
     let w0 = c.args.self.now in
     let w = c.enter.new.self in
     let emits = subst (λ m. Emits w0 c.put.new.self (alone c.args.line (Set m c.args.times) x.counters w0.now)) c.in-Some.ensures.value c.in_default-put.ensures.emits in
-    fails x (repeat c.args.line c.args.times body rest) w0 c.in-Err-enter.fault c.in-Err-enter.ensures.refused
-    (limit_map c.in-Err-enter.fault (λ at k full can. can_repeat_entered k x.plan.now x.counters c.args.line c.args.times body rest w0 c.put.new.self w w true c.all_fall.result emits c.in_default-put.ensures.now (c.all_fall.ensures (tables x.blocks.now) c.requires.facts) full can) c.in-Err-enter.ensures.limited)
+    fails x (repeat c.args.line c.args.times body rest) w0 c.in-Err-enter.fault c.args.line c.in-Err-enter.ensures.limited (λ k full can. can_repeat_entered k x.plan.now x.counters c.args.line c.args.times body rest w0 c.put.new.self w w true c.all_fall.result emits c.in_default-put.ensures.now (c.all_fall.ensures (tables x.blocks.now) c.requires.facts) full can)
 
 pub repeat-returns-in-Err-block : goal.repeat-returns-in-Err-block
 repeat-returns-in-Err-block t c = λ rest.
@@ -382,12 +378,10 @@ repeat-returns-in-Err-close_loop t c = λ rest.
     let entered = c.in_default-enter.ensures in
     let left = c.in-Ok.ensures.left in
     let h = c.in-Err-close_loop.ensures in
-    let deep : x.counters + 1 ≤ 8 = (let lt : x.counters < 8 = c.in-Some.ensures.in_range.0 refl in omega (arith, lt)) in
-    record {
-      refused = λ is judged. h.refused is w1.saved.items w2.now (left.emits.saved ∙ entered.saved) (repeat_round x.plan.now x.counters c.args.line c.args.times body rest w0 w1 w2 w3 f c.all_fall.result now falls entered.now left judged);
-      why = repeat_why x.plan.now x.counters c.args.line c.args.times body rest w0 w1 w2 w3 f c.all_fall.result e now falls entered.now entered.saved deep left h.why h.refused;
-      limited = limit_map e (λ at k full can. can_repeat_closed k x.plan.now x.counters c.args.line c.args.times body rest w0 w1 w2 w3 f c.all_fall.result emits now falls entered.lines entered.unpriced entered.now left full can) h.limited;
-    }
+    fails_at x (repeat c.args.line c.args.times body rest) w0 e c.args.line h.refused h.limited
+    (λ cause r judged. r.1 w1.saved.items w2.now (left.emits.saved ∙ entered.saved) (repeat_round x.plan.now x.counters c.args.line c.args.times body rest w0 w1 w2 w3 f c.all_fall.result now falls entered.now left judged))
+    (λ cause r. repeat_why x.plan.now x.counters c.args.line c.args.times body rest w0 w1 w2 w3 f c.all_fall.result cause now falls entered.now entered.saved left r)
+    (λ k full can. can_repeat_closed k x.plan.now x.counters c.args.line c.args.times body rest w0 w1 w2 w3 f c.all_fall.result emits now falls entered.lines entered.unpriced entered.now left full can)
 
 pub repeat-returns : goal.repeat-returns
 repeat-returns t c = λ rest.
@@ -410,8 +404,7 @@ forever-returns-in-Err t c = λ rest.
     let x = c.args.context in
     let body = block_in x c.args.body.now in
     let w = c.enter.new.self in
-    fails x (forever c.args.line body rest) c.args.self.now c.in-Err.fault c.in-Err.ensures.refused
-    (limit_map c.in-Err.fault (λ at k full can. can_forever_entered k x.plan.now x.counters c.args.line body rest c.args.self.now w w true c.all_fall.result (c.all_fall.ensures (tables x.blocks.now) c.requires.facts) full can) c.in-Err.ensures.limited)
+    fails x (forever c.args.line body rest) c.args.self.now c.in-Err.fault c.args.line c.in-Err.ensures.limited (λ k full can. can_forever_entered k x.plan.now x.counters c.args.line body rest c.args.self.now w w true c.all_fall.result (c.all_fall.ensures (tables x.blocks.now) c.requires.facts) full can)
 
 pub forever-returns-in-Err-block : goal.forever-returns-in-Err-block
 forever-returns-in-Err-block t c = λ rest.
@@ -441,11 +434,10 @@ forever-returns-in-Err-close_loop t c = λ rest.
     let entered = c.in_default.ensures in
     let left = c.in-Ok.ensures.left in
     let h = c.in-Err-close_loop.ensures in
-    record {
-      refused = λ is judged. h.refused is w0.saved.items w2.now (left.emits.saved ∙ entered.saved) (forever_round x.plan.now x.counters c.args.line body rest w0 w2 w3 f c.all_fall.result falls entered.now left judged);
-      why = forever_why x.plan.now x.counters c.args.line body rest w0 w2 w3 f c.all_fall.result e falls entered.now entered.saved left h.why h.refused;
-      limited = limit_map e (λ at k full can. can_forever_closed k x.plan.now x.counters c.args.line body rest w0 w2 w3 f c.all_fall.result falls entered.lines entered.unpriced entered.now left full can) h.limited;
-    }
+    fails_at x (forever c.args.line body rest) w0 e c.args.line h.refused h.limited
+    (λ cause r judged. r.1 w0.saved.items w2.now (left.emits.saved ∙ entered.saved) (forever_round x.plan.now x.counters c.args.line body rest w0 w2 w3 f c.all_fall.result falls entered.now left judged))
+    (λ cause r. forever_why x.plan.now x.counters c.args.line body rest w0 w2 w3 f c.all_fall.result cause falls entered.now entered.saved left r)
+    (λ k full can. can_forever_closed k x.plan.now x.counters c.args.line body rest w0 w2 w3 f c.all_fall.result falls entered.lines entered.unpriced entered.now left full can)
 
 pub forever-returns : goal.forever-returns
 forever-returns t c = λ rest.

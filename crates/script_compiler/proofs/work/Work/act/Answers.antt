@@ -5,7 +5,7 @@ use Rattle.plan_code.specs.declared.instr.Instr.{Instr}
 use Rattle.script_meaning.specs.declared.flow.ProgramPoint.{ProgramPoint}
 use Rattle.script_meaning.specs.Scheme.{instr_of_act}
 use Rattle.script_compiler.specs.Emission.{line_of_instr}
-use Rattle.script_compiler.proofs.Spaces.{covered_here, limit_map}
+use Rattle.script_compiler.proofs.Spaces.{covered_here, limit_here}
 use Rattle.script_compiler.proofs.Putting.{put_lays}
 use Rattle.script_compiler.proofs.work.Work.act.Goals as goal
 
@@ -30,4 +30,4 @@ pub returns-clause-fine : goal.returns-clause-fine
 returns-clause-fine c = subst (λ (s : ProgramPoint). IsFine c.args.plan.now (instr_of_act c.args.act.now) (known_at s.flow)) c.in_default.ensures.now (c.in_default-pass.ensures.fine.0 refl)
 
 pub returns-in-Err-clause-limited : goal.returns-in-Err-clause-limited
-returns-in-Err-clause-limited c = limit_map c.in-Err.fault (λ at k without_label p ps e space. without_label (p ∷ ps) (covered_here c.args.self.now.now p ps e) space) c.in-Err.ensures.limited
+returns-in-Err-clause-limited c = limit_here c.in-Err.fault c.args.line (λ k without_label p ps e space. without_label (p ∷ ps) (covered_here c.args.self.now.now p ps e) space) c.in-Err.ensures.limited

@@ -11,11 +11,11 @@ use Rattle.script_compiler.specs.Space.{HasSpace, HasTable}
 use Rattle.script_compiler.specs.Working.{Work}
 use Rattle.script_compiler.proofs.Labelling.{grown}
 use Rattle.script_compiler.proofs.Numbered.{room_here, marked_as, marked_here, mark_with, short_with}
-use Rattle.script_compiler.proofs.Spaces.{room_left, room_next, table_mark, limit_map}
+use Rattle.script_compiler.proofs.Spaces.{room_left, room_next, table_mark, limit_at_map}
 use Rattle.script_compiler.proofs.work.Work.push_label.Goals as goal
 
 pub returns-in-Err-clause-limited : goal.returns-in-Err-clause-limited
-returns-in-Err-clause-limited c = limit_map c.in-Err.fault (λ at k h ps cover space.
+returns-in-Err-clause-limited c = limit_at_map c.in-Err.fault c.args.line (λ k h ps cover space.
     let w = c.args.self.now in
     let v = c.self.inside.unpriced in
     let s = c.args.point_here.now in
@@ -23,7 +23,7 @@ returns-in-Err-clause-limited c = limit_map c.in-Err.fault (λ at k h ps cover s
     h.1 (room_left v.table (configuration_at v.pool s.flow.current) (configuration_at v.pool s.flow.next) room)) c.in-Err.ensures.limited
 
 pub returns-in-Err-index_of-clause-limited : goal.returns-in-Err-index_of-clause-limited
-returns-in-Err-index_of-clause-limited c = limit_map c.in-Err-index_of.fault (λ at k h ps cover space.
+returns-in-Err-index_of-clause-limited c = limit_at_map c.in-Err-index_of.fault c.args.line (λ k h ps cover space.
     let w = c.args.self.now in
     let v = c.self.inside.unpriced in
     let s = c.args.point_here.now in

@@ -14,7 +14,7 @@ use Rattle.script_compiler.specs.Pool.{point_in}
 use Rattle.script_compiler.specs.Space.{IsCovered}
 use Rattle.script_compiler.proofs.Pooled.{spot_same}
 use Rattle.script_compiler.proofs.Putting.{on_ok_map, snoc_front, snoc_last}
-use Rattle.script_compiler.proofs.Spaces.{limits_map, space_left, space_restored}
+use Rattle.script_compiler.proofs.Spaces.{limits_at_map, space_left, space_restored}
 use Rattle.script_compiler.proofs.work.Work.start_else.Goals as goal
 
 pub returns-clause-limited : goal.returns-clause-limited
@@ -24,7 +24,7 @@ returns-clause-limited c =
     let u = c.jump_past.new.self in
     let x = c.patch.new.self in
     let s = c.restore-entry.result in
-    limits_map c.unpriced_label.result (λ at k without_label front entry saved m n i ps space cover.
+    limits_at_map c.unpriced_label.result c.args.line (λ k without_label front entry saved m n i ps space cover.
     let point_here : point_in x.pool s ≡ point_in v.pool s = ap (λ (p : List Configuration). point_in p s) c.patch.ensures.pool ∙ spot_same v.pool u.pool s c.jump_past.ensures.pool c.restore-entry.ensures.within in
     let same : point_in x.pool s ≡ entry = point_here ∙ snoc_last v.saved.items front (point_in v.pool s) entry (c.restore-entry.ensures.saved ∙ saved) in
     let lines = ap (λ z. length z.items) c.take.ensures.lines ∙ ap length c.patch.ensures.lines ∙ length-set u.lines.items c.args.at _ ∙ ap length c.in_default.ensures.lines ∙ length-append v.lines.items _ in
