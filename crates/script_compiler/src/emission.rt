@@ -92,10 +92,7 @@ impl Work {
                 limit: CodeLimit::Labels,
             });
         }
-        let point_here = match self.point_here() {
-            Ok(point_here) => point_here,
-            Err(fault) => return Err(fault),
-        };
+        let point_here = self.point_here()?;
         self.push_label(line, counters, &point_here)
     }
 
@@ -201,10 +198,7 @@ impl Work {
                 limit: CodeLimit::Labels,
             });
         }
-        let point_here = match self.point_here() {
-            Ok(point_here) => point_here,
-            Err(fault) => return Err(fault),
-        };
+        let point_here = self.point_here()?;
         if !self
             .unpriced
             .has_room_for_both(point_here.flow.current, point_here.flow.next)

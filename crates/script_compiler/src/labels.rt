@@ -74,9 +74,7 @@ pub(crate) fn labels_of(
 {
     let mut labels = Vec::new(alloc);
     for unpriced_label in unpriced {
-        if let Err(fault) = add(&mut labels, label_of(unpriced_label, needs)) {
-            return Err(fault);
-        }
+        add(&mut labels, label_of(unpriced_label, needs))?;
     }
     Ok(labels)
 }

@@ -48,10 +48,7 @@ impl Work {
             if !is_reached {
                 return Err(refused(line_of(statement), Cause::Table));
             }
-            is_reached = match self.statement(context, statement) {
-                Ok(falls) => falls,
-                Err(fault) => return Err(fault),
-            };
+            is_reached = self.statement(context, statement)?;
         }
         Ok(is_reached)
     }
@@ -181,25 +178,16 @@ impl Work {
                 limit: CodeLimit::Counters,
             });
         };
-        if let Err(fault) = self.put(line, context.counters, Instr::Set { counter, times }) {
-            return Err(fault);
-        }
+        self.put(line, context.counters, Instr::Set { counter, times })?;
         let target = self.len() as u16;
-        if let Err(fault) = self.enter(all_fall(context.facts, body), line) {
-            return Err(fault);
-        }
+        self.enter(all_fall(context.facts, body), line)?;
         let inner = Context {
             counters: context.counters + 1,
             ..context
         };
-        let falls = match self.block(inner, body) {
-            Ok(falls) => falls,
-            Err(fault) => return Err(fault),
-        };
+        let falls = self.block(inner, body)?;
         let back = Instr::Loop { counter, target };
-        if let Err(fault) = self.close_loop(falls, line, inner.counters, back) {
-            return Err(fault);
-        }
+        self.close_loop(falls, line, inner.counters, back)?;
         Ok(falls)
     }
 

@@ -143,9 +143,7 @@ impl ConfigTable {
                 limit: CodeLimit::Configurations,
             });
         }
-        if let Err(fault) = self.add(number) {
-            return Err(fault);
-        }
+        self.add(number)?;
         Ok(index as u16)
     }
 

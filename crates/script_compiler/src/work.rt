@@ -160,10 +160,7 @@ impl Work {
         ensures table { HasTable self.new }
         ensures memory { IfErr result (λ e. e ≡ Memory) }
     {
-        let point_here = match self.point_here() {
-            Ok(point_here) => point_here,
-            Err(fault) => return Err(fault),
-        };
+        let point_here = self.point_here()?;
         if self.saved.push(point_here).is_err() {
             return Err(CompileFault::Memory);
         }

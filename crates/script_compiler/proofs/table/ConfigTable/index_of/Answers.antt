@@ -11,4 +11,4 @@ returns-then-index-from-clause-limited c =
 
 pub returns-clause-index : goal.returns-clause-index
 returns-clause-index c =
-    last_new (configuration_at c.args.self.now.pool c.args.number) c.args.self.now.table c.add.new.self.table c.len-index.result c.len-index.ensures c.in_default-add.ensures.added
+    last_new (configuration_at c.args.self.now.pool c.args.number) c.args.self.now.table c.add.new.self.table c.len-index.result c.len-index.ensures c.in_ok-add.ensures.added

@@ -1,6 +1,7 @@
 use Rattle.std.proofs.Common.{Vec, Global, Err, true, inl, inr, subst, ◌≡◌, ◌+◌, ◌<◌, ◌≤◌, ap, sym, ◌∙◌, refl, take, drop, length, arith}
 use Rattle.std.proofs.lemmas.List.{length-take, at_drop_all}
 use Rattle.std.proofs.lemmas.Bool.{cases_lt, false≢true}
+use Rattle.std.proofs.lemmas.Result.{err_from_is_err_and}
 use Rattle.script_front.specs.declared.tree.Statement.{Statement}
 use Rattle.script_front.specs.Block.{nothing, basic, stop, when, either, repeat, forever, apply, named_at, before, block_of}
 use Rattle.script_meaning.specs.Scheme.{alone}
@@ -45,9 +46,9 @@ block-statement-requires t c =
 pub block-loop-statement-preserved : goal.block-loop-statement-preserved
 block-loop-statement-preserved t c =
     let k = c.loop-statement.statement-index in
-    let done = c.in-Ok.ensures (block_in c.args.context (drop (k + 1) c.args.statements.now)) in
+    let done = c.in_ok-is_reached.ensures (block_in c.args.context (drop (k + 1) c.args.statements.now)) in
     record {
-      left = block_step c.args.context.plan.now c.args.context.counters (tables c.args.context.blocks.now) c.args.statements.now k c.statement-item.result c.args.self.now c.loop-statement.self c.statement.new.self c.loop-statement.is_reached c.in-Ok.falls c.statement-item.is c.loop-statement-test.true c.if-not-is_reached.false c.loop-statement.invariant.left (λ rest. (c.in-Ok.ensures rest).left);
+      left = block_step c.args.context.plan.now c.args.context.counters (tables c.args.context.blocks.now) c.args.statements.now k c.statement-item.result c.args.self.now c.loop-statement.self c.statement.new.self c.loop-statement.is_reached c.in_ok-is_reached.is_reached c.statement-item.is c.loop-statement-test.true c.if-not-is_reached.false c.loop-statement.invariant.left (λ rest. (c.in_ok-is_reached.ensures rest).left);
       room = done.room;
       table = done.table;
     }
@@ -62,16 +63,17 @@ block-returns-then-not-is_reached t c =
       limited = subst (λ (e : CompileFault). IfLimit e (λ _ limit. CanEmit limit x.plan.now x.counters (block_in x c.args.statements.now) c.args.self.now → ⊥)) (sym c.refused.ensures) tt;
     }
 
-pub block-returns-in-Err : goal.block-returns-in-Err
-block-returns-in-Err t c =
+pub block-returns-in_err-is_reached : goal.block-returns-in_err-is_reached
+block-returns-in_err-is_reached t c =
     let x = c.args.context in
     let w = c.loop-statement in
-    let h = c.in-Err.ensures (block_in x (drop (w.statement-index + 1) c.args.statements.now)) in
-    record {
-      refused = λ is judged. block_refused x.plan.now x.counters (tables x.blocks.now) c.args.statements.now w.statement-index c.statement-item.result c.args.self.now w.self w.is_reached c.statement-item.is c.loop-statement-test.true c.if-not-is_reached.false w.invariant.left (λ rest. (c.in-Err.ensures rest).refused is) judged;
-      why = block_why x.plan.now x.counters (tables x.blocks.now) c.args.statements.now w.statement-index c.statement-item.result c.args.self.now w.self w.is_reached c.in-Err.fault c.statement-item.is c.loop-statement-test.true c.if-not-is_reached.false w.invariant.left h.why;
-      limited = limit_map c.in-Err.fault (λ at k full can. block_limited k x.plan.now x.counters (tables x.blocks.now) c.args.statements.now w.statement-index c.statement-item.result c.args.self.now w.self w.is_reached c.statement-item.is c.loop-statement-test.true c.if-not-is_reached.false w.invariant.left full can) h.limited;
-    }
+    let h = c.in_err-is_reached.ensures (block_in x (drop (w.statement-index + 1) c.args.statements.now)) in
+    let p = err_from_is_err_and c.from_residual.result c.from_residual.ensures.1 in
+    rw (p.1, p.2) (record {
+      refused = λ is judged. block_refused x.plan.now x.counters (tables x.blocks.now) c.args.statements.now w.statement-index c.statement-item.result c.args.self.now w.self w.is_reached c.statement-item.is c.loop-statement-test.true c.if-not-is_reached.false w.invariant.left (λ rest. (c.in_err-is_reached.ensures rest).refused is) judged;
+      why = block_why x.plan.now x.counters (tables x.blocks.now) c.args.statements.now w.statement-index c.statement-item.result c.args.self.now w.self w.is_reached c.in_err-is_reached.field-0.0 c.statement-item.is c.loop-statement-test.true c.if-not-is_reached.false w.invariant.left h.why;
+      limited = limit_map c.in_err-is_reached.field-0.0 (λ at k full can. block_limited k x.plan.now x.counters (tables x.blocks.now) c.args.statements.now w.statement-index c.statement-item.result c.args.self.now w.self w.is_reached c.statement-item.is c.loop-statement-test.true c.if-not-is_reached.false w.invariant.left full can) h.limited;
+    })
 
 pub block-returns : goal.block-returns
 block-returns t c =
@@ -329,70 +331,74 @@ repeat-returns-in_default t c = λ rest.
       limited = λ can. repeat_deep x.plan.now x.counters c.args.line c.args.times (block_in x c.args.body.now) rest c.args.self.now many can;
     }
 
-pub repeat-returns-in-Err : goal.repeat-returns-in-Err
-repeat-returns-in-Err t c = λ rest.
+pub repeat-returns-in_err-put : goal.repeat-returns-in_err-put
+repeat-returns-in_err-put t c = λ rest.
     let x = c.args.context in
     let body = block_in x c.args.body.now in
-    fails x (repeat c.args.line c.args.times body rest) c.args.self.now c.in-Err.fault c.args.line c.in-Err.ensures.limited (λ k full can. repeat_limited k x.plan.now x.counters c.args.line c.args.times body c.args.self.now full rest can)
+    let p = err_from_is_err_and c.from_residual.result c.from_residual.ensures.1 in
+    rw (p.1, p.2) (fails x (repeat c.args.line c.args.times body rest) c.args.self.now c.in_err-put.field-0.0 c.args.line c.in_err-put.ensures.limited (λ k full can. repeat_limited k x.plan.now x.counters c.args.line c.args.times body c.args.self.now full rest can))
 
-pub repeat-returns-in-Err-enter : goal.repeat-returns-in-Err-enter
-repeat-returns-in-Err-enter t c = λ rest.
+pub repeat-returns-in_err-enter : goal.repeat-returns-in_err-enter
+repeat-returns-in_err-enter t c = λ rest.
     let x = c.args.context in
     let body = block_in x c.args.body.now in
     let w0 = c.args.self.now in
     let w = c.enter.new.self in
-    let emits = subst (λ m. Emits w0 c.put.new.self (alone c.args.line (Set m c.args.times) x.counters w0.now)) c.in-Some.ensures.value c.in_default-put.ensures.emits in
-    fails x (repeat c.args.line c.args.times body rest) w0 c.in-Err-enter.fault c.args.line c.in-Err-enter.ensures.limited (λ k full can. can_repeat_entered k x.plan.now x.counters c.args.line c.args.times body rest w0 c.put.new.self w w true c.all_fall.result emits c.in_default-put.ensures.now (c.all_fall.ensures (tables x.blocks.now) c.requires.facts) full can)
+    let emits = subst (λ m. Emits w0 c.put.new.self (alone c.args.line (Set m c.args.times) x.counters w0.now)) c.in-Some.ensures.value c.in_ok-put.ensures.emits in
+    let p = err_from_is_err_and c.from_residual-in_err-enter.result c.from_residual-in_err-enter.ensures.1 in
+    rw (p.1, p.2) (fails x (repeat c.args.line c.args.times body rest) w0 c.in_err-enter.field-0.0 c.args.line c.in_err-enter.ensures.limited (λ k full can. can_repeat_entered k x.plan.now x.counters c.args.line c.args.times body rest w0 c.put.new.self w w true c.all_fall.result emits c.in_ok-put.ensures.now (c.all_fall.ensures (tables x.blocks.now) c.requires.facts) full can))
 
-pub repeat-returns-in-Err-block : goal.repeat-returns-in-Err-block
-repeat-returns-in-Err-block t c = λ rest.
+pub repeat-returns-in_err-falls : goal.repeat-returns-in_err-falls
+repeat-returns-in_err-falls t c = λ rest.
     let x = c.args.context in
     let body = block_in x c.args.body.now in
     let w0 = c.args.self.now in
     let w1 = c.put.new.self in
     let w = c.enter.new.self in
-    let emits = subst (λ m. Emits w0 w1 (alone c.args.line (Set m c.args.times) x.counters w0.now)) c.in-Some.ensures.value c.in_default-put.ensures.emits in
-    let now = c.in_default-put.ensures.now in
+    let emits = subst (λ m. Emits w0 w1 (alone c.args.line (Set m c.args.times) x.counters w0.now)) c.in-Some.ensures.value c.in_ok-put.ensures.emits in
+    let now = c.in_ok-put.ensures.now in
     let falls = c.all_fall.ensures (tables x.blocks.now) c.requires.facts in
-    let entered = c.in_default-enter.ensures in
-    let h = c.in-Err-block.ensures in
-    record {
+    let entered = c.in_ok-enter.ensures in
+    let h = c.in_err-falls.ensures in
+    let p = err_from_is_err_and c.from_residual-in_err-falls.result c.from_residual-in_err-falls.ensures.1 in
+    rw (p.1, p.2) (record {
       refused = λ is judged. h.refused is (repeat_body x.plan.now x.counters c.args.line c.args.times body rest w0 w1 w w true c.all_fall.result now falls entered.now judged);
-      why = repeat_body_why x.plan.now x.counters c.args.line c.args.times body rest w0 w1 w w true c.all_fall.result c.in-Err-block.fault now falls entered.now h.why;
-      limited = limit_map c.in-Err-block.fault (λ at k full can. full (can_repeat_body k x.plan.now x.counters c.args.line c.args.times body rest w0 w1 w w true c.all_fall.result emits now falls entered.lines entered.unpriced entered.now can)) h.limited;
-    }
+      why = repeat_body_why x.plan.now x.counters c.args.line c.args.times body rest w0 w1 w w true c.all_fall.result c.in_err-falls.field-0.0 now falls entered.now h.why;
+      limited = limit_map c.in_err-falls.field-0.0 (λ at k full can. full (can_repeat_body k x.plan.now x.counters c.args.line c.args.times body rest w0 w1 w w true c.all_fall.result emits now falls entered.lines entered.unpriced entered.now can)) h.limited;
+    })
 
-pub repeat-returns-in-Err-close_loop : goal.repeat-returns-in-Err-close_loop
-repeat-returns-in-Err-close_loop t c = λ rest.
+pub repeat-returns-in_err-close_loop : goal.repeat-returns-in_err-close_loop
+repeat-returns-in_err-close_loop t c = λ rest.
     let x = c.args.context in
     let body = block_in x c.args.body.now in
     let w0 = c.args.self.now in
     let w1 = c.put.new.self in
     let w2 = c.enter.new.self in
     let w3 = c.block.new.self in
-    let f = c.in-Ok.falls in
-    let e = c.in-Err-close_loop.fault in
-    let emits = subst (λ m. Emits w0 w1 (alone c.args.line (Set m c.args.times) x.counters w0.now)) c.in-Some.ensures.value c.in_default-put.ensures.emits in
-    let now = c.in_default-put.ensures.now in
+    let f = c.in_ok-falls.falls in
+    let e = c.in_err-close_loop.field-0.0 in
+    let emits = subst (λ m. Emits w0 w1 (alone c.args.line (Set m c.args.times) x.counters w0.now)) c.in-Some.ensures.value c.in_ok-put.ensures.emits in
+    let now = c.in_ok-put.ensures.now in
     let falls = c.all_fall.ensures (tables x.blocks.now) c.requires.facts in
-    let entered = c.in_default-enter.ensures in
-    let left = c.in-Ok.ensures.left in
-    let h = c.in-Err-close_loop.ensures in
-    fails_at x (repeat c.args.line c.args.times body rest) w0 e c.args.line h.refused h.limited
+    let entered = c.in_ok-enter.ensures in
+    let left = c.in_ok-falls.ensures.left in
+    let h = c.in_err-close_loop.ensures in
+    let p = err_from_is_err_and c.from_residual-in_err-close_loop.result c.from_residual-in_err-close_loop.ensures.1 in
+    rw (p.1, p.2) (fails_at x (repeat c.args.line c.args.times body rest) w0 e c.args.line h.refused h.limited
     (λ cause r judged. r.1 w1.saved.items w2.now (left.emits.saved ∙ entered.saved) (repeat_round x.plan.now x.counters c.args.line c.args.times body rest w0 w1 w2 w3 f c.all_fall.result now falls entered.now left judged))
     (λ cause r. repeat_why x.plan.now x.counters c.args.line c.args.times body rest w0 w1 w2 w3 f c.all_fall.result cause now falls entered.now entered.saved left r)
-    (λ k full can. can_repeat_closed k x.plan.now x.counters c.args.line c.args.times body rest w0 w1 w2 w3 f c.all_fall.result emits now falls entered.lines entered.unpriced entered.now left full can)
+    (λ k full can. can_repeat_closed k x.plan.now x.counters c.args.line c.args.times body rest w0 w1 w2 w3 f c.all_fall.result emits now falls entered.lines entered.unpriced entered.now left full can))
 
 pub repeat-returns : goal.repeat-returns
 repeat-returns t c = λ rest.
     let x = c.args.context in
     let body = block_in x c.args.body.now in
     let deep : x.counters + 1 ≤ 8 = (let lt : x.counters < 8 = c.in-Some.ensures.in_range.0 refl in omega (arith, lt)) in
-    let entered = c.in_default-enter.ensures in
-    let closed = c.in_default-close_loop.ensures in
+    let entered = c.in_ok-enter.ensures in
+    let closed = c.in_ok-close_loop.ensures in
     record {
-      left = repeat_step x.plan.now x.counters c.args.line c.args.times body c.args.self.now c.put.new.self c.enter.new.self c.block.new.self c.close_loop.new.self c.in-Ok.falls c.all_fall.result c.len-target.result c.in-Some.counter
-          deep c.in-Some.ensures.value c.in_default-put.ensures.emits c.in_default-put.ensures.now c.len-target.ensures (c.all_fall.ensures (tables x.blocks.now) c.requires.facts) entered.lines entered.unpriced entered.now entered.saved c.in-Ok.ensures.left closed.round rest;
+      left = repeat_step x.plan.now x.counters c.args.line c.args.times body c.args.self.now c.put.new.self c.enter.new.self c.block.new.self c.close_loop.new.self c.in_ok-falls.falls c.all_fall.result c.len-target.result c.in-Some.counter
+          deep c.in-Some.ensures.value c.in_ok-put.ensures.emits c.in_ok-put.ensures.now c.len-target.ensures (c.all_fall.ensures (tables x.blocks.now) c.requires.facts) entered.lines entered.unpriced entered.now entered.saved c.in_ok-falls.ensures.left closed.round rest;
       room = closed.room;
       table = closed.table;
     }
