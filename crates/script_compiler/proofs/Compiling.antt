@@ -1,5 +1,5 @@
 -- The result of compiling a block or a statement, from its parts.
-use Rattle.std.proofs.Common.{◌≡◌, ℕ, ◌≤◌, Bool, Result, Ok, Err, inl, length, sym, subst}
+use Rattle.std.proofs.Common.{◌≡◌, ℕ, ◌≤◌, Bool, Result, Ok, Err, inl, sym, subst}
 use Rattle.std.specs.Prelude.{IfOk, IfErr, OnOk}
 use Rattle.script_front.specs.Block.{Block, nothing, apply}
 use Rattle.script_meaning.specs.Judged.{IsJudged}
@@ -13,16 +13,16 @@ use Rattle.script_compiler.specs.Working.{Work}
 use Rattle.script_compiler.specs.Emission.{Left}
 use Rattle.script_compiler.specs.Compiling.{Fails, Compiles}
 use Rattle.script_compiler.specs.Refusals.{IsLimitAt, IfRefused, IfLimit}
-use Rattle.script_compiler.specs.Space.{HasTable, CanEmit}
+use Rattle.script_compiler.specs.Space.{IsInLimits, CanEmit}
 use Rattle.script_compiler.proofs.Emitted.{left_apply}
 use Rattle.script_compiler.proofs.Reasons.{refused_map}
 use Rattle.script_compiler.proofs.Spaces.{limit_map}
 use Rattle.script_compiler.proofs.Fitting.{can_apply}
 
 module _ (c : Context) (b : Block) (v : Work) where
-  pub compiles : (rest : Block) (w : Work) (x : Result Bool CompileFault) → IfOk x (λ f. Left c.plan.now c.counters b v w f rest) → OnOk x (length w.lines.items ≤ 4096) → OnOk x (HasTable w) → IfErr x (λ e. Fails c b v e) → Compiles c b rest v w x
-  compiles rest w (Ok f) left room table fails = record { left = left; room = room; table = table }
-  compiles rest w (Err e) left room table fails = fails
+  pub compiles : (rest : Block) (w : Work) (x : Result Bool CompileFault) → IfOk x (λ f. Left c.plan.now c.counters b v w f rest) → OnOk x (IsInLimits w) → IfErr x (λ e. Fails c b v e) → Compiles c b rest v w x
+  compiles rest w (Ok f) left limits fails = record { left = left; limits = limits }
+  compiles rest w (Err e) left limits fails = fails
 
   -- a fault that is no refusal
   pub fails : (e : CompileFault) (line : ℕ) {P : CodeLimit → Type 0} → IsLimitAt line P e → ((k : CodeLimit) → P k → CanEmit k c.plan.now c.counters b v → ⊥) → Fails c b v e
@@ -47,8 +47,7 @@ pub compiles_applied : (c d : Context) (line number : ℕ) (named rest : Block) 
     Compiles d named nothing v w x → Compiles c (apply line number named rest) rest v w x
 compiles_applied c d line number named rest v w (Ok f) plan counters deep h = record {
   left = left_apply c.plan.now c.counters line number named rest v w f deep (subst (λ p. Left p c.counters named v w f nothing) plan (subst (λ r. Left d.plan.now r named v w f nothing) counters h.left));
-  room = h.room;
-  table = h.table;
+  limits = h.limits;
 }
 compiles_applied c d line number named rest v w (Err e) plan counters deep h = record {
   refused = λ is judged. h.refused is (subst (λ p. IsJudged p named v.now) (sym plan) judged.0);

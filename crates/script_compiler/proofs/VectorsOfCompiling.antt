@@ -1,5 +1,5 @@
 -- Test vectors of the result of compiling a block, the block without statements; and of faults and limits.
-use Rattle.std.proofs.Common.{◌≡◌, ℕ, ◌+◌, ◌≤◌, true, false, [], ◌∷◌, length, Some, None, Ok, Err, refl, arith}
+use Rattle.std.proofs.Common.{◌≡◌, ℕ, ◌+◌, ◌≤◌, true, false, [], ◌∷◌, length, Some, None, Ok, Err, refl, ap, arith}
 use Rattle.plan_code.specs.declared.instr.Instr.{Instr}
 use Rattle.plan_flow.specs.declared.cause.Cause.{Cause}
 use Rattle.script_front.specs.declared.tree.Statement.TheVariants.{End}
@@ -9,7 +9,7 @@ use Rattle.script_meaning.specs.Scheme.{placed_instr}
 use Rattle.script_compiler.specs.declared.fault.CodeLimit.TheVariants.{Instructions, Labels, Counters}
 use Rattle.script_compiler.specs.declared.fault.CompileFault.TheVariants.{Refused, Limit}
 use Rattle.script_compiler.specs.Refusals.{IsLimitAt}
-use Rattle.script_compiler.specs.Space.{LacksSpace}
+use Rattle.script_compiler.specs.Space.{LacksSpace, HasTable, IsInLimits}
 use Rattle.script_compiler.specs.Working.{Work}
 use Rattle.script_compiler.specs.Emission.{tables}
 use Rattle.script_compiler.specs.Compiling.{CanCompile, Compiles, block_in, statement_in}
@@ -29,7 +29,7 @@ module _ (c : Context) (w : Work) where
 
   -- nothing is emitted, and control reaches the end
   compiled : CanCompile c w → Compiles c nothing nothing w w (Ok true)
-  compiled can = record { left = left_start c.plan.now c.counters nothing w; room = can.room; table = can.table }
+  compiled can = record { left = left_start c.plan.now c.counters nothing w; limits = can.limits }
 
   ends : Compiles c nothing nothing w w (Ok false) → ⊥
   ends h = let leads : Some w.now ≡ None = h.left.leads in cc
@@ -39,6 +39,12 @@ module _ (c : Context) (w : Work) where
   refused line cause h = h.refused tt tt
 
   -- ---- limits
+
+  no_code : w.lines.items ≡ [] → HasTable w → IsInLimits w
+  no_code none table = record { room = let n = ap length none in omega (arith, n); table = table }
+
+  one_too_many : length w.lines.items ≡ 4097 → IsInLimits w → ⊥
+  one_too_many many h = let room = h.room in omega (arith, many, room)
 
   no_space : length w.lines.items ≡ 4096 → LacksSpace Instructions w
   no_space full p ps at space = let more : length w.lines.items + length (p ∷ ps) ≤ 4096 = space in omega (arith, full, more)

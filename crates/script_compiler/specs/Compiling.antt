@@ -1,5 +1,5 @@
 -- What compiling a block or a statement needs, and what it results in. Not used in public contracts.
-use Rattle.std.specs.Prelude.{◌≡◌, ◌≤◌, Bool, List, length, map, Result, Ok, Err}
+use Rattle.std.specs.Prelude.{◌≡◌, ◌≤◌, Bool, List, map, Result, Ok, Err}
 use Rattle.script_front.specs.declared.tree.Statement.{Statement}
 use Rattle.script_front.specs.Block.{Block, before, block_of}
 use Rattle.script_meaning.specs.Judged.{IsJudged}
@@ -9,7 +9,7 @@ use Rattle.script_compiler.specs.declared.fault.CompileFault.{CompileFault}
 use Rattle.script_compiler.specs.Working.{Work}
 use Rattle.script_compiler.specs.Emission.{Left, tables, facts_of}
 use Rattle.script_compiler.specs.Refusals.{IsRefusal, IfRefused, IfLimit}
-use Rattle.script_compiler.specs.Space.{HasTable, CanEmit}
+use Rattle.script_compiler.specs.Space.{IsInLimits, CanEmit}
 
 -- the block of these statements, which can apply the blocks of the context
 abbrev pub block_in : Context → List Statement → Block
@@ -21,23 +21,19 @@ statement_in c statement rest = before (tables c.blocks.now) statement rest
 
 -- more can be compiled in this context
 pub record CanCompile (c : Context) (w : Work) : Type 0 where
-  -- the code so far is within the limit on instructions
-  pub room : length w.lines.items ≤ 4096
+  -- the code so far is within the limits
+  pub limits : IsInLimits w
   -- there is a counter for each enclosing repeat
   pub counters : c.counters ≤ 8
   -- the facts are those of the blocks, in order
   pub facts : c.facts.now ≡ map facts_of (tables c.blocks.now)
-  -- the labels and the configurations that they name are within their limits
-  pub table : HasTable w
 
 -- the block has been compiled up to `rest`, and more can be; `is_reached` says whether control reaches the rest
 pub record Compiled (c : Context) (b rest : Block) (old new : Work) (is_reached : Bool) : Type 0 where
   -- its code has been emitted
   pub left : Left c.plan.now c.counters b old new is_reached rest
-  -- that is within the limit on instructions
-  pub room : length new.lines.items ≤ 4096
-  -- the labels and the configurations that they name are within their limits
-  pub table : HasTable new
+  -- the code so far is within the limits
+  pub limits : IsInLimits new
 
 -- why the block does not compile
 pub record Fails (c : Context) (b : Block) (old : Work) (e : CompileFault) : Type 0 where

@@ -48,6 +48,13 @@ pub record HasTable (w : Work) : Type 0 where
   pub room : Leaves [] w.unpriced.table w.unpriced.items
   pub tabled : Tabled [] w.unpriced.items w.unpriced.table
 
+-- the code so far is within the limits on codes
+pub record IsInLimits (w : Work) : Type 0 where
+  -- on instructions
+  pub room : length w.lines.items ≤ 4096
+  -- on labels, and on the configurations that they name
+  pub table : HasTable w
+
 -- the first of these instructions has a label, which names the configurations that are known here
 pub record IsCovered (t : Flow) (ps : List PlacedInstr) : Type 0 where
   pub place : PlacedInstr

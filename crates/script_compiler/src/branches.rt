@@ -1,6 +1,6 @@
 //! The beginnings and ends of branches and loops: what is saved, and what must agree where paths merge.
 
-ghost use Rattle.std.specs.Prelude.{◌≡◌, ℕ, ◌+◌, ◌<◌, ◌≤◌, true, if◌then◌else◌, [], ◌∷◌, ◌++◌, length, List, Option, Some, is_some, OnOk, IfOk, IfErr};
+ghost use Rattle.std.specs.Prelude.{◌≡◌, ℕ, ◌+◌, ◌<◌, true, if◌then◌else◌, [], ◌∷◌, ◌++◌, length, List, Option, Some, is_some, OnOk, IfOk, IfErr};
 ghost use Rattle.plan_code.specs.declared.instr.Instr.{Instr};
 ghost use Rattle.script_meaning.specs.declared.flow.ProgramPoint.{ProgramPoint};
 ghost use Rattle.script_meaning.specs.Scheme.{PlacedInstr, alone, onward, meet, join, unpriced_labels};
@@ -9,7 +9,7 @@ ghost use Rattle.script_meaning.specs.Compiled.{lines_of_placed};
 ghost use Rattle.plan_flow.specs.declared.cause.Cause.TheVariants.{Mismatch};
 ghost use Rattle.script_compiler.specs.Pool.{Extends, IsInPool, point_in};
 ghost use Rattle.script_compiler.specs.Refusals.{IsLimitAt, IfRefused, IfLimit};
-ghost use Rattle.script_compiler.specs.Space.{HasSpace, LacksSpace, HasTable, IsCovered, Covers};
+ghost use Rattle.script_compiler.specs.Space.{HasSpace, LacksSpace, IsInLimits, HasTable, IsCovered, Covers};
 ghost use Rattle.script_compiler.specs.Emission.{Forks, ClosesIf, StartsElse, ClosesLoop, IsAfterBranches, jumping, way, points_of};
 
 use crate::fault::CompileFault;
@@ -23,12 +23,10 @@ impl Work {
     /// Emits a forward jump whose target is patched later, and saves what is known before it.
     #[inline(never)]
     pub(crate) fn fork(&mut self, line: u16, counters: u8, instr: Instr) -> Result<(), CompileFault>
-        requires room { length self.old.lines.items ≤ 4096 }
-        requires table { HasTable self.old }
+        requires limits { IsInLimits self.old }
         ensures forks { OnOk result (Forks line instr counters self.old self.new) }
         ensures pool { Extends self.old.pool self.new.pool }
-        ensures room { OnOk result (length self.new.lines.items ≤ 4096) }
-        ensures table { OnOk result (HasTable self.new) }
+        ensures limits { OnOk result (IsInLimits self.new) }
         ensures limited { IfErr result (λ e. IsLimitAt line
             (λ limit. LacksSpace limit self.old) e) }
     {
@@ -74,17 +72,15 @@ impl Work {
         back: Instr,
     ) -> Result<(), CompileFault>
         requires saved { 0 < length self.old.saved.items }
-        requires few { length self.old.lines.items ≤ 4096 }
-        requires table { HasTable self.old }
+        requires limits { IsInLimits self.old }
         ensures round { OnOk result ((front : List ProgramPoint) (entry : ProgramPoint) →
             self.old.saved.items ≡ front ++ entry ∷ [] → ClosesLoop falls line counters back front
             entry self.old self.new) }
-        ensures room { OnOk result (length self.new.lines.items ≤ 4096) }
         ensures refused { IfErr result (λ e. IfRefused e (λ at cause. (at ≡ line)
             × ((cause ≡ Mismatch) × ((front : List ProgramPoint) (entry : ProgramPoint)
             → self.old.saved.items ≡ front ++ entry ∷ []
             → FitsEntry (way falls self.old) entry → ⊥)))) }
-        ensures table { OnOk result (HasTable self.new) }
+        ensures limits { OnOk result (IsInLimits self.new) }
         ensures limited { IfErr result (λ e. IfLimit e (λ at limit. (at ≡ line)
             × ((m n : ℕ) (i : Instr) (ps : List PlacedInstr) → HasSpace limit self.old
             (onward (way falls self.old) [] (alone m i n) ++ ps) → ⊥))) }
@@ -140,18 +136,16 @@ impl Work {
     ) -> Result<bool, CompileFault>
         requires saved { 0 < length self.old.saved.items }
         requires there { at < length self.old.lines.items }
-        requires few { length self.old.lines.items ≤ 4096 }
-        requires table { HasTable self.old }
+        requires limits { IsInLimits self.old }
         ensures is_reached { IfOk result (λ f. f ≡ true) }
         ensures closes { OnOk result ((front : List ProgramPoint) (entry : ProgramPoint)
             → self.old.saved.items ≡ front
             ++ entry ∷ [] → ClosesIf falls line contact at front entry self.old self.new) }
-        ensures room { OnOk result (length self.new.lines.items ≤ 4096) }
         ensures refused { IfErr result (λ e. IfRefused e (λ at cause. (at ≡ line)
             × ((cause ≡ Mismatch) × ((front : List ProgramPoint) (entry : ProgramPoint)
             → self.old.saved.items ≡ front ++ entry ∷ []
             → WaysAgree (way falls self.old) (Some entry) → ⊥)))) }
-        ensures table { OnOk result (HasTable self.new) }
+        ensures limits { OnOk result (IsInLimits self.new) }
         ensures limited { IfErr result (λ e. IfLimit e (λ at limit. (at ≡ line)
             × ((front : List ProgramPoint) (entry : ProgramPoint)
             → self.old.saved.items ≡ front ++ entry ∷ [] → (ps : List PlacedInstr)
@@ -169,8 +163,7 @@ impl Work {
 
     /// Leaves a first branch, if control reaches its end: saves what is known and emits a jump over the second.
     fn jump_past(&mut self, falls: bool, line: u16, counters: u8) -> Result<(), CompileFault>
-        requires room { length self.old.lines.items ≤ 4096 }
-        requires table { HasTable self.old }
+        requires limits { IsInLimits self.old }
         ensures lines { OnOk result (self.new.lines.items ≡ self.old.lines.items
             ++ lines_of_placed (jumping falls line counters self.old)) }
         ensures unpriced { OnOk result (self.new.unpriced.items ≡ self.old.unpriced.items
@@ -178,8 +171,7 @@ impl Work {
         ensures pool { Extends self.old.pool self.new.pool }
         ensures saved { OnOk result (self.new.saved.items ≡ self.old.saved.items
             ++ points_of (way falls self.old)) }
-        ensures room { OnOk result (length self.new.lines.items ≤ 4096) }
-        ensures table { OnOk result (HasTable self.new) }
+        ensures limits { OnOk result (IsInLimits self.new) }
         ensures limited { IfErr result (λ e. IsLimitAt line (λ limit. (m n : ℕ) (i : Instr)
             (ps : List PlacedInstr) → HasSpace limit self.old
             (onward (way falls self.old) [] (alone m i n) ++ ps) → ⊥) e) }
@@ -203,13 +195,11 @@ impl Work {
     ) -> Result<(), CompileFault>
         requires saved { 0 < length self.old.saved.items }
         requires there { at < length self.old.lines.items }
-        requires few { length self.old.lines.items ≤ 4096 }
-        requires table { HasTable self.old }
+        requires limits { IsInLimits self.old }
         ensures starts_else { OnOk result ((front : List ProgramPoint) (entry : ProgramPoint) →
             self.old.saved.items ≡ front ++ entry ∷ [] → StartsElse falls line counters contact at front
             entry self.old self.new) }
-        ensures room { OnOk result (length self.new.lines.items ≤ 4096) }
-        ensures table { OnOk result (HasTable self.new) }
+        ensures limits { OnOk result (IsInLimits self.new) }
         ensures limited { IfErr result (λ e. IsLimitAt line (λ limit. (front : List ProgramPoint)
             (entry : ProgramPoint) → self.old.saved.items ≡ front ++ entry ∷ []
             → (m n : ℕ) (i : Instr) (ps : List PlacedInstr) → HasSpace limit self.old
@@ -236,17 +226,15 @@ impl Work {
     ) -> Result<bool, CompileFault>
         requires saved { first ≡ true → 0 < length self.old.saved.items }
         requires there { first ≡ true → jump < length self.old.lines.items }
-        requires few { length self.old.lines.items ≤ 4096 }
-        requires table { HasTable self.old }
+        requires limits { IsInLimits self.old }
         ensures arrives { IfOk result (λ f. (front : List ProgramPoint) (a : Option ProgramPoint) →
             first ≡ is_some a → self.old.saved.items ≡ front ++ points_of a → IsAfterBranches a (way
             second self.old) front line jump self.old self.new f) }
-        ensures room { OnOk result (length self.new.lines.items ≤ 4096) }
         ensures refused { IfErr result (λ e. IfRefused e (λ at cause. (at ≡ line)
             × ((cause ≡ Mismatch) × ((front : List ProgramPoint) (a : Option ProgramPoint)
             → first ≡ is_some a → self.old.saved.items ≡ front ++ points_of a
             → BranchesAgree a (way second self.old) → ⊥)))) }
-        ensures table { OnOk result (HasTable self.new) }
+        ensures limits { OnOk result (IsInLimits self.new) }
         ensures limited { IfErr result (λ e. IfLimit e (λ at limit. (at ≡ line)
             × ((front : List ProgramPoint) (a : Option ProgramPoint) → first ≡ is_some a
             → self.old.saved.items ≡ front ++ points_of a → (ps : List PlacedInstr)

@@ -9,7 +9,7 @@ ghost use Rattle.script_meaning.specs.Scheme.{PlacedInstr, without_label, at_lab
 ghost use Rattle.plan_flow.specs.Causes.{FlowRefused};
 ghost use Rattle.script_compiler.specs.Pool.{Extends, IsInPool, point_in};
 ghost use Rattle.script_compiler.specs.Refusals.{IsLimitAt, IfRefused, IfLimit};
-ghost use Rattle.script_compiler.specs.Space.{HasSpace, LacksSpace, HasTable, IsCovered, Covers};
+ghost use Rattle.script_compiler.specs.Space.{HasSpace, LacksSpace, IsInLimits, HasTable, IsCovered, Covers};
 ghost use Rattle.script_compiler.specs.declared.fault.CodeLimit.TheVariants.{Instructions};
 ghost use Rattle.script_compiler.specs.Emission.{Emits, line_of_instr, way};
 
@@ -29,12 +29,11 @@ impl Work {
         counters: u8,
         point_here: &IndexedPoint,
     ) -> Result<(), CompileFault>
-        requires room { length self.old.lines.items ≤ 4096 }
         requires few { length self.old.unpriced.items < 1024 }
         requires within { IsInPool (length self.old.pool) point_here.now }
         requires same { point_in self.old.pool point_here.now ≡ self.old.now }
         requires labelled { self.old.now.labelled ≡ true }
-        requires table { HasTable self.old }
+        requires limits { IsInLimits self.old }
         ensures lines { self.new.lines ≡ self.old.lines }
         ensures saved { self.new.saved ≡ self.old.saved }
         ensures pool { self.new.pool ≡ self.old.pool }
@@ -70,8 +69,7 @@ impl Work {
 
     /// Emits the pending label, if any.
     fn put_label(&mut self, line: u16, counters: u8) -> Result<(), CompileFault>
-        requires room { length self.old.lines.items ≤ 4096 }
-        requires table { HasTable self.old }
+        requires limits { IsInLimits self.old }
         ensures lines { self.new.lines ≡ self.old.lines }
         ensures saved { self.new.saved ≡ self.old.saved }
         ensures pool { Extends self.old.pool self.new.pool }
@@ -126,14 +124,12 @@ impl Work {
     /// Emits an instruction, after the pending label, if any.
     #[inline(never)]
     pub(crate) fn put(&mut self, line: u16, counters: u8, instr: Instr) -> Result<(), CompileFault>
-        requires room { length self.old.lines.items ≤ 4096 }
-        requires table { HasTable self.old }
+        requires limits { IsInLimits self.old }
         ensures emits { OnOk result (Emits self.old self.new
             (alone line instr counters self.old.now)) }
         ensures pool { Extends self.old.pool self.new.pool }
         ensures now { OnOk result (self.new.now ≡ without_label self.old.now.flow) }
-        ensures room { OnOk result (length self.new.lines.items ≤ 4096) }
-        ensures table { OnOk result (HasTable self.new) }
+        ensures limits { OnOk result (IsInLimits self.new) }
         ensures limited { IfErr result (λ e. IsLimitAt line
             (λ limit. LacksSpace limit self.old) e) }
     {
@@ -152,8 +148,7 @@ impl Work {
         counters: u8,
         act: &Act,
     ) -> Result<bool, CompileFault>
-        requires room { length self.old.lines.items ≤ 4096 }
-        requires table { HasTable self.old }
+        requires limits { IsInLimits self.old }
         ensures is_reached { IfOk result (λ f. f ≡ true) }
         ensures emits { OnOk result (Emits self.old self.new
             (alone line (instr_of_act act.now) counters self.old.now)) }
@@ -161,11 +156,10 @@ impl Work {
             (after_instr plan.now (instr_of_act act.now) self.old.now.flow)) }
         ensures fine { OnOk result (IsFine plan.now (instr_of_act act.now)
             (known_at self.old.now.flow)) }
-        ensures room { OnOk result (length self.new.lines.items ≤ 4096) }
         ensures refused { IfErr result (λ e. IfRefused e (λ at cause. (at ≡ line) × (FlowRefused
             plan.now (instr_of_act act.now) (known_at self.old.now.flow) cause
             × (IsFine plan.now (instr_of_act act.now) (known_at self.old.now.flow) → ⊥)))) }
-        ensures table { OnOk result (HasTable self.new) }
+        ensures limits { OnOk result (IsInLimits self.new) }
         ensures limited { IfErr result (λ e. IfLimit e (λ at limit. (at ≡ line)
             × LacksSpace limit self.old)) }
     {
@@ -230,12 +224,10 @@ impl Work {
 
     /// Ends a script: emits an `End` if control reaches its end.
     pub(crate) fn close(&mut self, falls: bool, line: u16) -> Result<(), CompileFault>
-        requires room { length self.old.lines.items ≤ 4096 }
-        requires table { HasTable self.old }
+        requires limits { IsInLimits self.old }
         ensures emits { OnOk result (Emits self.old self.new (onward (way falls self.old) []
             (alone line End 0))) }
-        ensures room { OnOk result (length self.new.lines.items ≤ 4096) }
-        ensures table { OnOk result (HasTable self.new) }
+        ensures limits { OnOk result (IsInLimits self.new) }
         ensures limited { IfErr result (λ e. IsLimitAt line (λ limit. HasSpace limit self.old
             (onward (way falls self.old) [] (alone line End 0)) → ⊥) e) }
     {

@@ -53,10 +53,9 @@ returns-clause-repeats c =
 
 pub block-requires : goal.block-requires
 block-requires c = record {
-  room = let e = ap length c.new-work.ensures.lines in omega (arith, e);
+  limits = record { room = let e = ap length c.new-work.ensures.lines in omega (arith, e); table = table_none _ c.new-work.ensures.table c.new-work.ensures.unpriced };
   counters = omega arith;
   facts = cc c.in_ok-facts.ensures;
-  table = table_none _ c.new-work.ensures.table c.new-work.ensures.unpriced;
 }
 
 pub returns-in_err-falls-clause-limited : goal.returns-in_err-falls-clause-limited

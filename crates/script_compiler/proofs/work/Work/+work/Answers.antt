@@ -27,8 +27,7 @@ use Rattle.script_compiler.proofs.work.Work.+work.Goals as goal
 pub block-loop-statement-init : goal.block-loop-statement-init
 block-loop-statement-init t c = record {
   left = left_start c.args.context.plan.now c.args.context.counters (block_in c.args.context c.args.statements.now) c.args.self.now;
-  room = c.requires.room;
-  table = c.requires.table;
+  limits = c.requires.limits;
 }
 
 pub block-statement-requires : goal.block-statement-requires
@@ -36,10 +35,9 @@ block-statement-requires t c =
     let w = weight_each (tables c.args.context.blocks.now) c.args.statements.now c.loop-statement.statement-index c.statement-item.result c.statement-item.is c.loop-statement-test.true in (
       omega (arith, c.decreases, w),
       record {
-        room = c.loop-statement.invariant.room;
+        limits = c.loop-statement.invariant.limits;
         counters = c.requires.counters;
         facts = c.requires.facts;
-        table = c.loop-statement.invariant.table;
       },
     )
 
@@ -49,8 +47,7 @@ block-loop-statement-preserved t c =
     let done = c.in_ok-is_reached.ensures (block_in c.args.context (drop (k + 1) c.args.statements.now)) in
     record {
       left = block_step c.args.context.plan.now c.args.context.counters (tables c.args.context.blocks.now) c.args.statements.now k c.statement-item.result c.args.self.now c.loop-statement.self c.statement.new.self c.loop-statement.is_reached c.in_ok-is_reached.is_reached c.statement-item.is c.loop-statement-test.true c.if-not-is_reached.false c.loop-statement.invariant.left (λ rest. (c.in_ok-is_reached.ensures rest).left);
-      room = done.room;
-      table = done.table;
+      limits = done.limits;
     }
 
 pub block-returns-then-not-is_reached : goal.block-returns-then-not-is_reached
@@ -91,7 +88,7 @@ statement-returns-in-Act t c = λ rest.
     let line = c.in-Act.line in
     let act = c.in-Act.act in
     compiles_as x (statement_in x c.args.statement.now rest) (basic line act rest) rest w c.act.new.self c.act.result (is_act (tables x.blocks.now) c.args.statement.now line act c.in-Act.is rest)
-    (compiles x (basic line act rest) w rest c.act.new.self c.act.result (act_step x.plan.now x.counters line act rest w c.act.new.self c.act.result c.act.ensures.is_reached c.act.ensures.emits c.act.ensures.now c.act.ensures.fine) c.act.ensures.room c.act.ensures.table
+    (compiles x (basic line act rest) w rest c.act.new.self c.act.result (act_step x.plan.now x.counters line act rest w c.act.new.self c.act.result c.act.ensures.is_reached c.act.ensures.emits c.act.ensures.now c.act.ensures.fine) c.act.ensures.limits
     (err_two c.act.result (λ e h g. fails_at x (basic line act rest) w e line h g (λ cause r judged. r.1 judged.0) (λ cause r. inl (refl, r.0)) (λ k full can. act_limited k x.plan.now x.counters line act w full rest can)) c.act.ensures.refused c.act.ensures.limited))
 
 pub statement-returns-in-Err : goal.statement-returns-in-Err
@@ -144,8 +141,7 @@ statement-returns-then-number-context t c = λ rest.
     let x = c.args.context in
     record {
       left = unnamed_step x.plan.now x.counters c.in-Apply.line x.blocks.now c.args.statement.now c.in-Apply.block c.from-number.result c.args.self.now c.requires.counters (λ rest. is_apply (tables x.blocks.now) c.args.statement.now c.in-Apply.line c.in-Apply.block c.in-Apply.is rest) (c.from-number.ensures ∙ c.get.ensures.value) c.if-number-context.true rest;
-      room = c.requires.room;
-      table = c.requires.table;
+      limits = c.requires.limits;
     }
 
 pub statement-bounds-context-number : goal.statement-bounds-context-number
@@ -159,8 +155,7 @@ statement-returns-then-context-number t c = λ rest.
     let lt : c.from-number.result < length x.facts.now = omega (arith, n, c.if-number-context.false) in
     record {
       left = silent_step x.plan.now x.counters c.in-Apply.line x.blocks.now c.args.statement.now c.in-Apply.block c.from-number.result x.facts.now _ c.args.self.now c.requires.counters (λ rest. is_apply (tables x.blocks.now) c.args.statement.now c.in-Apply.line c.in-Apply.block c.in-Apply.is rest) (c.from-number.ensures ∙ c.get.ensures.value) c.requires.facts lt c.if-context-number.true rest;
-      room = c.requires.room;
-      table = c.requires.table;
+      limits = c.requires.limits;
     }
 
 pub statement-slice_bounds-inner-end-in-Apply : goal.statement-slice_bounds-inner-end-in-Apply
@@ -181,10 +176,9 @@ statement-block-requires t c =
     let w : weight (before table c.args.statement.now nothing) ≡ 1 + weight inner + 0 = ap (λ b. weight b) e in (
       omega (arith, c.decreases, w),
       record {
-        room = c.requires.room;
+        limits = c.requires.limits;
         counters = c.requires.counters;
         facts = facts_take c.args.context.facts.now bs k c.requires.facts;
-        table = c.requires.table;
       },
     )
 
@@ -238,7 +232,7 @@ when-returns t c = λ rest.
     let forks = c.in_default.ensures.forks in
     let left = c.in-Ok.ensures.left in
     compiles x b w0 rest c.close_if.new.self y
-    (when_step x.plan.now x.counters c.args.line c.args.contact c.len-at.result first rest w0 w2 w3 c.close_if.new.self f y c.requires.counters c.len-at.ensures forks left c.close_if.ensures.is_reached c.close_if.ensures.closes) c.close_if.ensures.room c.close_if.ensures.table
+    (when_step x.plan.now x.counters c.args.line c.args.contact c.len-at.result first rest w0 w2 w3 c.close_if.new.self f y c.requires.counters c.len-at.ensures forks left c.close_if.ensures.is_reached c.close_if.ensures.closes) c.close_if.ensures.limits
     (err_two y (λ e h g. fails_at x b w0 e c.args.line h g
     (λ cause r judged. r.1 w0.saved.items w0.now (left.emits.saved ∙ forks.saved) (when_agrees x.plan.now x.counters c.args.line c.args.contact first rest w0 w2 w3 f forks left judged))
     (λ cause r. when_why x.plan.now x.counters c.args.line c.args.contact first rest w0 w2 w3 f cause forks left r)
@@ -312,7 +306,7 @@ either-returns t c = λ rest.
     let starts = c.in_default-start_else.ensures.starts_else in
     let left2 = c.in-Ok-block.ensures.left in
     compiles x (either line c.args.contact first second rest) w0 rest c.close_else.new.self y
-    (ok_map y (λ falls h. either_step x.plan.now x.counters line c.args.contact at c.len-jump.result first second w0 w2 w3 w6 w7 c.close_else.new.self f g falls c.requires.counters c.len-at.ensures c.len-jump.ensures forks left starts left2 h rest) c.close_else.ensures.arrives) c.close_else.ensures.room c.close_else.ensures.table
+    (ok_map y (λ falls h. either_step x.plan.now x.counters line c.args.contact at c.len-jump.result first second w0 w2 w3 w6 w7 c.close_else.new.self f g falls c.requires.counters c.len-at.ensures c.len-jump.ensures forks left starts left2 h rest) c.close_else.ensures.arrives) c.close_else.ensures.limits
     (err_two y (λ e h l. fails_at x (either line c.args.contact first second rest) w0 e line h l
     (λ cause r judged. r.1 w0.saved.items (way f w3) (some_is f w3) (either_saved x.plan.now x.counters line c.args.contact at first second rest w0 w2 w3 w6 w7 f g forks left starts left2)
     (either_agrees x.plan.now x.counters line c.args.contact at first second rest w0 w2 w3 w6 w7 f g forks left starts left2 judged))
@@ -399,8 +393,7 @@ repeat-returns t c = λ rest.
     record {
       left = repeat_step x.plan.now x.counters c.args.line c.args.times body c.args.self.now c.put.new.self c.enter.new.self c.block.new.self c.close_loop.new.self c.in_ok-falls.falls c.all_fall.result c.len-target.result c.in-Some.counter
           deep c.in-Some.ensures.value c.in_ok-put.ensures.emits c.in_ok-put.ensures.now c.len-target.ensures (c.all_fall.ensures (tables x.blocks.now) c.requires.facts) entered.lines entered.unpriced entered.now entered.saved c.in_ok-falls.ensures.left closed.round rest;
-      room = closed.room;
-      table = closed.table;
+      limits = closed.limits;
     }
 
 -- ---- `forever`
@@ -454,6 +447,5 @@ forever-returns t c = λ rest.
     record {
       left = forever_step x.plan.now x.counters c.args.line body c.args.self.now c.enter.new.self c.block.new.self c.close_loop.new.self c.in-Ok.falls c.all_fall.result c.len-target.result
           c.requires.counters c.len-target.ensures (c.all_fall.ensures (tables x.blocks.now) c.requires.facts) entered.lines entered.unpriced entered.now entered.saved c.in-Ok.ensures.left closed.round rest;
-      room = closed.room;
-      table = closed.table;
+      limits = closed.limits;
     }

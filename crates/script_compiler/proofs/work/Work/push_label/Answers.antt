@@ -19,7 +19,7 @@ returns-in-Err-clause-limited c = limit_at_map c.in-Err.fault c.args.line (λ k 
     let w = c.args.self.now in
     let v = c.self.inside.unpriced in
     let s = c.args.point_here.now in
-    let room = subst (λ (x : Work). HasRoomFor x.unpriced.table (configuration_at x.pool s.flow.current ∷ configuration_at x.pool s.flow.next ∷ [])) (sym c.self.view_is) (room_here w s ps c.requires.same c.requires.table cover (subst (λ x. HasSpace x w ps) h.0 space)) in
+    let room = subst (λ (x : Work). HasRoomFor x.unpriced.table (configuration_at x.pool s.flow.current ∷ configuration_at x.pool s.flow.next ∷ [])) (sym c.self.view_is) (room_here w s ps c.requires.same c.requires.limits.table cover (subst (λ x. HasSpace x w ps) h.0 space)) in
     h.1 (room_left v.table (configuration_at v.pool s.flow.current) (configuration_at v.pool s.flow.next) room)) c.in-Err.ensures.limited
 
 pub returns-in-Err-index_of-clause-limited : goal.returns-in-Err-index_of-clause-limited
@@ -27,7 +27,7 @@ returns-in-Err-index_of-clause-limited c = limit_at_map c.in-Err-index_of.fault 
     let w = c.args.self.now in
     let v = c.self.inside.unpriced in
     let s = c.args.point_here.now in
-    let room = subst (λ (x : Work). HasRoomFor x.unpriced.table (configuration_at x.pool s.flow.current ∷ configuration_at x.pool s.flow.next ∷ [])) (sym c.self.view_is) (room_here w s ps c.requires.same c.requires.table cover (subst (λ x. HasSpace x w ps) h.0 space)) in
+    let room = subst (λ (x : Work). HasRoomFor x.unpriced.table (configuration_at x.pool s.flow.current ∷ configuration_at x.pool s.flow.next ∷ [])) (sym c.self.view_is) (room_here w s ps c.requires.same c.requires.limits.table cover (subst (λ x. HasSpace x w ps) h.0 space)) in
     let left = room_next v.table c.index_of.new.self.table (configuration_at v.pool s.flow.current) (configuration_at v.pool s.flow.next) c.in-Ok.ensures.added room in
     h.1 (subst (λ (p : List Configuration). HasRoomFor c.index_of.new.self.table (configuration_at p s.flow.next ∷ [])) (sym c.index_of.ensures.pool) left)) c.in-Err-index_of.ensures.limited
 
@@ -64,7 +64,7 @@ returns-clause-table c =
     let s = c.args.point_here.now in
     let u : Work = record { lines = record { items = v.lines.items }; unpriced = record { items = v.unpriced.items; table = v.unpriced.table }; now = record { flow = v.now.flow; labelled = v.labelled }; saved = c.args.self.now.saved; pool = v.unpriced.pool } in
     let same = subst (λ (x : Work). point_in x.pool s ≡ x.now) (sym c.self.view_is) c.requires.same in
-    let held = subst HasTable (sym c.self.view_is) c.requires.table in
+    let held = subst HasTable (sym c.self.view_is) c.requires.limits.table in
     let start : HasTable u = record { few = held.few; labels = held.labels; room = held.room; tabled = held.tabled } in
     let table = c.index_of-2.new.self.table in
     let there = grown (configuration_at v.unpriced.pool s.flow.current) (configuration_at c.index_of.new.self.pool s.flow.next) c.in-Ok.cur c.index_of.new.self.table table c.in-Ok-index_of.ensures.added c.in-Ok.ensures.index in
