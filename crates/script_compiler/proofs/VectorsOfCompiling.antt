@@ -2,13 +2,14 @@
 use Rattle.std.proofs.Common.{◌≡◌, ℕ, ◌+◌, ◌≤◌, true, false, [], ◌∷◌, length, Some, None, Ok, Err, refl, ap, arith}
 use Rattle.plan_code.specs.declared.instr.Instr.{Instr}
 use Rattle.plan_flow.specs.declared.cause.Cause.{Cause}
+use Rattle.plan_flow.specs.declared.cause.Cause.TheVariants.{Mismatch, Cost}
 use Rattle.script_front.specs.declared.tree.Statement.TheVariants.{End}
 use Rattle.script_front.specs.Block.{Block, nothing, stop}
 use Rattle.script_compiler.specs.declared.context.Context.{Context}
 use Rattle.script_meaning.specs.Scheme.{placed_instr}
 use Rattle.script_compiler.specs.declared.fault.CodeLimit.TheVariants.{Instructions, Labels, Counters}
 use Rattle.script_compiler.specs.declared.fault.CompileFault.TheVariants.{Refused, Limit}
-use Rattle.script_compiler.specs.Refusals.{IsLimitAt}
+use Rattle.script_compiler.specs.Refusals.{IsLimitAt, IfMismatchAt, IfLimitAt}
 use Rattle.script_compiler.specs.Space.{LacksSpace, HasTable, IsInLimits}
 use Rattle.script_compiler.specs.Working.{Work}
 use Rattle.script_compiler.specs.Emission.{tables}
@@ -61,3 +62,15 @@ limit_at_6 h = let same : 6 ≡ 5 = h.0 in omega (arith, same)
 
 refusal_at_5 : (cause : Cause) → IsLimitAt 5 (λ k. k ≡ Labels) (Refused 5 cause) → ⊥
 refusal_at_5 cause h = h
+
+mismatch_at_5 : IfMismatchAt 5 (Labels ≡ Labels) (Refused 5 Mismatch)
+mismatch_at_5 = (refl, (refl, refl))
+
+cost_at_5 : IfMismatchAt 5 (Labels ≡ Labels) (Refused 5 Cost) → ⊥
+cost_at_5 h = let same : Cost ≡ Mismatch = h.1.0 in cc
+
+exceeded_at_5 : IfLimitAt 5 (λ k. k ≡ Labels) (Limit 5 Labels)
+exceeded_at_5 = (refl, refl)
+
+exceeded_at_6 : IfLimitAt 5 (λ k. k ≡ Labels) (Limit 6 Labels) → ⊥
+exceeded_at_6 h = let same : 6 ≡ 5 = h.0 in omega (arith, same)

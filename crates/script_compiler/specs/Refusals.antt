@@ -3,6 +3,7 @@ use Rattle.std.specs.Prelude.{◌≡◌, ℕ}
 use Rattle.plan_code.specs.declared.plan.Plan.{Plan}
 use Rattle.plan_code.specs.declared.instr.Instr.{Instr}
 use Rattle.plan_flow.specs.declared.cause.Cause.{Cause}
+use Rattle.plan_flow.specs.declared.cause.Cause.TheVariants.{Mismatch}
 use Rattle.plan_flow.specs.Flows.{Flow, known_at}
 use Rattle.plan_flow.specs.Causes.{FlowRefused}
 use Rattle.script_compiler.specs.declared.fault.CodeLimit.{CodeLimit}
@@ -36,3 +37,11 @@ abbrev pub IfLimit : CompileFault → (ℕ → CodeLimit → Type 0) → Type 0
 IfLimit (Refused line cause) holds = Unit {0}
 IfLimit (Limit line limit) holds = holds line limit
 IfLimit Memory holds = Unit {0}
+
+-- a refusal is a mismatch at this line, for this reason
+abbrev pub IfMismatchAt : ℕ → Type 0 → CompileFault → Type 0
+IfMismatchAt line reason e = IfRefused e (λ at cause. (at ≡ line) × ((cause ≡ Mismatch) × reason))
+
+-- an exceeded limit is reported at this line, and this holds of it
+abbrev pub IfLimitAt : ℕ → (CodeLimit → Type 0) → CompileFault → Type 0
+IfLimitAt line holds e = IfLimit e (λ at limit. (at ≡ line) × holds limit)

@@ -6,9 +6,8 @@ ghost use Rattle.script_meaning.specs.declared.flow.ProgramPoint.{ProgramPoint};
 ghost use Rattle.script_meaning.specs.Scheme.{PlacedInstr, alone, onward, meet, join, unpriced_labels};
 ghost use Rattle.script_meaning.specs.Judged.{WaysAgree, BranchesAgree, FitsEntry};
 ghost use Rattle.script_meaning.specs.Compiled.{lines_of_placed};
-ghost use Rattle.plan_flow.specs.declared.cause.Cause.TheVariants.{Mismatch};
 ghost use Rattle.script_compiler.specs.Pool.{Extends, IsInPool, point_in};
-ghost use Rattle.script_compiler.specs.Refusals.{IsLimitAt, IfRefused, IfLimit};
+ghost use Rattle.script_compiler.specs.Refusals.{IsLimitAt, IfMismatchAt, IfLimitAt};
 ghost use Rattle.script_compiler.specs.Space.{HasSpace, LacksSpace, IsInLimits, HasTable, IsCovered, Covers};
 ghost use Rattle.script_compiler.specs.Emission.{Forks, ClosesIf, StartsElse, ClosesLoop, IsAfterBranches, jumping, way, points_of};
 
@@ -76,14 +75,13 @@ impl Work {
         ensures round { OnOk result ((front : List ProgramPoint) (entry : ProgramPoint) →
             self.old.saved.items ≡ front ++ entry ∷ [] → ClosesLoop falls line counters back front
             entry self.old self.new) }
-        ensures refused { IfErr result (λ e. IfRefused e (λ at cause. (at ≡ line)
-            × ((cause ≡ Mismatch) × ((front : List ProgramPoint) (entry : ProgramPoint)
-            → self.old.saved.items ≡ front ++ entry ∷ []
-            → FitsEntry (way falls self.old) entry → ⊥)))) }
+        ensures refused { IfErr result (λ e. IfMismatchAt line ((front : List ProgramPoint)
+            (entry : ProgramPoint) → self.old.saved.items ≡ front ++ entry ∷ []
+            → FitsEntry (way falls self.old) entry → ⊥) e) }
         ensures limits { OnOk result (IsInLimits self.new) }
-        ensures limited { IfErr result (λ e. IfLimit e (λ at limit. (at ≡ line)
-            × ((m n : ℕ) (i : Instr) (ps : List PlacedInstr) → HasSpace limit self.old
-            (onward (way falls self.old) [] (alone m i n) ++ ps) → ⊥))) }
+        ensures limited { IfErr result (λ e. IfLimitAt line (λ limit. (m n : ℕ) (i : Instr)
+            (ps : List PlacedInstr) → HasSpace limit self.old (onward (way falls self.old) []
+            (alone m i n) ++ ps) → ⊥) e) }
     {
         let entry = self.restore();
         if !falls {
@@ -106,14 +104,13 @@ impl Work {
             (Some (point_in self.old.pool other.now)) ≡ Some self.new.now) }
         ensures agree { OnOk result (WaysAgree (way falls self.old)
             (Some (point_in self.old.pool other.now))) }
-        ensures refused { IfErr result (λ e. IfRefused e (λ at cause. (at ≡ line)
-            × ((cause ≡ Mismatch) × (WaysAgree (way falls self.old)
-            (Some (point_in self.old.pool other.now)) → ⊥)))) }
+        ensures refused { IfErr result (λ e. IfMismatchAt line (WaysAgree (way falls self.old)
+            (Some (point_in self.old.pool other.now)) → ⊥) e) }
         ensures table { OnOk result (HasTable self.new) }
-        ensures limited { IfErr result (λ e. IfLimit e (λ at limit. (at ≡ line)
-            × ((ps : List PlacedInstr) → ((u : ProgramPoint) → meet (way falls self.old)
+        ensures limited { IfErr result (λ e. IfLimitAt line (λ limit. (ps : List PlacedInstr)
+            → ((u : ProgramPoint) → meet (way falls self.old)
             (Some (point_in self.old.pool other.now)) ≡ Some u → IsCovered u.flow ps)
-            → HasSpace limit self.old ps → ⊥))) }
+            → HasSpace limit self.old ps → ⊥) e) }
     {
         if !falls {
             self.take(other);
@@ -141,16 +138,14 @@ impl Work {
         ensures closes { OnOk result ((front : List ProgramPoint) (entry : ProgramPoint)
             → self.old.saved.items ≡ front
             ++ entry ∷ [] → ClosesIf falls line contact at front entry self.old self.new) }
-        ensures refused { IfErr result (λ e. IfRefused e (λ at cause. (at ≡ line)
-            × ((cause ≡ Mismatch) × ((front : List ProgramPoint) (entry : ProgramPoint)
-            → self.old.saved.items ≡ front ++ entry ∷ []
-            → WaysAgree (way falls self.old) (Some entry) → ⊥)))) }
+        ensures refused { IfErr result (λ e. IfMismatchAt line ((front : List ProgramPoint)
+            (entry : ProgramPoint) → self.old.saved.items ≡ front ++ entry ∷ []
+            → WaysAgree (way falls self.old) (Some entry) → ⊥) e) }
         ensures limits { OnOk result (IsInLimits self.new) }
-        ensures limited { IfErr result (λ e. IfLimit e (λ at limit. (at ≡ line)
-            × ((front : List ProgramPoint) (entry : ProgramPoint)
-            → self.old.saved.items ≡ front ++ entry ∷ [] → (ps : List PlacedInstr)
-            → ((u : ProgramPoint) → meet (way falls self.old) (Some entry) ≡ Some u
-            → IsCovered u.flow ps) → HasSpace limit self.old ps → ⊥))) }
+        ensures limited { IfErr result (λ e. IfLimitAt line (λ limit. (front : List ProgramPoint)
+            (entry : ProgramPoint) → self.old.saved.items ≡ front ++ entry ∷ []
+            → (ps : List PlacedInstr) → ((u : ProgramPoint) → meet (way falls self.old)
+            (Some entry) ≡ Some u → IsCovered u.flow ps) → HasSpace limit self.old ps → ⊥) e) }
     {
         let entry = self.restore();
         let target = self.len() as u16;
@@ -230,16 +225,16 @@ impl Work {
         ensures arrives { IfOk result (λ f. (front : List ProgramPoint) (a : Option ProgramPoint) →
             first ≡ is_some a → self.old.saved.items ≡ front ++ points_of a → IsAfterBranches a (way
             second self.old) front line jump self.old self.new f) }
-        ensures refused { IfErr result (λ e. IfRefused e (λ at cause. (at ≡ line)
-            × ((cause ≡ Mismatch) × ((front : List ProgramPoint) (a : Option ProgramPoint)
-            → first ≡ is_some a → self.old.saved.items ≡ front ++ points_of a
-            → BranchesAgree a (way second self.old) → ⊥)))) }
+        ensures refused { IfErr result (λ e. IfMismatchAt line ((front : List ProgramPoint)
+            (a : Option ProgramPoint) → first ≡ is_some a
+            → self.old.saved.items ≡ front ++ points_of a
+            → BranchesAgree a (way second self.old) → ⊥) e) }
         ensures limits { OnOk result (IsInLimits self.new) }
-        ensures limited { IfErr result (λ e. IfLimit e (λ at limit. (at ≡ line)
-            × ((front : List ProgramPoint) (a : Option ProgramPoint) → first ≡ is_some a
+        ensures limited { IfErr result (λ e. IfLimitAt line (λ limit. (front : List ProgramPoint)
+            (a : Option ProgramPoint) → first ≡ is_some a
             → self.old.saved.items ≡ front ++ points_of a → (ps : List PlacedInstr)
             → ((u : ProgramPoint) → join a (way second self.old) ≡ Some u → Covers u ps)
-            → HasSpace limit self.old ps → ⊥))) }
+            → HasSpace limit self.old ps → ⊥) e) }
     {
         if !first {
             return Ok(second);

@@ -8,7 +8,7 @@ ghost use Rattle.plan_flow.specs.Rules.{IsFine};
 ghost use Rattle.script_meaning.specs.Scheme.{PlacedInstr, without_label, at_label, alone, onward, unpriced_labels, instr_of_act};
 ghost use Rattle.plan_flow.specs.Causes.{FlowRefused};
 ghost use Rattle.script_compiler.specs.Pool.{Extends, IsInPool, point_in};
-ghost use Rattle.script_compiler.specs.Refusals.{IsLimitAt, IfRefused, IfLimit};
+ghost use Rattle.script_compiler.specs.Refusals.{IsLimitAt, IfRefused, IfLimitAt};
 ghost use Rattle.script_compiler.specs.Space.{HasSpace, LacksSpace, IsInLimits, HasTable, IsCovered, Covers};
 ghost use Rattle.script_compiler.specs.declared.fault.CodeLimit.TheVariants.{Instructions};
 ghost use Rattle.script_compiler.specs.Emission.{Emits, line_of_instr, way};
@@ -160,8 +160,8 @@ impl Work {
             plan.now (instr_of_act act.now) (known_at self.old.now.flow) cause
             × (IsFine plan.now (instr_of_act act.now) (known_at self.old.now.flow) → ⊥)))) }
         ensures limits { OnOk result (IsInLimits self.new) }
-        ensures limited { IfErr result (λ e. IfLimit e (λ at limit. (at ≡ line)
-            × LacksSpace limit self.old)) }
+        ensures limited { IfErr result (λ e. IfLimitAt line
+            (λ limit. LacksSpace limit self.old) e) }
     {
         if let Err(fault) = self.put_label(line, counters) {
             return Err(fault);
