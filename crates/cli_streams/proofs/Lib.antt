@@ -2,6 +2,7 @@ pub mod Hearing
 mod Appending
 mod ByCalls
 mod Checked
+mod Failed
 mod Counting
 mod FirstFrames
 mod HoldingBack
@@ -15,5 +16,6 @@ mod PictureLines
 mod ReadingAhead
 mod ReadingOn
 mod VectorsOfChecks
+mod VectorsOfFailures
 mod VectorsOfMerging
 mod VectorsOfHolding

@@ -20,7 +20,7 @@ sound = record { summary = record { frames = 3; skipped = 0; left_over = 0; dama
 abbrev faulty : Totals
 faulty = record { summary = record { frames = 3; skipped = 0; left_over = 0; damaged = 0 }; swaps = 1; faults = 2 }
 
-abbrev plain : Form
+abbrev pub plain : Form
 plain = record { is_json = false; start = None }
 
 no_fault : status_of (endings.Counted sound) ≡ Done
@@ -43,10 +43,10 @@ totals = refl
 
 -- ---- a stream without a FIB
 
-abbrev options : CheckOptions
+abbrev pub options : CheckOptions
 options = record { mode = modes.I; period = 250; every = None; until_fault = false; form = plain }
 
-no_ensemble : (r : Reading) → Checks r options [] [] (endings.Refused causes.NoEnsemble)
+pub no_ensemble : (r : Reading) → Checks r options [] [] (endings.Refused causes.NoEnsemble)
 no_ensemble r = inl (
   [],
   [],
@@ -70,7 +70,7 @@ no_ensemble r = inl (
 shows_refusal : (r : Reading) → ShowsCheck r options [] (Some []) (Some (codes "refused: no ensemble\n")) Refused
 shows_refusal r = record { ending = endings.Refused causes.NoEnsemble; text = []; checks = no_ensemble r; prints = refl; status_is = refl }
 
-some_behind : (xs : List ℕ) (b : ℕ) (ys : List ℕ) → [] ≡ xs ++ b ∷ ys → ⊥
+pub some_behind : (xs : List ℕ) (b : ℕ) (ys : List ℕ) → [] ≡ xs ++ b ∷ ys → ⊥
 some_behind [] b ys e = absurd cc
 some_behind (x ∷ xs) b ys e = absurd cc
 

@@ -1,21 +1,20 @@
 //! `dabplan check`: checks that a stream of FIBs announces each reconfiguration as EN 300 401 clause 6.5 requires.
 
-ghost use Rattle.std.specs.Prelude.{◌≡◌, ◌≢◌, ◌++◌, ℕ, List, Option, IfOk, IfSome, OnOk, codes};
+ghost use Rattle.std.specs.Prelude.{◌≡◌, ◌≢◌, IfErr, IfOk, IfSome, OnErr, OnOk, codes};
 ghost use Rattle.std.specs.Io.KnownBytes.{Appends};
 ghost use Rattle.console.specs.Printed.{printed};
 ghost use Rattle.stream_check.specs.Frames.{Reading};
 ghost use Rattle.stream_monitor.specs.Lines.{line_of};
-ghost use Rattle.stream_monitor.specs.Outcome.{ChecksInput};
-ghost use Rattle.cli_streams.specs.Checking.{ShowsCheck, last_line, status_of};
+ghost use Rattle.stream_monitor.specs.Unfinished.{PrintsFront, failures};
+ghost use Rattle.cli_streams.specs.Checking.{FailsInput, IsCheckFailure, IsFailureOf, IsUnended, ShowsCheck, ShowsInput, ShowsUntil, last_line, status_of};
 
 use console::exit::{Failure, Status, pieces_of};
-use console::files::Files;
+use console::files::{FileFault, Files};
 use console::output::Output;
-use console::pieces::Pieces;
 use std::alloc::Global;
 use std::io::{Read, Write};
 use stream_monitor::{
-    CheckOptions, Ending, FileFibs, Form, Hints, Line, Stop, check_stream, print_line,
+    CheckOptions, Ending, FileFibs, Form, Hints, Line, LinePrinter, Stop, check_stream,
 };
 
 /// The arguments of `check`.
@@ -33,8 +32,9 @@ pub struct CheckRequest<'a> {
 ///
 /// # Errors
 ///
-/// `Read` if the file can't be read, behind the lines of the findings before; `Memory` if out of memory for a piece, or if
-/// a frame has more than 1,024 findings; `Output` if the output failed, after which nothing is printed.
+/// `Read` if the file can't be read, behind the lines of the FIBs before; `Memory` if out of memory
+/// for a piece, or if a frame has more than 1,024 findings; `Output` if the output failed, after
+/// which nothing is printed. What is printed then is the beginning of what the whole check prints.
 pub fn show_check<'a, F: Files, W: Write>(
     alloc: Global,
     request: &CheckRequest<'a>,
@@ -48,56 +48,84 @@ pub fn show_check<'a, F: Files, W: Write>(
         → IfSome (F.known files.old request.now.file.now) (λ stream.
         IfOk result (λ status. (r : Reading) → ShowsCheck r request.now.options stream
         (printed W.contents out.old) (printed W.contents out.new) status)) }
+    ensures failed { IfErr result (IsCheckFailure request.now.file.now out.new.has_failed) }
+    ensures input_until { request.now.file.now ≡ codes "-" → IfSome (F.known_input files.old)
+        (λ stream. IfErr result (λ failure. (r : Reading) → ShowsUntil r request.now.options stream
+        (printed W.contents out.old) (printed W.contents out.new) failure)) }
+    ensures file_until { request.now.file.now ≢ codes "-"
+        → IfSome (F.known files.old request.now.file.now)
+        (λ stream. IfErr result (λ failure. (r : Reading) → ShowsUntil r request.now.options stream
+        (printed W.contents out.old) (printed W.contents out.new) failure)) }
 {
-    let pieces = pieces_of(alloc, files, request.file)?;
-    let hints = Hints::new(files, request.file);
-    match check_pieces(request.options, hints, pieces, out) {
-        Ok(ending) => match print_ending(request.options.form, ending, out) {
-            Ok(status) => Ok(status),
-            Err(failure) => Err(failure),
-        },
-        Err(stop) => Err(failure_of(stop, request.file)),
+    // The cause of a failure does not depend on how FIBs are read, and there is a reading.
+    stream_check::laws::reading();
+    let pieces = match pieces_of(alloc, files, request.file) {
+        Ok(pieces) => pieces,
+        Err(failure) => return Err(failure),
+    };
+    let mut input = FileFibs::new(Hints::new(files, request.file), pieces);
+    let mut lines = LinePrinter::new();
+    match check_input(request.options, request.file, &mut input, &mut lines, out) {
+        Ok(status) => Ok(status),
+        Err(failure) => Err(failure),
     }
 }
 
-/// Checks the pieces of a file.
-fn check_pieces<F: Files, R: Read + Drop, W: Write>(
+/// Checks an input, the file of this path, and prints the last line.
+fn check_input<'a, F: Files, R: Read + Drop, W: Write>(
     options: CheckOptions,
-    hints: Hints<'_, F>,
-    pieces: Pieces<R>,
+    path: &'a str,
+    input: &mut FileFibs<'_, F, R>,
+    lines: &mut LinePrinter,
     out: &mut Output<'_, W>,
-) -> Result<Ending, Stop>
-    ensures { IfOk result (λ ending. (r : Reading) → (left : Option (List ℕ)) × (text : List ℕ)
-        × ChecksInput r options pieces.left left text ending
-        × Appends (printed W.contents out.old) (printed W.contents out.new) text) }
+) -> Result<Status, Failure<'a>>
+    ensures shows { IfOk result (λ status. (r : Reading) → ShowsInput r options
+        input.old.pieces.left input.new.pieces.left
+        (printed W.contents out.old) (printed W.contents out.new) status) }
+    ensures fails { IfErr result (λ failure. (r : Reading) → FailsInput r options path.now
+        input.old.pieces.left input.new.pieces.left
+        (printed W.contents out.old) (printed W.contents out.new)
+        (failures input.new.fault out.new.has_failed lines.new.has_lost) failure) }
 {
-    let mut input = FileFibs::new(hints, pieces);
-    check_stream(options, &mut input, out)
+    match check_stream(options, input, lines, out) {
+        Ok(ending) => match print_ending(options.form, path, ending, lines, out) {
+            Ok(status) => Ok(status),
+            Err(failure) => Err(failure),
+        },
+        Err(stop) => Err(failure_of(stop, path)),
+    }
 }
 
-/// The failure for a check that did not come to its end.
-fn failure_of<'a>(stop: Stop, path: &'a str) -> Failure<'a> {
+/// The failure for a check that gives up.
+fn failure_of<'a>(stop: Stop, path: &'a str) -> Failure<'a>
+    ensures { IsFailureOf path.now stop result }
+{
     match stop {
-        Stop::Read(fault) => Failure::of_file(fault, path),
+        Stop::Read(FileFault::Failed) => Failure::Read(path),
+        Stop::Read(FileFault::Memory) | Stop::Memory => Failure::Memory,
         Stop::Write => Failure::Output,
-        Stop::Memory => Failure::Memory,
     }
 }
 
 /// Prints the last line, and returns the exit status.
 fn print_ending<'a, W: Write>(
     form: Form,
+    path: &'a str,
     ending: Ending,
+    lines: &mut LinePrinter,
     out: &mut Output<'_, W>,
 ) -> Result<Status, Failure<'a>>
     ensures printed { OnOk result (Appends (printed W.contents out.old) (printed W.contents out.new)
         (line_of form (last_line ending))) }
+    ensures begun { OnErr result (PrintsFront (printed W.contents out.old)
+        (printed W.contents out.new) (line_of form (last_line ending))) }
     ensures status { IfOk result (λ status. status ≡ status_of ending) }
+    ensures failed { IfErr result (IsUnended out.new.has_failed lines.new.has_lost) }
 {
     let (line, status) = last_of(ending);
-    match print_line(form, &line, out) {
+    match lines.print(form, &line, out) {
         Ok(()) => Ok(status),
-        Err(_) => Err(Failure::Output),
+        Err(stop) => Err(failure_of(stop, path)),
     }
 }
 

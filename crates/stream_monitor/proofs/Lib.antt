@@ -9,5 +9,8 @@ mod Framings
 mod Fronts
 mod OneOutcome
 mod Stopping
+mod Unfinished
+mod Beginnings
 mod Vectors
 mod VectorsOfChecks
+mod VectorsOfUnfinished

@@ -19,11 +19,11 @@ use Rattle.stream_monitor.proofs.Fronts.{full_before, stopped_before, not_long}
 
 -- ---- the FIBs of bytes
 
-record AreLeft (one other p q : List ℕ) : Type 0 where
-  same : one ≡ other
-  rest : p ≡ q
+pub record AreLeft (one other p q : List ℕ) : Type 0 where
+  pub same : one ≡ other
+  pub rest : p ≡ q
 
-take_front : (n : ℕ) (a b p q : List ℕ) → length a ≡ n → length b ≡ n → a ++ p ≡ b ++ q → AreLeft a b p q
+pub take_front : (n : ℕ) (a b p q : List ℕ) → length a ≡ n → length b ≡ n → a ++ p ≡ b ++ q → AreLeft a b p q
 take_front n [] [] p q la lb e = record { same = refl; rest = e }
 take_front n [] (y ∷ b) p q la lb e = absurd (omega (arith, la, lb))
 take_front n (x ∷ a) [] p q la lb e = absurd (omega (arith, la, lb))
@@ -38,12 +38,12 @@ take_front n (x ∷ a) (y ∷ b) p q la lb e =
     tails x y xs ys h = cc
 
 -- the same FIBs; or one has more of them
-data Compared (xs ys : List (List ℕ)) (p q : List ℕ) : Type 0 where
+pub data Compared (xs ys : List (List ℕ)) (p q : List ℕ) : Type 0 where
   Equal : xs ≡ ys → p ≡ q → Compared xs ys p q
   Longer : (z : List ℕ) (zs : List (List ℕ)) → ys ≡ xs ++ z ∷ zs → p ≡ z ++ (concat zs ++ q) → HasFibSize z → Compared xs ys p q
   Shorter : (z : List ℕ) (zs : List (List ℕ)) → xs ≡ ys ++ z ∷ zs → q ≡ z ++ (concat zs ++ p) → HasFibSize z → Compared xs ys p q
 
-compare_fibs : (xs ys : List (List ℕ)) (p q : List ℕ) → AllByRecursion HasFibSize xs → AllByRecursion HasFibSize ys → concat xs ++ p ≡ concat ys ++ q → Compared xs ys p q
+pub compare_fibs : (xs ys : List (List ℕ)) (p q : List ℕ) → AllByRecursion HasFibSize xs → AllByRecursion HasFibSize ys → concat xs ++ p ≡ concat ys ++ q → Compared xs ys p q
 compare_fibs [] [] p q a b e = Equal refl e
 compare_fibs [] (y ∷ ys) p q a b e = Longer y ys refl (e ∙ append_assoc y (concat ys) q) b.0
 compare_fibs (x ∷ xs) [] p q a b e = Shorter x xs refl (sym e ∙ append_assoc x (concat xs) p) a.0
@@ -62,7 +62,7 @@ few_fibs : (fibs : List (List ℕ)) → AllByRecursion HasFibSize fibs → lengt
 few_fibs [] all = omega arith
 few_fibs (x ∷ xs) all = let rest = few_fibs xs all.1 in let len = length-append x (concat xs) in omega (arith, rest, len, all.0)
 
-short_enough : (r : Reading) (o : CheckOptions) (fibs : List (List ℕ)) (text : List ℕ) (g : GoesOn r o fibs text) → length (concat fibs) < most → IsTooLong g.skipped g.frames → ⊥
+pub short_enough : (r : Reading) (o : CheckOptions) (fibs : List (List ℕ)) (text : List ℕ) (g : GoesOn r o fibs text) → length (concat fibs) < most → IsTooLong g.skipped g.frames → ⊥
 short_enough r o fibs text g short long =
     let few = few_fibs fibs g.sizes in
     let len = length-map fibs r.read in
@@ -80,7 +80,7 @@ ends_there r o fibs fib text other zs skipped frames e why g =
       | inr stops ↦ false≢true (sym (stopped_before o frames more.0 (ap (is_stopped o) (sym more.1) ∙ g.no_fault)) ∙ stops)
     ]
 
-stopped_not : (r : Reading) (o : CheckOptions) (fibs : List (List ℕ)) (fib text other : List ℕ) (zs : List (List ℕ)) (e : Ending) → length (concat fibs) < most
+pub stopped_not : (r : Reading) (o : CheckOptions) (fibs : List (List ℕ)) (fib text other : List ℕ) (zs : List (List ℕ)) (e : Ending) → length (concat fibs) < most
     → StopsWithFib r o fibs fib text e → GoesOn r o (fibs ++ fib ∷ zs) other → ⊥
 stopped_not r o fibs fib text other zs (endings.Counted totals) short h g = ends_there r o fibs fib text other zs h.0 h.1 h.2 (inr h.4) g
 stopped_not r o fibs fib text other zs (endings.Refused causes.Full) short h g = ends_there r o fibs fib text other zs h.0 h.1 h.2 (inl h.3) g
@@ -90,14 +90,14 @@ stopped_not r o fibs fib text other zs (endings.Refused causes.NoEnsemble) short
 
 -- ---- the parts of an outcome
 
-goes_at_end : (r : Reading) (o : CheckOptions) (fibs : List (List ℕ)) (part text : List ℕ) (e : Ending) → StopsAtEnd r o fibs part text e → GoesOn r o fibs text × (length part < 32)
+pub goes_at_end : (r : Reading) (o : CheckOptions) (fibs : List (List ℕ)) (part text : List ℕ) (e : Ending) → StopsAtEnd r o fibs part text e → GoesOn r o fibs text × (length part < 32)
 goes_at_end r o fibs part text (endings.Counted totals) h = let len = ap length h.1 in (h.0, omega (arith, len))
 goes_at_end r o fibs part text (endings.Refused causes.Full) h = absurd h
 goes_at_end r o fibs part text (endings.Refused causes.TooLong) h = absurd h
 goes_at_end r o fibs part text (endings.Refused causes.NotWhole) h = (h.0, h.2)
 goes_at_end r o fibs part text (endings.Refused causes.NoEnsemble) h = let len = ap length h.1 in (h.0, omega (arith, len))
 
-goes_before : (r : Reading) (o : CheckOptions) (fibs : List (List ℕ)) (fib text : List ℕ) (e : Ending) → StopsWithFib r o fibs fib text e → (so_far : List ℕ) × GoesOn r o fibs so_far × HasFibSize fib
+pub goes_before : (r : Reading) (o : CheckOptions) (fibs : List (List ℕ)) (fib text : List ℕ) (e : Ending) → StopsWithFib r o fibs fib text e → (so_far : List ℕ) × GoesOn r o fibs so_far × HasFibSize fib
 goes_before r o fibs fib text (endings.Counted totals) h = (h.2.text_before, h.2.before, h.2.size)
 goes_before r o fibs fib text (endings.Refused causes.Full) h = (h.2.text_before, h.2.before, h.2.size)
 goes_before r o fibs fib text (endings.Refused causes.TooLong) h = (text, h.0, h.1)
@@ -174,7 +174,7 @@ stops_alike r o fibs fib text other (endings.Refused causes.NoEnsemble) d short 
 
 -- ---- two outcomes of one stream
 
-front_short : (stream front rest : List ℕ) → stream ≡ front ++ rest → length stream < most → length front < most
+pub front_short : (stream front rest : List ℕ) → stream ≡ front ++ rest → length stream < most → length front < most
 front_short stream front rest e short = let len = ap length e ∙ length-append front rest in omega (arith, len, short)
 
 flip : (text other : List ℕ) (e d : Ending) → AreSame other text d e → AreSame text other e d

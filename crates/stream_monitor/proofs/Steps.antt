@@ -60,7 +60,7 @@ goes_on r o fibs text s h = record {
 sizes_more : (fibs : List (List ℕ)) (fib : List ℕ) → AllByRecursion HasFibSize fibs → HasFibSize fib → AllByRecursion HasFibSize (fibs ++ fib ∷ [])
 sizes_more fibs fib all one = all_append HasFibSize fibs (fib ∷ []) all (one, tt)
 
-read_more : (r : Reading) (fibs : List (List ℕ)) (fib : List ℕ) (stream : List Fib) → stream ≡ map r.read fibs → stream ++ r.read fib ∷ [] ≡ map r.read (fibs ++ fib ∷ [])
+pub read_more : (r : Reading) (fibs : List (List ℕ)) (fib : List ℕ) (stream : List Fib) → stream ≡ map r.read fibs → stream ++ r.read fib ∷ [] ≡ map r.read (fibs ++ fib ∷ [])
 read_more r fibs fib stream e = ap (λ l. l ++ r.read fib ∷ []) e ∙ sym (map-append r.read fibs (fib ∷ []))
 
 -- ---- a FIB that ends no frame
@@ -88,7 +88,7 @@ step_within r o fibs fib text old new found h size before after empty given ends
 -- ---- a FIB that ends a frame
 
 -- the lines with those of one more frame
-lines_more : (o : CheckOptions) (text : List ℕ) (skipped later : List Fib) (frames more : List (List Fib)) (frame : List Fib) (found : List Finding)
+pub lines_more : (o : CheckOptions) (text : List ℕ) (skipped later : List Fib) (frames more : List (List Fib)) (frame : List Fib) (found : List Finding)
     → more ≡ frames ++ frame ∷ [] → later ≡ skipped → found ≡ found_next o frames frame → text ≡ frames_text o skipped [] frames
     → (text ++ finding_lines o.form found) ++ alive_text o later more ≡ frames_text o later [] more
 lines_more o text skipped later frames more frame found one same is lines =
@@ -174,21 +174,30 @@ fib_ends r o fibs fib text s found before now after e h printed ends =
 
 -- ---- the end of a frame
 
-abbrev totals_with : Summary → Tally → Totals
+abbrev pub totals_with : Summary → Tally → Totals
 totals_with summary tally = record { summary = summary; swaps = tally.swaps; faults = tally.faults }
+
+pub totals_are : (r : Reading) (o : CheckOptions) (s : State) (sum : Summary) (t : Totals) (stream : List Fib) (f : Follows r o.mode o.period stream Unknown Unknown s.checker) → t ≡ totals_with sum s.tally
+    → IsSummary f.skipped f.frames [] sum → s.tally ≡ tally_after o f.frames → t ≡ totals_after o f.skipped f.frames []
+totals_are r o s sum t stream f is decided tally =
+    is ∙ ap (λ x. totals_with x s.tally) (summary_is f.skipped f.frames [] sum decided) ∙ ap (totals_with (summary_after f.skipped f.frames [])) tally
+
+-- the line of the totals, if they are due, is that of these frames
+pub due_is : (r : Reading) (o : CheckOptions) (s : State) (t : Totals) (stream : List Fib) (f : Follows r o.mode o.period stream Unknown Unknown s.checker) → t ≡ totals_after o f.skipped f.frames []
+    → due_text o t ≡ alive_text o f.skipped f.frames
+due_is r o s t stream f totals =
+    let room : alive_text o f.skipped f.frames ≡ due_text o (totals_after o f.skipped f.frames []) =
+    ap (λ b. if not b && is_due o.every (length f.frames) then line_of o.form (lines.Alive (totals_after o f.skipped f.frames [])) else []) f.room in
+    ap (due_text o) totals ∙ sym room
 
 pub frame_ends : (o : CheckOptions) (s : State) (sum : Summary) (t : Totals) (before after : Option (List ℕ)) (e : Option Ending) → t ≡ totals_with sum s.tally
     → ((r : Reading) (mode : Mode) (period : ℕ) (stream : List Fib) (start reported : Reported) (f : Follows r mode period stream start reported s.checker) → IsSummary f.skipped f.frames [] sum)
     → Appends before after (due_text o t) → e ≡ end_of o t → EndsFrameFrom o s before after e
 frame_ends o s sum t before after e is decided printed ended = λ r stream f tally.
-    let totals : t ≡ totals_after o f.skipped f.frames [] =
-    is ∙ ap (λ x. totals_with x s.tally) (summary_is f.skipped f.frames [] sum (decided r o.mode o.period stream Unknown Unknown f))
-    ∙ ap (totals_with (summary_after f.skipped f.frames [])) tally in
-    let room : alive_text o f.skipped f.frames ≡ due_text o (totals_after o f.skipped f.frames []) =
-    ap (λ b. if not b && is_due o.every (length f.frames) then line_of o.form (lines.Alive (totals_after o f.skipped f.frames [])) else []) f.room in
+    let totals = totals_are r o s sum t stream f is (decided r o.mode o.period stream Unknown Unknown f) tally in
     let stops : end_of o (totals_after o f.skipped f.frames []) ≡ end_after o f.skipped f.frames =
     ap (λ b. if o.until_fault && b then Some (endings.Counted (totals_after o f.skipped f.frames [])) else None) (saturated_some (faults_in (found_in o f.frames))) in
-    (subst (λ (l : List ℕ). Appends before after l) (ap (due_text o) totals ∙ sym room) printed, ended ∙ ap (end_of o) totals ∙ stops)
+    (subst (λ (l : List ℕ). Appends before after l) (due_is r o s t stream f totals) printed, ended ∙ ap (end_of o) totals ∙ stops)
 
 -- ---- a FIB with which a stream is refused
 

@@ -23,7 +23,7 @@ use Rattle.stream_monitor.specs.Requests.{beginning, IsEmptied, IsPrompt}
 use Rattle.stream_monitor.proofs.Endings.{none_framed, none_there}
 
 -- in mode I, with totals after each second frame; the check does not end with a fault
-abbrev options : CheckOptions
+abbrev pub options : CheckOptions
 options = record { mode = modes.I; period = 250; every = Some 2; until_fault = false; form = record { is_json = false; start = None } }
 
 -- the same up to a fault
@@ -78,7 +78,7 @@ goes_on_before = refl
 
 -- ---- streams without a FIB
 
-abbrev goes_on : (r : Reading) → GoesOn r options [] []
+abbrev pub goes_on : (r : Reading) → GoesOn r options [] []
 goes_on r = record {
   sizes = tt;
   skipped = [];
@@ -90,7 +90,7 @@ goes_on r = record {
   lines = refl;
 }
 
-prints_nothing : (r : Reading) (text : List ℕ) → GoesOn r options [] text → text ≡ []
+pub prints_nothing : (r : Reading) (text : List ℕ) → GoesOn r options [] text → text ≡ []
 prints_nothing r text g =
     let none = none_framed 3 g.frames g.rest g.framed.cut (none_there g.skipped _ (sym g.framed.whole)) in
     g.lines ∙ ap (frames_text options g.skipped []) none.0

@@ -1,5 +1,5 @@
 -- The state of a check between FIBs. No public contract needs this to be believed.
-use Rattle.std.specs.Prelude.{◌≡◌, ◌⊎◌, ℕ, ◌<◌, ◌%◌, ◌&&◌, nat_lt, false, if◌then◌else◌, List, [], ◌∷◌, ◌++◌, length, map, Option, None, Some}
+use Rattle.std.specs.Prelude.{◌≡◌, ◌⊎◌, ℕ, ◌<◌, ◌≤◌, ◌%◌, ◌&&◌, nat_lt, Bool, false, if◌then◌else◌, List, [], ◌∷◌, ◌++◌, length, map, Option, None, Some}
 use Rattle.std.specs.List.{AllByRecursion, concat}
 use Rattle.std.specs.Io.KnownBytes.{Appends, Consumes}
 use Rattle.stream_check.specs.Frames.{Fib, Reading}
@@ -14,11 +14,13 @@ use Rattle.stream_monitor.specs.declared.line.Cause.TheVariants as causes
 use Rattle.stream_monitor.specs.declared.line.Line.TheVariants as lines
 use Rattle.stream_monitor.specs.declared.line.Totals.{Totals}
 use Rattle.stream_monitor.specs.declared.monitor.State.{State}
+use Rattle.stream_monitor.specs.declared.monitor.Stop.{Stop}
 use Rattle.stream_monitor.specs.declared.options.CheckOptions.{CheckOptions}
 use Rattle.stream_monitor.specs.Decided.{is_due}
 use Rattle.stream_monitor.specs.Lines.{line_of}
 use Rattle.stream_monitor.specs.Frames.{is_stopped, tally_after, totals_after, alive_text, frames_text}
 use Rattle.stream_monitor.specs.Outcome.{HasFibSize, StopsAtEnd, StopsWithFib}
+use Rattle.stream_monitor.specs.Unfinished.{GivesUpAtFib, PrintsFront}
 
 -- the state after these FIBs, none of which ends the check, and what was printed
 pub record IsAfter (r : Reading) (o : CheckOptions) (fibs : List (List ℕ)) (text : List ℕ) (s : State) : Type 0 where
@@ -84,3 +86,28 @@ ChecksPiece o piece old new before after e =
 abbrev pub ChecksSoFar : CheckOptions → (left printed : Option (List ℕ)) → State → (now so_far : Option (List ℕ)) → Type 0
 ChecksSoFar o left printed s now so_far =
     (r : Reading) → (fibs : List (List ℕ)) × (text : List ℕ) × Consumes left now (concat fibs) × Appends printed so_far text × IsAfter r o fibs text s
+
+-- ---- a check that gives up
+
+-- at the end of a frame: a part of its totals is printed, if they are due
+abbrev pub BreaksFrameFrom : CheckOptions → State → (old new : Option (List ℕ)) → Type 0
+BreaksFrameFrom o s old new =
+    (r : Reading) (stream : List Fib) (f : Follows r o.mode o.period stream Unknown Unknown s.checker) → s.tally ≡ tally_after o f.frames
+    → PrintsFront old new (alive_text o f.skipped f.frames)
+
+-- with this FIB
+abbrev pub GivesUpFib : CheckOptions → (fib : List ℕ) → State → (before after : Option (List ℕ)) (output line : Bool) → Stop → Type 0
+GivesUpFib o fib old before after output line stop =
+    (r : Reading) (fibs : List (List ℕ)) (text : List ℕ) → IsAfter r o fibs text old
+    → (part : List ℕ) × Appends before after part × GivesUpAtFib r o fibs fib (text ++ part) output line stop
+
+-- with a FIB of this piece
+abbrev pub GivesUpPiece : CheckOptions → (piece : List ℕ) → State → (before after : Option (List ℕ)) (output line : Bool) → Stop → Type 0
+GivesUpPiece o piece old before after output line stop =
+    (r : Reading) (fibs : List (List ℕ)) (text : List ℕ) → IsAfter r o fibs text old
+    → (part : List ℕ) × Appends before after part × (more : List (List ℕ)) × (fib rest : List ℕ) × (piece ≡ concat more ++ (fib ++ rest))
+    × GivesUpAtFib r o (fibs ++ more) fib (text ++ part) output line stop
+
+-- so many pieces were read, none of which is empty
+abbrev pub HasReadPieces : ℕ → (left now : Option (List ℕ)) → Type 0
+HasReadPieces pieces left now = (stream : List ℕ) × (pieces ≤ length stream) × Consumes left now stream

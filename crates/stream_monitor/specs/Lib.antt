@@ -1,3 +1,4 @@
+pub mod Beginnings
 pub mod Checking
 pub mod Clock
 pub mod Decided
@@ -11,3 +12,4 @@ pub mod Outcome
 pub mod Outcomes
 pub mod Requests
 pub mod Text
+pub mod Unfinished

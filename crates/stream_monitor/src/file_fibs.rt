@@ -1,6 +1,6 @@
 //! The input of a check over a reader.
 
-ghost use Rattle.std.specs.Prelude.{◌≡◌};
+ghost use Rattle.std.specs.Prelude.{◌≡◌, None};
 
 use crate::hint::Hints;
 use crate::source::{CheckStart, FibSource};
@@ -10,19 +10,25 @@ use console::pieces::Pieces;
 use std::io::{Read, Write};
 
 /// The FIBs of a reader in pieces, with hints on standard error on the file of a path. What is known of the reader is
-/// known of the pieces.
+/// known of the pieces. It remembers why one of them could not be read.
 #[derive(Drop)]
 pub struct FileFibs<'f, F, R: Read + Drop> {
     hints: Hints<'f, F>,
     pieces: Pieces<R>,
+    fault: Option<FileFault>,
 }
 
 impl<'f, F: Files, R: Read + Drop> FileFibs<'f, F, R> {
     /// The input, before the first piece.
     pub fn new(hints: Hints<'f, F>, pieces: Pieces<R>) -> Self
-        ensures { result.pieces ≡ pieces }
+        ensures pieces { result.pieces ≡ pieces }
+        ensures works { result.fault ≡ None }
     {
-        FileFibs { hints, pieces }
+        FileFibs {
+            hints,
+            pieces,
+            fault: None,
+        }
     }
 }
 
@@ -31,8 +37,16 @@ impl<S: CheckStart, W: Write, F: Files, R: Read + Drop> FibSource<S, W> for File
 
     ghost piece = { λ s. s.pieces.piece };
 
+    ghost fault = { λ s. s.fault };
+
     fn next(&mut self, _out: &Output<'_, W>) -> Result<bool, FileFault> {
-        self.pieces.advance()
+        match self.pieces.advance() {
+            Ok(more) => Ok(more),
+            Err(fault) => {
+                self.fault = Some(fault);
+                Err(fault)
+            }
+        }
     }
 
     fn piece(&self) -> &[u8] {

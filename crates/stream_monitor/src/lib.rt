@@ -1,7 +1,8 @@
 //! Monitors a stream of FIBs: checks it as its bytes come, and prints each finding as a line of text or of JSON.
 //!
 //! The lines are defined in `specs/Text.antt` and `specs/Json.antt`, what a check prints and how it ends in
-//! `specs/Outcome.antt`, and what it has printed before it reads on in `specs/Requests.antt`.
+//! `specs/Outcome.antt`, what it has printed before it reads on in `specs/Requests.antt`, and why it
+//! gives up, and what it has printed then, in `specs/Unfinished.antt`.
 #![tactic(auto)]
 
 pub mod clock;
@@ -13,6 +14,7 @@ pub mod laws;
 pub mod line;
 pub mod monitor;
 pub mod options;
+pub mod printer;
 pub mod source;
 pub mod stash;
 pub mod tally;
@@ -24,4 +26,5 @@ pub use hint::{Hint, HintLine, Hints};
 pub use line::{Cause, Form, Line, Totals, print_line};
 pub use monitor::{Stop, check_stream};
 pub use options::CheckOptions;
+pub use printer::LinePrinter;
 pub use source::{CheckStart, FibSource};

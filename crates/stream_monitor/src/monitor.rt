@@ -1,21 +1,24 @@
 //! Checks a stream of FIBs as its bytes come.
 
-ghost use Rattle.std.specs.Prelude.{◌≡◌, ◌<◌, ◌+◌, ◌*◌, ◌/◌, ◌%◌, ℕ, List, Option, [], length, slice_range, IfOk, OnOk, IfSome};
+ghost use Rattle.std.specs.Prelude.{◌≡◌, ◌<◌, ◌+◌, ◌*◌, ◌/◌, ◌%◌, ℕ, List, Option, [], length, slice_range, true, IfOk, IfErr, OnErr, OnOk, IfSome};
 ghost use Rattle.std.specs.Io.KnownBytes.{Appends, IsAtEnd, Keeps};
 ghost use Rattle.console.specs.Printed.{printed, writer_of};
 ghost use Rattle.stream_check.specs.Frames.{Reading};
 ghost use Rattle.stream_monitor.specs.Checking.{HasReadAll, StopsAtFib, StopsAtPiece};
 ghost use Rattle.stream_monitor.specs.Decided.{finding_lines, is_due};
-ghost use Rattle.stream_monitor.specs.Going.{IsAfter, EndsFrameFrom, cause_of, due_text, end_of, ChecksFib, ChecksPiece};
+ghost use Rattle.stream_monitor.specs.Going.{IsAfter, EndsFrameFrom, BreaksFrameFrom, cause_of, due_text, end_of, ChecksFib, ChecksPiece, GivesUpFib, GivesUpPiece};
 ghost use Rattle.stream_monitor.specs.declared.ending.Ending.TheVariants.{Refused};
 ghost use Rattle.stream_monitor.specs.declared.options.CheckOptions.{CheckOptions as OptionsOf};
 ghost use Rattle.stream_monitor.specs.Outcome.{ChecksInput, StopsAtEnd};
 ghost use Rattle.stream_monitor.specs.Requests.{IsEmptied, beginning};
+ghost use Rattle.stream_monitor.specs.Unfinished.{GivesUp, IsUnprinted, PrintsFront, failures};
+ghost use Rattle.stream_monitor.specs.declared.monitor.Stop.TheVariants.{Write as NotWritten};
 
 use crate::ending::Ending;
 use crate::file_fibs::FileFibs;
-use crate::line::{Cause, Form, Line, Totals, print_line};
+use crate::line::{Cause, Form, Line, Totals};
 use crate::options::CheckOptions;
+use crate::printer::LinePrinter;
 use crate::source::{CheckStart, FibSource};
 use crate::stash::Stash;
 use crate::tally::{Tally, counted, no_tally};
@@ -31,11 +34,11 @@ const MOST_PIECES: u64 = 1 << 50;
 /// Why a check does not come to its end.
 #[derive(Clone, Copy, Debug, PartialEq, Eq)]
 pub enum Stop {
-    /// The input failed.
+    /// The input failed, or has more than 2^50 pieces.
     Read(FileFault),
     /// The output failed. Nothing more is printed.
     Write,
-    /// A frame has more than 1,024 findings, for which there is no room.
+    /// There is no room: a frame has more than 1,024 findings, or a line is lost.
     Memory,
 }
 
@@ -73,11 +76,14 @@ fn totals_of(tally: Tally, summary: Summary) -> Totals
 ///
 /// # Errors
 ///
-/// `Read` if the input failed; `Write` if the output failed, after which nothing is printed; `Memory` if a frame has
-/// more than 1,024 findings, for which there is no room.
+/// `Read` if the input failed, behind the lines of all FIBs read before, or after 2^50 pieces;
+/// `Write` if the output failed, after which nothing is printed; `Memory` if a frame has more than
+/// 1,024 findings, for which there is no room, behind the lines of the frames before it, or if
+/// `lines` has lost a line. What is printed then is the beginning of what the whole check prints.
 pub fn check_stream<F: Files, R: Read + Drop, W: Write>(
     options: CheckOptions,
     input: &mut FileFibs<'_, F, R>,
+    lines: &mut LinePrinter,
     out: &mut Output<'_, W>,
 ) -> Result<Ending, Stop>
     // What is printed, and how the check ends.
@@ -85,14 +91,22 @@ pub fn check_stream<F: Files, R: Read + Drop, W: Write>(
         × ChecksInput r options input.old.pieces.left input.new.pieces.left text ending
         × Appends (printed W.contents out.old) (printed W.contents out.new) text) }
     ensures all { IfOk result (λ ending. HasReadAll options ending input.new.pieces.left) }
+    // Why it gives up, and what is printed then.
+    ensures stopped { IfErr result (λ stop. (r : Reading) → GivesUp r options
+        input.old.pieces.left input.new.pieces.left
+        (printed W.contents out.old) (printed W.contents out.new)
+        (failures input.new.fault out.new.has_failed lines.new.has_lost) stop) }
+    // A read that failed is no end of the input.
+    ensures read { OnOk result (input.new.fault ≡ input.old.fault) }
 {
-    check_fibs::<Brand, F, R, W>(options, input, out)
+    check_fibs::<Brand, F, R, W>(options, input, lines, out)
 }
 
 /// Checks the FIBs of a reader, for the requests of a check that begins at `S`.
 fn check_fibs<S: CheckStart, F: Files, R: Read + Drop, W: Write>(
     options: CheckOptions,
     input: &mut FileFibs<'_, F, R>,
+    lines: &mut LinePrinter,
     out: &mut Output<'_, W>,
 ) -> Result<Ending, Stop>
     requires start { S.start ≡ beginning options input.old.pieces.left (printed W.contents out.old) }
@@ -100,8 +114,13 @@ fn check_fibs<S: CheckStart, F: Files, R: Read + Drop, W: Write>(
         × ChecksInput r options input.old.pieces.left input.new.pieces.left text ending
         × Appends (printed W.contents out.old) (printed W.contents out.new) text) }
     ensures all { IfOk result (λ ending. HasReadAll options ending input.new.pieces.left) }
+    ensures stopped { IfErr result (λ stop. (r : Reading) → GivesUp r options
+        input.old.pieces.left input.new.pieces.left
+        (printed W.contents out.old) (printed W.contents out.new)
+        (failures input.new.fault out.new.has_failed lines.new.has_lost) stop) }
+    ensures read { OnOk result (input.new.fault ≡ input.old.fault) }
 {
-    check_source::<S, W, FileFibs<'_, F, R>>(options, input, out)
+    check_source::<S, W, FileFibs<'_, F, R>>(options, input, lines, out)
 }
 
 /// Checks an input of FIBs as it comes. Each of its reads requires that the lines of all frames so far are with the
@@ -110,6 +129,7 @@ fn check_fibs<S: CheckStart, F: Files, R: Read + Drop, W: Write>(
 fn check_source<S: CheckStart, W: Write, I: FibSource<S, W>>(
     options: CheckOptions,
     input: &mut I,
+    lines: &mut LinePrinter,
     out: &mut Output<'_, W>,
 ) -> Result<Ending, Stop>
     // `next` speaks of the start of this check.
@@ -118,6 +138,11 @@ fn check_source<S: CheckStart, W: Write, I: FibSource<S, W>>(
         × ChecksInput r options (I.left input.old) (I.left input.new) text ending
         × Appends (printed W.contents out.old) (printed W.contents out.new) text) }
     ensures all { IfOk result (λ ending. HasReadAll options ending (I.left input.new)) }
+    ensures stopped { IfErr result (λ stop. (r : Reading) → GivesUp r options
+        (I.left input.old) (I.left input.new)
+        (printed W.contents out.old) (printed W.contents out.new)
+        (failures (I.fault input.new) out.new.has_failed lines.new.has_lost) stop) }
+    ensures read { OnOk result (I.fault input.new ≡ I.fault input.old) }
 {
     let mut state = start(options);
     let mut stash = Stash::new();
@@ -134,7 +159,7 @@ fn check_source<S: CheckStart, W: Write, I: FibSource<S, W>>(
             }
             Err(fault) => return Err(Stop::Read(fault)),
         }
-        match check_piece(options, &mut state, &mut stash, input.piece(), out) {
+        match check_piece(options, &mut state, &mut stash, input.piece(), lines, out) {
             Ok(None) => input.look(),
             Ok(Some(ending)) => {
                 input.look();
@@ -153,6 +178,7 @@ fn flush<W: Write>(out: &mut Output<'_, W>) -> Result<(), Stop>
     ensures taken { OnOk result
         (Keeps (printed W.contents out.old) (W.contents (writer_of out.new))) }
     ensures kept { Keeps (printed W.contents out.old) (printed W.contents out.new) }
+    ensures failed { IfErr result (λ stop. (stop ≡ NotWritten) × (out.new.has_failed ≡ true)) }
 {
     match out.flush() {
         Ok(()) => Ok(()),
@@ -167,16 +193,20 @@ fn check_piece<W: Write>(
     state: &mut State,
     stash: &mut Stash,
     piece: &[u8],
+    lines: &mut LinePrinter,
     out: &mut Output<'_, W>,
 ) -> Result<Option<Ending>, Stop>
     ensures checked { IfOk result (λ e. ChecksPiece options piece.now state.old state.new
         (printed W.contents out.old) (printed W.contents out.new) e) }
     ensures ended { IfOk result (λ e. IfSome e (StopsAtPiece options piece.now)) }
+    ensures stopped { IfErr result (GivesUpPiece options piece.now state.old
+        (printed W.contents out.old) (printed W.contents out.new)
+        out.new.has_failed lines.new.has_lost) }
 {
     let mut number = 0;
     while number < piece.len() / 32 {
         let fib = fib_of(piece, number);
-        match check_fib(options, state, stash, &fib, out) {
+        match check_fib(options, state, stash, &fib, lines, out) {
             Ok(None) => number += 1,
             Ok(Some(ending)) => return Ok(Some(ending)),
             Err(stop) => return Err(stop),
@@ -205,16 +235,20 @@ fn check_fib<W: Write>(
     state: &mut State,
     stash: &mut Stash,
     fib: &[u8; 32],
+    lines: &mut LinePrinter,
     out: &mut Output<'_, W>,
 ) -> Result<Option<Ending>, Stop>
     ensures checked { IfOk result (λ e. ChecksFib options fib.now state.old state.new
         (printed W.contents out.old) (printed W.contents out.new) e) }
     ensures ended { IfOk result (λ e. IfSome e (StopsAtFib options)) }
+    ensures stopped { IfErr result (GivesUpFib options fib.now state.old
+        (printed W.contents out.old) (printed W.contents out.new)
+        out.new.has_failed lines.new.has_lost) }
 {
     stash.clear();
     let heard = state.checker.hear(fib, stash);
     match stash.findings() {
-        Some(findings) => match print_findings(options.form, findings, out) {
+        Some(findings) => match print_findings(options.form, findings, lines, out) {
             Ok(()) => state.tally = counted(state.tally, findings),
             Err(stop) => return Err(stop),
         },
@@ -222,7 +256,7 @@ fn check_fib<W: Write>(
     }
     match heard {
         Ok(false) => Ok(None),
-        Ok(true) => match end_frame(options, state, out) {
+        Ok(true) => match end_frame(options, state, lines, out) {
             Ok(ending) => Ok(ending),
             Err(stop) => Err(stop),
         },
@@ -245,16 +279,21 @@ fn cause_of(fault: CheckFault) -> Cause
 fn print_findings<W: Write>(
     form: Form,
     findings: &[Finding],
+    lines: &mut LinePrinter,
     out: &mut Output<'_, W>,
 ) -> Result<(), Stop>
-    ensures { OnOk result (Appends (printed W.contents out.old) (printed W.contents out.new)
-        (finding_lines form findings.now)) }
+    ensures printed { OnOk result (Appends (printed W.contents out.old)
+        (printed W.contents out.new) (finding_lines form findings.now)) }
+    ensures begun { OnErr result (PrintsFront (printed W.contents out.old)
+        (printed W.contents out.new) (finding_lines form findings.now)) }
+    ensures failed { IfErr result (IsUnprinted out.new.has_failed lines.new.has_lost) }
+    ensures some { OnErr result (0 < length findings.now) }
 {
     let mut rest = findings;
     while let Some((finding, after)) = rest.split_first() {
-        match print_line(form, &Line::Found(*finding), out) {
+        match lines.print(form, &Line::Found(*finding), out) {
             Ok(()) => rest = after,
-            Err(_) => return Err(Stop::Write),
+            Err(stop) => return Err(stop),
         }
     }
     Ok(())
@@ -277,18 +316,19 @@ fn is_due(every: Option<u32>, frames: u64) -> bool
 fn print_due<W: Write>(
     options: CheckOptions,
     totals: Totals,
+    lines: &mut LinePrinter,
     out: &mut Output<'_, W>,
 ) -> Result<(), Stop>
-    ensures { OnOk result (Appends (printed W.contents out.old) (printed W.contents out.new)
-        (due_text options totals)) }
+    ensures printed { OnOk result (Appends (printed W.contents out.old)
+        (printed W.contents out.new) (due_text options totals)) }
+    ensures begun { OnErr result (PrintsFront (printed W.contents out.old)
+        (printed W.contents out.new) (due_text options totals)) }
+    ensures failed { IfErr result (IsUnprinted out.new.has_failed lines.new.has_lost) }
 {
     if !is_due(options.every, totals.summary.frames) {
         return Ok(());
     }
-    match print_line(options.form, &Line::Alive(totals), out) {
-        Ok(()) => Ok(()),
-        Err(_) => Err(Stop::Write),
-    }
+    lines.print(options.form, &Line::Alive(totals), out)
 }
 
 /// The end of a check with a frame, if it ends with a fault that was found.
@@ -308,14 +348,18 @@ fn end_of(options: CheckOptions, totals: Totals) -> Option<Ending>
 fn end_frame<W: Write>(
     options: CheckOptions,
     state: &State,
+    lines: &mut LinePrinter,
     out: &mut Output<'_, W>,
 ) -> Result<Option<Ending>, Stop>
     ensures ends { IfOk result (EndsFrameFrom options state.now
         (printed W.contents out.old) (printed W.contents out.new)) }
     ensures ended { IfOk result (λ e. IfSome e (StopsAtFib options)) }
+    ensures begun { OnErr result (BreaksFrameFrom options state.now
+        (printed W.contents out.old) (printed W.contents out.new)) }
+    ensures failed { IfErr result (IsUnprinted out.new.has_failed lines.new.has_lost) }
 {
     let totals = totals_of(state.tally, state.checker.decided());
-    match print_due(options, totals, out) {
+    match print_due(options, totals, lines, out) {
         Ok(()) => Ok(end_of(options, totals)),
         Err(stop) => Err(stop),
     }

@@ -1,6 +1,6 @@
 //! The input of a check, as a trait: FIBs in pieces, and hints on a file that has none.
 
-ghost use Rattle.std.specs.Prelude.{◌≡◌, ◌<◌, ◌≤◌, ◌%◌, [], length, true, false, IfOk, OnOk};
+ghost use Rattle.std.specs.Prelude.{◌≡◌, ◌<◌, ◌≤◌, ◌%◌, [], length, true, false, IfErr, IfOk, OnOk};
 ghost use Rattle.std.specs.Io.KnownBytes.{Consumes, IsAtEnd};
 ghost use Rattle.console.specs.Printed.{writer_of};
 ghost use Rattle.stream_check.specs.Frames.{Reading};
@@ -28,13 +28,17 @@ impl CheckStart for Brand {
 
 /// The input of a check that began at `S`: FIBs, which come in pieces, and hints. Its output is over `W`.
 pub trait FibSource<S: CheckStart, W: Write> {
-    ghost use Rattle.std.specs.Prelude.{ℕ, List, Option};
+    ghost use Rattle.std.specs.Prelude.{ℕ, List, Option, Some};
+    ghost use Rattle.console.specs.declared.files.FileFault.{FileFault};
 
     /// The remaining bytes, if known.
     ghost left: { Self → Option (List ℕ) };
 
     /// The last piece.
     ghost piece: { Self → List ℕ };
+
+    /// The fault of the last read that failed, if one has.
+    ghost fault: { Self → Option FileFault };
 
     /// Reads the next piece, and returns whether there was one: at most 262,144 bytes, which end within a FIB only at
     /// the end of the input. No other method reads.
@@ -51,7 +55,10 @@ pub trait FibSource<S: CheckStart, W: Write> {
         ensures bound { length (piece self.new) ≤ 262144 }
         ensures last { OnOk result (0 < length (piece self.new) % 32 → IsAtEnd (left self.new)) }
         ensures none { IfOk result (λ more. more ≡ false → piece self.new ≡ []) }
-        ensures end { IfOk result (λ more. more ≡ false → IsAtEnd (left self.new)) };
+        ensures some { IfOk result (λ more. more ≡ true → 0 < length (piece self.new)) }
+        ensures end { IfOk result (λ more. more ≡ false → IsAtEnd (left self.new)) }
+        ensures failed { IfErr result (λ why. fault self.new ≡ Some why) }
+        ensures works { OnOk result (fault self.new ≡ fault self.old) };
 
     /// The bytes of the last piece.
     fn piece(&self) -> &[u8]
@@ -60,10 +67,12 @@ pub trait FibSource<S: CheckStart, W: Write> {
     /// Gives a hint on standard error once the pieces so far are no FIBs. One that can't be written is lost.
     fn look(&mut self)
         ensures left { left self.new ≡ left self.old }
-        ensures piece { piece self.new ≡ piece self.old };
+        ensures piece { piece self.new ≡ piece self.old }
+        ensures works { fault self.new ≡ fault self.old };
 
     /// Gives a hint if the stream ends here, and had no FIB.
     fn end(&mut self)
         ensures left { left self.new ≡ left self.old }
-        ensures piece { piece self.new ≡ piece self.old };
+        ensures piece { piece self.new ≡ piece self.old }
+        ensures works { fault self.new ≡ fault self.old };
 }

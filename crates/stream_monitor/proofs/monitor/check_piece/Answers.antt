@@ -3,6 +3,7 @@ use Rattle.console.specs.Printed.{printed}
 use Rattle.stream_monitor.specs.declared.ending.Ending.{Ending}
 use Rattle.stream_monitor.specs.Going.{ChecksFib, ChecksPiece}
 use Rattle.stream_monitor.proofs.Pieces.{piece_begins, piece_more, piece_stops, piece_cut, piece_whole, fib_added, fib_split}
+use Rattle.stream_monitor.proofs.Unfinished.{piece_gives_up}
 use Rattle.stream_monitor.proofs.monitor.check_piece.Goals as goal
 
 pub loop-number-init : goal.loop-number-init
@@ -41,3 +42,11 @@ returns-clause-checked g c =
     let whole : length c.args.piece.now % 32 ≡ 0 = omega (arith, c.if-piece-gt0.false) in
     subst (λ (l : List ℕ). ChecksPiece c.args.options l c.args.state.now c.loop-number.state (printed g.W.Write.contents c.args.out.now) (printed g.W.Write.contents c.loop-number.out) None)
     (piece_whole c.loop-number.number c.args.piece.now last whole) so_far.1
+
+pub returns-in-Err-clause-stopped : goal.returns-in-Err-clause-stopped
+returns-in-Err-clause-stopped g c =
+    let piece = c.args.piece.now in
+    let n = c.loop-number.number in
+    let rest = drop (32 * n + 32) piece in
+    piece_gives_up c.args.options (take (32 * n) piece) c.fib_of-fib.result rest piece c.args.state.now c.loop-number.state _ _ _ _ _ c.in-Err.stop c.loop-number.invariant.1 c.in-Err.ensures.stopped
+    (fib_split n piece ∙ ap (λ (l : List ℕ). take (32 * n) piece ++ (l ++ rest)) (sym c.fib_of-fib.ensures))
