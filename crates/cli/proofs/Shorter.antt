@@ -1,5 +1,5 @@
 -- The words before the last one.
-use Rattle.std.proofs.Common.{◌≡◌, ◌∙◌, ◌++◌, ◌∷◌, [], ℕ, List, Option, None, Some, map, refl, ap, sym, subst}
+use Rattle.std.proofs.Common.{◌≡◌, ◌∙◌, ◌++◌, ◌∷◌, [], ℕ, List, Option, Some, map, refl, ap, sym, subst}
 use Rattle.std.specs.Prelude.{slice_get, unwrap_or, IfNone}
 
 map_last : {X : Type 0} (text : X → List ℕ) (xs : List X) (last : X) → map text (xs ++ last ∷ []) ≡ map text xs ++ text last ∷ []

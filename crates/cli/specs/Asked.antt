@@ -1,5 +1,5 @@
 -- Help on `help`.
-use Rattle.std.specs.Prelude.{◌≡◌, ◌∷◌, ◌++◌, [], ◌⊎◌, ℕ, Bool, true, List, Some, codes, slice_get}
+use Rattle.std.specs.Prelude.{◌≡◌, ◌∷◌, ◌++◌, [], ◌⊎◌, ℕ, List, Some, codes, slice_get}
 
 abbrev pub IsHelpWord : List ℕ → Type 0
 IsHelpWord word = (word ≡ codes "help") ⊎ (word ≡ codes "-h") ⊎ (word ≡ codes "--help")

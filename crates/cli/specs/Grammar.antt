@@ -1,7 +1,7 @@
 -- The grammar of a command line: commands, with their operands and options.
-use Rattle.std.specs.Prelude.{◌≡◌, ◌++◌, ◌∷◌, [], ℕ, ℤ, pos, true, false, List, Option, Some, None, option_map, IfSome, if◌then◌else◌, nat_lt, length, map, take, codes, slice_get}
+use Rattle.std.specs.Prelude.{◌≡◌, ◌∷◌, [], ℕ, ℤ, pos, true, false, List, Option, Some, None, option_map}
 use Rattle.std.specs.Int.{int_max, int_min}
-use Rattle.clap.specs.Words.{App, Rule, Shape, Text, app_of, new_app, new_rule, with_rule, with_subcommand}
+use Rattle.clap.specs.Words.{App, Rule, Shape, app_of, new_app, new_rule}
 use Rattle.clap.specs.Values.{signed_between}
 use Rattle.std.specs.Borrow.{Bor}
 use Rattle.clap.specs.declared.builder.arg.Arg.{Arg}
@@ -14,7 +14,7 @@ use Rattle.cli.specs.declared.args.parser.Argument.{Argument}
 use Rattle.cli.specs.declared.args.parser.Kind.{Kind}
 use Rattle.cli.specs.declared.args.parser.Kind.TheVariants.{Operand, Flag, Text as TextOf, Number}
 use Rattle.cli.specs.declared.args.parser.Rule.{Rule as DependenceOf}
-use Rattle.cli.specs.declared.args.parser.Rule.TheVariants.{Free, Required, RequiredUnless, NeedsWithout, Excludes, ExcludesBoth}
+use Rattle.cli.specs.declared.args.parser.Rule.TheVariants.{Free, Required}
 
 -- ---- one argument
 

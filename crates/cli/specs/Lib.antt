@@ -1,8 +1,11 @@
+pub mod Answers
 pub mod Asked
 pub mod Asking
+pub mod Commands
 pub mod Given
 pub mod Grammar
 pub mod Numbers
 pub mod Program
 pub mod Refusals
 pub mod Requests
+pub mod Streaming

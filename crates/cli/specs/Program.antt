@@ -1,6 +1,6 @@
 -- The grammar of the program: its commands, each with its operands and options.
-use Rattle.std.specs.Prelude.{[], ◌∷◌, ℕ, pos, List, Some, None, codes}
-use Rattle.clap.specs.Words.{App, Rule, Shape, new_app}
+use Rattle.std.specs.Prelude.{[], ◌∷◌, pos, Some, None, codes}
+use Rattle.clap.specs.Words.{App, Rule, Shape}
 use Rattle.cli.specs.Grammar.{bound, command, flag, number, operand, program, required, text}
 
 -- ---- options of several commands

@@ -5,4 +5,5 @@
 pub mod answer;
 pub mod args;
 mod live;
+mod mistakes;
 mod streamed;

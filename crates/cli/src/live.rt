@@ -1,22 +1,24 @@
 //! The answers to `live` and `merge`, whose messages and mistakes go to standard error.
 
-ghost use Rattle.std.specs.Prelude.{◌≢◌};
-ghost use Rattle.console.specs.declared.exit.Status.TheVariants.{Faulty};
+ghost use Rattle.std.specs.Prelude.{◌≡◌, ◌≤◌, ◌↔◌, IsTrue, map};
+ghost use Rattle.cli.specs.Answers.{AnswersFrames, AnswersFramesBy, WritesFrames};
+ghost use Rattle.cli.specs.declared.args.FramesRequest.TheVariants as frames;
+ghost use Rattle.cli.specs.Commands.{inputs, outputs};
 
-use crate::answer::explain;
-use crate::args::{FramesRequest, UsageError, frames_request_of};
-use cli_plans::live::{JsonEnding, play_live};
-use cli_streams::merge::show_merged;
-use console::exit::{Failure, Status};
+use crate::args::{FramesRequest, frames_request_of};
+use crate::mistakes::answer_mistake;
+use cli_plans::live::{JsonEnding, LiveRequest, play_live};
+use cli_streams::merge::{MergeRequest, show_merged};
+use console::ending::status_number;
 use console::files::Files;
-use console::output::Output;
 use std::alloc::Global;
 use std::convert::AsStr;
 use std::io::Write;
-use std::str;
 
 /// Whether the first argument is a command that writes frames: `live` or `merge`.
-pub(crate) fn writes_frames<S: AsStr>(args: &[S]) -> bool {
+pub(crate) fn writes_frames<S: AsStr>(args: &[S]) -> bool
+    ensures { IsTrue result ↔ WritesFrames (map S.text args.now) }
+{
     match args.first() {
         Some(first) => matches!(first.as_str(), "live" | "merge"),
         None => false,
@@ -31,58 +33,64 @@ pub(crate) fn answer_frames<S: AsStr, F: Files, W: Write>(
     args: &[S],
     files: &mut F,
     out: &mut W,
-) -> Status {
-    match frames_request_of(alloc, args) {
-        Ok(FramesRequest::Live(request)) => match play_live(alloc, &request, files, out) {
-            Ok(()) => Status::Done,
-            Err(ending) => {
-                if request.json {
-                    files.report(JsonEnding(&ending));
-                } else {
-                    files.report(ending);
-                }
-                Status::Refused
-            }
-        },
-        Ok(FramesRequest::Merge(request)) => match show_merged(alloc, &request, files, out) {
-            Ok(status) => status,
-            Err(fault) => {
-                files.report(fault);
-                Status::Refused
-            }
-        },
-        Err(UsageError::Help(help)) => show_help(alloc, UsageError::Help(help), out),
-        Err(unasked) => report_mistake(alloc, unasked, files),
-    }
-}
-
-/// Prints the help text.
-fn show_help<W: Write>(alloc: Global, unasked: UsageError<'_>, out: &mut W) -> Status {
-    let mut output = Output::new(out);
-    let Ok(status) = explain(alloc, unasked, &mut output) else {
-        return Status::Refused;
-    };
-    match output.flush() {
-        Ok(()) => status,
-        Err(_) => Status::Refused,
-    }
-}
-
-/// Reports an invalid command line on standard error.
-pub(crate) fn report_mistake<F: Files>(
-    alloc: Global,
-    unasked: UsageError<'_>,
-    files: &mut F,
-) -> Status
-    ensures { result ≢ Faulty }
+) -> u8
+    ensures bound { result ≤ 3 }
+    ensures answered { AnswersFramesBy (map S.text args.now)
+        (inputs (F.known files.old) (F.known_input files.old))
+        (outputs (F.world files.old) (W.contents out.old))
+        (outputs (F.world files.new) (W.contents out.new)) result }
 {
-    let mut text: Vec<u8> = Vec::new(alloc);
-    let Ok(status) = explain(alloc, unasked, &mut text) else {
-        files.report(Failure::Memory);
-        return Status::Refused;
-    };
-    if let Ok(line) = str::from_utf8(text.as_slice()) {
-        files.report(line.trim());
+    match frames_request_of(alloc, args) {
+        Ok(FramesRequest::Live(request)) => answer_live(alloc, &request, files, out),
+        Ok(FramesRequest::Merge(request)) => answer_merge(alloc, &request, files, out),
+        Err(unasked) => answer_mistake(alloc, unasked, true, files, out),
     }
-    status
+}
+
+/// Runs `live`, and returns its exit status.
+fn answer_live<F: Files, W: Write>(
+    alloc: Global,
+    request: &LiveRequest<'_>,
+    files: &mut F,
+    out: &mut W,
+) -> u8
+    ensures bound { result ≤ 3 }
+    ensures answered { AnswersFrames (frames.Live request.now)
+        (inputs (F.known files.old) (F.known_input files.old))
+        (outputs (F.world files.old) (W.contents out.old))
+        (outputs (F.world files.new) (W.contents out.new)) result }
+{
+    match play_live(alloc, request, files, out) {
+        Ok(()) => 0,
+        Err(ending) => {
+            if request.json {
+                files.report(JsonEnding(&ending));
+            } else {
+                files.report(ending);
+            }
+            1
+        }
+    }
+}
+
+/// Runs `merge`, and returns its exit status.
+fn answer_merge<F: Files, W: Write>(
+    alloc: Global,
+    request: &MergeRequest<'_>,
+    files: &mut F,
+    out: &mut W,
+) -> u8
+    ensures bound { result ≤ 3 }
+    ensures answered { AnswersFrames (frames.Merge request.now)
+        (inputs (F.known files.old) (F.known_input files.old))
+        (outputs (F.world files.old) (W.contents out.old))
+        (outputs (F.world files.new) (W.contents out.new)) result }
+{
+    match show_merged(alloc, request, files, out) {
+        Ok(status) => status_number(status),
+        Err(fault) => {
+            files.report(fault);
+            1
+        }
+    }
 }

@@ -1,9 +1,16 @@
 //! The answer to `play` and `compile` where their output goes to standard output, and their lines to standard error.
 
-use crate::answer::report;
+ghost use Rattle.std.specs.Prelude.{◌≡◌, IfSome, IfNone};
+ghost use Rattle.console.specs.World.{Becomes, HasSameFiles};
+ghost use Rattle.console.specs.Endings.{HasStatus, status_number};
+ghost use Rattle.cli.specs.Answers.{IsStreamed, Streams};
+ghost use Rattle.cli.specs.Commands.{inputs, outputs};
+ghost use Rattle.cli.specs.Streaming.{request_in};
+
 use crate::args::Request;
 use cli_plans::play::{PlayRequest, stream_play};
 use cli_scripts::compile::{CompileRequest, stream_compile};
+use console::ending::report;
 use console::exit::{Failure, Status};
 use console::files::Files;
 use std::alloc::Global;
@@ -21,18 +28,28 @@ pub(crate) enum Streamed<'a> {
 }
 
 /// The request, if the output of its command is standard output.
-pub(crate) fn streamed_of<'a>(request: &Request<'a>) -> Option<Streamed<'a>> {
-    if let Request::Play(request) = request {
-        if request.out == "-" {
-            return Some(Streamed::Play(*request));
+pub(crate) fn streamed_of<'a>(request: &Request<'a>) -> Option<Streamed<'a>>
+    ensures request { IfSome result (λ s. request_in s ≡ request.now) }
+    ensures streamed { IfSome result (λ _. IsStreamed request.now) }
+    ensures none { IfNone result (IsStreamed request.now → ⊥) }
+{
+    match request {
+        Request::Play(request) => {
+            if request.out == "-" {
+                Some(Streamed::Play(*request))
+            } else {
+                None
+            }
         }
-    }
-    if let Request::Compile(request) = request {
-        if request.out == "-" {
-            return Some(Streamed::Compile(*request));
+        Request::Compile(request) => {
+            if request.out == "-" {
+                Some(Streamed::Compile(*request))
+            } else {
+                None
+            }
         }
+        _ => None,
     }
-    None
 }
 
 /// Whether standard output can be the output of the command that these arguments name.
@@ -53,18 +70,53 @@ pub(crate) fn answer_streamed<F: Files, W: Write>(
     request: Streamed<'_>,
     files: &mut F,
     out: &mut W,
-) -> Status {
+) -> Status
+    ensures { Streams (request_in request.entry)
+        (inputs (F.known files.old) (F.known_input files.old))
+        (outputs (F.world files.old) (W.contents out.old))
+        (outputs (F.world files.new) (W.contents out.new)) (status_number result) }
+{
     let mut lines: Vec<u8> = Vec::new(alloc);
-    let ended = match request {
-        Streamed::Play(request) => stream_play(alloc, &request, files, out, &mut lines),
-        Streamed::Compile(request) => stream_compile(alloc, &request, files, out, &mut lines),
-    };
-    let Ok(status) = report(ended, &mut lines) else {
+    match request {
+        Streamed::Play(request) => {
+            let ended = stream_play(alloc, &request, files, out, &mut lines);
+            report_lines(alloc, ended, lines, files)
+        }
+        Streamed::Compile(request) => {
+            let ended = stream_compile(alloc, &request, files, out, &mut lines);
+            report_lines(alloc, ended, lines, files)
+        }
+    }
+}
+
+/// Reports the lines of a command, and the line of its failure, on standard error.
+fn report_lines<F: Files>(
+    alloc: Global,
+    ended: Result<Status, Failure<'_>>,
+    lines: Vec<u8>,
+    files: &mut F,
+) -> Status
+    ensures status { HasStatus ended.entry (status_number result) }
+    ensures files { Becomes HasSameFiles (F.world files.old) (F.world files.new) }
+{
+    let status = status_after(&ended);
+    let mut lines = lines;
+    if report(alloc, false, ended, &mut lines).is_err() {
         files.report(Failure::Memory);
-        return Status::Refused;
-    };
+        return status;
+    }
     if let Ok(text) = str::from_utf8(lines.as_slice()) {
         files.report(text.trim_end());
     }
     status
+}
+
+/// The exit status of a command that ends so.
+fn status_after(ended: &Result<Status, Failure<'_>>) -> Status
+    ensures { HasStatus ended.now (status_number result) }
+{
+    match ended {
+        Ok(status) => *status,
+        Err(_) => Status::Refused,
+    }
 }

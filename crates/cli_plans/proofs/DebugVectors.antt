@@ -1,5 +1,5 @@
 -- What is said of a session without commands, and of each way in which it can end early.
-use Rattle.std.proofs.Common.{◌≡◌, ℕ, List, [], ◌∷◌, ◌++◌, Option, None, Some, Ok, Err, refl, ◌∙◌}
+use Rattle.std.proofs.Common.{◌≡◌, ℕ, List, [], ◌∷◌, ◌++◌, Option, None, Some, Ok, Err, refl, subst, ◌∙◌}
 use Rattle.script_tokens.specs.declared.fault.Position.{Position}
 use Rattle.plan_player.specs.declared.fault.StartFault.TheVariants.{Count}
 use Rattle.plan_player.specs.Playing.{Playing}
@@ -8,12 +8,15 @@ use Rattle.plan_session.specs.declared.command.Command.TheVariants.{Next}
 use Rattle.plan_session.specs.declared.event_fault.EventFault.TheVariants.{Byte, Memory as NoMemoryForCommands}
 use Rattle.plan_session.specs.declared.run_fault.RunFault.TheVariants.{Start}
 use Rattle.plan_session.specs.declared.text_fault.TextFault.TheVariants.{Failed}
+use Rattle.script_tokens.specs.Lexing.{lexed}
 use Rattle.plan_session.specs.CommandParts.{ListsCommandsInParts}
+use Rattle.plan_session.specs.FilePlayback.{Begins}
+use Rattle.plan_session.specs.Kept.{cut_of}
 use Rattle.plan_session.specs.Playback.{Request}
 use Rattle.plan_debug.specs.Commands.{Debugging, fresh}
 use Rattle.cli_plans.specs.declared.debug.DebugFault.TheVariants.{Playback, Commands}
 use Rattle.cli_plans.specs.declared.file_debugging.FileDebugFault.TheVariants.{Debug, Changed, Unread}
-use Rattle.cli_plans.specs.FileTranscript.{PrintsAll, PrintsAgain, IsFileCutShort, IsFileDebugFault, IsFileUnprinted, ShowsSession}
+use Rattle.cli_plans.specs.FileTranscript.{PrintsAll, PrintsAgain, IsDebugged, IsStopped, IsFileCutShort, IsFileDebugFault, IsFileUnprinted, ShowsSession}
 use Rattle.cli_plans.specs.Transcript.{report_lines, shown_lines, IsCutShort}
 
 -- ---- what is printed
@@ -68,3 +71,18 @@ a_wrong_byte_does_not place h = absurd cc
 
 a_change_does_not : IsFileCutShort Changed → ⊥
 a_change_does_not h = h
+
+-- ---- what was read, and how far it was executed
+
+-- `@` lists no commands
+no_command_is_read : (r : Request) → IsDebugged (Some (64 ∷ [])) r → ⊥
+unfolding lexed
+no_command_is_read r d =
+    let cut : cut_of (64 ∷ []) ≡ Ok d.session.holds.tokens = subst (λ (t : List ℕ). cut_of t ≡ Ok d.session.holds.tokens) d.gives d.session.holds.cut in
+    absurd cc
+
+nothing_was_executed : (r : Request) (p : Playing) → Begins r p → IsStopped r (Some []) (Some [])
+nothing_was_executed r p begins = (p, begins, ([], fresh p, ([], (refl, refl), refl)))
+
+an_output_is_lost : (r : Request) → IsStopped r (Some []) None → ⊥
+an_output_is_lost r (p, begins, (commands, end, (lines, transcript, out))) = out

@@ -52,8 +52,8 @@ fn end_again<'f, S: LateStart, F: Files>(
         → F.In.remaining events ≡ Some text → Fits text → ListsInParts text
         → EndsInFile S.path (asked_from code.now text request.now.start)
         S.before (F.world result.files.now) frames play.new.creation) }
-    ensures cut { IfErr play.new.ended (λ e. (w : World) (text : List ℕ) (p : Playing) (steps : List Step)
-        → S.before ≡ Some w → F.In.remaining events ≡ Some text → Fits text → ListsInParts text
+    ensures cut { IfErr play.new.ended (λ e. (w : World) (text : List ℕ) (p : Playing)
+        (steps : List Step) → S.before ≡ Some w → F.In.remaining events ≡ Some text → Fits text → ListsInParts text
         → IsPlayback (asked_from code.now text request.now.start) p steps → CutsShort e) }
 {
     let late: LateFile<'f, '_, S, F> = LateFile::new(lent, request.out);
@@ -81,8 +81,8 @@ fn end_kept<'f, S: LateStart, F: Files>(
         → IsKeptOf text (string_bytes events)
         → EndsInFile S.path (asked_from code.now text request.now.start)
         S.before (F.world result.files.now) frames play.new.creation) }
-    ensures cut { IfErr play.new.ended (λ e. (w : World) (text : List ℕ) (p : Playing) (steps : List Step)
-        → S.before ≡ Some w → IsKeptOf text (string_bytes events)
+    ensures cut { IfErr play.new.ended (λ e. (w : World) (text : List ℕ) (p : Playing)
+        (steps : List Step) → S.before ≡ Some w → IsKeptOf text (string_bytes events)
         → IsPlayback (asked_from code.now text request.now.start) p steps → CutsShort e) }
 {
     laws::kept_texts();
@@ -109,8 +109,9 @@ pub(crate) fn play_again<F: Files>(
         → F.In.remaining events ≡ Some text → Fits text → ListsInParts text
         → EndsInFile request.now.out.now (asked_from code.now text request.now.start)
         (F.world files.old) (F.world files.new) frames result.creation) }
-    ensures cut { IfErr result.ended (λ e. (w : World) (text : List ℕ) (p : Playing) (steps : List Step)
-        → F.world files.old ≡ Some w → F.In.remaining events ≡ Some text → Fits text → ListsInParts text
+    ensures cut { IfErr result.ended (λ e. (w : World) (text : List ℕ) (p : Playing)
+        (steps : List Step) → F.world files.old ≡ Some w → F.In.remaining events ≡ Some text → Fits text
+        → ListsInParts text
         → IsPlayback (asked_from code.now text request.now.start) p steps → CutsShort e) }
 {
     let mut play = NO_PLAY;
@@ -133,8 +134,8 @@ pub(crate) fn play_kept<F: Files>(
         → IsKeptOf text (string_bytes events)
         → EndsInFile request.now.out.now (asked_from code.now text request.now.start)
         (F.world files.old) (F.world files.new) frames result.creation) }
-    ensures cut { IfErr result.ended (λ e. (w : World) (text : List ℕ) (p : Playing) (steps : List Step)
-        → F.world files.old ≡ Some w → IsKeptOf text (string_bytes events)
+    ensures cut { IfErr result.ended (λ e. (w : World) (text : List ℕ) (p : Playing)
+        (steps : List Step) → F.world files.old ≡ Some w → IsKeptOf text (string_bytes events)
         → IsPlayback (asked_from code.now text request.now.start) p steps → CutsShort e) }
 {
     let mut play = NO_PLAY;

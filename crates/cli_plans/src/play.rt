@@ -286,7 +286,8 @@ fn print_ending<'a, W: Write>(
     events: &'a str,
     out: &mut W,
 ) -> Result<Status, Failure<'a>>
-    ensures played { IfOk result (λ status. status ≡ PlayedToEnd → (frames : ℕ) × (ended ≡ Ok frames)
+    ensures played { IfOk result (λ status. status ≡ PlayedToEnd → (frames : ℕ)
+        × (ended ≡ Ok frames)
         × Appends (W.contents out.old) (W.contents out.new) (played_line frames)) }
     ensures ends { IfOk result (λ status. IsEnding events.now ended status
         (W.contents out.old) (W.contents out.new)) }

@@ -143,7 +143,8 @@ fn compile_script<'a, F: Files, W: Write>(
     out: &mut W,
 ) -> Result<Option<Compiled>, Failure<'a>>
     ensures script { IfSome (F.known files.old request.now.script.now) (λ bytes.
-        FindsCompiled bytes request.now (Appends (W.contents out.old) (W.contents out.new)) result) }
+        FindsCompiled bytes request.now
+        (Appends (W.contents out.old) (W.contents out.new)) result) }
     ensures files { Stays (F.world files.old) (F.world files.new) }
 {
     match read_script(alloc, files, request.script) {

@@ -33,13 +33,14 @@ pub struct CheckRequest<'a> {
 /// # Errors
 ///
 /// `Read` if the file can't be read, behind the lines of the FIBs before; `Memory` if out of memory
-/// for a piece, or if a frame has more than 1,024 findings; `Output` if the output failed, after
-/// which nothing is printed. What is printed then is the beginning of what the whole check prints.
+/// for a piece or a line, or if a frame has more than 1,024 findings; `Output` if the output failed,
+/// after which nothing is printed. What is printed then is the beginning of what the whole check
+/// prints.
 pub fn show_check<'a, F: Files, W: Write>(
     alloc: Global,
     request: &CheckRequest<'a>,
     files: &mut F,
-    out: &mut Output<'_, W>,
+    out: &mut Output<W>,
 ) -> Result<Status, Failure<'a>>
     ensures input { request.now.file.now ≡ codes "-" → IfSome (F.known_input files.old) (λ stream.
         IfOk result (λ status. (r : Reading) → ShowsCheck r request.now.options stream
@@ -77,7 +78,7 @@ fn check_input<'a, F: Files, R: Read + Drop, W: Write>(
     path: &'a str,
     input: &mut FileFibs<'_, F, R>,
     lines: &mut LinePrinter,
-    out: &mut Output<'_, W>,
+    out: &mut Output<W>,
 ) -> Result<Status, Failure<'a>>
     ensures shows { IfOk result (λ status. (r : Reading) → ShowsInput r options
         input.old.pieces.left input.new.pieces.left
@@ -113,7 +114,7 @@ fn print_ending<'a, W: Write>(
     path: &'a str,
     ending: Ending,
     lines: &mut LinePrinter,
-    out: &mut Output<'_, W>,
+    out: &mut Output<W>,
 ) -> Result<Status, Failure<'a>>
     ensures printed { OnOk result (Appends (printed W.contents out.old) (printed W.contents out.new)
         (line_of form (last_line ending))) }

@@ -61,7 +61,8 @@ pub fn show_frame<'a, F: Files, W: Write>(
     ensures input { request.now.config.now ≡ codes "-" → IfSome (F.known_input files.old) (λ bytes.
         IfOk result (ShowsFrame request.now.raw (frame_of request.now.layout request.now.ensemble
         request.now.page (take most_bytes bytes)) (W.contents out.old) (W.contents out.new))) }
-    ensures file { request.now.config.now ≢ codes "-" → IfSome (F.known files.old request.now.config.now) (λ bytes.
+    ensures file { request.now.config.now ≢ codes "-"
+        → IfSome (F.known files.old request.now.config.now) (λ bytes.
         IfOk result (ShowsFrame request.now.raw (frame_of request.now.layout request.now.ensemble
         request.now.page (take most_bytes bytes)) (W.contents out.old) (W.contents out.new))) }
 {

@@ -93,7 +93,8 @@ impl<R: Read + Drop> FrameReader<R> {
         ensures whole { IfOk result (λ more. more ≡ true → size ≤ length self.new.ahead) }
         ensures short { IfOk result (λ more. more ≡ false → length self.new.ahead < size) }
         ensures end { IfOk result (λ more. more ≡ false → IsAtEnd self.new.behind) }
-        ensures buffered { size ≤ length self.old.ahead → (result ≡ Ok true) × (self.new ≡ self.old) }
+        ensures buffered { size ≤ length self.old.ahead → (result ≡ Ok true)
+            × (self.new ≡ self.old) }
     {
         if self.len() >= size {
             return Ok(true);

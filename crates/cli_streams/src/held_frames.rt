@@ -67,7 +67,8 @@ impl<'o, W: Write> HeldFrames<'o, W> {
     pub fn hold(&mut self, frame: &[u8])
         requires size { length frame.now ≡ self.old.size }
         requires room { length self.old.held.items + self.old.size ≤ 65536 }
-        ensures frame { Appends (finished W.contents self.old) (finished W.contents self.new) frame.now }
+        ensures frame { Appends (finished W.contents self.old) (finished W.contents self.new)
+            frame.now }
         ensures held { length self.new.held.items ≡ length self.old.held.items + self.old.size }
         ensures size { self.new.size ≡ self.old.size }
         ensures taken { self.new.taken ≡ self.old.taken }

@@ -99,7 +99,8 @@ fn print_level<W: Write>(sub: &SubEntry, out: &mut W) -> io::Result<()>
 /// The rate in kbit/s that a sub-channel of this size has, if there is one, to the end of the object.
 fn print_rate<W: Write>(set: EepSet, level: u8, size: u16, out: &mut W) -> io::Result<()>
     requires level { (1 ≤ level) × (level ≤ 4) }
-    ensures { OnOk result ((rate : Option ℕ) × IsRate (record { set = set; level = level }) size rate
+    ensures { OnOk result ((rate : Option ℕ)
+        × IsRate (record { set = set; level = level }) size rate
         × Appends (W.contents out.old) (W.contents out.new) (rate_json rate ++ codes "}")) }
 {
     match Protection::new(set, level) {
@@ -147,7 +148,8 @@ fn print_service_head<W: Write>(service: &ServiceEntry, out: &mut W) -> io::Resu
 /// Its components, to the end of the object.
 fn print_list<W: Write>(service: &ServiceEntry, out: &mut W) -> io::Result<()>
     ensures { OnOk result (Appends (W.contents out.old) (W.contents out.new)
-        (codes "\",\"components\":[" ++ (components_from true service.now.components ++ codes "]}"))) }
+        (codes "\",\"components\":[" ++ (components_from true service.now.components
+        ++ codes "]}"))) }
 {
     out.write_all(b"\",\"components\":[")?;
     print_all(service, out)

@@ -3,6 +3,8 @@ mod Filling
 mod LineLaws
 mod LineReading
 mod Reporting
+pub mod Taken
+mod VectorsOfEndings
 mod VectorsOfEscapes
 mod VectorsOfWorlds
 pub mod Worlds

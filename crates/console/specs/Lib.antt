@@ -1,4 +1,5 @@
 pub mod Digits
+pub mod Endings
 pub mod Escapes
 pub mod Failures
 pub mod LineBytes

@@ -5,7 +5,7 @@ use Rattle.console.specs.declared.output.Output.{Output}
 
 -- the underlying writer
 abbrev pub writer_of : {W : Type 0} → Output W → W
-writer_of o = o.out.now
+writer_of o = o.out
 
 -- the bytes of the underlying writer, and then the buffered ones
 abbrev pub printed : {W : Type 0} → (W → Option (List ℕ)) → Output W → Option (List ℕ)

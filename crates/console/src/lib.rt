@@ -3,6 +3,7 @@
 #![tactic(auto)]
 
 pub mod code_file;
+pub mod ending;
 pub mod escaped;
 pub mod exit;
 pub mod files;

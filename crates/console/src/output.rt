@@ -13,18 +13,20 @@ use std::io::{self, Error, ErrorKind, Write};
 /// and each later flush returns an error. The bytes in `out` followed by the buffered ones are always all that was
 /// printed.
 #[derive(Drop)]
-pub struct Output<'a, W> {
-    out: &'a mut W,
+pub struct Output<W> {
+    out: W,
     held: ArrayVec<u8, 2048>,
     has_failed: bool,
+    ghost lacks: { has_failed ≡ true → 0 < length held.items },
 }
 
-impl<'a, W: Write> Output<'a, W> {
+impl<W: Write + Drop> Output<W> {
     ghost use Rattle.console.specs.Printed.{printed, writer_of};
 
     /// An empty buffer over `out`.
-    pub fn new(out: &'a mut W) -> Self
-        ensures { Keeps (W.contents out.old) (printed W.contents result) }
+    pub fn new(out: W) -> Self
+        ensures printed { Keeps (W.contents out) (printed W.contents result) }
+        ensures writer { writer_of result ≡ out }
     {
         Output {
             out,
@@ -32,9 +34,16 @@ impl<'a, W: Write> Output<'a, W> {
             has_failed: false,
         }
     }
+
+    /// The writer. What is buffered still, as after a failed flush, is lost.
+    pub fn into_inner(self) -> W
+        ensures { result ≡ writer_of self }
+    {
+        self.out
+    }
 }
 
-impl<W: Write> Write for Output<'_, W> {
+impl<W: Write> Write for Output<W> {
     ghost use Rattle.console.specs.Printed.{printed, writer_of};
 
     ghost contents = { printed W.contents };
@@ -67,11 +76,12 @@ impl<W: Write> Write for Output<'_, W> {
             (W.contents (writer_of self.new)) }
         ensures stays { self.old.has_failed ≡ true → IsErr result }
         ensures fails { IsErr result → self.new.has_failed ≡ true }
+        ensures lacks { IsErr result → 0 < length self.new.held.items }
     {
         if self.has_failed {
             return Err(Error::from(ErrorKind::Other));
         }
-        let (taken, result) = write_out(self.held.as_slice(), self.out);
+        let (taken, result) = write_out(self.held.as_slice(), &mut self.out);
         let mut left = ArrayVec::new();
         let _ = left.try_extend_from_slice(&self.held.as_slice()[taken..]);
         self.held = left;

@@ -12,7 +12,8 @@ use mux_config::{Edit, Store};
 /// configurations turn one into the other, each applied without a fault. The function does nothing; its contract is the
 /// law.
 pub fn transforming()
-    ensures making { (c : Configuration) → IsConfiguration c → Transform (edits_that_make c) nothing c }
+    ensures making { (c : Configuration) → IsConfiguration c
+        → Transform (edits_that_make c) nothing c }
     ensures between { (from to : Configuration) → IsConfiguration from → IsConfiguration to
         → Transform (edits_between from to) from to }
 {

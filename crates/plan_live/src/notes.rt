@@ -86,7 +86,8 @@ fn begins_notice(notice: u8, left: Option<u16>) -> bool
 /// Reports that a notice begins with the last frame, which had this count.
 fn report_notice<S: Store, E: Ends>(player: &Player<'_, S>, count: u16, frame: u64, ends: &mut E)
     requires room { E.held ends.old < 64 }
-    ensures reported { let p = player.now in (t : State) → p.state ≡ with_next_counts p.code.plan t →
+    ensures reported { let p = player.now in (t : State)
+        → p.state ≡ with_next_counts p.code.plan t →
         Grows (E.reported ends.old) (E.reported ends.new) (notice_note frame count p.code.plan t) }
     ensures held { E.held ends.new ≤ E.held ends.old + 1 }
     ensures flushed { E.is_flushed ends.new ≡ E.is_flushed ends.old }
@@ -130,7 +131,8 @@ fn report_notes<S: Store, E: Ends>(player: &Player<'_, S>, before: Look, frame: 
     requires room { E.held ends.old + 3 ≤ 64 }
     ensures reported { (s t : State) → before ≡ look_of s
         → player.now.state ≡ with_next_counts player.now.code.plan t →
-        Grows (E.reported ends.old) (E.reported ends.new) (notes_between frame player.now.code.plan s t) }
+        Grows (E.reported ends.old) (E.reported ends.new)
+        (notes_between frame player.now.code.plan s t) }
     ensures held { E.held ends.new ≤ E.held ends.old + 3 }
     ensures flushed { E.is_flushed ends.new ≡ E.is_flushed ends.old }
     ensures moments { E.moments ends.new ≡ E.moments ends.old }
@@ -152,7 +154,8 @@ fn report_status<S: Store, E: Ends>(
     ends: &mut E,
 )
     requires room { E.held ends.old + 3 ≤ 64 }
-    ensures reported { (p : Playing) → player.now ≡ played p (Frame ∷ []) → before ≡ look_of p.state →
+    ensures reported { (p : Playing) → player.now ≡ played p (Frame ∷ [])
+        → before ≡ look_of p.state →
         Grows (E.reported ends.old) (E.reported ends.new)
         (if status then frame_notes frame p.code p.state else []) }
     ensures held { E.held ends.new ≤ E.held ends.old + 3 }
@@ -200,7 +203,8 @@ pub(crate) fn report_frame<S: Store, E: Ends>(
 )
     requires number { frame < 18446744073709551615 }
     requires room { E.held ends.old + 4 ≤ 64 }
-    ensures reported { (p : Playing) → player.now ≡ played p (Frame ∷ []) → before ≡ look_of p.state →
+    ensures reported { (p : Playing) → player.now ≡ played p (Frame ∷ [])
+        → before ≡ look_of p.state →
         Grows (E.reported ends.old) (E.reported ends.new)
         (notes wanted frame p.code p.state (Frame ∷ [])) }
     ensures flushed { E.is_flushed ends.new ≡ E.is_flushed ends.old }

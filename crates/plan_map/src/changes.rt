@@ -28,7 +28,8 @@ fn print_sid<W: Write>(sid: Sid, out: &mut W) -> io::Result<()>
 
 /// Prints a component, after a blank.
 fn print_component<W: Write>(component: Component, out: &mut W) -> io::Result<()>
-    ensures { OnOk result (Appends (W.contents out.old) (W.contents out.new) (component_text component)) }
+    ensures { OnOk result (Appends (W.contents out.old) (W.contents out.new)
+        (component_text component)) }
 {
     match component {
         Component::Sound { ty, sub } => {
@@ -50,7 +51,8 @@ fn print_component<W: Write>(component: Component, out: &mut W) -> io::Result<()
 
 /// Prints a service with its components.
 fn print_service<W: Write>(service: &Service, out: &mut W) -> io::Result<()>
-    ensures { OnOk result (Appends (W.contents out.old) (W.contents out.new) (service_text service.now)) }
+    ensures { OnOk result (Appends (W.contents out.old) (W.contents out.new)
+        (service_text service.now)) }
 {
     out.write_all(b"service ")?;
     print_sid(service.sid, out)?;
@@ -71,7 +73,8 @@ fn print_components<W: Write>(components: &[Component], out: &mut W) -> io::Resu
 /// Prints a packet component.
 #[tactic(auto, unfolding(crate::specs::Changes::packet_text))]
 fn print_packet<W: Write>(packet: &Packet, out: &mut W) -> io::Result<()>
-    ensures { OnOk result (Appends (W.contents out.old) (W.contents out.new) (packet_text packet.now)) }
+    ensures { OnOk result (Appends (W.contents out.old) (W.contents out.new)
+        (packet_text packet.now)) }
 {
     let scid = packet.scid.get();
     let groups = if packet.dg { "raw" } else { "groups" };

@@ -221,7 +221,8 @@ pub(crate) fn print_sub<W: Write>(sub: &Sub, out: &mut W) -> io::Result<()>
 
 /// Prints a layout: a line for each sub-channel, in the words of a listing.
 fn print_subs<W: Write>(subs: &[Sub], out: &mut W) -> io::Result<()>
-    ensures { OnOk result (Appends (W.contents out.old) (W.contents out.new) (layout_text subs.now)) }
+    ensures { OnOk result (Appends (W.contents out.old) (W.contents out.new)
+        (layout_text subs.now)) }
 {
     for sub in subs {
         print_line(sub, out)?;
@@ -252,7 +253,8 @@ fn print_other<W: Write>(first: &Sub, other: &Sub, out: &mut W) -> io::Result<()
 
 /// Prints why there is no layout: a sub-channel with its two places, or two sub-channels with theirs.
 fn print_clash<W: Write>(clash: &Clash, out: &mut W) -> io::Result<()>
-    ensures { OnOk result (Appends (W.contents out.old) (W.contents out.new) (clash_text clash.now)) }
+    ensures { OnOk result (Appends (W.contents out.old) (W.contents out.new)
+        (clash_text clash.now)) }
 {
     out.write_all(b"no one layout: ")?;
     print_sub(&clash.first, out)?;
@@ -265,7 +267,8 @@ fn print_clash<W: Write>(clash: &Clash, out: &mut W) -> io::Result<()>
 /// `no one layout: sub 1 at 0 size 96 eep 3-A and at 0 size 72 eep 3-A`, with two places of one sub-channel or with two
 /// sub-channels that share capacity units.
 pub fn print_layout<W: Write>(layout: &Layout, out: &mut W) -> io::Result<()>
-    ensures { OnOk result (Appends (W.contents out.old) (W.contents out.new) (answer_text layout.now)) }
+    ensures { OnOk result (Appends (W.contents out.old) (W.contents out.new)
+        (answer_text layout.now)) }
 {
     match layout {
         Layout::One(subs) => print_subs(subs.as_slice(), out),

@@ -55,7 +55,8 @@ impl<K: Sink> Buffer<K> {
         ensures some { IfSome result (λ n.
             Appends (taken_by K.taken self.old) (taken_by K.taken self.new) (take n bytes.now)) }
         ensures works { IfSome result (λ _. K.has_failed self.new.out ≡ false) }
-        ensures keeps { IfNone result (Keeps (taken_by K.taken self.old) (taken_by K.taken self.new)) }
+        ensures keeps { IfNone result (Keeps (taken_by K.taken self.old)
+            (taken_by K.taken self.new)) }
         ensures fails { IfNone result (K.has_failed self.new.out ≡ true) }
     {
         if self.held.is_full() {

@@ -45,7 +45,8 @@ impl<'a> CommandList<'a> {
     /// atom that is not the required number in range, and `Expected`, for any other wrong token or the end of the text.
     /// Each has its position. A text that lists commands has no fault.
     pub fn new(text: &'a str) -> Result<Self, EventFault>
-        ensures found { IfOk result (λ list. (commands : List Command) × HoldsCommands text.now commands
+        ensures found { IfOk result (λ list. (commands : List Command)
+            × HoldsCommands text.now commands
             × ListsCommands list commands) }
         ensures only { IfErr result (λ e. (all : List Command) → HoldsCommands text.now all → ⊥) }
         ensures first { IfErr result (λ e. ReportsFirstFault text.now e) }

@@ -41,7 +41,8 @@ enum PartCheck {
 
 /// Whether a part is text, and lists items.
 fn check_part<T: Item>(part: &[u8]) -> PartCheck
-    ensures some { result ≡ Lists → (items : List T) × PartHolds T.spelled T.is_item part.now items }
+    ensures some { result ≡ Lists → (items : List T)
+        × PartHolds T.spelled T.is_item part.now items }
     ensures none { result ≢ Lists → (items : List T) → PartHolds T.spelled T.is_item part.now items
         → ⊥ }
     ensures faulty { (fault : TextsFault) → result ≡ Faulty fault → (items : List T)

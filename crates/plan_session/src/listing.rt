@@ -102,7 +102,8 @@ fn check_items<T: Item>(scanner: &mut Scanner<'_>) -> Result<(), ScriptFault>
 /// First `Byte`, for a byte outside comments that is not allowed; then the fault of the first item that cannot be read.
 /// A text that lists items has no fault.
 pub(crate) fn list_items<'a, T: Item>(text: &'a str) -> Result<Scanner<'a>, EventFault>
-    ensures found { IfOk result (λ s. (items : List T) × HoldsItems T.spelled T.is_item text.now items
+    ensures found { IfOk result (λ s. (items : List T)
+        × HoldsItems T.spelled T.is_item text.now items
         × Lists T.spelled T.is_item s items) }
     ensures none { IfErr result (λ e. (items : List T)
         → HoldsItems T.spelled T.is_item text.now items → ⊥) }

@@ -162,7 +162,8 @@ impl Work {
         ensures lines { OnOk result (self.new.lines.items ≡ self.old.lines.items
             ++ lines_of_placed (jumping falls line counters self.old)) }
         ensures unpriced { OnOk result (self.new.unpriced.items ≡ self.old.unpriced.items
-            ++ unpriced_labels (length self.old.lines.items) (jumping falls line counters self.old)) }
+            ++ unpriced_labels (length self.old.lines.items)
+            (jumping falls line counters self.old)) }
         ensures pool { Extends self.old.pool self.new.pool }
         ensures saved { OnOk result (self.new.saved.items ≡ self.old.saved.items
             ++ points_of (way falls self.old)) }
@@ -192,7 +193,8 @@ impl Work {
         requires there { at < length self.old.lines.items }
         requires limits { IsInLimits self.old }
         ensures starts_else { OnOk result ((front : List ProgramPoint) (entry : ProgramPoint) →
-            self.old.saved.items ≡ front ++ entry ∷ [] → StartsElse falls line counters contact at front
+            self.old.saved.items ≡ front ++ entry ∷ []
+            → StartsElse falls line counters contact at front
             entry self.old self.new) }
         ensures limits { OnOk result (IsInLimits self.new) }
         ensures limited { IfErr result (λ e. IsLimitAt line (λ limit. (front : List ProgramPoint)

@@ -12,7 +12,7 @@ use Rattle.plan_code.specs.declared.plan.Plan.{Plan}
 use Rattle.script_tokens.specs.declared.keyword.Keyword.TheVariants as the
 use Rattle.script_tokens.specs.Reading.{is_next}
 use Rattle.script_front.specs.Readers.{mode_at, layout_at, header_at}
-use Rattle.script_front.proofs.Words.{IsPlan, header_lexemes, limits_lexemes, mode_lexemes, reserve_lexemes, either_given, finish, keyed_law, made_found, made_given, other_next, bind_some, next_itself, values_are_read, letters, ReadsAsSpelled, Spelled, keyed, made, hex_text, eid_at, number_at, decimal, Some}
+use Rattle.script_front.proofs.Words.{IsPlan, header_lexemes, limits_lexemes, mode_lexemes, reserve_lexemes, either_given, finish, keyed_law, made_found, made_given, other_next, bind_some, next_itself, values_are_read, letters, ReadsAsSpelled, Spelled, keyed, built, hex_text, eid_at, number_at, decimal, Some}
 
 -- ---- modes
 
@@ -26,7 +26,7 @@ mode_text (suc (suc (suc (suc (suc n))))) h = absurd (let f = h.1 in omega (arit
 
 mode_given : (ws : Spelled) (x : Mode × Spelled) → mode_at ws ≡ Some x → ws ≡ mode_lexemes x.0 ++ x.1
 unfolding mode_at
-mode_given ws x e = elim (either_given the.Mode (made mode_of (number_at 2 4)) (λ vs. Some (I, vs)) ws x e) [
+mode_given ws x e = elim (either_given the.Mode (built mode_of (number_at 2 4)) (λ vs. Some (I, vs)) ws x e) [
   | inl h ↦ h.0 ∙ (made_given _ _ _ (values_are_read.numbers 2 4 (omega arith)) mode_of (λ m. Unit {0}) mode_lexemes (letters the.Mode ∷ []) (λ n is. tt) mode_text _ x h.1).1
   | inr h ↦ finish (λ y. ws ≡ mode_lexemes y.0 ++ y.1) (I, ws) x h.1 refl
 ]
@@ -69,7 +69,7 @@ reserved_text mode (suc (suc (suc n))) h = absurd (let f = h.1 in let g = (three
 
 layout_given : (mode : Mode) (ws : Spelled) (x : FrameLayout × Spelled) → layout_at mode ws ≡ Some x → (layout_mode x.0 ≡ mode) × (ws ≡ reserve_lexemes x.0 ++ x.1)
 unfolding layout_at
-layout_given mode ws x e = elim (either_given the.Reserve (made (reserving mode) (number_at 1 (fib_count mode - 2))) (λ vs. Some (Whole mode, vs)) ws x e) [
+layout_given mode ws x e = elim (either_given the.Reserve (built (reserving mode) (number_at 1 (fib_count mode - 2))) (λ vs. Some (Whole mode, vs)) ws x e) [
   | inl h ↦ (
       let g = made_given _ _ _ (reserve_law mode) (reserving mode) (λ l. layout_mode l ≡ mode) reserve_lexemes (letters the.Reserve ∷ []) (reserved_mode mode) (reserved_text mode) _ x h.1 in
       (g.0, h.0 ∙ g.1)

@@ -19,7 +19,7 @@ use Rattle.script_tokens.proofs.Keys.{no_decimal}
 use Rattle.script_front.specs.declared.tree.Act.TheVariants.{Edit as Edits, Wait, WaitContact, Until, CommitIn, CommitAt, Join, Settle}
 use Rattle.script_front.specs.Readers.{sub_at, service_at, groups_at, new_sub_at, new_packet_at, typed_sub_at, component_from, item_from, carrier_at, dropped_at, moved_at, rated_at, edit_from, waiting_at, committing_at, act_from}
 use Rattle.script_tokens.specs.Reading.{either}
-use Rattle.script_front.proofs.Words.{Edit, AddComponent, AddPacket, AddService, AddSub, DropComponent, DropPacket, DropService, DropSub, MoveSub, RateSub, IsCarrier, IsEdit, IsNewPacket, IsNewSub, dropping, packet_of, sub_of, act_lexemes, carried_lexemes, carrier_lexemes, edit_lexemes, groups_text, within_lexemes, Adds, IsAct, Act, below, both_law, either_given, finish, from_one, keyed_given, keyed_law, made_found, made_given, other_next, after_itself, next_itself, not_next, values_are_read, act_keyword, component_keyword, edit_keyword, letters, ReadsAsSpelled, Spelled, both, keyed, made, level_text, profile_text, sid_text, level_at, number_at, profile_at, sid_at, ActKeyword, ItemKeyword, decimal, Some}
+use Rattle.script_front.proofs.Words.{Edit, AddComponent, AddPacket, AddService, AddSub, DropComponent, DropPacket, DropService, DropSub, MoveSub, RateSub, IsCarrier, IsEdit, IsNewPacket, IsNewSub, dropping, packet_of, sub_of, act_lexemes, carried_lexemes, carrier_lexemes, edit_lexemes, groups_text, within_lexemes, Adds, IsAct, Act, below, both_law, either_given, finish, from_one, keyed_given, keyed_law, made_found, made_given, other_next, after_itself, next_itself, not_next, values_are_read, act_keyword, component_keyword, edit_keyword, letters, ReadsAsSpelled, Spelled, both, keyed, built, level_text, profile_text, sid_text, level_at, number_at, profile_at, sid_at, ActKeyword, ItemKeyword, decimal, Some}
 
 -- ---- fields
 
@@ -136,10 +136,10 @@ component_law k = record {
 carrier_law : ReadsAsSpelled carrier_at IsCarrier carrier_lexemes
 unfolding carrier_at
 carrier_law = record {
-  given = λ ws x e. elim (either_given the.Sub (made BySub (number_at 0 63)) (keyed the.Packet (made ByPacket (number_at 0 4095))) ws x e) [
+  given = λ ws x e. elim (either_given the.Sub (built BySub (number_at 0 63)) (keyed the.Packet (built ByPacket (number_at 0 4095))) ws x e) [
     | inl h ↦ (let g = made_given _ _ _ six BySub IsCarrier carrier_lexemes (letters the.Sub ∷ []) (λ a is. is) (λ a h. refl) _ x h.1 in (g.0, h.0 ∙ g.1))
     | inr h ↦ (
-        let k = keyed_given the.Packet (made ByPacket (number_at 0 4095)) ws x h.1 in
+        let k = keyed_given the.Packet (built ByPacket (number_at 0 4095)) ws x h.1 in
         let g = made_given _ _ _ twelve ByPacket IsCarrier carrier_lexemes (letters the.Packet ∷ []) (λ a is. is) (λ a h. refl) k.rest x k.read_is in (g.0, k.begins ∙ g.1)
         )
   ];
@@ -211,9 +211,9 @@ dropping_rest (ByPacket scid) h = refl
 
 dropped_given : (ws : Spelled) (x : Edit × Spelled) → dropped_at ws ≡ Some x → IsEditOf edit.Drop x.0 × (ws ≡ edit_rest x.0 ++ x.1)
 unfolding dropped_at
-dropped_given ws x e = elim (either_given the.Service (made DropService sid_at) (either the.Component (made (λ p. DropComponent p.1 p.0) (both carrier_at service_at)) (made dropping carrier_at)) ws x e) [
+dropped_given ws x e = elim (either_given the.Service (built DropService sid_at) (either the.Component (built (λ p. DropComponent p.1 p.0) (both carrier_at service_at)) (built dropping carrier_at)) ws x e) [
   | inl h ↦ (let g = made_given _ _ _ values_are_read.sids DropService (IsEditOf edit.Drop) edit_rest (letters the.Service ∷ []) (λ a is. (is, refl)) (λ a h. refl) _ x h.1 in (g.0, h.0 ∙ g.1))
-  | inr h ↦ elim (either_given the.Component (made (λ p. DropComponent p.1 p.0) (both carrier_at service_at)) (made dropping carrier_at) ws x h.1) [
+  | inr h ↦ elim (either_given the.Component (built (λ p. DropComponent p.1 p.0) (both carrier_at service_at)) (built dropping carrier_at) ws x h.1) [
     | inl k ↦ (
         let g = made_given _ _ _ placed_law (λ p. DropComponent p.1 p.0) (IsEditOf edit.Drop) edit_rest (letters the.Component ∷ []) (λ a is. ((is.1, is.0), refl)) (λ a h. refl) _ x k.1 in
         (g.0, k.0 ∙ g.1)
@@ -294,17 +294,17 @@ delay_law = values_are_read.numbers 1 60000 (omega arith)
 
 act_given : (k : ActKeyword) (ws : Spelled) (x : Act × Spelled) → act_from k ws ≡ Some x → IsActOf k x.0 × (ws ≡ act_rest x.0 ++ x.1)
 unfolding act_from waiting_at committing_at
-act_given act.Wait ws x e = elim (either_given the.Contact (made (λ p. WaitContact p.0 p.1) (both (number_at 0 15) level_at)) (made Wait (number_at 1 65535)) ws x e) [
+act_given act.Wait ws x e = elim (either_given the.Contact (built (λ p. WaitContact p.0 p.1) (both (number_at 0 15) level_at)) (built Wait (number_at 1 65535)) ws x e) [
   | inl h ↦ (
       let g = made_given _ _ _ contact_law (λ p. WaitContact p.0 p.1) (IsActOf act.Wait) act_rest (letters the.Contact ∷ []) (λ a is. (is.0, refl)) (λ a h. refl) _ x h.1 in (g.0, h.0 ∙ g.1)
       )
   | inr h ↦ made_given _ _ _ frames_law Wait (IsActOf act.Wait) act_rest [] (λ a is. (is, refl)) (λ a h. refl) ws x h.1
 ]
 act_given act.Until ws x e = made_given _ _ _ values_are_read.times Until (IsActOf act.Until) act_rest [] (λ a h. (h, refl)) (λ a h. refl) ws x e
-act_given act.Commit ws x e = elim (either_given the.In (made CommitIn (number_at 1 60000)) (keyed the.At (made CommitAt (number_at 0 65535))) ws x e) [
+act_given act.Commit ws x e = elim (either_given the.In (built CommitIn (number_at 1 60000)) (keyed the.At (built CommitAt (number_at 0 65535))) ws x e) [
   | inl h ↦ (let g = made_given _ _ _ delay_law CommitIn (IsActOf act.Commit) act_rest (letters the.In ∷ []) (λ a is. (is, refl)) (λ a h. refl) _ x h.1 in (g.0, h.0 ∙ g.1))
   | inr h ↦ (
-      let k = keyed_given the.At (made CommitAt (number_at 0 65535)) ws x h.1 in
+      let k = keyed_given the.At (built CommitAt (number_at 0 65535)) ws x h.1 in
       let g = made_given _ _ _ sixteen CommitAt (IsActOf act.Commit) act_rest (letters the.At ∷ []) (λ a is. (is, refl)) (λ a h. refl) k.rest x k.read_is in (g.0, k.begins ∙ g.1)
       )
 ]
@@ -312,7 +312,7 @@ act_given act.Join ws x e = finish (λ y. IsActOf act.Join y.0 × (ws ≡ act_re
 act_given act.Settle ws x e = finish (λ y. IsActOf act.Settle y.0 × (ws ≡ act_rest y.0 ++ y.1)) (Settle, ws) x e ((tt, refl), refl)
 act_given (act.Edit k) ws x e = made_given _ _ _ (edit_law k) Edits (IsActOf (act.Edit k)) act_rest [] (λ a h. (h.0, ap (λ j. act.Edit j) h.1)) (λ a h. refl) ws x e
 
-no_contact : (frames : ℕ) (rest : Spelled) → (1 ≤ frames) × (frames < 65536) → waiting_at (decimal frames ∷ rest) ≡ made Wait (number_at 1 65535) (decimal frames ∷ rest)
+no_contact : (frames : ℕ) (rest : Spelled) → (1 ≤ frames) × (frames < 65536) → waiting_at (decimal frames ∷ rest) ≡ built Wait (number_at 1 65535) (decimal frames ∷ rest)
 unfolding waiting_at
 no_contact frames rest is = rw (not_next the.Contact (decimal frames) rest (no_decimal frames (let small = is.1 in omega (arith, small)))) refl
 

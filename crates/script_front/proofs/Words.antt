@@ -17,7 +17,7 @@ pub use Rattle.script_tokens.proofs.FirstKeywords.{item_again, item_found, item_
 pub use Rattle.script_tokens.proofs.Taking.{after_begins, after_itself, bind_some, next_begins, next_itself, not_next}
 pub use Rattle.script_tokens.specs.First.{act_keyword, component_keyword, edit_keyword, item_keyword, item_of, statement_keyword, statement_of}
 pub use Rattle.script_tokens.specs.Keywords.{IsName, letters}
-pub use Rattle.script_tokens.specs.Reading.{Input, ReadsAsSpelled, Spelled, after, both, first_item, first_statement, keyed, lexemes_of, line_of, line_of_left, lines_of, made, ◌>>=◌}
+pub use Rattle.script_tokens.specs.Reading.{Input, ReadsAsSpelled, Spelled, after, both, first_item, first_statement, keyed, lexemes_of, line_of, line_of_left, lines_of, built, ◌>>=◌}
 pub use Rattle.script_tokens.specs.Spelling.{hex_text, level_text, profile_text, sid_text}
 pub use Rattle.script_tokens.specs.Taking.{eid_at, level_at, name_next, number_at, profile_at, sid_at}
 pub use Rattle.script_tokens.specs.declared.first_keyword.ActKeyword.{ActKeyword}

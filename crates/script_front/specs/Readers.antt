@@ -27,7 +27,7 @@ use Rattle.script_tokens.specs.declared.first_keyword.EditKeyword.{EditKeyword}
 use Rattle.script_tokens.specs.declared.first_keyword.EditKeyword.TheVariants as edit
 use Rattle.script_tokens.specs.declared.first_keyword.ActKeyword.{ActKeyword}
 use Rattle.script_tokens.specs.declared.first_keyword.ActKeyword.TheVariants as act
-use Rattle.script_tokens.specs.Reading.{Spelled, Reads, ◌>>=◌, first_item, keyed, both, made, either, line_of}
+use Rattle.script_tokens.specs.Reading.{Spelled, Reads, ◌>>=◌, first_item, keyed, both, built, either, line_of}
 use Rattle.script_tokens.specs.Taking.{number_at, eid_at, sid_at, profile_at, time_at, level_at}
 use Rattle.script_front.specs.declared.tree.Act.{Act}
 use Rattle.script_front.specs.declared.tree.Act.TheVariants.{Edit as Edits, Wait, WaitContact, Until, CommitIn, CommitAt, Join, Settle}
@@ -51,7 +51,7 @@ sub_of p = record { id = p.0; start = p.1.0; protection = p.1.1.0; kbits = p.1.1
 
 unfoldable pub new_sub_at : Spelled → Reads Sub
 new_sub_at ws =
-    made sub_of (both (number_at 0 63) (both (keyed the.At (number_at 0 1023)) (both (keyed the.Eep profile_at) (number_at 0 65535)))) ws
+    built sub_of (both (number_at 0 63) (both (keyed the.At (number_at 0 1023)) (both (keyed the.Eep profile_at) (number_at 0 65535)))) ws
 
 -- `SCID groups type TYPE sub ID address ADDR`
 abbrev pub packet_of : ℕ × (Bool × (ℕ × (ℕ × ℕ))) → Packet
@@ -59,25 +59,25 @@ packet_of p = record { scid = p.0; dg = p.1.0; ty = p.1.1.0; sub = p.1.1.1.0; ad
 
 unfoldable pub new_packet_at : Spelled → Reads Packet
 new_packet_at ws =
-    made packet_of (both (number_at 0 4095) (both groups_at (both (keyed the.TypeWord (number_at 0 63)) (both sub_at (keyed the.Address (number_at 0 65535)))))) ws
+    built packet_of (both (number_at 0 4095) (both groups_at (both (keyed the.TypeWord (number_at 0 63)) (both sub_at (keyed the.Address (number_at 0 65535)))))) ws
 
 -- `TYPE sub ID`
 unfoldable pub typed_sub_at : Spelled → Reads (ℕ × ℕ)
 typed_sub_at ws = both (number_at 0 63) sub_at ws
 
 unfoldable pub component_from : ComponentKeyword → Spelled → Reads Component
-component_from component.Audio ws = made (λ p. Sound p.0 p.1) typed_sub_at ws
-component_from component.Data ws = made (λ p. Stream p.0 p.1) typed_sub_at ws
-component_from component.Carry ws = made InPackets (number_at 0 4095) ws
+component_from component.Audio ws = built (λ p. Sound p.0 p.1) typed_sub_at ws
+component_from component.Data ws = built (λ p. Stream p.0 p.1) typed_sub_at ws
+component_from component.Carry ws = built InPackets (number_at 0 4095) ws
 
 unfoldable pub item_from : ItemKeyword → Spelled → Reads Edit
-item_from item.Sub ws = made AddSub new_sub_at ws
-item_from item.Service ws = made AddService sid_at ws
-item_from item.Packet ws = made AddPacket new_packet_at ws
-item_from (item.Component k) ws = made (λ p. AddComponent p.1 p.0) (both (component_from k) service_at) ws
+item_from item.Sub ws = built AddSub new_sub_at ws
+item_from item.Service ws = built AddService sid_at ws
+item_from item.Packet ws = built AddPacket new_packet_at ws
+item_from (item.Component k) ws = built (λ p. AddComponent p.1 p.0) (both (component_from k) service_at) ws
 
 unfoldable pub carrier_at : Spelled → Reads Carrier
-carrier_at ws = either the.Sub (made BySub (number_at 0 63)) (keyed the.Packet (made ByPacket (number_at 0 4095))) ws
+carrier_at ws = either the.Sub (built BySub (number_at 0 63)) (keyed the.Packet (built ByPacket (number_at 0 4095))) ws
 
 abbrev pub dropping : Carrier → Edit
 dropping (BySub id) = DropSub id
@@ -85,14 +85,14 @@ dropping (ByPacket scid) = DropPacket scid
 
 unfoldable pub dropped_at : Spelled → Reads Edit
 dropped_at ws =
-    either the.Service (made DropService sid_at)
-    (either the.Component (made (λ p. DropComponent p.1 p.0) (both carrier_at service_at)) (made dropping carrier_at)) ws
+    either the.Service (built DropService sid_at)
+    (either the.Component (built (λ p. DropComponent p.1 p.0) (both carrier_at service_at)) (built dropping carrier_at)) ws
 
 unfoldable pub moved_at : Spelled → Reads Edit
-moved_at ws = made (λ p. MoveSub p.0 p.1) (both sub_at (keyed the.At (number_at 0 1023))) ws
+moved_at ws = built (λ p. MoveSub p.0 p.1) (both sub_at (keyed the.At (number_at 0 1023))) ws
 
 unfoldable pub rated_at : Spelled → Reads Edit
-rated_at ws = made (λ p. RateSub p.0 p.1) (both sub_at (number_at 0 65535)) ws
+rated_at ws = built (λ p. RateSub p.0 p.1) (both sub_at (number_at 0 65535)) ws
 
 unfoldable pub edit_from : EditKeyword → Spelled → Reads Edit
 edit_from edit.Drop ws = dropped_at ws
@@ -103,28 +103,28 @@ edit_from (edit.Item k) ws = item_from k ws
 -- ---- statements without a block, after their first keyword
 
 unfoldable pub waiting_at : Spelled → Reads Act
-waiting_at ws = either the.Contact (made (λ p. WaitContact p.0 p.1) (both (number_at 0 15) level_at)) (made Wait (number_at 1 65535)) ws
+waiting_at ws = either the.Contact (built (λ p. WaitContact p.0 p.1) (both (number_at 0 15) level_at)) (built Wait (number_at 1 65535)) ws
 
 unfoldable pub committing_at : Spelled → Reads Act
-committing_at ws = either the.In (made CommitIn (number_at 1 60000)) (keyed the.At (made CommitAt (number_at 0 65535))) ws
+committing_at ws = either the.In (built CommitIn (number_at 1 60000)) (keyed the.At (built CommitAt (number_at 0 65535))) ws
 
 unfoldable pub act_from : ActKeyword → Spelled → Reads Act
 act_from act.Wait ws = waiting_at ws
-act_from act.Until ws = made Until time_at ws
+act_from act.Until ws = built Until time_at ws
 act_from act.Commit ws = committing_at ws
 act_from act.Join ws = Some (Join, ws)
 act_from act.Settle ws = Some (Settle, ws)
-act_from (act.Edit k) ws = made Edits (edit_from k) ws
+act_from (act.Edit k) ws = built Edits (edit_from k) ws
 
 -- ---- the header
 
 -- mode I where no mode is written
 unfoldable pub mode_at : Spelled → Reads Mode
-mode_at ws = either the.Mode (made mode_of (number_at 2 4)) (λ vs. Some (I, vs)) ws
+mode_at ws = either the.Mode (built mode_of (number_at 2 4)) (λ vs. Some (I, vs)) ws
 
 -- no reserved FIB where none is written
 unfoldable pub layout_at : Mode → Spelled → Reads FrameLayout
-layout_at mode ws = either the.Reserve (made (reserving mode) (number_at 1 (fib_count mode - 2))) (λ vs. Some (Whole mode, vs)) ws
+layout_at mode ws = either the.Reserve (built (reserving mode) (number_at 1 (fib_count mode - 2))) (λ vs. Some (Whole mode, vs)) ws
 
 unfoldable pub header_at : Spelled → Reads Plan
 header_at ws = do

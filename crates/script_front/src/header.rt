@@ -3,7 +3,7 @@
 ghost use Rattle.std.specs.Prelude.{◌-◌};
 ghost use Rattle.fib_codec.specs.Modes.{fib_count};
 ghost use Rattle.plan_code.specs.Reading.{mode_of, reserving};
-ghost use Rattle.script_tokens.specs.Reading.{Takes, keyed, made};
+ghost use Rattle.script_tokens.specs.Reading.{Takes, keyed, built};
 ghost use Rattle.script_tokens.specs.Taking.{number_at};
 ghost use Rattle.script_front.specs.Readers.{mode_at, layout_at, header_at};
 
@@ -40,7 +40,7 @@ fn mode(reader: &mut Reader) -> Result<Mode, ScriptFault>
 
 /// A mode from II to IV, written 2, 3 or 4.
 fn later_mode(reader: &mut Reader) -> Result<Mode, ScriptFault>
-    ensures { Takes (made mode_of (number_at 2 4) reader.old.lexemes) result reader.old reader.new }
+    ensures { Takes (built mode_of (number_at 2 4) reader.old.lexemes) result reader.old reader.new }
 {
     let number = decimal(reader, 2, 4)?;
     match number {
@@ -65,7 +65,7 @@ fn layout(reader: &mut Reader, mode: Mode) -> Result<FrameLayout, ScriptFault>
 
 /// The layout with the number of reserved FIBs that is next: 1, or 1 or 2 in mode III.
 fn reserving(reader: &mut Reader, mode: Mode) -> Result<FrameLayout, ScriptFault>
-    ensures { Takes (made (reserving mode) (number_at 1 (fib_count mode - 2)) reader.old.lexemes)
+    ensures { Takes (built (reserving mode) (number_at 1 (fib_count mode - 2)) reader.old.lexemes)
         result reader.old reader.new }
 {
     let most = mode.fibs() as u32 - 2;

@@ -97,7 +97,8 @@ fn typed_sub(reader: &mut Reader) -> Result<(ScTy, SubId), ScriptFault>
 /// `audio`, `data` or `carry`, then the rest of the component
 #[tactic(auto, unfolding(crate::specs::Readers::item_from))]
 fn component(reader: &mut Reader, first: ComponentKeyword) -> Result<Edit, ScriptFault>
-    ensures { Takes (item_from (the.Component first) reader.old.lexemes) result reader.old reader.new }
+    ensures { Takes (item_from (the.Component first) reader.old.lexemes) result
+        reader.old reader.new }
 {
     let component = carried(reader, first)?;
     let sid = in_service(reader)?;

@@ -1,6 +1,7 @@
 //! Laws of scripts and their texts.
 
 ghost use Rattle.script_front.specs.Alike.{ScriptsHaveTheirOwnTokens, TextsAreOfOneScript};
+ghost use Rattle.script_front.specs.Parsing.{ScriptsAreRead};
 
 pub use script_tokens::laws::texts;
 
@@ -13,4 +14,10 @@ pub fn scripts()
 /// A text is that of at most one script: two scripts with this text are the same, with their lines.
 pub fn texts_of_scripts()
     ensures { TextsAreOfOneScript }
+{}
+
+/// What is read from some tokens, by `script_at`, is the content of the script that they spell on its lines; and where
+/// they spell a script, its content is read.
+pub fn readings()
+    ensures { ScriptsAreRead }
 {}

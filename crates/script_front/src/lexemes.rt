@@ -268,7 +268,8 @@ fn put_waiting(out: &mut String, contact: ContactId, closed: bool) -> Result<(),
 /// A statement without a block.
 #[tactic(auto, unfolding(script_tokens::specs::Keywords::letters))]
 pub fn put_act(out: &mut String, act: Act) -> Result<(), AllocError>
-    ensures { OnOk result (string_bytes out.new ≡ string_bytes out.old ++ spaced (act_lexemes act)) }
+    ensures { OnOk result (string_bytes out.new ≡ string_bytes out.old
+        ++ spaced (act_lexemes act)) }
 {
     match act {
         Act::Edit(edit) => put_edit(out, edit),

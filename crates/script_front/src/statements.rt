@@ -64,7 +64,8 @@ fn after_keyword(
     requires { length names.now ≤ 64 }
     ensures read { IfOk result (λ s. ReadsAfter first names.now line depth left.old left.new
         reader.old reader.new (before [] s)) }
-    ensures none { IfErr result (λ e. e ≢ Memory → ReadsNoneAfter first names.now line depth left.old
+    ensures none { IfErr result (λ e. e ≢ Memory
+        → ReadsNoneAfter first names.now line depth left.old
         reader.old) }
 {
     match first {
@@ -132,7 +133,8 @@ pub fn block(
     requires { length names.now ≤ 64 }
     ensures read { IfOk result (λ v. ReadsBody names.now depth left.old left.new reader.old
         reader.new (block_of [] v.items)) }
-    ensures none { IfErr result (λ e. e ≢ Memory → ReadsNoBody names.now depth left.old reader.old) }
+    ensures none { IfErr result (λ e. e ≢ Memory
+        → ReadsNoBody names.now depth left.old reader.old) }
 {
     open(reader, depth)?;
     let body = statements(alloc, reader, names, left, depth - 1)?;

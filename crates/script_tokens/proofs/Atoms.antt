@@ -116,7 +116,3 @@ decimal_above lexemes m n high xs ys a b more to e f = let same = same_decimal l
 pub told : {X E T : Type 0} (r : Result X E) → T → OnErr r T
 told (Ok x) t = tt
 told (Err e) t = t
-
-pub handed_on : {X E T U : Type 0} (r : Result X E) → (T → U) → OnErr r T → OnErr r U
-handed_on (Ok x) f t = tt
-handed_on (Err e) f t = f t

@@ -5,7 +5,7 @@ use Rattle.std.specs.Fmt.{decimal}
 use Rattle.script_tokens.specs.declared.keyword.Keyword.{Keyword}
 use Rattle.script_tokens.specs.declared.keyword.Keyword.TheVariants.{Closed, Open}
 use Rattle.script_tokens.specs.Keywords.{letters}
-use Rattle.script_tokens.specs.Reading.{Spelled, Reads, is_next, after, keyed, both, giving, made, either, ReadsAsSpelled}
+use Rattle.script_tokens.specs.Reading.{Spelled, Reads, is_next, after, keyed, both, giving, built, either, ReadsAsSpelled}
 use Rattle.script_tokens.specs.Spelling.{level_text}
 use Rattle.script_tokens.specs.Taking.{number_at, level_at, ValuesAreRead}
 use Rattle.script_tokens.proofs.Keys.{letters_injective}
@@ -52,7 +52,7 @@ both_law read In spell next Is spells law other = record {
 -- the value made is spelled by `front` and what its parts spell
 pub made_given : {S T : Type 0} (read : Spelled → Reads S) (In : S → Type 0) (spell : S → Spelled) → ReadsAsSpelled read In spell
     → (make : S → T) (Is : T → Type 0) (spells : T → Spelled) (front : Spelled) → ((a : S) → In a → Is (make a)) → ((a : S) → In a → spells (make a) ≡ front ++ spell a)
-    → (ws : Spelled) (x : T × Spelled) → made make read ws ≡ Some x → Is x.0 × (front ++ ws ≡ spells x.0 ++ x.1)
+    → (ws : Spelled) (x : T × Spelled) → built make read ws ≡ Some x → Is x.0 × (front ++ ws ≡ spells x.0 ++ x.1)
 made_given read In spell law make Is spells front into same ws x e =
     let a = bind_some (read ws) (giving make) x e in
     let g = law.given ws a.x a.first in
@@ -60,7 +60,7 @@ made_given read In spell law make Is spells front into same ws x e =
     (into a.x.0 g.0, ap (λ (vs : Spelled). front ++ vs) g.1 ∙ sym (append_assoc front (spell a.x.0) a.x.1) ∙ ap (λ (vs : Spelled). vs ++ a.x.1) (sym (same a.x.0 g.0)))
 
 pub made_found : {S T : Type 0} (read : Spelled → Reads S) (In : S → Type 0) (spell : S → Spelled) → ReadsAsSpelled read In spell
-    → (make : S → T) (a : S) (rest : Spelled) → In a → made make read (spell a ++ rest) ≡ Some (make a, rest)
+    → (make : S → T) (a : S) (rest : Spelled) → In a → built make read (spell a ++ rest) ≡ Some (make a, rest)
 made_found read In spell law make a rest is = rw (law.found a rest is) refl
 
 -- ---- this keyword, or something else

@@ -110,12 +110,12 @@ keyed k read ws = after k ws >>= read
 abbrev pub both : {S T : Type 0} → (Spelled → Reads S) → (Spelled → Reads T) → Spelled → Reads (S × T)
 both read next ws = read ws >>= λ a. (next a.1 >>= λ b. Some ((a.0, b.0), b.1))
 
--- a value made of what is read
+-- a value built of what is read
 abbrev pub giving : {S T : Type 0} → (S → T) → S × Spelled → Reads T
 giving make x = Some (make x.0, x.1)
 
-abbrev pub made : {S T : Type 0} → (S → T) → (Spelled → Reads S) → Spelled → Reads T
-made make read ws = read ws >>= giving make
+abbrev pub built : {S T : Type 0} → (S → T) → (Spelled → Reads S) → Spelled → Reads T
+built make read ws = read ws >>= giving make
 
 -- what follows this keyword if it is next, and something else if it is not
 abbrev pub either : {T : Type 0} → Keyword → (Spelled → Reads T) → (Spelled → Reads T) → Spelled → Reads T

@@ -82,7 +82,8 @@ pub(crate) fn position_after(place: Place, kind: Kind) -> Place
 /// past a limit. `Memory` if memory runs out.
 pub fn cut(alloc: Global, text: &str, limits: Limits) -> Result<Vec<Token>, ScriptFault>
     ensures tokens { IfOk result (λ v. lexed limits Nothing first_position text.now ≡ Ok v.items) }
-    ensures fault { IfErr result (λ e. e ≢ Memory → lexed limits Nothing first_position text.now ≡ Err
+    ensures fault { IfErr result (λ e. e ≢ Memory →
+        lexed limits Nothing first_position text.now ≡ Err
         e) }
     ensures within { IfOk result (λ v. AreWithin (length text.now) v.items) }
 {

@@ -95,7 +95,8 @@ impl<'a> Reader<'a> {
 
     /// The bytes of the next token; None where no token is left.
     pub fn peek(&self) -> Option<&'a [u8]>
-        ensures { MatchOption result (self.now.lexemes ≡ []) (λ w. BeginsWith self.now.lexemes w.now) }
+        ensures { MatchOption result (self.now.lexemes ≡ [])
+            (λ w. BeginsWith self.now.lexemes w.now) }
     {
         match self.tokens.first() {
             None => None,
@@ -160,7 +161,8 @@ impl<'a> Reader<'a> {
         ensures is { result ≡ is_next keyword self.now.lexemes }
         ensures some { result ≡ true → 0 < length self.now.lexemes }
         ensures begins { result ≡ true → BeginsWith self.now.lexemes (letters keyword) }
-        ensures none { result ≡ false → (rest : List (List ℕ)) → self.now.lexemes ≢ letters keyword ∷
+        ensures none { result ≡ false → (rest : List (List ℕ))
+            → self.now.lexemes ≢ letters keyword ∷
             rest }
     {
         self.finds(keyword)
@@ -170,7 +172,8 @@ impl<'a> Reader<'a> {
     fn finds(&self, keyword: Keyword) -> bool
         ensures some { result ≡ true → 0 < length self.now.lexemes }
         ensures begins { result ≡ true → BeginsWith self.now.lexemes (letters keyword) }
-        ensures none { result ≡ false → (rest : List (List ℕ)) → self.now.lexemes ≢ letters keyword ∷
+        ensures none { result ≡ false → (rest : List (List ℕ))
+            → self.now.lexemes ≢ letters keyword ∷
             rest }
     {
         match self.keyword() {

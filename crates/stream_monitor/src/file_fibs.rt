@@ -39,7 +39,7 @@ impl<S: CheckStart, W: Write, F: Files, R: Read + Drop> FibSource<S, W> for File
 
     ghost fault = { λ s. s.fault };
 
-    fn next(&mut self, _out: &Output<'_, W>) -> Result<bool, FileFault> {
+    fn next(&mut self, _out: &Output<W>) -> Result<bool, FileFault> {
         match self.pieces.advance() {
             Ok(more) => Ok(more),
             Err(fault) => {

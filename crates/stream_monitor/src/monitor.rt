@@ -84,7 +84,7 @@ pub fn check_stream<F: Files, R: Read + Drop, W: Write>(
     options: CheckOptions,
     input: &mut FileFibs<'_, F, R>,
     lines: &mut LinePrinter,
-    out: &mut Output<'_, W>,
+    out: &mut Output<W>,
 ) -> Result<Ending, Stop>
     // What is printed, and how the check ends.
     ensures checked { IfOk result (λ ending. (r : Reading) → (text : List ℕ)
@@ -107,9 +107,10 @@ fn check_fibs<S: CheckStart, F: Files, R: Read + Drop, W: Write>(
     options: CheckOptions,
     input: &mut FileFibs<'_, F, R>,
     lines: &mut LinePrinter,
-    out: &mut Output<'_, W>,
+    out: &mut Output<W>,
 ) -> Result<Ending, Stop>
-    requires start { S.start ≡ beginning options input.old.pieces.left (printed W.contents out.old) }
+    requires start { S.start
+        ≡ beginning options input.old.pieces.left (printed W.contents out.old) }
     ensures checked { IfOk result (λ ending. (r : Reading) → (text : List ℕ)
         × ChecksInput r options input.old.pieces.left input.new.pieces.left text ending
         × Appends (printed W.contents out.old) (printed W.contents out.new) text) }
@@ -130,7 +131,7 @@ fn check_source<S: CheckStart, W: Write, I: FibSource<S, W>>(
     options: CheckOptions,
     input: &mut I,
     lines: &mut LinePrinter,
-    out: &mut Output<'_, W>,
+    out: &mut Output<W>,
 ) -> Result<Ending, Stop>
     // `next` speaks of the start of this check.
     requires start { S.start ≡ beginning options (I.left input.old) (printed W.contents out.old) }
@@ -173,7 +174,7 @@ fn check_source<S: CheckStart, W: Write, I: FibSource<S, W>>(
 }
 
 /// Hands all lines so far to the writer of the output.
-fn flush<W: Write>(out: &mut Output<'_, W>) -> Result<(), Stop>
+fn flush<W: Write>(out: &mut Output<W>) -> Result<(), Stop>
     ensures emptied { OnOk result (IsEmptied out.new) }
     ensures taken { OnOk result
         (Keeps (printed W.contents out.old) (W.contents (writer_of out.new))) }
@@ -194,7 +195,7 @@ fn check_piece<W: Write>(
     stash: &mut Stash,
     piece: &[u8],
     lines: &mut LinePrinter,
-    out: &mut Output<'_, W>,
+    out: &mut Output<W>,
 ) -> Result<Option<Ending>, Stop>
     ensures checked { IfOk result (λ e. ChecksPiece options piece.now state.old state.new
         (printed W.contents out.old) (printed W.contents out.new) e) }
@@ -236,7 +237,7 @@ fn check_fib<W: Write>(
     stash: &mut Stash,
     fib: &[u8; 32],
     lines: &mut LinePrinter,
-    out: &mut Output<'_, W>,
+    out: &mut Output<W>,
 ) -> Result<Option<Ending>, Stop>
     ensures checked { IfOk result (λ e. ChecksFib options fib.now state.old state.new
         (printed W.contents out.old) (printed W.contents out.new) e) }
@@ -280,7 +281,7 @@ fn print_findings<W: Write>(
     form: Form,
     findings: &[Finding],
     lines: &mut LinePrinter,
-    out: &mut Output<'_, W>,
+    out: &mut Output<W>,
 ) -> Result<(), Stop>
     ensures printed { OnOk result (Appends (printed W.contents out.old)
         (printed W.contents out.new) (finding_lines form findings.now)) }
@@ -317,7 +318,7 @@ fn print_due<W: Write>(
     options: CheckOptions,
     totals: Totals,
     lines: &mut LinePrinter,
-    out: &mut Output<'_, W>,
+    out: &mut Output<W>,
 ) -> Result<(), Stop>
     ensures printed { OnOk result (Appends (printed W.contents out.old)
         (printed W.contents out.new) (due_text options totals)) }
@@ -349,7 +350,7 @@ fn end_frame<W: Write>(
     options: CheckOptions,
     state: &State,
     lines: &mut LinePrinter,
-    out: &mut Output<'_, W>,
+    out: &mut Output<W>,
 ) -> Result<Option<Ending>, Stop>
     ensures ends { IfOk result (EndsFrameFrom options state.now
         (printed W.contents out.old) (printed W.contents out.new)) }

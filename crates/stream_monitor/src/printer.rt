@@ -41,7 +41,7 @@ impl LinePrinter {
         &mut self,
         form: Form,
         line: &Line,
-        out: &mut Output<'_, W>,
+        out: &mut Output<W>,
     ) -> Result<(), Stop>
         ensures printed { OnOk result (Appends (printed W.contents out.old)
             (printed W.contents out.new) (line_of form line.now)) }
@@ -63,7 +63,7 @@ impl LinePrinter {
     }
 
     /// Why an output did not take a line: it has failed, or else the line is lost.
-    fn refused<W: Write>(&mut self, out: &mut Output<'_, W>) -> Stop
+    fn refused<W: Write>(&mut self, out: &mut Output<W>) -> Stop
         ensures kept { Keeps (printed W.contents out.old) (printed W.contents out.new) }
         ensures failed { IsUnprinted out.new.has_failed self.new.has_lost result }
     {

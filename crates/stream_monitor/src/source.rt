@@ -47,7 +47,7 @@ pub trait FibSource<S: CheckStart, W: Write> {
     /// writer has taken the lines of all frames that are decided by the FIBs read since the start, and no others.
     ///
     /// `Failed` if the input fails.
-    fn next(&mut self, out: &Output<'_, W>) -> Result<bool, FileFault>
+    fn next(&mut self, out: &Output<W>) -> Result<bool, FileFault>
         requires emptied { IsEmptied out.now }
         requires prompt { (r : Reading)
             → IsPrompt r S.start (left self.old) (W.contents (writer_of out.now)) }

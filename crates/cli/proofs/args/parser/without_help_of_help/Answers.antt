@@ -1,4 +1,4 @@
-use Rattle.std.proofs.Common.{rules, ◌≡◌, ◌∙◌, ap, sym, inr, map, ◌∷◌, ◌++◌, []}
+use Rattle.std.proofs.Common.{rules, inr}
 use Rattle.cli.proofs.Shorter.{texts_of, first_text}
 use Rattle.cli.proofs.args.parser.without_help_of_help.Goals as goal
 

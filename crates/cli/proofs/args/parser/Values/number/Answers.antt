@@ -1,4 +1,4 @@
-use Rattle.std.proofs.Common.{List, ℕ, Result}
+use Rattle.std.proofs.Common.{ℕ, Result}
 use Rattle.std.specs.Str.Parse.{ExplainsUnsignedError, HasUnsignedDigitsIfOk, ParsesUnsigned}
 use Rattle.std.specs.declared.num.ParseIntError.{ParseIntError}
 use Rattle.clap.specs.Words.{Text, found_of}

@@ -1,0 +1,17 @@
+use Rattle.std.proofs.Common.{ℕ, List, Some, IfSome, subst}
+use Rattle.cli_scripts.specs.Compiling.{CompilesStream}
+use Rattle.cli.proofs.Answering.{stays_same_files}
+use Rattle.cli.proofs.streamed.answer_streamed.Goals as goal
+
+pub returns-in-Compile : goal.returns-in-Compile
+returns-in-Compile g c =
+    let script = g.F.Files.known c.args.files.now c.in-Compile.request.script.now in
+    let old = g.W.Write.contents c.args.out.now in
+    let new = g.W.Write.contents c.stream_compile-ended.new.out in
+    rw (c.in-Compile.is) (c.stream_compile-ended.result,
+     record {
+       lines = Some c.stream_compile-ended.new.lines.items;
+       compiles = subst (λ (l : List ℕ). IfSome script (λ bytes. CompilesStream bytes c.in-Compile.request (Some l) (Some c.stream_compile-ended.new.lines.items) old new c.stream_compile-ended.result)) c.new-lines.ensures.items c.stream_compile-ended.ensures.script;
+       files = stays_same_files (g.F.Files.world c.args.files.now) (g.F.Files.world c.stream_compile-ended.new.files) (g.F.Files.world c.report_lines-in-Compile.new.files) c.stream_compile-ended.ensures.files c.report_lines-in-Compile.ensures.files;
+     },
+     c.report_lines-in-Compile.ensures.status)

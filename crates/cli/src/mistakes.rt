@@ -1,0 +1,186 @@
+//! Help, and command lines that ask for no command.
+
+ghost use Rattle.std.specs.Prelude.{◌≡◌, ◌≢◌, ◌≤◌, ◌⊎◌, IfOk};
+ghost use Rattle.console.specs.World.{Becomes, HasSameFiles};
+ghost use Rattle.console.specs.declared.exit.Status.TheVariants.{Faulty, Refused};
+ghost use Rattle.cli.specs.Answers.{IsMistakeStatus, mistake_status};
+
+use crate::args::UsageError;
+use console::ending::{finish, status_number};
+use console::escaped::Escaped;
+use console::exit::{Failure, Status};
+use console::files::Files;
+use console::output::Output;
+use std::alloc::{AllocError, Global};
+use std::io::{self, Write};
+use std::str;
+
+/// Prints the help text, or reports an invalid command line: on standard error if standard output may be an output.
+pub(crate) fn answer_mistake<F: Files, W: Write>(
+    alloc: Global,
+    unasked: UsageError<'_>,
+    can_stream: bool,
+    files: &mut F,
+    out: &mut W,
+) -> u8
+    ensures bound { result ≤ 2 }
+    ensures status { IsMistakeStatus unasked.entry result }
+    ensures files { Becomes HasSameFiles (F.world files.old) (F.world files.new) }
+{
+    if can_stream && !unasked.is_help() {
+        return status_number(report_mistake(alloc, unasked, files));
+    }
+    let mut output = Output::new(out);
+    let ended = explain(alloc, unasked, &mut output);
+    finish(ended, &mut output)
+}
+
+/// Reports an invalid command line on standard error.
+pub(crate) fn report_mistake<F: Files>(
+    alloc: Global,
+    unasked: UsageError<'_>,
+    files: &mut F,
+) -> Status
+    ensures other { result ≢ Faulty }
+    ensures status { (result ≡ mistake_status unasked.entry) ⊎ (result ≡ Refused) }
+    ensures files { Becomes HasSameFiles (F.world files.old) (F.world files.new) }
+{
+    let mut text: Vec<u8> = Vec::new(alloc);
+    let Ok(status) = explain(alloc, unasked, &mut text) else {
+        files.report(Failure::Memory);
+        return Status::Refused;
+    };
+    if let Ok(line) = str::from_utf8(text.as_slice()) {
+        files.report(line.trim());
+    }
+    status
+}
+
+/// Prints the help text, or the one-line message for an invalid command line.
+pub(crate) fn explain<W: Write>(
+    alloc: Global,
+    unasked: UsageError<'_>,
+    out: &mut W,
+) -> io::Result<Status>
+    ensures other { IfOk result (λ status. status ≢ Faulty) }
+    ensures status { IfOk result
+        (λ status. (status ≡ mistake_status unasked.entry) ⊎ (status ≡ Refused)) }
+{
+    let status = mistake_status(&unasked);
+    if let UsageError::Help(help) = &unasked {
+        write!(out, "{help}")?;
+        return Ok(status);
+    }
+    match text_of(alloc, unasked) {
+        Ok(text) => {
+            print_mistake(text.as_str(), out)?;
+            Ok(status)
+        }
+        Err(_) => {
+            writeln!(out, "{}", Failure::Memory)?;
+            Ok(Status::Refused)
+        }
+    }
+}
+
+/// The exit status after the help text, or after a message.
+fn mistake_status(unasked: &UsageError<'_>) -> Status
+    ensures { result ≡ mistake_status unasked.now }
+{
+    match unasked {
+        UsageError::Help(_) => Status::Done,
+        UsageError::Memory => Status::Refused,
+        _ => Status::Misused,
+    }
+}
+
+/// The message for an invalid command line.
+fn text_of(alloc: Global, unasked: UsageError<'_>) -> Result<String, AllocError> {
+    match unasked {
+        UsageError::Help(message) | UsageError::Mistake(message) => message.to_string(alloc),
+        UsageError::Digits { option, value } => format!(in alloc;
+            "error: invalid value '{}' for '{option}': expected four hexadecimal digits (0-9, A-F)",
+            Escaped::in_line(value)
+        ),
+        UsageError::Time(value) => format!(in alloc;
+            "error: invalid value '{}' for '--time <HH:MM:SS>': expected 00:00:00 to 23:59:59",
+            Escaped::in_line(value)
+        ),
+        UsageError::Reserve(value) => format!(in alloc;
+            "error: invalid value '{value}' for '--reserve <R>': expected 1, or in mode 3 a number from 1 to 2"
+        ),
+        UsageError::SameFile {
+            input,
+            output,
+            path,
+        } => format!(in alloc;
+            "error: {input} and {output} are the same file: '{}'",
+            Escaped::in_line(path)
+        ),
+        UsageError::TwiceInput =>
+            "error: standard input can't be both <PLAN> and <OTHER>".to_string(alloc),
+        UsageError::Nothing =>
+            "error: missing command; expected one of frame, listen, check, merge, diff, compile, verify, map, play, debug, live, help".to_string(
+                alloc,
+            ),
+        UsageError::NoText => "error: an argument is not UTF-8".to_string(alloc),
+        UsageError::Memory => Err(AllocError),
+    }
+}
+
+/// Prints an error text as one line: its lines up to the usage, with a tip after a semicolon. The tip
+/// to pass an option as a value is omitted: no command takes such a value.
+fn print_mistake<W: Write>(text: &str, out: &mut W) -> io::Result<()> {
+    let mut is_first = true;
+    for line in text.lines() {
+        let line = line.trim();
+        if line.starts_with("Usage:") || line.starts_with("For more information") {
+            break;
+        }
+        if !line.is_empty() && !line.starts_with("tip: to pass ") {
+            if line.starts_with("tip:") {
+                write!(out, ";")?;
+            }
+            if !is_first {
+                write!(out, " ")?;
+            }
+            write_reason(line, out)?;
+            is_first = false;
+        }
+    }
+    writeln!(out)
+}
+
+/// Prints a line of an error text, where it rejects a number with the reason in plain words.
+fn write_reason<W: Write>(line: &str, out: &mut W) -> io::Result<()> {
+    let Some((value, reason)) = line.rsplit_once("': ") else {
+        return write!(out, "{line}");
+    };
+    match range_of(reason) {
+        Some((lowest, highest)) => {
+            write!(
+                out,
+                "{value}': expected a number from {lowest} to {highest}"
+            )
+        }
+        None => write!(out, "{value}': {}", reason_of(reason)),
+    }
+}
+
+/// The ends of the range in a reason of the parser, as in `5 is not in 1..=4`; `None` if it is another
+/// reason.
+fn range_of(reason: &str) -> Option<(&str, &str)> {
+    let (_number, range) = reason.split_once(" is not in ")?;
+    range.split_once("..=")
+}
+
+/// A reason of the parser for a text that is not a number, in plain words; another one as it is.
+fn reason_of(reason: &str) -> &str {
+    match reason {
+        "invalid digit found in string" | "cannot parse integer from empty string" =>
+            "expected a decimal number",
+        "number too large to fit in target type" => "the number is too large",
+        "number too small to fit in target type" => "the number is too small",
+        _ => reason,
+    }
+}

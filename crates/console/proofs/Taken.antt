@@ -1,0 +1,90 @@
+-- What the output has taken at the end, from what was printed and what its flush left.
+use Rattle.std.proofs.Common.{◌≡◌, ◌+◌, ◌-◌, ◌<◌, ◌⊎◌, ℕ, List, ◌++◌, length, Option, None, Some, Result, Ok, Err, Bool, IfOk, IsErr, OnOk, OnErr, take, drop, refl, sym, ◌∙◌, ap, subst, inl, inr, append_assoc, length-append, length-drop, take-append-drop, arith}
+use Rattle.std.specs.Io.KnownBytes.{Appends, Keeps, append_known}
+use Rattle.std.proofs.KnownBytes.{Keeps-refl, Keeps-trans}
+use Rattle.console.specs.Endings.{IsPut, IsTaken, LacksEnd, Reports, ReportsTo, failure_line, status_number}
+use Rattle.console.specs.declared.exit.Failure.{Failure}
+use Rattle.console.specs.declared.exit.Failure.TheVariants.{Memory as NoMemory}
+use Rattle.console.specs.declared.exit.Status.{Status}
+use Rattle.console.specs.declared.exit.Status.TheVariants.{Refused}
+
+-- ---- what was printed, and what a writer has taken of it
+
+cut_front : (old new : Option (List ℕ)) (line : List ℕ) (count : ℕ) → Appends old new (take count line)
+    → Keeps (append_known old line) (append_known new (drop count line))
+cut_front None new line count took = tt
+cut_front (Some o) None line count took = absurd took
+cut_front (Some o) (Some n) line count took =
+    ap (λ l. l ++ drop count line) took ∙ append_assoc o (take count line) (drop count line) ∙ ap (λ l. o ++ l) (take-append-drop count line)
+
+-- a writer that failed has not taken the end of a line
+pub cut_line : (old new : Option (List ℕ)) (line : List ℕ) (count : ℕ) → Appends old new (take count line) → count < length line → LacksEnd (append_known old line) new
+cut_line old new line count took lt =
+    let left : length (drop count line) ≡ length line - count = length-drop count line in
+    let some : 0 < length (drop count line) = omega (arith, left, lt) in
+    record { rest = drop count line; some = some; front = cut_front old new line count took }
+
+-- ---- the end of a command is reported
+
+pub status_reported : {E : Type 0} (is_json : Bool) (ended : Result Status Failure) (s : Status) (printed : Option (List ℕ)) → ended ≡ Ok s
+    → ReportsTo {E = E} is_json ended printed printed (Ok s)
+status_reported is_json ended s printed is = record {
+  whole = printed;
+  status = s;
+  reported = subst (λ (e : Result Status Failure). Reports is_json e printed printed s) (sym is) (refl, Keeps-refl printed);
+  put = (refl, Keeps-refl printed);
+}
+
+appended : (old : Option (List ℕ)) (line : List ℕ) → Appends old (append_known old line) line
+appended None line = tt
+appended (Some o) line = refl
+
+as_kept : (old new : Option (List ℕ)) (line : List ℕ) → Appends old new line → Keeps (append_known old line) new
+as_kept None new line p = tt
+as_kept (Some o) None line p = absurd p
+as_kept (Some o) (Some n) line p = p
+
+line_put : {E : Type 0} (old new : Option (List ℕ)) (line : List ℕ) (returned : Result Status E) → IfOk returned (λ s. s ≡ Refused) → OnOk returned (Appends old new line)
+    → OnErr returned (LacksEnd (append_known old line) new) → IsPut (append_known old line) new Refused returned
+line_put old new line (Ok s) refused printed cut = (refused, as_kept old new line printed)
+line_put old new line (Err error) refused printed cut = cut
+
+either_line : (is_json : Bool) (failure : Failure) (old new : Option (List ℕ)) (line : List ℕ) → (line ≡ failure_line is_json failure) ⊎ (line ≡ failure_line is_json NoMemory)
+    → Appends old new line → Appends old new (failure_line is_json failure) ⊎ Appends old new (failure_line is_json NoMemory)
+either_line is_json failure old new line (inl is) p = inl (subst (λ (l : List ℕ). Appends old new l) is p)
+either_line is_json failure old new line (inr is) p = inr (subst (λ (l : List ℕ). Appends old new l) is p)
+
+pub failure_reported : {E : Type 0} (is_json : Bool) (ended : Result Status Failure) (failure : Failure) (line : List ℕ) (old new : Option (List ℕ)) (returned : Result Status E)
+    → ended ≡ Err failure → (line ≡ failure_line is_json failure) ⊎ (line ≡ failure_line is_json NoMemory) → IfOk returned (λ s. s ≡ Refused)
+    → OnOk returned (Appends old new line) → OnErr returned (LacksEnd (append_known old line) new) → ReportsTo {E = E} is_json ended old new returned
+failure_reported is_json ended failure line old new returned is line_is refused printed cut =
+    let told = either_line is_json failure old (append_known old line) line line_is (appended old line) in record {
+      whole = append_known old line;
+      status = Refused;
+      reported = subst (λ (e : Result Status Failure). Reports is_json e old (append_known old line) Refused) (sym is) (refl, told);
+      put = line_put old new line returned refused printed cut;
+    }
+
+-- ---- the output is flushed
+
+lacks_kept : (whole mid new : Option (List ℕ)) → Keeps whole mid → LacksEnd mid new → LacksEnd whole new
+lacks_kept whole mid new kept l = record { rest = l.rest; some = l.some; front = Keeps-trans whole mid _ kept l.front }
+
+joined_front : (whole mid new : Option (List ℕ)) (last rest : List ℕ) → Keeps whole (append_known mid rest) → Keeps mid (append_known new last)
+    → Keeps whole (append_known new (last ++ rest))
+joined_front None mid new last rest p q = tt
+joined_front (Some w) None new last rest p q = absurd p
+joined_front (Some w) (Some m) None last rest p q = absurd q
+joined_front (Some w) (Some m) (Some n) last rest p q = sym (append_assoc n last rest) ∙ ap (λ l. l ++ rest) q ∙ p
+
+lacks_more : (whole mid new : Option (List ℕ)) (last : List ℕ) → LacksEnd whole mid → Keeps mid (append_known new last) → LacksEnd whole new
+lacks_more whole mid new last l kept =
+    let size : length (last ++ l.rest) ≡ length last + length l.rest = length-append last l.rest in
+    let some : 0 < length (last ++ l.rest) = omega (arith, size, l.some) in
+    record { rest = last ++ l.rest; some = some; front = joined_front whole mid new last l.rest l.front kept }
+
+pub end_taken : {E : Type 0} (whole mid new : Option (List ℕ)) (last : List ℕ) (s : Status) (returned : Result Status E) (status : ℕ) → IsPut whole mid s returned
+    → IfOk returned (λ t. IsTaken mid new t status) → (IsErr returned → (status ≡ 1) × Keeps mid (append_known new last)) → IsTaken whole new s status
+end_taken whole mid new last s (Ok t) status put (inl taken) failed = inl (Keeps-trans whole mid new put.1 taken.0, taken.1 ∙ ap status_number put.0)
+end_taken whole mid new last s (Ok t) status put (inr lacks) failed = inr (lacks_kept whole mid new put.1 lacks.0, lacks.1)
+end_taken whole mid new last s (Err error) status put taken failed = let left = failed refl in inr (lacks_more whole mid new last put left.1, left.0)
