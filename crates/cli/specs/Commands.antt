@@ -32,8 +32,8 @@ use Rattle.cli_scripts.specs.declared.frame_script.FrameScriptRequest.{FrameScri
 use Rattle.cli_scripts.specs.declared.listen_script.ListenScriptRequest.{ListenScriptRequest}
 use Rattle.cli_scripts.specs.declared.verify.VerifyRequest.{VerifyRequest}
 use Rattle.cli_plans.specs.LiveEnding.{BeginsWith, IsLiveEnding}
-use Rattle.cli_plans.specs.FileTranscript.{ShowsSession}
-use Rattle.cli_plans.specs.PlayFiles.{IsPlayedInto, EndsOrIsCut}
+use Rattle.cli_plans.specs.FileTranscript.{IsDebugFailure, ShowsSession}
+use Rattle.cli_plans.specs.PlayFiles.{IsPlayedInto, EndsOrIsCut, IsPlayFailure}
 use Rattle.cli_plans.specs.Transcript.{IsSession}
 use Rattle.cli_plans.specs.declared.debug.DebugRequest.{DebugRequest}
 use Rattle.cli_plans.specs.declared.live.LiveEnding.{LiveEnding}
@@ -116,6 +116,7 @@ RunsPlay r given before after ended =
     × IfOk ended (λ status. (w : World) (code text : List ℕ) (p : Playing) (steps : List Step) → before.world ≡ Some w
     → given.file r.code.now ≡ Some code → given.file r.events.now ≡ Some text → Fits text
     → IsPlayback (asked_from (take 1048577 code) text r.start) p steps → EndsOrIsCut r.events.now status before.printed after.printed)
+    × IfErr ended (IsPlayFailure r.code.now r.events.now r.out.now)
     × Becomes (IsSameBut r.out.now) before.world after.world
 
 abbrev pub RunsDebug : DebugRequest → Inputs → Outputs → Outputs → Result Status Failure → Type 0
@@ -124,6 +125,7 @@ RunsDebug r given before after ended =
     → Fits text → ShowsSession (asked_from (take 1048577 code) text r.start) before.printed after.printed)
     × IfOk ended (λ status. (code text : List ℕ) (p : Playing) (commands : List Command) → given.file r.code.now ≡ Some code
     → given.file r.commands.now ≡ Some text → Fits text → IsSession (asked_from (take 1048577 code) text r.start) p commands → status ≡ Done)
+    × IfErr ended (IsDebugFailure r.code.now r.commands.now)
     × KeepsWorld before after
 
 -- of `map` it is not defined yet

@@ -2,6 +2,7 @@ mod CutShort
 mod DebugVectors
 mod EventFiles
 mod Keeping
+mod NamedFailures
 mod PartTranscripts
 mod Played
 mod PlayedFiles

@@ -1,6 +1,7 @@
 -- Vectors of what `play` leaves in its file.
 use Rattle.std.proofs.Common.{◌≡◌, inl, inr, ℕ, List, [], ◌∷◌, length, Option, None, Some, Ok, refl}
 use Rattle.std.proofs.lemmas.Bool.{false≢true}
+use Rattle.console.specs.declared.exit.Failure.TheVariants as failures
 use Rattle.console.specs.declared.exit.Status.TheVariants.{Done as PlayedToEnd, Refused}
 use Rattle.console.specs.World.{World}
 use Rattle.plan_player.specs.Playing.{Playing}
@@ -12,8 +13,9 @@ use Rattle.plan_session.specs.Events.{events_of}
 use Rattle.plan_session.specs.Playback.{Request, IsPlayback}
 use Rattle.console.specs.declared.files.FileFault.TheVariants.{Failed as OfSystem}
 use Rattle.cli_plans.specs.declared.late_file.Creation.TheVariants.{Done, Failed}
+use Rattle.cli_plans.specs.FileTranscript.{IsDebugFailure}
 use Rattle.cli_plans.specs.LateFiles.{IsKept, IsKeptBut, taken_in}
-use Rattle.cli_plans.specs.PlayFiles.{IsWritable, IsUnwritten, EndsInFile, IsPlayedInto, played_line, write_failed_line, IsCutLine, CutsShort, IsEnding, EndsOrIsCut}
+use Rattle.cli_plans.specs.PlayFiles.{IsWritable, IsUnwritten, EndsInFile, IsPlayedInto, played_line, write_failed_line, IsCutLine, CutsShort, IsEnding, EndsOrIsCut, IsPlayFailure}
 
 path : List ℕ
 path = 111 ∷ []
@@ -131,3 +133,11 @@ played_frames_are_an_end events = refl
 
 played_frames_are_no_refusal : (events : List ℕ) → IsEnding events (Ok 3) Refused (Some []) (Some []) → ⊥
 played_frames_are_no_refusal events h = absurd cc
+
+-- ---- why commands fail
+
+no_memory_to_play : (code events out : List ℕ) → IsPlayFailure code events out failures.Memory
+no_memory_to_play code events out = tt
+
+no_lines_of_a_session : (code commands : List ℕ) → IsDebugFailure code commands failures.Output
+no_lines_of_a_session code commands = tt

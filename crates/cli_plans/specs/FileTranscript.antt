@@ -1,6 +1,8 @@
 -- The session of `debug` over a command file that is read again, part by part, after it was read once.
-use Rattle.std.specs.Prelude.{◌≡◌, ℕ, Bool, true, false, List, ◌++◌, Option, Some, Result, Ok, Err}
+use Rattle.std.specs.Prelude.{◌≡◌, ◌⊎◌, ℕ, Bool, true, false, List, ◌++◌, Option, Some, Result, Ok, Err}
 use Rattle.std.specs.Io.KnownBytes.{Appends}
+use Rattle.console.specs.declared.exit.Failure.{Failure}
+use Rattle.console.specs.declared.exit.Failure.TheVariants as failures
 use Rattle.plan_player.specs.Playing.{Playing}
 use Rattle.plan_session.specs.declared.command.Command.{Command}
 use Rattle.plan_session.specs.declared.run_fault.RunFault.TheVariants.{Code, Refused, Start, Events, Write}
@@ -53,6 +55,13 @@ pub record ShowsSession (r : Request) (before after : Option (List ℕ)) : Type 
   pub session : IsSession r p commands
   pub end : Debugging
   pub shown : PrintsAll (fresh p) commands end before after
+
+-- why `debug` fails: for memory or its lines, or it names one of its files
+abbrev pub IsDebugFailure : (code commands : List ℕ) → Failure → Type 0
+IsDebugFailure code commands failures.Memory = Unit {0}
+IsDebugFailure code commands (failures.Read named) = (named.now ≡ code) ⊎ (named.now ≡ commands)
+IsDebugFailure code commands (failures.Create named) = ⊥
+IsDebugFailure code commands failures.Output = Unit {0}
 
 -- ---- faults
 

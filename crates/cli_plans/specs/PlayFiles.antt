@@ -3,6 +3,8 @@ use Rattle.std.specs.Prelude.{◌≡◌, ◌⊎◌, ℕ, List, [], ◌++◌, cod
 use Rattle.std.specs.Fmt.{decimal}
 use Rattle.std.specs.Io.KnownBytes.{Appends}
 use Rattle.console.specs.declared.escaped.Form.TheVariants.{Line}
+use Rattle.console.specs.declared.exit.Failure.{Failure}
+use Rattle.console.specs.declared.exit.Failure.TheVariants as failures
 use Rattle.console.specs.declared.exit.Status.{Status}
 use Rattle.console.specs.declared.exit.Status.TheVariants.{Done as PlayedToEnd}
 use Rattle.console.specs.Escapes.{escaped}
@@ -91,3 +93,10 @@ IsEnding events (Err fault) status old new = CutsShort fault → IsCutLine event
 -- a playback came to its end, or its line says that it was cut short
 abbrev pub EndsOrIsCut : List ℕ → Status → Option (List ℕ) → Option (List ℕ) → Type 0
 EndsOrIsCut events status old new = (status ≡ PlayedToEnd) ⊎ IsCutLine events old new
+
+-- why `play` fails: for memory or its lines, or it names one of its files
+abbrev pub IsPlayFailure : (code events out : List ℕ) → Failure → Type 0
+IsPlayFailure code events out failures.Memory = Unit {0}
+IsPlayFailure code events out (failures.Read named) = (named.now ≡ code) ⊎ (named.now ≡ events)
+IsPlayFailure code events out (failures.Create named) = named.now ≡ out
+IsPlayFailure code events out failures.Output = Unit {0}

@@ -1,6 +1,6 @@
 //! `dabplan debug`: steps through a plan code by the commands of a file.
 
-ghost use Rattle.std.specs.Prelude.{◌≡◌, ◌≢◌, ℕ, List, Some, ◌++◌, take, OnOk, IfOk, IfErr, IfNone};
+ghost use Rattle.std.specs.Prelude.{◌≡◌, ◌≢◌, ℕ, List, Some, ◌++◌, take, OnOk, IfOk, IfErr, IfSome, IfNone};
 ghost use Rattle.std.specs.List.{flat_map};
 ghost use Rattle.std.specs.Io.KnownBytes.{Appends};
 ghost use Rattle.console.specs.World.{Stays};
@@ -13,7 +13,7 @@ ghost use Rattle.plan_session.specs.CommandParts.{ListsCommandsInParts};
 ghost use Rattle.plan_session.specs.Listing.{ListsCommands};
 ghost use Rattle.plan_session.specs.PartReading.{Fits};
 ghost use Rattle.plan_session.specs.Playback.{asked_from};
-ghost use Rattle.cli_plans.specs.FileTranscript.{IsFileCutShort, ShowsSession};
+ghost use Rattle.cli_plans.specs.FileTranscript.{IsDebugFailure, IsFileCutShort, ShowsSession};
 ghost use Rattle.cli_plans.specs.RefusedTexts.{IsFaultOfCommands};
 ghost use Rattle.cli_plans.specs.Transcript.{place_text, swap_text, break_line, report_lines, announcement_line, shown_lines, Transcript, IsSession, IsCutShort, Prints, IsDebugFault, IsUnprinted};
 
@@ -67,6 +67,7 @@ pub enum DebugFault {
 ///
 /// Commands that can be read again are read twice, and none of them is kept, whether they are executed or refused; others
 /// are kept, and so are those with a comment, or another piece without an end, of 65,536 bytes.
+#[tactic(auto, using(crate::proofs::NamedFailures::code_of_debug, crate::proofs::NamedFailures::commands_of_debug, crate::proofs::NamedFailures::lines_of_debug))]
 pub fn show_debug<'a, F: Files, W: Write>(
     alloc: Global,
     request: &DebugRequest<'a>,
@@ -86,6 +87,8 @@ pub fn show_debug<'a, F: Files, W: Write>(
         → IsSession (asked_from (take 1048577 code) text request.now.start) p commands
         → status ≡ DebuggedToEnd) }
     ensures files { Stays (F.world files.old) (F.world files.new) }
+    ensures named { IfErr result
+        (IsDebugFailure request.now.code.now request.now.commands.now) }
 {
     let code = match read_code(alloc, files, request.code) {
         Ok(code) => code,
@@ -105,6 +108,7 @@ pub fn show_debug<'a, F: Files, W: Write>(
 }
 
 /// Executes commands that can be read again, part by part, and prints the lines of each.
+#[tactic(auto, using(crate::proofs::NamedFailures::code_of_debug, crate::proofs::NamedFailures::commands_of_debug, crate::proofs::NamedFailures::lines_of_debug))]
 fn debug_parts<'a, F: Files, W: Write>(
     alloc: Global,
     code: &[u8],
@@ -123,6 +127,8 @@ fn debug_parts<'a, F: Files, W: Write>(
         → IsSession (asked_from code.now text request.now.start) p commands
         → status ≡ DebuggedToEnd) }
     ensures files { Stays (F.world files.old) (F.world files.new) }
+    ensures named { IfErr result
+        (IsDebugFailure request.now.code.now request.now.commands.now) }
 {
     let commands = match open_events(files, request.commands) {
         Ok(commands) => commands,
@@ -135,6 +141,7 @@ fn debug_parts<'a, F: Files, W: Write>(
 }
 
 /// Executes commands that are kept, and prints the lines of each.
+#[tactic(auto, using(crate::proofs::NamedFailures::code_of_debug, crate::proofs::NamedFailures::commands_of_debug, crate::proofs::NamedFailures::lines_of_debug))]
 fn debug_kept<'a, F: Files, W: Write>(
     alloc: Global,
     code: &[u8],
@@ -151,6 +158,8 @@ fn debug_kept<'a, F: Files, W: Write>(
         → IsSession (asked_from code.now text request.now.start) p commands
         → status ≡ DebuggedToEnd) }
     ensures files { Stays (F.world files.old) (F.world files.new) }
+    ensures named { IfErr result
+        (IsDebugFailure request.now.code.now request.now.commands.now) }
 {
     laws::kept_texts();
     let commands = match read_event_text(alloc, files, request.commands) {
@@ -175,6 +184,7 @@ fn refusal_of(alloc: Global, code: &[u8], fault: EventFault, start: StartOptions
 }
 
 /// Prints why a session over a file that is read again ended early.
+#[tactic(auto, using(crate::proofs::NamedFailures::code_of_debug, crate::proofs::NamedFailures::commands_of_debug, crate::proofs::NamedFailures::lines_of_debug))]
 fn end_early<'a, W: Write>(
     fault: FileDebugFault,
     commands: &'a str,
@@ -182,6 +192,8 @@ fn end_early<'a, W: Write>(
 ) -> Result<Status, Failure<'a>>
     ensures refused { IfOk result (λ status. status ≢ DebuggedToEnd) }
     ensures failed { IfOk result (λ status. IsFileCutShort fault → ⊥) }
+    ensures named { IfErr result (λ failure. (code : List ℕ)
+        → IsDebugFailure code commands.now failure) }
 {
     match fault {
         FileDebugFault::Debug(fault) => print_fault(fault, out),
@@ -194,9 +206,12 @@ fn end_early<'a, W: Write>(
 }
 
 /// Prints why a session was not run to its end.
+#[tactic(auto, using(crate::proofs::NamedFailures::code_of_debug, crate::proofs::NamedFailures::commands_of_debug, crate::proofs::NamedFailures::lines_of_debug))]
 fn print_fault<'a, W: Write>(fault: DebugFault, out: &mut W) -> Result<Status, Failure<'a>>
     ensures refused { IfOk result (λ status. status ≢ DebuggedToEnd) }
     ensures failed { IfOk result (λ status. IsCutShort fault → ⊥) }
+    ensures named { IfErr result (λ failure. (code commands : List ℕ)
+        → IsDebugFailure code commands failure) }
 {
     if let Some(failure) = failure_of(fault) {
         return Err(failure);
@@ -208,7 +223,9 @@ fn print_fault<'a, W: Write>(fault: DebugFault, out: &mut W) -> Result<Status, F
 /// The failure that is reported for a fault, where memory or the writer failed.
 #[tactic(auto, using(crate::proofs::ShownSessions::no_code_memory))]
 fn failure_of<'a>(fault: DebugFault) -> Option<Failure<'a>>
-    ensures { IfNone result (IsCutShort fault → ⊥) }
+    ensures none { IfNone result (IsCutShort fault → ⊥) }
+    ensures named { IfSome result (λ failure. (code commands : List ℕ)
+        → IsDebugFailure code commands failure) }
 {
     match fault {
         DebugFault::Output => Some(Failure::Output),

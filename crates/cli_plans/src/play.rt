@@ -1,7 +1,8 @@
 //! `dabplan play`: plays a plan code over events, and writes its frames to a file.
 
-ghost use Rattle.std.specs.Prelude.{◌≡◌, ◌≢◌, ℕ, List, [], take, Ok, Some, true, false, IfOk, OnOk};
+ghost use Rattle.std.specs.Prelude.{◌≡◌, ◌≢◌, ℕ, List, [], take, Ok, Some, true, false, IfOk, IfErr, OnOk};
 ghost use Rattle.std.specs.Io.KnownBytes.{Appends};
+ghost use Rattle.console.specs.Failures.{IsWriteFailure};
 ghost use Rattle.console.specs.World.{World, Becomes, Stays, IsSameBut, HasWritten};
 ghost use Rattle.console.specs.declared.exit.Status.TheVariants.{Done as PlayedToEnd};
 ghost use Rattle.plan_player.specs.Playing.{Playing};
@@ -10,7 +11,7 @@ ghost use Rattle.plan_session.specs.declared.step.Step.{Step};
 ghost use Rattle.plan_session.specs.FilePlayback.{ListsInParts};
 ghost use Rattle.plan_session.specs.PartReading.{Fits};
 ghost use Rattle.plan_session.specs.Playback.{asked_from, IsPlayback};
-ghost use Rattle.cli_plans.specs.PlayFiles.{played_line, write_failed_line, IsWritable, IsPlayedInto, CutsShort, IsEnding, EndsOrIsCut, IsWriteFault};
+ghost use Rattle.cli_plans.specs.PlayFiles.{played_line, write_failed_line, IsWritable, IsPlayedInto, CutsShort, IsEnding, EndsOrIsCut, IsPlayFailure, IsWriteFault};
 ghost use Rattle.cli_plans.specs.declared.late_file.Creation.TheVariants as end;
 
 use crate::event_file::{examine_event_file, open_events, read_event_text, unreadable};
@@ -51,7 +52,7 @@ pub struct PlayRequest<'a> {
 /// The file is created when its first byte is written, after the code, the start and the events were found to be good.
 /// Where they are refused an empty file is created if there is none; a file that is there keeps its bytes, as it does
 /// where the code or the events can't be read.
-#[tactic(auto, using(console::proofs::Worlds::stays_but))]
+#[tactic(auto, using(crate::proofs::NamedFailures::code_of_play, crate::proofs::NamedFailures::events_of_play, crate::proofs::NamedFailures::out_of_play, crate::proofs::NamedFailures::lines_of_play, console::proofs::Worlds::stays_but))]
 pub fn show_play<'a, F: Files, W: Write>(
     alloc: Global,
     request: &PlayRequest<'a>,
@@ -74,6 +75,8 @@ pub fn show_play<'a, F: Files, W: Write>(
         → EndsOrIsCut request.now.events.now status (W.contents out.old) (W.contents out.new)) }
     ensures others { Becomes (IsSameBut request.now.out.now)
         (F.world files.old) (F.world files.new) }
+    ensures named { IfErr result
+        (IsPlayFailure request.now.code.now request.now.events.now request.now.out.now) }
 {
     let code = match read_code(alloc, files, request.code) {
         Ok(code) => code,
@@ -90,7 +93,7 @@ pub fn show_play<'a, F: Files, W: Write>(
 }
 
 /// Plays a code over events that can be read again, part by part, and prints how it ended.
-#[tactic(auto, using(crate::proofs::PlayedFiles::file_played))]
+#[tactic(auto, using(crate::proofs::NamedFailures::code_of_play, crate::proofs::NamedFailures::events_of_play, crate::proofs::NamedFailures::out_of_play, crate::proofs::NamedFailures::lines_of_play, crate::proofs::PlayedFiles::file_played))]
 fn show_again<'a, F: Files, W: Write>(
     alloc: Global,
     code: &[u8],
@@ -109,6 +112,8 @@ fn show_again<'a, F: Files, W: Write>(
         → EndsOrIsCut request.now.events.now status (W.contents out.old) (W.contents out.new)) }
     ensures others { Becomes (IsSameBut request.now.out.now)
         (F.world files.old) (F.world files.new) }
+    ensures named { IfErr result
+        (IsPlayFailure request.now.code.now request.now.events.now request.now.out.now) }
 {
     let events = match open_events(files, request.events) {
         Ok(events) => events,
@@ -119,6 +124,7 @@ fn show_again<'a, F: Files, W: Write>(
 }
 
 /// Prints why a code is not played over events that have this fault.
+#[tactic(auto, using(crate::proofs::NamedFailures::code_of_play, crate::proofs::NamedFailures::events_of_play, crate::proofs::NamedFailures::out_of_play, crate::proofs::NamedFailures::lines_of_play))]
 fn show_refused<'a, F: Files, W: Write>(
     alloc: Global,
     code: &[u8],
@@ -130,6 +136,8 @@ fn show_refused<'a, F: Files, W: Write>(
     ensures refused { IfOk result (λ status. status ≢ PlayedToEnd) }
     ensures others { Becomes (IsSameBut request.now.out.now)
         (F.world files.old) (F.world files.new) }
+    ensures named { IfErr result
+        (IsPlayFailure request.now.code.now request.now.events.now request.now.out.now) }
 {
     let refusal = refusal_of(alloc, code, fault, request.start);
     end_play(Err(refusal), Creation::Due, request, files, out)
@@ -141,7 +149,7 @@ fn refusal_of(alloc: Global, code: &[u8], fault: EventFault, start: StartOptions
 }
 
 /// Plays a code over events that are kept, and prints how it ended.
-#[tactic(auto, using(crate::proofs::PlayedFiles::file_played))]
+#[tactic(auto, using(crate::proofs::NamedFailures::code_of_play, crate::proofs::NamedFailures::events_of_play, crate::proofs::NamedFailures::out_of_play, crate::proofs::NamedFailures::lines_of_play, crate::proofs::PlayedFiles::file_played))]
 fn show_kept<'a, F: Files, W: Write>(
     alloc: Global,
     code: &[u8],
@@ -160,6 +168,8 @@ fn show_kept<'a, F: Files, W: Write>(
         → EndsOrIsCut request.now.events.now status (W.contents out.old) (W.contents out.new)) }
     ensures others { Becomes (IsSameBut request.now.out.now)
         (F.world files.old) (F.world files.new) }
+    ensures named { IfErr result
+        (IsPlayFailure request.now.code.now request.now.events.now request.now.out.now) }
 {
     let events = match read_event_text(alloc, files, request.events) {
         Ok(events) => events,
@@ -170,7 +180,7 @@ fn show_kept<'a, F: Files, W: Write>(
 }
 
 /// Creates the file of a playback that wrote no byte, unless its events could not be read, and prints how it ended.
-#[tactic(auto, using(console::proofs::Worlds::stays_but, crate::proofs::PlayedFiles::touched_but, crate::proofs::PlayedFiles::same_stays))]
+#[tactic(auto, using(crate::proofs::NamedFailures::code_of_play, crate::proofs::NamedFailures::events_of_play, crate::proofs::NamedFailures::out_of_play, crate::proofs::NamedFailures::lines_of_play, console::proofs::Worlds::stays_but, crate::proofs::PlayedFiles::touched_but, crate::proofs::PlayedFiles::same_stays))]
 fn end_play<'a, F: Files, W: Write>(
     ended: Result<u128, FileRunFault>,
     creation: Creation,
@@ -189,6 +199,8 @@ fn end_play<'a, F: Files, W: Write>(
         → Becomes (HasWritten request.now.out.now []) (F.world files.old) (F.world files.new)) }
     ensures others { Becomes (IsSameBut request.now.out.now)
         (F.world files.old) (F.world files.new) }
+    ensures named { IfErr result
+        (IsPlayFailure request.now.code.now request.now.events.now request.now.out.now) }
 {
     if is_unread(ended) {
         return print_ending(ended, request.events, out);
@@ -273,6 +285,7 @@ fn create_or_touch<'a, F: Files>(
     ensures written { is_played ≡ true → OnOk result
         (Becomes (HasWritten path.now []) (F.world files.old) (F.world files.new)) }
     ensures others { Becomes (IsSameBut path.now) (F.world files.old) (F.world files.new) }
+    ensures fault { IfErr result (IsWriteFailure path.now) }
 {
     if is_played {
         return write_file(files, path, &[]);
@@ -281,6 +294,7 @@ fn create_or_touch<'a, F: Files>(
 }
 
 /// Prints the number of frames played, or why playback failed.
+#[tactic(auto, using(crate::proofs::NamedFailures::code_of_play, crate::proofs::NamedFailures::events_of_play, crate::proofs::NamedFailures::out_of_play, crate::proofs::NamedFailures::lines_of_play))]
 fn print_ending<'a, W: Write>(
     ended: Result<u128, FileRunFault>,
     events: &'a str,
@@ -291,6 +305,8 @@ fn print_ending<'a, W: Write>(
         × Appends (W.contents out.old) (W.contents out.new) (played_line frames)) }
     ensures ends { IfOk result (λ status. IsEnding events.now ended status
         (W.contents out.old) (W.contents out.new)) }
+    ensures named { IfErr result (λ failure. (code out : List ℕ)
+        → IsPlayFailure code events.now out failure) }
 {
     match ended {
         Ok(frames) => {
@@ -314,10 +330,13 @@ fn print_ending<'a, W: Write>(
 }
 
 /// Prints why a playback failed.
+#[tactic(auto, using(crate::proofs::NamedFailures::code_of_play, crate::proofs::NamedFailures::events_of_play, crate::proofs::NamedFailures::out_of_play, crate::proofs::NamedFailures::lines_of_play))]
 fn print_fault<'a, W: Write>(fault: RunFault, out: &mut W) -> Result<Status, Failure<'a>>
     ensures refused { IfOk result (λ status. status ≢ PlayedToEnd) }
     ensures cut { IfOk result (λ status. CutsShort (Run fault) → (frames : ℕ) × (bytes : ℕ)
         × Appends (W.contents out.old) (W.contents out.new) (write_failed_line frames bytes)) }
+    ensures named { IfErr result (λ failure. (code events out : List ℕ)
+        → IsPlayFailure code events out failure) }
 {
     if lacks_memory(&fault) {
         return Err(Failure::Memory);
@@ -339,10 +358,13 @@ fn lacks_memory(fault: &RunFault) -> bool
 }
 
 /// Prints the line of a fault.
+#[tactic(auto, using(crate::proofs::NamedFailures::code_of_play, crate::proofs::NamedFailures::events_of_play, crate::proofs::NamedFailures::out_of_play, crate::proofs::NamedFailures::lines_of_play))]
 fn print_line<'a, W: Write>(fault: &RunFault, out: &mut W) -> Result<Status, Failure<'a>>
     ensures refused { IfOk result (λ status. status ≢ PlayedToEnd) }
     ensures line { IfOk result (λ status. IsWriteFault fault.now → (frames : ℕ) × (bytes : ℕ)
         × Appends (W.contents out.old) (W.contents out.new) (write_failed_line frames bytes)) }
+    ensures named { IfErr result (λ failure. (code events out : List ℕ)
+        → IsPlayFailure code events out failure) }
 {
     match fault {
         RunFault::Write { frames, bytes } => {

@@ -8,10 +8,12 @@ returns-in-Compile g c =
     let script = g.F.Files.known c.args.files.now c.in-Compile.request.script.now in
     let old = g.W.Write.contents c.args.out.now in
     let new = g.W.Write.contents c.stream_compile-ended.new.out in
-    rw (c.in-Compile.is) (c.stream_compile-ended.result,
-     record {
-       lines = Some c.stream_compile-ended.new.lines.items;
-       compiles = subst (λ (l : List ℕ). IfSome script (λ bytes. CompilesStream bytes c.in-Compile.request (Some l) (Some c.stream_compile-ended.new.lines.items) old new c.stream_compile-ended.result)) c.new-lines.ensures.items c.stream_compile-ended.ensures.script;
-       files = stays_same_files (g.F.Files.world c.args.files.now) (g.F.Files.world c.stream_compile-ended.new.files) (g.F.Files.world c.report_lines-in-Compile.new.files) c.stream_compile-ended.ensures.files c.report_lines-in-Compile.ensures.files;
-     },
-     c.report_lines-in-Compile.ensures.status)
+    rw (c.in-Compile.is) (
+      c.stream_compile-ended.result,
+      record {
+        lines = Some c.stream_compile-ended.new.lines.items;
+        compiles = subst (λ (l : List ℕ). IfSome script (λ bytes. CompilesStream bytes c.in-Compile.request (Some l) (Some c.stream_compile-ended.new.lines.items) old new c.stream_compile-ended.result)) c.new-lines.ensures.items c.stream_compile-ended.ensures.script;
+        files = stays_same_files (g.F.Files.world c.args.files.now) (g.F.Files.world c.stream_compile-ended.new.files) (g.F.Files.world c.report_lines-in-Compile.new.files) c.stream_compile-ended.ensures.files c.report_lines-in-Compile.ensures.files;
+      },
+      c.report_lines-in-Compile.ensures.status,
+    )
