@@ -4,7 +4,7 @@ use Rattle.console.specs.declared.exit.Failure.{Failure}
 use Rattle.console.specs.declared.exit.Failure.TheVariants.{Memory as NoMemory, Read, Create, Output}
 use Rattle.console.specs.declared.exit.Status.{Status}
 use Rattle.console.specs.declared.exit.Status.TheVariants.{Done, Refused, Misused, Faulty}
-use Rattle.mux_entries.specs.declared.limits.TheConstants.{COUNTS}
+use Rattle.mux_types.specs.declared.limits.TheConstants.{COUNTS}
 use Rattle.plan_flow.specs.declared.cause.Cause.TheVariants.{Edit}
 use Rattle.script_tokens.specs.declared.fault.ScriptFault.TheVariants.{Memory as NoMemoryForScript}
 use Rattle.cli_streams.specs.Frame.{frame_text}

@@ -5,7 +5,7 @@ use Rattle.console.specs.declared.exit.Failure.TheVariants.{Memory, Read, Create
 use Rattle.console.specs.declared.exit.Status.{Status}
 use Rattle.console.specs.declared.exit.Status.TheVariants.{Done, Refused, Misused, Faulty}
 use Rattle.mux_config.specs.Configuration.{Configuration, IsConfiguration}
-use Rattle.mux_entries.specs.declared.entry.Entry.{Entry}
+use Rattle.mux_types.specs.declared.entry.Entry.{Entry}
 use Rattle.fib_carousel.specs.Pages.{page_set, rounds}
 use Rattle.fib_reader.specs.Listening.{Pictured, all_entries}
 use Rattle.fib_reader.specs.Picture.{Shows}

@@ -3,7 +3,7 @@
 ghost use Rattle.std.specs.Prelude.{◌≡◌, ◌≢◌, ◌<◌, ℕ, List, codes, take, IfErr, IfSome, IsSome};
 ghost use Rattle.std.specs.Io.KnownBytes.{Appends};
 ghost use Rattle.console.specs.World.{Stays};
-ghost use Rattle.mux_entries.specs.declared.limits.TheConstants.{COUNTS};
+ghost use Rattle.mux_types.specs.declared.limits.TheConstants.{COUNTS};
 ghost use Rattle.cli_scripts.specs.FramingScripts.{ShowsScriptFrame, IsFrameReason, count_of, frame_fault_text};
 ghost use Rattle.cli_scripts.specs.ScriptFrame.{GivesFrame};
 ghost use Rattle.cli_scripts.specs.declared.frame_script.ScriptFrameFault.TheVariants.{Memory as Unavailable};

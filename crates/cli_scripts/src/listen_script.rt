@@ -4,7 +4,7 @@ ghost use Rattle.std.specs.Prelude.{◌≡◌, ◌≢◌, ◌⊎◌, ℕ, ◌≤
 ghost use Rattle.std.specs.Io.KnownBytes.{Appends, Consumes, IsAtEnd};
 ghost use Rattle.console.specs.declared.exit.Failure.TheVariants.{Memory, Output};
 ghost use Rattle.console.specs.declared.exit.Status.TheVariants.{Done, Refused};
-ghost use Rattle.mux_entries.specs.declared.entry.Entry.{Entry as EntryOf};
+ghost use Rattle.mux_types.specs.declared.entry.Entry.{Entry as EntryOf};
 ghost use Rattle.fib_reader.specs.Raw.{IsValue};
 ghost use Rattle.plan_code.specs.Program.{IsPlan};
 ghost use Rattle.script_config.specs.Texts.{IsTextOf};

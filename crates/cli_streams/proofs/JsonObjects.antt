@@ -2,11 +2,11 @@
 use Rattle.std.proofs.Common.{◌≡◌, ℕ, ◌+◌, Bool, true, false, List, [], ◌∷◌, ◌++◌, Option, Result, Ok, Err, OnOk, codes, append_assoc, append-nil, refl, sym, subst}
 use Rattle.std.specs.Io.KnownBytes.{Appends}
 use Rattle.std.proofs.KnownBytes.{Appends-trans}
-use Rattle.mux_entries.specs.declared.entry.Entry.{Entry}
+use Rattle.mux_types.specs.declared.entry.Entry.{Entry}
 use Rattle.fib_reader.specs.Raw.{Raw, IsValue}
 use Rattle.fib_reader.specs.Listening.{all_entries}
 use Rattle.mux_eep.specs.declared.sizes.EepSet.{EepSet}
-use Rattle.mux_entries.specs.declared.entry.SubEntry.{SubEntry}
+use Rattle.mux_types.specs.declared.entry.SubEntry.{SubEntry}
 use Rattle.cli_streams.specs.Json.{IsEntryJson, IsEqualJson, IsRate, comma, equal_json, place_json, protection_json, rate_json}
 use Rattle.cli_streams.specs.JsonListing.{AreObjectsOf, IsJsonListing, json_counts, json_swap}
 use Rattle.cli_streams.specs.declared.listen.Heard.{Heard}

@@ -2,7 +2,7 @@
 use Rattle.std.proofs.Common.{◌≡◌, ℕ, List, [], ◌∷◌, ◌++◌, Option, Result, Ok, Err, OnOk, codes, append_assoc, append-nil, refl, sym, subst}
 use Rattle.std.specs.Io.KnownBytes.{Appends}
 use Rattle.std.proofs.KnownBytes.{Appends-trans}
-use Rattle.mux_entries.specs.declared.entry.Entry.{Entry}
+use Rattle.mux_types.specs.declared.entry.Entry.{Entry}
 use Rattle.fib_reader.specs.Raw.{Raw, IsValue}
 use Rattle.fib_reader.specs.Listening.{all_entries}
 use Rattle.cli_streams.specs.Lines.{entry_lines}

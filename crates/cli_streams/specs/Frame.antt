@@ -7,7 +7,7 @@ use Rattle.console.specs.Digits.{digits_of_bytes}
 use Rattle.console.specs.declared.exit.Status.{Status}
 use Rattle.console.specs.declared.exit.Status.TheVariants.{Done, Refused}
 use Rattle.mux_config.specs.Configuration.{Configuration}
-use Rattle.mux_entries.specs.Entries.{EnsembleInformation}
+use Rattle.mux_types.specs.Entries.{EnsembleInformation}
 use Rattle.mux_config.specs.FieldReading.{Reads}
 use Rattle.mux_config.specs.Reading.{config_at}
 use Rattle.mux_config.specs.Sound.{sound_or_fault}

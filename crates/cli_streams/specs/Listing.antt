@@ -2,7 +2,7 @@
 use Rattle.std.specs.Prelude.{◌≡◌, ℕ, Bool, true, false, List, [], ◌∷◌, ◌++◌, codes, Option, Some, None, Result, Ok, Err}
 use Rattle.std.specs.Fmt.{decimal}
 use Rattle.std.specs.Io.KnownBytes.{Appends}
-use Rattle.mux_entries.specs.declared.entry.Entry.{Entry}
+use Rattle.mux_types.specs.declared.entry.Entry.{Entry}
 use Rattle.fib_reader.specs.Raw.{Raw, IsValue}
 use Rattle.fib_reader.specs.Listening.{all_entries}
 use Rattle.console.specs.declared.exit.Status.{Status}

@@ -4,8 +4,8 @@ use Rattle.std.proofs.lemmas.List.{take_more, length-append, length-take-le, map
 use Rattle.std.proofs.lemmas.Bool.{ne_eqb}
 use Rattle.byteorder.specs.Endian.{big_bytes}
 use Rattle.mux_types.specs.declared.parts.Component.{Component}
-use Rattle.mux_entries.specs.declared.entry.ComponentEntry.{ComponentEntry}
-use Rattle.mux_entries.specs.Facts.{component_entry, component_entries}
+use Rattle.mux_types.specs.declared.entry.ComponentEntry.{ComponentEntry}
+use Rattle.mux_types.specs.Facts.{component_entry, component_entries}
 use Rattle.fib_codec.specs.Spelling.{component_u16, components_bytes}
 use Rattle.fib_carousel.proofs.Sendable.{length-component_entries}
 use Rattle.fib_codec.proofs.Lengths.{components_len, flat_map-append}

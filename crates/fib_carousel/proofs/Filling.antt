@@ -3,8 +3,8 @@ use Rattle.std.proofs.Common.{◌≡◌, ℕ, ◌+◌, ◌-◌, ◌<◌, ◌≤�
 use Rattle.std.proofs.lemmas.List.{length-append, length-set}
 use Rattle.std.proofs.lemmas.Option.{get_or_from_slice_get}
 use Rattle.std.proofs.Math.Seq.{get_or-append_seam, set-append_seam}
-use Rattle.mux_entries.specs.Facts.{Marked}
-use Rattle.mux_entries.specs.declared.entry.Entry.{Entry}
+use Rattle.mux_types.specs.Facts.{Marked}
+use Rattle.mux_types.specs.declared.entry.Entry.{Entry}
 use Rattle.fib_codec.specs.declared.head.Head.{Head}
 use Rattle.fib_codec.specs.declared.frame_layout.FrameLayout.{FrameLayout}
 use Rattle.fib_codec.specs.Spelling.{Written, head_of, head_byte, entry_bytes, entry_size, entries_bytes, fig_bytes, figs_bytes}

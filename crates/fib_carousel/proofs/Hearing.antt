@@ -6,9 +6,9 @@ use Rattle.std.proofs.lemmas.Grind.{flat_map-append}
 use Rattle.std.proofs.lemmas.List.Elements.{Contains-append_cases, Contains-append_left, Contains-append_right}
 use Rattle.mux_config.specs.Configuration.{Configuration, IsConfiguration}
 use Rattle.std.specs.List.{AllByRecursion}
-use Rattle.mux_entries.specs.Entries.{EnsembleInformation}
-use Rattle.mux_entries.specs.Facts.{Marked, marked}
-use Rattle.mux_entries.specs.declared.entry.Entry.TheVariants.{Ensemble as EnsembleOf}
+use Rattle.mux_types.specs.Entries.{EnsembleInformation}
+use Rattle.mux_types.specs.Facts.{Marked, marked}
+use Rattle.mux_types.specs.declared.entry.Entry.TheVariants.{Ensemble as EnsembleOf}
 use Rattle.fib_codec.specs.declared.head.Head.{Head}
 use Rattle.fib_codec.specs.Ranges.{IsEnsembleInformation}
 use Rattle.fib_codec.specs.Spelling.{Written, IsWritten, head_of, ext_of, fig_bytes, figs_bytes, fib_bytes, filled, occurrence_bytes}

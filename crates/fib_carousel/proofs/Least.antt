@@ -3,7 +3,7 @@ use Rattle.std.proofs.Common.{◌≡◌, ℕ, ◌+◌, ◌%◌, ◌<◌, ◌≤�
 use Rattle.fib_codec.specs.declared.frame_layout.FrameLayout.{FrameLayout}
 use Rattle.std.proofs.lemmas.Bool.{ne_eqb, cases_lt, le-leb, lt-leb}
 use Rattle.std.proofs.lemmas.List.{ext_get_or}
-use Rattle.mux_entries.specs.Facts.{Marked}
+use Rattle.mux_types.specs.Facts.{Marked}
 use Rattle.fib_codec.specs.declared.head.Head.{Head}
 use Rattle.fib_carousel.specs.declared.pack_state.PackState.{PackState}
 use Rattle.fib_codec.specs.Spelling.{head_of}

@@ -4,7 +4,7 @@ use Rattle.fib_codec.specs.declared.frame_layout.FrameLayout.{FrameLayout}
 use Rattle.std.specs.List.{range_with_len}
 use Rattle.std.proofs.lemmas.Bool.{ne_eqb, cases_lt, le-leb, lt-leb}
 use Rattle.std.proofs.lemmas.List.Elements.{Contains-append_cases}
-use Rattle.mux_entries.specs.Facts.{Marked}
+use Rattle.mux_types.specs.Facts.{Marked}
 use Rattle.fib_carousel.specs.Packing.{entries_where, entries_in_fib, NeverFalls, last_number}
 use Rattle.fib_carousel.specs.Greedy.{start, packing}
 use Rattle.fib_carousel.specs.Pages.{rounds, fib_entries, page_entries, pages_below, first_fib, fibs_of_page}

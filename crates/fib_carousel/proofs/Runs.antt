@@ -7,7 +7,7 @@ use Rattle.mux_types.specs.declared.parts.Sub.{Sub}
 use Rattle.mux_types.specs.declared.parts.Packet.{Packet}
 use Rattle.mux_types.specs.declared.parts.Service.{Service}
 use Rattle.mux_config.specs.Configuration.{Configuration}
-use Rattle.mux_entries.specs.Facts.{Marked, marked, facts_of, sub_entry, service_entry, packet_entry}
+use Rattle.mux_types.specs.Facts.{Marked, marked, facts_of, sub_entry, service_entry, packet_entry}
 use Rattle.fib_codec.specs.declared.head.Head.{Head}
 use Rattle.fib_codec.specs.Layouts.{used_fibs}
 use Rattle.fib_codec.specs.Spelling.{head_of}

@@ -7,8 +7,8 @@ use Rattle.mux_types.specs.declared.parts.Service.{Service}
 use Rattle.mux_types.specs.declared.parts.Packet.{Packet}
 use Rattle.mux_config.specs.Configuration.{Configuration, IsConfiguration, IsService}
 use Rattle.std.proofs.lemmas.Option.{slice_get_within, get_or_from_slice_get}
-use Rattle.mux_entries.specs.Facts.{Marked, marked, facts_of, sub_entry, service_entry, packet_entry}
-use Rattle.mux_entries.specs.declared.entry.Entry.{Entry}
+use Rattle.mux_types.specs.Facts.{Marked, marked, facts_of, sub_entry, service_entry, packet_entry}
+use Rattle.mux_types.specs.declared.entry.Entry.{Entry}
 use Rattle.fib_codec.specs.Spelling.{entry_bytes, entries_bytes, entry_size, head_of, is_long_entry}
 use Rattle.fib_codec.proofs.Lengths.{AllByRecursion-at}
 use Rattle.fib_carousel.proofs.Sharing.{same_fields}

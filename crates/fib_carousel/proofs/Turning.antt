@@ -1,6 +1,6 @@
 -- A cursor advances from page to page.
 use Rattle.std.proofs.Common.{◌≡◌, ℕ, ◌+◌, ◌-◌, ◌/◌, ◌<◌, ◌≤◌, List, suc, length, inl, inr, if◌then◌else◌, sym, ◌∙◌, ap, subst, arith, lt-ltb, le-ltb}
-use Rattle.mux_entries.specs.Facts.{Marked}
+use Rattle.mux_types.specs.Facts.{Marked}
 use Rattle.fib_codec.specs.Layouts.{used_fibs}
 use Rattle.fib_codec.specs.declared.frame_layout.FrameLayout.{FrameLayout}
 use Rattle.fib_carousel.specs.declared.pack_state.Position.{Position}

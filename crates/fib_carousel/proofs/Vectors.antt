@@ -1,7 +1,7 @@
 -- Examples of runs: for each definition one that satisfies it, and one that does not.
 use Rattle.std.proofs.Common.{◌≡◌, ℕ, ◌+◌, ◌*◌, ◌<◌, ◌≤◌, true, false, List, [], ◌∷◌, replicate, refl, sym, ◌∙◌, ap, subst, arith}
-use Rattle.mux_entries.specs.Facts.{Marked, marked}
-use Rattle.mux_entries.specs.declared.entry.Entry.TheVariants.{Sub as SubOf}
+use Rattle.mux_types.specs.Facts.{Marked, marked}
+use Rattle.mux_types.specs.declared.entry.Entry.TheVariants.{Sub as SubOf}
 use Rattle.fib_codec.specs.declared.modes.Mode.TheVariants.{I}
 use Rattle.fib_codec.specs.declared.frame_layout.FrameLayout.TheVariants.{Whole}
 use Rattle.fib_codec.specs.Spelling.{head_of}

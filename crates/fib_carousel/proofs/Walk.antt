@@ -3,7 +3,7 @@ use Rattle.std.proofs.Common.{◌≡◌, ℕ, ◌+◌, ◌-◌, ◌*◌, ◌<◌
 use Rattle.fib_codec.specs.declared.frame_layout.FrameLayout.{FrameLayout}
 use Rattle.std.proofs.lemmas.List.{drop_more, drop_all, take_more, get_or-drop, length-drop, append-nil}
 use Rattle.std.proofs.lemmas.Option.{slice_get_within, get_or_from_slice_get}
-use Rattle.mux_entries.specs.Facts.{Marked}
+use Rattle.mux_types.specs.Facts.{Marked}
 use Rattle.fib_codec.specs.Spelling.{head_of}
 use Rattle.fib_carousel.specs.declared.pack_state.PackState.{PackState}
 use Rattle.fib_carousel.specs.declared.pack_state.EntryShape.{EntryShape}

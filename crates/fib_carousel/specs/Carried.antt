@@ -2,8 +2,8 @@
 use Rattle.std.specs.Prelude.{◌≡◌, ℕ, ◌*◌, ◌≤◌, ◌↔◌, Bool, false, List, length, Option, Some, IfSome, Contains}
 use Rattle.mux_config.specs.Configuration.{Configuration, IsConfiguration}
 use Rattle.std.specs.List.{AllByRecursion}
-use Rattle.mux_entries.specs.Entries.{EnsembleInformation}
-use Rattle.mux_entries.specs.Facts.{Marked}
+use Rattle.mux_types.specs.Entries.{EnsembleInformation}
+use Rattle.mux_types.specs.Facts.{Marked}
 use Rattle.fib_codec.specs.Layouts.{frame_fibs, KeepsReserve}
 use Rattle.fib_codec.specs.Ranges.{IsEnsembleInformation, IsWithin}
 use Rattle.fib_codec.specs.Spelling.{ext_of}

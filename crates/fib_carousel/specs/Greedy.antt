@@ -1,7 +1,7 @@
 -- The rule that computes the packing. It need not be trusted: the laws below say that its result is the packing, and
 -- that a list has no other.
 use Rattle.std.specs.Prelude.{ℕ, ◌+◌, ◌≤◌, List, [], ◌∷◌, Some, None, if◌then◌else◌, nat_le}
-use Rattle.mux_entries.specs.Facts.{Marked}
+use Rattle.mux_types.specs.Facts.{Marked}
 use Rattle.fib_codec.specs.Spelling.{head_of}
 use Rattle.fib_codec.specs.declared.frame_layout.FrameLayout.{FrameLayout}
 use Rattle.fib_carousel.specs.declared.pack_state.PackState.{PackState}

@@ -1,8 +1,8 @@
 -- The members of a configuration by index, its three sets one after another.
 use Rattle.std.specs.Prelude.{◌≡◌, ℕ, List, ◌++◌, slice_get, Some}
 use Rattle.mux_config.specs.Configuration.{Configuration, IsPlaced, IsService, IsAddressed}
-use Rattle.mux_entries.specs.Facts.{sub_entry, service_entry, packet_entry, sub_entries, service_entries}
-use Rattle.mux_entries.specs.declared.entry.Entry.{Entry}
+use Rattle.mux_types.specs.Facts.{sub_entry, service_entry, packet_entry, sub_entries, service_entries}
+use Rattle.mux_types.specs.declared.entry.Entry.{Entry}
 use Rattle.fib_carousel.specs.declared.page_set.Item.{Item}
 use Rattle.fib_carousel.specs.declared.page_set.Item.TheVariants.{Sub as SubItem, Service as ServiceItem, Packet as PacketItem}
 

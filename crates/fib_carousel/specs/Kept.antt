@@ -1,6 +1,6 @@
 -- A page kept to be sent in several frames, with FIG 0/0 or without it.
 use Rattle.std.specs.Prelude.{◌≡◌, ℕ, List, None}
-use Rattle.mux_entries.specs.Facts.{Marked}
+use Rattle.mux_types.specs.Facts.{Marked}
 use Rattle.fib_codec.specs.declared.frame_layout.FrameLayout.{FrameLayout}
 use Rattle.fib_carousel.specs.declared.kept_page.KeptPage.{KeptPage}
 use Rattle.fib_carousel.specs.Bytes.{page_bytes}

@@ -17,5 +17,5 @@ pub use Rattle.fib_codec.specs.Spelling
 pub use Rattle.fib_codec.specs.Grammar
 pub use Rattle.fib_codec.specs.Heard
 pub use Rattle.mux_config.specs.Configuration
-pub use Rattle.mux_entries.specs.Entries
-pub use Rattle.mux_entries.specs.Facts
+pub use Rattle.mux_types.specs.Entries
+pub use Rattle.mux_types.specs.Facts

@@ -1,7 +1,7 @@
 -- Positions in the list of entries, and the page of a cursor. No public contract depends on the record Position: a new
 -- cursor is at page 0, and each page moves it to the next one.
 use Rattle.std.specs.Prelude.{◌≡◌, ℕ, ◌*◌, ◌<◌, ◌≤◌, ◌⊎◌, List, ◌∷◌, drop, length, slice_get, Some}
-use Rattle.mux_entries.specs.Facts.{Marked}
+use Rattle.mux_types.specs.Facts.{Marked}
 use Rattle.fib_codec.specs.Spelling.{head_of}
 use Rattle.fib_codec.specs.declared.frame_layout.FrameLayout.{FrameLayout}
 use Rattle.fib_carousel.specs.declared.pack_state.EntryShape.{EntryShape}

@@ -1,7 +1,7 @@
 //! Lists of entries to be packed.
 
 ghost use Rattle.std.specs.Prelude.{◌≡◌, ◌<◌, ◌≤◌, List, length, slice_get, Some};
-ghost use Rattle.mux_entries.specs.Facts.{Marked};
+ghost use Rattle.mux_types.specs.Facts.{Marked};
 
 use crate::pack_state::EntryShape;
 use fib_codec::Fib;
@@ -9,7 +9,7 @@ use fib_codec::Fib;
 /// A list of entries in the order in which they are packed.
 pub(crate) trait EntryList {
     ghost use Rattle.std.specs.Prelude.{List};
-    ghost use Rattle.mux_entries.specs.Facts.{Marked};
+    ghost use Rattle.mux_types.specs.Facts.{Marked};
     ghost use Rattle.fib_carousel.specs.declared.pack_state.EntryShape.{EntryShape};
     ghost use Rattle.fib_carousel.specs.Packing.{size_of};
     ghost use Rattle.fib_carousel.specs.Carried.{AreSendable};

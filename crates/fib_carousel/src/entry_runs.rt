@@ -1,7 +1,7 @@
 //! Runs of entries with the same head and size, appended to a FIB together.
 
 ghost use Rattle.std.specs.Prelude.{◌≡◌, ◌+◌, ◌-◌, ◌*◌, ◌<◌, ◌≤◌, ◌++◌, length, map, take, drop, slice_get, Some};
-ghost use Rattle.mux_entries.specs.Facts.{Marked, facts_of, sub_entry, packet_entry};
+ghost use Rattle.mux_types.specs.Facts.{Marked, facts_of, sub_entry, packet_entry};
 ghost use Rattle.fib_codec.specs.Spelling.{entries_bytes};
 ghost use Rattle.fib_carousel.specs.declared.pack_state.EntryShape.{EntryShape};
 ghost use Rattle.fib_carousel.specs.Packing.{size_of};

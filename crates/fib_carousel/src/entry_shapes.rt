@@ -3,7 +3,7 @@
 ghost use Rattle.std.specs.Prelude.{◌≡◌, ◌≤◌, false};
 ghost use Rattle.fib_codec.specs.Spelling.{entry_size, is_long_entry};
 ghost use Rattle.mux_config.specs.Configuration.{IsService};
-ghost use Rattle.mux_entries.specs.Facts.{service_entry};
+ghost use Rattle.mux_types.specs.Facts.{service_entry};
 ghost use Rattle.fib_carousel.specs.Runs.{sub_shape, packet_shape};
 
 use crate::pack_state::EntryShape;

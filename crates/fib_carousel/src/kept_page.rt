@@ -1,7 +1,7 @@
 //! A page kept to be sent in several frames.
 
 ghost use Rattle.std.specs.Prelude.{◌≡◌, ℕ, ◌+◌, ◌-◌, ◌≤◌, ◌++◌, List, length, take, Some, None};
-ghost use Rattle.mux_entries.specs.Facts.{Marked};
+ghost use Rattle.mux_types.specs.Facts.{Marked};
 ghost use Rattle.fib_codec.specs.declared.frame_layout.FrameLayout.{FrameLayout};
 ghost use Rattle.fib_codec.specs.Modes.{with_fib};
 ghost use Rattle.fib_codec.specs.Spelling.{figs_bytes, checked};

@@ -3,7 +3,7 @@
 //! Entries of sub-channels have one size and entries of packet components another, so both are counted in runs.
 
 ghost use Rattle.std.specs.Prelude.{◌≡◌, ◌+◌, ◌/◌, ◌≤◌, map};
-ghost use Rattle.mux_entries.specs.Facts.{facts_of, marked, service_entry};
+ghost use Rattle.mux_types.specs.Facts.{facts_of, marked, service_entry};
 ghost use Rattle.fib_codec.specs.Layouts.{used_fibs};
 ghost use Rattle.std.specs.Option.{option_copied};
 ghost use Rattle.fib_carousel.specs.Pages.{page_set_of, rounds};

@@ -2,9 +2,9 @@
 
 ghost use Rattle.std.specs.Prelude.{◌≡◌, ◌+◌, ◌<◌, ◌≤◌, Bool, true, false, length};
 ghost use Rattle.std.specs.Option.{option_copied};
-ghost use Rattle.mux_entries.specs.Facts.{marked, facts_of};
+ghost use Rattle.mux_types.specs.Facts.{marked, facts_of};
 ghost use Rattle.fib_carousel.specs.Pages.{page_set_of};
-ghost use Rattle.mux_entries.specs.declared.entry.Entry.{Entry};
+ghost use Rattle.mux_types.specs.declared.entry.Entry.{Entry};
 ghost use Rattle.fib_codec.specs.Spelling.{entry_size, ext_of, is_long_entry};
 ghost use Rattle.fib_carousel.specs.Carried.{AreSendable};
 ghost use Rattle.fib_carousel.specs.Walk.{IsShapeAt};

@@ -6,8 +6,8 @@
 ghost use Rattle.std.specs.Prelude.{◌≡◌, ◌+◌, ◌*◌, ◌<◌, ◌≤◌, ◌^◌, ◌++◌, length};
 ghost use Rattle.fib_codec.specs.Spelling.{components_bytes, entry_bytes, entry_size};
 ghost use Rattle.mux_config.specs.Configuration.{IsPlaced, IsService, IsAddressed};
-ghost use Rattle.mux_entries.specs.declared.entry.Entry.TheVariants.{Sub as SubOf, Packet as PacketOf};
-ghost use Rattle.mux_entries.specs.Facts.{sub_entry, service_entry, packet_entry, component_entry, component_entries};
+ghost use Rattle.mux_types.specs.declared.entry.Entry.TheVariants.{Sub as SubOf, Packet as PacketOf};
+ghost use Rattle.mux_types.specs.Facts.{sub_entry, service_entry, packet_entry, component_entry, component_entries};
 
 use fib_codec::Fib;
 use mux_config::{Bits, Component, ComponentEntry, Packet, PacketEntry, Service, Sub, SubEntry};

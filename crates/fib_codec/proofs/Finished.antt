@@ -4,16 +4,16 @@ use Rattle.std.specs.Prelude.{flat_map, IsSome}
 use Rattle.std.proofs.lemmas.List.{length-replicate}
 use Rattle.std.proofs.lemmas.Bool.{and_from, and_left, and_right, cases_lt, cond-true, cond-false, cond_both, ltb-true, ltb-false}
 use Rattle.std.specs.List.{AllByRecursion}
-use Rattle.mux_entries.specs.Entries.{EnsembleInformation}
+use Rattle.mux_types.specs.Entries.{EnsembleInformation}
 use Rattle.mux_types.specs.declared.numbers.Sid.{Sid}
 use Rattle.mux_types.specs.declared.numbers.Sid.TheVariants.{Short, Long}
-use Rattle.mux_entries.specs.declared.entry.Entry.{Entry}
-use Rattle.mux_entries.specs.declared.entry.Entry.TheVariants.{Ensemble as EnsembleOf, Sub as SubOf, Short as ShortOf, Service as ServiceOf, Packet as PacketOf}
-use Rattle.mux_entries.specs.declared.entry.SubEntry.{SubEntry}
-use Rattle.mux_entries.specs.declared.entry.ShortEntry.{ShortEntry}
-use Rattle.mux_entries.specs.declared.entry.ServiceEntry.{ServiceEntry}
-use Rattle.mux_entries.specs.declared.entry.PacketEntry.{PacketEntry}
-use Rattle.mux_entries.specs.declared.entry.ComponentEntry.{ComponentEntry}
+use Rattle.mux_types.specs.declared.entry.Entry.{Entry}
+use Rattle.mux_types.specs.declared.entry.Entry.TheVariants.{Ensemble as EnsembleOf, Sub as SubOf, Short as ShortOf, Service as ServiceOf, Packet as PacketOf}
+use Rattle.mux_types.specs.declared.entry.SubEntry.{SubEntry}
+use Rattle.mux_types.specs.declared.entry.ShortEntry.{ShortEntry}
+use Rattle.mux_types.specs.declared.entry.ServiceEntry.{ServiceEntry}
+use Rattle.mux_types.specs.declared.entry.PacketEntry.{PacketEntry}
+use Rattle.mux_types.specs.declared.entry.ComponentEntry.{ComponentEntry}
 use Rattle.fib_codec.specs.Ranges.{IsWithin, IsEnsembleInformation, IsSubEntry, IsShortEntry, IsServiceEntry, IsPacketEntry}
 use Rattle.fib_codec.specs.declared.head.Head.{Head}
 use Rattle.fib_codec.specs.Spelling.{bit_of, ensemble_bytes, sub_bytes, short_bytes, service_bytes, packet_bytes, components_bytes, occurrence_bytes, ca_org_bytes, sid_bytes, is_long_sid, entry_bytes, entries_bytes, head_byte, fig_bytes, figs_bytes, IsUnder, Written, IsWritten, filled, checked}

@@ -5,9 +5,9 @@ use Rattle.std.proofs.lemmas.List.{take_more, length-take-le, take_all, take-app
 use Rattle.std.specs.List.{AllByRecursion}
 use Rattle.mux_types.specs.declared.numbers.Sid.{Sid}
 use Rattle.mux_types.specs.declared.numbers.Sid.TheVariants.{Short, Long}
-use Rattle.mux_entries.specs.declared.entry.Entry.{Entry}
-use Rattle.mux_entries.specs.declared.entry.Entry.TheVariants.{Ensemble as EnsembleOf, Sub as SubOf, Short as ShortOf, Service as ServiceOf, Packet as PacketOf}
-use Rattle.mux_entries.specs.declared.entry.ComponentEntry.{ComponentEntry}
+use Rattle.mux_types.specs.declared.entry.Entry.{Entry}
+use Rattle.mux_types.specs.declared.entry.Entry.TheVariants.{Ensemble as EnsembleOf, Sub as SubOf, Short as ShortOf, Service as ServiceOf, Packet as PacketOf}
+use Rattle.mux_types.specs.declared.entry.ComponentEntry.{ComponentEntry}
 use Rattle.fib_codec.specs.Spelling.{occurrence_bytes, ca_org_bytes, sid_bytes, sid_size, components_bytes, entry_bytes, entry_size, entries_bytes, IsUnder, IsFormed}
 use Rattle.fib_codec.specs.declared.head.Head.{Head}
 

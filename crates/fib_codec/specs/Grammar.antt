@@ -6,7 +6,7 @@ use Rattle.fib_codec.specs.Crc.{IsChecked}
 use Rattle.fib_codec.specs.Spelling.{Written, IsWritten, IsUnder, entry_bytes, head_byte, fig_bytes, figs_bytes, fib_bytes, filled}
 use Rattle.fib_codec.specs.declared.head.Head.{Head}
 use Rattle.fib_codec.specs.Ranges.{IsWithin}
-use Rattle.mux_entries.specs.declared.entry.Entry.{Entry}
+use Rattle.mux_types.specs.declared.entry.Entry.{Entry}
 
 -- the length of the entry at the front, by the bytes that determine it; more than there are if one of these is missing.
 -- It depends on the change flags in FIG 0/0, on the form in FIG 0/1, on the number of components in FIG 0/2 and on the

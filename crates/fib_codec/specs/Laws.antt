@@ -1,7 +1,7 @@
 -- Laws of the grammar's bytes: those of an entry encode an entry, and those of a FIB are 32.
 use Rattle.std.specs.Prelude.{◌≡◌, ℕ, ◌<◌, List, length}
 use Rattle.std.specs.List.{AllByRecursion}
-use Rattle.mux_entries.specs.declared.entry.Entry.{Entry}
+use Rattle.mux_types.specs.declared.entry.Entry.{Entry}
 use Rattle.fib_codec.specs.declared.head.Head.{Head}
 use Rattle.fib_codec.specs.Grammar.{Fig, IsEntry, IsCounted, IsFib}
 use Rattle.fib_codec.specs.Ranges.{IsWithin}

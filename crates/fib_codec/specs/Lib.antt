@@ -10,5 +10,5 @@ pub mod Modes
 pub mod Layouts
 pub mod Extensions
 pub use Rattle.mux_types.specs.Configuration
-pub use Rattle.mux_entries.specs.Entries
-pub use Rattle.mux_entries.specs.Facts
+pub use Rattle.mux_types.specs.Entries
+pub use Rattle.mux_types.specs.Facts

@@ -1,17 +1,17 @@
 -- Entries whose fields are within their bits, as every `Entry` in code is.
 use Rattle.std.specs.Prelude.{◌<◌, ◌≤◌, ◌↔◌, IsSome, IfSome, length}
-use Rattle.mux_entries.specs.Entries.{EnsembleInformation}
+use Rattle.mux_types.specs.Entries.{EnsembleInformation}
 use Rattle.mux_types.specs.Configuration.{IsSid}
 use Rattle.std.specs.List.{AllByRecursion}
-use Rattle.mux_entries.specs.declared.limits.TheConstants.{COUNTS}
-use Rattle.mux_entries.specs.declared.entry.Entry.{Entry}
-use Rattle.mux_entries.specs.declared.entry.Entry.TheVariants.{Ensemble as EnsembleOf, Sub as SubOf, Short as ShortOf, Service as ServiceOf, Packet as PacketOf}
-use Rattle.mux_entries.specs.declared.entry.SubEntry.{SubEntry}
-use Rattle.mux_entries.specs.declared.entry.ShortEntry.{ShortEntry}
-use Rattle.mux_entries.specs.declared.entry.ServiceEntry.{ServiceEntry}
-use Rattle.mux_entries.specs.declared.entry.PacketEntry.{PacketEntry}
-use Rattle.mux_entries.specs.declared.entry.ComponentEntry.{ComponentEntry}
-use Rattle.mux_entries.specs.declared.entry.ComponentEntry.TheVariants.{Sound, Stream, Other, Packet}
+use Rattle.mux_types.specs.declared.limits.TheConstants.{COUNTS}
+use Rattle.mux_types.specs.declared.entry.Entry.{Entry}
+use Rattle.mux_types.specs.declared.entry.Entry.TheVariants.{Ensemble as EnsembleOf, Sub as SubOf, Short as ShortOf, Service as ServiceOf, Packet as PacketOf}
+use Rattle.mux_types.specs.declared.entry.SubEntry.{SubEntry}
+use Rattle.mux_types.specs.declared.entry.ShortEntry.{ShortEntry}
+use Rattle.mux_types.specs.declared.entry.ServiceEntry.{ServiceEntry}
+use Rattle.mux_types.specs.declared.entry.PacketEntry.{PacketEntry}
+use Rattle.mux_types.specs.declared.entry.ComponentEntry.{ComponentEntry}
+use Rattle.mux_types.specs.declared.entry.ComponentEntry.TheVariants.{Sound, Stream, Other, Packet}
 
 -- the change flags are two bits, the CIF count is below 5000, and there is an occurrence change exactly if a flag is
 -- set (EN 300 401 clause 6.4)

@@ -2,19 +2,19 @@
 -- 6.3.2 and 6.4). Numbers are big-endian: `big_bytes n x` is the lowest n bytes of x.
 use Rattle.std.specs.Prelude.{◌≡◌, ℕ, ◌+◌, ◌-◌, ◌*◌, ◌/◌, ◌%◌, ◌<◌, ◌≤◌, Bool, true, false, if◌then◌else◌, nat_lt, is_some, Option, Some, None, List, [], ◌∷◌, ◌++◌, length, flat_map, replicate}
 use Rattle.byteorder.specs.Endian.{big_bytes}
-use Rattle.mux_entries.specs.Entries.{EnsembleInformation}
+use Rattle.mux_types.specs.Entries.{EnsembleInformation}
 use Rattle.std.specs.List.{AllByRecursion}
-use Rattle.mux_entries.specs.Facts.{Marked}
+use Rattle.mux_types.specs.Facts.{Marked}
 use Rattle.mux_types.specs.declared.numbers.Sid.{Sid}
 use Rattle.mux_types.specs.declared.numbers.Sid.TheVariants.{Short, Long}
-use Rattle.mux_entries.specs.declared.entry.Entry.{Entry}
-use Rattle.mux_entries.specs.declared.entry.Entry.TheVariants.{Ensemble as EnsembleOf, Sub as SubOf, Short as ShortOf, Service as ServiceOf, Packet as PacketOf}
-use Rattle.mux_entries.specs.declared.entry.SubEntry.{SubEntry}
-use Rattle.mux_entries.specs.declared.entry.ShortEntry.{ShortEntry}
-use Rattle.mux_entries.specs.declared.entry.ServiceEntry.{ServiceEntry}
-use Rattle.mux_entries.specs.declared.entry.PacketEntry.{PacketEntry}
-use Rattle.mux_entries.specs.declared.entry.ComponentEntry.{ComponentEntry}
-use Rattle.mux_entries.specs.declared.entry.ComponentEntry.TheVariants.{Sound, Stream, Other, Packet}
+use Rattle.mux_types.specs.declared.entry.Entry.{Entry}
+use Rattle.mux_types.specs.declared.entry.Entry.TheVariants.{Ensemble as EnsembleOf, Sub as SubOf, Short as ShortOf, Service as ServiceOf, Packet as PacketOf}
+use Rattle.mux_types.specs.declared.entry.SubEntry.{SubEntry}
+use Rattle.mux_types.specs.declared.entry.ShortEntry.{ShortEntry}
+use Rattle.mux_types.specs.declared.entry.ServiceEntry.{ServiceEntry}
+use Rattle.mux_types.specs.declared.entry.PacketEntry.{PacketEntry}
+use Rattle.mux_types.specs.declared.entry.ComponentEntry.{ComponentEntry}
+use Rattle.mux_types.specs.declared.entry.ComponentEntry.TheVariants.{Sound, Stream, Other, Packet}
 use Rattle.fib_codec.specs.declared.head.Head.{Head}
 use Rattle.fib_codec.specs.Ranges.{IsWithin}
 use Rattle.fib_codec.specs.Crc.{crc_value}

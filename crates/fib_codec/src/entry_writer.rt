@@ -6,8 +6,7 @@ ghost use Rattle.fib_codec.specs.Spelling.{entry_size, entry_bytes};
 
 use crate::data::Data;
 use crate::{fig0_0, fig0_1, fig0_2, fig0_3};
-use mux_entries::Entry;
-use mux_types::Sid;
+use mux_types::{Entry, Sid};
 
 /// The length of an entry in bytes, from 3 to 35.
 #[tactic(auto, using(crate::proofs::Lengths::entry_length))]

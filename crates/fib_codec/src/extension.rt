@@ -4,7 +4,7 @@ ghost use Rattle.std.specs.Prelude.{◌≡◌, ◌<◌, ◌≤◌, IfSome, IfNon
 ghost use Rattle.fib_codec.specs.Extensions.{number_of};
 ghost use Rattle.fib_codec.specs.Spelling.{ext_of};
 
-use mux_entries::Entry;
+use mux_types::Entry;
 
 /// An extension of FIG type 0 that is parsed. FIGs with extensions 4 to 31 are skipped.
 #[derive(Clone, Copy, Debug, PartialEq, Eq)]

@@ -12,8 +12,7 @@ use crate::entry_writer::{entry_len, put_entry};
 use crate::extension::Extension;
 use crate::head::{self, Head};
 use crate::{fig0_1, fig0_2, fig0_3};
-use mux_entries::{ComponentEntry, Entry, PacketEntry, SubEntry};
-use mux_types::{Bits, Sid};
+use mux_types::{Bits, ComponentEntry, Entry, PacketEntry, Sid, SubEntry};
 use std::marker::Model;
 
 /// A Fast Information Block that is being written (EN 300 401 clause 5.2.1). Contracts see it as its data

@@ -8,11 +8,11 @@ ghost use Rattle.std.specs.Prelude.{◌≡◌, ◌+◌, ◌*◌, ◌/◌, ◌%�
 ghost use Rattle.fib_codec.specs.Grammar.{ensemble_len, IsCounted};
 ghost use Rattle.fib_codec.specs.Ranges.{IsEnsembleInformation};
 ghost use Rattle.fib_codec.specs.Spelling.{bit_of, ensemble_bytes};
-ghost use Rattle.mux_entries.specs.Entries.{EnsembleInformation};
+ghost use Rattle.mux_types.specs.Entries.{EnsembleInformation};
 
 use crate::bytes::{byte_at, u16_at, u16_of};
 use crate::data::Data;
-use mux_entries::Ensemble;
+use mux_types::Ensemble;
 
 /// The length without an occurrence change, in bytes.
 const PLAIN_LEN: usize = 4;

@@ -8,13 +8,12 @@ ghost use Rattle.std.specs.Prelude.{◌≡◌, ◌+◌, ◌<◌, ◌≤◌, ◌�
 ghost use Rattle.fib_codec.specs.Grammar.{sub_len};
 ghost use Rattle.fib_codec.specs.Ranges.{IsSubEntry, IsShortEntry};
 ghost use Rattle.fib_codec.specs.Spelling.{sub_bytes, short_bytes};
-ghost use Rattle.mux_entries.specs.declared.entry.SubEntry.{SubEntry as Long};
-ghost use Rattle.mux_entries.specs.declared.entry.ShortEntry.{ShortEntry as Short};
+ghost use Rattle.mux_types.specs.declared.entry.SubEntry.{SubEntry as Long};
+ghost use Rattle.mux_types.specs.declared.entry.ShortEntry.{ShortEntry as Short};
 
 use crate::bytes::{byte_at, u16_of};
 use crate::data::Data;
-use mux_entries::{ShortEntry, SubEntry};
-use mux_types::{Bits, SubId};
+use mux_types::{Bits, ShortEntry, SubEntry, SubId};
 
 /// The length of an entry in the long form, in bytes.
 const LONG_LEN: usize = 4;

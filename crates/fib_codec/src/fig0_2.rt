@@ -11,12 +11,11 @@ ghost use Rattle.fib_codec.specs.Ranges.{IsComponentEntry, IsServiceEntry};
 ghost use Rattle.fib_codec.specs.Spelling.{bit_of, sid_size, sid_bytes, is_long_sid, component_u16, components_bytes, service_bytes};
 ghost use Rattle.mux_types.specs.Configuration.{IsSid};
 ghost use Rattle.std.specs.List.{AllByRecursion};
-ghost use Rattle.mux_entries.specs.declared.entry.ServiceEntry.{ServiceEntry as Entry};
+ghost use Rattle.mux_types.specs.declared.entry.ServiceEntry.{ServiceEntry as Entry};
 
 use crate::bytes::{byte_at, u16_at, u16_of, u32_of};
 use crate::data::Data;
-use mux_entries::{ComponentEntry, ServiceEntry};
-use mux_types::{Bits, BoundedVec, ScId, ScTy, Sid, SubId};
+use mux_types::{Bits, BoundedVec, ComponentEntry, ScId, ScTy, ServiceEntry, Sid, SubId};
 
 /// The length before the components with a 16-bit SId, in bytes.
 const SHORT_HEAD_LEN: usize = 3;

@@ -8,12 +8,11 @@ ghost use Rattle.std.specs.Prelude.{◌≡◌, ◌+◌, ◌*◌, ◌/◌, ◌≤
 ghost use Rattle.fib_codec.specs.Grammar.{packet_len};
 ghost use Rattle.fib_codec.specs.Ranges.{IsPacketEntry};
 ghost use Rattle.fib_codec.specs.Spelling.{packet_bytes};
-ghost use Rattle.mux_entries.specs.declared.entry.PacketEntry.{PacketEntry as Entry};
+ghost use Rattle.mux_types.specs.declared.entry.PacketEntry.{PacketEntry as Entry};
 
 use crate::bytes::{byte_at, u16_at, u16_of};
 use crate::data::Data;
-use mux_entries::PacketEntry;
-use mux_types::{Bits, ScId, ScTy, SubId};
+use mux_types::{Bits, PacketEntry, ScId, ScTy, SubId};
 
 /// The length of an entry without a CAOrg, in bytes.
 const PLAIN_LEN: usize = 5;

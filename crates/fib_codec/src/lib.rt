@@ -34,7 +34,7 @@ pub use fib_frame::FibFrame;
 pub use frame_layout::FrameLayout;
 pub use head::Head;
 pub use modes::Mode;
-pub use mux_entries::{
-    ComponentEntry, Ensemble, Entry, PacketEntry, ServiceEntry, ShortEntry, SubEntry,
+pub use mux_types::{
+    Bits, BoundedVec, ComponentEntry, Ensemble, Entry, PacketEntry, ScId, ScTy, ServiceEntry,
+    ShortEntry, Sid, SubEntry, SubId,
 };
-pub use mux_types::{Bits, BoundedVec, ScId, ScTy, Sid, SubId};

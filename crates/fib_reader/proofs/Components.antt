@@ -8,11 +8,11 @@ use Rattle.mux_types.specs.declared.parts.Component.{Component}
 use Rattle.mux_types.specs.declared.parts.Component.TheVariants.{Sound, Stream, Packet}
 use Rattle.mux_types.specs.declared.parts.Carrier.{Carrier}
 use Rattle.mux_types.specs.declared.parts.Carrier.TheVariants.{Sub as BySub, Packet as ByPacket}
-use Rattle.mux_entries.specs.declared.entry.ComponentEntry.{ComponentEntry}
-use Rattle.mux_entries.specs.declared.entry.ComponentEntry.TheVariants.{Sound as SoundOf, Stream as StreamOf, Other, Packet as PacketsOf}
+use Rattle.mux_types.specs.declared.entry.ComponentEntry.{ComponentEntry}
+use Rattle.mux_types.specs.declared.entry.ComponentEntry.TheVariants.{Sound as SoundOf, Stream as StreamOf, Other, Packet as PacketsOf}
 use Rattle.mux_config.specs.Configuration.{AreDifferent, carrier_of, IsComponent}
 use Rattle.mux_config.specs.Sameness.{names, is_same_carrier}
-use Rattle.mux_entries.specs.Facts.{component_entry, component_entries}
+use Rattle.mux_types.specs.Facts.{component_entry, component_entries}
 
 -- one more component
 entries_more : (xs : List Component) (c : Component) → map (component_entry false) (xs ++ c ∷ []) ≡ map (component_entry false) xs ++ component_entry false c ∷ []

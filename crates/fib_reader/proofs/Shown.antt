@@ -1,10 +1,10 @@
 -- Pictures that show a configuration.
 use Rattle.std.proofs.Common.{◌≡◌, ◌≢◌, ℕ, ◌<◌, ◌≤◌, false, List, [], ◌∷◌, ◌++◌, length, map, append_assoc, refl, ap, sym, ◌∙◌, subst, arith}
 use Rattle.std.proofs.lemmas.List.{length-map, map-append}
-use Rattle.mux_entries.specs.declared.entry.Entry.{Entry}
+use Rattle.mux_types.specs.declared.entry.Entry.{Entry}
 use Rattle.mux_config.specs.Configuration.{Configuration, IsAscending, IsConfiguration, IsPlaced, IsService, IsAddressed, sub_key, service_key, packet_key}
 use Rattle.std.specs.List.{AllByRecursion}
-use Rattle.mux_entries.specs.Facts.{FactsIdentify, marked, sub_entry, service_entry, packet_entry, sub_entries, service_entries}
+use Rattle.mux_types.specs.Facts.{FactsIdentify, marked, sub_entry, service_entry, packet_entry, sub_entries, service_entries}
 use Rattle.fib_codec.specs.Ranges.{IsWithin}
 use Rattle.fib_codec.specs.Spelling.{SpellingIdentifies}
 use Rattle.fib_reader.specs.Raw.{Raw, raw_entry}

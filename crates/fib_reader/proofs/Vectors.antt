@@ -1,6 +1,6 @@
 -- Examples of faults, ensemble information and order, computed by the checker from the definitions.
 use Rattle.std.proofs.Common.{◌≡◌, ℕ, ◌*◌, true, false, [], ◌∷◌, Some, None, inl, inr, refl, arith}
-use Rattle.mux_entries.specs.Entries.{EnsembleInformation}
+use Rattle.mux_types.specs.Entries.{EnsembleInformation}
 use Rattle.fib_reader.specs.declared.fault.FibFault.TheVariants.{Overrun, Entry}
 use Rattle.fib_reader.specs.Faults.{IsOverrun, IsEntryFault}
 use Rattle.fib_reader.specs.FirstFault.{entries_fault, figs_fault}

@@ -1,7 +1,7 @@
 -- Laws of reading FIBs.
 use Rattle.std.specs.Prelude.{◌≡◌, ◌≤◌, ℕ, ◌++◌, ◌⊎◌, List, map, flat_map, take, length}
-use Rattle.mux_entries.specs.Entries.{EnsembleInformation}
-use Rattle.mux_entries.specs.declared.entry.Entry.TheVariants.{Ensemble as EnsembleOf}
+use Rattle.mux_types.specs.Entries.{EnsembleInformation}
+use Rattle.mux_types.specs.declared.entry.Entry.TheVariants.{Ensemble as EnsembleOf}
 use Rattle.std.specs.List.{AllByRecursion}
 use Rattle.fib_codec.specs.Spelling.{Written, IsWritten, figs_bytes, fib_bytes}
 use Rattle.fib_codec.specs.Grammar.{Fig, IsFib, fig_of, fig_spelled}

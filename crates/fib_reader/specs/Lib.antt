@@ -8,8 +8,8 @@ pub mod Forecast
 pub mod Remembering
 pub mod Laws
 pub use Rattle.mux_config.specs.Configuration
-pub use Rattle.mux_entries.specs.Entries
-pub use Rattle.mux_entries.specs.Facts
+pub use Rattle.mux_types.specs.Entries
+pub use Rattle.mux_types.specs.Facts
 pub use Rattle.mux_config.specs.Tables
 pub use Rattle.mux_config.specs.Edits
 pub use Rattle.fib_codec.specs.Crc

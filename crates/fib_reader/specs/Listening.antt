@@ -1,7 +1,7 @@
 -- A receiver's view of the multiplex after what it has heard: a fold over the FIGs of undamaged FIBs (EN 300 401
 -- clauses 6.2.1, 6.3.1, 6.3.2, 6.4 and 6.5).
 use Rattle.std.specs.Prelude.{◌≡◌, ℕ, ◌+◌, ◌*◌, ◌/◌, ◌%◌, ◌==◌, ◌||◌, Bool, true, false, if◌then◌else◌, nat_lt, List, [], ◌∷◌, ◌++◌, length, get_or, Option, Some, None, Result, Ok, Err}
-use Rattle.mux_entries.specs.Entries.{EnsembleInformation}
+use Rattle.mux_types.specs.Entries.{EnsembleInformation}
 use Rattle.mux_config.specs.Tables.{with_entry, with_entry_changed, has_entry}
 use Rattle.fib_codec.specs.Grammar.{Fig, Open, Other, IsFib, is_next}
 use Rattle.fib_reader.specs.declared.fault.ListenFault.{ListenFault}

@@ -2,7 +2,7 @@
 use Rattle.std.specs.Prelude.{◌≡◌, ◌<◌, ◌≤◌, ◌++◌, ◌⊎◌, List, [], ◌∷◌, length, map}
 use Rattle.mux_config.specs.Configuration.{Configuration, IsAscending}
 use Rattle.std.specs.List.{AllByRecursion}
-use Rattle.mux_entries.specs.Facts.{sub_entries, service_entries}
+use Rattle.mux_types.specs.Facts.{sub_entries, service_entries}
 use Rattle.fib_reader.specs.Raw.{Raw, raw_entry}
 use Rattle.fib_reader.specs.Listening.{Pictured, identifier_of, all_entries}
 

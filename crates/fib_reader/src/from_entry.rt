@@ -3,13 +3,13 @@
 ghost use Rattle.std.specs.Prelude.{◌≡◌, ◌≤◌, IfSome, IfNone, List, length};
 ghost use Rattle.mux_config.specs.Configuration.{IsPlaced, IsService, IsAddressed, AreDifferent, IsComponent};
 ghost use Rattle.std.specs.List.{AllByRecursion};
-ghost use Rattle.mux_entries.specs.Facts.{sub_entry, service_entry, packet_entry, component_entry, component_entries};
+ghost use Rattle.mux_types.specs.Facts.{sub_entry, service_entry, packet_entry, component_entry, component_entries};
 ghost use Rattle.fib_codec.specs.Ranges.{IsSubEntry, IsServiceEntry, IsPacketEntry, IsComponentEntry};
 ghost use Rattle.mux_types.specs.declared.parts.Sub.{Sub};
 ghost use Rattle.mux_types.specs.declared.parts.Service.{Service};
 ghost use Rattle.mux_types.specs.declared.parts.Packet.{Packet};
 ghost use Rattle.mux_types.specs.declared.parts.Component.{Component};
-ghost use Rattle.mux_entries.specs.declared.entry.Entry.TheVariants.{Sub as SubOf, Service as ServiceOf, Packet as PacketOf};
+ghost use Rattle.mux_types.specs.declared.entry.Entry.TheVariants.{Sub as SubOf, Service as ServiceOf, Packet as PacketOf};
 
 use mux_config::{
     BoundedVec, Component, ComponentEntry, Entry, Packet, PacketEntry, Service, ServiceEntry, Sub,

@@ -13,7 +13,7 @@ use mux_config::{Entry, Keyed, Packet, Service, SortedTable, Sub};
 /// A member of a configuration that an entry can describe: a sub-channel, a service or a packet component.
 pub(crate) trait FromEntry: Keyed {
     ghost use Rattle.std.specs.Prelude.{◌≡◌, IfSome, IfNone};
-    ghost use Rattle.mux_entries.specs.declared.entry.Entry.{Entry};
+    ghost use Rattle.mux_types.specs.declared.entry.Entry.{Entry};
     ghost use Rattle.fib_codec.specs.Ranges.{IsWithin};
     ghost use Rattle.fib_reader.specs.Raw.{raw_entry};
     ghost use Rattle.fib_reader.specs.Listening.{identifier_of};
@@ -41,7 +41,7 @@ pub(crate) trait FromEntry: Keyed {
 
 impl FromEntry for Sub {
     ghost use Rattle.mux_config.specs.Configuration.{IsPlaced};
-    ghost use Rattle.mux_entries.specs.Facts.{sub_entry};
+    ghost use Rattle.mux_types.specs.Facts.{sub_entry};
 
     ghost entry_of = { sub_entry };
 
@@ -59,7 +59,7 @@ impl FromEntry for Sub {
 
 impl FromEntry for Service {
     ghost use Rattle.mux_config.specs.Configuration.{IsService};
-    ghost use Rattle.mux_entries.specs.Facts.{service_entry};
+    ghost use Rattle.mux_types.specs.Facts.{service_entry};
 
     ghost entry_of = { service_entry };
 
@@ -77,7 +77,7 @@ impl FromEntry for Service {
 
 impl FromEntry for Packet {
     ghost use Rattle.mux_config.specs.Configuration.{IsAddressed};
-    ghost use Rattle.mux_entries.specs.Facts.{packet_entry};
+    ghost use Rattle.mux_types.specs.Facts.{packet_entry};
 
     ghost entry_of = { packet_entry };
 

@@ -4,7 +4,7 @@ use Rattle.std.specs.Prelude.{Contains}
 use Rattle.std.specs.List.{AllByRecursion}
 use Rattle.std.proofs.lemmas.List.Elements.{Contains-append_left, Contains-append_cases}
 use Rattle.mux_types.proofs.Elements.{each_contains}
-use Rattle.mux_entries.specs.Facts.{Marked}
+use Rattle.mux_types.specs.Facts.{Marked}
 use Rattle.fib_codec.specs.Grammar.{Fig, Other, IsFib}
 use Rattle.fib_codec.specs.Heard.{IsInFib, IsInFig}
 use Rattle.fib_codec.specs.Laws.{FibHas32Bytes}

@@ -1,6 +1,6 @@
 -- What a listener and the checker of streams know of FIBs that were filled.
 use Rattle.std.specs.Prelude.{◌≡◌, ◌↔◌, ℕ, List, [], ◌∷◌, ◌++◌, length, map, Option, Some, None}
-use Rattle.mux_entries.specs.Facts.{Marked}
+use Rattle.mux_types.specs.Facts.{Marked}
 use Rattle.fib_codec.specs.Grammar.{Other}
 use Rattle.fib_codec.specs.Heard.{IsInFib}
 use Rattle.stream_check.specs.Listening.{Listening, hear_figs}

@@ -10,14 +10,14 @@ use Rattle.mux_types.specs.declared.parts.Service.{Service}
 use Rattle.mux_types.specs.declared.parts.Component.{Component}
 use Rattle.mux_types.specs.declared.parts.Component.TheVariants.{Sound, Stream, Packet as InPackets}
 use Rattle.mux_types.specs.declared.parts.Packet.{Packet}
-use Rattle.mux_entries.specs.declared.entry.Entry.{Entry}
-use Rattle.mux_entries.specs.declared.entry.Entry.TheVariants.{Sub as SubOf, Service as ServiceOf, Packet as PacketOf}
-use Rattle.mux_entries.specs.declared.entry.SubEntry.{SubEntry}
-use Rattle.mux_entries.specs.declared.entry.ServiceEntry.{ServiceEntry}
-use Rattle.mux_entries.specs.declared.entry.PacketEntry.{PacketEntry}
+use Rattle.mux_types.specs.declared.entry.Entry.{Entry}
+use Rattle.mux_types.specs.declared.entry.Entry.TheVariants.{Sub as SubOf, Service as ServiceOf, Packet as PacketOf}
+use Rattle.mux_types.specs.declared.entry.SubEntry.{SubEntry}
+use Rattle.mux_types.specs.declared.entry.ServiceEntry.{ServiceEntry}
+use Rattle.mux_types.specs.declared.entry.PacketEntry.{PacketEntry}
 use Rattle.mux_types.specs.Configuration.{Configuration, IsConfiguration, IsPlaced, size_of_sub}
 use Rattle.std.specs.List.{AllByRecursion}
-use Rattle.mux_entries.specs.Facts.{Marked, marked, option_of, sub_entry, component_entry, component_entries, service_entry, packet_entry, sub_entries, service_entries, FactsIdentify}
+use Rattle.mux_types.specs.Facts.{Marked, marked, option_of, sub_entry, component_entry, component_entries, service_entry, packet_entry, sub_entries, service_entries, FactsIdentify}
 
 -- ---- lists
 

@@ -5,10 +5,10 @@ use Rattle.std.proofs.lemmas.List.Elements.{Contains-append_left, Contains-appen
 use Rattle.mux_eep.specs.Sizes.{OneRate}
 use Rattle.mux_types.specs.declared.parts.Service.{Service}
 use Rattle.mux_types.specs.declared.parts.Packet.{Packet}
-use Rattle.mux_entries.specs.declared.entry.Entry.{Entry}
+use Rattle.mux_types.specs.declared.entry.Entry.{Entry}
 use Rattle.mux_types.specs.Configuration.{Configuration, IsConfiguration, IsPlaced, sub_key, service_key, packet_key}
 use Rattle.std.specs.List.{AllByRecursion}
-use Rattle.mux_entries.specs.Facts.{Marked, marked, sub_entry, service_entry, packet_entry, sub_entries, service_entries, HaveSameMembers, FactSetsIdentify}
+use Rattle.mux_types.specs.Facts.{Marked, marked, sub_entry, service_entry, packet_entry, sub_entries, service_entries, HaveSameMembers, FactSetsIdentify}
 use Rattle.mux_types.proofs.Elements.{each_contains}
 use Rattle.mux_types.proofs.Members.{one_list, mapped_to, mapped_from}
 use Rattle.mux_config.proofs.Distinguishing.{is_sub, is_service, each_holds, each_map, each_join, sub_told, service_told, packet_told}

@@ -1,3 +1,6 @@
+pub mod FieldLaws
+pub mod PlacedFields
+pub mod SteadyFields
 pub mod Places
 pub mod Rates
 pub mod Sounding

@@ -17,15 +17,15 @@ use Rattle.mux_types.specs.declared.parts.Component.{Component}
 use Rattle.mux_types.specs.declared.parts.Carrier.{Carrier}
 use Rattle.mux_types.specs.declared.parts.Carrier.TheVariants.{Sub as BySub, Packet as ByPacket}
 use Rattle.mux_types.specs.declared.parts.Packet.{Packet}
-use Rattle.byte_fields.specs.declared.record.RecordFault.TheVariants.{Order}
+use Rattle.mux_config.specs.declared.record.RecordFault.TheVariants.{Order}
 use Rattle.mux_types.specs.Configuration.{IsPlaced, IsComponent, IsService, IsAddressed, AreDifferent, carrier_of, component_limit, sid_key}
 use Rattle.mux_types.specs.Sameness.{is_same_carrier, names}
-use Rattle.byte_fields.specs.FieldSpelling.{u16_bytes, protection_bytes, sid_field, component_bytes, flag_byte}
+use Rattle.mux_config.specs.FieldSpelling.{u16_bytes, protection_bytes, sid_field, component_bytes, flag_byte}
 use Rattle.mux_config.specs.Spelling.{sub_record, service_record, packet_record}
-use Rattle.byte_fields.specs.FieldReading.{place, byte_within, u16_in_range, number_at, flag_at, protection_at, sid_at, component_at}
+use Rattle.mux_config.specs.FieldReading.{place, byte_within, u16_in_range, number_at, flag_at, protection_at, sid_at, component_at}
 use Rattle.mux_config.specs.Reading.{size_or_field, read_sub, components_at, read_service, read_packet}
 use Rattle.mux_types.proofs.Tables.{each_pushed}
-use Rattle.byte_fields.proofs.FieldLaws.{IsBytes, Front, front_then, bind_ok, refuse_ok, ok_is, word_front, word_again, byte_within_front, byte_within_again, word_within_front, word_within_again, flag_front, flag_again, protection_front, protection_again, sid_front, sid_again, component_front, component_again}
+use Rattle.mux_config.proofs.FieldLaws.{IsBytes, Front, front_then, bind_ok, refuse_ok, ok_is, word_front, word_again, byte_within_front, byte_within_again, word_within_front, word_within_again, flag_front, flag_again, protection_front, protection_again, sid_front, sid_again, component_front, component_again}
 
 -- ---- sizes
 

@@ -5,14 +5,14 @@ use Rattle.std.proofs.lemmas.List.{length-take-le}
 use Rattle.mux_eep.specs.Sizes.{size_or_fault}
 use Rattle.mux_eep.specs.declared.fault.EepFault.{EepFault}
 use Rattle.mux_types.specs.declared.parts.Component.{Component}
-use Rattle.byte_fields.specs.declared.record.RecordFault.TheVariants.{Short, Field, Order}
+use Rattle.mux_config.specs.declared.record.RecordFault.TheVariants.{Short, Field, Order}
 use Rattle.mux_types.specs.Configuration.{Configuration, sub_key, sid_key, service_key, packet_key, carrier_of, component_limit}
 use Rattle.mux_types.specs.Sameness.{names}
-use Rattle.byte_fields.specs.FieldReading.{Reads, ◌>>=◌, place, component_at}
+use Rattle.mux_config.specs.FieldReading.{Reads, ◌>>=◌, place, component_at}
 use Rattle.mux_config.specs.Reading.{size_or_field, read_sub, components_at, read_service, read_packet, members_at, record_at, config_at}
 use Rattle.mux_config.specs.RecordFaults.{HasFault, ShortBeforePlaces}
 use Rattle.mux_config.proofs.Steady.{faults_are_first}
-use Rattle.byte_fields.proofs.PlacedFields.{Placed, placed_bind, placed_refuse, placed_word, placed_byte_within, placed_word_within, placed_flag, placed_protection, placed_sid, placed_component}
+use Rattle.mux_config.proofs.PlacedFields.{Placed, placed_bind, placed_refuse, placed_word, placed_byte_within, placed_word_within, placed_flag, placed_protection, placed_sid, placed_component}
 
 -- ---- sub-channels
 

@@ -2,11 +2,11 @@
 use Rattle.std.proofs.Common.{◌≡◌, ℕ, suc, ◌+◌, ◌-◌, ◌<◌, ◌≤◌, true, false, List, [], ◌∷◌, ◌++◌, Ok, Err, refl, sym, ◌∙◌, arith}
 use Rattle.std.specs.List.{list_any}
 use Rattle.mux_types.specs.declared.parts.Component.{Component}
-use Rattle.byte_fields.specs.declared.record.RecordFault.{RecordFault}
-use Rattle.byte_fields.specs.declared.record.RecordFault.TheVariants.{Field}
+use Rattle.mux_config.specs.declared.record.RecordFault.{RecordFault}
+use Rattle.mux_config.specs.declared.record.RecordFault.TheVariants.{Field}
 use Rattle.mux_types.specs.Configuration.{carrier_of}
 use Rattle.mux_types.specs.Sameness.{names}
-use Rattle.byte_fields.specs.FieldReading.{Reads, place, component_at}
+use Rattle.mux_config.specs.FieldReading.{Reads, place, component_at}
 use Rattle.mux_config.specs.Reading.{components_at, members_at}
 
 -- ---- components

@@ -3,13 +3,13 @@
 use Rattle.std.proofs.Common.{◌≡◌, ℕ, zero, suc, ◌+◌, ◌-◌, ◌<◌, ◌≤◌, List, [], ◌∷◌, ◌++◌, length, drop, Result, Ok, Err, IfOk, IfErr, refl, sym, ap, subst, ◌∙◌, append_assoc, arith}
 use Rattle.std.specs.List.{flat_map, AllByRecursion}
 use Rattle.std.proofs.lemmas.List.{append-nil, length-append, drop_at}
-use Rattle.byte_fields.specs.declared.record.RecordFault.{RecordFault}
+use Rattle.mux_config.specs.declared.record.RecordFault.{RecordFault}
 use Rattle.mux_types.specs.Configuration.{Configuration, IsAscending, IsPlaced, IsService, IsAddressed, IsConfiguration, sub_key, service_key, packet_key}
 use Rattle.mux_config.specs.Spelling.{sub_record, service_record, packet_record, config_bytes}
-use Rattle.byte_fields.specs.FieldReading.{Reads, byte_within}
+use Rattle.mux_config.specs.FieldReading.{Reads, byte_within}
 use Rattle.mux_config.specs.Reading.{read_sub, read_service, read_packet, members_at, record_at, config_at}
 use Rattle.mux_types.proofs.Tables.{each_weaker, each_pushed, ascends_pushed}
-use Rattle.byte_fields.proofs.FieldLaws.{IsBytes, Front, front_then, bind_ok, ok_is, byte_within_front, byte_within_again}
+use Rattle.mux_config.proofs.FieldLaws.{IsBytes, Front, front_then, bind_ok, ok_is, byte_within_front, byte_within_again}
 use Rattle.mux_config.proofs.PartLaws.{flat_pushed, sub_front, sub_again, service_front, service_again, packet_front, packet_again}
 
 -- ---- the members of a set

@@ -14,7 +14,7 @@ use Rattle.mux_types.specs.declared.numbers.Sid.{Sid}
 use Rattle.mux_types.specs.declared.numbers.Sid.TheVariants.{Short, Long}
 use Rattle.mux_config.specs.declared.flags.Change.{Change}
 use Rattle.mux_types.specs.Configuration.{Configuration}
-use Rattle.mux_entries.specs.Facts.{sub_entries, service_entries, sub_entry, HaveSameMembers}
+use Rattle.mux_types.specs.Facts.{sub_entries, service_entries, sub_entry, HaveSameMembers}
 use Rattle.mux_config.specs.Change.{ChangeIsUnique, has_same_subs, has_same_services}
 use Rattle.mux_types.specs.Sameness.{is_same_flag, is_same_list, is_same_set, is_same_sub, is_same_sid, is_same_component, is_same_service, is_same_packet}
 use Rattle.mux_config.proofs.FactSets.{same_members, subs_of_sets, services_of_sets}

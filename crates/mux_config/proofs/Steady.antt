@@ -6,17 +6,17 @@ use Rattle.std.proofs.lemmas.List.{length-append, take-append-drop, append-nil, 
 use Rattle.mux_eep.specs.Sizes.{size_or_fault}
 use Rattle.mux_eep.specs.declared.fault.EepFault.{EepFault}
 use Rattle.mux_types.specs.declared.parts.Component.{Component}
-use Rattle.byte_fields.specs.declared.record.RecordFault.{RecordFault}
-use Rattle.byte_fields.specs.declared.record.RecordFault.TheVariants.{Short, Field, Order}
+use Rattle.mux_config.specs.declared.record.RecordFault.{RecordFault}
+use Rattle.mux_config.specs.declared.record.RecordFault.TheVariants.{Short, Field, Order}
 use Rattle.mux_types.specs.Configuration.{Configuration, IsConfiguration, sub_key, sid_key, service_key, packet_key, carrier_of, component_limit}
 use Rattle.mux_types.specs.Sameness.{names}
 use Rattle.mux_config.specs.Spelling.{config_bytes}
-use Rattle.byte_fields.specs.FieldReading.{Reads, ◌>>=◌}
+use Rattle.mux_config.specs.FieldReading.{Reads, ◌>>=◌}
 use Rattle.mux_config.specs.Reading.{size_or_field, read_sub, components_at, read_service, read_packet, members_at, record_at, config_at}
 use Rattle.mux_config.specs.RecordFaults.{CutsAreShort, FaultsStay, FaultsAreFirst}
-use Rattle.byte_fields.proofs.FieldLaws.{ok_is}
+use Rattle.mux_config.proofs.FieldLaws.{ok_is}
 use Rattle.mux_config.proofs.RecordLaws.{record_again}
-use Rattle.byte_fields.proofs.SteadyFields.{Goes, goes_bind, goes_fault, goes_refuse, place_same, field_same, goes_number, goes_byte_within, goes_word_within, goes_flag, goes_protection, goes_sid, goes_component}
+use Rattle.mux_config.proofs.SteadyFields.{Goes, goes_bind, goes_fault, goes_refuse, place_same, field_same, goes_number, goes_byte_within, goes_word_within, goes_flag, goes_protection, goes_sid, goes_component}
 
 -- ---- members
 

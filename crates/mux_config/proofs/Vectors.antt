@@ -3,11 +3,11 @@ use Rattle.std.proofs.Common.{◌≡◌, ℕ, false, List, [], ◌∷◌, ◌++�
 use Rattle.mux_eep.specs.declared.sizes.EepSet.TheVariants.{A}
 use Rattle.mux_types.specs.declared.parts.Component.TheVariants.{Sound, Packet as InPackets}
 use Rattle.mux_types.specs.declared.numbers.Sid.TheVariants.{Short as ShortSid}
-use Rattle.byte_fields.specs.declared.record.RecordFault.TheVariants.{Short, Field, Order}
+use Rattle.mux_config.specs.declared.record.RecordFault.TheVariants.{Short, Field, Order}
 use Rattle.mux_types.specs.Configuration.{Configuration, nothing}
 use Rattle.mux_config.specs.Spelling.{config_bytes}
 use Rattle.mux_config.specs.Reading.{config_at, record_at, members_at, read_sub, read_service, components_at, read_packet}
-use Rattle.byte_fields.specs.FieldReading.{protection_at, sid_at, component_at, component_of}
+use Rattle.mux_config.specs.FieldReading.{protection_at, sid_at, component_at, component_of}
 
 nothing-spelled : config_bytes nothing ≡ 0 ∷ 0 ∷ 0 ∷ []
 nothing-spelled = refl

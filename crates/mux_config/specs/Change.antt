@@ -4,7 +4,7 @@ use Rattle.std.specs.Prelude.{◌≡◌, ℕ, ◌+◌, ◌&&◌, ◌↔◌, Bool
 use Rattle.mux_config.specs.declared.flags.Change.{Change}
 use Rattle.mux_types.specs.Configuration.{Configuration, IsConfiguration}
 use Rattle.mux_types.specs.Sameness.{is_same_list, is_same_sub, is_same_service, is_same_packet}
-use Rattle.mux_entries.specs.Facts.{sub_entries, service_entries, HaveSameMembers}
+use Rattle.mux_types.specs.Facts.{sub_entries, service_entries, HaveSameMembers}
 
 -- the sets of entries differ
 abbrev pub AreOtherSets : {T : Type 0} → List T → List T → Type 0

@@ -1,3 +1,5 @@
+pub mod FieldReading
+pub mod FieldSpelling
 pub mod Change
 pub mod Edits
 pub mod Reading
@@ -10,7 +12,5 @@ pub use Rattle.mux_types.specs.Configuration
 pub use Rattle.mux_types.specs.Sameness
 pub use Rattle.mux_types.specs.Sets
 pub use Rattle.mux_types.specs.Tables
-pub use Rattle.byte_fields.specs.FieldReading
-pub use Rattle.byte_fields.specs.FieldSpelling
-pub use Rattle.mux_entries.specs.Entries
-pub use Rattle.mux_entries.specs.Facts
+pub use Rattle.mux_types.specs.Entries
+pub use Rattle.mux_types.specs.Facts

@@ -10,9 +10,9 @@ use Rattle.mux_types.specs.declared.parts.Sub.{Sub}
 use Rattle.mux_types.specs.declared.parts.Service.{Service}
 use Rattle.mux_types.specs.declared.parts.Component.{Component}
 use Rattle.mux_types.specs.declared.parts.Packet.{Packet}
-use Rattle.byte_fields.specs.declared.record.RecordFault.{RecordFault}
-use Rattle.byte_fields.specs.declared.record.RecordFault.TheVariants.{Field, Order}
-use Rattle.byte_fields.specs.FieldReading.{Reads, ◌>>=◌, refuse, place, number_at, byte_within, u16_in_range, flag_at, protection_at, sid_at, component_at}
+use Rattle.mux_config.specs.declared.record.RecordFault.{RecordFault}
+use Rattle.mux_config.specs.declared.record.RecordFault.TheVariants.{Field, Order}
+use Rattle.mux_config.specs.FieldReading.{Reads, ◌>>=◌, refuse, place, number_at, byte_within, u16_in_range, flag_at, protection_at, sid_at, component_at}
 use Rattle.mux_types.specs.Configuration.{Configuration, sub_key, sid_key, service_key, packet_key, carrier_of, component_limit}
 use Rattle.mux_types.specs.Sameness.{names}
 

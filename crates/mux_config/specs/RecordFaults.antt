@@ -1,7 +1,7 @@
 -- What the fault of bytes that are not a record says about the bytes.
 use Rattle.std.specs.Prelude.{◌≡◌, ◌≢◌, ℕ, ◌<◌, ◌⊎◌, List, ◌++◌, length, take, Err}
-use Rattle.byte_fields.specs.declared.record.RecordFault.{RecordFault}
-use Rattle.byte_fields.specs.declared.record.RecordFault.TheVariants.{Short, Field}
+use Rattle.mux_config.specs.declared.record.RecordFault.{RecordFault}
+use Rattle.mux_config.specs.declared.record.RecordFault.TheVariants.{Short, Field}
 use Rattle.mux_types.specs.Configuration.{Configuration, IsConfiguration}
 use Rattle.mux_config.specs.Spelling.{config_bytes}
 use Rattle.mux_config.specs.Reading.{config_at}

@@ -5,7 +5,7 @@ use Rattle.mux_types.specs.declared.parts.Sub.{Sub}
 use Rattle.mux_types.specs.declared.parts.Service.{Service}
 use Rattle.mux_types.specs.declared.parts.Packet.{Packet}
 use Rattle.mux_types.specs.Configuration.{Configuration}
-use Rattle.byte_fields.specs.FieldSpelling.{u16_bytes, flag_byte, protection_bytes, sid_field, component_bytes}
+use Rattle.mux_config.specs.FieldSpelling.{u16_bytes, flag_byte, protection_bytes, sid_field, component_bytes}
 
 abbrev pub sub_record : Sub → List ℕ
 sub_record s = s.id ∷ u16_bytes s.start ++ protection_bytes s.protection ++ u16_bytes s.kbits

@@ -2,7 +2,7 @@
 
 ghost use Rattle.mux_config.specs.Change.{ChangeIsUnique};
 ghost use Rattle.mux_config.specs.Edits.{EditsKeep, RefusalsChangeNothing};
-ghost use Rattle.mux_entries.specs.Facts.{FactsIdentify, FactSetsIdentify};
+ghost use Rattle.mux_types.specs.Facts.{FactsIdentify, FactSetsIdentify};
 ghost use Rattle.mux_config.specs.SoundFaults.{FaultIsUnique};
 ghost use Rattle.mux_config.specs.RecordFaults.{CutsAreShort, FaultsStay, FaultsAreFirst, ShortBeforePlaces};
 

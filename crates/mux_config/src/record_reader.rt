@@ -3,11 +3,11 @@
 ghost use Rattle.std.specs.Prelude.{◌≡◌, ℕ, ◌<◌, ◌≤◌, ◌^◌, ◌++◌, [], List, length, drop, Ok, Err, IfOk, IfErr};
 ghost use Rattle.mux_types.specs.Configuration.{Configuration, IsConfiguration, sid_key};
 ghost use Rattle.mux_config.specs.Spelling.{config_bytes};
-ghost use Rattle.byte_fields.specs.FieldReading.{Reads, Takes};
+ghost use Rattle.mux_config.specs.FieldReading.{Reads, Takes};
 ghost use Rattle.mux_config.specs.Reading.{read_sub, components_at, read_service, read_packet, members_at, record_at, config_at};
 
 use crate::config::Config;
-use byte_fields::{Reader, RecordFault};
+use crate::{Reader, RecordFault};
 use mux_eep::{CAPACITY_UNITS, size_of};
 use mux_types::keys::sid_key;
 use mux_types::{BoundedVec, Component, Keyed, MEMBERS, Packet, Service, SortedTable, Sub};
@@ -15,7 +15,7 @@ use mux_types::{BoundedVec, Component, Keyed, MEMBERS, Packet, Service, SortedTa
 /// A member of a set, as it is in a record.
 trait Member: Keyed {
     ghost use Rattle.std.specs.Prelude.{ℕ, List};
-    ghost use Rattle.byte_fields.specs.FieldReading.{Reads};
+    ghost use Rattle.mux_config.specs.FieldReading.{Reads};
 
     ghost member_at: { ℕ → ℕ → List ℕ → Reads Self };
 

@@ -3,12 +3,12 @@
 ghost use Rattle.std.specs.Prelude.{◌≡◌, ℕ, ◌++◌, List, Ok, OnOk, IfOk};
 ghost use Rattle.std.specs.List.{flat_map};
 ghost use Rattle.mux_types.specs.Configuration.{IsConfiguration};
-ghost use Rattle.byte_fields.specs.FieldSpelling.{set_byte, component_bytes};
+ghost use Rattle.mux_config.specs.FieldSpelling.{set_byte, component_bytes};
 ghost use Rattle.mux_config.specs.Spelling.{sub_record, service_record, packet_record, config_bytes};
 ghost use Rattle.mux_config.specs.Reading.{config_at};
 
 use crate::config::Config;
-use byte_fields::put_component;
+use crate::put_component;
 use mux_eep::EepSet;
 use mux_types::{Component, Packet, Service, Sid, Sub};
 use std::alloc::{AllocError, Global};

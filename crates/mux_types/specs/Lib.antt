@@ -1,3 +1,5 @@
+pub mod Entries
+pub mod Facts
 pub mod Configuration
 pub mod Sameness
 pub mod Sets

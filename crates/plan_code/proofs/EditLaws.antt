@@ -6,7 +6,7 @@ use Rattle.mux_config.specs.Configuration.{IsSid, IsComponent}
 use Rattle.mux_config.specs.FieldSpelling.{u16_bytes, sid_field, component_bytes}
 use Rattle.mux_config.specs.Spelling.{sub_record, packet_record}
 use Rattle.mux_config.specs.FieldReading.{sid_at, component_at}
-use Rattle.byte_fields.proofs.FieldLaws.{IsBytes, Front}
+use Rattle.mux_config.proofs.FieldLaws.{IsBytes, Front}
 use Rattle.plan_code.specs.declared.instr.Instr.TheVariants.{Edit as Edits}
 use Rattle.plan_code.specs.declared.opcode.Opcode.{Opcode}
 use Rattle.plan_code.specs.Opcodes.{opcode_byte, opcode_of}

@@ -1,8 +1,8 @@
 -- Bytes have at most one fault, and have one exactly where they are not a code file; none is out of memory.
 use Rattle.std.proofs.Common.{◌≡◌, ℕ, zero, suc, Bool, true, false, cond, eqb, ltb, not, List, [], ◌∷◌, ◌++◌, length, Result, Ok, Err, refl, sym, ap, subst, ◌∙◌, ◌-◌}
 use Rattle.std.specs.Int.{w16, w32}
-use Rattle.byte_fields.specs.declared.record.RecordFault.{RecordFault}
-use Rattle.byte_fields.specs.declared.record.RecordFault.TheVariants.{Short, Field as FieldOfRecord, Order}
+use Rattle.mux_config.specs.declared.record.RecordFault.{RecordFault}
+use Rattle.mux_config.specs.declared.record.RecordFault.TheVariants.{Short, Field as FieldOfRecord, Order}
 use Rattle.mux_config.specs.FieldReading.{place, byte_at, number_at, byte_within}
 use Rattle.fib_codec.specs.Modes.{fib_count}
 use Rattle.plan_code.specs.declared.fault.CodeFault.{CodeFault}

@@ -8,13 +8,13 @@ use Rattle.fib_codec.specs.Modes.{fib_count}
 use Rattle.fib_codec.specs.declared.frame_layout.FrameLayout.{FrameLayout}
 use Rattle.fib_codec.specs.declared.frame_layout.FrameLayout.TheVariants.{Whole, ReserveOne, ReserveTwo}
 use Rattle.fib_codec.specs.declared.modes.Mode.TheVariants.{I, II, III, IV}
-use Rattle.byte_fields.specs.declared.record.RecordFault.{RecordFault}
+use Rattle.mux_config.specs.declared.record.RecordFault.{RecordFault}
 use Rattle.mux_config.specs.Configuration.{Configuration, IsConfiguration, IsAscending}
 use Rattle.mux_config.specs.FieldSpelling.{u16_bytes}
 use Rattle.mux_config.specs.Spelling.{config_bytes}
 use Rattle.mux_config.specs.FieldReading.{Reads, place, byte_at, number_at, byte_within}
 use Rattle.mux_config.specs.Reading.{config_at}
-use Rattle.byte_fields.proofs.FieldLaws.{IsBytes, Front, front_then, byte_front, long_front, long_again}
+use Rattle.mux_config.proofs.FieldLaws.{IsBytes, Front, front_then, byte_front, long_front, long_again}
 use Rattle.mux_config.proofs.RecordLaws.{record_front, record_again, members_front, members_again}
 use Rattle.plan_code.specs.declared.fault.CodeFault.{CodeFault}
 use Rattle.plan_code.specs.declared.fault.CodeFault.TheVariants.{Magic, Version, Field, Limit, Trailing}

@@ -2,7 +2,7 @@
 use Rattle.std.proofs.Common.{◌≡◌, ℕ, zero, suc, ◌-◌, ◌<◌, ◌≤◌, List, [], ◌∷◌, ◌++◌, Ok, refl, sym, ap, subst, ◌∙◌, append_assoc, arith}
 use Rattle.mux_config.specs.FieldSpelling.{u16_bytes}
 use Rattle.mux_config.specs.FieldReading.{byte_at, byte_within, u16_in_range}
-use Rattle.byte_fields.proofs.FieldLaws.{IsBytes, Front, front_then, bind_ok, ok_is, byte_front}
+use Rattle.mux_config.proofs.FieldLaws.{IsBytes, Front, front_then, bind_ok, ok_is, byte_front}
 use Rattle.plan_code.specs.declared.flags.Counters.{Counters}
 use Rattle.plan_code.specs.declared.label.Label.{Label}
 use Rattle.plan_code.specs.declared.label.Swap.{Swap}

@@ -2,10 +2,10 @@
 use Rattle.std.proofs.Common.{◌≡◌, ℕ, ◌<◌, ◌≤◌, List, [], ◌∷◌, ◌++◌, Ok, refl, ap, subst, ◌∙◌, append_assoc, arith}
 use Rattle.std.specs.Prelude.{ok_or}
 use Rattle.mux_config.specs.declared.edit.Edit.{Edit}
-use Rattle.byte_fields.specs.declared.record.RecordFault.TheVariants.{Field}
+use Rattle.mux_config.specs.declared.record.RecordFault.TheVariants.{Field}
 use Rattle.mux_config.specs.FieldSpelling.{u16_bytes}
 use Rattle.mux_config.specs.FieldReading.{Reads, place, byte_at, flag_at}
-use Rattle.byte_fields.proofs.FieldLaws.{IsBytes, Front, front_then, bind_ok, ok_is, byte_front}
+use Rattle.mux_config.proofs.FieldLaws.{IsBytes, Front, front_then, bind_ok, ok_is, byte_front}
 use Rattle.plan_code.specs.declared.instr.Instr.{Instr}
 use Rattle.plan_code.specs.declared.instr.Instr.TheVariants.{Wait, Until, WaitContact, CommitIn, CommitAt, Join, Settle, End, Edit as Edits, Test, Jump, Set, Loop}
 use Rattle.plan_code.specs.declared.instr.Line.{Line}

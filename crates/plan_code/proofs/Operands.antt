@@ -7,12 +7,12 @@ use Rattle.mux_types.specs.declared.parts.Sub.{Sub}
 use Rattle.mux_types.specs.declared.parts.Packet.{Packet}
 use Rattle.mux_types.specs.declared.parts.Carrier.{Carrier}
 use Rattle.mux_types.specs.declared.parts.Carrier.TheVariants.{Sub as BySub, Packet as ByPacket}
-use Rattle.byte_fields.specs.declared.record.RecordFault.TheVariants.{Field}
+use Rattle.mux_config.specs.declared.record.RecordFault.TheVariants.{Field}
 use Rattle.mux_config.specs.Configuration.{IsSid, IsComponent}
 use Rattle.mux_config.specs.FieldSpelling.{u16_bytes, flag_byte, protection_bytes, sid_field, component_bytes}
 use Rattle.mux_config.specs.Spelling.{sub_record, packet_record}
 use Rattle.mux_config.specs.FieldReading.{Reads, ◌>>=◌, place, number_at, judged, byte_within, u16_in_range, flag_at, protection_at, sid_at, component_at}
-use Rattle.byte_fields.proofs.FieldLaws.{IsBytes, Front, front_then, bind_ok, guard_ok, done, ok_is, word_front, word_again, long_front, long_again, byte_within_front, byte_within_again, word_within_front, word_within_again, flag_front, flag_again, protection_front, protection_again, sid_front, sid_again, component_front, component_again}
+use Rattle.mux_config.proofs.FieldLaws.{IsBytes, Front, front_then, bind_ok, guard_ok, done, ok_is, word_front, word_again, long_front, long_again, byte_within_front, byte_within_again, word_within_front, word_within_again, flag_front, flag_again, protection_front, protection_again, sid_front, sid_again, component_front, component_again}
 use Rattle.plan_code.specs.Program.{IsNewSub, IsNewPacket, IsCarrier}
 use Rattle.plan_code.specs.Spelling.{carrier_bytes}
 use Rattle.plan_code.specs.Parts.{sub_id_at, type_at, scid_at, start_at, any_u16, day_frame_at, new_sub_at, new_packet_at, wide_sub_id_at, carrier_of_kind, carrier_at}

@@ -2,10 +2,10 @@
 use Rattle.std.proofs.Common.{◌≡◌, ℕ, zero, suc, ◌-◌, ◌<◌, ◌≤◌, Bool, true, false, cond, eqb, ltb, not, List, [], ◌∷◌, ◌++◌, length, take, Result, Ok, Err, refl, subst, ◌⊎◌, inl, inr, arith}
 use Rattle.std.specs.Int.{w16, w32}
 use Rattle.std.proofs.lemmas.List.{length-take-le}
-use Rattle.byte_fields.specs.declared.record.RecordFault.TheVariants.{Short, Field as FieldOfRecord, Order}
+use Rattle.mux_config.specs.declared.record.RecordFault.TheVariants.{Short, Field as FieldOfRecord, Order}
 use Rattle.mux_config.specs.FieldReading.{Reads, place, number_at}
 use Rattle.mux_config.specs.Reading.{config_at, record_at}
-use Rattle.byte_fields.proofs.PlacedFields.{Placed, placed_byte, placed_number, placed_byte_within}
+use Rattle.mux_config.proofs.PlacedFields.{Placed, placed_byte, placed_number, placed_byte_within}
 use Rattle.mux_config.proofs.Places.{placed_members, placed_config}
 use Rattle.plan_code.specs.declared.fault.CodeFault.{CodeFault}
 use Rattle.plan_code.specs.declared.fault.CodeFault.TheVariants.{Magic, Version, Truncated, Field, Limit, Trailing, Memory}

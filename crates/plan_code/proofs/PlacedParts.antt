@@ -3,9 +3,9 @@ use Rattle.std.proofs.Common.{ℕ, zero, suc, ◌-◌, ◌<◌, ◌≤◌, List,
 use Rattle.std.specs.Prelude.{ok_or}
 use Rattle.std.specs.Int.{w16, w32}
 use Rattle.mux_config.specs.declared.edit.Edit.{Edit}
-use Rattle.byte_fields.specs.declared.record.RecordFault.TheVariants.{Field}
+use Rattle.mux_config.specs.declared.record.RecordFault.TheVariants.{Field}
 use Rattle.mux_config.specs.FieldReading.{Reads, ◌>>=◌, place, number_at}
-use Rattle.byte_fields.proofs.PlacedFields.{Placed, placed_bind, placed_byte, placed_number, placed_judged, placed_byte_within, placed_word_within, placed_flag, placed_protection, placed_sid, placed_component}
+use Rattle.mux_config.proofs.PlacedFields.{Placed, placed_bind, placed_byte, placed_number, placed_judged, placed_byte_within, placed_word_within, placed_flag, placed_protection, placed_sid, placed_component}
 use Rattle.plan_code.specs.declared.opcode.Opcode.{Opcode}
 use Rattle.plan_code.specs.Opcodes.{opcode_of}
 use Rattle.plan_code.specs.Parts.{bounds_of, swap_at, label_from, day_frame_at, new_sub_at, new_packet_at, carrier_of_kind, carrier_at, add_sub_at, drop_sub_at, move_sub_at, rate_sub_at, add_service_at, drop_service_at, add_component_at, drop_component_at, add_packet_at, drop_packet_at, wait_at, until_at, wait_contact_at, commit_in_at, commit_at_at, test_at, jump_at, set_at, loop_at, opcode_at, edit_instr, instr_of, instr_from, line_from}

@@ -3,9 +3,9 @@ use Rattle.std.proofs.Common.{◌≡◌, ◌≢◌, ℕ, zero, suc, ◌+◌, ◌
 use Rattle.std.specs.Int.{w16, w32}
 use Rattle.std.proofs.lemmas.Bool.{ne_eqb}
 use Rattle.std.proofs.lemmas.List.{length-append, take-append-drop, append-nil, length-take-le}
-use Rattle.byte_fields.specs.declared.record.RecordFault.TheVariants.{Short, Field as FieldOfRecord, Order}
+use Rattle.mux_config.specs.declared.record.RecordFault.TheVariants.{Short, Field as FieldOfRecord, Order}
 use Rattle.mux_config.specs.FieldReading.{Reads}
-use Rattle.byte_fields.proofs.SteadyFields.{Goes, place_same, goes_byte, goes_number, goes_byte_within}
+use Rattle.mux_config.proofs.SteadyFields.{Goes, place_same, goes_byte, goes_number, goes_byte_within}
 use Rattle.mux_config.proofs.Steady.{goes_config, goes_members}
 use Rattle.fib_codec.specs.Modes.{fib_count}
 use Rattle.plan_code.specs.declared.fault.CodeFault.{CodeFault}

@@ -4,9 +4,9 @@ use Rattle.std.proofs.Common.{◌≡◌, ℕ, zero, suc, ◌+◌, ◌-◌, List,
 use Rattle.std.specs.Prelude.{ok_or}
 use Rattle.std.specs.Int.{w16, w32}
 use Rattle.mux_config.specs.declared.edit.Edit.{Edit}
-use Rattle.byte_fields.specs.declared.record.RecordFault.TheVariants.{Field}
+use Rattle.mux_config.specs.declared.record.RecordFault.TheVariants.{Field}
 use Rattle.mux_config.specs.FieldReading.{Reads, ◌>>=◌}
-use Rattle.byte_fields.proofs.SteadyFields.{Goes, goes_bind, goes_fault, place_same, goes_byte, goes_number, goes_judged, goes_byte_within, goes_word_within, goes_flag, goes_protection, goes_sid, goes_component}
+use Rattle.mux_config.proofs.SteadyFields.{Goes, goes_bind, goes_fault, place_same, goes_byte, goes_number, goes_judged, goes_byte_within, goes_word_within, goes_flag, goes_protection, goes_sid, goes_component}
 use Rattle.plan_code.specs.declared.opcode.Opcode.{Opcode}
 use Rattle.plan_code.specs.Opcodes.{opcode_of}
 use Rattle.plan_code.specs.Parts.{bounds_of, swap_at, label_from, day_frame_at, new_sub_at, new_packet_at, carrier_of_kind, carrier_at, add_sub_at, drop_sub_at, move_sub_at, rate_sub_at, add_service_at, drop_service_at, add_component_at, drop_component_at, add_packet_at, drop_packet_at, wait_at, until_at, wait_contact_at, commit_in_at, commit_at_at, test_at, jump_at, set_at, loop_at, opcode_at, edit_instr, instr_of, instr_from, line_from}

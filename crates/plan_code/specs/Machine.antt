@@ -8,7 +8,7 @@ use Rattle.mux_config.specs.declared.edit.Edit.{Edit}
 use Rattle.fib_codec.specs.Modes.{count_step}
 use Rattle.fib_codec.specs.Layouts.{layout_mode}
 use Rattle.fib_codec.specs.declared.modes.Mode.{Mode}
-use Rattle.mux_entries.specs.declared.limits.TheConstants.{COUNTS}
+use Rattle.mux_types.specs.declared.limits.TheConstants.{COUNTS}
 use Rattle.plan_code.specs.declared.plan.Plan.{Plan}
 use Rattle.plan_code.specs.declared.instr.Instr.{Instr}
 use Rattle.plan_code.specs.declared.instr.Instr.TheVariants.{Wait, Until, WaitContact, CommitIn, CommitAt, Join, Settle, End, Edit as Edits, Test, Jump, Set, Loop}

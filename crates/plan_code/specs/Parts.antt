@@ -3,7 +3,7 @@
 use Rattle.std.specs.Prelude.{ℕ, zero, suc, ◌-◌, List, ok_or, Ok}
 use Rattle.std.specs.Int.{w16, w32}
 use Rattle.mux_config.specs.FieldReading.{Reads, ◌>>=◌, place, byte_at, number_at, judged, byte_within, u16_in_range, flag_at, protection_at, sid_at, component_at}
-use Rattle.byte_fields.specs.declared.record.RecordFault.TheVariants.{Field}
+use Rattle.mux_config.specs.declared.record.RecordFault.TheVariants.{Field}
 use Rattle.mux_types.specs.declared.parts.Sub.{Sub}
 use Rattle.mux_types.specs.declared.parts.Carrier.{Carrier}
 use Rattle.mux_types.specs.declared.parts.Carrier.TheVariants.{Sub as BySub, Packet as ByPacket}

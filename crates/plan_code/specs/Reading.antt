@@ -9,8 +9,8 @@ use Rattle.fib_codec.specs.declared.frame_layout.FrameLayout.TheVariants.{Whole,
 use Rattle.mux_config.specs.Configuration.{Configuration}
 use Rattle.mux_config.specs.FieldReading.{Unread, place, byte_at, number_at, byte_within}
 use Rattle.mux_config.specs.Reading.{config_at, members_at}
-use Rattle.byte_fields.specs.declared.record.RecordFault.{RecordFault}
-use Rattle.byte_fields.specs.declared.record.RecordFault.TheVariants.{Short, Field as FieldOfRecord, Order}
+use Rattle.mux_config.specs.declared.record.RecordFault.{RecordFault}
+use Rattle.mux_config.specs.declared.record.RecordFault.TheVariants.{Short, Field as FieldOfRecord, Order}
 use Rattle.plan_code.specs.declared.fault.CodeFault.{CodeFault}
 use Rattle.plan_code.specs.declared.fault.CodeFault.TheVariants.{Magic, Version, Truncated, Field, Limit, Trailing, Memory}
 use Rattle.plan_code.specs.declared.instr.Line.{Line}

@@ -13,9 +13,8 @@ use crate::limits::{MOST_CONFIGURATIONS, MOST_INSTRUCTIONS, MOST_LABELS};
 use crate::plan::Plan;
 use crate::read_label::label;
 use crate::read_line::line;
-use byte_fields::Reader;
 use fib_codec::{FrameLayout, Mode};
-use mux_config::{Config, read_config};
+use mux_config::{Config, Reader, read_config};
 use std::alloc::Global;
 
 /// The magic number: the letters DABP.

@@ -16,10 +16,11 @@ use crate::instr::{Instr, Line};
 use crate::label::{Label, Swap};
 use crate::opcode::Opcode;
 use crate::plan::Plan;
-use byte_fields::{put_component, put_protection, put_sid, put_u16, put_u32};
 use fib_codec::{FrameLayout, Mode};
 use mux_config::record_writer::put_config;
-use mux_config::{Carrier, Config, Edit, NewSub, Packet};
+use mux_config::{
+    Carrier, Config, Edit, NewSub, Packet, put_component, put_protection, put_sid, put_u16, put_u32,
+};
 use std::alloc::{AllocError, Global};
 
 /// The number of a mode, 1 to 4.

@@ -4,7 +4,7 @@ ghost use Rattle.std.specs.Prelude.{◌≡◌, ℕ, ◌+◌, ◌<◌, ◌^◌};
 ghost use Rattle.plan_code.specs.Reading.{fault_from as fault_of_part};
 ghost use Rattle.plan_code.specs.declared.fault.CodeFault.TheVariants.{Memory};
 
-use byte_fields::RecordFault;
+use mux_config::RecordFault;
 use std::alloc::{AllocError, AllocFailed};
 use thiserror::Error;
 

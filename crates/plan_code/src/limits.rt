@@ -1,6 +1,6 @@
 //! Limits of plan codes, named in code and definitions.
 
-pub use mux_entries::COUNTS;
+pub use mux_types::COUNTS;
 
 /// The maximum number of configurations in a code.
 pub const MOST_CONFIGURATIONS: u16 = 256;

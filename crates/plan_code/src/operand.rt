@@ -5,8 +5,7 @@ ghost use Rattle.mux_config.specs.FieldReading.{Takes};
 ghost use Rattle.plan_code.specs.Parts.{contact_at, counter_at, start_at, times_at, delay_at, day_frame_at, new_sub_at, new_packet_at, wide_sub_id_at, carrier_at};
 
 use crate::numbers::{ContactId, CounterId, DayFrame, Delay, Frames, Times};
-use byte_fields::{Reader, RecordFault};
-use mux_config::{Carrier, NewSub, Packet, StartAddress, SubId};
+use mux_config::{Carrier, NewSub, Packet, Reader, RecordFault, StartAddress, SubId};
 
 /// Reads the number of a contact.
 pub(crate) fn contact(reader: &mut Reader) -> Result<ContactId, RecordFault>

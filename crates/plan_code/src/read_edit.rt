@@ -5,8 +5,7 @@ ghost use Rattle.mux_config.specs.FieldReading.{Takes};
 ghost use Rattle.plan_code.specs.Parts.{add_sub_at, drop_sub_at, move_sub_at, rate_sub_at, add_service_at, drop_service_at, add_component_at, drop_component_at, add_packet_at, drop_packet_at};
 
 use crate::operand::{carrier, new_packet, new_sub, start};
-use byte_fields::{Reader, RecordFault};
-use mux_config::Edit;
+use mux_config::{Edit, Reader, RecordFault};
 
 #[tactic(auto, unfolding(crate::specs::Parts::add_sub_at))]
 pub(crate) fn add_sub(reader: &mut Reader) -> Result<Edit, RecordFault>

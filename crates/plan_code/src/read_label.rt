@@ -6,7 +6,7 @@ ghost use Rattle.plan_code.specs.Parts.{swap_at, label_from};
 
 use crate::flags::Counters;
 use crate::label::{Label, Swap};
-use byte_fields::{Reader, RecordFault};
+use mux_config::{Reader, RecordFault};
 
 /// Reads what a label declares of a swap.
 #[tactic(auto, unfolding(crate::specs::Parts::swap_at))]

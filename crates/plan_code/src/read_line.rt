@@ -11,7 +11,7 @@ use crate::read_edit::{
     add_component, add_packet, add_service, add_sub, drop_component, drop_packet, drop_service,
     drop_sub, move_sub, rate_sub,
 };
-use byte_fields::{Reader, RecordFault};
+use mux_config::{Reader, RecordFault};
 
 #[tactic(auto, unfolding(crate::specs::Parts::wait_at))]
 fn wait(reader: &mut Reader) -> Result<Instr, RecordFault>

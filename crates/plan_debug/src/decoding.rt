@@ -2,9 +2,9 @@
 
 ghost use Rattle.std.specs.Prelude.{◌≡◌, Some, None, List, ◌∷◌, false};
 ghost use Rattle.std.specs.List.{AllByRecursion};
-ghost use Rattle.mux_entries.specs.Entries.{EnsembleInformation};
-ghost use Rattle.mux_entries.specs.Facts.{marked};
-ghost use Rattle.mux_entries.specs.declared.entry.Entry.TheVariants.{Ensemble as EnsembleOf};
+ghost use Rattle.mux_types.specs.Entries.{EnsembleInformation};
+ghost use Rattle.mux_types.specs.Facts.{marked};
+ghost use Rattle.mux_types.specs.declared.entry.Entry.TheVariants.{Ensemble as EnsembleOf};
 ghost use Rattle.fib_codec.specs.Grammar.{Fig, IsFib};
 ghost use Rattle.fib_codec.specs.Heard.{IsInFig};
 ghost use Rattle.plan_code.specs.declared.plan.Plan.{Plan};

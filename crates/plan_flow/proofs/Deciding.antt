@@ -9,7 +9,7 @@ use Rattle.fib_codec.specs.Layouts.{layout_mode}
 use Rattle.plan_code.specs.declared.plan.Plan.{Plan}
 use Rattle.plan_code.specs.declared.label.Swap.{Swap}
 use Rattle.plan_code.specs.declared.label.Swap.TheVariants.{Idle, Within, Perhaps}
-use Rattle.mux_entries.specs.declared.limits.TheConstants.{COUNTS}
+use Rattle.mux_types.specs.declared.limits.TheConstants.{COUNTS}
 use Rattle.plan_code.specs.Machine.{IsSwapCount}
 use Rattle.plan_flow.specs.declared.cause.Cause.{Cause}
 use Rattle.plan_flow.specs.Rules.{Known, HasRoom, IsCertain, IsSurelyPending, HasConfigurationsOf, FitsSwap}

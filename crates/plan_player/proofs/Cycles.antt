@@ -7,7 +7,7 @@ use Rattle.std.proofs.Math.Nat.{suc-mul, mod-add-mod}
 use Rattle.fib_codec.specs.Layouts.{layout_mode, frame_fibs}
 use Rattle.mux_config.specs.declared.flags.Change.{Change}
 use Rattle.mux_config.specs.Change.{change_of, bits_of}
-use Rattle.mux_entries.specs.declared.limits.TheConstants.{COUNTS}
+use Rattle.mux_types.specs.declared.limits.TheConstants.{COUNTS}
 use Rattle.fib_codec.specs.Modes.{fib_count, count_step}
 use Rattle.fib_codec.specs.declared.modes.Mode.{Mode}
 use Rattle.fib_codec.specs.declared.modes.Mode.TheVariants.{I, II, III, IV}

@@ -1,7 +1,7 @@
 //! Making one frame, from its swap to its counts.
 
 ghost use Rattle.std.specs.Prelude.{◌≡◌, ℕ, ◌<◌, ◌≤◌, List, Some, true, false};
-ghost use Rattle.mux_entries.specs.Facts.{Marked};
+ghost use Rattle.mux_types.specs.Facts.{Marked};
 ghost use Rattle.fib_codec.specs.declared.frame_layout.FrameLayout.{FrameLayout};
 ghost use Rattle.fib_carousel.specs.Pages.{page_after};
 ghost use Rattle.fib_carousel.specs.Bytes.{page_bytes};

@@ -2,7 +2,7 @@
 
 ghost use Rattle.std.specs.Prelude.{◌≡◌, ℕ, ◌+◌, ◌<◌, ◌≤◌, List, slice_get, Some, true, false};
 ghost use Rattle.std.specs.Option.{option_copied};
-ghost use Rattle.mux_entries.specs.Facts.{Marked};
+ghost use Rattle.mux_types.specs.Facts.{Marked};
 ghost use Rattle.fib_codec.specs.declared.frame_layout.FrameLayout.{FrameLayout};
 ghost use Rattle.fib_carousel.specs.Pages.{page_set_of, rounds};
 ghost use Rattle.fib_carousel.specs.declared.kept_page.KeptPage.{KeptPage};

@@ -4,7 +4,7 @@ use Rattle.std.proofs.Common.{◌≡◌, ◌≢◌, ℕ, ◌+◌, ◌%◌, ◌<�
 use Rattle.std.proofs.lemmas.Bool.{eq-eqb, ne_eqb}
 use Rattle.fib_codec.specs.Layouts.{layout_mode}
 use Rattle.mux_config.specs.Configuration.{Configuration}
-use Rattle.mux_entries.specs.Entries.{EnsembleInformation}
+use Rattle.mux_types.specs.Entries.{EnsembleInformation}
 use Rattle.fib_codec.specs.declared.modes.Mode.{Mode}
 use Rattle.fib_codec.specs.declared.modes.Mode.TheVariants.{I, II, III, IV}
 use Rattle.fib_codec.specs.Modes.{count_step}

@@ -3,7 +3,7 @@ use Rattle.std.specs.Prelude.{Contains}
 use Rattle.std.proofs.Common.{◌≡◌, ℕ, zero, suc, ◌<◌, ◌≤◌, true, false, List, [], ◌∷◌, Some, None, replicate, refl, sym, ap, subst, arith, inl, inr}
 use Rattle.fib_codec.specs.declared.frame_layout.FrameLayout.TheVariants.{Whole}
 use Rattle.mux_config.specs.Configuration.{Configuration, nothing}
-use Rattle.mux_entries.specs.Facts.{Marked, facts_of}
+use Rattle.mux_types.specs.Facts.{Marked, facts_of}
 use Rattle.fib_codec.specs.declared.modes.Mode.TheVariants.{I}
 use Rattle.plan_code.specs.declared.plan.Plan.{Plan}
 use Rattle.plan_code.specs.declared.hold.Hold.TheVariants.{Waits, Ended}

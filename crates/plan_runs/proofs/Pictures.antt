@@ -4,8 +4,8 @@ use Rattle.std.proofs.Common.{◌≡◌, ℕ, zero, suc, ◌<◌, ◌≤◌, ◌
 use Rattle.std.proofs.lemmas.List.{length-map}
 use Rattle.mux_config.specs.Configuration.{Configuration, IsConfiguration, IsPlaced, IsService, IsAddressed, IsAscending, sub_key, service_key, packet_key}
 use Rattle.std.specs.List.{AllByRecursion}
-use Rattle.mux_entries.specs.Facts.{Marked, marked, sub_entry, service_entry, packet_entry, sub_entries, service_entries}
-use Rattle.mux_entries.specs.declared.entry.Entry.{Entry}
+use Rattle.mux_types.specs.Facts.{Marked, marked, sub_entry, service_entry, packet_entry, sub_entries, service_entries}
+use Rattle.mux_types.specs.declared.entry.Entry.{Entry}
 use Rattle.fib_codec.specs.Spelling.{ext_of}
 use Rattle.fib_reader.specs.Raw.{Raw, raw_entry}
 use Rattle.fib_reader.specs.Listening.{Pictured, blank, identifier_of, kept, has_room, pictured}

@@ -2,8 +2,8 @@
 use Rattle.std.proofs.Common.{◌≡◌, ℕ, ◌==◌, Bool, true, false, cond, List, [], ◌∷◌, take, zero, suc, Option, Some, None, inl, inr, ◌⊎◌, refl, ap, sym, ◌∙◌, subst}
 use Rattle.mux_config.specs.Configuration.{Configuration}
 use Rattle.std.specs.List.{AllByRecursion}
-use Rattle.mux_entries.specs.Entries.{EnsembleInformation}
-use Rattle.mux_entries.specs.Facts.{Marked}
+use Rattle.mux_types.specs.Entries.{EnsembleInformation}
+use Rattle.mux_types.specs.Facts.{Marked}
 use Rattle.fib_codec.specs.Grammar.{Fig, IsFib, OneList}
 use Rattle.fib_reader.specs.Raw.{Raw, raw_entry, ensemble_in}
 use Rattle.fib_reader.specs.Listening.{Pictured, blank, pictured, Listening, untuned, picture_of, into, where_heard, hear_entry, hear_figs, at_ensemble}

@@ -5,8 +5,8 @@ use Rattle.fib_codec.specs.declared.frame_layout.FrameLayout.TheVariants.{Whole}
 use Rattle.mux_eep.specs.declared.sizes.EepSet.TheVariants.{A}
 use Rattle.mux_types.specs.declared.parts.Sub.{Sub}
 use Rattle.mux_config.specs.Configuration.{Configuration}
-use Rattle.mux_entries.specs.Entries.{EnsembleInformation}
-use Rattle.mux_entries.specs.Facts.{facts_of}
+use Rattle.mux_types.specs.Entries.{EnsembleInformation}
+use Rattle.mux_types.specs.Facts.{facts_of}
 use Rattle.fib_codec.specs.declared.modes.Mode.TheVariants.{II}
 use Rattle.fib_codec.specs.Grammar.{OneList, fig_of}
 use Rattle.fib_carousel.specs.Bytes.{page_bytes, ensemble_figs, figs_of}

@@ -1,9 +1,9 @@
 -- The guarantees of typed codes: for a small code they hold; for an untyped code, or a state that no run reaches, they
 -- fail.
 use Rattle.std.proofs.Common.{◌≡◌, ◌<◌, true, false, List, [], ◌∷◌, refl, arith}
-use Rattle.mux_entries.specs.Facts.{marked, sub_entry}
-use Rattle.mux_entries.specs.Entries.{EnsembleInformation}
-use Rattle.mux_entries.specs.declared.entry.Entry.TheVariants.{Ensemble as EnsembleOf}
+use Rattle.mux_types.specs.Facts.{marked, sub_entry}
+use Rattle.mux_types.specs.Entries.{EnsembleInformation}
+use Rattle.mux_types.specs.declared.entry.Entry.TheVariants.{Ensemble as EnsembleOf}
 use Rattle.fib_codec.specs.Grammar.{Fig, Open, Other}
 use Rattle.fib_codec.specs.Heard.{IsInFig}
 use Rattle.plan_code.specs.Machine.{State}

@@ -5,7 +5,7 @@ use Rattle.fib_codec.specs.declared.frame_layout.FrameLayout.TheVariants.{Whole}
 use Rattle.mux_eep.specs.declared.sizes.EepSet.TheVariants.{A}
 use Rattle.mux_types.specs.declared.parts.Sub.{Sub}
 use Rattle.mux_config.specs.Configuration.{Configuration, IsPlaced, IsConfiguration}
-use Rattle.mux_entries.specs.Facts.{Marked}
+use Rattle.mux_types.specs.Facts.{Marked}
 use Rattle.fib_codec.specs.declared.modes.Mode.TheVariants.{I}
 use Rattle.fib_carousel.specs.Pages.{page_set}
 use Rattle.plan_code.specs.declared.plan.Plan.{Plan}

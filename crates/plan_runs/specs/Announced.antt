@@ -1,11 +1,11 @@
 -- What was heard of a notice, and when that announces the swap.
 use Rattle.std.specs.Prelude.{◌≡◌, ◌↔◌, ℕ, zero, suc, ◌+◌, ◌-◌, ◌%◌, ◌<◌, Bool, true, if◌then◌else◌, List, [], ◌∷◌, ◌++◌, Contains, slice_get, Option, Some, None}
 use Rattle.mux_config.specs.Configuration.{Configuration}
-use Rattle.mux_entries.specs.Entries.{EnsembleInformation}
-use Rattle.mux_entries.specs.Facts.{Marked, facts_of}
+use Rattle.mux_types.specs.Entries.{EnsembleInformation}
+use Rattle.mux_types.specs.Facts.{Marked, facts_of}
 use Rattle.mux_config.specs.Change.{change_of, bits_of}
 use Rattle.fib_codec.specs.Heard.{IsHeardInRow, IsEnsembleHeardInRow}
-use Rattle.mux_entries.specs.declared.limits.TheConstants.{COUNTS}
+use Rattle.mux_types.specs.declared.limits.TheConstants.{COUNTS}
 use Rattle.plan_code.specs.declared.plan.Plan.{Plan}
 use Rattle.plan_code.specs.Program.{Program}
 use Rattle.plan_code.specs.Machine.{State}

@@ -1,7 +1,7 @@
 -- What the frames of a phase send, given the state between two frames.
 use Rattle.std.specs.Prelude.{◌≡◌, ℕ, ◌<◌, ◌≤◌, List, Option, Some, None}
 use Rattle.mux_config.specs.Configuration.{Configuration}
-use Rattle.mux_entries.specs.Facts.{Marked}
+use Rattle.mux_types.specs.Facts.{Marked}
 use Rattle.fib_carousel.specs.Pages.{page_set}
 use Rattle.plan_code.specs.declared.plan.Plan.{Plan}
 

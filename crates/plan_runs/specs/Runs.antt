@@ -1,7 +1,7 @@
 -- Runs: the states and the bytes over a list of events, and that there is no trap.
 use Rattle.std.specs.Prelude.{◌≡◌, ℕ, ◌<◌, List, [], ◌∷◌, Some, None, slice_get, replicate}
 use Rattle.std.specs.List.{AllByRecursion}
-use Rattle.mux_entries.specs.declared.limits.TheConstants.{COUNTS}
+use Rattle.mux_types.specs.declared.limits.TheConstants.{COUNTS}
 use Rattle.plan_code.specs.declared.limits.TheConstants.{FRAMES_A_DAY}
 use Rattle.plan_code.specs.declared.hold.Hold.TheVariants.{Waits}
 use Rattle.plan_code.specs.declared.label.Label.{Label}

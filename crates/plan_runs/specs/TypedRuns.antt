@@ -4,7 +4,7 @@ use Rattle.mux_config.specs.Configuration.{IsConfiguration}
 use Rattle.std.specs.List.{AllByRecursion}
 use Rattle.mux_config.specs.Sound.{IsSound}
 use Rattle.fib_codec.specs.Ranges.{IsEnsembleInformation}
-use Rattle.mux_entries.specs.declared.limits.TheConstants.{COUNTS}
+use Rattle.mux_types.specs.declared.limits.TheConstants.{COUNTS}
 use Rattle.plan_code.specs.declared.plan.Plan.{Plan}
 use Rattle.plan_code.specs.Program.{Program, IsProgram}
 use Rattle.plan_code.specs.Machine.{State}

@@ -18,7 +18,7 @@ use Rattle.plan_runs.specs.Runs.{StartIsInRange, happens, run, run_frames}
 use Rattle.plan_runs.specs.RightBytes.{FrameIsRight, FramesAreRight}
 use Rattle.plan_runs.specs.Headline.{HeadlineHolds}
 use Rattle.plan_runs.specs.TypedRuns.{StartsAreReached}
-use Rattle.mux_entries.specs.declared.limits.TheConstants.{COUNTS}
+use Rattle.mux_types.specs.declared.limits.TheConstants.{COUNTS}
 use Rattle.plan_code.specs.declared.limits.TheConstants.{FRAMES_A_DAY}
 use Rattle.plan_player.specs.Playing.{Playing, played, start_fault}
 use Rattle.plan_player.specs.Delivery.{frames_of, played_bytes, next_frame, Stopped}

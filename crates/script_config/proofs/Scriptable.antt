@@ -7,15 +7,15 @@ use Rattle.std.proofs.lemmas.List.Elements.{Contains-append_cases}
 use Rattle.mux_types.specs.declared.parts.Sub.{Sub}
 use Rattle.mux_types.specs.declared.parts.Service.{Service}
 use Rattle.mux_types.specs.declared.parts.Packet.{Packet}
-use Rattle.mux_entries.specs.declared.entry.Entry.{Entry}
-use Rattle.mux_entries.specs.declared.entry.Entry.TheVariants.{Ensemble as EnsembleOf, Sub as SubOf, Short as ShortOf, Service as ServiceOf, Packet as PacketOf}
-use Rattle.mux_entries.specs.declared.entry.SubEntry.{SubEntry}
-use Rattle.mux_entries.specs.declared.entry.ShortEntry.{ShortEntry}
-use Rattle.mux_entries.specs.declared.entry.ServiceEntry.{ServiceEntry}
-use Rattle.mux_entries.specs.declared.entry.PacketEntry.{PacketEntry}
-use Rattle.mux_entries.specs.Entries.{EnsembleInformation}
+use Rattle.mux_types.specs.declared.entry.Entry.{Entry}
+use Rattle.mux_types.specs.declared.entry.Entry.TheVariants.{Ensemble as EnsembleOf, Sub as SubOf, Short as ShortOf, Service as ServiceOf, Packet as PacketOf}
+use Rattle.mux_types.specs.declared.entry.SubEntry.{SubEntry}
+use Rattle.mux_types.specs.declared.entry.ShortEntry.{ShortEntry}
+use Rattle.mux_types.specs.declared.entry.ServiceEntry.{ServiceEntry}
+use Rattle.mux_types.specs.declared.entry.PacketEntry.{PacketEntry}
+use Rattle.mux_types.specs.Entries.{EnsembleInformation}
 use Rattle.mux_config.specs.Configuration.{Configuration, IsConfiguration, IsPlaced, IsService, IsAddressed}
-use Rattle.mux_entries.specs.Facts.{sub_entry, service_entry, packet_entry}
+use Rattle.mux_types.specs.Facts.{sub_entry, service_entry, packet_entry}
 use Rattle.fib_codec.specs.Ranges.{IsWithin}
 use Rattle.fib_codec.specs.Spelling.{SpellingIdentifies}
 use Rattle.fib_reader.specs.Raw.{Raw, raw_entry}

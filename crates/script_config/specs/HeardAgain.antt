@@ -2,7 +2,7 @@
 use Rattle.std.specs.Prelude.{◌≡◌, ℕ, zero, suc, ◌%◌, ◌==◌, ◌<◌, false, if◌then◌else◌, List, [], ◌∷◌, Option, Some, None}
 use Rattle.mux_config.specs.Configuration.{Configuration, IsConfiguration}
 use Rattle.mux_config.specs.Sound.{IsSound}
-use Rattle.mux_entries.specs.Entries.{EnsembleInformation}
+use Rattle.mux_types.specs.Entries.{EnsembleInformation}
 use Rattle.fib_codec.specs.Layouts.{layout_mode}
 use Rattle.fib_codec.specs.Modes.{count_step}
 use Rattle.fib_codec.specs.declared.frame_layout.FrameLayout.{FrameLayout}

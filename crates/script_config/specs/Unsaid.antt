@@ -1,7 +1,7 @@
 -- Entries that no configuration has.
 use Rattle.std.specs.Prelude.{◌≡◌, ◌++◌, ◌⊎◌, List, [], ◌∷◌, map, Contains}
 use Rattle.mux_config.specs.Configuration.{Configuration, IsConfiguration}
-use Rattle.mux_entries.specs.Facts.{sub_entries, service_entries}
+use Rattle.mux_types.specs.Facts.{sub_entries, service_entries}
 use Rattle.fib_reader.specs.Raw.{Raw, raw_entry}
 
 -- some configuration of this profile has the entry

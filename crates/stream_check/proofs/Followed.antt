@@ -13,7 +13,7 @@ use Rattle.stream_check.specs.History.{Item, Moment, Said, said, frame_items, fr
 use Rattle.stream_check.specs.Stream.{findings_in, after_frame, findings_of, after_frames}
 use Rattle.stream_check.specs.Memory.{Knows}
 use Rattle.stream_check.specs.Hearing.{IsFrameHeard, HearsFrame}
-use Rattle.mux_entries.specs.Entries.{EnsembleInformation}
+use Rattle.mux_types.specs.Entries.{EnsembleInformation}
 use Rattle.stream_check.specs.declared.checker.Summary.{Summary}
 use Rattle.stream_check.specs.Following.{Checking, Follows, EndsFull, Adds, FollowsFib, IsSummary, is_begun, is_empty}
 use Rattle.stream_check.proofs.Chain.{more_twice, more_none}

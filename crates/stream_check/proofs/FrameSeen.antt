@@ -1,7 +1,7 @@
 -- What is known of the FIBs of a frame with one more FIB.
 use Rattle.std.proofs.Common.{◌≡◌, ℕ, ◌+◌, ◌≤◌, ◌&&◌, Bool, true, false, cond, not, List, [], ◌∷◌, ◌++◌, map, Option, None, refl, sym, ap, ◌∙◌, arith}
 use Rattle.std.proofs.lemmas.List.{map-append}
-use Rattle.mux_entries.specs.Entries.{EnsembleInformation}
+use Rattle.mux_types.specs.Entries.{EnsembleInformation}
 use Rattle.stream_check.specs.declared.frame.Sight.{Sight}
 use Rattle.stream_check.specs.Following.{is_empty}
 use Rattle.stream_check.specs.Frames.{Fib, Reading, AreSeen, IsSeen, is_damaged, is_there, damaged_in, first_opening, lacks_opening}

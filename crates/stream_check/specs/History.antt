@@ -1,6 +1,6 @@
 -- The past of a stream: the entries of each frame, and what follows from all entries so far.
 use Rattle.std.specs.Prelude.{ℕ, ◌+◌, ◌%◌, ◌==◌, ◌&&◌, ◌||◌, Bool, true, false, not, if◌then◌else◌, List, [], ◌∷◌, ◌++◌, map, Option, Some, None}
-use Rattle.mux_entries.specs.Entries.{EnsembleInformation}
+use Rattle.mux_types.specs.Entries.{EnsembleInformation}
 use Rattle.fib_codec.specs.Grammar.{Fig, Open, Other, is_next}
 use Rattle.stream_check.specs.Frames.{Fib}
 use Rattle.stream_check.specs.Pictures.{key_of}

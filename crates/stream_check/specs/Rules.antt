@@ -1,7 +1,7 @@
 -- The findings at an entry, given what was known before it.
 use Rattle.std.specs.Prelude.{ℕ, ◌+◌, ◌/◌, ◌%◌, ◌-◌, ◌==◌, ◌&&◌, ◌||◌, Bool, true, false, not, if◌then◌else◌, nat_lt, nat_le, List, [], ◌∷◌, ◌++◌, map, get_or, Option, Some, None, unwrap_or}
 use Rattle.std.specs.List.{filter}
-use Rattle.mux_entries.specs.Entries.{EnsembleInformation}
+use Rattle.mux_types.specs.Entries.{EnsembleInformation}
 use Rattle.fib_reader.specs.Raw.{Raw, u16_at_offset}
 use Rattle.fib_reader.specs.Listening.{Pictured, Listening, identifier_of, is_made, all_entries}
 use Rattle.stream_check.specs.declared.finding.EntryName.{EntryName}

@@ -5,8 +5,8 @@ use Rattle.std.proofs.lemmas.List.Elements.{Contains-append_left}
 use Rattle.fib_codec.specs.Layouts.{layout_mode}
 use Rattle.mux_types.proofs.Elements.{contains_cases}
 use Rattle.mux_config.specs.Configuration.{Configuration}
-use Rattle.mux_entries.specs.Entries.{EnsembleInformation}
-use Rattle.mux_entries.specs.Facts.{Marked, facts_of}
+use Rattle.mux_types.specs.Entries.{EnsembleInformation}
+use Rattle.mux_types.specs.Facts.{Marked, facts_of}
 use Rattle.fib_codec.specs.Grammar.{OneList}
 use Rattle.fib_codec.specs.Heard.{IsHeardInRow}
 use Rattle.fib_codec.specs.Laws.{FibHas32Bytes}

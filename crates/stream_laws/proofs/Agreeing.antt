@@ -4,7 +4,7 @@ use Rattle.std.specs.List.{AllByRecursion}
 use Rattle.std.proofs.lemmas.Bool.{false≢true}
 use Rattle.mux_config.specs.Configuration.{Configuration, IsConfiguration}
 use Rattle.mux_config.specs.Change.{change_of, bits_of}
-use Rattle.mux_entries.specs.Facts.{Marked}
+use Rattle.mux_types.specs.Facts.{Marked}
 use Rattle.fib_reader.specs.Raw.{Raw, raw_entry}
 use Rattle.fib_reader.specs.Listening.{Pictured, Listening, hear_entry, where_heard}
 use Rattle.stream_check.specs.Lookup.{lookup_in}

@@ -4,7 +4,7 @@ use Rattle.std.specs.Prelude.{unwrap_or}
 use Rattle.std.proofs.lemmas.Bool.{false≢true, eq-eqb, ne_eqb}
 use Rattle.fib_codec.specs.Layouts.{layout_mode}
 use Rattle.mux_config.specs.Change.{change_of, bits_of}
-use Rattle.mux_entries.specs.Entries.{EnsembleInformation}
+use Rattle.mux_types.specs.Entries.{EnsembleInformation}
 use Rattle.fib_codec.specs.Grammar.{OneList}
 use Rattle.fib_codec.specs.Modes.{count_step}
 use Rattle.fib_reader.specs.Listening.{Listening, untuned, is_made, at_ensemble}

@@ -9,9 +9,9 @@ use Rattle.mux_types.proofs.Elements.{contains_first, contains_later, each_conta
 use Rattle.mux_config.specs.Configuration.{Configuration, IsConfiguration}
 use Rattle.mux_config.specs.Change.{ChangeIsUnique, change_of, bits_of}
 use Rattle.mux_config.specs.Tables.{entry_at}
-use Rattle.mux_entries.specs.Entries.{EnsembleInformation}
-use Rattle.mux_entries.specs.declared.entry.Entry.{Entry}
-use Rattle.mux_entries.specs.Facts.{marked, sub_entries, service_entries}
+use Rattle.mux_types.specs.Entries.{EnsembleInformation}
+use Rattle.mux_types.specs.declared.entry.Entry.{Entry}
+use Rattle.mux_types.specs.Facts.{marked, sub_entries, service_entries}
 use Rattle.fib_codec.specs.Heard.{IsHeardInRow, IsEnsembleHeardInRow}
 use Rattle.fib_codec.specs.Spelling.{SpellingIdentifies}
 use Rattle.fib_reader.specs.Raw.{Raw, raw_entry}

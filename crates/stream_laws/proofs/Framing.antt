@@ -9,9 +9,9 @@ use Rattle.fib_codec.specs.Layouts.{layout_mode, frame_fibs}
 use Rattle.fib_codec.specs.declared.frame_layout.FrameLayout.{FrameLayout}
 use Rattle.fib_codec.specs.declared.frame_layout.FrameLayout.TheVariants.{Whole, ReserveOne, ReserveTwo}
 use Rattle.mux_types.proofs.Elements.{contains_cases, contains_none}
-use Rattle.mux_entries.specs.Entries.{EnsembleInformation}
-use Rattle.mux_entries.specs.Facts.{marked}
-use Rattle.mux_entries.specs.declared.entry.Entry.TheVariants.{Ensemble as EnsembleOf}
+use Rattle.mux_types.specs.Entries.{EnsembleInformation}
+use Rattle.mux_types.specs.Facts.{marked}
+use Rattle.mux_types.specs.declared.entry.Entry.TheVariants.{Ensemble as EnsembleOf}
 use Rattle.fib_codec.specs.Grammar.{Fig, Open, Other, IsFib, IsFig, OneList, is_next, is_long}
 use Rattle.fib_codec.specs.Heard.{IsInFig, fib_at}
 use Rattle.fib_codec.specs.declared.modes.Mode.{Mode}

@@ -5,7 +5,7 @@ use Rattle.std.specs.Prelude.{map}
 use Rattle.std.specs.List.{AllByRecursion}
 use Rattle.std.proofs.lemmas.Bool.{false≢true, eqb-true, eq-eqb}
 use Rattle.mux_types.proofs.Elements.{each_contains}
-use Rattle.mux_entries.specs.Entries.{EnsembleInformation}
+use Rattle.mux_types.specs.Entries.{EnsembleInformation}
 use Rattle.fib_codec.specs.Grammar.{Fig, Open, Other, is_next}
 use Rattle.fib_codec.specs.Heard.{IsEnsembleHeardInRow}
 use Rattle.fib_reader.specs.Raw.{Raw, entries_in, ensemble_in}

@@ -5,7 +5,7 @@ use Rattle.std.specs.List.{AllByRecursion}
 use Rattle.std.proofs.lemmas.Bool.{false≢true, eq-eqb, ne_eqb, le-ltb}
 use Rattle.std.proofs.lemmas.Bool.Decides.{eqb_tells}
 use Rattle.fib_codec.specs.Layouts.{layout_mode, frame_fibs}
-use Rattle.mux_entries.specs.Entries.{EnsembleInformation}
+use Rattle.mux_types.specs.Entries.{EnsembleInformation}
 use Rattle.fib_codec.specs.Grammar.{Open, OneList, is_next, is_long}
 use Rattle.fib_codec.specs.Heard.{fib_at}
 use Rattle.fib_codec.specs.Modes.{count_step}

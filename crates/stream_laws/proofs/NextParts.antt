@@ -6,7 +6,7 @@ use Rattle.std.proofs.lemmas.List.{append_assoc, length-append}
 use Rattle.std.proofs.lemmas.List.Elements.{Contains-append_left, Contains-append_right, Contains-append_cases}
 use Rattle.mux_types.proofs.Elements.{contains_cases, contains_none, each_contains}
 use Rattle.mux_config.specs.Configuration.{Configuration}
-use Rattle.mux_entries.specs.Facts.{Marked, facts_of}
+use Rattle.mux_types.specs.Facts.{Marked, facts_of}
 use Rattle.fib_codec.specs.Heard.{IsHeardInRow}
 use Rattle.fib_reader.specs.Raw.{raw_entry}
 use Rattle.stream_check.specs.Pictures.{key_of}

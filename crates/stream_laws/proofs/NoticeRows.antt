@@ -1,7 +1,7 @@
 -- The rows of a notice and its frames.
 use Rattle.std.proofs.Common.{◌≡◌, ℕ, true, false, List, [], ◌∷◌, ◌++◌, Contains}
 use Rattle.std.specs.List.{AllByRecursion}
-use Rattle.mux_entries.specs.Facts.{Marked}
+use Rattle.mux_types.specs.Facts.{Marked}
 use Rattle.fib_codec.specs.Heard.{IsHeardInRow}
 use Rattle.fib_reader.specs.Raw.{raw_entry}
 use Rattle.stream_check.specs.Pictures.{key_of}

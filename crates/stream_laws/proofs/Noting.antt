@@ -4,7 +4,7 @@ use Rattle.std.specs.Prelude.{unwrap_or, get_or}
 use Rattle.std.specs.List.{AllByRecursion}
 use Rattle.std.proofs.lemmas.Bool.{false≢true, eqb-true}
 use Rattle.std.proofs.lemmas.List.{append-nil}
-use Rattle.mux_entries.specs.Entries.{EnsembleInformation}
+use Rattle.mux_types.specs.Entries.{EnsembleInformation}
 use Rattle.fib_reader.specs.Raw.{Raw}
 use Rattle.fib_reader.specs.Listening.{Listening, untuned, is_made, swapped, awaiting, at_ensemble, into, pictured, picture_of}
 use Rattle.stream_check.specs.declared.finding.Fault.TheVariants as faults

@@ -15,8 +15,8 @@ use Rattle.mux_config.specs.Configuration.{Configuration, IsConfiguration, IsAsc
 use Rattle.mux_config.specs.Change.{ChangeIsUnique, IsChange, change_of, bits_of, has_same_subs, has_same_services}
 use Rattle.mux_config.proofs.Same.{list_same, sub_same, service_same, packet_same}
 use Rattle.mux_config.proofs.FactSets.{same_members}
-use Rattle.mux_entries.specs.declared.entry.Entry.{Entry}
-use Rattle.mux_entries.specs.Facts.{sub_entry, service_entry, packet_entry, sub_entries, service_entries, HaveSameMembers}
+use Rattle.mux_types.specs.declared.entry.Entry.{Entry}
+use Rattle.mux_types.specs.Facts.{sub_entry, service_entry, packet_entry, sub_entries, service_entries, HaveSameMembers}
 use Rattle.fib_codec.specs.Ranges.{IsWithin}
 use Rattle.fib_codec.specs.Spelling.{SpellingIdentifies, ext_of}
 use Rattle.fib_reader.specs.Raw.{Raw, raw_entry}

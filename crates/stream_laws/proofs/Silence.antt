@@ -3,8 +3,8 @@ use Rattle.std.proofs.Common.{◌≡◌, ℕ, ◌+◌, ◌≤◌, Bool, true, fa
 use Rattle.std.specs.Prelude.{map}
 use Rattle.std.proofs.lemmas.Bool.{ne_eqb}
 use Rattle.mux_config.specs.Configuration.{Configuration}
-use Rattle.mux_entries.specs.declared.entry.Entry.{Entry}
-use Rattle.mux_entries.specs.Facts.{Marked, marked, facts_of, sub_entry, sub_entries, service_entry, service_entries, packet_entry}
+use Rattle.mux_types.specs.declared.entry.Entry.{Entry}
+use Rattle.mux_types.specs.Facts.{Marked, marked, facts_of, sub_entry, sub_entries, service_entry, service_entries, packet_entry}
 use Rattle.fib_carousel.specs.Pages.{rounds}
 use Rattle.fib_reader.specs.Raw.{Raw, raw_entry}
 use Rattle.fib_reader.specs.Listening.{Pictured, Listening, identifier_of, all_entries}

@@ -5,7 +5,7 @@ use Rattle.std.specs.List.{AllByRecursion, list_any, concat}
 use Rattle.std.proofs.lemmas.Bool.{false≢true, cases_lt, eqb-true, lt-ltb}
 use Rattle.std.proofs.lemmas.List.Elements.{Contains-append_cases}
 use Rattle.mux_types.proofs.Elements.{contains_first, contains_later, contains_none}
-use Rattle.mux_entries.specs.Entries.{EnsembleInformation}
+use Rattle.mux_types.specs.Entries.{EnsembleInformation}
 use Rattle.fib_reader.specs.Listening.{Pictured, is_made}
 use Rattle.stream_check.specs.declared.finding.Fault.TheVariants as faults
 use Rattle.stream_check.specs.Reporting.{when}

@@ -8,7 +8,7 @@ use Rattle.mux_eep.specs.declared.sizes.EepSet.TheVariants.{A, B}
 use Rattle.mux_types.specs.declared.parts.Sub.{Sub}
 use Rattle.mux_config.specs.Configuration.{Configuration, IsConfiguration, IsAscending, IsPlaced, size_of_sub}
 use Rattle.mux_config.specs.Sound.{IsSound}
-use Rattle.mux_entries.specs.Facts.{sub_entry, option_of}
+use Rattle.mux_types.specs.Facts.{sub_entry, option_of}
 use Rattle.mux_types.proofs.Elements.{contains_first, contains_later, each_contains}
 use Rattle.fib_reader.specs.Raw.{Raw, raw_entry}
 use Rattle.fib_reader.specs.Listening.{identifier_of}

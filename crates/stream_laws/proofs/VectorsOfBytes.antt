@@ -7,7 +7,7 @@ use Rattle.fib_codec.specs.Heard.{fib_at, IsEnsembleHeardInRow}
 use Rattle.fib_codec.specs.Laws.{FibHas32Bytes}
 use Rattle.fib_codec.specs.Modes.{fib_count, count_step}
 use Rattle.fib_codec.specs.declared.modes.Mode.{Mode}
-use Rattle.mux_entries.specs.Entries.{EnsembleInformation}
+use Rattle.mux_types.specs.Entries.{EnsembleInformation}
 use Rattle.stream_check.specs.declared.finding.Fault.{Fault}
 use Rattle.stream_check.specs.declared.finding.Finding.{Finding}
 use Rattle.stream_check.specs.declared.finding.What.TheVariants as whats

@@ -1,7 +1,7 @@
 -- The current configuration of small streams, computed by the checker from the definitions: for each term, examples that
 -- hold and examples that fail.
 use Rattle.std.proofs.Common.{◌≡◌, ℕ, false, List, [], ◌∷◌, get_or, Some, None, refl, sym, ap, arith}
-use Rattle.mux_entries.specs.Entries.{EnsembleInformation}
+use Rattle.mux_types.specs.Entries.{EnsembleInformation}
 use Rattle.fib_reader.specs.Raw.{Raw}
 use Rattle.stream_check.specs.Rules.{first_unit, end_unit}
 use Rattle.stream_check.specs.Stream.{after_frames}

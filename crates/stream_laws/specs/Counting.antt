@@ -1,7 +1,7 @@
 -- The counts of a run, as they are heard in the bytes of its frames (EN 300 401 clause 6.4).
 use Rattle.std.specs.Prelude.{◌≡◌, ℕ, ◌+◌, ◌%◌, Bool, false, List, [], ◌∷◌}
-use Rattle.mux_entries.specs.Entries.{EnsembleInformation}
-use Rattle.mux_entries.specs.declared.limits.TheConstants.{COUNTS}
+use Rattle.mux_types.specs.Entries.{EnsembleInformation}
+use Rattle.mux_types.specs.declared.limits.TheConstants.{COUNTS}
 use Rattle.fib_codec.specs.Heard.{IsEnsembleHeardInRow}
 use Rattle.fib_codec.specs.Layouts.{layout_mode}
 use Rattle.fib_codec.specs.Modes.{count_step}

@@ -2,7 +2,7 @@
 -- (EN 300 401 clauses 5.2.2.1, 6.4 and 6.5).
 use Rattle.std.specs.Prelude.{◌≡◌, ℕ, ◌%◌, Bool, true, false, List, ◌++◌, Contains, Some}
 use Rattle.std.specs.List.{AllByRecursion}
-use Rattle.mux_entries.specs.Entries.{EnsembleInformation}
+use Rattle.mux_types.specs.Entries.{EnsembleInformation}
 use Rattle.fib_codec.specs.Grammar.{Fig, Open, IsFib, is_next}
 use Rattle.fib_codec.specs.Heard.{fib_at, IsEnsembleHeardInRow}
 use Rattle.fib_reader.specs.Raw.{Raw, entries_in}

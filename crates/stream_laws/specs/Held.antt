@@ -1,7 +1,7 @@
 -- Which swaps are announced in a stream without a fault, and what holds of the others (EN 300 401 clause 6.5).
 use Rattle.std.specs.Prelude.{◌≡◌, ◌⊎◌, ℕ, ◌<◌, ◌%◌, Bool, true, List, flat_map, Contains, Some}
 use Rattle.std.specs.List.{AllByRecursion}
-use Rattle.mux_entries.specs.Entries.{EnsembleInformation}
+use Rattle.mux_types.specs.Entries.{EnsembleInformation}
 use Rattle.fib_codec.specs.Heard.{IsEnsembleHeardInRow}
 use Rattle.stream_check.specs.Frames.{Fib, Reading, first_of_frame}
 use Rattle.stream_check.specs.History.{Item, Moment, ensemble_of, listener_after, is_swap, last_flags}

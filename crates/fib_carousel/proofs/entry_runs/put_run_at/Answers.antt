@@ -1,6 +1,6 @@
 use Rattle.std.proofs.Common.{◌-◌, ◌<◌, arith, sym, subst, length}
 use Rattle.std.proofs.lemmas.List.{length-map}
-use Rattle.mux_entries.specs.Facts.{facts_of, marked}
+use Rattle.mux_types.specs.Facts.{facts_of, marked}
 use Rattle.fib_carousel.specs.declared.pack_state.EntryShape.{EntryShape}
 use Rattle.fib_carousel.specs.Items.{config_entries}
 use Rattle.fib_carousel.specs.Walk.{IsShapeAt}

@@ -1,5 +1,5 @@
 use Rattle.std.proofs.Common.{◌≡◌, ◌-◌, ◌*◌, ◌++◌, take, drop, map, arith, ap, sym, ◌∙◌, append-nil}
-use Rattle.mux_entries.specs.Facts.{marked, service_entry}
+use Rattle.mux_types.specs.Facts.{marked, service_entry}
 use Rattle.fib_codec.specs.Spelling.{entries_bytes}
 use Rattle.fib_carousel.specs.Runs.{shape_of}
 use Rattle.fib_carousel.proofs.Sections.{one_more, service_formed, service_shaped, services_put, next_service, first_service}

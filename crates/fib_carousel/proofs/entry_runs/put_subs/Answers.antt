@@ -1,6 +1,6 @@
 use Rattle.std.proofs.Common.{◌≡◌, ◌+◌, length, arith, ap, ◌∙◌}
 use Rattle.std.proofs.lemmas.List.{length-append}
-use Rattle.mux_entries.specs.Facts.{sub_entry}
+use Rattle.mux_types.specs.Facts.{sub_entry}
 use Rattle.fib_codec.specs.Spelling.{entry_bytes}
 use Rattle.fib_codec.proofs.Lengths.{entry_length}
 use Rattle.fib_carousel.proofs.Sections.{one_more}

@@ -1,6 +1,6 @@
 use Rattle.std.proofs.Common.{◌≡◌, ◌+◌, ◌*◌, ◌≤◌, map, drop}
 use Rattle.mux_config.specs.Configuration.{Configuration}
-use Rattle.mux_entries.specs.Facts.{marked, service_entry}
+use Rattle.mux_types.specs.Facts.{marked, service_entry}
 use Rattle.fib_carousel.specs.Runs.{all_placed}
 use Rattle.fib_carousel.proofs.page_count.with_services.Given as goal
 

@@ -1,7 +1,7 @@
 use Rattle.std.proofs.Common.{◌≡◌, ℕ, List, ◌+◌, ◌-◌, ◌*◌, ◌%◌, ◌≤◌, refl, sym, ap, subst, ◌∙◌, arith}
 use Rattle.std.proofs.Math.Nat.{mod-add-mod}
 use Rattle.fib_codec.specs.Layouts.{layout_mode, frame_fibs}
-use Rattle.mux_entries.specs.declared.limits.TheConstants.{COUNTS}
+use Rattle.mux_types.specs.declared.limits.TheConstants.{COUNTS}
 use Rattle.fib_codec.specs.Modes.{count_step}
 use Rattle.fib_codec.specs.declared.modes.Mode.{Mode}
 use borrow.Rule.Slice.PartMut.{put_mid, mid_of, same_len_mid}

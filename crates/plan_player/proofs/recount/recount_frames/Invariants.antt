@@ -1,7 +1,7 @@
 use Rattle.std.proofs.Common.{◌≡◌, ◌+◌, ◌-◌, ◌%◌, ◌≤◌, length}
 use Rattle.std.specs.List.{concat}
 use Rattle.fib_codec.specs.Layouts.{layout_mode}
-use Rattle.mux_entries.specs.declared.limits.TheConstants.{COUNTS}
+use Rattle.mux_types.specs.declared.limits.TheConstants.{COUNTS}
 use Rattle.fib_codec.specs.Modes.{count_step}
 use Rattle.plan_code.specs.Machine.{State}
 use Rattle.plan_runs.specs.Announced.{notice_frames}

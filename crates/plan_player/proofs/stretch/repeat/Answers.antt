@@ -1,7 +1,7 @@
 use Rattle.std.proofs.Common.{◌≡◌, ℕ, List, ◌+◌, ◌*◌, ◌%◌, ◌≤◌, ◌<◌, ap, ◌∙◌, arith, length}
 use Rattle.std.proofs.Math.Nat.{mul-le-mul_right}
 use Rattle.fib_codec.specs.Layouts.{layout_mode, frame_fibs}
-use Rattle.mux_entries.specs.declared.limits.TheConstants.{COUNTS}
+use Rattle.mux_types.specs.declared.limits.TheConstants.{COUNTS}
 use Rattle.fib_codec.specs.Modes.{count_step}
 use Rattle.plan_code.specs.Machine.{State}
 use Rattle.plan_player.specs.Positions.{state_of}

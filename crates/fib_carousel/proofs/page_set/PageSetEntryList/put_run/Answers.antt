@@ -2,7 +2,7 @@ use Rattle.std.proofs.Common.{◌≡◌, ◌-◌, ◌<◌, false, true, Some, ap
 use Rattle.std.proofs.lemmas.List.{length-map}
 use Rattle.std.specs.Option.{option_copied}
 use Rattle.mux_config.specs.Configuration.{Configuration}
-use Rattle.mux_entries.specs.Facts.{facts_of, marked}
+use Rattle.mux_types.specs.Facts.{facts_of, marked}
 use Rattle.fib_carousel.specs.Items.{config_entries}
 use Rattle.fib_carousel.proofs.Sides.{current_side, next_side, next_within, side_takes, side_puts}
 use Rattle.fib_carousel.proofs.page_set.PageSetEntryList.put_run.Goals as goal

@@ -1,7 +1,7 @@
 use Rattle.std.proofs.Common.{◌≡◌, ◌∙◌, sym, subst, map}
 use Rattle.std.specs.Prelude.{if◌then◌else◌}
 use Rattle.std.proofs.lemmas.Bool.{eqb-true}
-use Rattle.mux_entries.specs.Entries.{EnsembleInformation}
+use Rattle.mux_types.specs.Entries.{EnsembleInformation}
 use Rattle.stream_check.specs.Reporting.{in_frame}
 use Rattle.stream_check.specs.Rules.{ensemble_findings, makes_swap}
 use Rattle.stream_check.specs.Memory.{known_in, with_ensemble, with_swap}

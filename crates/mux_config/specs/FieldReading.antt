@@ -8,8 +8,8 @@ use Rattle.mux_types.specs.declared.parts.Component.{Component}
 use Rattle.mux_types.specs.declared.parts.Component.TheVariants.{Sound, Stream, Packet as InPackets}
 use Rattle.mux_types.specs.declared.numbers.Sid.{Sid}
 use Rattle.mux_types.specs.declared.numbers.Sid.TheVariants.{Short as ShortSid, Long as LongSid}
-use Rattle.byte_fields.specs.declared.record.RecordFault.{RecordFault}
-use Rattle.byte_fields.specs.declared.record.RecordFault.TheVariants.{Short, Field}
+use Rattle.mux_config.specs.declared.record.RecordFault.{RecordFault}
+use Rattle.mux_config.specs.declared.record.RecordFault.TheVariants.{Short, Field}
 
 -- what is read, and the bytes after it; or the first fault
 abbrev pub Reads : Type 0 → Type 0

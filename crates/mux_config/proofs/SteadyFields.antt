@@ -3,9 +3,9 @@ use Rattle.std.proofs.Common.{◌≡◌, ℕ, zero, suc, ◌+◌, ◌≤◌, Boo
 use Rattle.std.specs.Int.{Width, w16, w32, byte_len, from_be_bytes}
 use Rattle.std.proofs.lemmas.Bool.{ltb-false, le-ltb}
 use Rattle.std.proofs.lemmas.List.{length-append, take-append-le, drop-append-le}
-use Rattle.byte_fields.specs.declared.record.RecordFault.{RecordFault}
-use Rattle.byte_fields.specs.declared.record.RecordFault.TheVariants.{Short, Field, Order}
-use Rattle.byte_fields.specs.FieldReading.{Reads, ◌>>=◌, refuse, place, byte_at, number_at, judged, byte_within, u16_in_range, flag_at, protection_at, sid_of_kind, sid_at, component_of, component_at}
+use Rattle.mux_config.specs.declared.record.RecordFault.{RecordFault}
+use Rattle.mux_config.specs.declared.record.RecordFault.TheVariants.{Short, Field, Order}
+use Rattle.mux_config.specs.FieldReading.{Reads, ◌>>=◌, refuse, place, byte_at, number_at, judged, byte_within, u16_in_range, flag_at, protection_at, sid_of_kind, sid_at, component_of, component_at}
 
 -- ---- readings of more bytes
 

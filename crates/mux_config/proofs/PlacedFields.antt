@@ -2,9 +2,9 @@
 use Rattle.std.proofs.Common.{ℕ, zero, suc, ◌<◌, ◌≤◌, Bool, true, false, cond, ltb, List, [], ◌∷◌, length, take, drop, Ok, Err, arith}
 use Rattle.std.specs.Int.{Width, w16, w32, byte_len, from_be_bytes}
 use Rattle.std.proofs.lemmas.List.{length-drop}
-use Rattle.byte_fields.specs.declared.record.RecordFault.{RecordFault}
-use Rattle.byte_fields.specs.declared.record.RecordFault.TheVariants.{Short, Field, Order}
-use Rattle.byte_fields.specs.FieldReading.{Reads, ◌>>=◌, refuse, place, byte_at, number_at, judged, byte_within, u16_in_range, flag_at, protection_at, sid_of_kind, sid_at, component_of, component_at}
+use Rattle.mux_config.specs.declared.record.RecordFault.{RecordFault}
+use Rattle.mux_config.specs.declared.record.RecordFault.TheVariants.{Short, Field, Order}
+use Rattle.mux_config.specs.FieldReading.{Reads, ◌>>=◌, refuse, place, byte_at, number_at, judged, byte_within, u16_in_range, flag_at, protection_at, sid_of_kind, sid_at, component_of, component_at}
 
 -- the offset in a fault is below `total`
 abbrev pub IsPlacedIn : ℕ → RecordFault → Type 0

@@ -2,7 +2,7 @@
 
 ghost use Rattle.std.specs.Prelude.{◌≡◌, ◌+◌, ◌^◌, ◌<◌, ◌≤◌, length, drop};
 ghost use Rattle.std.specs.Int.{w16, w32};
-ghost use Rattle.byte_fields.specs.FieldReading.{Unread, Takes, place, byte_at, number_at, byte_within, u16_in_range, flag_at, protection_at, sid_at, component_at};
+ghost use Rattle.mux_config.specs.FieldReading.{Unread, Takes, place, byte_at, number_at, byte_within, u16_in_range, flag_at, protection_at, sid_at, component_at};
 
 use crate::record::RecordFault;
 use mux_eep::{EepSet, Protection};
@@ -20,7 +20,7 @@ pub struct Reader<'a> {
 
 impl<'a> Model for Reader<'a> {
     ghost use Rattle.std.specs.Prelude.{length, ◌≤◌};
-    ghost use Rattle.byte_fields.specs.FieldReading.{Unread};
+    ghost use Rattle.mux_config.specs.FieldReading.{Unread};
 
     ghost Value = { Unread };
 

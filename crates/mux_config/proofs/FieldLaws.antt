@@ -11,11 +11,11 @@ use Rattle.mux_types.specs.declared.parts.Component.{Component}
 use Rattle.mux_types.specs.declared.parts.Component.TheVariants.{Sound, Stream, Packet as InPackets}
 use Rattle.mux_types.specs.declared.numbers.Sid.{Sid}
 use Rattle.mux_types.specs.declared.numbers.Sid.TheVariants.{Short as ShortSid, Long as LongSid}
-use Rattle.byte_fields.specs.declared.record.RecordFault.{RecordFault}
-use Rattle.byte_fields.specs.declared.record.RecordFault.TheVariants.{Short, Field}
+use Rattle.mux_config.specs.declared.record.RecordFault.{RecordFault}
+use Rattle.mux_config.specs.declared.record.RecordFault.TheVariants.{Short, Field}
 use Rattle.mux_types.specs.Configuration.{IsSid, IsComponent}
-use Rattle.byte_fields.specs.FieldSpelling.{u16_bytes, set_byte, flag_byte, protection_bytes, sid_field, component_bytes}
-use Rattle.byte_fields.specs.FieldReading.{◌>>=◌, refuse, place, byte_at, number_at, judged, byte_within, u16_in_range, flag_at, set_of, protection_at, sid_of_kind, sid_at, component_of, component_at}
+use Rattle.mux_config.specs.FieldSpelling.{u16_bytes, set_byte, flag_byte, protection_bytes, sid_field, component_bytes}
+use Rattle.mux_config.specs.FieldReading.{◌>>=◌, refuse, place, byte_at, number_at, judged, byte_within, u16_in_range, flag_at, set_of, protection_at, sid_of_kind, sid_at, component_of, component_at}
 
 abbrev pub IsBytes : List ℕ → Type 0
 IsBytes bytes = (i : ℕ) → get_or bytes i 0 < 256

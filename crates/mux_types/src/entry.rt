@@ -4,7 +4,7 @@
 ghost use Rattle.std.specs.Prelude.{◌≡◌, ◌<◌, ◌↔◌, IsSome, IfSome};
 
 use crate::limits::COUNTS;
-use mux_types::{Bits, BoundedVec, ScId, ScTy, Sid, SubId};
+use crate::{Bits, BoundedVec, ScId, ScTy, Sid, SubId};
 use std::marker::Model;
 
 /// One entry of FIG 0/0 to 0/3.
@@ -48,8 +48,8 @@ pub struct Ensemble {
 
 impl Model for Ensemble {
     ghost use Rattle.std.specs.Prelude.{◌<◌, IsSome, ◌↔◌};
-    ghost use Rattle.mux_entries.specs.Entries.{EnsembleInformation};
-    ghost use Rattle.mux_entries.specs.declared.limits.TheConstants.{COUNTS};
+    ghost use Rattle.mux_types.specs.Entries.{EnsembleInformation};
+    ghost use Rattle.mux_types.specs.declared.limits.TheConstants.{COUNTS};
 
     ghost Value = { EnsembleInformation };
 
@@ -74,7 +74,7 @@ impl Model for Ensemble {
 }
 
 impl Ensemble {
-    ghost use Rattle.mux_entries.specs.Entries.{EnsembleInformation};
+    ghost use Rattle.mux_types.specs.Entries.{EnsembleInformation};
 
     /// The ensemble information with these fields; None if `change` is above 3, `count` is above 4999, or `occurrence`
     /// is present without a change flag or missing with one.
