@@ -4,9 +4,9 @@ use Rattle.mux_config.specs.Configuration.{Configuration, IsConfiguration, nothi
 use Rattle.mux_config.specs.Edits.{changed}
 use Rattle.mux_config.specs.Sound.{IsSound}
 use Rattle.mux_config.specs.declared.edit.Edit.{Edit}
-use Rattle.mux_edits.specs.Differences.{edits_between}
-use Rattle.mux_edits.specs.Making.{edits_that_make}
-use Rattle.mux_edits.specs.Sequences.{Transform, HaveNoFault, after}
+use Rattle.script_config.specs.Differences.{edits_between}
+use Rattle.script_config.specs.Making.{edits_that_make}
+use Rattle.script_config.specs.Sequences.{Transform, HaveNoFault, after}
 use Rattle.plan_code.specs.declared.label.Swap.TheVariants.{Idle}
 use Rattle.plan_code.specs.declared.plan.Plan.{Plan}
 use Rattle.plan_flow.specs.Flows.{Flow}
@@ -29,10 +29,10 @@ use Rattle.script_config.specs.declared.opening.Opening.{Opening}
 use Rattle.script_config.proofs.FewEdits.{few_between}
 use Rattle.script_config.proofs.MorePages.{alone_within}
 use Rattle.script_config.proofs.Pacing.{few_paced}
-use Rattle.script_meaning.specs.Compiled.{AreFine, with_items, opening_of, body_of, beginning, placed_instrs, lines_of_placed, instrs_of, nested, Tabled, IsAccepted}
-use Rattle.script_meaning.specs.Judged.{IsJudged}
-use Rattle.script_meaning.specs.Need.{IsWithinBudget}
-use Rattle.script_meaning.specs.Scheme.{PlacedInstr, all_places, unpriced_labels}
+use Rattle.script_compiler.specs.Compiled.{AreFine, with_items, opening_of, body_of, beginning, placed_instrs, lines_of_placed, instrs_of, nested, Tabled, IsAccepted}
+use Rattle.script_compiler.specs.Judged.{IsJudged}
+use Rattle.script_compiler.specs.Need.{IsWithinBudget}
+use Rattle.script_compiler.specs.Scheme.{PlacedInstr, all_places, unpriced_labels}
 use Rattle.cli_scripts.specs.declared.diff.PlanFault.TheVariants.{Refused}
 use Rattle.cli_scripts.specs.Planned.{IsPlanFault}
 use Rattle.cli_scripts.proofs.PlainCodes.{FineActs, acts_judged, none_nested, ending, EndsAfter, within_budget, plain_code}

@@ -15,12 +15,12 @@ use Rattle.script_front.specs.declared.tree.Act.TheVariants.{Edit, Wait, WaitCon
 use Rattle.script_front.specs.Block.{nothing}
 use Rattle.script_config.specs.Frames.{ends_frame, FitFrames}
 use Rattle.script_config.specs.Plain.{acts_from}
-use Rattle.script_meaning.specs.declared.flow.ProgramPoint.{ProgramPoint}
-use Rattle.script_meaning.specs.declared.flow.UnpricedLabel.{UnpricedLabel}
-use Rattle.script_meaning.specs.Compiled.{instrs_of, lines_of_placed, nested, Added, Tabled}
-use Rattle.script_meaning.specs.Judged.{IsJudged}
-use Rattle.script_meaning.specs.Need.{HasPath, IsWithinBudget}
-use Rattle.script_meaning.specs.Scheme.{PlacedInstr, at_label, without_label, instr_of_act, onward, point_after, placed_instr, alone, places, all_places, unpriced_label, unpriced_labels}
+use Rattle.script_compiler.specs.declared.flow.ProgramPoint.{ProgramPoint}
+use Rattle.script_compiler.specs.declared.flow.UnpricedLabel.{UnpricedLabel}
+use Rattle.script_compiler.specs.Compiled.{instrs_of, lines_of_placed, nested, Added, Tabled}
+use Rattle.script_compiler.specs.Judged.{IsJudged}
+use Rattle.script_compiler.specs.Need.{HasPath, IsWithinBudget}
+use Rattle.script_compiler.specs.Scheme.{PlacedInstr, at_label, without_label, instr_of_act, onward, point_after, placed_instr, alone, places, all_places, unpriced_label, unpriced_labels}
 
 -- ---- valid acts
 

@@ -6,9 +6,9 @@ use Rattle.plan_code.specs.Spelling.{code_bytes}
 use Rattle.plan_verifier.specs.Typing.{IsTyped}
 use Rattle.script_front.specs.Denoting.{IsScriptOf, IsNoScript}
 use Rattle.script_front.specs.Tree.{Tree, IsScript}
-use Rattle.script_meaning.specs.Compiled.{IsAccepted, IsCodeOf, CostsItsNeeds}
-use Rattle.script_meaning.specs.Refused.{IsRefused}
-use Rattle.script_meaning.specs.Meaning.{PlaysAsItReads}
+use Rattle.script_compiler.specs.Compiled.{IsAccepted, IsCodeOf, CostsItsNeeds}
+use Rattle.script_compiler.specs.Refused.{IsRefused}
+use Rattle.script_compiler.specs.Meaning.{PlaysAsItReads}
 use Rattle.script_compiler.specs.Refusals.{IfRefused}
 use Rattle.cli_scripts.specs.declared.compile.Compiled.{Compiled}
 use Rattle.cli_scripts.specs.declared.compile.ScriptRefusal.{ScriptRefusal}

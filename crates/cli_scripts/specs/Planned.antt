@@ -1,6 +1,6 @@
 -- The plan that `diff` prints.
 use Rattle.std.specs.Prelude.{◌≡◌, ◌≢◌, ℕ, List}
-use Rattle.mux_edits.specs.Making.{edits_that_make}
+use Rattle.script_config.specs.Making.{edits_that_make}
 use Rattle.plan_code.specs.Program.{Program}
 use Rattle.plan_verifier.specs.Typing.{IsTyped}
 use Rattle.script_config.specs.Openings.{IsOpening}
@@ -16,7 +16,7 @@ use Rattle.script_front.specs.Denoting.{Denotes}
 use Rattle.script_front.specs.Printing.{text_of_lines, tree_lines}
 use Rattle.script_front.specs.Tree.{Tree, IsScript}
 use Rattle.script_config.specs.Plain.{IsPlain}
-use Rattle.script_meaning.specs.Compiled.{IsAccepted, IsCodeOf}
+use Rattle.script_compiler.specs.Compiled.{IsAccepted, IsCodeOf}
 
 -- the text denotes the plan from one opening to another, in the layout of printed scripts; the plan is accepted, and
 -- its code is typed

@@ -175,7 +175,7 @@ pub fn plan_text(alloc: Global, from: &Opening, to: &Opening) -> Result<String, 
     ensures leads { IfOk result (λ text. CanBePlanned from.now to.now) }
     ensures fault { IfErr result (IsPlanFault from.now to.now) }
 {
-    mux_edits::laws::transforming();
+    script_config::laws::transforming();
     from.config.subs();
     to.config.subs();
     if let Some(fault) = fault_between(from, to) {

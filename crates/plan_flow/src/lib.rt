@@ -8,7 +8,7 @@
 //!
 //! A [`TrackedFlow`] also knows the indices of its configurations in a table, as far as that is known: it does the same
 //! for flows that give theirs by index (`specs/Indexed.antt`), and what is known to be equal is neither compared nor
-//! copied. The verifier's table is that of the code, the compiler's is its pool; `explain` compares flows without one.
+//! copied. The verifier's table is that of the code, the compiler's is its pool; `plan_explain` compares flows without one.
 #![tactic(auto)]
 
 mod apply;

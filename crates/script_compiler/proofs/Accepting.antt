@@ -8,12 +8,12 @@ use Rattle.plan_code.specs.declared.plan.Plan.{Plan}
 use Rattle.plan_code.specs.Program.{Program, IsProgram}
 use Rattle.plan_flow.specs.Rules.{pages_alone}
 use Rattle.script_front.specs.Tree.{Tree}
-use Rattle.script_meaning.specs.declared.flow.UnpricedLabel.{UnpricedLabel}
-use Rattle.script_meaning.specs.Scheme.{unpriced_labels}
-use Rattle.script_meaning.specs.Judged.{IsJudged}
-use Rattle.script_meaning.specs.Need.{IsWithinBudget}
-use Rattle.script_meaning.specs.Compiled.{opening_of, beginning, body_of, placed_instrs, lines_of_placed, instrs_of, nested, AreFine, Tabled, AreLabelsOf, IsCodeOf, IsAccepted}
-use Rattle.script_meaning.proofs.OneCode.{tabled_once}
+use Rattle.script_compiler.specs.declared.flow.UnpricedLabel.{UnpricedLabel}
+use Rattle.script_compiler.specs.Scheme.{unpriced_labels}
+use Rattle.script_compiler.specs.Judged.{IsJudged}
+use Rattle.script_compiler.specs.Need.{IsWithinBudget}
+use Rattle.script_compiler.specs.Compiled.{opening_of, beginning, body_of, placed_instrs, lines_of_placed, instrs_of, nested, AreFine, Tabled, AreLabelsOf, IsCodeOf, IsAccepted}
+use Rattle.script_compiler.proofs.OneCode.{tabled_once}
 use Rattle.script_compiler.proofs.Emitted.{length_lines}
 
 pub labels_length : (table : List Configuration) (ms : List UnpricedLabel) (ls : List Label) → AreLabelsOf table ms ls → length ls ≡ length ms

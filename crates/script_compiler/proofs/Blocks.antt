@@ -2,7 +2,7 @@
 use Rattle.std.proofs.Common.{◌≡◌, ℕ, zero, suc, ◌+◌, ◌<◌, Bool, List, [], ◌∷◌, ◌++◌, length, map, take, get_or, Vec, Global, refl, sym, ap, ◌∙◌, arith}
 use Rattle.script_front.specs.declared.tree.Statement.{Statement}
 use Rattle.script_front.specs.Block.{Block, block_of, table_of}
-use Rattle.script_meaning.specs.Scheme.{falls_out}
+use Rattle.script_compiler.specs.Scheme.{falls_out}
 use Rattle.script_compiler.specs.Emission.{tables, has_no_instr, facts_of}
 use Rattle.script_compiler.specs.declared.context.BlockFacts.{BlockFacts}
 

@@ -2,8 +2,8 @@
 use Rattle.std.proofs.Common.{◌≡◌, ℕ, ◌≤◌, Bool, Result, Ok, Err, inl, sym, subst}
 use Rattle.std.specs.Prelude.{IfOk, IfErr, OnOk}
 use Rattle.script_front.specs.Block.{Block, nothing, apply}
-use Rattle.script_meaning.specs.Judged.{IsJudged}
-use Rattle.script_meaning.specs.Refused.{IsRefusedIn}
+use Rattle.script_compiler.specs.Judged.{IsJudged}
+use Rattle.script_compiler.specs.Refused.{IsRefusedIn}
 use Rattle.script_compiler.specs.declared.context.Context.{Context}
 use Rattle.plan_flow.specs.declared.cause.Cause.{Cause}
 use Rattle.script_compiler.specs.declared.fault.CodeLimit.{CodeLimit}

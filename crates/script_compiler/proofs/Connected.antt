@@ -7,8 +7,8 @@ use Rattle.plan_flow.specs.Flows.{after_instr}
 use Rattle.script_front.specs.declared.tree.Act.{Act}
 use Rattle.script_front.specs.declared.tree.Act.TheVariants.{Edit as Edits, Wait as Waits, WaitContact as WaitsContact, Until as WaitsUntil, CommitIn as CommitsIn, CommitAt as CommitsAt, Join as Joins, Settle as Settles}
 use Rattle.script_front.specs.Block.{Block, nothing, basic, stop, when, either, repeat, forever, apply}
-use Rattle.script_meaning.specs.declared.flow.ProgramPoint.{ProgramPoint}
-use Rattle.script_meaning.specs.Scheme.{PlacedInstr, without_label, at_label, meet, join, onward, head, point_after, placed_instr, alone, places, all_places, instr_of_act, falls_out}
+use Rattle.script_compiler.specs.declared.flow.ProgramPoint.{ProgramPoint}
+use Rattle.script_compiler.specs.Scheme.{PlacedInstr, without_label, at_label, meet, join, onward, head, point_after, placed_instr, alone, places, all_places, instr_of_act, falls_out}
 
 -- the preceding code continues to this point, or the point has a label
 abbrev pub Follows : Bool → ProgramPoint → Type 0

@@ -3,8 +3,8 @@ use Rattle.std.proofs.Common.{◌≡◌, Bool, ◌&&◌, ◌||◌, Option, Some,
 use Rattle.plan_code.specs.declared.plan.Plan.{Plan}
 use Rattle.plan_flow.specs.Flows.{after_instr}
 use Rattle.script_front.specs.Block.{Block, nothing, basic, stop, when, either, repeat, forever, apply}
-use Rattle.script_meaning.specs.declared.flow.ProgramPoint.{ProgramPoint}
-use Rattle.script_meaning.specs.Scheme.{without_label, at_label, meet, join, onward, head, instr_of_act, falls_out, point_after}
+use Rattle.script_compiler.specs.declared.flow.ProgramPoint.{ProgramPoint}
+use Rattle.script_compiler.specs.Scheme.{without_label, at_label, meet, join, onward, head, instr_of_act, falls_out, point_after}
 
 onward_falls : (w : Option ProgramPoint) (f : Bool) (after_rest : ProgramPoint → Option ProgramPoint) (g : Bool) → is_some w ≡ f → ((u : ProgramPoint) → is_some (after_rest u) ≡ g) → is_some (onward w None after_rest) ≡ (f && g)
 onward_falls None f k g e h = ap (λ b. b && g) e

@@ -4,8 +4,8 @@ use Rattle.std.specs.Prelude.{slice_get, slice_set}
 use Rattle.std.proofs.lemmas.Option.{slice_get_within}
 use Rattle.plan_code.specs.declared.instr.Instr.{Instr}
 use Rattle.plan_code.specs.declared.instr.Line.{Line}
-use Rattle.script_meaning.specs.Need.{StepsTo}
-use Rattle.script_meaning.specs.Compiled.{instrs_of}
+use Rattle.script_compiler.specs.Need.{StepsTo}
+use Rattle.script_compiler.specs.Compiled.{instrs_of}
 use Rattle.script_compiler.specs.Costs.{CanReach, CanRevisit}
 use Rattle.script_compiler.specs.Reaching.{IsAt, IsIn, trues, GrowsBy, IsExpanded, Searched}
 

@@ -5,9 +5,9 @@ use Rattle.plan_code.specs.declared.plan.Plan.{Plan}
 use Rattle.plan_flow.specs.Flows.{after_instr}
 use Rattle.script_front.specs.Block.{Block, nothing, basic, stop, when, either, repeat, forever, apply}
 use Rattle.script_front.specs.Tree.{Tree}
-use Rattle.script_meaning.specs.declared.flow.ProgramPoint.{ProgramPoint}
-use Rattle.script_meaning.specs.Scheme.{PlacedInstr, without_label, at_label, meet, join, onward, head, point_after, placed_instr, alone, places, all_places, unpriced_label, unpriced_labels, instr_of_act, falls_out}
-use Rattle.script_meaning.specs.Compiled.{nested, body_of, placed_instrs, IsAccepted}
+use Rattle.script_compiler.specs.declared.flow.ProgramPoint.{ProgramPoint}
+use Rattle.script_compiler.specs.Scheme.{PlacedInstr, without_label, at_label, meet, join, onward, head, point_after, placed_instr, alone, places, all_places, unpriced_label, unpriced_labels, instr_of_act, falls_out}
+use Rattle.script_compiler.specs.Compiled.{nested, body_of, placed_instrs, IsAccepted}
 use Rattle.script_compiler.specs.Room.{IsDeepAtMost}
 use Rattle.script_compiler.specs.Space.{Keeps}
 use Rattle.script_compiler.specs.Limits.{IsWithin}

@@ -11,11 +11,11 @@ use Rattle.plan_flow.specs.Flows.{known_at, after_instr}
 use Rattle.plan_flow.specs.Rules.{IsFine}
 use Rattle.script_front.specs.declared.tree.Act.{Act}
 use Rattle.script_front.specs.Block.{Block, nothing, basic, stop, when, either, repeat, forever, apply}
-use Rattle.script_meaning.specs.declared.flow.ProgramPoint.{ProgramPoint}
-use Rattle.script_meaning.specs.Scheme.{PlacedInstr, without_label, at_label, meet, join, onward, head, point_after, placed_instr, alone, places, unpriced_label, unpriced_labels, instr_of_act, falls_out}
-use Rattle.script_meaning.specs.Judged.{IsJudged, Reached, WaysAgree, BranchesAgree, FitsEntry}
-use Rattle.script_meaning.specs.Refused.{IsRefusedIn, IsRefusedAfter}
-use Rattle.script_meaning.specs.Compiled.{lines_of_placed, nested}
+use Rattle.script_compiler.specs.declared.flow.ProgramPoint.{ProgramPoint}
+use Rattle.script_compiler.specs.Scheme.{PlacedInstr, without_label, at_label, meet, join, onward, head, point_after, placed_instr, alone, places, unpriced_label, unpriced_labels, instr_of_act, falls_out}
+use Rattle.script_compiler.specs.Judged.{IsJudged, Reached, WaysAgree, BranchesAgree, FitsEntry}
+use Rattle.script_compiler.specs.Refused.{IsRefusedIn, IsRefusedAfter}
+use Rattle.script_compiler.specs.Compiled.{lines_of_placed, nested}
 use Rattle.script_compiler.specs.Working.{Work}
 use Rattle.script_compiler.specs.Emission.{Emits, Left, Forks, ClosesIf, StartsElse, ClosesLoop, IsAfterBranches, aimed_at, line_of_instr, way, points_of}
 use Rattle.script_compiler.proofs.Continuing.{after_falls}

@@ -3,8 +3,8 @@ use Rattle.std.proofs.Common.{◌≡◌, ℕ, ◌+◌, ◌⊎◌, inl, inr, Bool
 use Rattle.plan_code.specs.declared.instr.Instr.TheVariants.{End, Jump}
 use Rattle.plan_code.specs.declared.plan.Plan.{Plan}
 use Rattle.script_front.specs.Block.{Block, nothing, basic, stop, when, either, repeat, forever, apply}
-use Rattle.script_meaning.specs.declared.flow.ProgramPoint.{ProgramPoint}
-use Rattle.script_meaning.specs.Scheme.{PlacedInstr, onward, head, point_after, placed_instr, alone, places, all_places, falls_out}
+use Rattle.script_compiler.specs.declared.flow.ProgramPoint.{ProgramPoint}
+use Rattle.script_compiler.specs.Scheme.{PlacedInstr, onward, head, point_after, placed_instr, alone, places, all_places, falls_out}
 
 -- it is what is known before the block, and it has a label if the point before the block has one
 pub record Begins (s : ProgramPoint) (all : List PlacedInstr) : Type 0 where

@@ -8,10 +8,10 @@ use Rattle.plan_flow.specs.Flows.{merged}
 use Rattle.script_front.specs.declared.tree.Act.{Act}
 use Rattle.script_front.specs.declared.tree.Statement.{Statement}
 use Rattle.script_front.specs.Block.{Block, nothing, basic, stop, when, either, repeat, forever, apply, before, block_of}
-use Rattle.script_meaning.specs.declared.flow.ProgramPoint.{ProgramPoint}
-use Rattle.script_meaning.specs.Scheme.{PlacedInstr, without_label, at_label, meet, join, onward, head, point_after, placed_instr, alone, places, all_places, instr_of_act, falls_out}
-use Rattle.script_meaning.specs.Judged.{IsJudged, WaysAgree, BranchesAgree}
-use Rattle.script_meaning.specs.Compiled.{Tabled, lines_of_placed, nested}
+use Rattle.script_compiler.specs.declared.flow.ProgramPoint.{ProgramPoint}
+use Rattle.script_compiler.specs.Scheme.{PlacedInstr, without_label, at_label, meet, join, onward, head, point_after, placed_instr, alone, places, all_places, instr_of_act, falls_out}
+use Rattle.script_compiler.specs.Judged.{IsJudged, WaysAgree, BranchesAgree}
+use Rattle.script_compiler.specs.Compiled.{Tabled, lines_of_placed, nested}
 use Rattle.script_compiler.specs.Working.{Work}
 use Rattle.script_compiler.specs.declared.fault.CodeLimit.{CodeLimit}
 use Rattle.script_compiler.specs.declared.fault.CodeLimit.TheVariants.{Instructions, Labels, Configurations, Counters}

@@ -6,8 +6,8 @@ use Rattle.std.proofs.lemmas.Bool.{eq-eqb, eqb-true}
 use Rattle.std.proofs.lemmas.Bool.Decides.{eqb_tells}
 use Rattle.mux_config.specs.Configuration.{Configuration}
 use Rattle.plan_code.specs.declared.label.Label.{Label}
-use Rattle.script_meaning.specs.Scheme.{PlacedInstr, unpriced_label, unpriced_labels}
-use Rattle.script_meaning.specs.Compiled.{IsLabelOf, AreLabelsOf}
+use Rattle.script_compiler.specs.Scheme.{PlacedInstr, unpriced_label, unpriced_labels}
+use Rattle.script_compiler.specs.Compiled.{IsLabelOf, AreLabelsOf}
 
 same_number : (n : ℕ) → (n == n) ≡ true
 same_number n = eq-eqb n n refl

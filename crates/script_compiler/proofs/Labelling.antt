@@ -4,9 +4,9 @@ use Rattle.std.proofs.lemmas.Option.{slice_get-get_or, get_or_from_slice_get}
 use Rattle.std.specs.Prelude.{slice_get, slice_index, OnOk, IfOk, IfErr}
 use Rattle.mux_config.specs.Configuration.{Configuration, nothing}
 use Rattle.plan_code.specs.declared.label.Label.{Label}
-use Rattle.script_meaning.specs.declared.flow.UnpricedLabel.{UnpricedLabel}
-use Rattle.script_meaning.specs.Scheme.{PlacedInstr, unpriced_label, unpriced_labels}
-use Rattle.script_meaning.specs.Compiled.{Added, Tabled, AreLabelsOf}
+use Rattle.script_compiler.specs.declared.flow.UnpricedLabel.{UnpricedLabel}
+use Rattle.script_compiler.specs.Scheme.{PlacedInstr, unpriced_label, unpriced_labels}
+use Rattle.script_compiler.specs.Compiled.{Added, Tabled, AreLabelsOf}
 use Rattle.script_compiler.specs.declared.fault.CompileFault.{CompileFault}
 use Rattle.script_compiler.specs.declared.short.IndexedLabel.{IndexedLabel}
 use Rattle.script_compiler.specs.Longest.{Priced}

@@ -9,11 +9,11 @@ use Rattle.plan_code.specs.declared.label.Label.{Label}
 use Rattle.plan_code.specs.declared.plan.Plan.{Plan}
 use Rattle.plan_flow.specs.Rules.{pages_alone}
 use Rattle.script_front.specs.Tree.{Tree}
-use Rattle.script_meaning.specs.declared.flow.UnpricedLabel.{UnpricedLabel}
-use Rattle.script_meaning.specs.Scheme.{all_places, unpriced_labels}
-use Rattle.script_meaning.specs.Judged.{IsJudged}
-use Rattle.script_meaning.specs.Need.{IsWithinBudget}
-use Rattle.script_meaning.specs.Compiled.{body_of, beginning, opening_of, placed_instrs, lines_of_placed, instrs_of, nested, AreFine, Tabled, AreLabelsOf, IsCodeOf, CostsItsNeeds, IsAccepted}
+use Rattle.script_compiler.specs.declared.flow.UnpricedLabel.{UnpricedLabel}
+use Rattle.script_compiler.specs.Scheme.{all_places, unpriced_labels}
+use Rattle.script_compiler.specs.Judged.{IsJudged}
+use Rattle.script_compiler.specs.Need.{IsWithinBudget}
+use Rattle.script_compiler.specs.Compiled.{body_of, beginning, opening_of, placed_instrs, lines_of_placed, instrs_of, nested, AreFine, Tabled, AreLabelsOf, IsCodeOf, CostsItsNeeds, IsAccepted}
 use Rattle.script_compiler.specs.Space.{Keeps}
 use Rattle.script_compiler.specs.Limits.{IsWithin}
 use Rattle.script_compiler.specs.declared.fault.CodeLimit.{CodeLimit}

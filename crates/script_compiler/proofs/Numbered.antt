@@ -3,10 +3,10 @@ use Rattle.std.proofs.Common.{◌≡◌, ℕ, ◌≤◌, true, List, [], ◌∷�
 use Rattle.std.specs.Prelude.{slice_get}
 use Rattle.mux_config.specs.Configuration.{Configuration}
 use Rattle.plan_code.specs.declared.instr.Instr.{Instr}
-use Rattle.script_meaning.specs.declared.flow.UnpricedLabel.{UnpricedLabel}
-use Rattle.script_meaning.specs.declared.flow.ProgramPoint.{ProgramPoint}
-use Rattle.script_meaning.specs.Scheme.{PlacedInstr, alone, unpriced_labels, placed_instr}
-use Rattle.script_meaning.specs.Compiled.{Tabled}
+use Rattle.script_compiler.specs.declared.flow.UnpricedLabel.{UnpricedLabel}
+use Rattle.script_compiler.specs.declared.flow.ProgramPoint.{ProgramPoint}
+use Rattle.script_compiler.specs.Scheme.{PlacedInstr, alone, unpriced_labels, placed_instr}
+use Rattle.script_compiler.specs.Compiled.{Tabled}
 use Rattle.script_compiler.specs.declared.short.IndexedLabel.{IndexedLabel}
 use Rattle.script_compiler.specs.declared.short.IndexedPoint.{IndexedPoint}
 use Rattle.script_compiler.specs.Unpriced.{UnpricedTable, configuration_at, unpriced_in}

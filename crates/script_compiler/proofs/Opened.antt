@@ -10,7 +10,7 @@ use Rattle.plan_flow.specs.Causes.{Where, WhereSome}
 use Rattle.plan_flow.specs.Rules.{pages_alone}
 use Rattle.plan_flow.specs.Tests.{unless, cause_of, cause_if, start_cause}
 use Rattle.plan_flow.proofs.Deciding.{Computes, computes_some, computes_where, computes_orelse, decides_lt}
-use Rattle.script_meaning.specs.Refused.{IsOpeningRefused}
+use Rattle.script_compiler.specs.Refused.{IsOpeningRefused}
 
 opening_computes : (plan : Plan) (c : Configuration) → Computes (start_cause plan c) (IsOpeningRefused plan c)
 opening_computes plan c =

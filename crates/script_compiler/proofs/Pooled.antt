@@ -5,7 +5,7 @@ use Rattle.mux_config.specs.Configuration.{Configuration}
 use Rattle.mux_types.proofs.Walking.{cut}
 use Rattle.script_compiler.specs.Fingerprint.{print_of}
 use Rattle.plan_flow.specs.Flows.{Flow}
-use Rattle.script_meaning.specs.declared.flow.ProgramPoint.{ProgramPoint}
+use Rattle.script_compiler.specs.declared.flow.ProgramPoint.{ProgramPoint}
 use Rattle.plan_flow.specs.declared.indices.IndexedFlow.{IndexedFlow}
 use Rattle.plan_flow.specs.declared.tracked.TrackedFlow.{TrackedFlow}
 use Rattle.plan_flow.specs.Indexed.{flow_at, IsAt, IsTracked}

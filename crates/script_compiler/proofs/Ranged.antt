@@ -15,9 +15,9 @@ use Rattle.plan_code.specs.declared.plan.Plan.{Plan}
 use Rattle.plan_flow.specs.Rules.{Known, known_after_swap, after_wait, after_pause, perhaps_swapped, after_settle}
 use Rattle.plan_flow.specs.Flows.{Flow, known_at, after_instr, widest}
 use Rattle.script_front.specs.Block.{Block, nothing, basic, stop, when, either, repeat, forever, apply}
-use Rattle.script_meaning.specs.declared.flow.ProgramPoint.{ProgramPoint}
-use Rattle.script_meaning.specs.Scheme.{PlacedInstr, without_label, at_label, meet, join, onward, head, point_after, placed_instr, alone, places, all_places, instr_of_act, falls_out}
-use Rattle.script_meaning.specs.Compiled.{lines_of_placed}
+use Rattle.script_compiler.specs.declared.flow.ProgramPoint.{ProgramPoint}
+use Rattle.script_compiler.specs.Scheme.{PlacedInstr, without_label, at_label, meet, join, onward, head, point_after, placed_instr, alone, places, all_places, instr_of_act, falls_out}
+use Rattle.script_compiler.specs.Compiled.{lines_of_placed}
 
 -- the upper bound is below 65536
 abbrev pub IsRanged : Swap → Type 0

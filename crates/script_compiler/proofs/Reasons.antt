@@ -12,13 +12,13 @@ use Rattle.plan_flow.specs.Rules.{pages_alone}
 use Rattle.mux_config.specs.Configuration.{Configuration}
 use Rattle.mux_config.specs.Sound.{IsSound}
 use Rattle.script_front.specs.Tree.{Tree}
-use Rattle.script_meaning.specs.Compiled.{opening_of}
+use Rattle.script_compiler.specs.Compiled.{opening_of}
 use Rattle.script_front.specs.declared.tree.Statement.{Statement}
 use Rattle.script_front.specs.Block.{Block, nothing, when, either, repeat, forever, before, block_of}
-use Rattle.script_meaning.specs.declared.flow.ProgramPoint.{ProgramPoint}
-use Rattle.script_meaning.specs.Scheme.{without_label, at_label, head, point_after, falls_out}
-use Rattle.script_meaning.specs.Judged.{WaysAgree, BranchesAgree, FitsEntry}
-use Rattle.script_meaning.specs.Refused.{IsRefusedIn, IsRefusedAfter, IsUnreached}
+use Rattle.script_compiler.specs.declared.flow.ProgramPoint.{ProgramPoint}
+use Rattle.script_compiler.specs.Scheme.{without_label, at_label, head, point_after, falls_out}
+use Rattle.script_compiler.specs.Judged.{WaysAgree, BranchesAgree, FitsEntry}
+use Rattle.script_compiler.specs.Refused.{IsRefusedIn, IsRefusedAfter, IsUnreached}
 use Rattle.script_compiler.specs.Working.{Work}
 use Rattle.script_compiler.specs.declared.fault.CompileFault.{CompileFault}
 use Rattle.script_compiler.specs.declared.fault.CompileFault.TheVariants.{Refused, Limit, Memory}

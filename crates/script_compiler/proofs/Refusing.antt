@@ -5,13 +5,13 @@ use Rattle.plan_code.specs.declared.plan.Plan.{Plan}
 use Rattle.script_front.specs.declared.tree.Statement.{Statement}
 use Rattle.script_front.specs.declared.tree.Statement.TheOpen.{Statement-F}
 use Rattle.script_front.specs.Block.{Block, nothing, when, either, repeat, forever, Before, statement_step, before, block_of}
-use Rattle.script_meaning.specs.declared.flow.ProgramPoint.{ProgramPoint}
-use Rattle.script_meaning.specs.Scheme.{without_label, at_label, head, point_after, falls_out}
-use Rattle.script_meaning.specs.Judged.{IsJudged, IsDone, Reached, WaysAgree, BranchesAgree, FitsEntry}
+use Rattle.script_compiler.specs.declared.flow.ProgramPoint.{ProgramPoint}
+use Rattle.script_compiler.specs.Scheme.{without_label, at_label, head, point_after, falls_out}
+use Rattle.script_compiler.specs.Judged.{IsJudged, IsDone, Reached, WaysAgree, BranchesAgree, FitsEntry}
 use Rattle.script_compiler.specs.Working.{Work}
 use Rattle.plan_code.specs.declared.instr.Line.{Line}
-use Rattle.script_meaning.specs.Compiled.{instrs_of}
-use Rattle.script_meaning.specs.Need.{IsWithinBudget}
+use Rattle.script_compiler.specs.Compiled.{instrs_of}
+use Rattle.script_compiler.specs.Need.{IsWithinBudget}
 use Rattle.script_compiler.specs.Longest.{longest}
 use Rattle.script_compiler.proofs.Paths.{need_most}
 use Rattle.script_compiler.specs.Emission.{Left, Forks, StartsElse, points_of, way}

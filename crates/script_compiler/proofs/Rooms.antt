@@ -3,8 +3,8 @@ use Rattle.std.proofs.Common.{◌≡◌, ◌≢◌, ℕ, zero, suc, ◌+◌, ◌
 use Rattle.std.specs.Prelude.{slice_get}
 use Rattle.std.proofs.lemmas.Bool.{cases_lt}
 use Rattle.mux_config.specs.Configuration.{Configuration}
-use Rattle.script_meaning.specs.declared.flow.UnpricedLabel.{UnpricedLabel}
-use Rattle.script_meaning.specs.Compiled.{IsInTable, Added, Tabled}
+use Rattle.script_compiler.specs.declared.flow.UnpricedLabel.{UnpricedLabel}
+use Rattle.script_compiler.specs.Compiled.{IsInTable, Added, Tabled}
 use Rattle.script_compiler.specs.Room.{AreNew, HasRoomFor, named_by, Leaves}
 
 some_same : (x y : Configuration) → Some x ≡ Some y → x ≡ y

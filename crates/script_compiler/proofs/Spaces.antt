@@ -11,10 +11,10 @@ use Rattle.plan_flow.specs.declared.cause.Cause.{Cause}
 use Rattle.plan_flow.specs.Flows.{Flow, known_at, merged, FitsFlow}
 use Rattle.plan_flow.specs.Rules.{FitsSwap}
 use Rattle.script_front.specs.Block.{Block}
-use Rattle.script_meaning.specs.declared.flow.UnpricedLabel.{UnpricedLabel}
-use Rattle.script_meaning.specs.declared.flow.ProgramPoint.{ProgramPoint}
-use Rattle.script_meaning.specs.Scheme.{PlacedInstr, placed_instr, alone, onward, at_label, meet, point_after, places, unpriced_label, unpriced_labels}
-use Rattle.script_meaning.specs.Compiled.{IsInTable, Added, Tabled, lines_of_placed}
+use Rattle.script_compiler.specs.declared.flow.UnpricedLabel.{UnpricedLabel}
+use Rattle.script_compiler.specs.declared.flow.ProgramPoint.{ProgramPoint}
+use Rattle.script_compiler.specs.Scheme.{PlacedInstr, placed_instr, alone, onward, at_label, meet, point_after, places, unpriced_label, unpriced_labels}
+use Rattle.script_compiler.specs.Compiled.{IsInTable, Added, Tabled, lines_of_placed}
 use Rattle.script_compiler.specs.Working.{Work}
 use Rattle.script_compiler.specs.declared.fault.CodeLimit.{CodeLimit}
 use Rattle.script_compiler.specs.declared.fault.CodeLimit.TheVariants.{Instructions, Labels, Configurations, Counters}

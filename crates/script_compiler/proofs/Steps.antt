@@ -8,10 +8,10 @@ use Rattle.plan_flow.specs.Rules.{IsFine}
 use Rattle.script_front.specs.declared.tree.Act.{Act}
 use Rattle.script_front.specs.declared.tree.Statement.{Statement}
 use Rattle.script_front.specs.Block.{Block, nothing, basic, stop, when, either, repeat, forever, apply, named_at, before, block_of}
-use Rattle.script_meaning.specs.declared.flow.ProgramPoint.{ProgramPoint}
-use Rattle.script_meaning.specs.Scheme.{without_label, onward, alone, point_after, places, instr_of_act, falls_out}
-use Rattle.script_meaning.specs.Judged.{IsJudged, Reached}
-use Rattle.script_meaning.specs.Compiled.{nested}
+use Rattle.script_compiler.specs.declared.flow.ProgramPoint.{ProgramPoint}
+use Rattle.script_compiler.specs.Scheme.{without_label, onward, alone, point_after, places, instr_of_act, falls_out}
+use Rattle.script_compiler.specs.Judged.{IsJudged, Reached}
+use Rattle.script_compiler.specs.Compiled.{nested}
 use Rattle.script_compiler.specs.Working.{Work}
 use Rattle.script_compiler.specs.declared.fault.CompileFault.{CompileFault}
 use Rattle.script_compiler.specs.Emission.{Emits, Left, Forks, ClosesIf, StartsElse, ClosesLoop, IsAfterBranches, points_of, way, tables, has_no_instr, facts_of}

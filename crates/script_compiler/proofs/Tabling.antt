@@ -9,8 +9,8 @@ use Rattle.mux_config.specs.Configuration.{Configuration}
 use Rattle.plan_code.specs.declared.label.Label.{Label}
 use Rattle.plan_code.specs.declared.instr.Line.{Line}
 use Rattle.plan_code.specs.Program.{Program}
-use Rattle.script_meaning.specs.Need.{IsNeed}
-use Rattle.script_meaning.specs.Compiled.{Added, CostsItsNeeds, instrs_of}
+use Rattle.script_compiler.specs.Need.{IsNeed}
+use Rattle.script_compiler.specs.Compiled.{Added, CostsItsNeeds, instrs_of}
 use Rattle.script_compiler.specs.Longest.{longest, Priced}
 use Rattle.script_compiler.proofs.Paths.{within_from, is_need}
 use Rattle.script_compiler.proofs.Rooms.{stands_last}

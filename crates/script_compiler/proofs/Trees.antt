@@ -6,7 +6,7 @@ use Rattle.script_front.specs.declared.tree.Statement.TheOpen.{Statement-F}
 use Rattle.script_front.specs.declared.tree.Statement.TheViews.{out-Statement}
 use Rattle.script_front.specs.declared.tree.Statement.TheFolds.{fold_out-Statement, map-Statement}
 use Rattle.script_front.specs.Block.{Block, nothing, Before, whole, named_at, statement_step, before, block_of}
-use Rattle.script_meaning.specs.Scheme.{falls_out}
+use Rattle.script_compiler.specs.Scheme.{falls_out}
 use Rattle.script_compiler.specs.Emission.{has_no_instr}
 
 -- a property of each statement, given its parts as blocks, is a property of each statement

@@ -21,11 +21,11 @@ use Rattle.plan_flow.proofs.Leaving.{leaves_known}
 use Rattle.plan_verifier.specs.Typing.{Declares, CanEnter, Arrives, HasOpening, IsLabelTyped, Reaches, IsAfter, IsSafe, IsTyped}
 use Rattle.script_front.specs.Block.{Block}
 use Rattle.script_front.specs.Tree.{Tree}
-use Rattle.script_meaning.specs.declared.flow.ProgramPoint.{ProgramPoint}
-use Rattle.script_meaning.specs.Scheme.{PlacedInstr, without_label, all_places, unpriced_label, unpriced_labels}
-use Rattle.script_meaning.specs.Judged.{IsJudged}
-use Rattle.script_meaning.specs.Need.{StepsTo, IsNeed, IsWithinBudget}
-use Rattle.script_meaning.specs.Compiled.{beginning, opening_of, body_of, placed_instrs, lines_of_placed, instrs_of, first_counters, nested, IsLabelOf, AreLabelsOf, IsCodeOf, CostsItsNeeds, IsAccepted}
+use Rattle.script_compiler.specs.declared.flow.ProgramPoint.{ProgramPoint}
+use Rattle.script_compiler.specs.Scheme.{PlacedInstr, without_label, all_places, unpriced_label, unpriced_labels}
+use Rattle.script_compiler.specs.Judged.{IsJudged}
+use Rattle.script_compiler.specs.Need.{StepsTo, IsNeed, IsWithinBudget}
+use Rattle.script_compiler.specs.Compiled.{beginning, opening_of, body_of, placed_instrs, lines_of_placed, instrs_of, first_counters, nested, IsLabelOf, AreLabelsOf, IsCodeOf, CostsItsNeeds, IsAccepted}
 use Rattle.script_compiler.specs.Longest.{longest}
 use Rattle.script_compiler.proofs.Paths.{one_least, need_most, need_onward, is_need}
 use Rattle.script_compiler.proofs.Emitted.{length_lines}

@@ -15,11 +15,11 @@ use Rattle.plan_flow.specs.Flows.{known_at}
 use Rattle.plan_flow.specs.Causes.{WhereSome, CommitRefused, FlowRefused}
 use Rattle.script_front.specs.declared.tree.Item.{Item}
 use Rattle.script_front.specs.Block.{Block, nothing, basic, stop, when, either, repeat, forever, apply}
-use Rattle.script_meaning.specs.declared.flow.ProgramPoint.{ProgramPoint}
-use Rattle.script_meaning.specs.Scheme.{instr_of_act}
-use Rattle.script_meaning.specs.Compiled.{instrs_of}
-use Rattle.script_meaning.specs.Need.{HasPath}
-use Rattle.script_meaning.specs.Refused.{IsUnreached, IsMismatch, IsRefusedAfter, IsRefusedIn, IsItemRefused, IsOpeningRefused}
+use Rattle.script_compiler.specs.declared.flow.ProgramPoint.{ProgramPoint}
+use Rattle.script_compiler.specs.Scheme.{instr_of_act}
+use Rattle.script_compiler.specs.Compiled.{instrs_of}
+use Rattle.script_compiler.specs.Need.{HasPath}
+use Rattle.script_compiler.specs.Refused.{IsUnreached, IsMismatch, IsRefusedAfter, IsRefusedIn, IsItemRefused, IsOpeningRefused}
 use Rattle.mux_config.specs.Edits.{changed}
 use Rattle.script_compiler.specs.Costs.{ClosesCycle, IsCostlyAt, HasCostAt}
 use Rattle.script_compiler.specs.Longest.{longest}

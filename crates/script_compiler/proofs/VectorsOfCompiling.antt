@@ -6,7 +6,7 @@ use Rattle.plan_flow.specs.declared.cause.Cause.TheVariants.{Mismatch, Cost}
 use Rattle.script_front.specs.declared.tree.Statement.TheVariants.{End}
 use Rattle.script_front.specs.Block.{Block, nothing, stop}
 use Rattle.script_compiler.specs.declared.context.Context.{Context}
-use Rattle.script_meaning.specs.Scheme.{placed_instr}
+use Rattle.script_compiler.specs.Scheme.{placed_instr}
 use Rattle.script_compiler.specs.declared.fault.CodeLimit.TheVariants.{Instructions, Labels, Counters}
 use Rattle.script_compiler.specs.declared.fault.CompileFault.TheVariants.{Refused, Limit}
 use Rattle.script_compiler.specs.Refusals.{IsLimitAt, IfMismatchAt, IfLimitAt}

@@ -5,7 +5,7 @@ use Rattle.plan_code.specs.declared.instr.Instr.{Instr}
 use Rattle.plan_code.specs.declared.instr.Instr.TheVariants.{Wait, Settle, End, Jump}
 use Rattle.plan_code.specs.declared.instr.Line.{Line}
 use Rattle.plan_flow.specs.Rules.{suspends, target_of}
-use Rattle.script_meaning.specs.Need.{StepsTo}
+use Rattle.script_compiler.specs.Need.{StepsTo}
 use Rattle.script_compiler.specs.Costs.{CanReach, CanRevisit, ClosesCycle, IsOver, IsCostlyAt, HasCostAt}
 
 -- `forever { settle }`: the jump at its end is the first instruction that closes a loop without a suspension

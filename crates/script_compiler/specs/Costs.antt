@@ -4,8 +4,8 @@ use Rattle.plan_code.specs.declared.instr.Instr.{Instr}
 use Rattle.plan_code.specs.declared.instr.Line.{Line}
 use Rattle.plan_flow.specs.Rules.{target_of}
 use Rattle.script_front.specs.Tree.{Tree}
-use Rattle.script_meaning.specs.Need.{StepsTo, HasPath}
-use Rattle.script_meaning.specs.Compiled.{placed_instrs, lines_of_placed, instrs_of}
+use Rattle.script_compiler.specs.Need.{StepsTo, HasPath}
+use Rattle.script_compiler.specs.Compiled.{placed_instrs, lines_of_placed, instrs_of}
 
 -- the machine can go from one pc to another in this many steps of one frame
 abbrev pub CanReach : List Instr → ℕ → ℕ → ℕ → Type 0

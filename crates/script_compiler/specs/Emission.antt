@@ -8,11 +8,11 @@ use Rattle.plan_code.specs.declared.instr.Line.{Line}
 use Rattle.plan_flow.specs.declared.cause.Cause.{Cause}
 use Rattle.script_front.specs.declared.tree.Statement.{Statement}
 use Rattle.script_front.specs.Block.{Block, nothing, apply, table_of}
-use Rattle.script_meaning.specs.declared.flow.ProgramPoint.{ProgramPoint}
-use Rattle.script_meaning.specs.Scheme.{PlacedInstr, onward, point_after, places, unpriced_labels, alone, without_label, at_label, meet, join, falls_out}
-use Rattle.script_meaning.specs.Judged.{IsJudged, Reached, WaysAgree, BranchesAgree, FitsEntry}
-use Rattle.script_meaning.specs.Refused.{IsRefusedIn, IsRefusedAfter}
-use Rattle.script_meaning.specs.Compiled.{lines_of_placed, nested}
+use Rattle.script_compiler.specs.declared.flow.ProgramPoint.{ProgramPoint}
+use Rattle.script_compiler.specs.Scheme.{PlacedInstr, onward, point_after, places, unpriced_labels, alone, without_label, at_label, meet, join, falls_out}
+use Rattle.script_compiler.specs.Judged.{IsJudged, Reached, WaysAgree, BranchesAgree, FitsEntry}
+use Rattle.script_compiler.specs.Refused.{IsRefusedIn, IsRefusedAfter}
+use Rattle.script_compiler.specs.Compiled.{lines_of_placed, nested}
 use Rattle.script_compiler.specs.declared.context.BlockFacts.{BlockFacts}
 use Rattle.script_compiler.specs.Working.{Work}
 

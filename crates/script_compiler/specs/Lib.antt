@@ -1,3 +1,9 @@
+pub mod Scheme
+pub mod Judged
+pub mod Need
+pub mod Compiled
+pub mod Refused
+pub mod Meaning
 pub mod Refusals
 pub mod Emission
 pub mod Compiling

@@ -3,9 +3,9 @@ use Rattle.std.specs.Prelude.{◌≤◌, List, [], length}
 use Rattle.mux_config.specs.Configuration.{Configuration}
 use Rattle.plan_code.specs.declared.limits.TheConstants.{MOST_CONFIGURATIONS, MOST_LABELS, MOST_INSTRUCTIONS, COUNTERS}
 use Rattle.script_front.specs.Tree.{Tree}
-use Rattle.script_meaning.specs.Scheme.{unpriced_labels}
-use Rattle.script_meaning.specs.Judged.{IsJudged}
-use Rattle.script_meaning.specs.Compiled.{body_of, beginning, opening_of, placed_instrs, nested, Tabled}
+use Rattle.script_compiler.specs.Scheme.{unpriced_labels}
+use Rattle.script_compiler.specs.Judged.{IsJudged}
+use Rattle.script_compiler.specs.Compiled.{body_of, beginning, opening_of, placed_instrs, nested, Tabled}
 use Rattle.script_compiler.specs.declared.fault.CodeLimit.{CodeLimit}
 use Rattle.script_compiler.specs.declared.fault.CodeLimit.TheVariants.{Instructions, Labels, Configurations, Counters}
 

@@ -2,8 +2,8 @@
 use Rattle.std.specs.Prelude.{◌≡◌, ℕ, ◌<◌, List, [], ◌∷◌, ◌++◌, Some, slice_get}
 use Rattle.mux_config.specs.Configuration.{Configuration}
 use Rattle.plan_flow.specs.Indexed.{flow_at, IsWithin}
-use Rattle.script_meaning.specs.declared.flow.UnpricedLabel.{UnpricedLabel}
-use Rattle.script_meaning.specs.declared.flow.ProgramPoint.{ProgramPoint}
+use Rattle.script_compiler.specs.declared.flow.UnpricedLabel.{UnpricedLabel}
+use Rattle.script_compiler.specs.declared.flow.ProgramPoint.{ProgramPoint}
 use Rattle.script_compiler.specs.declared.short.IndexedPoint.{IndexedPoint}
 
 -- no configuration has two numbers

@@ -1,7 +1,7 @@
 -- The search for the pcs that can be reached in a frame. Not used in public contracts.
 use Rattle.std.specs.Prelude.{◌≡◌, ℕ, suc, ◌+◌, ◌<◌, ◌⊎◌, Bool, true, if◌then◌else◌, List, [], ◌∷◌, length, slice_get, Some}
 use Rattle.plan_code.specs.declared.instr.Instr.{Instr}
-use Rattle.script_meaning.specs.Need.{StepsTo}
+use Rattle.script_compiler.specs.Need.{StepsTo}
 use Rattle.script_compiler.specs.Costs.{CanReach}
 
 abbrev pub IsAt : List Bool → ℕ → Type 0

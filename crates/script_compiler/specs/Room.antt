@@ -1,8 +1,8 @@
 -- Whether a table of configurations has room for more. Not used in public contracts.
 use Rattle.std.specs.Prelude.{ℕ, ◌+◌, ◌≤◌, List, [], ◌∷◌, ◌++◌, length}
 use Rattle.mux_config.specs.Configuration.{Configuration}
-use Rattle.script_meaning.specs.declared.flow.UnpricedLabel.{UnpricedLabel}
-use Rattle.script_meaning.specs.Compiled.{IsInTable}
+use Rattle.script_compiler.specs.declared.flow.UnpricedLabel.{UnpricedLabel}
+use Rattle.script_compiler.specs.Compiled.{IsInTable}
 
 -- the last list has some of the configurations `cs`, each once, and none that is in the table
 abbrev pub AreNew : List Configuration → List Configuration → List Configuration → Type 0

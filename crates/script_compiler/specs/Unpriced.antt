@@ -3,8 +3,8 @@ pub use Rattle.plan_flow.specs.Indexed.{configuration_at}
 use Rattle.std.specs.Prelude.{ℕ, ◌<◌, ◌≤◌, List, [], ◌∷◌, slice_index}
 use Rattle.mux_config.specs.Configuration.{Configuration}
 use Rattle.plan_code.specs.declared.label.Label.{Label}
-use Rattle.script_meaning.specs.declared.flow.UnpricedLabel.{UnpricedLabel}
-use Rattle.script_meaning.specs.Compiled.{first_counters}
+use Rattle.script_compiler.specs.declared.flow.UnpricedLabel.{UnpricedLabel}
+use Rattle.script_compiler.specs.Compiled.{first_counters}
 use Rattle.script_compiler.specs.declared.short.IndexedLabel.{IndexedLabel}
 
 -- unpriced labels, and the table of the configurations that they name

@@ -2,10 +2,10 @@
 
 ghost use Rattle.std.specs.Prelude.{◌≡◌, ℕ, ◌+◌, ◌<◌, true, if◌then◌else◌, [], ◌∷◌, ◌++◌, length, List, Option, Some, is_some, OnOk, IfOk, IfErr};
 ghost use Rattle.plan_code.specs.declared.instr.Instr.{Instr};
-ghost use Rattle.script_meaning.specs.declared.flow.ProgramPoint.{ProgramPoint};
-ghost use Rattle.script_meaning.specs.Scheme.{PlacedInstr, alone, onward, meet, join, unpriced_labels};
-ghost use Rattle.script_meaning.specs.Judged.{WaysAgree, BranchesAgree, FitsEntry};
-ghost use Rattle.script_meaning.specs.Compiled.{lines_of_placed};
+ghost use Rattle.script_compiler.specs.declared.flow.ProgramPoint.{ProgramPoint};
+ghost use Rattle.script_compiler.specs.Scheme.{PlacedInstr, alone, onward, meet, join, unpriced_labels};
+ghost use Rattle.script_compiler.specs.Judged.{WaysAgree, BranchesAgree, FitsEntry};
+ghost use Rattle.script_compiler.specs.Compiled.{lines_of_placed};
 ghost use Rattle.script_compiler.specs.Pool.{Extends, IsInPool, point_in};
 ghost use Rattle.script_compiler.specs.Refusals.{IsLimitAt, IfMismatchAt, IfLimitAt};
 ghost use Rattle.script_compiler.specs.Space.{HasSpace, LacksSpace, IsInLimits, HasTable, IsCovered, Covers};

@@ -4,14 +4,14 @@ ghost use Rattle.std.specs.Prelude.{◌≡◌, ◌≢◌, ℕ, ◌+◌, ◌<◌,
 ghost use Rattle.script_compiler.specs.Costs.{HasCostAt, IsCostRefused};
 ghost use Rattle.script_compiler.specs.Longest.{longest};
 ghost use Rattle.plan_flow.specs.Rules.{pages_alone};
-ghost use Rattle.script_meaning.specs.Scheme.{all_places, unpriced_labels};
-ghost use Rattle.script_meaning.specs.Compiled.{lines_of_placed, body_of, beginning, opening_of, placed_instrs, instrs_of, nested, AreFine, Tabled, IsCodeOf, CostsItsNeeds, IsAccepted};
-ghost use Rattle.script_meaning.specs.Judged.{IsJudged};
-ghost use Rattle.script_meaning.specs.Need.{IsWithinBudget};
+ghost use Rattle.script_compiler.specs.Scheme.{all_places, unpriced_labels};
+ghost use Rattle.script_compiler.specs.Compiled.{lines_of_placed, body_of, beginning, opening_of, placed_instrs, instrs_of, nested, AreFine, Tabled, IsCodeOf, CostsItsNeeds, IsAccepted};
+ghost use Rattle.script_compiler.specs.Judged.{IsJudged};
+ghost use Rattle.script_compiler.specs.Need.{IsWithinBudget};
 ghost use Rattle.mux_config.specs.Configuration.{nothing};
 ghost use Rattle.mux_config.specs.Sound.{IsSound};
 ghost use Rattle.script_compiler.specs.Emission.{tables, facts_of};
-ghost use Rattle.script_meaning.specs.Refused.{IsRefusedIn, IsRefused};
+ghost use Rattle.script_compiler.specs.Refused.{IsRefusedIn, IsRefused};
 ghost use Rattle.plan_flow.specs.declared.cause.Cause.TheVariants.{Cost};
 ghost use Rattle.script_compiler.specs.Refusals.{IsRefusal, IfRefused, IfLimit};
 ghost use Rattle.script_compiler.specs.Space.{Keeps};
@@ -19,12 +19,13 @@ ghost use Rattle.script_compiler.specs.Limits.{Passes};
 ghost use Rattle.script_compiler.specs.declared.fault.CompileFault.TheVariants.{Memory};
 ghost use Rattle.plan_code.specs.Program.{IsProgram};
 ghost use Rattle.plan_verifier.specs.Typing.{IsTyped};
-ghost use Rattle.script_meaning.specs.Meaning.{PlaysAsItReads};
+ghost use Rattle.script_compiler.specs.Meaning.{PlaysAsItReads};
 
 use crate::context::{BlockFacts, Context};
 use crate::cost::costly;
 use crate::falls::{all_fall, all_silent};
 use crate::fault::CompileFault;
+use crate::laws;
 use crate::needs::{first_over, needs};
 use crate::opening::{built, test};
 use crate::refusal::refused;
@@ -33,7 +34,6 @@ use mux_config::Config;
 use plan_code::{Code, Line, Plan};
 use plan_flow::Cause;
 use script_front::{Script, Statement};
-use script_meaning::laws;
 use std::alloc::{AllocError, Global};
 
 /// The facts of each block, in order.

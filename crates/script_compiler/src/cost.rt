@@ -2,8 +2,8 @@
 
 ghost use Rattle.std.specs.Prelude.{◌≡◌, ◌↔◌, ◌+◌, ◌<◌, ◌≤◌, ℕ, [], true, false, length, slice_get, Some, None, IsTrue, IfOk, IfSome, OnOk};
 ghost use Rattle.plan_flow.specs.Rules.{continues, target_of};
-ghost use Rattle.script_meaning.specs.Compiled.{instrs_of};
-ghost use Rattle.script_meaning.specs.Need.{StepsTo};
+ghost use Rattle.script_compiler.specs.Compiled.{instrs_of};
+ghost use Rattle.script_compiler.specs.Need.{StepsTo};
 ghost use Rattle.script_compiler.specs.Costs.{ClosesCycle, CanRevisit, IsCostlyAt, IsFirst};
 ghost use Rattle.script_compiler.specs.Longest.{longest};
 ghost use Rattle.script_compiler.specs.Reaching.{GrowsBy, IsAt, Searched, trues};

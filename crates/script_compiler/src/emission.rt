@@ -5,7 +5,7 @@ ghost use Rattle.plan_code.specs.declared.instr.Instr.{Instr};
 ghost use Rattle.plan_code.specs.declared.instr.Instr.TheVariants.{End};
 ghost use Rattle.plan_flow.specs.Flows.{known_at, after_instr};
 ghost use Rattle.plan_flow.specs.Rules.{IsFine};
-ghost use Rattle.script_meaning.specs.Scheme.{PlacedInstr, without_label, at_label, alone, onward, unpriced_labels, instr_of_act};
+ghost use Rattle.script_compiler.specs.Scheme.{PlacedInstr, without_label, at_label, alone, onward, unpriced_labels, instr_of_act};
 ghost use Rattle.plan_flow.specs.Causes.{FlowRefused};
 ghost use Rattle.script_compiler.specs.Pool.{Extends, IsInPool, point_in};
 ghost use Rattle.script_compiler.specs.Refusals.{IsLimitAt, IfRefused, IfLimitAt};

@@ -2,7 +2,7 @@
 
 ghost use Rattle.std.specs.Prelude.{◌≡◌, map, List};
 ghost use Rattle.script_front.specs.Block.{Block, nothing, block_of, before};
-ghost use Rattle.script_meaning.specs.Scheme.{falls_out};
+ghost use Rattle.script_compiler.specs.Scheme.{falls_out};
 ghost use Rattle.script_compiler.specs.Emission.{has_no_instr, facts_of};
 
 use crate::context::BlockFacts;

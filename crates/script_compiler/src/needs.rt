@@ -1,7 +1,7 @@
 //! The needs of a code: the most instructions that can run from each pc in one frame.
 
 ghost use Rattle.std.specs.Prelude.{◌≡◌, ◌+◌, ◌≤◌, ◌<◌, ℕ, length, slice_get, slice_index, if◌then◌else◌, true, Some, None, IfOk, IfSome, max};
-ghost use Rattle.script_meaning.specs.Compiled.{instrs_of};
+ghost use Rattle.script_compiler.specs.Compiled.{instrs_of};
 ghost use Rattle.script_compiler.specs.Longest.{need_at, need_to, longest};
 ghost use Rattle.plan_flow.specs.Rules.{continues, target_of};
 

@@ -7,8 +7,8 @@ ghost use Rattle.mux_config.specs.Sound.{IsSound};
 ghost use Rattle.plan_flow.specs.Rules.{pages_alone};
 ghost use Rattle.plan_flow.specs.Causes.{WhereSome};
 ghost use Rattle.plan_flow.specs.declared.cause.Cause.TheVariants.{Edit as OfEdit};
-ghost use Rattle.script_meaning.specs.Compiled.{with_items, AreFine};
-ghost use Rattle.script_meaning.specs.Refused.{IsItemRefused, IsOpeningRefused};
+ghost use Rattle.script_compiler.specs.Compiled.{with_items, AreFine};
+ghost use Rattle.script_compiler.specs.Refused.{IsItemRefused, IsOpeningRefused};
 ghost use Rattle.script_compiler.specs.Refusals.{IfRefused, IfLimit};
 
 use crate::fault::CompileFault;

@@ -3,7 +3,7 @@
 ghost use Rattle.std.specs.Prelude.{List};
 ghost use Rattle.script_front.specs.Block.{Block, nothing, when, either, repeat, forever, before};
 ghost use Rattle.plan_flow.specs.declared.cause.Cause.TheVariants.{Table};
-ghost use Rattle.script_meaning.specs.Refused.{IsUnreached};
+ghost use Rattle.script_compiler.specs.Refused.{IsUnreached};
 ghost use Rattle.script_compiler.specs.Compiling.{CanCompile, Compiles, block_in, statement_in};
 
 use crate::context::Context;

@@ -1,7 +1,7 @@
 //! The table of configurations that labels name, each configuration once.
 
 ghost use Rattle.std.specs.Prelude.{◌≡◌, ◌≢◌, ◌≤◌, ◌<◌, ℕ, [], ◌∷◌, ◌++◌, length, map, slice_get, false, true, Some, None, OnOk, IfOk, IfErr, IfSome};
-ghost use Rattle.script_meaning.specs.Compiled.{Added};
+ghost use Rattle.script_compiler.specs.Compiled.{Added};
 ghost use Rattle.script_compiler.specs.Refusals.{IsLimitAt};
 ghost use Rattle.script_compiler.specs.Unpriced.{configuration_at};
 ghost use Rattle.script_compiler.specs.Pool.{AreBelow, Extends, IsDistinct};

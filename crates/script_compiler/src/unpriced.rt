@@ -1,7 +1,7 @@
 //! Labels without their costs, and the table of the configurations that they name.
 
 ghost use Rattle.std.specs.Prelude.{◌≡◌, ℕ, ◌<◌, ◌≤◌, [], ◌∷◌, ◌++◌, length, slice_get, slice_index, false, Some, OnOk, IfOk, IfErr};
-ghost use Rattle.script_meaning.specs.Compiled.{Added, AreLabelsOf};
+ghost use Rattle.script_compiler.specs.Compiled.{Added, AreLabelsOf};
 ghost use Rattle.script_compiler.specs.Refusals.{IsLimitAt};
 ghost use Rattle.script_compiler.specs.Longest.{Priced};
 ghost use Rattle.script_compiler.specs.Unpriced.{configuration_at, unpriced_in};

@@ -3,15 +3,16 @@
 ghost use Rattle.std.specs.Prelude.{◌≡◌, ◌↔◌, ◌+◌, ◌<◌, true, false, [], ◌∷◌, ◌++◌, length, Some, IsOk, IsTrue, OnOk, IfOk, IfErr};
 ghost use Rattle.plan_flow.specs.Flows.{known_at, merged, after_instr, FitsFlow};
 ghost use Rattle.plan_flow.specs.Rules.{IsFine};
-ghost use Rattle.script_meaning.specs.declared.flow.ProgramPoint.{ProgramPoint};
-ghost use Rattle.script_meaning.specs.Scheme.{without_label, meet, instr_of_act};
-ghost use Rattle.script_meaning.specs.Judged.{WaysAgree};
-ghost use Rattle.script_meaning.specs.Compiled.{beginning};
+ghost use Rattle.script_compiler.specs.declared.flow.ProgramPoint.{ProgramPoint};
+ghost use Rattle.script_compiler.specs.Scheme.{without_label, meet, instr_of_act};
+ghost use Rattle.script_compiler.specs.Judged.{WaysAgree};
+ghost use Rattle.script_compiler.specs.Compiled.{beginning};
 ghost use Rattle.script_compiler.specs.Pool.{Extends, IsInPool, point_in};
 ghost use Rattle.script_compiler.specs.Refusals.{IsRefusedAs};
 ghost use Rattle.script_compiler.specs.Space.{HasTable};
 ghost use Rattle.script_compiler.specs.declared.fault.CompileFault.TheVariants.{Memory};
 
+use crate::ProgramPoint;
 use crate::fault::CompileFault;
 use crate::judge::judge;
 use crate::numbers::numbered;
@@ -22,7 +23,6 @@ use mux_tables::Tables;
 use plan_code::{Line, Plan};
 use plan_flow::TrackedFlow;
 use script_front::Act;
-use script_meaning::ProgramPoint;
 use std::alloc::Global;
 use std::marker::Model;
 

@@ -12,9 +12,9 @@ use Rattle.mux_types.specs.declared.parts.Packet.{Packet}
 use Rattle.mux_types.specs.Configuration.{Configuration, IsConfiguration, IsService, carrier_of, component_limit}
 use Rattle.mux_types.specs.Sameness.{is_same_component, is_same_packet}
 use Rattle.mux_config.specs.Edits.{sub_at, service_at, packet_at}
-use Rattle.mux_edits.specs.Making.{components_added}
-use Rattle.mux_edits.specs.Differences.{is_same_profile, after_common, components_dropped, service_gone, service_cut, packet_gone, sub_gone, start_altered, rate_altered, alterations, sub_altered, sub_new, packet_new, service_grown, edits_between}
-use Rattle.mux_edits.proofs.Counting.{few_each}
+use Rattle.script_config.specs.Making.{components_added}
+use Rattle.script_config.specs.Differences.{is_same_profile, after_common, components_dropped, service_gone, service_cut, packet_gone, sub_gone, start_altered, rate_altered, alterations, sub_altered, sub_new, packet_new, service_grown, edits_between}
+use Rattle.script_config.proofs.Counting.{few_each}
 
 each_any : {T : Type 0} (xs : List T) → AllByRecursion (λ x. Unit {0}) xs
 each_any [] = tt

@@ -4,7 +4,7 @@ use Rattle.std.proofs.lemmas.List.{drop_more, drop_all}
 use Rattle.mux_types.specs.Configuration.{Configuration}
 use Rattle.mux_config.specs.declared.fault.EditFault.{EditFault}
 use Rattle.mux_config.specs.Edits.{edit_fault, changed}
-use Rattle.mux_edits.specs.Sequences.{Transform}
+use Rattle.script_config.specs.Sequences.{Transform}
 use Rattle.script_front.specs.declared.tree.Item.{Item}
 use Rattle.script_front.specs.Alike.{added_by}
 use Rattle.script_config.specs.declared.items.ItemFault.{ItemFault}

@@ -13,9 +13,9 @@ use Rattle.plan_code.specs.declared.plan.Plan.{Plan}
 use Rattle.script_front.specs.Tree.{IsAct}
 use Rattle.plan_code.specs.Program.{IsPlan}
 use Rattle.mux_types.specs.Configuration.{Configuration, IsConfiguration}
-use Rattle.mux_edits.specs.Differences.{edits_between}
-use Rattle.mux_edits.specs.Sequences.{Transform}
-use Rattle.mux_edits.proofs.Counting.{between_few}
+use Rattle.script_config.specs.Differences.{edits_between}
+use Rattle.script_config.specs.Sequences.{Transform}
+use Rattle.script_config.proofs.Counting.{between_few}
 use Rattle.script_config.proofs.Members.{both, each_at}
 use Rattle.script_config.proofs.Ranged.{between_formed}
 use Rattle.script_config.specs.Plan.{pause_after, paced, committed, plan_acts}

@@ -13,7 +13,7 @@ use Rattle.mux_types.specs.declared.parts.Service.{Service}
 use Rattle.mux_types.specs.declared.parts.Component.{Component}
 use Rattle.mux_types.specs.declared.parts.Packet.{Packet}
 use Rattle.mux_types.specs.Configuration.{Configuration, IsConfiguration, IsPlaced, IsService, IsAddressed, IsComponent, IsSid}
-use Rattle.mux_edits.specs.Making.{sub_added, components_added, service_added, packet_added, edits_that_make}
+use Rattle.script_config.specs.Making.{sub_added, components_added, service_added, packet_added, edits_that_make}
 use Rattle.plan_code.specs.Program.{IsEdit}
 use Rattle.script_front.specs.declared.tree.Act.{Act}
 use Rattle.script_front.specs.declared.tree.Item.{Item}

@@ -14,9 +14,9 @@ use Rattle.mux_types.specs.Configuration.{Configuration, IsConfiguration, IsPlac
 use Rattle.mux_types.specs.Sameness.{is_same_component, is_same_packet}
 use Rattle.mux_types.specs.Tables.{entry_at}
 use Rattle.mux_config.specs.Edits.{sub_at, service_at, packet_at}
-use Rattle.mux_edits.specs.Making.{sub_added, components_added, packet_added}
-use Rattle.mux_edits.specs.Differences.{after_common, components_dropped, service_gone, service_cut, packet_gone, sub_gone, is_same_profile, start_altered, rate_altered, alterations, sub_altered, sub_new, packet_new, service_grown, edits_between}
-use Rattle.mux_edits.proofs.Lookups.{found_first, found_cases}
+use Rattle.script_config.specs.Making.{sub_added, components_added, packet_added}
+use Rattle.script_config.specs.Differences.{after_common, components_dropped, service_gone, service_cut, packet_gone, sub_gone, is_same_profile, start_altered, rate_altered, alterations, sub_altered, sub_new, packet_new, service_grown, edits_between}
+use Rattle.script_config.proofs.Lookups.{found_first, found_cases}
 use Rattle.plan_code.specs.Program.{IsEdit, IsCarrier}
 use Rattle.script_config.proofs.Members.{both, each_as, each_of}
 use Rattle.script_config.proofs.PlainScripts.{IsAdding, components_adding, packet_adding, rate_short, sub_adding}

@@ -1,3 +1,6 @@
+pub mod Differences
+pub mod Making
+pub mod Sequences
 pub mod Ensembles
 pub mod Frames
 pub mod HeardAgain
@@ -12,8 +15,10 @@ pub use Rattle.fib_carousel.specs.Pages
 pub use Rattle.fib_reader.specs.Listening
 pub use Rattle.fib_reader.specs.Picture
 pub use Rattle.fib_reader.specs.Raw
-pub use Rattle.mux_edits.specs.Making
-pub use Rattle.mux_edits.specs.Sequences
 pub use Rattle.script_front.specs.Alike
 pub use Rattle.script_front.specs.Block
 pub use Rattle.script_front.specs.Tree
+pub use Rattle.mux_config.specs.Edits
+pub use Rattle.mux_types.specs.Configuration
+pub use Rattle.mux_types.specs.Sameness
+pub use Rattle.mux_types.specs.Tables

@@ -2,7 +2,7 @@
 use Rattle.std.specs.Prelude.{ℕ, ◌+◌, ◌-◌, ◌%◌, ◌==◌, if◌then◌else◌, List, [], ◌∷◌, ◌++◌}
 use Rattle.mux_config.specs.declared.edit.Edit.{Edit}
 use Rattle.mux_types.specs.Configuration.{Configuration}
-use Rattle.mux_edits.specs.Differences.{edits_between}
+use Rattle.script_config.specs.Differences.{edits_between}
 use Rattle.script_front.specs.declared.tree.Act.{Act}
 use Rattle.script_front.specs.declared.tree.Act.TheVariants.{Edit as Edits, Wait, CommitIn, Join}
 use Rattle.plan_code.specs.declared.plan.Plan.{Plan}

@@ -1,7 +1,7 @@
 -- The text of a configuration: a script whose items make it.
 use Rattle.std.specs.Prelude.{◌≡◌, ℕ, ◌+◌, ◌*◌, List, [], if◌then◌else◌, nat_lt}
 use Rattle.mux_config.specs.Configuration.{Configuration, nothing}
-use Rattle.mux_edits.specs.Sequences.{Transform}
+use Rattle.script_config.specs.Sequences.{Transform}
 use Rattle.plan_code.specs.declared.limits.TheConstants.{LONGEST_PERIOD}
 use Rattle.plan_code.specs.declared.plan.Plan.{Plan}
 use Rattle.script_front.specs.Alike.{added_by}

@@ -4,7 +4,7 @@ ghost use Rattle.std.specs.Prelude.{◌≡◌, None, Some, IfOk, IfErr, OnOk};
 ghost use Rattle.mux_config.specs.Configuration.{nothing};
 ghost use Rattle.mux_config.specs.Edits.{changed, edit_fault};
 ghost use Rattle.script_front.specs.Alike.{added_by};
-ghost use Rattle.mux_edits.specs.Sequences.{Transform};
+ghost use Rattle.script_config.specs.Sequences.{Transform};
 ghost use Rattle.script_config.specs.Items.{made_by};
 
 use mux_config::{Config, EditFault, Store};

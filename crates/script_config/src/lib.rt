@@ -5,30 +5,40 @@
 //! - To a script: [`script_of`] makes the script that begins with a configuration, and [`config_text`] its text.
 //! - From a stream of FIBs: [`eid_after`] returns the EId that it signals last, and [`config_heard`] the configuration
 //!   that a picture shows, or the first entry that no configuration has.
+//! - Between two configurations: [`edits_that_make`] returns the edits that make a configuration from the empty one,
+//!   and [`edits_between`] those that turn one into another.
 //! - Between two openings: [`fault_between`] says why there is no plan, and [`plan_between`] makes the plan that turns
 //!   one configuration into the other by one reconfiguration.
-//! - The law that a configuration which is sent page by page is heard again is in [`laws`].
+//! - That no edit of these has a fault, and what they result in, is a law in [`laws`], and so is that a configuration
+//!   which is sent page by page is heard again.
 //!
 //! What items make is defined in `specs/Items.antt`, the script of a configuration in `specs/Plain.antt` and its text
 //! in `specs/Texts.antt`; the EId of a stream in `specs/Ensembles.antt`, and entries that no configuration has in
-//! `specs/Unsaid.antt`; the plan in `specs/Plan.antt`, over the edits of `mux_edits` between two configurations,
-//! the refusals in `specs/Refusals.antt`, and what is heard again in `specs/HeardAgain.antt`.
+//! `specs/Unsaid.antt`; edits in `specs/Making.antt` and `specs/Differences.antt`; the plan in `specs/Plan.antt`, the
+//! refusals in `specs/Refusals.antt`, and what is heard again in `specs/HeardAgain.antt`.
 #![tactic(auto)]
 
+pub mod coming;
+pub mod difference;
 pub mod ensembles;
+pub mod going;
 pub mod heard;
 pub mod items;
 pub mod laws;
 mod list;
+pub mod making;
 pub mod opening;
 pub mod plain;
 pub mod plan;
 pub mod refusal;
+pub mod staying;
 pub mod text;
 
+pub use difference::edits_between;
 pub use ensembles::eid_after;
 pub use heard::config_heard;
 pub use items::{ItemFault, opening_of};
+pub use making::edits_that_make;
 pub use opening::{Opening, OpeningFault, read_opening};
 pub use plain::{MOST_ACTS, script_of};
 pub use plan::plan_between;

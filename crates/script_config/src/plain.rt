@@ -3,17 +3,17 @@
 ghost use Rattle.std.specs.Prelude.{◌≡◌, ◌≤◌, ◌+◌, [], length, IfOk};
 ghost use Rattle.std.specs.List.{All};
 ghost use Rattle.mux_config.specs.Configuration.{nothing};
-ghost use Rattle.mux_edits.specs.Making.{edits_that_make};
-ghost use Rattle.mux_edits.specs.Sequences.{Transform};
+ghost use Rattle.script_config.specs.Making.{edits_that_make};
+ghost use Rattle.script_config.specs.Sequences.{Transform};
 ghost use Rattle.script_front.specs.Alike.{added_by};
 ghost use Rattle.script_front.specs.Block.{Block, and_then};
 ghost use Rattle.script_front.specs.Tree.{IsAct};
 ghost use Rattle.plan_code.specs.Program.{IsPlan};
 ghost use Rattle.script_config.specs.Plain.{items_from, acts_from, IsPlain};
 
+use crate::edits_that_make;
 use crate::list::put;
 use mux_config::{Config, Edit};
-use mux_edits::edits_that_make;
 use plan_code::Plan;
 use script_front::make::acting;
 use script_front::{Act, Item, Names, Script, Statement};

@@ -2,8 +2,8 @@
 
 ghost use Rattle.std.specs.Prelude.{◌≡◌, ◌≤◌, ◌++◌, ◌∷◌, [], length, OnOk, IfOk};
 ghost use Rattle.mux_config.specs.Configuration.{nothing};
-ghost use Rattle.mux_edits.specs.Making.{edits_that_make};
-ghost use Rattle.mux_edits.specs.Sequences.{Transform};
+ghost use Rattle.script_config.specs.Making.{edits_that_make};
+ghost use Rattle.script_config.specs.Sequences.{Transform};
 ghost use Rattle.script_front.specs.declared.tree.Act.TheVariants as act;
 ghost use Rattle.script_front.specs.Alike.{added_by};
 ghost use Rattle.plan_code.specs.Program.{IsPlan};
@@ -11,10 +11,10 @@ ghost use Rattle.script_config.specs.Plain.{IsPlain};
 ghost use Rattle.script_config.specs.Frames.{FitFrames, edits_in};
 ghost use Rattle.script_config.specs.Plan.{pause_after, paced, plan_acts};
 
+use crate::edits_between;
 use crate::list::put;
 use crate::plain::script_of;
 use mux_config::{Config, Edit};
-use mux_edits::edits_between;
 use plan_code::{Delay, Frames, Plan};
 use script_front::{Act, Script};
 use std::alloc::{AllocError, Global};
@@ -84,7 +84,7 @@ pub fn plan_between(
     ensures leads { Transform (edits_in (plan_acts header from.now to.now)) from.now to.now }
     ensures frames { FitFrames header.budget header.budget (plan_acts header from.now to.now) }
 {
-    mux_edits::laws::transforming();
+    crate::laws::transforming();
     from.subs();
     to.subs();
     let acts = acts_between(alloc, header, from, to)?;

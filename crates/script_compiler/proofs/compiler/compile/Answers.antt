@@ -5,11 +5,11 @@ use Rattle.plan_code.specs.declared.instr.Line.{Line}
 use Rattle.plan_code.specs.declared.plan.Plan.{Plan}
 use Rattle.plan_code.specs.Program.{Program, IsProgram}
 use Rattle.script_front.specs.declared.tree.Item.{Item}
-use Rattle.script_meaning.specs.declared.flow.UnpricedLabel.{UnpricedLabel}
-use Rattle.script_meaning.specs.Scheme.{all_places, unpriced_labels}
-use Rattle.script_meaning.specs.Judged.{IsJudged}
-use Rattle.script_meaning.specs.Need.{IsWithinBudget}
-use Rattle.script_meaning.specs.Compiled.{with_items, opening_of, body_of, beginning, placed_instrs, lines_of_placed, instrs_of, AreFine, Tabled, AreLabelsOf, IsCodeOf, CostsItsNeeds, IsAccepted}
+use Rattle.script_compiler.specs.declared.flow.UnpricedLabel.{UnpricedLabel}
+use Rattle.script_compiler.specs.Scheme.{all_places, unpriced_labels}
+use Rattle.script_compiler.specs.Judged.{IsJudged}
+use Rattle.script_compiler.specs.Need.{IsWithinBudget}
+use Rattle.script_compiler.specs.Compiled.{with_items, opening_of, body_of, beginning, placed_instrs, lines_of_placed, instrs_of, AreFine, Tabled, AreLabelsOf, IsCodeOf, CostsItsNeeds, IsAccepted}
 use Rattle.plan_flow.specs.declared.cause.Cause.TheVariants.{Cost}
 use Rattle.script_compiler.specs.Costs.{HasCostAt, IsCostRefused}
 use Rattle.script_compiler.proofs.Uncosted.{in_uncosted, item_uncosted}
@@ -23,7 +23,7 @@ use Rattle.script_compiler.proofs.Spaces.{limit_map}
 use Rattle.script_compiler.specs.Limits.{Passes}
 use Rattle.script_compiler.proofs.Formed.{IsKept, fault_either, parts_formed}
 use Rattle.script_compiler.proofs.Making.{laid_few, laid_judged, Parts, places_are, lines_are, parts_code, parts_cost, parts_accepted}
-use Rattle.script_meaning.specs.Refused.{IsItemRefused, IsOpeningRefused, IsRefusedIn, IsRefused}
+use Rattle.script_compiler.specs.Refused.{IsItemRefused, IsOpeningRefused, IsRefusedIn, IsRefused}
 use Rattle.script_compiler.specs.Refusals.{IfRefused, IfLimit}
 use Rattle.script_compiler.proofs.Reasons.{refused_map, refused_but_memory, opening_fine}
 use Rattle.script_compiler.proofs.compiler.compile.Goals as goal

@@ -2,16 +2,16 @@ use Rattle.std.proofs.Common.{◌≡◌, sym, [], ap, ◌∙◌, subst, length, 
 use Rattle.std.proofs.lemmas.Result.{err_from_is_err_and}
 use Rattle.plan_code.specs.declared.instr.Instr.TheVariants.{End}
 use Rattle.script_front.specs.Block.{block_of, table_of}
-use Rattle.script_meaning.specs.Scheme.{onward, alone}
-use Rattle.script_meaning.specs.Compiled.{body_of, beginning}
+use Rattle.script_compiler.specs.Scheme.{onward, alone}
+use Rattle.script_compiler.specs.Compiled.{body_of, beginning}
 use Rattle.script_compiler.specs.Emission.{Emits, way, tables}
 use Rattle.script_compiler.specs.Space.{HasSpace}
 use Rattle.script_compiler.proofs.Whole.{laid_whole}
 use Rattle.script_compiler.proofs.Fitting.{table_none, can_whole, space_whole_end}
 use Rattle.script_compiler.proofs.Spaces.{limit_map, limit_here, never_refused}
-use Rattle.script_meaning.specs.declared.flow.ProgramPoint.{ProgramPoint}
-use Rattle.script_meaning.specs.Judged.{IsJudged}
-use Rattle.script_meaning.specs.Refused.{IsRefusedIn}
+use Rattle.script_compiler.specs.declared.flow.ProgramPoint.{ProgramPoint}
+use Rattle.script_compiler.specs.Judged.{IsJudged}
+use Rattle.script_compiler.specs.Refused.{IsRefusedIn}
 use Rattle.script_compiler.proofs.Reasons.{refused_map}
 use Rattle.script_compiler.proofs.compiler.emit.Goals as goal
 

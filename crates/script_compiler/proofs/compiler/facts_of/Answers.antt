@@ -1,6 +1,6 @@
 use Rattle.std.proofs.Common.{ap, ◌∙◌, take}
 use Rattle.script_front.specs.Block.{block_of}
-use Rattle.script_meaning.specs.Scheme.{falls_out}
+use Rattle.script_compiler.specs.Scheme.{falls_out}
 use Rattle.script_compiler.specs.Emission.{tables, has_no_instr}
 use Rattle.script_compiler.proofs.Blocks.{facts_more}
 use Rattle.script_compiler.proofs.compiler.facts_of.Goals as goal

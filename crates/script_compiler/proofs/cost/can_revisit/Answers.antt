@@ -1,5 +1,5 @@
 use Rattle.std.proofs.Common.{Bool, List, sym, arith, subst}
-use Rattle.script_meaning.specs.Compiled.{instrs_of}
+use Rattle.script_compiler.specs.Compiled.{instrs_of}
 use Rattle.script_compiler.specs.Reaching.{IsAt}
 use Rattle.script_compiler.proofs.Cycles.{instrs_long, none_waits, search_complete}
 use Rattle.script_compiler.proofs.cost.can_revisit.Goals as goal

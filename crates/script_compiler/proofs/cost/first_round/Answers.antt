@@ -1,7 +1,7 @@
 use Rattle.std.proofs.Common.{◌≡◌, inl, inr, sym, ◌∙◌, arith, subst}
 use Rattle.std.proofs.lemmas.Bool.{cases_lt, false≢true}
 use Rattle.std.proofs.lemmas.Option.{slice_get_within}
-use Rattle.script_meaning.specs.Compiled.{instrs_of}
+use Rattle.script_compiler.specs.Compiled.{instrs_of}
 use Rattle.script_compiler.specs.Costs.{ClosesCycle}
 use Rattle.script_compiler.proofs.Cycles.{instrs_long}
 use Rattle.script_compiler.proofs.cost.first_round.Goals as goal

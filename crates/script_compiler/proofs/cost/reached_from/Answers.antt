@@ -1,7 +1,7 @@
 use Rattle.std.proofs.Common.{List, ℕ, ◌∙◌, sym, subst}
 use Rattle.plan_code.specs.declared.instr.Line.{Line}
-use Rattle.script_meaning.specs.Need.{StepsTo}
-use Rattle.script_meaning.specs.Compiled.{instrs_of}
+use Rattle.script_compiler.specs.Need.{StepsTo}
+use Rattle.script_compiler.specs.Compiled.{instrs_of}
 use Rattle.script_compiler.specs.Reaching.{GrowsBy}
 use Rattle.script_compiler.proofs.Cycles.{instrs_long, search_begins}
 use Rattle.script_compiler.proofs.Paths.{instr_at}

@@ -1,6 +1,6 @@
 use Rattle.std.proofs.Common.{◌+◌, sym, ap, ◌∙◌, ◌&&◌, drop}
 use Rattle.script_front.specs.Block.{block_of}
-use Rattle.script_meaning.specs.Scheme.{falls_out}
+use Rattle.script_compiler.specs.Scheme.{falls_out}
 use Rattle.script_compiler.proofs.Trees.{falls_cut, none_left}
 use Rattle.script_compiler.proofs.falls.+falls.Goals as goal
 

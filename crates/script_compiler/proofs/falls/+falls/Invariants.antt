@@ -1,6 +1,6 @@
 use Rattle.std.proofs.Common.{◌≡◌, map, List, drop}
 use Rattle.script_front.specs.Block.{Block, block_of}
-use Rattle.script_meaning.specs.Scheme.{falls_out}
+use Rattle.script_compiler.specs.Scheme.{falls_out}
 use Rattle.script_compiler.specs.Emission.{facts_of}
 use Rattle.script_compiler.proofs.falls.+falls.Given as goal
 

@@ -1,5 +1,5 @@
 use Rattle.std.proofs.Common.{◌+◌, arith, ap, sym, ◌∙◌, get_or}
-use Rattle.script_meaning.specs.Compiled.{instrs_of}
+use Rattle.script_compiler.specs.Compiled.{instrs_of}
 use Rattle.script_compiler.proofs.Paths.{next_round, round_last, longest_bound}
 use Rattle.script_compiler.proofs.needs.needs.Goals as goal
 

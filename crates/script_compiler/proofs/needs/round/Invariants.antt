@@ -1,6 +1,6 @@
 use Rattle.std.proofs.Common.{◌≡◌, ℕ, ◌<◌, length, get_or}
 use Rattle.std.specs.Prelude.{slice_get}
-use Rattle.script_meaning.specs.Compiled.{instrs_of}
+use Rattle.script_compiler.specs.Compiled.{instrs_of}
 use Rattle.script_compiler.specs.Longest.{need_at}
 use Rattle.script_compiler.proofs.needs.round.Given as goal
 

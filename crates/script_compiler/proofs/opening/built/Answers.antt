@@ -1,6 +1,6 @@
 use Rattle.std.proofs.Common.{◌≡◌, ◌+◌, ◌∙◌, ◌∷◌, sym, ap, subst, refl, drop, get_or, drop-cons, add-one}
 use Rattle.std.proofs.lemmas.Result.{err_from_is_err_and}
-use Rattle.script_meaning.specs.Compiled.{AreFine}
+use Rattle.script_compiler.specs.Compiled.{AreFine}
 use Rattle.script_compiler.proofs.opening.built.Goals as goal
 
 pub returns-in_err-add-clause-fine : goal.returns-in_err-add-clause-fine

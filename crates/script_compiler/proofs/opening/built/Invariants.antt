@@ -1,8 +1,8 @@
 use Rattle.std.proofs.Common.{◌≡◌, ℕ, drop}
 use Rattle.mux_config.specs.Configuration.{nothing}
 use Rattle.plan_flow.specs.declared.cause.Cause.{Cause}
-use Rattle.script_meaning.specs.Refused.{IsItemRefused}
-use Rattle.script_meaning.specs.Compiled.{with_items, AreFine}
+use Rattle.script_compiler.specs.Refused.{IsItemRefused}
+use Rattle.script_compiler.specs.Compiled.{with_items, AreFine}
 use Rattle.script_compiler.proofs.opening.built.Given as goal
 
 abbrev pub invariant-loop-item : goal.invariant-loop-item

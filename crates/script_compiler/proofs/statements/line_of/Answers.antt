@@ -1,6 +1,6 @@
 use Rattle.std.proofs.Common.{refl, sym, subst}
 use Rattle.plan_flow.specs.declared.cause.Cause.TheVariants.{Table}
-use Rattle.script_meaning.specs.Refused.{IsUnreached}
+use Rattle.script_compiler.specs.Refused.{IsUnreached}
 use Rattle.script_compiler.proofs.Arms.{is_act, is_end, is_if, is_if_else, is_repeat, is_forever, is_apply}
 use Rattle.script_compiler.proofs.statements.line_of.Goals as goal
 

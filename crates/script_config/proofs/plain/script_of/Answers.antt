@@ -2,8 +2,8 @@ use Rattle.std.proofs.Common.{◌≡◌, ℕ, List, length, map, sym, ap, ◌∙
 use Rattle.std.specs.List.{AllByRecursion}
 use Rattle.mux_config.specs.declared.edit.Edit.{Edit}
 use Rattle.mux_types.specs.Configuration.{nothing}
-use Rattle.mux_edits.specs.Making.{edits_that_make}
-use Rattle.mux_edits.specs.Sequences.{Transform}
+use Rattle.script_config.specs.Making.{edits_that_make}
+use Rattle.script_config.specs.Sequences.{Transform}
 use Rattle.script_front.specs.Alike.{added_by}
 use Rattle.script_front.specs.Block.{nothing as no_block}
 use Rattle.script_config.specs.Plain.{items_from, acts_from}

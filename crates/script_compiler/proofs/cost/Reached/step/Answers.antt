@@ -2,9 +2,9 @@ use Rattle.std.proofs.Common.{◌≡◌, ◌++◌, ◌∷◌, [], ℕ, Option, a
 use Rattle.std.specs.Option.{option_to_list}
 use Rattle.std.proofs.lemmas.Option.{slice_get_past}
 use Rattle.plan_code.specs.declared.instr.Line.{Line}
-use Rattle.script_meaning.specs.Need.{StepsTo}
+use Rattle.script_compiler.specs.Need.{StepsTo}
 use Rattle.script_compiler.specs.Reaching.{GrowsBy}
-use Rattle.script_meaning.specs.Compiled.{instrs_of}
+use Rattle.script_compiler.specs.Compiled.{instrs_of}
 use Rattle.script_compiler.proofs.Cycles.{instrs_long, step_by, step_past}
 use Rattle.script_compiler.proofs.Paths.{instr_at}
 use Rattle.script_compiler.proofs.cost.Reached.step.Goals as goal

@@ -1,6 +1,6 @@
 use Rattle.std.proofs.Common.{List, map, sym, ap, ◌∙◌, subst}
 use Rattle.plan_code.specs.declared.label.Label.{Label}
-use Rattle.script_meaning.specs.Compiled.{AreLabelsOf}
+use Rattle.script_compiler.specs.Compiled.{AreLabelsOf}
 use Rattle.script_compiler.specs.declared.short.IndexedLabel.{IndexedLabel}
 use Rattle.script_compiler.specs.Longest.{Priced}
 use Rattle.script_compiler.specs.Pool.{UnpricedPool}

@@ -4,7 +4,7 @@ use Rattle.std.proofs.lemmas.Bool.{cases_lt, false≢true}
 use Rattle.std.proofs.lemmas.Result.{err_from_is_err_and}
 use Rattle.script_front.specs.declared.tree.Statement.{Statement}
 use Rattle.script_front.specs.Block.{nothing, basic, stop, when, either, repeat, forever, apply, named_at, before, block_of}
-use Rattle.script_meaning.specs.Scheme.{alone}
+use Rattle.script_compiler.specs.Scheme.{alone}
 use Rattle.script_compiler.specs.declared.fault.CompileFault.{CompileFault}
 use Rattle.script_compiler.specs.Refusals.{IfLimit}
 use Rattle.script_compiler.specs.Space.{CanEmit}

@@ -2,8 +2,8 @@ use Rattle.std.proofs.Common.{Bool, ◌++◌, ◌∷◌, [], ap, ◌∙◌, subs
 use Rattle.plan_flow.specs.Rules.{IsFine}
 use Rattle.plan_flow.specs.Flows.{Flow, known_at, after_instr}
 use Rattle.plan_code.specs.declared.instr.Instr.{Instr}
-use Rattle.script_meaning.specs.declared.flow.ProgramPoint.{ProgramPoint}
-use Rattle.script_meaning.specs.Scheme.{instr_of_act}
+use Rattle.script_compiler.specs.declared.flow.ProgramPoint.{ProgramPoint}
+use Rattle.script_compiler.specs.Scheme.{instr_of_act}
 use Rattle.script_compiler.specs.Emission.{line_of_instr}
 use Rattle.script_compiler.proofs.Spaces.{covered_here, limit_here}
 use Rattle.script_compiler.proofs.Putting.{put_lays}

@@ -1,7 +1,7 @@
 use Rattle.std.proofs.Common.{◌≡◌, List, ◌++◌, Some, None, if◌then◌else◌, length, sym, ap, ◌∙◌}
 use Rattle.std.proofs.lemmas.List.{length-set}
-use Rattle.script_meaning.specs.declared.flow.ProgramPoint.{ProgramPoint}
-use Rattle.script_meaning.specs.Scheme.{meet, join}
+use Rattle.script_compiler.specs.declared.flow.ProgramPoint.{ProgramPoint}
+use Rattle.script_compiler.specs.Scheme.{meet, join}
 use Rattle.mux_config.specs.Configuration.{Configuration}
 use Rattle.script_compiler.specs.Pool.{point_in}
 use Rattle.script_compiler.specs.Emission.{way, points_of}

@@ -1,7 +1,7 @@
 use Rattle.std.proofs.Common.{◌≡◌, Some, length, sym, ap, subst}
 use Rattle.plan_flow.specs.Flows.{Flow, merged}
-use Rattle.script_meaning.specs.declared.flow.ProgramPoint.{ProgramPoint}
-use Rattle.script_meaning.specs.Scheme.{at_label, meet}
+use Rattle.script_compiler.specs.declared.flow.ProgramPoint.{ProgramPoint}
+use Rattle.script_compiler.specs.Scheme.{at_label, meet}
 use Rattle.script_compiler.specs.Emission.{way}
 use Rattle.script_compiler.specs.Pool.{point_in}
 use Rattle.script_compiler.specs.Space.{IsCovered}

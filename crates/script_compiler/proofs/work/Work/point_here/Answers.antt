@@ -1,5 +1,5 @@
 use Rattle.std.proofs.Common.{List, ap, ◌∙◌, subst}
-use Rattle.script_meaning.specs.declared.flow.ProgramPoint.{ProgramPoint}
+use Rattle.script_compiler.specs.declared.flow.ProgramPoint.{ProgramPoint}
 use Rattle.plan_flow.specs.Flows.{Flow}
 use Rattle.plan_flow.specs.Indexed.{AreAt}
 use Rattle.script_compiler.specs.Working.{Points, Work}

@@ -1,9 +1,9 @@
 use Rattle.std.proofs.Common.{◌≡◌, ◌≤◌, ◌<◌, ◌++◌, ◌∷◌, [], List, Some, true, length, sym, ap, ◌∙◌, subst, arith}
 use Rattle.std.proofs.lemmas.Option.{slice_get_within}
 use Rattle.mux_config.specs.Configuration.{Configuration}
-use Rattle.script_meaning.specs.declared.flow.UnpricedLabel.{UnpricedLabel}
-use Rattle.script_meaning.specs.Scheme.{alone, unpriced_labels}
-use Rattle.script_meaning.specs.Compiled.{Added}
+use Rattle.script_compiler.specs.declared.flow.UnpricedLabel.{UnpricedLabel}
+use Rattle.script_compiler.specs.Scheme.{alone, unpriced_labels}
+use Rattle.script_compiler.specs.Compiled.{Added}
 use Rattle.script_compiler.specs.Unpriced.{configuration_at, unpriced_in}
 use Rattle.script_compiler.specs.Pool.{point_in}
 use Rattle.script_compiler.specs.Room.{HasRoomFor}

@@ -1,6 +1,6 @@
 use Rattle.std.proofs.Common.{◌++◌, length, ap, ◌∙◌}
-use Rattle.script_meaning.specs.declared.flow.ProgramPoint.{ProgramPoint}
-use Rattle.script_meaning.specs.Scheme.{alone, unpriced_labels}
+use Rattle.script_compiler.specs.declared.flow.ProgramPoint.{ProgramPoint}
+use Rattle.script_compiler.specs.Scheme.{alone, unpriced_labels}
 use Rattle.script_compiler.specs.Unpriced.{UnpricedTable}
 use Rattle.script_compiler.specs.Working.{Lines}
 use Rattle.script_compiler.proofs.Putting.{on_ok_map}

@@ -4,9 +4,9 @@ use Rattle.mux_config.specs.Configuration.{Configuration}
 use Rattle.std.specs.Prelude.{slice_set}
 use Rattle.plan_code.specs.declared.instr.Instr.TheVariants.{Jump, Test}
 use Rattle.plan_code.specs.declared.instr.Line.{Line}
-use Rattle.script_meaning.specs.declared.flow.ProgramPoint.{ProgramPoint}
-use Rattle.script_meaning.specs.Scheme.{PlacedInstr, alone, at_label, unpriced_labels, onward}
-use Rattle.script_meaning.specs.Compiled.{lines_of_placed}
+use Rattle.script_compiler.specs.declared.flow.ProgramPoint.{ProgramPoint}
+use Rattle.script_compiler.specs.Scheme.{PlacedInstr, alone, at_label, unpriced_labels, onward}
+use Rattle.script_compiler.specs.Compiled.{lines_of_placed}
 use Rattle.script_compiler.specs.Emission.{jumping, line_of_instr, points_of, way}
 use Rattle.script_compiler.specs.Unpriced.{UnpricedTable}
 use Rattle.script_compiler.specs.Working.{Lines, Points}

@@ -1,5 +1,5 @@
 use Rattle.std.proofs.Common.{◌∷◌, [], length, refl, sym, ap, subst}
-use Rattle.script_meaning.specs.declared.flow.ProgramPoint.{ProgramPoint}
+use Rattle.script_compiler.specs.declared.flow.ProgramPoint.{ProgramPoint}
 use Rattle.script_compiler.specs.Unpriced.{configuration_at}
 use Rattle.script_compiler.specs.declared.fault.CodeLimit.TheVariants.{Configurations}
 use Rattle.script_compiler.specs.Room.{HasRoomFor}

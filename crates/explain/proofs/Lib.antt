@@ -1,5 +1,0 @@
-mod Finding
-mod Sharing
-pub mod Vectors
-pub mod VectorsPaths
-mod Walks

@@ -1,9 +1,0 @@
-pub mod Counting
-pub mod Transforming
-pub mod Lookups
-pub mod Loops
-pub mod PacketSteps
-pub mod Passage
-pub mod ServiceTurns
-pub mod SubTurns
-pub mod Walks

@@ -1,8 +1,0 @@
-use Rattle.mux_edits.proofs.Loops.{AreDropped}
-use Rattle.mux_edits.proofs.going.drop_components.Given as goal
-
-abbrev pub invariant-loop-place : goal.invariant-loop-place
-invariant-loop-place l = AreDropped l.sid l.components l.place l.initial.edits.items l.edits.items
-
-abbrev pub decreases-loop-place : goal.decreases-loop-place
-decreases-loop-place l = l.place

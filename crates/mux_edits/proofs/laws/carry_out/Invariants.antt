@@ -1,6 +1,0 @@
-use Rattle.std.proofs.Common.{drop}
-use Rattle.mux_edits.proofs.Loops.{IsUnderWay}
-use Rattle.mux_edits.proofs.laws.carry_out.Given as goal
-
-abbrev pub invariant-loop-edit : goal.invariant-loop-edit
-invariant-loop-edit g l = IsUnderWay l.edits (drop l.edit-index l.edits) (g.S.Store.content l.initial.store) (g.S.Store.content l.store)

@@ -1,6 +1,0 @@
-use Rattle.std.proofs.Common.{◌≡◌, ◌++◌, take}
-use Rattle.mux_edits.specs.Making.{components_added}
-use Rattle.mux_edits.proofs.making.add_components.Given as goal
-
-abbrev pub invariant-loop-component : goal.invariant-loop-component
-invariant-loop-component l = (l.edits.items ≡ l.initial.edits.items ++ components_added l.sid (take l.component-index l.components))

@@ -1,7 +1,0 @@
-use Rattle.std.proofs.Common.{◌≡◌, ◌++◌, take}
-use Rattle.std.specs.List.{flat_map}
-use Rattle.mux_edits.specs.Making.{service_added}
-use Rattle.mux_edits.proofs.making.add_services.Given as goal
-
-abbrev pub invariant-loop-service : goal.invariant-loop-service
-invariant-loop-service l = (l.edits.items ≡ l.initial.edits.items ++ flat_map service_added (take l.service-index l.services))

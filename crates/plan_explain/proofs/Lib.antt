@@ -1,0 +1,14 @@
+mod Lists
+mod FlawLaws
+mod PrimaryLaws
+mod BeginningLaws
+mod BlockLaws
+mod Known
+mod Changed
+mod WarningLaws
+mod VectorsOfWarnings
+mod Finding
+mod Sharing
+pub mod Vectors
+pub mod VectorsPaths
+mod Walks

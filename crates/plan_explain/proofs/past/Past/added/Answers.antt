@@ -1,0 +1,12 @@
+use Rattle.std.proofs.Common.{List, Option, ℕ, subst}
+use Rattle.plan_explain.specs.Deeds.{last_lines}
+use Rattle.plan_explain.specs.Paths.{paths_of}
+use Rattle.plan_explain.specs.Since.{IsFound}
+use Rattle.plan_explain.specs.declared.sought.Sought.TheVariants.{Adding}
+use Rattle.plan_explain.proofs.Finding.{told_adding}
+use Rattle.plan_explain.proofs.past.Past.added.Goals as goal
+
+pub returns-in-Ok : goal.returns-in-Ok
+returns-in-Ok c =
+    let lines = last_lines (Adding c.args.member) (paths_of c.args.self.now.history.now c.args.self.now.end) in
+    c.statement_of.ensures lines (subst (λ (ls : List (Option ℕ)). IsFound ls c.in-Ok.found) (told_adding c.args.member lines) c.in-Ok.ensures)

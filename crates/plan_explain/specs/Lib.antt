@@ -1,0 +1,13 @@
+pub mod Flaws
+pub mod Primaries
+pub mod Beginnings
+pub mod Blocks
+pub mod ConfigurationChanges
+pub mod Walking
+pub mod Listed
+pub mod Warnings
+pub mod TextChanges
+pub mod Overlaps
+pub mod Paths
+pub mod Deeds
+pub mod Since

@@ -1,9 +1,0 @@
-mod Lists
-mod FlawLaws
-mod PrimaryLaws
-mod BeginningLaws
-mod BlockLaws
-mod Known
-mod Changed
-mod Laws
-mod Vectors

@@ -1,8 +1,0 @@
-use Rattle.std.proofs.Common.{◌≡◌, ◌++◌, take, map}
-use Rattle.std.specs.List.{flat_map}
-use Rattle.plan_warnings.specs.declared.warning.Warning.TheVariants.{Flawed}
-use Rattle.plan_warnings.specs.Flaws.{unless_among}
-use Rattle.plan_warnings.proofs.changes.push_flaws.Given as goal
-
-abbrev pub invariant-loop-flaw : goal.invariant-loop-flaw
-invariant-loop-flaw l = l.found.items ≡ l.fn.found.items ++ map (Flawed l.line) (flat_map (unless_among l.others) (take l.flaw-index l.flaws))

@@ -1,5 +1,0 @@
-use Rattle.plan_warnings.proofs.Laws.{if_warranted}
-use Rattle.plan_warnings.proofs.warnings.warnings_of.Goals as goal
-
-pub returns : goal.returns
-returns c = if_warranted (λ v. v.items) c.all_warnings.result c.args.script.now c.args.code.now c.requires c.all_warnings.ensures

@@ -1,0 +1,87 @@
+-- Ranges of a code, and the point after a block.
+use Rattle.std.proofs.Common.{◌≡◌, ℕ, ◌+◌, ◌<◌, Bool, ◌&&◌, ◌||◌, if◌then◌else◌, List, [], ◌∷◌, ◌++◌, length, Option, Some, None, is_some, refl, ap, ◌∙◌, subst, arith, append_assoc, length-append}
+use Rattle.std.specs.Prelude.{slice_get}
+use Rattle.std.proofs.Math.Seq.{get_or-append_seam}
+use Rattle.std.proofs.lemmas.Option.{slice_get-get_or}
+use Rattle.plan_code.specs.declared.plan.Plan.{Plan}
+use Rattle.plan_code.specs.declared.instr.Instr.{Instr}
+use Rattle.plan_flow.specs.Flows.{after_instr}
+use Rattle.script_front.specs.Block.{Block, nothing, basic, stop, when, either, repeat, forever, apply}
+use Rattle.script_compiler.specs.declared.flow.ProgramPoint.{ProgramPoint}
+use Rattle.script_compiler.specs.Scheme.{PlacedInstr, without_label, at_label, meet, join, onward, head, instr_of_act, falls_out, point_after, alone}
+
+-- these instructions are in the code from this pc on
+abbrev pub Stand : List PlacedInstr → ℕ → List PlacedInstr → Type 0
+Stand code pc [] = Unit {0}
+Stand code pc (p ∷ ps) = (slice_get code pc ≡ Some p) × Stand code (pc + 1) ps
+
+pub stand_front : (code : List PlacedInstr) (pc : ℕ) (a b : List PlacedInstr) → Stand code pc (a ++ b) → Stand code pc a
+stand_front code pc [] b h = tt
+stand_front code pc (i ∷ a) b h = (h.0, stand_front code (pc + 1) a b h.1)
+
+pub stand_back : (code : List PlacedInstr) (pc : ℕ) (a b : List PlacedInstr) → Stand code pc (a ++ b) → Stand code (pc + length a) b
+stand_back code pc [] b h = let e : pc ≡ pc + 0 = omega arith in subst (λ n. Stand code n b) e h
+stand_back code pc (i ∷ a) b h =
+    let e : pc + 1 + length a ≡ pc + length (i ∷ a) = omega arith in
+    subst (λ n. Stand code n b) e (stand_back code (pc + 1) a b h.1)
+
+pub stand_all : (ps before : List PlacedInstr) → Stand (before ++ ps) (length before) ps
+stand_all [] before = tt
+stand_all (p ∷ ps) before =
+    let within : length before < length (before ++ p ∷ ps) = omega (arith, length-append before (p ∷ ps)) in
+    let here = slice_get-get_or (before ++ p ∷ ps) (length before) p within ∙ ap Some (get_or-append_seam before p ps p) in
+    let n : length (before ++ p ∷ []) ≡ length before + 1 = omega (arith, length-append before (p ∷ [])) in
+    let rest = stand_all ps (before ++ p ∷ []) in
+    let rest' = subst (λ l. Stand l (length (before ++ p ∷ [])) ps) (append_assoc before (p ∷ []) ps) rest in
+    (here, subst (λ m. Stand (before ++ p ∷ ps) m ps) n rest')
+
+-- ---- falling out
+
+onward_falls : (w : Option ProgramPoint) (f : Bool) (after_rest : ProgramPoint → Option ProgramPoint) (g : Bool) → is_some w ≡ f → ((u : ProgramPoint) → is_some (after_rest u) ≡ g) → is_some (onward w None after_rest) ≡ (f && g)
+onward_falls None f k g e h = ap (λ b. b && g) e
+onward_falls (Some u) f k g e h = h u ∙ ap (λ b. b && g) e
+
+meet_falls : (w : Option ProgramPoint) (s : ProgramPoint) (k : ProgramPoint → Option ProgramPoint) (g : Bool) → ((u : ProgramPoint) → is_some (k u) ≡ g) → is_some (onward (meet w (Some s)) None k) ≡ g
+meet_falls None s k g h = h _
+meet_falls (Some u) s k g h = h _
+
+join_falls : (v w : Option ProgramPoint) → is_some (join v w) ≡ (is_some v || is_some w)
+join_falls None w = refl
+join_falls (Some u) None = refl
+join_falls (Some u) (Some v) = refl
+
+-- there is a point after a block exactly if it falls out
+pub after_falls : (plan : Plan) (b : Block) (s : ProgramPoint) → is_some (point_after plan b s) ≡ falls_out b
+after_falls plan nothing s = refl
+after_falls plan (basic line act rest) s = after_falls plan rest (without_label (after_instr plan (instr_of_act act) s.flow))
+after_falls plan (stop line rest) s = refl
+after_falls plan (when line c first rest) s = meet_falls (point_after plan first (without_label s.flow)) s _ (falls_out rest) (λ u. after_falls plan rest u)
+after_falls plan (either line c first second rest) s =
+    let a = point_after plan first (without_label s.flow) in
+    let b = point_after plan second (at_label s.flow) in
+    let e : is_some (join a b) ≡ (falls_out first || falls_out second) =
+    join_falls a b ∙ ap (λ f. f || is_some b) (after_falls plan first (without_label s.flow)) ∙ ap (λ f. falls_out first || f) (after_falls plan second (at_label s.flow)) in
+    onward_falls (join a b) _ _ (falls_out rest) e (λ u. after_falls plan rest u)
+after_falls plan (repeat line n body rest) s =
+    onward_falls (point_after plan body (head body (without_label s.flow))) _ _ (falls_out rest) (after_falls plan body (head body (without_label s.flow))) (λ u. after_falls plan rest (without_label u.flow))
+after_falls plan (forever line body rest) s = refl
+after_falls plan (apply line k named rest) s = onward_falls (point_after plan named s) _ _ (falls_out rest) (after_falls plan named s) (λ u. after_falls plan rest u)
+
+-- a branch ends with a jump exactly if it falls out
+pub jump_length : (line : ℕ) (i : Instr) (r : ℕ) (w : Option ProgramPoint) (f : Bool) → is_some w ≡ f → length (onward w [] (alone line i r)) ≡ (if f then 1 else 0)
+jump_length line i r None f e = ap (λ b. if b then 1 else 0) e
+jump_length line i r (Some u) f e = ap (λ b. if b then 1 else 0) e
+
+pub meets_some : (v : Option ProgramPoint) (s : ProgramPoint) → (u : ProgramPoint) × (meet v (Some s) ≡ Some u)
+meets_some None s = (_, refl)
+meets_some (Some t) s = (_, refl)
+
+pub joins_first : (v w : Option ProgramPoint) (s : ProgramPoint) → v ≡ Some s → (u : ProgramPoint) × (join v w ≡ Some u)
+joins_first None w s e = cc
+joins_first (Some t) None s e = (_, refl)
+joins_first (Some t) (Some x) s e = (_, refl)
+
+pub joins_second : (v w : Option ProgramPoint) (s : ProgramPoint) → w ≡ Some s → (u : ProgramPoint) × (join v w ≡ Some u)
+joins_second None w s e = (s, e)
+joins_second (Some t) None s e = cc
+joins_second (Some t) (Some x) s e = (_, refl)

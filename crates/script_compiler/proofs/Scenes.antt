@@ -1,0 +1,139 @@
+-- The scene after an instruction or a frame depends on the scene before alone.
+use Rattle.std.proofs.Common.{◌≡◌, ℕ, ◌+◌, Bool, true, false, if◌then◌else◌, Option, Some, None, refl, sym, ap, ◌∙◌}
+use Rattle.plan_code.specs.declared.hold.Hold.{Hold}
+use Rattle.plan_code.specs.declared.hold.Hold.TheVariants.{Waits, WaitsDay, WaitsContact, WaitsSwap, Ended}
+use Rattle.plan_code.specs.declared.plan.Plan.{Plan}
+use Rattle.plan_code.specs.Program.{Program}
+use Rattle.plan_code.specs.Machine.{State, effect, settle, IsAllowed}
+use Rattle.plan_runs.specs.Frames.{is_due, with_swap, with_due_swap, is_here, with_hold_ended, ready, after_burst, is_first_noticed, shown}
+use Rattle.script_front.specs.declared.tree.Act.{Act}
+use Rattle.script_front.specs.declared.tree.Act.TheVariants.{Edit, Wait, WaitContact, Until, CommitIn, CommitAt, Join, Settle}
+use Rattle.script_compiler.specs.Scheme.{instr_of_act}
+use Rattle.script_compiler.specs.Meaning.{acts_as, scene_of, state_of_scene, acts, opens, ScenesSuffice}
+
+-- a state with the same scene, the rest of which is fixed
+abbrev plain : State → State
+plain s = state_of_scene (scene_of s)
+
+-- two states with the same pc and the same counters
+abbrev pub SamePlace : State → State → Type 0
+SamePlace s t = (t.pc ≡ s.pc) × (t.counters ≡ s.counters)
+
+-- ---- a frame's beginning and end
+
+here_same : (s : State) (h : Hold) → is_here s h ≡ is_here (plain s) h
+here_same s (Waits n) = refl
+here_same s (WaitsDay t) = refl
+here_same s (WaitsContact c closed) = refl
+here_same s WaitsSwap = refl
+here_same s Ended = refl
+
+ends_by : (b : Bool) (s : State) → scene_of (if b then record s { hold = Waits 0 } else s) ≡ scene_of (if b then record (plain s) { hold = Waits 0 } else plain s)
+ends_by true s = refl
+ends_by false s = refl
+
+hold_ends : (s : State) → scene_of (with_hold_ended s) ≡ scene_of (with_hold_ended (plain s))
+hold_ends s = ends_by (is_here s s.hold) s ∙ ap (λ b. scene_of (if b then record (plain s) { hold = Waits 0 } else plain s)) (here_same s s.hold)
+
+swaps_by : (b : Bool) (s : State) → scene_of (if b then with_swap s else s) ≡ scene_of (if b then with_swap (plain s) else plain s)
+swaps_by true s = refl
+swaps_by false s = refl
+
+swap_falls : (s : State) → scene_of (with_due_swap s) ≡ scene_of (with_due_swap (plain s))
+swap_falls s = swaps_by (is_due s.left) s
+
+pub ready_scene : (s : State) → scene_of (ready s) ≡ opens (scene_of s)
+ready_scene s =
+    hold_ends (with_due_swap s) ∙ ap (λ x. scene_of (with_hold_ended (state_of_scene x))) (swap_falls s) ∙ sym (hold_ends (with_due_swap (plain s)))
+
+swap_place : (b : Bool) (s : State) → SamePlace s (if b then with_swap s else s)
+swap_place true s = (refl, refl)
+swap_place false s = (refl, refl)
+
+hold_place : (b : Bool) (s : State) → SamePlace s (if b then record s { hold = Waits 0 } else s)
+hold_place true s = (refl, refl)
+hold_place false s = (refl, refl)
+
+pub ready_place : (s : State) → SamePlace s (ready s)
+ready_place s =
+    let t = with_due_swap s in
+    let first : SamePlace s t = swap_place (is_due s.left) s in
+    let second : SamePlace t (with_hold_ended t) = hold_place (is_here t t.hold) t in
+    (second.0 ∙ first.0, second.1 ∙ first.1)
+
+turned : (b : Bool) (s : State) → (scene_of (if b then record s { page_index = 0 } else s) ≡ scene_of s) × SamePlace s (if b then record s { page_index = 0 } else s)
+turned true s = (refl, (refl, refl))
+turned false s = (refl, (refl, refl))
+
+pub shown_scene : (p : Program) (s : State) → (scene_of (shown p s) ≡ scene_of (after_burst p s)) × SamePlace (after_burst p s) (shown p s)
+shown_scene p s = turned (is_first_noticed p.plan.notice (after_burst p s).left) (after_burst p s)
+
+-- ---- a statement that is one instruction
+
+-- it compiles to that instruction
+pub acts_as_compiled : (a : Act) → instr_of_act a ≡ acts_as a
+acts_as_compiled (Edit edit) = refl
+acts_as_compiled (Wait frames) = refl
+acts_as_compiled (WaitContact contact closed) = refl
+acts_as_compiled (Until second) = refl
+acts_as_compiled (CommitIn delay) = refl
+acts_as_compiled (CommitAt count) = refl
+acts_as_compiled Join = refl
+acts_as_compiled Settle = refl
+
+settles_by : (o : Option ℕ) (s : State) → scene_of (settle o s) ≡ scene_of (settle o (plain s))
+settles_by None s = refl
+settles_by (Some left) s = refl
+
+settles_at : (o : Option ℕ) (s : State) → ((settle o s).pc ≡ s.pc + 1) × ((settle o s).counters ≡ s.counters)
+settles_at None s = (refl, refl)
+settles_at (Some left) s = (refl, refl)
+
+pub act_scene : (plan : Plan) (a : Act) (s : State) → scene_of (effect plan (acts_as a) s) ≡ acts plan (acts_as a) (scene_of s)
+act_scene plan (Edit edit) s = refl
+act_scene plan (Wait frames) s = refl
+act_scene plan (WaitContact contact closed) s = refl
+act_scene plan (Until second) s = refl
+act_scene plan (CommitIn delay) s = refl
+act_scene plan (CommitAt count) s = refl
+act_scene plan Join s = refl
+act_scene plan Settle s = settles_by s.left s
+
+pub act_place : (plan : Plan) (a : Act) (s : State) → ((effect plan (acts_as a) s).pc ≡ s.pc + 1) × ((effect plan (acts_as a) s).counters ≡ s.counters)
+act_place plan (Edit edit) s = (refl, refl)
+act_place plan (Wait frames) s = (refl, refl)
+act_place plan (WaitContact contact closed) s = (refl, refl)
+act_place plan (Until second) s = (refl, refl)
+act_place plan (CommitIn delay) s = (refl, refl)
+act_place plan (CommitAt count) s = (refl, refl)
+act_place plan Join s = (refl, refl)
+act_place plan Settle s = settles_at s.left s
+
+pub act_fine : (plan : Plan) (a : Act) (s : State) → IsAllowed plan (acts_as a) s → IsAllowed plan (acts_as a) (plain s)
+act_fine plan (Edit edit) s h = h
+act_fine plan (Wait frames) s h = tt
+act_fine plan (WaitContact contact closed) s h = tt
+act_fine plan (Until second) s h = tt
+act_fine plan (CommitIn delay) s h = (record { idle = h.0.idle; sound = h.0.sound; changes = h.0.changes }, h.1)
+act_fine plan (CommitAt count) s h = (record { idle = h.0.idle; sound = h.0.sound; changes = h.0.changes }, h.1)
+act_fine plan Join s h = h
+act_fine plan Settle s h = tt
+
+fine_act : (plan : Plan) (a : Act) (s : State) → IsAllowed plan (acts_as a) (plain s) → IsAllowed plan (acts_as a) s
+fine_act plan (Edit edit) s h = h
+fine_act plan (Wait frames) s h = tt
+fine_act plan (WaitContact contact closed) s h = tt
+fine_act plan (Until second) s h = tt
+fine_act plan (CommitIn delay) s h = (record { idle = h.0.idle; sound = h.0.sound; changes = h.0.changes }, h.1)
+fine_act plan (CommitAt count) s h = (record { idle = h.0.idle; sound = h.0.sound; changes = h.0.changes }, h.1)
+fine_act plan Join s h = h
+fine_act plan Settle s h = tt
+
+pub scenes_suffice : ScenesSuffice
+scenes_suffice plan s = record {
+  opened = ready_scene s;
+  closed = refl;
+  ended = refl;
+  acted = λ a. act_scene plan a s;
+  allowed = λ a. (act_fine plan a s, fine_act plan a s);
+}

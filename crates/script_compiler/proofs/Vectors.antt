@@ -1,0 +1,332 @@
+-- Test vectors: small scripts, and what their statements, frames and events result in, and what not.
+use Rattle.std.proofs.Common.{◌≡◌, ℕ, zero, suc, true, false, List, [], ◌∷◌, Some, None, inl, inr, refl, sym, ap, ◌∙◌, replicate, arith}
+use Rattle.std.proofs.lemmas.Bool.{false≢true}
+use Rattle.mux_config.specs.declared.edit.Edit.TheVariants.{DropSub}
+use Rattle.mux_config.specs.declared.fault.EditFault.TheVariants.{IdAbsent}
+use Rattle.mux_config.specs.Configuration.{nothing as no_configuration}
+use Rattle.fib_codec.specs.declared.frame_layout.FrameLayout.TheVariants.{Whole}
+use Rattle.fib_codec.specs.declared.modes.Mode.TheVariants.{I}
+use Rattle.plan_code.specs.declared.flags.Contacts.{Contacts}
+use Rattle.plan_code.specs.declared.hold.Hold.{Hold}
+use Rattle.plan_code.specs.declared.hold.Hold.TheVariants.{Waits, WaitsSwap, Ended}
+use Rattle.plan_code.specs.declared.instr.Instr.{Instr}
+use Rattle.plan_code.specs.declared.instr.Instr.TheVariants.{Wait as WaitInstr, End}
+use Rattle.plan_code.specs.declared.instr.Line.{Line}
+use Rattle.plan_code.specs.declared.label.Label.{Label}
+use Rattle.plan_code.specs.declared.label.Swap.TheVariants.{Idle}
+use Rattle.plan_code.specs.declared.plan.Plan.{Plan}
+use Rattle.plan_code.specs.Program.{Program, IsProgram}
+use Rattle.plan_code.specs.Machine.{State}
+use Rattle.plan_verifier.proofs.OneVerdict.{typed_if}
+use Rattle.plan_runs.specs.declared.event.Event.TheVariants.{Contact, Frame}
+use Rattle.plan_runs.specs.declared.event.Start.{Start}
+use Rattle.plan_runs.specs.Runs.{StartIsInRange, IsStart}
+use Rattle.script_front.specs.declared.tree.Act.TheVariants.{Edit, Wait, Join, Settle}
+use Rattle.script_front.specs.Block.{Block, nothing, basic, when, either, repeat, forever, apply}
+use Rattle.script_front.specs.Tree.{Tree}
+use Rattle.script_compiler.specs.Compiled.{IsCodeOf}
+use Rattle.script_compiler.specs.Meaning.{Scene, Reading, reading, Performs, PerformsAll, begins, PlaysAsItReads}
+use Rattle.script_compiler.proofs.Playing.{performs_one, all_one, scripts_play}
+
+-- ---- values shared by these vectors
+
+abbrev plan : Plan
+plan = record { eid = 0xe1c5; layout = Whole I; period = 4; notice = 24; budget = 20 }
+
+abbrev all_open : Contacts
+all_open = record { 0 = 0 }
+
+abbrev third_closed : Contacts
+third_closed = record { 0 = 8 }
+
+-- a scene with no sub-channel and no swap, some frames after the first
+abbrev after : ℕ → Contacts → Hold → Scene
+after frames contacts hold =
+    record {
+      current = no_configuration;
+      next = no_configuration;
+      left = None;
+      hold = hold;
+      contacts = contacts;
+      count = frames;
+      day = frames;
+    }
+
+abbrev wait : ℕ → Block → Block
+wait frames rest = basic 1 (Wait frames) rest
+
+held_same : (x y : Reading) → x ≡ y → x.scene.hold ≡ y.scene.hold
+held_same x y e = ap (λ (r : Reading). r.scene.hold) e
+
+-- ---- statements
+
+waits_two : Performs plan (reading (wait 2 nothing) (after 0 all_open (Waits 0))) 1 (reading nothing (after 0 all_open (Waits 2)))
+waits_two = (refl, tt, (refl, refl))
+
+-- a wait one frame short
+not_one : (n : ℕ) → Performs plan (reading (wait 2 nothing) (after 0 all_open (Waits 0))) n (reading nothing (after 0 all_open (Waits 1))) → ⊥
+not_one n h = let e = held_same _ _ (performs_one plan 1 n _ _ _ waits_two h) in absurd (two_is_one e)
+  where
+    two_is_one : Waits 1 ≡ Waits 2 → ⊥
+    two_is_one e = absurd cc
+
+-- no statement is left
+ends : Performs plan (reading nothing (after 0 all_open (Waits 0))) 1 (reading nothing (after 0 all_open Ended))
+ends = (refl, tt, (refl, refl))
+
+does_not_end : (n : ℕ) → Performs plan (reading nothing (after 0 all_open (Waits 0))) n (reading nothing (after 0 all_open (Waits 0))) → ⊥
+does_not_end zero h = let e : true ≡ false = h.0 in absurd cc
+does_not_end (suc zero) h = let e = held_same _ _ h.2.1 in absurd (different e)
+  where
+    different : Ended ≡ Waits 0 → ⊥
+    different e = absurd cc
+does_not_end (suc (suc n)) h = let e : false ≡ true = h.2.0 in absurd (false≢true e)
+
+-- the first branch is for a closed contact
+abbrev branches : Block
+branches = either 1 3 (wait 4 nothing) (wait 5 nothing) nothing
+
+closed_branch : Performs plan (reading branches (after 0 third_closed (Waits 0))) 2 (reading nothing (after 0 third_closed (Waits 4)))
+closed_branch = (refl, tt, (refl, tt, (refl, refl)))
+
+open_branch : Performs plan (reading branches (after 0 all_open (Waits 0))) 2 (reading nothing (after 0 all_open (Waits 5)))
+open_branch = (refl, tt, (refl, tt, (refl, refl)))
+
+branches_exchanged : (n : ℕ) → Performs plan (reading branches (after 0 all_open (Waits 0))) n (reading nothing (after 0 all_open (Waits 4))) → ⊥
+branches_exchanged n h = let e = held_same _ _ (performs_one plan 2 n _ _ _ open_branch h) in absurd (different e)
+  where
+    different : Waits 4 ≡ Waits 5 → ⊥
+    different e = absurd cc
+
+-- without `else`, an open contact skips the branch
+no_branch : Performs plan (reading (when 1 3 (wait 4 nothing) (wait 5 nothing)) (after 0 all_open (Waits 0))) 2 (reading nothing (after 0 all_open (Waits 5)))
+no_branch = (refl, tt, (refl, tt, (refl, refl)))
+
+-- without a swap, `settle` does nothing and `join` traps
+settles : Performs plan (reading (basic 1 Settle (wait 5 nothing)) (after 0 all_open (Waits 0))) 2 (reading nothing (after 0 all_open (Waits 5)))
+settles = (refl, tt, (refl, tt, (refl, refl)))
+
+settling_does_not_wait : (n : ℕ) → Performs plan (reading (basic 1 Settle (wait 5 nothing)) (after 0 all_open (Waits 0))) n (reading (wait 5 nothing) (after 0 all_open WaitsSwap)) → ⊥
+settling_does_not_wait n h = let e = held_same _ _ (performs_one plan 2 n _ _ _ settles h) in absurd (different e)
+  where
+    different : WaitsSwap ≡ Waits 5 → ⊥
+    different e = absurd cc
+
+join_traps : (n : ℕ) (y : Reading) → Performs plan (reading (basic 1 Join nothing) (after 0 all_open (Waits 0))) n y → ⊥
+join_traps zero y h = let e : true ≡ false = h.0 in absurd cc
+join_traps (suc n) y h = let e : false ≡ true = h.1 in absurd cc
+
+edit_traps : (n : ℕ) (y : Reading) → Performs plan (reading (basic 1 (Edit (DropSub 9)) nothing) (after 0 all_open (Waits 0))) n y → ⊥
+edit_traps zero y h = let e : true ≡ false = h.0 in absurd cc
+edit_traps (suc n) y h = let e : Some IdAbsent ≡ None = h.1.1 in absurd cc
+
+-- ---- frames and events
+
+abbrev rounds : ℕ → Block
+rounds times = repeat 1 times (wait 1 nothing) nothing
+
+abbrev between : ℕ → Block → Reading
+between frames todo = reading todo (after frames all_open (Waits 0))
+
+-- two iterations of one frame each, and then the end
+two_rounds : PerformsAll plan (between 0 (rounds 2)) (Frame ∷ Frame ∷ Frame ∷ []) (reading nothing (after 3 all_open Ended))
+two_rounds = (
+  between 1 (rounds 1),
+  record { steps = 2; done = reading (rounds 1) (after 0 all_open (Waits 1)); statements = (refl, tt, (refl, tt, (refl, refl))); counts = refl },
+  (
+    between 2 (rounds 0),
+    record { steps = 2; done = reading (rounds 0) (after 1 all_open (Waits 1)); statements = (refl, tt, (refl, tt, (refl, refl))); counts = refl },
+    (
+      reading nothing (after 3 all_open Ended),
+      record { steps = 2; done = reading nothing (after 2 all_open Ended); statements = (refl, tt, (refl, tt, (refl, refl))); counts = refl },
+      refl,
+    ),
+  ),
+)
+
+-- not one iteration more
+not_three : (todo : Block) → PerformsAll plan (between 0 (rounds 2)) (Frame ∷ Frame ∷ Frame ∷ []) (between 3 todo) → ⊥
+not_three todo h = let e = held_same _ _ (all_one plan (Frame ∷ Frame ∷ Frame ∷ []) _ _ _ two_rounds h) in absurd (different e)
+  where
+    different : Waits 0 ≡ Ended → ⊥
+    different e = absurd cc
+
+-- an endless loop
+abbrev again : Block
+again = forever 1 (wait 1 nothing) nothing
+
+goes_round : PerformsAll plan (between 0 again) (Frame ∷ Frame ∷ []) (between 2 again)
+goes_round = (
+  between 1 again,
+  record { steps = 2; done = reading again (after 0 all_open (Waits 1)); statements = (refl, tt, (refl, tt, (refl, refl))); counts = refl },
+  (
+    between 2 again,
+    record { steps = 2; done = reading again (after 1 all_open (Waits 1)); statements = (refl, tt, (refl, tt, (refl, refl))); counts = refl },
+    refl,
+  ),
+)
+
+never_ends : (todo : Block) → PerformsAll plan (between 0 again) (Frame ∷ Frame ∷ []) (reading todo (after 2 all_open Ended)) → ⊥
+never_ends todo h = let e = held_same _ _ (all_one plan (Frame ∷ Frame ∷ []) _ _ _ goes_round h) in absurd (different e)
+  where
+    different : Ended ≡ Waits 0 → ⊥
+    different e = absurd cc
+
+-- a contact closes before a frame; an applied block runs before what follows it
+abbrev applies : Block
+applies = apply 1 0 branches (wait 6 nothing)
+
+closes_before : PerformsAll plan (between 0 applies) (Contact 3 true ∷ Frame ∷ []) (reading (wait 6 nothing) (after 1 third_closed (Waits 3)))
+closes_before = (
+  reading applies (after 0 third_closed (Waits 0)),
+  refl,
+  (
+    reading (wait 6 nothing) (after 1 third_closed (Waits 3)),
+    record { steps = 3; done = reading (wait 6 nothing) (after 0 third_closed (Waits 4)); statements = (refl, tt, (refl, tt, (refl, tt, (refl, refl)))); counts = refl },
+    refl,
+  ),
+)
+
+rest_comes_first : (todo : Block) → PerformsAll plan (between 0 applies) (Contact 3 true ∷ Frame ∷ []) (reading todo (after 1 third_closed (Waits 5))) → ⊥
+rest_comes_first todo h = let e = held_same (reading todo (after 1 third_closed (Waits 5))) _ (all_one plan (Contact 3 true ∷ Frame ∷ []) (between 0 applies) _ _ closes_before h) in absurd (different e)
+  where
+    different : Waits 5 ≡ Waits 3 → ⊥
+    different e = absurd cc
+
+-- ---- codes of a script without statements
+
+abbrev silent : Tree
+silent =
+    record {
+      header = record { eid = 0xe1c5; layout = Whole I; period = 4; notice = 24; budget = 20 };
+      items = [];
+      names = [];
+      blocks = [];
+      begin_line = 2;
+      statements = [];
+      last_line = 3;
+    }
+
+abbrev label : Label
+label = record { pc = 0; cur = 0; next = 0; pending = Idle; counters = record { 0 = 0 }; cost = 1 }
+
+abbrev line : Instr → Line
+line i = record { number = 3; instr = i }
+
+abbrev code : List Line → Program
+code lines = record { plan = plan; configurations = no_configuration ∷ []; labels = label ∷ []; lines = lines }
+
+abbrev start : Start
+start = record { eid = 0xe1c5; count = 0; day = 0; contacts = all_open }
+
+abbrev first : State
+first =
+    record {
+      current = no_configuration;
+      next = no_configuration;
+      left = None;
+      pc = 0;
+      hold = Waits 0;
+      counters = replicate 8 0;
+      contacts = all_open;
+      count = 0;
+      day = 0;
+      eid = 0xe1c5;
+      page_index = 0;
+    }
+
+in_range : StartIsInRange start
+in_range = record { eid = omega arith; count = omega arith; day = omega arith; contacts = omega arith }
+
+it_starts : (lines : List Line) → IsStart (code lines) start first
+it_starts lines = record {
+  label = label;
+  first = refl;
+  current = refl;
+  next = refl;
+  left = refl;
+  pc = refl;
+  hold = refl;
+  counters = refl;
+  contacts = refl;
+  count = refl;
+  day = refl;
+  eid = refl;
+  page_index = refl;
+}
+
+end_is : IsProgram (code (line End ∷ []))
+end_is = record {
+  planned = record {
+    ensemble = omega arith;
+    period_from = omega arith;
+    period_to = omega arith;
+    notice_from = omega arith;
+    notice_to = omega arith;
+    budget_from = omega arith;
+    budget_to = omega arith;
+  };
+  configurations_from = omega arith;
+  configurations_to = omega arith;
+  configurations_formed = (
+    record {
+      subs_ascend = tt;
+      services_ascend = tt;
+      packets_ascend = tt;
+      subs_placed = tt;
+      services_formed = tt;
+      packets_addressed = tt;
+      subs_few = omega arith;
+      services_few = omega arith;
+      packets_few = omega arith;
+    },
+    tt,
+  );
+  labels_from = omega arith;
+  labels_to = omega arith;
+  labels_formed = (
+    record {
+      place = omega arith;
+      current = omega arith;
+      following = omega arith;
+      bounds = tt;
+      set = omega arith;
+      cost_from = omega arith;
+      cost_to = omega arith;
+    },
+    tt,
+  );
+  labels_ascend = (tt, tt);
+  lines_from = omega arith;
+  lines_to = omega arith;
+  lines_formed = (record { numbered = omega arith; formed = tt }, tt);
+}
+
+its_code : IsCodeOf silent (code (line End ∷ []))
+its_code = record {
+  plan = refl;
+  lines = refl;
+  table = (no_configuration ∷ [], no_configuration ∷ [], inr (λ h. let e : None ≡ Some no_configuration = h.1 in absurd cc, refl), inl ((0, refl), refl), refl);
+  labels = (record { place = refl; current = refl; following = refl; pending = refl; counters = refl }, refl);
+}
+
+-- the code that ends plays as the script reads
+plays : PlaysAsItReads silent (code (line End ∷ []))
+plays = scripts_play silent (code (line End ∷ [])) end_is (typed_if (code (line End ∷ [])) end_is refl) its_code
+
+-- one that waits first does not
+plays_late : PlaysAsItReads silent (code (line (WaitInstr 1) ∷ line End ∷ [])) → ⊥
+plays_late h =
+    let lines = line (WaitInstr 1) ∷ line End ∷ [] in
+    let along = h start first (Frame ∷ []) in_range (it_starts lines) (tt, tt) in
+    let ended : PerformsAll plan (begins silent start) (Frame ∷ []) (reading nothing (after 1 all_open Ended)) = (
+      reading nothing (after 1 all_open Ended),
+      record { steps = 1; done = reading nothing (after 0 all_open Ended); statements = (refl, tt, (refl, refl)); counts = refl },
+      refl,
+    ) in
+    let holds : Waits 0 ≡ along.end.scene.hold = ap (λ (x : Scene). x.hold) along.same in
+    let hold : Ended ≡ along.end.scene.hold = held_same _ _ (along.only (reading nothing (after 1 all_open Ended)) ended) in
+    absurd (different (holds ∙ sym hold))
+  where
+    different : Waits 0 ≡ Ended → ⊥
+    different e = absurd cc

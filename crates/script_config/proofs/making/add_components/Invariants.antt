@@ -1,0 +1,6 @@
+use Rattle.std.proofs.Common.{◌≡◌, ◌++◌, take}
+use Rattle.script_config.specs.Making.{components_added}
+use Rattle.script_config.proofs.making.add_components.Given as goal
+
+abbrev pub invariant-loop-component : goal.invariant-loop-component
+invariant-loop-component l = (l.edits.items ≡ l.initial.edits.items ++ components_added l.sid (take l.component-index l.components))

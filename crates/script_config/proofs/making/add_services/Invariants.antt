@@ -1,0 +1,7 @@
+use Rattle.std.proofs.Common.{◌≡◌, ◌++◌, take}
+use Rattle.std.specs.List.{flat_map}
+use Rattle.script_config.specs.Making.{service_added}
+use Rattle.script_config.proofs.making.add_services.Given as goal
+
+abbrev pub invariant-loop-service : goal.invariant-loop-service
+invariant-loop-service l = (l.edits.items ≡ l.initial.edits.items ++ flat_map service_added (take l.service-index l.services))

@@ -1,6 +1,0 @@
-pub mod Scheme
-pub mod Judged
-pub mod Need
-pub mod Compiled
-pub mod Refused
-pub mod Meaning
