@@ -21,7 +21,7 @@ awk 'BEGIN {
 }' | xxd -r -p >"$work/file"
 for ((copy = 0; copy < 20; copy++)); do cat "$work/file"; done >"$work/copies"
 
-run_program code_bench "$work/file" mux_eep mux_types mux_entries byte_fields mux_config fib_codec plan_code >"$work/times" <<'PROGRAM'
+run_program code_bench "$work/file" mux_eep mux_types mux_config fib_codec plan_code >"$work/times" <<'PROGRAM'
 //! Times `decode` and `encode` on the code file on standard input.
 #![tactic(auto)]
 

@@ -27,8 +27,8 @@ awk 'BEGIN {
 }' >"$work/script"
 for ((copy = 0; copy < 200; copy++)); do cat "$work/script"; done >"$work/copies"
 
-run_program compile_bench "$work/script" mux_eep mux_types mux_entries byte_fields mux_config mux_tables fib_codec fib_reader fib_carousel plan_code \
-  plan_verifier plan_runs script_tokens script_front script_meaning script_compiler >"$work/times" <<'PROGRAM'
+run_program compile_bench "$work/script" mux_eep mux_types mux_config mux_tables fib_codec fib_reader fib_carousel plan_code \
+  plan_verifier plan_runs script_tokens script_front script_compiler >"$work/times" <<'PROGRAM'
 //! Times `compile` on the script on standard input.
 #![tactic(auto)]
 

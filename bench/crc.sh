@@ -4,7 +4,7 @@
 # another first byte. Required: the tables at least twenty times as fast.
 . "$(dirname "$0")/common.sh"
 
-run_program crc_bench /dev/null mux_eep mux_types mux_entries fib_codec >"$work/times" <<'PROGRAM'
+run_program crc_bench /dev/null mux_eep mux_types fib_codec >"$work/times" <<'PROGRAM'
 //! Times both bodies of the CRC.
 #![tactic(auto)]
 

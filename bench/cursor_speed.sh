@@ -29,7 +29,7 @@ ANTT
 invariant by_cursor 'l.fn.current (Some l.fn.next)'
 invariant small_by_cursor 'l.fn.config None'
 
-run_program cursor_bench /dev/null mux_eep mux_types mux_entries byte_fields mux_config fib_codec fib_carousel <<'PROGRAM' | tee "$work/figures"
+run_program cursor_bench /dev/null mux_eep mux_types mux_config fib_codec fib_carousel <<'PROGRAM' | tee "$work/figures"
 //! Times pages by a cursor beside the plain ones.
 #![tactic(auto)]
 

@@ -4,7 +4,7 @@
 # pages, in one run. It prints the time of each.
 . "$(dirname "$0")/common.sh"
 
-run_program pack_bench /dev/null mux_eep mux_types mux_entries byte_fields mux_config fib_codec fib_carousel <<'PROGRAM'
+run_program pack_bench /dev/null mux_eep mux_types mux_config fib_codec fib_carousel <<'PROGRAM'
 //! Times the packing of the largest pair of configurations.
 #![tactic(auto)]
 

@@ -31,7 +31,7 @@ awk 'BEGIN {
 }' >"$work/script"
 for ((copy = 0; copy < 100; copy++)); do cat "$work/script"; done >"$work/copies"
 
-run_program parse_bench "$work/script" mux_eep mux_types mux_entries byte_fields mux_config fib_codec plan_code script_tokens script_front >"$work/times" <<'PROGRAM'
+run_program parse_bench "$work/script" mux_eep mux_types mux_config fib_codec plan_code script_tokens script_front >"$work/times" <<'PROGRAM'
 //! Times `parse` on the script on standard input.
 #![tactic(auto)]
 

@@ -43,7 +43,7 @@ large 5 | code larger_i 4441425001
 large 5 | code larger_iii 444142500203
 cat "$work"/{example,large,larger}_{i,iii} >"$work/codes"
 
-run_program play_bench "$work/codes" mux_eep mux_types mux_entries byte_fields mux_config mux_tables fib_codec fib_reader fib_carousel plan_code \
+run_program play_bench "$work/codes" mux_eep mux_types mux_config mux_tables fib_codec fib_reader fib_carousel plan_code \
   plan_verifier plan_runs plan_player >"$work/times" <<'PROGRAM'
 //! Times `play` on the code files on standard input, each preceded by its length.
 #![tactic(auto)]

@@ -8,7 +8,7 @@
 . "$(dirname "$0")/common.sh"
 
 stream "$work/stream" "$@"
-run_program reader_bench "$work/stream" mux_eep mux_types mux_entries byte_fields mux_config fib_codec fib_reader >"$work/walks" <<'PROGRAM'
+run_program reader_bench "$work/stream" mux_eep mux_types mux_config fib_codec fib_reader >"$work/walks" <<'PROGRAM'
 //! Times the reader on the FIBs of standard input.
 #![tactic(auto)]
 

@@ -5,7 +5,7 @@
 # none do. Required: counted configurations answer `crowded` at least 20 times as fast.
 . "$(dirname "$0")/common.sh"
 
-run_program tables_bench /dev/null mux_eep mux_types mux_entries byte_fields mux_config mux_tables >"$work/times" <<'PROGRAM'
+run_program tables_bench /dev/null mux_eep mux_types mux_config mux_tables >"$work/times" <<'PROGRAM'
 //! Times `crowded` and `soundness` over both stores.
 #![tactic(auto)]
 

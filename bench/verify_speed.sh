@@ -51,7 +51,7 @@ BEGIN {
 }' | xxd -r -p >"$work/file"
 for ((copy = 0; copy < 20; copy++)); do cat "$work/file"; done >"$work/copies"
 
-run_program verify_bench "$work/file" mux_eep mux_types mux_entries byte_fields mux_config mux_tables fib_codec fib_carousel plan_code plan_verifier \
+run_program verify_bench "$work/file" mux_eep mux_types mux_config mux_tables fib_codec fib_carousel plan_code plan_verifier \
   >"$work/times" <<'PROGRAM'
 //! Times `verify` on the code file on standard input.
 #![tactic(auto)]
