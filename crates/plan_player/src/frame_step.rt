@@ -21,7 +21,8 @@ use plan_code::{Code, Plan};
 fn make_page_to_send<S: Store>(plan: &Plan, machine: &Machine<S>, pages: &mut PhasePages)
     requires keeps { let s = state_of S.content machine.now in
         Keeps plan.now.layout (sent_entries plan.now s) s.page_index pages.old }
-    requires within { let s = state_of S.content machine.now in s.page_index < sent_rounds plan.now s }
+    requires within { let s = state_of S.content machine.now in
+        s.page_index < sent_rounds plan.now s }
     requires few { sent_rounds plan.now (state_of S.content machine.now) ≤ 60 }
     ensures keeps { let s = state_of S.content machine.now in
         Keeps plan.now.layout (sent_entries plan.now s) s.page_index pages.new }

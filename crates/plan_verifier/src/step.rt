@@ -68,8 +68,9 @@ fn test_target<S: Store>(code: &Code, instr: Instr, state: &mut KnownState<S>) -
 /// Updates the configurations and the swap for an instruction, or returns the first cause for refusing it.
 fn advance<S: Store>(plan: &Plan, instr: Instr, state: &mut KnownState<S>) -> Result<(), Cause>
     ensures cause { result ≡ unless (flow_cause plan.now instr (known_of S.content state.old)) }
-    ensures left { OnOk result (known_of S.content state.new ≡ known_with (after_instr plan.now instr
-        (flow_of (known_of S.content state.old))) state.old.counters state.old.allowance) }
+    ensures left { OnOk result (known_of S.content state.new
+        ≡ known_with (after_instr plan.now instr (flow_of (known_of S.content state.old)))
+        state.old.counters state.old.allowance) }
     ensures tracked { (table : List Configuration) → IsTracked S.content table state.old.tracked
         → IsTracked S.content table state.new.tracked }
 {

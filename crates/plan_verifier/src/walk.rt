@@ -113,9 +113,9 @@ fn visit<S: Store>(
     state: &mut KnownState<S>,
 ) -> Result<(), Cause>
     requires { IsTracked S.content code.now.configurations state.old.tracked }
-    ensures refused { IfErr result (λ cause. whole_cause (entered code.now pc (known_if_reached comes
-        (known_of S.content state.old))) (known_cause code.now pc (instr_or_end
-        (instr_at code.now pc))) ≡ Some cause) }
+    ensures refused { IfErr result (λ cause. whole_cause
+        (entered code.now pc (known_if_reached comes (known_of S.content state.old)))
+        (known_cause code.now pc (instr_or_end (instr_at code.now pc))) ≡ Some cause) }
     ensures passed { OnOk result (PassesInstr code.now pc (instr_or_end (instr_at code.now pc))
         (known_if_reached comes (known_of S.content state.old)) (known_of S.content state.new)) }
     ensures tracked { OnOk result (IsTracked S.content code.now.configurations state.new.tracked) }

@@ -40,7 +40,8 @@ fn mode(reader: &mut Reader) -> Result<Mode, ScriptFault>
 
 /// A mode from II to IV, written 2, 3 or 4.
 fn later_mode(reader: &mut Reader) -> Result<Mode, ScriptFault>
-    ensures { Takes (built mode_of (number_at 2 4) reader.old.lexemes) result reader.old reader.new }
+    ensures { Takes (built mode_of (number_at 2 4) reader.old.lexemes) result
+        reader.old reader.new }
 {
     let number = decimal(reader, 2, 4)?;
     match number {

@@ -85,8 +85,10 @@ pub(crate) fn page_after(pages: usize, page: u8) -> u8
 /// Ends a frame: advances the CIF count and the frame of the day, counts down a pending swap and a wait, and sets the
 /// page in turn.
 pub(crate) fn pass<S: Store>(page_index: u8, machine: &mut Machine<S>)
-    ensures { (plan : Plan) → state_of S.content machine.new ≡
-        record (with_next_counts plan (state_of S.content machine.old)) { page_index = page_index } }
+    ensures { (plan : Plan) → state_of S.content machine.new
+        ≡ record (with_next_counts plan (state_of S.content machine.old)) {
+          page_index = page_index;
+        } }
 {
     machine.left = left_after_frame(machine.left);
     machine.hold = hold_after_frame(machine.hold);
