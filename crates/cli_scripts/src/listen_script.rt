@@ -1,13 +1,15 @@
 //! `dabplan listen --script`: prints the current configuration of a stream of FIBs as a script.
 
-ghost use Rattle.std.specs.Prelude.{◌≡◌, ◌≢◌, ◌⊎◌, ℕ, ◌≤◌, ◌++◌, [], List, codes, Ok, IfOk, IfErr, OnOk, IfSome};
+ghost use Rattle.std.specs.Prelude.{◌≡◌, ◌≢◌, ◌⊎◌, ℕ, ◌≤◌, ◌++◌, [], List, Option, codes, Ok, IfOk, IfErr, OnOk, IfSome};
 ghost use Rattle.std.specs.Io.KnownBytes.{Appends, Consumes, IsAtEnd};
+ghost use Rattle.console.specs.World.{World, Becomes};
 ghost use Rattle.console.specs.declared.exit.Failure.TheVariants.{Memory, Output};
 ghost use Rattle.console.specs.declared.exit.Status.TheVariants.{Done, Refused};
 ghost use Rattle.mux_types.specs.declared.entry.Entry.{Entry as EntryOf};
 ghost use Rattle.fib_reader.specs.Raw.{IsValue};
 ghost use Rattle.plan_code.specs.Program.{IsPlan};
 ghost use Rattle.script_config.specs.Texts.{IsTextOf};
+ghost use Rattle.stream_monitor.specs.Hinting.{IsHinted, OnlyHints};
 ghost use Rattle.cli_streams.specs.Lines.{head_line};
 ghost use Rattle.cli_scripts.specs.ListenScript.{ShowsScript, ShowsNamed, clamped, header_of};
 ghost use Rattle.cli_scripts.specs.Naming.{HearsNamed, ended_named};
@@ -55,7 +57,7 @@ pub struct Named {
 /// standard input if the path is `-`.
 ///
 /// `Read` if the file can't be read; `Output` if `out` fails; `Memory` if out of memory.
-#[tactic(auto, using(crate::proofs::ListeningScripts::unread, crate::proofs::ListeningScripts::shown))]
+#[tactic(auto, using(crate::proofs::ListeningScripts::unread, crate::proofs::ListeningScripts::shown, stream_monitor::proofs::Hinted::not_hinted))]
 pub fn show_script<'a, F: Files, W: Write>(
     alloc: Global,
     request: &ListenScriptRequest<'a>,
@@ -67,13 +69,15 @@ pub fn show_script<'a, F: Files, W: Write>(
     ensures file { request.now.file.now ≢ codes "-"
         → IfSome (F.known files.old request.now.file.now) (λ stream. ShowsScript request.now stream
         (Appends (W.contents out.old) (W.contents out.new)) result) }
+    ensures hinted { Becomes (IsHinted request.now.file.now)
+        (F.world files.old) (F.world files.new) }
 {
     let mut pieces = match pieces_of(alloc, files, request.file) {
         Ok(pieces) => pieces,
         Err(failure) => return Err(failure),
     };
-    let mut hints = Hints::new(files, request.file);
-    match name_of(&mut pieces, &mut hints) {
+    let mut hints = Hints::new(request.file);
+    match name_of(&mut pieces, &mut hints, files) {
         Ok(heard) => print_heard(alloc, request, &heard, out),
         Err(fault) => Err(Failure::of_file(fault, request.file)),
     }
@@ -86,24 +90,28 @@ pub fn show_script<'a, F: Files, W: Write>(
 #[tactic(auto, using(crate::proofs::Naming::ends_named))]
 pub fn name_of<R: Read + Drop, F: Files>(
     pieces: &mut Pieces<R>,
-    hints: &mut Hints<'_, F>,
+    hints: &mut Hints<'_>,
+    files: &mut F,
 ) -> Result<Result<Named, StreamFault>, FileFault>
-    ensures { IfOk result (λ given. (stream : List ℕ)
+    ensures hears { IfOk result (λ given. (stream : List ℕ)
         × Consumes pieces.old.left pieces.new.left stream
         × IsAtEnd pieces.new.left × HearsNamed stream given) }
+    ensures hinted { (w : Option World)
+        → OnlyHints hints.old.path.now hints.old.watch.is_done w (F.world files.old)
+        → OnlyHints hints.old.path.now hints.new.watch.is_done w (F.world files.new) }
 {
     let mut heard = Heard::new();
     let mut eid = None;
     let mut has_room = true;
     for _ in 0..MOST_PIECES {
         if !pieces.advance()? {
-            hints.end();
+            hints.end(files);
             return Ok(ended(has_room, heard, eid));
         }
         let (fibs, rest) = pieces.piece().as_chunks::<32>();
-        hints.look(pieces.piece());
+        hints.look(pieces.piece(), files);
         if !rest.is_empty() {
-            hints.end();
+            hints.end(files);
             return Ok(Err(StreamFault::NotWhole));
         }
         eid = eid_after(fibs, eid);

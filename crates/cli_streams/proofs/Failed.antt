@@ -1,5 +1,5 @@
 -- A check that ends with a failure.
-use Rattle.std.proofs.Common.{◌≡◌, ℕ, ◌&&◌, Bool, true, false, List, [], ◌++◌, Option, None, Some, IfSome, inl, inr, refl, sym, ap, ◌∙◌, subst}
+use Rattle.std.proofs.Common.{◌≡◌, ℕ, ◌&&◌, Bool, true, false, List, [], ◌++◌, Option, None, Some, IfSome, Result, Ok, Err, IfErr, inl, inr, refl, sym, ap, ◌∙◌, subst}
 use Rattle.std.proofs.lemmas.List.{append_assoc}
 use Rattle.std.proofs.KnownBytes.{Appends-nil, Appends-trans}
 use Rattle.std.specs.List.{concat}
@@ -15,6 +15,7 @@ use Rattle.stream_monitor.specs.declared.monitor.Stop.TheVariants as stops
 use Rattle.stream_monitor.specs.declared.options.CheckOptions.{CheckOptions}
 use Rattle.stream_monitor.specs.Outcome.{GoesOn}
 use Rattle.stream_monitor.specs.Unfinished.{Failures, FindsTooMuch, GivesUp, IsWithinFrame, PrintsFront, StopsBetween, StopsInside}
+use Rattle.cli_streams.specs.Failing.{IsInputFailure}
 use Rattle.cli_streams.specs.Checking.{FailsInput, IsCheckFailure, IsFailureOf, IsUnended, ShowsFront, ShowsSome, ShowsUntil}
 use Rattle.cli_streams.proofs.Checked.{checks_known}
 
@@ -135,6 +136,16 @@ gives_up_why r o path left now before after f (stops.Read Failed) Output is h = 
 gives_up_why r o path left now before after f (stops.Read NoMemory) Output is h = absurd cc
 gives_up_why r o path left now before after f stops.Write failure is h = subst (λ (x : Failure). IsCheckFailure path f.output x) (sym is) h.0
 gives_up_why r o path left now before after f stops.Memory failure is h = subst (λ (x : Failure). IsCheckFailure path f.output x) (sym is) tt
+
+pub input_failure : (path : List ℕ) (output : Bool) (failure : Failure) → IsCheckFailure path output failure → IsInputFailure path failure
+input_failure path output Memory h = tt
+input_failure path output (Read named) h = h
+input_failure path output (Create named) h = h
+input_failure path output Output h = tt
+
+pub input_failures : {A : Type 0} (ended : Result A Failure) (path : List ℕ) (output : Bool) → IfErr ended (IsCheckFailure path output) → IfErr ended (IsInputFailure path)
+input_failures (Ok a) path output h = tt
+input_failures (Err failure) path output h = input_failure path output failure h
 
 unended_why : (path : List ℕ) (output line : Bool) (failure : Failure) → IsUnended output line failure → IsCheckFailure path output failure
 unended_why path output line Memory why = tt

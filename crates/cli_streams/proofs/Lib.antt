@@ -2,7 +2,7 @@ pub mod Hearing
 mod Appending
 mod ByCalls
 mod Checked
-mod Failed
+pub mod Failed
 mod Counting
 mod FirstFrames
 mod HoldingBack

@@ -20,6 +20,10 @@ use Rattle.stream_monitor.specs.Lines.{line_of}
 use Rattle.stream_monitor.specs.Outcome.{GoesOn}
 use Rattle.stream_monitor.specs.Unfinished.{GivesUp, failures}
 use Rattle.cli_streams.specs.Checking.{ShowsSome, ShowsFront, ShowsUntil, IsCheckFailure, IsFailureOf, IsUnended, FailsInput, ShowsInput, last_line}
+use Rattle.cli_streams.specs.Failing.{IsInputFailure}
+use Rattle.cli_streams.specs.FrameRefusals.{frame_refusal}
+use Rattle.cli_streams.specs.declared.frame.FrameFault.TheVariants.{Record, Trailing, NoSuchPage}
+use Rattle.mux_config.specs.declared.record.RecordFault.TheVariants.{Short}
 use Rattle.cli_streams.proofs.Failed.{goes_on_at_first}
 use Rattle.cli_streams.proofs.VectorsOfChecks.{plain, options, no_ensemble, some_behind}
 
@@ -120,3 +124,40 @@ not_silent r left now (ending, text, checks, prints, is) = last ending prints
     last : (e : Ending) → [] ≡ text ++ line_of plain (last_line e) → ⊥
     last (endings.Counted _) e = some_behind text _ _ e
     last (endings.Refused _) e = some_behind text _ _ e
+
+-- ---- `frame`
+
+abbrev IsCreated : Failure → Type 0
+IsCreated Memory = ⊥
+IsCreated (Read named) = ⊥
+IsCreated (Create named) = Unit {0}
+IsCreated Output = ⊥
+
+abbrev IsReadOf : List ℕ → Failure → Type 0
+IsReadOf path Memory = ⊥
+IsReadOf path (Read named) = named.now ≡ path
+IsReadOf path (Create named) = ⊥
+IsReadOf path Output = ⊥
+
+a_short_record : frame_refusal (Record Short) ≡ codes "record: Short"
+a_short_record = refl
+
+-- a fault of the record and one of the configuration
+other_lines : frame_refusal Trailing ≡ frame_refusal NoSuchPage → ⊥
+other_lines e = let bad : 16 ≡ 21 = ap length e in omega (arith, bad)
+
+out_of_memory : IsInputFailure (codes "a.conf") Memory
+out_of_memory = tt
+
+-- `frame` creates no file
+nothing_created : (failure : Failure) → IsInputFailure (codes "a.conf") failure → IsCreated failure → ⊥
+nothing_created Memory h is = is
+nothing_created (Read named) h is = is
+nothing_created (Create named) h is = h
+nothing_created Output h is = is
+
+another_file : (failure : Failure) → IsInputFailure (7 ∷ []) failure → IsReadOf [] failure → ⊥
+another_file Memory h is = is
+another_file (Read named) h is = let e : 7 ∷ [] ≡ [] = sym h ∙ is in absurd cc
+another_file (Create named) h is = is
+another_file Output h is = is

@@ -18,6 +18,7 @@ use Rattle.fib_codec.specs.declared.frame_layout.FrameLayout.{FrameLayout}
 use Rattle.fib_codec.specs.declared.modes.Mode.{Mode}
 use Rattle.fib_carousel.specs.Pages.{page_set, rounds}
 use Rattle.fib_carousel.specs.Bytes.{page_bytes}
+use Rattle.cli_streams.specs.FrameRefusals.{frame_refusal}
 use Rattle.cli_streams.specs.declared.frame.FrameFault.{FrameFault}
 use Rattle.cli_streams.specs.declared.frame.FrameFault.TheVariants.{Record, Trailing, Unsound, NoSuchPage}
 
@@ -63,7 +64,7 @@ frame_text raw frame = if raw then frame else fibs_text frame
 abbrev pub most_bytes : ℕ
 most_bytes = 3460
 
--- the frame is printed, or it is refused; `old` and `new` are the writer's bytes before and after
+-- the frame is printed, or the line of why there is none; `old` and `new` are the writer's bytes before and after
 abbrev pub ShowsFrame : (raw : Bool) → Result (List ℕ) FrameFault → (old new : Option (List ℕ)) → Status → Type 0
 ShowsFrame raw (Ok frame) old new status = (status ≡ Done) × Appends old new (frame_text raw frame)
-ShowsFrame raw (Err fault) old new status = status ≡ Refused
+ShowsFrame raw (Err fault) old new status = (status ≡ Refused) × Appends old new (frame_refusal fault ++ codes "\n")

@@ -1,6 +1,8 @@
 pub mod Buffered
 pub mod Checking
+pub mod Failing
 pub mod Frame
+pub mod FrameRefusals
 pub mod Held
 pub mod Json
 pub mod JsonListing

@@ -3,7 +3,9 @@
 ghost use Rattle.std.specs.Prelude.{◌≡◌, ◌≢◌, IfErr, IfOk, IfSome, OnErr, OnOk, codes};
 ghost use Rattle.std.specs.Io.KnownBytes.{Appends};
 ghost use Rattle.console.specs.Printed.{printed};
+ghost use Rattle.console.specs.World.{Becomes};
 ghost use Rattle.stream_check.specs.Frames.{Reading};
+ghost use Rattle.stream_monitor.specs.Hinting.{IsHinted};
 ghost use Rattle.stream_monitor.specs.Lines.{line_of};
 ghost use Rattle.stream_monitor.specs.Unfinished.{PrintsFront, failures};
 ghost use Rattle.cli_streams.specs.Checking.{FailsInput, IsCheckFailure, IsFailureOf, IsUnended, ShowsCheck, ShowsInput, ShowsUntil, last_line, status_of};
@@ -36,6 +38,7 @@ pub struct CheckRequest<'a> {
 /// for a piece or a line, or if a frame has more than 1,024 findings; `Output` if the output failed,
 /// after which nothing is printed. What is printed then is the beginning of what the whole check
 /// prints.
+#[tactic(auto, using(stream_monitor::proofs::Hinted::hinted_behind, stream_monitor::proofs::Hinted::not_hinted))]
 pub fn show_check<'a, F: Files, W: Write>(
     alloc: Global,
     request: &CheckRequest<'a>,
@@ -57,6 +60,8 @@ pub fn show_check<'a, F: Files, W: Write>(
         → IfSome (F.known files.old request.now.file.now)
         (λ stream. IfErr result (λ failure. (r : Reading) → ShowsUntil r request.now.options stream
         (printed W.contents out.old) (printed W.contents out.new) failure)) }
+    ensures hinted { Becomes (IsHinted request.now.file.now)
+        (F.world files.old) (F.world files.new) }
 {
     // The cause of a failure does not depend on how FIBs are read, and there is a reading.
     stream_check::laws::reading();
@@ -64,9 +69,9 @@ pub fn show_check<'a, F: Files, W: Write>(
         Ok(pieces) => pieces,
         Err(failure) => return Err(failure),
     };
-    let mut input = FileFibs::new(Hints::new(files, request.file), pieces);
+    let mut input = FileFibs::new(pieces);
     let mut lines = LinePrinter::new();
-    match check_input(request.options, request.file, &mut input, &mut lines, out) {
+    match check_input(request, &mut input, files, &mut lines, out) {
         Ok(status) => Ok(status),
         Err(failure) => Err(failure),
     }
@@ -74,26 +79,32 @@ pub fn show_check<'a, F: Files, W: Write>(
 
 /// Checks an input, the file of this path, and prints the last line.
 fn check_input<'a, F: Files, R: Read + Drop, W: Write>(
-    options: CheckOptions,
-    path: &'a str,
-    input: &mut FileFibs<'_, F, R>,
+    request: &CheckRequest<'a>,
+    input: &mut FileFibs<R>,
+    files: &mut F,
     lines: &mut LinePrinter,
     out: &mut Output<W>,
 ) -> Result<Status, Failure<'a>>
-    ensures shows { IfOk result (λ status. (r : Reading) → ShowsInput r options
+    ensures shows { IfOk result (λ status. (r : Reading) → ShowsInput r request.now.options
         input.old.pieces.left input.new.pieces.left
         (printed W.contents out.old) (printed W.contents out.new) status) }
-    ensures fails { IfErr result (λ failure. (r : Reading) → FailsInput r options path.now
+    ensures fails { IfErr result (λ failure. (r : Reading)
+        → FailsInput r request.now.options request.now.file.now
         input.old.pieces.left input.new.pieces.left
         (printed W.contents out.old) (printed W.contents out.new)
         (failures input.new.fault out.new.has_failed lines.new.has_lost) failure) }
+    ensures hinted { Becomes (IsHinted request.now.file.now)
+        (F.world files.old) (F.world files.new) }
 {
-    match check_stream(options, input, lines, out) {
-        Ok(ending) => match print_ending(options.form, path, ending, lines, out) {
-            Ok(status) => Ok(status),
-            Err(failure) => Err(failure),
-        },
-        Err(stop) => Err(failure_of(stop, path)),
+    let mut hints = Hints::new(request.file);
+    match check_stream(request.options, input, &mut hints, files, lines, out) {
+        Ok(ending) => {
+            match print_ending(request.options.form, request.file, ending, lines, out) {
+                Ok(status) => Ok(status),
+                Err(failure) => Err(failure),
+            }
+        }
+        Err(stop) => Err(failure_of(stop, request.file)),
     }
 }
 

@@ -1,7 +1,11 @@
 //! `dabplan frame`: prints one frame of the configuration in a record.
 
-ghost use Rattle.std.specs.Prelude.{◌≡◌, ◌≢◌, IfOk, IfSome, OnOk, codes, take};
+ghost use Rattle.std.specs.Prelude.{◌≡◌, ◌≢◌, IfErr, IfOk, IfSome, OnOk, codes, take};
+ghost use Rattle.std.specs.Fmt.{WritesOnOk};
 ghost use Rattle.std.specs.Io.KnownBytes.{Appends};
+ghost use Rattle.console.specs.World.{Stays};
+ghost use Rattle.cli_streams.specs.Failing.{IsInputFailure};
+ghost use Rattle.cli_streams.specs.FrameRefusals.{record_refusal, unsound_refusal};
 ghost use Rattle.cli_streams.specs.Frame.{ShowsFrame, fibs_text, frame_of, frame_text, most_bytes, page_or_fault, sent};
 
 use console::exit::{Failure, Status, read_input};
@@ -11,8 +15,9 @@ use fib_carousel::{page, pages};
 use fib_codec::{FibFrame, FrameLayout, Mode};
 use mux_config::{Config, ConfigFault, Ensemble, RecordFault, read_config, soundness};
 use std::alloc::Global;
+use std::error;
+use std::fmt::{self, Display, Formatter};
 use std::io::{self, Write};
-use thiserror::Error;
 
 /// The most bytes of a configuration record: the three numbers, 64 sub-channels and 64 packet components of 7 bytes
 /// each, and 64 services of 4 bytes with 12 components of 3 bytes each. One byte more is read, to detect bytes after
@@ -35,20 +40,60 @@ pub struct FrameRequest<'a> {
 }
 
 /// Why a record gives no frame, in the order in which [`frame_of`] tests.
-#[derive(Clone, Copy, Debug, PartialEq, Eq, Error)]
+#[derive(Clone, Copy, Debug, PartialEq, Eq)]
 pub enum FrameFault {
     /// The bytes are not a configuration record.
-    #[error("record: {0}")]
     Record(RecordFault),
     /// Bytes follow the record.
-    #[error("record: trailing")]
     Trailing,
     /// The configuration is not sound.
-    #[error("refused: {0}")]
     Unsound(ConfigFault),
     /// The configuration has no page of this number.
-    #[error("refused: no such page")]
     NoSuchPage,
+}
+
+impl Display for FrameFault {
+    ghost use Rattle.std.specs.Prelude.{Some};
+    ghost use Rattle.cli_streams.specs.FrameRefusals.{frame_refusal};
+
+    ghost output = { λ fault. Some (frame_refusal fault) };
+
+    /// The printed line.
+    fn fmt<W: fmt::Write>(&self, f: &mut Formatter<W>) -> fmt::Result {
+        match self {
+            FrameFault::Record(fault) => put_record_refusal(*fault, f),
+            FrameFault::Trailing => f.write_str("record: trailing"),
+            FrameFault::Unsound(fault) => put_unsound_refusal(*fault, f),
+            FrameFault::NoSuchPage => f.write_str("refused: no such page"),
+        }
+    }
+}
+
+impl error::Error for FrameFault {}
+
+/// Writes why the bytes are no record.
+fn put_record_refusal<W: fmt::Write>(fault: RecordFault, f: &mut Formatter<W>) -> fmt::Result
+    ensures { WritesOnOk W.write_str_gives f.old result (record_refusal fault) f.new }
+{
+    match fault {
+        RecordFault::Short => f.write_str("record: Short"),
+        RecordFault::Field(offset) => write!(f, "record: Field {offset}"),
+        RecordFault::Order => f.write_str("record: Order"),
+    }
+}
+
+/// Writes why the configuration is not sound.
+fn put_unsound_refusal<W: fmt::Write>(fault: ConfigFault, f: &mut Formatter<W>) -> fmt::Result
+    ensures { WritesOnOk W.write_str_gives f.old result (unsound_refusal fault) f.new }
+{
+    match fault {
+        ConfigFault::Overlap(low, high) => {
+            write!(f, "refused: Overlap {} {}", low.get(), high.get())
+        }
+        ConfigFault::Orphan => f.write_str("refused: Orphan"),
+        ConfigFault::AddressUsed => f.write_str("refused: AddressUsed"),
+        ConfigFault::EmptyService => f.write_str("refused: EmptyService"),
+    }
 }
 
 /// Runs `frame`: prints the FIBs of the frame, three or in mode III four, a line each.
@@ -65,6 +110,8 @@ pub fn show_frame<'a, F: Files, W: Write>(
         → IfSome (F.known files.old request.now.config.now) (λ bytes.
         IfOk result (ShowsFrame request.now.raw (frame_of request.now.layout request.now.ensemble
         request.now.page (take most_bytes bytes)) (W.contents out.old) (W.contents out.new))) }
+    ensures failed { IfErr result (IsInputFailure request.now.config.now) }
+    ensures world { Stays (F.world files.old) (F.world files.new) }
 {
     let record = read_input(alloc, files, request.config, MOST_BYTES + 1)?;
     match frame_of(

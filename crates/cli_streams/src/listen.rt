@@ -1,8 +1,11 @@
 //! `dabplan listen`: decodes a stream of FIBs as a receiver would, and prints the resulting configuration.
 
-ghost use Rattle.std.specs.Prelude.{◌≡◌, ◌≢◌, ◌⊎◌, ℕ, List, Result, Err, Ok, IfOk, IfSome, OnErr, OnOk, codes, true};
+ghost use Rattle.std.specs.Prelude.{◌≡◌, ◌≢◌, ◌⊎◌, ℕ, List, Option, Result, Err, Ok, IfErr, IfOk, IfSome, OnErr, OnOk, codes, true};
 ghost use Rattle.std.specs.Io.KnownBytes.{Appends, Consumes, IsAtEnd};
 ghost use Rattle.fib_reader.specs.Listening.{all_entries};
+ghost use Rattle.console.specs.World.{World, Becomes};
+ghost use Rattle.stream_monitor.specs.Hinting.{IsHinted, OnlyHints};
+ghost use Rattle.cli_streams.specs.Failing.{IsInputFailure};
 ghost use Rattle.cli_streams.specs.Listing.{AreLinesOf, IsListing, IsShown, IsShownIn, ShowsStream, counts_line, refusal_line, swap_line};
 ghost use Rattle.cli_streams.specs.JsonListing.{AreObjectsOf, IsJsonListing, IsShownAsJson, json_counts, json_refusal, json_swap};
 ghost use Rattle.cli_streams.specs.Stream.{HearsStream, IsTooLong, ended};
@@ -95,6 +98,7 @@ pub struct ListenRequest<'a> {
 /// Runs `listen`: prints what was decoded from the file, or from standard input if the path is `-`. The stream is
 /// decoded piece by piece, so that memory use does not depend on its length. Where it is no stream of FIBs, a hint is
 /// given on standard error.
+#[tactic(auto, using(stream_monitor::proofs::Hinted::not_hinted))]
 pub fn show_heard<'a, F: Files, W: Write>(
     alloc: Global,
     request: &ListenRequest<'a>,
@@ -108,11 +112,14 @@ pub fn show_heard<'a, F: Files, W: Write>(
         → IfSome (F.known files.old request.now.file.now) (λ stream.
         IfOk result (ShowsStream request.now.is_json stream
         (W.contents out.old) (W.contents out.new))) }
+    ensures failed { IfErr result (IsInputFailure request.now.file.now) }
+    ensures hinted { Becomes (IsHinted request.now.file.now)
+        (F.world files.old) (F.world files.new) }
 {
     let path = request.file;
     let mut pieces = WatchedPieces::new(pieces_of(alloc, files, path)?);
-    let mut hints = Hints::new(files, path);
-    let heard = match listen_to(&mut pieces, &mut hints) {
+    let mut hints = Hints::new(path);
+    let heard = match listen_to(&mut pieces, &mut hints, files) {
         Ok(heard) => heard,
         Err(fault) => return Err(Failure::of_file(fault, path)),
     };
@@ -172,7 +179,8 @@ fn print_refusal<W: Write>(fault: StreamFault, out: &mut W) -> io::Result<()>
 /// The fault of a piece that can't be read; `Failed` too after 2^50 pieces.
 pub fn listen_to<P: FibPieces, F: Files>(
     pieces: &mut P,
-    hints: &mut Hints<'_, F>,
+    hints: &mut Hints<'_>,
+    files: &mut F,
 ) -> Result<Result<Heard, StreamFault>, FileFault>
     ensures hears { IfOk result (λ given. (stream : List ℕ)
         × Consumes (P.left pieces.old) (P.left pieces.new) stream
@@ -180,18 +188,21 @@ pub fn listen_to<P: FibPieces, F: Files>(
     // It gives up only where a piece could not be read, or the stream has 2^50 bytes and more.
     ensures failed { OnErr result ((P.has_failed pieces.new ≡ true)
         ⊎ IsTooLong (P.left pieces.old) (P.left pieces.new)) }
+    ensures hinted { (w : Option World)
+        → OnlyHints hints.old.path.now hints.old.watch.is_done w (F.world files.old)
+        → OnlyHints hints.old.path.now hints.new.watch.is_done w (F.world files.new) }
 {
     let mut heard = Heard::new();
     let mut has_room = true;
     for _ in 0..MOST_PIECES {
         if !pieces.advance()? {
-            hints.end();
+            hints.end(files);
             return Ok(ended(has_room, heard));
         }
         let (fibs, rest) = pieces.piece().as_chunks::<32>();
-        hints.look(pieces.piece());
+        hints.look(pieces.piece(), files);
         if !rest.is_empty() {
-            hints.end();
+            hints.end(files);
             return Ok(Err(StreamFault::NotWhole));
         }
         if has_room {

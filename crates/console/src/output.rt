@@ -48,6 +48,7 @@ impl<W: Write> Write for Output<W> {
 
     ghost contents = { printed W.contents };
 
+    #[inline]
     fn write(&mut self, bytes: &[u8]) -> io::Result<usize>
         ensures bound { WritesAtMost result bytes.now }
         ensures bytes { WriteAppends (printed W.contents self.old) (printed W.contents self.new)

@@ -14,3 +14,5 @@ mod Beginnings
 mod Vectors
 mod VectorsOfChecks
 mod VectorsOfUnfinished
+pub mod Hinted
+mod VectorsOfHints

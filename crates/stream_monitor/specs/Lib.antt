@@ -5,6 +5,7 @@ pub mod Decided
 pub mod Findings
 pub mod Frames
 pub mod Going
+pub mod Hinting
 pub mod Hints
 pub mod Json
 pub mod Lines

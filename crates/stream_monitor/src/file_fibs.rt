@@ -2,37 +2,34 @@
 
 ghost use Rattle.std.specs.Prelude.{◌≡◌, None};
 
-use crate::hint::Hints;
 use crate::source::{CheckStart, FibSource};
-use console::files::{FileFault, Files};
+use console::files::FileFault;
 use console::output::Output;
 use console::pieces::Pieces;
 use std::io::{Read, Write};
 
-/// The FIBs of a reader in pieces, with hints on standard error on the file of a path. What is known of the reader is
-/// known of the pieces. It remembers why one of them could not be read.
+/// The FIBs of a reader in pieces. What is known of the reader is known of the pieces. It remembers why one of them
+/// could not be read.
 #[derive(Drop)]
-pub struct FileFibs<'f, F, R: Read + Drop> {
-    hints: Hints<'f, F>,
+pub struct FileFibs<R: Read + Drop> {
     pieces: Pieces<R>,
     fault: Option<FileFault>,
 }
 
-impl<'f, F: Files, R: Read + Drop> FileFibs<'f, F, R> {
+impl<R: Read + Drop> FileFibs<R> {
     /// The input, before the first piece.
-    pub fn new(hints: Hints<'f, F>, pieces: Pieces<R>) -> Self
+    pub fn new(pieces: Pieces<R>) -> Self
         ensures pieces { result.pieces ≡ pieces }
         ensures works { result.fault ≡ None }
     {
         FileFibs {
-            hints,
             pieces,
             fault: None,
         }
     }
 }
 
-impl<S: CheckStart, W: Write, F: Files, R: Read + Drop> FibSource<S, W> for FileFibs<'_, F, R> {
+impl<S: CheckStart, W: Write, R: Read + Drop> FibSource<S, W> for FileFibs<R> {
     ghost left = { λ s. s.pieces.left };
 
     ghost piece = { λ s. s.pieces.piece };
@@ -51,13 +48,5 @@ impl<S: CheckStart, W: Write, F: Files, R: Read + Drop> FibSource<S, W> for File
 
     fn piece(&self) -> &[u8] {
         self.pieces.piece()
-    }
-
-    fn look(&mut self) {
-        self.hints.look(self.pieces.piece());
-    }
-
-    fn end(&mut self) {
-        self.hints.end();
     }
 }

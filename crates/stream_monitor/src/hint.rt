@@ -4,35 +4,55 @@ ghost use Rattle.std.specs.Prelude.{◌≡◌, ◌<◌};
 ghost use Rattle.stream_monitor.specs.Hints.{is_sync, is_sync_at, is_eti, is_digit_or_blank, are_digits};
 
 use arrayvec::ArrayVec;
+use console::escaped::Escaped;
 use console::files::Files;
 use fib_reader::check;
-use thiserror::Error;
+use std::fmt::{self, Display, Formatter};
 
 /// So many damaged FIBs at the beginning of a stream are no FIBs.
 const MANY: u64 = 2048;
 
 /// Why a file is no stream of FIBs, as far as it is known.
-#[derive(Clone, Copy, Debug, PartialEq, Eq, Error)]
+#[derive(Clone, Copy, Debug, PartialEq, Eq)]
 pub enum Hint {
     /// It looks like nothing that is known.
-    #[error("")]
     NoFibs,
     /// It has frames of ETI (ETS 300 799).
-    #[error(" (ETI: its FIC is taken out by examples/bridge)")]
     Eti,
     /// It is hexadecimal text.
-    #[error(" (hexadecimal text: xxd -r -p)")]
     Digits,
 }
 
 /// A hint, and the path of the file.
-#[derive(Clone, Copy, Debug, PartialEq, Eq, Error)]
-#[error("{path}: no whole FIB: 32 bytes each are expected{hint}")]
+#[derive(Clone, Copy, Debug, PartialEq, Eq)]
 pub struct HintLine<'a> {
     /// The path of the file.
     pub path: &'a str,
     /// The hint.
     pub hint: Hint,
+}
+
+impl Display for HintLine<'_> {
+    ghost use Rattle.std.specs.Prelude.{Some};
+    ghost use Rattle.stream_monitor.specs.Hinting.{hint_line};
+
+    ghost output = { λ line. Some (hint_line line.path.now line.hint) };
+
+    /// The printed line, with the control bytes of the path as `\xHH`.
+    fn fmt<W: fmt::Write>(&self, f: &mut Formatter<W>) -> fmt::Result {
+        let path = Escaped::in_line(self.path);
+        match self.hint {
+            Hint::NoFibs => write!(f, "{path}: no whole FIB: 32 bytes each are expected"),
+            Hint::Eti => write!(
+                f,
+                "{path}: no whole FIB: 32 bytes each are expected (ETI: its FIC is taken out by examples/bridge)"
+            ),
+            Hint::Digits => write!(
+                f,
+                "{path}: no whole FIB: 32 bytes each are expected (hexadecimal text: xxd -r -p)"
+            ),
+        }
+    }
 }
 
 /// Looks at the beginning of a stream until it is clear whether it has FIBs.
@@ -44,8 +64,12 @@ pub struct Watch {
 }
 
 impl Watch {
+    ghost use Rattle.std.specs.Prelude.{◌≡◌, true, false, None};
+
     /// Before the first piece.
-    pub fn new() -> Self {
+    pub fn new() -> Self
+        ensures { result.is_done ≡ false }
+    {
         Watch {
             head: ArrayVec::new(),
             damaged: 0,
@@ -55,7 +79,11 @@ impl Watch {
 
     /// Looks at the next piece, and returns a hint as soon as it is clear: once 64 bytes are read, what they look like,
     /// if the first 32 are a damaged FIB; else once the first 2,048 FIBs are damaged.
-    pub fn look(&mut self, piece: &[u8]) -> Option<Hint> {
+    pub fn look(&mut self, piece: &[u8]) -> Option<Hint>
+        ensures once { self.old.is_done ≡ true → result ≡ None }
+        ensures kept { self.old.is_done ≡ true → self.new.is_done ≡ true }
+        ensures given { self.new.is_done ≡ false → result ≡ None }
+    {
         if self.is_done {
             return None;
         }
@@ -68,7 +96,11 @@ impl Watch {
     }
 
     /// The hint at the end of a stream that is not empty, if there was none before.
-    pub fn end(&mut self) -> Option<Hint> {
+    pub fn end(&mut self) -> Option<Hint>
+        ensures once { self.old.is_done ≡ true → result ≡ None }
+        ensures kept { self.old.is_done ≡ true → self.new.is_done ≡ true }
+        ensures given { self.new.is_done ≡ false → result ≡ None }
+    {
         if self.is_done || self.head.is_empty() {
             return None;
         }
@@ -115,38 +147,56 @@ impl Watch {
 
 /// Gives a hint on standard error where the file of a path is no stream of FIBs, once at most.
 #[derive(Drop)]
-pub struct Hints<'a, F> {
-    files: &'a mut F,
+pub struct Hints<'a> {
     path: &'a str,
     watch: Watch,
 }
 
-impl<'a, F: Files> Hints<'a, F> {
+impl<'a> Hints<'a> {
+    ghost use Rattle.std.specs.Prelude.{◌≡◌, Option, None};
+    ghost use Rattle.console.specs.World.{World, Becomes, Stays};
+    ghost use Rattle.stream_monitor.specs.Hinting.{IsHinted, OnlyHints};
+
     /// Before the first piece of the file of this path.
-    pub fn new(files: &'a mut F, path: &'a str) -> Self {
+    pub fn new(path: &'a str) -> Self
+        ensures path { result.path.now ≡ path.now }
+        ensures none { (w : Option World) → OnlyHints path.now result.watch.is_done w w }
+    {
         Hints {
-            files,
             path,
             watch: Watch::new(),
         }
     }
 
     /// Looks at the next piece.
-    pub fn look(&mut self, piece: &[u8]) {
+    pub fn look<F: Files>(&mut self, piece: &[u8], files: &mut F)
+        ensures path { self.new.path.now ≡ self.old.path.now }
+        ensures hinted { (w : Option World)
+            → OnlyHints self.old.path.now self.old.watch.is_done w (F.world files.old)
+            → OnlyHints self.old.path.now self.new.watch.is_done w (F.world files.new) }
+    {
         let hint = self.watch.look(piece);
-        self.give(hint);
+        self.give(hint, files);
     }
 
     /// Looks at what was read, at the end of the stream or of its check.
-    pub fn end(&mut self) {
+    pub fn end<F: Files>(&mut self, files: &mut F)
+        ensures path { self.new.path.now ≡ self.old.path.now }
+        ensures hinted { (w : Option World)
+            → OnlyHints self.old.path.now self.old.watch.is_done w (F.world files.old)
+            → OnlyHints self.old.path.now self.new.watch.is_done w (F.world files.new) }
+    {
         let hint = self.watch.end();
-        self.give(hint);
+        self.give(hint, files);
     }
 
     /// Gives a hint, if there is one.
-    fn give(&mut self, hint: Option<Hint>) {
+    fn give<F: Files>(&self, hint: Option<Hint>, files: &mut F)
+        ensures none { hint ≡ None → Stays (F.world files.old) (F.world files.new) }
+        ensures given { Becomes (IsHinted self.now.path.now) (F.world files.old) (F.world files.new) }
+    {
         if let Some(hint) = hint {
-            self.files.report(HintLine {
+            files.report(HintLine {
                 path: self.path,
                 hint,
             });

@@ -3,12 +3,14 @@
 ghost use Rattle.std.specs.Prelude.{◌≡◌, ◌<◌, ◌+◌, ◌*◌, ◌/◌, ◌%◌, ℕ, List, Option, [], length, slice_range, true, IfOk, IfErr, OnErr, OnOk, IfSome};
 ghost use Rattle.std.specs.Io.KnownBytes.{Appends, IsAtEnd, Keeps};
 ghost use Rattle.console.specs.Printed.{printed, writer_of};
+ghost use Rattle.console.specs.World.{World};
 ghost use Rattle.stream_check.specs.Frames.{Reading};
 ghost use Rattle.stream_monitor.specs.Checking.{HasReadAll, StopsAtFib, StopsAtPiece};
 ghost use Rattle.stream_monitor.specs.Decided.{finding_lines, is_due};
 ghost use Rattle.stream_monitor.specs.Going.{IsAfter, EndsFrameFrom, BreaksFrameFrom, cause_of, due_text, end_of, ChecksFib, ChecksPiece, GivesUpFib, GivesUpPiece};
 ghost use Rattle.stream_monitor.specs.declared.ending.Ending.TheVariants.{Refused};
 ghost use Rattle.stream_monitor.specs.declared.options.CheckOptions.{CheckOptions as OptionsOf};
+ghost use Rattle.stream_monitor.specs.Hinting.{OnlyHints};
 ghost use Rattle.stream_monitor.specs.Outcome.{ChecksInput, StopsAtEnd};
 ghost use Rattle.stream_monitor.specs.Requests.{IsEmptied, beginning};
 ghost use Rattle.stream_monitor.specs.Unfinished.{GivesUp, IsUnprinted, PrintsFront, failures};
@@ -16,6 +18,7 @@ ghost use Rattle.stream_monitor.specs.declared.monitor.Stop.TheVariants.{Write a
 
 use crate::ending::Ending;
 use crate::file_fibs::FileFibs;
+use crate::hint::Hints;
 use crate::line::{Cause, Form, Line, Totals};
 use crate::options::CheckOptions;
 use crate::printer::LinePrinter;
@@ -80,9 +83,14 @@ fn totals_of(tally: Tally, summary: Summary) -> Totals
 /// `Write` if the output failed, after which nothing is printed; `Memory` if a frame has more than
 /// 1,024 findings, for which there is no room, behind the lines of the frames before it, or if
 /// `lines` has lost a line. What is printed then is the beginning of what the whole check prints.
+///
+/// Where the input is no stream of FIBs, `hints` gives a hint on the standard error of `files`, as soon as that is
+/// clear. Nothing else is written there, and no file is changed.
 pub fn check_stream<F: Files, R: Read + Drop, W: Write>(
     options: CheckOptions,
-    input: &mut FileFibs<'_, F, R>,
+    input: &mut FileFibs<R>,
+    hints: &mut Hints<'_>,
+    files: &mut F,
     lines: &mut LinePrinter,
     out: &mut Output<W>,
 ) -> Result<Ending, Stop>
@@ -98,14 +106,19 @@ pub fn check_stream<F: Files, R: Read + Drop, W: Write>(
         (failures input.new.fault out.new.has_failed lines.new.has_lost) stop) }
     // A read that failed is no end of the input.
     ensures read { OnOk result (input.new.fault ≡ input.old.fault) }
+    ensures hinted { (w : Option World)
+        → OnlyHints hints.old.path.now hints.old.watch.is_done w (F.world files.old)
+        → OnlyHints hints.old.path.now hints.new.watch.is_done w (F.world files.new) }
 {
-    check_fibs::<Brand, F, R, W>(options, input, lines, out)
+    check_fibs::<Brand, F, R, W>(options, input, hints, files, lines, out)
 }
 
 /// Checks the FIBs of a reader, for the requests of a check that begins at `S`.
 fn check_fibs<S: CheckStart, F: Files, R: Read + Drop, W: Write>(
     options: CheckOptions,
-    input: &mut FileFibs<'_, F, R>,
+    input: &mut FileFibs<R>,
+    hints: &mut Hints<'_>,
+    files: &mut F,
     lines: &mut LinePrinter,
     out: &mut Output<W>,
 ) -> Result<Ending, Stop>
@@ -120,16 +133,21 @@ fn check_fibs<S: CheckStart, F: Files, R: Read + Drop, W: Write>(
         (printed W.contents out.old) (printed W.contents out.new)
         (failures input.new.fault out.new.has_failed lines.new.has_lost) stop) }
     ensures read { OnOk result (input.new.fault ≡ input.old.fault) }
+    ensures hinted { (w : Option World)
+        → OnlyHints hints.old.path.now hints.old.watch.is_done w (F.world files.old)
+        → OnlyHints hints.old.path.now hints.new.watch.is_done w (F.world files.new) }
 {
-    check_source::<S, W, FileFibs<'_, F, R>>(options, input, lines, out)
+    check_source::<S, W, FileFibs<R>, F>(options, input, hints, files, lines, out)
 }
 
 /// Checks an input of FIBs as it comes. Each of its reads requires that the lines of all frames so far are with the
 /// writer of the output.
 #[tactic(auto, using(crate::proofs::Stopping::stopped_reading))]
-fn check_source<S: CheckStart, W: Write, I: FibSource<S, W>>(
+fn check_source<S: CheckStart, W: Write, I: FibSource<S, W>, F: Files>(
     options: CheckOptions,
     input: &mut I,
+    hints: &mut Hints<'_>,
+    files: &mut F,
     lines: &mut LinePrinter,
     out: &mut Output<W>,
 ) -> Result<Ending, Stop>
@@ -144,6 +162,9 @@ fn check_source<S: CheckStart, W: Write, I: FibSource<S, W>>(
         (printed W.contents out.old) (printed W.contents out.new)
         (failures (I.fault input.new) out.new.has_failed lines.new.has_lost) stop) }
     ensures read { OnOk result (I.fault input.new ≡ I.fault input.old) }
+    ensures hinted { (w : Option World)
+        → OnlyHints hints.old.path.now hints.old.watch.is_done w (F.world files.old)
+        → OnlyHints hints.old.path.now hints.new.watch.is_done w (F.world files.new) }
 {
     let mut state = start(options);
     let mut stash = Stash::new();
@@ -155,16 +176,16 @@ fn check_source<S: CheckStart, W: Write, I: FibSource<S, W>>(
         match input.next(out) {
             Ok(true) => {}
             Ok(false) => {
-                input.end();
+                hints.end(files);
                 return Ok(finish(options, &state));
             }
             Err(fault) => return Err(Stop::Read(fault)),
         }
         match check_piece(options, &mut state, &mut stash, input.piece(), lines, out) {
-            Ok(None) => input.look(),
+            Ok(None) => hints.look(input.piece(), files),
             Ok(Some(ending)) => {
-                input.look();
-                input.end();
+                hints.look(input.piece(), files);
+                hints.end(files);
                 return Ok(ending);
             }
             Err(stop) => return Err(stop),

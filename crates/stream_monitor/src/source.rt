@@ -1,4 +1,4 @@
-//! The input of a check, as a trait: FIBs in pieces, and hints on a file that has none.
+//! The input of a check, as a trait: FIBs in pieces.
 
 ghost use Rattle.std.specs.Prelude.{◌≡◌, ◌<◌, ◌≤◌, ◌%◌, [], length, true, false, IfErr, IfOk, OnOk};
 ghost use Rattle.std.specs.Io.KnownBytes.{Consumes, IsAtEnd};
@@ -26,7 +26,7 @@ impl CheckStart for Brand {
     ghost start = { any_beginning };
 }
 
-/// The input of a check that began at `S`: FIBs, which come in pieces, and hints. Its output is over `W`.
+/// The input of a check that began at `S`: FIBs, which come in pieces. Its output is over `W`.
 pub trait FibSource<S: CheckStart, W: Write> {
     ghost use Rattle.std.specs.Prelude.{ℕ, List, Option, Some};
     ghost use Rattle.console.specs.declared.files.FileFault.{FileFault};
@@ -63,16 +63,4 @@ pub trait FibSource<S: CheckStart, W: Write> {
     /// The bytes of the last piece.
     fn piece(&self) -> &[u8]
         ensures { result.now ≡ piece self.now };
-
-    /// Gives a hint on standard error once the pieces so far are no FIBs. One that can't be written is lost.
-    fn look(&mut self)
-        ensures left { left self.new ≡ left self.old }
-        ensures piece { piece self.new ≡ piece self.old }
-        ensures works { fault self.new ≡ fault self.old };
-
-    /// Gives a hint if the stream ends here, and had no FIB.
-    fn end(&mut self)
-        ensures left { left self.new ≡ left self.old }
-        ensures piece { piece self.new ≡ piece self.old }
-        ensures works { fault self.new ≡ fault self.old };
 }

@@ -1,6 +1,8 @@
--- The pieces so far, decoded, give the result of a stream of their bytes.
+-- The pieces so far, decoded, give the result of a stream of their bytes, and standard error has taken nothing but a hint.
 use Rattle.std.proofs.Common.{◌≡◌, ℕ, ◌*◌, ◌%◌, ◌≤◌, Bool, List, length, Option}
 use Rattle.std.specs.Io.KnownBytes.{Consumes}
+use Rattle.console.specs.World.{World}
+use Rattle.stream_monitor.specs.Hinting.{OnlyHints}
 use Rattle.cli_streams.specs.declared.listen.Heard.{Heard}
 use Rattle.cli_streams.specs.Stream.{HearsTheStream, fibs_of_stream, unheard, ended}
 use Rattle.cli_streams.proofs.listen.listen_to.Given as goal
@@ -15,4 +17,8 @@ pub record HeardSoFar (before left : Option (List ℕ)) (has_room : Bool) (heard
   pub long : pieces ≤ length stream
 
 abbrev pub invariant-loop : goal.invariant-loop
-invariant-loop g l = HeardSoFar (g.P.FibPieces.left l.initial.pieces) (g.P.FibPieces.left l.pieces) l.has_room l.heard l.counter
+invariant-loop g l =
+    HeardSoFar (g.P.FibPieces.left l.initial.pieces) (g.P.FibPieces.left l.pieces) l.has_room l.heard l.counter
+    × (l.hints.path.now ≡ l.initial.hints.path.now)
+    × ((w : Option World) → OnlyHints l.initial.hints.path.now l.initial.hints.watch.is_done w (g.F.Files.world l.initial.files)
+    → OnlyHints l.initial.hints.path.now l.hints.watch.is_done w (g.F.Files.world l.files))
