@@ -10,7 +10,7 @@ use Rattle.script_tokens.specs.Lexing.{added}
 use Rattle.script_tokens.specs.Reading.{AreWithin, lexemes_of}
 use Rattle.script_tokens.specs.Scanning.{Scan, FindsNext, Advances, tokens_left, bytes_left}
 use Rattle.plan_session.specs.Items.{AreUnique, HasLexemes, HoldsItems}
-use Rattle.plan_session.specs.Listing.{as_lexemes, lexemes_left, Lists, TakesItem, all_added, preceded, HasNoTokens, Takes, ReadsItem, FindsItem}
+use Rattle.plan_session.specs.Listing.{as_lexemes, lexemes_left, Lists, TakesItem, all_added, preceded, HasNoTokens, TakesUpTo, ReadsItem, FindsItem}
 
 -- ---- tokens before others
 
@@ -89,8 +89,8 @@ one_taken i old mid new ts t h f a = record {
   bytes = omega (arith, f.3, h.bytes);
 }
 
-pub takes_end : (i count : ℕ) (old mid new : Scan) (ts : List Token) → i ≤ count → IsTaken i old mid ts → FindsNext mid new (Ok None) → Takes count old new ts
-takes_end i count old mid new ts few h f = subst (λ (s : Scan). Takes count old s ts) (sym f.1) (record {
+pub takes_end : (i count : ℕ) (old mid new : Scan) (ts : List Token) → i ≤ count → IsTaken i old mid ts → FindsNext mid new (Ok None) → TakesUpTo count old new ts
+takes_end i count old mid new ts few h f = subst (λ (s : Scan). TakesUpTo count old s ts) (sym f.1) (record {
   text = h.text;
   left = h.left;
   within = h.within;
@@ -99,7 +99,7 @@ takes_end i count old mid new ts few h f = subst (λ (s : Scan). Takes count old
   bytes = h.bytes;
 })
 
-pub takes_all : (count : ℕ) (old new : Scan) (ts : List Token) → IsTaken count old new ts → Takes count old new ts
+pub takes_all : (count : ℕ) (old new : Scan) (ts : List Token) → IsTaken count old new ts → TakesUpTo count old new ts
 takes_all count old new ts h = record { text = h.text; left = h.left; within = h.within; most = omega (arith, h.number); all = inl h.number; bytes = h.bytes }
 
 pub no_tokens_by : (i : ℕ) (old mid new : Scan) (ts : List Token) (e : ScriptFault) → IsTaken i old mid ts → FindsNext mid new (Err e) → HasNoTokens old

@@ -68,7 +68,7 @@ abbrev pub HasNoTokens : Scan → Type 0
 HasNoTokens s = (tokens : List Token) → tokens_left s ≡ Ok tokens → ⊥
 
 -- these tokens come first, and the others are left; there are `count`, or fewer and no other is left
-pub record Takes (count : ℕ) (old new : Scan) (tokens : List Token) : Type 0 where
+pub record TakesUpTo (count : ℕ) (old new : Scan) (tokens : List Token) : Type 0 where
   pub text : new.text ≡ old.text
   pub left : tokens_left old ≡ all_added tokens (tokens_left new)
   pub within : AreWithin (length old.text) tokens
@@ -77,7 +77,7 @@ pub record Takes (count : ℕ) (old new : Scan) (tokens : List Token) : Type 0 w
   pub bytes : bytes_left new ≤ bytes_left old
 
 abbrev pub TakesTokens : ℕ → Scan → Scan → (before after : List Token) → Result (Unit {0}) ScriptFault → Type 0
-TakesTokens count old new before after (Ok done) = (tokens : List Token) × (after ≡ before ++ tokens) × Takes count old new tokens
+TakesTokens count old new before after (Ok done) = (tokens : List Token) × (after ≡ before ++ tokens) × TakesUpTo count old new tokens
 TakesTokens count old new before after (Err e) = (e ≢ Memory) × HasNoTokens old
 
 -- the tokens begin with the item; or they begin with none

@@ -1,6 +1,7 @@
 //! The first fault of a text that is not cut into tokens, in constant memory.
 
-ghost use Rattle.std.specs.Prelude.{◌≡◌, ℕ, List, Some, IfOk};
+ghost use Rattle.std.specs.Prelude.{◌≡◌, ℕ, List, Some, IfOk, IfErr, IsUtf8};
+ghost use Rattle.plan_session.specs.declared.text_fault.TextFault.TheVariants.{NotUtf8};
 ghost use Rattle.plan_session.specs.ByteScans.{IsScanOf};
 
 use crate::byte_scan::ByteScan;
@@ -20,8 +21,10 @@ const WINDOW: usize = 65_536;
 /// `NotUtf8` if the text is not UTF-8, `Failed` if the reader fails, or after 2^64 - 1 bytes, `Memory` if it is out of
 /// memory.
 pub fn refused_byte<R: Read + Drop>(source: R) -> Result<Option<Position>, TextFault>
-    ensures { IfOk result (λ found. (text : List ℕ) → R.remaining source ≡ Some text
+    ensures found { IfOk result (λ found. (text : List ℕ) → R.remaining source ≡ Some text
         → IsScanOf text found) }
+    ensures not_utf8 { IfErr result (λ e. e ≡ NotUtf8 → (text : List ℕ)
+        → R.remaining source ≡ Some text → IsUtf8 text → ⊥) }
 {
     let mut source = source;
     let mut scan = ByteScan::new();

@@ -1,7 +1,8 @@
 //! Finding the first byte of a text that is not allowed outside comments, without keeping any.
 
-ghost use Rattle.std.specs.Prelude.{◌≡◌, ◌≤◌, ℕ, List, [], ◌∷◌, ◌++◌, OnOk, IfOk, IfSome};
+ghost use Rattle.std.specs.Prelude.{◌≡◌, ◌≤◌, ℕ, List, [], ◌∷◌, ◌++◌, OnOk, IfOk, IfErr, IfSome, IsUtf8};
 ghost use Rattle.script_tokens.specs.Bytes.{position_after};
+ghost use Rattle.plan_session.specs.declared.text_fault.TextFault.TheVariants.{NotUtf8};
 ghost use Rattle.plan_session.specs.ByteScans.{IsScanned, IsScanOf, is_refused, comment_after, refused_after};
 
 use crate::characters::take_byte;
@@ -42,6 +43,8 @@ impl ByteScan {
     fn take(&mut self, byte: u8) -> Result<(), TextFault>
         ensures scanned { OnOk result ((seen : List ℕ) → IsScanned seen self.old
             → IsScanned (seen ++ byte ∷ []) self.new) }
+        ensures not_utf8 { IfErr result (λ e. e ≡ NotUtf8 → (seen rest : List ℕ)
+            → IsScanned seen self.old → IsUtf8 (seen ++ byte ∷ rest) → ⊥) }
     {
         if !take_byte(&mut self.begun, byte) {
             return Err(TextFault::NotUtf8);
@@ -61,6 +64,8 @@ impl ByteScan {
     pub(crate) fn take_all(&mut self, bytes: &[u8]) -> Result<(), TextFault>
         ensures scanned { OnOk result ((seen : List ℕ) → IsScanned seen self.old
             → IsScanned (seen ++ bytes.now) self.new) }
+        ensures not_utf8 { IfErr result (λ e. e ≡ NotUtf8 → (seen rest : List ℕ)
+            → IsScanned seen self.old → IsUtf8 (seen ++ (bytes.now ++ rest)) → ⊥) }
     {
         let mut rest = bytes;
         while let Some((byte, others)) = rest.split_first() {
@@ -74,8 +79,10 @@ impl ByteScan {
 
     /// The position of the first byte of the whole text that is not allowed; `NotUtf8` if it ends within a character.
     pub(crate) fn finish(&self) -> Result<Option<Position>, TextFault>
-        ensures { IfOk result (λ found. (text : List ℕ) → IsScanned text self.now
+        ensures found { IfOk result (λ found. (text : List ℕ) → IsScanned text self.now
             → IsScanOf text found) }
+        ensures not_utf8 { IfErr result (λ e. (text : List ℕ) → IsScanned text self.now
+            → IsUtf8 text → ⊥) }
     {
         if !self.begun.is_empty() {
             return Err(TextFault::NotUtf8);

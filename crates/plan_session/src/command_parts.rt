@@ -1,8 +1,9 @@
 //! The commands of a command file that is read twice, part by part, so that none of it is kept.
 
-ghost use Rattle.std.specs.Prelude.{◌≡◌, ◌≢◌, ℕ, List, Some, Ok, IfOk, IfSome, IfNone};
+ghost use Rattle.std.specs.Prelude.{◌≡◌, ◌≢◌, ℕ, List, Some, Ok, IfOk, IfErr, IfSome, IfNone};
 ghost use Rattle.plan_session.specs.declared.command.Command.{Command as FileCommand};
 ghost use Rattle.plan_session.specs.declared.event_fault.EventFault.{EventFault as TextsFault};
+ghost use Rattle.plan_session.specs.declared.text_fault.TextFault.TheVariants.{NotUtf8};
 ghost use Rattle.plan_session.specs.declared.first_reading.FirstReading.TheVariants.{InParts as IsInParts, Refused};
 ghost use Rattle.plan_session.specs.Commands.{HoldsCommands};
 ghost use Rattle.plan_session.specs.CommandParts.{HoldsPartOfCommands, ListsCommandsInParts};
@@ -22,7 +23,8 @@ use std::str;
 ///
 /// # Errors
 ///
-/// Why the text can't be read.
+/// `Failed` if the reader fails, or after 2^64 - 1 reads or parts, `Memory` if it is out of memory. `NotUtf8` is not
+/// returned: a text that is not UTF-8 is `Unparted` or `Refused`.
 pub fn examine_commands<R: Read + Drop>(commands: R) -> Result<FirstReading, TextFault>
     ensures yes { result ≡ Ok IsInParts → (text : List ℕ) → R.remaining commands ≡ Some text
         → ListsCommandsInParts text }
@@ -31,6 +33,7 @@ pub fn examine_commands<R: Read + Drop>(commands: R) -> Result<FirstReading, Tex
     ensures refused { (fault : TextsFault) → result ≡ Ok (Refused fault) → (text : List ℕ)
         (all : List FileCommand) → R.remaining commands ≡ Some text → Fits text
         → HoldsCommands text all → ⊥ }
+    ensures failed { IfErr result (λ e. e ≢ NotUtf8) }
 {
     first_reading::<R, Command>(commands)
 }

@@ -7,6 +7,7 @@ ghost use Rattle.plan_runs.specs.RightBytes.{FramesAreRight};
 ghost use Rattle.plan_player.specs.Playing.{Playing};
 ghost use Rattle.plan_session.specs.declared.step.Step.{Step as EventStep};
 ghost use Rattle.plan_session.specs.declared.event_fault.EventFault.{EventFault as TextsFault};
+ghost use Rattle.plan_session.specs.declared.text_fault.TextFault.TheVariants.{NotUtf8};
 ghost use Rattle.plan_session.specs.declared.first_reading.FirstReading.TheVariants.{InParts as IsInParts, Refused};
 ghost use Rattle.plan_session.specs.Events.{Holds, events_of};
 ghost use Rattle.plan_session.specs.Playback.{asked_from, IsPlayback};
@@ -118,7 +119,8 @@ fn play_again<R: Read + Drop, K: Sink>(
 ///
 /// # Errors
 ///
-/// Why the text can't be read.
+/// `Failed` if the reader fails, or after 2^64 - 1 reads or parts, `Memory` if it is out of memory. `NotUtf8` is not
+/// returned: a text that is not UTF-8 is `Unparted` or `Refused`.
 pub fn examine_events<R: Read + Drop>(events: R) -> Result<FirstReading, TextFault>
     ensures yes { result ≡ Ok IsInParts → (text : List ℕ) → R.remaining events ≡ Some text
         → ListsInParts text }
@@ -127,6 +129,7 @@ pub fn examine_events<R: Read + Drop>(events: R) -> Result<FirstReading, TextFau
     ensures refused { (fault : TextsFault) → result ≡ Ok (Refused fault) → (text : List ℕ)
         (steps : List EventStep) → R.remaining events ≡ Some text → Fits text → Holds text steps
         → ⊥ }
+    ensures failed { IfErr result (λ e. e ≢ NotUtf8) }
 {
     first_reading::<R, Step>(events)
 }

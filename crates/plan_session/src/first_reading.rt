@@ -1,7 +1,8 @@
 //! The first of two readings of a text: whether it can be read part by part, or what its fault is.
 
-ghost use Rattle.std.specs.Prelude.{◌≡◌, ◌≢◌, ℕ, List, Some, Ok, IfOk};
+ghost use Rattle.std.specs.Prelude.{◌≡◌, ◌≢◌, ℕ, List, Some, Ok, IfOk, IfErr};
 ghost use Rattle.plan_session.specs.declared.event_fault.EventFault.{EventFault as TextsFault};
+ghost use Rattle.plan_session.specs.declared.text_fault.TextFault.TheVariants.{NotUtf8 as NoText};
 ghost use Rattle.plan_session.specs.declared.first_reading.PartCheck.TheVariants.{Lists, Faulty};
 ghost use Rattle.plan_session.specs.declared.first_reading.FirstReading.TheVariants.{InParts as IsInParts, Refused};
 ghost use Rattle.plan_session.specs.InParts.{InParts, PartHolds};
@@ -120,6 +121,7 @@ pub(crate) fn first_reading<R: Read + Drop, T: Item>(source: R) -> Result<FirstR
     ensures refused { (fault : TextsFault) → result ≡ Ok (Refused fault)
         → (text : List ℕ) (items : List T) → R.remaining source ≡ Some text → Fits text
         → HoldsItems T.spelled T.is_item text items → ⊥ }
+    ensures failed { IfErr result (λ e. e ≢ NoText) }
 {
     T::uniqueness();
     let mut parts = Parts::new(source);

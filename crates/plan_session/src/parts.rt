@@ -1,7 +1,8 @@
 //! Reads a text part by part.
 
-ghost use Rattle.std.specs.Prelude.{◌≡◌, ◌≤◌, ◌<◌, ◌+◌, ℕ, List, Option, length, take, IfOk, OnErr, slice_range};
+ghost use Rattle.std.specs.Prelude.{◌≡◌, ◌≢◌, ◌≤◌, ◌<◌, ◌+◌, ℕ, List, Option, length, take, IfOk, IfErr, OnErr, slice_range};
 ghost use Rattle.std.specs.Io.KnownBytes.{Consumes, IsAtEnd, prepend_known};
+ghost use Rattle.plan_session.specs.declared.text_fault.TextFault.TheVariants.{NotUtf8};
 
 use crate::separation::{letters_len, part_end};
 use crate::text_fault::TextFault;
@@ -53,9 +54,9 @@ impl<R: Read + Drop> Model for Parts<R> {
 }
 
 impl<R: Read + Drop> Parts<R> {
-    ghost use Rattle.std.specs.Prelude.{◌≡◌, [], IfOk, IfErr};
+    ghost use Rattle.std.specs.Prelude.{◌≡◌, ◌≢◌, [], IfOk, IfErr};
     ghost use Rattle.std.specs.Io.KnownBytes.{Keeps};
-    ghost use Rattle.plan_session.specs.declared.parts.NoPart.TheVariants.{Endless};
+    ghost use Rattle.plan_session.specs.declared.parts.NoPart.TheVariants.{Unread, Endless};
     ghost use Rattle.plan_session.specs.PartReading.{Takes, HasNoEnd};
 
     /// The parts of what is left to a reader, before the first.
@@ -79,6 +80,8 @@ impl<R: Read + Drop> Parts<R> {
     pub fn advance(&mut self) -> Result<bool, NoPart>
         ensures found { IfOk result (λ more. Takes more self.old.left self.new) }
         ensures none { IfErr result (λ e. e ≡ Endless → HasNoEnd self.old.left) }
+        // Whether the text is UTF-8 is not judged.
+        ensures unread { IfErr result (λ e. e ≢ Unread NotUtf8) }
     {
         let start = self.next;
         let end = self.filled;
@@ -138,6 +141,7 @@ fn refill<R: Read>(
         Consumes (prepend_known (slice_range window.old start end) (R.remaining source.old))
         (R.remaining source.new) (take n window.new)) }
     ensures last { IfOk result (λ n. n < length window.new → IsAtEnd (R.remaining source.new)) }
+    ensures failed { IfErr result (λ e. e ≢ NotUtf8) }
 {
     window.copy_within(start..end, 0);
     fill(source, window, end - start)
@@ -157,6 +161,7 @@ pub(crate) fn fill<R: Read>(
         Consumes (prepend_known (take kept window.old) (R.remaining source.old))
         (R.remaining source.new) (take n window.new)) }
     ensures last { IfOk result (λ n. n < length window.new → IsAtEnd (R.remaining source.new)) }
+    ensures failed { IfErr result (λ e. e ≢ NotUtf8) }
 {
     let mut filled = kept;
     for _ in 0..u64::MAX {
