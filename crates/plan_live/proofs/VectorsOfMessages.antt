@@ -2,9 +2,10 @@
 use Rattle.std.proofs.Common.{◌≡◌, codes, refl, arith}
 use Rattle.std.proofs.lemmas.Fmt.{decimal_digit}
 use Rattle.std.specs.Fmt.{decimal}
+use Rattle.plan_live.specs.declared.fault.Stop.TheVariants.{Write, Read, Memory, TooMany}
 use Rattle.plan_live.specs.declared.message.LineFault.TheVariants.{Limit, NoText, Byte, Number, Expected}
 use Rattle.plan_live.specs.declared.message.Message.TheVariants.{Bad, Swap, Notice, End, Passed}
-use Rattle.plan_live.specs.Messages.{message_text, json_of, swap_count}
+use Rattle.plan_live.specs.Messages.{message_text, json_of, stop_text, swap_count}
 
 one : decimal 1 ≡ codes "1"
 one = decimal_digit 1 (omega arith)
@@ -73,3 +74,14 @@ an_end_as_json = rw (five, eight) refl
 
 a_frame_as_json : json_of (Passed 5 8) ≡ codes "{\"kind\":\"frame\",\"frame\":5,\"count\":8}"
 a_frame_as_json = rw (five, eight) refl
+
+-- ---- why a run stopped
+
+a_failed_write : stop_text (Write 5 8) ≡ codes "write failed after 5 frames and 8 bytes"
+a_failed_write = rw (five, eight) refl
+
+a_failed_read : stop_text Read ≡ codes "cannot read -"
+a_failed_read = refl
+
+another_reason : stop_text TooMany ≡ stop_text Memory → ⊥
+another_reason e = absurd cc

@@ -1,6 +1,8 @@
 -- Messages as they are shown: as a line of text, and as an object of JSON.
 use Rattle.std.specs.Prelude.{ℕ, ◌+◌, ◌%◌, List, ◌++◌, codes, Option, Some, None}
 use Rattle.std.specs.Fmt.{decimal}
+use Rattle.plan_live.specs.declared.fault.Stop.{Stop}
+use Rattle.plan_live.specs.declared.fault.Stop.TheVariants.{Write, Read, Memory, TooMany}
 use Rattle.plan_live.specs.declared.message.LineFault.{LineFault}
 use Rattle.plan_live.specs.declared.message.LineFault.TheVariants.{Limit, NoText, Byte, Number, Expected}
 use Rattle.plan_live.specs.declared.message.Message.{Message}
@@ -44,6 +46,16 @@ message_text (Swap frame count) = frame_text frame count ++ codes " swap"
 message_text (Notice frame count change low left) = notice_text frame count change low
 message_text (End frame count) = frame_text frame count ++ codes " end"
 message_text (Passed frame count) = frame_text frame count
+
+abbrev pub write_failed_text : (frames bytes : ℕ) → List ℕ
+write_failed_text frames bytes = codes "write failed after " ++ decimal frames ++ codes " frames and " ++ decimal bytes ++ codes " bytes"
+
+-- why a run stopped
+abbrev pub stop_text : Stop → List ℕ
+stop_text (Write frames bytes) = write_failed_text frames bytes
+stop_text Read = codes "cannot read -"
+stop_text Memory = codes "no memory"
+stop_text TooMany = codes "too many frames or lines"
 
 -- ---- JSON
 

@@ -51,9 +51,9 @@ fn take_line<'a, S: Store, E: Ends>(
 
 /// Drives a player with the lines of an input to its end. The steps that a line lists are played before the next line
 /// is read: the bytes of their frames are written, except the first `skip` frames of the run, and flushed. A line that
-/// lists no steps does nothing and is reported. No more memory is allocated than the steps of one line need. Messages are
-/// delivered after the frames of their line; if they are too many to be held, the earlier ones after the frames up to
-/// there, which are flushed first. Those held when the run ends are left to the caller to release.
+/// lists no steps does nothing and is reported. No more memory is allocated than the steps of one line need. Messages
+/// are delivered after the frames of their line; if they are too many to be held, the earlier ones after the frames up
+/// to there, which are flushed first. Those held when the run ends are left to the caller to release.
 ///
 /// # Errors
 ///

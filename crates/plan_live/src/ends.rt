@@ -1,6 +1,6 @@
 //! The three streams of a live run, as traits: lines in, bytes out, and messages.
 
-ghost use Rattle.std.specs.Prelude.{◌≡◌, ◌+◌, ◌<◌, ◌≤◌, ℕ, List, ◌∷◌, [], length, take, true, false, OnOk, OnErr, IfErr};
+ghost use Rattle.std.specs.Prelude.{◌≡◌, ◌+◌, ◌<◌, ◌≤◌, ◌↔◌, ℕ, List, ◌∷◌, [], length, take, true, false, IsTrue, OnOk, OnErr, IfErr};
 ghost use Rattle.std.specs.Io.KnownBytes.{Appends, Keeps, IsAtEnd};
 ghost use Rattle.console.specs.Lines.{GivesLine};
 ghost use Rattle.console.specs.declared.lines.Heard.TheVariants.{Line as IsLine, Long as IsLong, End as IsEnd, Failed as IsFailed};
@@ -13,7 +13,7 @@ use console::lines::Heard;
 
 /// A message sink, which holds up to 64 messages. A message that can't be delivered is lost.
 pub trait Messages {
-    ghost use Rattle.std.specs.Prelude.{ℕ, ◌≡◌, ◌+◌, ◌<◌, ◌≤◌, true, List, Option};
+    ghost use Rattle.std.specs.Prelude.{ℕ, ◌≡◌, ◌+◌, ◌<◌, ◌≤◌, ◌↔◌, IsTrue, List, Option};
     ghost use Rattle.plan_live.specs.declared.message.Message.{Message};
 
     /// The messages so far, if known.
@@ -24,7 +24,7 @@ pub trait Messages {
 
     /// Whether four more messages can be held, the most of a frame.
     fn has_room(&self) -> bool
-        ensures { result ≡ true → held self.now + 4 ≤ 64 };
+        ensures { IsTrue result ↔ (held self.now + 4 ≤ 64) };
 
     /// Holds a message until the next release.
     fn report(&mut self, message: Message)
@@ -111,7 +111,7 @@ pub trait Ends {
 
     /// Whether four more messages can be held, the most of a frame.
     fn has_room(&self) -> bool
-        ensures { result ≡ true → held self.now + 4 ≤ 64 };
+        ensures { IsTrue result ↔ (held self.now + 4 ≤ 64) };
 
     /// Holds a message until the next release.
     fn report(&mut self, message: Message)

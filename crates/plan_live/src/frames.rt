@@ -104,7 +104,8 @@ fn flush_line<E: Ends>(made: u64, skip: u32, ends: &mut E) -> Result<(), Stop>
     }
 }
 
-/// Makes room for the messages of a frame: if there is none, the output is flushed, and the messages held are delivered.
+/// Makes room for the messages of a frame: if there is none, the output is flushed, and the messages held are
+/// delivered.
 /// `Err`: the flush failed after this many frames were made.
 fn make_room<E: Ends>(made: u64, skip: u32, ends: &mut E) -> Result<(), Stop>
     ensures room { OnOk result (E.held ends.new + 4 ≤ 64) }

@@ -15,7 +15,8 @@ use plan_player::Player;
 use plan_session::{RunFault, StartOptions, start_with, typed_code};
 use std::alloc::Global;
 
-/// Plays the code in a file over the lines of an input as they arrive, from this start. It ends at the end of the input.
+/// Plays the code in a file over the lines of an input as they arrive, from this start. It ends at the end of the
+/// input.
 ///
 /// # Errors
 ///

@@ -10,26 +10,27 @@ use console::output::write_out;
 use std::io::{Read, Write};
 
 /// The lines of a reader, a writer that is flushed, and a message sink. A write that fails, takes nothing or is
-/// interrupted is not retried. What the message sink holds is delivered before a line is read. What is known of the reader, the writer and the messages is known of the streams.
+/// interrupted is not retried. What the message sink holds is delivered before a line is read. What is known of the
+/// reader, the writer and the messages is known of the streams.
 #[derive(Drop)]
-pub struct Streams<'a, R: Read + Drop, W, M> {
+pub struct Streams<R: Read + Drop, W, M> {
     lines: Lines<R>,
-    out: &'a mut W,
-    messages: &'a mut M,
+    out: W,
+    messages: M,
     is_flushed: bool,
     input_failed: bool,
     output_failed: bool,
 }
 
-impl<'a, R: Read + Drop, W: Write, M: Messages> Streams<'a, R, W, M> {
+impl<R: Read + Drop, W: Write, M: Messages> Streams<R, W, M> {
     ghost use Rattle.std.specs.Prelude.{◌≡◌, true, false};
     ghost use Rattle.plan_live.specs.Streaming.{writer_of, messages_of};
 
     /// The streams, with nothing written so far.
-    pub fn new(reader: R, out: &'a mut W, messages: &'a mut M) -> Self
+    pub fn new(reader: R, out: W, messages: M) -> Self
         ensures left { result.lines ≡ R.remaining reader }
-        ensures written { W.contents (writer_of result) ≡ W.contents out.old }
-        ensures reported { M.reported (messages_of result) ≡ M.reported messages.old }
+        ensures writer { writer_of result ≡ out }
+        ensures messages { messages_of result ≡ messages }
         ensures flushed { result.is_flushed ≡ true }
         ensures working { (result.input_failed ≡ false) × (result.output_failed ≡ false) }
     {
@@ -42,9 +43,25 @@ impl<'a, R: Read + Drop, W: Write, M: Messages> Streams<'a, R, W, M> {
             output_failed: false,
         }
     }
+
+    /// The writer, and the message sink with what it holds still. The reader is dropped.
+    pub fn into_parts(self) -> (W, M)
+        ensures writer { result.0 ≡ writer_of self }
+        ensures messages { result.1 ≡ messages_of self }
+    {
+        let Streams {
+            lines: _,
+            out,
+            messages,
+            is_flushed: _,
+            input_failed: _,
+            output_failed: _,
+        } = self;
+        (out, messages)
+    }
 }
 
-impl<R: Read + Drop, W: Write, M: Messages> Ends for Streams<'_, R, W, M> {
+impl<R: Read + Drop, W: Write, M: Messages> Ends for Streams<R, W, M> {
     ghost use Rattle.std.specs.Prelude.{None};
     ghost use Rattle.plan_live.specs.Streaming.{writer_of, messages_of};
 
@@ -76,7 +93,7 @@ impl<R: Read + Drop, W: Write, M: Messages> Ends for Streams<'_, R, W, M> {
 
     fn write(&mut self, bytes: &[u8]) -> Result<(), usize> {
         self.is_flushed = false;
-        let (taken, result) = write_out(bytes, self.out);
+        let (taken, result) = write_out(bytes, &mut self.out);
         match result {
             Ok(()) => Ok(()),
             Err(_) => {
