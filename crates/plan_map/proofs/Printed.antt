@@ -52,3 +52,21 @@ row_printed old mid new rows i above r lt same before more =
       appends = Appends-trans _ _ _ _ _ before.appends more;
       all = append_assoc before.so_far (row_text above r) behind ∙ ap (λ (l : List ℕ). before.so_far ++ l) step ∙ before.all;
     }
+
+-- what was written so far, and what follows
+pub record Written (old new : Option (List ℕ)) (rest whole : List ℕ) : Type 0 where
+  pub so_far : List ℕ
+  pub appends : Appends old new so_far
+  pub all : so_far ++ rest ≡ whole
+
+pub written_more : (old mid new : Option (List ℕ)) (piece rest more whole : List ℕ) → Written old mid more whole → more ≡ piece ++ rest → Appends mid new piece → Written old new rest whole
+written_more old mid new piece rest more whole before cut written =
+    record {
+      so_far = before.so_far ++ piece;
+      appends = Appends-trans _ _ _ _ _ before.appends written;
+      all = append_assoc before.so_far piece rest ∙ ap (λ (l : List ℕ). before.so_far ++ l) (sym cut) ∙ before.all;
+    }
+
+pub written_all : (old new : Option (List ℕ)) (rest whole : List ℕ) → Written old new rest whole → rest ≡ [] → Appends old new whole
+written_all old new rest whole before none =
+    subst (Appends old new) (sym (append-nil before.so_far) ∙ ap (λ (l : List ℕ). before.so_far ++ l) (sym none) ∙ before.all) before.appends

@@ -14,7 +14,7 @@ use mux_types::sameness::{is_same_packet, is_same_service, is_same_sub};
 use std::io::{self, Write};
 
 /// Prints an SId as four or eight digits.
-fn print_sid<W: Write>(sid: Sid, out: &mut W) -> io::Result<()>
+pub(crate) fn print_sid<W: Write>(sid: Sid, out: &mut W) -> io::Result<()>
     ensures { OnOk result (Appends (W.contents out.old) (W.contents out.new) (sid_text sid)) }
 {
     match sid {

@@ -188,7 +188,7 @@ pub fn layout_of(alloc: Global, rows: &[Row]) -> Result<Layout, AllocError>
 }
 
 /// The letter of a set of protection profiles.
-fn set_text(set: EepSet) -> &'static str
+pub(crate) fn set_text(set: EepSet) -> &'static str
     ensures { result.now ≡ set_text set }
 {
     match set {

@@ -1,13 +1,16 @@
 //! The map of a plan: which capacity units each sub-channel has, at first and after each commit.
 //!
 //! [`rows_of`] returns the rows of a code, [`print_map`] writes them as text, and [`draw_map`] as a drawing to scale.
-//! Which rows a code has is defined in `specs/Rows.antt`, and the text of a row in `specs/Bars.antt`.
+//! Which rows a code has is defined in `specs/Rows.antt`, the text of a row in `specs/Bars.antt`,
+//! the key of the services in `specs/Key.antt`, and the drawing in `specs/Drawing.antt`.
 #![tactic(auto)]
 
-mod bars;
 pub mod cells;
 pub mod changes;
 pub mod drawing;
+mod drawn_parts;
+mod drawn_row;
+mod drawn_subs;
 pub mod key;
 pub mod layout;
 pub mod lead;
