@@ -1,10 +1,11 @@
 -- A pass over FIGs predicts that they contain nothing new, or that there is room for it.
 use Rattle.std.proofs.Common.{◌≡◌, ◌≢◌, ℕ, suc, ◌+◌, ◌<◌, ◌≤◌, ◌==◌, Bool, true, false, cond, nat_lt, List, [], ◌∷◌, length, Option, Some, None, refl, ap, sym, ◌∙◌, subst, arith}
 use Rattle.std.specs.Prelude.{◌||◌, IfSome}
-use Rattle.std.proofs.lemmas.Bool.{eq-eqb, ne_eqb, eqb-true}
+use Rattle.std.proofs.lemmas.Bool.{eq-eqb, ne_eqb, eqb-true, or_right}
 use Rattle.std.proofs.lemmas.List.{length-map}
 use Rattle.mux_types.specs.Entries.{EnsembleInformation}
 use Rattle.mux_config.specs.Tables.{with_entry, with_entry_changed, has_entry}
+use Rattle.mux_config.proofs.Keeping.{length_with}
 use Rattle.fib_codec.specs.Grammar.{Fig, Open, Other, is_next}
 use Rattle.fib_codec.specs.declared.head.Head.{Head}
 use Rattle.fib_reader.specs.Raw.{Raw, entries_in, head_in, ensemble_in}
@@ -13,10 +14,6 @@ use Rattle.fib_reader.specs.Forecast.{IsKnownTo, HasGrown, HasGrownBy, HasGrownF
 use Rattle.fib_reader.proofs.Keeping.{room_for_known, room_for_new}
 
 -- ---- what is known stays known
-
-or_right : (a b : Bool) → b ≡ true → (a || b) ≡ true
-or_right true b h = refl
-or_right false b h = h
 
 or_cases : (a b c : Bool) → (a || b) ≡ true → (b ≡ true → c ≡ true) → (a || c) ≡ true
 or_cases true b c h f = refl
@@ -48,15 +45,6 @@ known_kept x raw raws known =
       | false ↦ known_added (identifier_of x) raw raws known
     ]
 
-length_added : (raw : Raw) (raws : List Raw) → length (with_entry identifier_of raw raws) ≡ suc (length raws)
-length_added raw [] = refl
-length_added raw (x ∷ xs) =
-    let more = length_added raw xs in
-    elim (nat_lt (identifier_of raw) (identifier_of x)) as (λ b. length (cond b (raw ∷ x ∷ xs) (x ∷ with_entry identifier_of raw xs)) ≡ suc (suc (length xs))) [
-      | true ↦ refl
-      | false ↦ ap suc more
-    ]
-
 length_changed : (raw : Raw) (raws : List Raw) → length (with_entry_changed identifier_of raw raws) ≡ length raws
 length_changed raw raws = length-map raws (λ x. cond (identifier_of x == identifier_of raw) raw x)
 
@@ -64,7 +52,7 @@ length_kept : (b : Bool) (raw : Raw) (raws : List Raw) → is_known raw raws ≡
 length_kept true raw raws is =
     ap (λ t. length (cond t (with_entry_changed identifier_of raw raws) (with_entry identifier_of raw raws))) is ∙ length_changed raw raws
 length_kept false raw raws is =
-    ap (λ t. length (cond t (with_entry_changed identifier_of raw raws) (with_entry identifier_of raw raws))) is ∙ length_added raw raws
+    ap (λ t. length (cond t (with_entry_changed identifier_of raw raws) (with_entry identifier_of raw raws))) is ∙ length_with identifier_of raw raws
 
 -- ---- one entry
 

@@ -21,6 +21,7 @@ mod receiver;
 
 pub use checking::check;
 pub use entries::{Entries, RawEntry};
+pub use entry_table::{EntryTable, TableEntry};
 pub use fault::{FibFault, ListenFault};
 pub use figs::{Fig, Figs};
 pub use listener::Listener;

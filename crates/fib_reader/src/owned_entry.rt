@@ -3,6 +3,7 @@
 ghost use Rattle.std.specs.Prelude.{◌≡◌, ◌↔◌, IsTrue};
 
 use crate::entries::RawEntry;
+use crate::entry_table::TableEntry;
 use fib_codec::Extension;
 use mux_config::Keyed;
 use std::marker::Model;
@@ -110,5 +111,13 @@ impl Keyed for OwnedEntry {
             extension: self.extension,
             long: self.long,
         }
+    }
+}
+
+impl TableEntry for OwnedEntry {
+    ghost heard = { λ raw at. raw };
+
+    fn heard(entry: &RawEntry<'_>, _at: u64) -> OwnedEntry {
+        OwnedEntry::of(entry)
     }
 }

@@ -14,9 +14,9 @@ use std::marker::Model;
 /// their identifiers. Contracts see it as three lists of entries as they were sent, each in ascending order.
 #[derive(Drop)]
 pub struct Picture {
-    subs: EntryTable,
-    services: EntryTable,
-    packets: EntryTable,
+    subs: EntryTable<OwnedEntry>,
+    services: EntryTable<OwnedEntry>,
+    packets: EntryTable<OwnedEntry>,
 }
 
 impl Model for Picture {
@@ -66,12 +66,15 @@ impl Picture {
         ensures full { result ≡ false → pictured entry.now self.old ≡ None }
         ensures unchanged { result ≡ false → self.new ≡ self.old }
     {
+        if self.has(entry) {
+            return true;
+        }
         let identifier = entry.identifier();
         match entry.extension() {
             Extension::Ensemble => unreachable!(),
-            Extension::SubChannels => self.subs.keep(identifier, entry),
-            Extension::Services => self.services.keep(identifier, entry),
-            Extension::Packets => self.packets.keep(identifier, entry),
+            Extension::SubChannels => self.subs.keep(identifier, entry, 0),
+            Extension::Services => self.services.keep(identifier, entry, 0),
+            Extension::Packets => self.packets.keep(identifier, entry, 0),
         }
     }
 

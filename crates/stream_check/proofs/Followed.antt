@@ -6,7 +6,6 @@ use Rattle.std.proofs.lemmas.List.Concat.{flat_map-append}
 use Rattle.fib_codec.specs.Modes.{fib_count, count_step}
 use Rattle.fib_codec.specs.declared.modes.Mode.{Mode}
 use Rattle.fib_codec.specs.declared.modes.Mode.TheVariants.{I, II, III, IV}
-use Rattle.stream_check.specs.declared.finding.Finding.{Finding}
 use Rattle.stream_check.specs.declared.memory.Memory.{Memory}
 use Rattle.stream_check.specs.Frames.{Fib, Reading, first_in, opening, is_there, begins_with_ensemble, holds_ensemble, IsOneFrame, AreFrames, HoldsFirst, IsFramed, damaged_in}
 use Rattle.stream_check.specs.History.{Item, Moment, Said, said, frame_items, frames_ended}

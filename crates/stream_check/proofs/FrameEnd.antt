@@ -5,7 +5,6 @@ use Rattle.std.proofs.lemmas.Bool.{false≢true, eq-eqb, ne_eqb, eqb-true}
 use Rattle.std.proofs.lemmas.List.{append_assoc, append-nil, length-append, length-map, map-append}
 use Rattle.fib_reader.specs.Raw.{Raw}
 use Rattle.fib_reader.specs.Listening.{Listening, all_entries}
-use Rattle.stream_check.specs.declared.finding.Finding.{Finding}
 use Rattle.stream_check.specs.declared.finding.What.{What}
 use Rattle.stream_check.specs.declared.finding.Fault.TheVariants as faults
 use Rattle.stream_check.specs.declared.reporting.FrameAt.{FrameAt}

@@ -5,6 +5,8 @@ use Rattle.std.specs.List.{AllByRecursion}
 use Rattle.std.proofs.Common.{not}
 use Rattle.std.proofs.lemmas.Bool.{cases_lt, false≢true, eq-eqb, eqb-true}
 use Rattle.std.proofs.lemmas.List.Elements.{Contains-append_left, Contains-append_right, Contains-append_cases}
+use Rattle.mux_types.proofs.Tables.{each_weaker}
+use Rattle.mux_config.proofs.Keeping.{is_found}
 use Rattle.mux_config.specs.Tables.{entry_at, with_entry, with_entry_changed, has_entry}
 use Rattle.fib_reader.specs.Raw.{Raw}
 use Rattle.fib_reader.specs.Listening.{identifier_of}
@@ -13,7 +15,7 @@ use Rattle.stream_check.specs.Pictures.{Heard, HeardPicture, heard_key, raws, he
 use Rattle.stream_check.specs.Lookup.{agree, lookup_among, lookup, lookup_in}
 use Rattle.stream_check.specs.Rules.{finds_no_room, is_absent}
 use Rattle.stream_check.proofs.PartCount.{here, there, one_of, in_none}
-use Rattle.stream_check.proofs.Tables.{raw_in, has_found, standing_found, each_weaker, each_kept}
+use Rattle.stream_check.proofs.Tables.{raw_in, standing_found, each_kept}
 
 -- ---- identifiers of one list
 
@@ -92,7 +94,7 @@ pub absent_where : (raw : Raw) (hs : List Heard) → finds_no_room (lookup raw (
 absent_where raw hs free =
     let found = standing_found raw hs (entry_at heard_key (identifier_of raw) hs) refl in
     ap is_absent found ∙ by_standing raw hs (entry_at heard_key (identifier_of raw) hs) refl (ap finds_no_room (sym found) ∙ free)
-    ∙ ap not (sym (has_found (identifier_of raw) hs))
+    ∙ ap not (is_found heard_key (identifier_of raw) hs (entry_at heard_key (identifier_of raw) hs) refl)
 
 -- ---- pictures
 
@@ -137,7 +139,7 @@ own_kept P Q h hs e k kinds one other all =
 other_kept : (P Q : Heard → Type 0) (h : Heard) (hs : List Heard) (e f : ℕ) → h.raw.ext ≡ f → AllByRecursion (λ x. x.raw.ext ≡ e) hs → e < 4 → f < 4 → e ≢ f
     → ((x : Heard) → key_of x.raw ≢ key_of h.raw → P x → Q x) → AllByRecursion P hs → AllByRecursion Q hs
 other_kept P Q h hs e f k kinds small less apart other all =
-    each_weaker (λ x. (x.raw.ext ≡ e) × P x) Q hs (λ x both. other x (kinds_differ x h e f both.0 k small less apart) both.1) (both_each (λ x. x.raw.ext ≡ e) P hs kinds all)
+    each_weaker (λ x. (x.raw.ext ≡ e) × P x) Q (λ x both. other x (kinds_differ x h e f both.0 k small less apart) both.1) hs (both_each (λ x. x.raw.ext ≡ e) P hs kinds all)
 
 pub picture_each : (P Q : Heard → Type 0) (h : Heard) (p : HeardPicture) → 0 < h.raw.ext → h.raw.ext < 4 → HasKinds p → Q h
     → ((x : Heard) → key_of x.raw ≢ key_of h.raw → P x → Q x) → Each P p → Each Q (picture_kept h p)

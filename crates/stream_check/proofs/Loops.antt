@@ -1,7 +1,6 @@
 -- Hearing entries in a loop: those heard so far, and the rest.
-use Rattle.std.proofs.Common.{◌≡◌, true, false, List, [], ◌++◌, Option, refl, sym, ap, ◌∙◌, subst}
+use Rattle.std.proofs.Common.{◌≡◌, true, false, List, [], ◌++◌, refl, sym, ap, ◌∙◌, subst}
 use Rattle.std.proofs.lemmas.List.{append_assoc, append-nil}
-use Rattle.stream_check.specs.declared.finding.Finding.{Finding}
 use Rattle.stream_check.specs.declared.reporting.FrameAt.{FrameAt}
 use Rattle.stream_check.specs.declared.memory.Memory.{Memory}
 use Rattle.stream_check.specs.History.{Item}

@@ -13,7 +13,7 @@ use Rattle.stream_check.specs.Memory.{IsStamped, HasNotice}
 use Rattle.stream_check.proofs.Rows.{concat-more}
 use Rattle.stream_check.proofs.Greedily.{greedy_closes, greedy_stays, new_begins_anew}
 use Rattle.stream_check.proofs.PartCount.{here, there, one_of, in_none, greedy_at_first}
-use Rattle.stream_check.proofs.Tables.{each_weaker}
+use Rattle.mux_types.proofs.Tables.{each_weaker}
 use Rattle.stream_check.proofs.Keys.{picture_each, known_keys, new_keys}
 
 -- ---- one more entry
@@ -171,7 +171,7 @@ each_both P Q R p f a b = (all_both p.subs a.0 b.0, (all_both p.services a.1.0 b
     all_both (h ∷ hs) a b = (f h a.0 b.0, all_both hs a.1 b.1)
 
 pub each_in : (P Q : Heard → Type 0) (p : HeardPicture) → ((x : Heard) → P x → Q x) → Each P p → Each Q p
-each_in P Q p f a = (each_weaker P Q p.subs f a.0, (each_weaker P Q p.services f a.1.0, each_weaker P Q p.packets f a.1.1))
+each_in P Q p f a = (each_weaker P Q f p.subs a.0, (each_weaker P Q f p.services a.1.0, each_weaker P Q f p.packets a.1.1))
 
 -- all entries were heard after a frame exactly where the frames after it contain all of them
 whole_has_all : (frames : List (List ℕ)) (frame : List ℕ) (count since parts : ℕ) (next : HeardPicture) (begun : Bool) → HasNotice frames frame count since parts next begun → heard_since since next ≡ true

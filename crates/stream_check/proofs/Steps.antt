@@ -5,7 +5,6 @@ use Rattle.std.proofs.lemmas.List.{append-nil, append_assoc, map-append, take-ap
 use Rattle.mux_types.specs.Entries.{EnsembleInformation}
 use Rattle.fib_reader.specs.Raw.{Raw, ensemble_in}
 use Rattle.fib_reader.specs.Listening.{Listening, all_entries}
-use Rattle.stream_check.specs.declared.finding.Finding.{Finding}
 use Rattle.stream_check.specs.declared.finding.What.{What}
 use Rattle.stream_check.specs.declared.reporting.FrameAt.{FrameAt}
 use Rattle.stream_check.specs.declared.memory.Memory.{Memory}

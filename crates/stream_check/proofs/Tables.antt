@@ -1,11 +1,11 @@
 -- Tables of entries with times, and of the entries alone.
-use Rattle.std.proofs.Common.{Bor, ◌≡◌, ◌≢◌, ℕ, ◌<◌, ◌≤◌, ◌==◌, Bool, true, false, cond, nat_lt, List, [], ◌∷◌, length, Option, Some, None, is_some, refl, sym, ap, subst, ◌∙◌, lt-ltb, le-ltb}
+use Rattle.std.proofs.Common.{◌≡◌, ◌≢◌, ℕ, ◌<◌, ◌≤◌, ◌==◌, Bool, true, false, not, cond, nat_lt, List, [], ◌∷◌, length, Option, Some, None, refl, sym, ap, subst, ◌∙◌, lt-ltb, le-ltb}
 use Rattle.std.specs.Prelude.{◌||◌}
-use Rattle.std.specs.Option.{option_copied}
 use Rattle.std.specs.List.{AllByRecursion}
-use Rattle.std.proofs.lemmas.Bool.{false≢true}
+use Rattle.std.proofs.lemmas.Bool.{false≢true, or_parts}
 use Rattle.std.proofs.lemmas.List.{length-map}
 use Rattle.mux_config.specs.Tables.{entry_at, with_entry, with_entry_changed, has_entry}
+use Rattle.mux_config.proofs.Keeping.{present, absent_found}
 use Rattle.fib_reader.specs.Raw.{Raw}
 use Rattle.fib_reader.specs.Listening.{identifier_of, is_known, kept, has_room, pictured}
 use Rattle.stream_check.specs.declared.heard_table.Lookup.{Lookup}
@@ -40,20 +40,6 @@ standing_new raw hs e lt = sym (standing_found raw hs None e ∙ ap (λ t. cond 
 pub standing_full : (raw : Raw) (hs : List Heard) → None ≡ entry_at heard_key (identifier_of raw) hs → 64 ≤ length hs → standings.Full ≡ lookup raw (raws hs)
 standing_full raw hs e le = sym (standing_found raw hs None e ∙ ap (λ t. cond t standings.Absent standings.Full) (le-ltb (length hs) 64 le))
 
--- whether a lookup finds an entry
-pub has_found : (k : ℕ) (hs : List Heard) → has_entry heard_key k hs ≡ is_some (entry_at heard_key k hs)
-has_found k [] = refl
-has_found k (h ∷ hs) = elim (heard_key h == k) as (λ t. (t || has_entry heard_key k hs) ≡ is_some (cond t (Some h) (entry_at heard_key k hs))) [
-  | true ↦ refl
-  | false ↦ has_found k hs
-]
-
-pub kept_known : (h : Heard) (hs : List Heard) → is_some (entry_at heard_key (heard_key h) hs) ≡ true → with_entry_changed heard_key h hs ≡ heard_kept h hs
-kept_known h hs e = sym (ap (λ t. cond t (with_entry_changed heard_key h hs) (with_entry heard_key h hs)) (has_found (heard_key h) hs ∙ e))
-
-pub kept_new : (h : Heard) (hs : List Heard) → is_some (entry_at heard_key (heard_key h) hs) ≡ false → with_entry heard_key h hs ≡ heard_kept h hs
-kept_new h hs e = sym (ap (λ t. cond t (with_entry_changed heard_key h hs) (with_entry heard_key h hs)) (has_found (heard_key h) hs ∙ e))
-
 -- ---- the entries alone
 
 has_raw : (k : ℕ) (hs : List Heard) → has_entry identifier_of k (raws hs) ≡ has_entry heard_key k hs
@@ -85,26 +71,35 @@ kept_raw h hs =
 
 -- ---- room
 
-or_right : (a b : Bool) → b ≡ true → (a || b) ≡ true
-or_right true b h = refl
-or_right false b h = h
-
-found_known : (k : ℕ) (rs : List Raw) (r : Raw) → entry_at identifier_of k rs ≡ Some r → has_entry identifier_of k rs ≡ true
-found_known k [] r e = absurd cc
-found_known k (x ∷ xs) r e = elim (identifier_of x == k) as (λ t. cond t (Some x) (entry_at identifier_of k xs) ≡ Some r → (t || has_entry identifier_of k xs) ≡ true) [
-  | true ↦ λ e. refl
-  | false ↦ λ e. found_known k xs r e
-] e
-
-room_where : (raw : Raw) (rs : List Raw) (found : Option Raw) → entry_at identifier_of (identifier_of raw) rs ≡ found → finds_no_room (lookup_among raw (length rs) found) ≡ false → has_room raw rs ≡ true
-room_where raw rs None e free = elim (nat_lt (length rs) 64) as (λ t. nat_lt (length rs) 64 ≡ t → finds_no_room (cond t standings.Absent standings.Full) ≡ false → has_room raw rs ≡ true) [
-  | true ↦ λ few n. or_right (is_known raw rs) (nat_lt (length rs) 64) few
-  | false ↦ λ many n. absurd (false≢true (sym n))
-] refl free
-room_where raw rs (Some r) e free = ap (λ t. t || nat_lt (length rs) 64) (found_known (identifier_of raw) rs r e)
+room_among : (raw : Raw) (rs : List Raw) (found : Option Raw) → found ≡ entry_at identifier_of (identifier_of raw) rs → has_room raw rs ≡ not (finds_no_room (lookup_among raw (length rs) found))
+room_among raw rs None e =
+    ap (λ t. t || nat_lt (length rs) 64) (absent_found identifier_of (identifier_of raw) rs (sym e))
+    ∙ (elim (nat_lt (length rs) 64) as (λ t. t ≡ not (finds_no_room (cond t standings.Absent standings.Full))) [ true ↦ refl | false ↦ refl ])
+room_among raw rs (Some r) e =
+    ap (λ t. t || nat_lt (length rs) 64) (present identifier_of (identifier_of raw) rs r (sym e))
+    ∙ (elim (agree r raw) as (λ t. true ≡ not (finds_no_room (cond t standings.Same standings.Other))) [ true ↦ refl | false ↦ refl ])
 
 has_room_where : (raw : Raw) (rs : List Raw) → finds_no_room (lookup raw rs) ≡ false → has_room raw rs ≡ true
-has_room_where raw rs free = room_where raw rs (entry_at identifier_of (identifier_of raw) rs) refl free
+has_room_where raw rs free = room_among raw rs (entry_at identifier_of (identifier_of raw) rs) refl ∙ ap not free
+
+-- whether a table has room for an entry decides whether its lookup finds room
+room_heard : (h : Heard) (hs : List Heard) → (has_entry heard_key (heard_key h) hs || nat_lt (length hs) 64) ≡ not (finds_no_room (lookup h.raw (raws hs)))
+room_heard h hs =
+    ap (λ t. t || nat_lt (length hs) 64) (sym (has_raw (heard_key h) hs))
+    ∙ ap (λ n. is_known h.raw (raws hs) || nat_lt n 64) (sym (length-map hs (λ x. x.raw)))
+    ∙ room_among h.raw (raws hs) (entry_at identifier_of (identifier_of h.raw) (raws hs)) refl
+
+pub full_without_room : (h : Heard) (hs : List Heard) → false ≡ (has_entry heard_key (heard_key h) hs || nat_lt (length hs) 64) → standings.Full ≡ lookup h.raw (raws hs)
+full_without_room h hs none = by_cases (lookup h.raw (raws hs)) (none ∙ room_heard h hs)
+  where
+    by_cases : (s : Lookup) → false ≡ not (finds_no_room s) → standings.Full ≡ s
+    by_cases standings.Same e = absurd (false≢true e)
+    by_cases standings.Other e = absurd (false≢true e)
+    by_cases standings.Absent e = absurd (false≢true e)
+    by_cases standings.Full e = refl
+
+pub not_full : (h : Heard) (hs : List Heard) → true ≡ (has_entry heard_key (heard_key h) hs || nat_lt (length hs) 64) → lookup h.raw (raws hs) ≢ standings.Full
+not_full h hs some full = false≢true (sym (some ∙ room_heard h hs ∙ ap (λ s. not (finds_no_room s)) full))
 
 -- an entry for which there is room is kept in a picture
 pub pictured_kept : (h : Heard) (p : HeardPicture) → finds_no_room (lookup_in h.raw (shown p)) ≡ false → pictured h.raw (shown p) ≡ Some (shown (picture_kept h p))
@@ -122,10 +117,6 @@ pictured_kept h p room = elim (h.raw.ext == 1) as (λ t. finds_no_room (lookup h
 
 -- ---- properties of each entry
 
-pub each_weaker : {X : Type 0} (P Q : X → Type 0) (xs : List X) → ((x : X) → P x → Q x) → AllByRecursion P xs → AllByRecursion Q xs
-each_weaker P Q [] f all = tt
-each_weaker P Q (x ∷ xs) f all = (f x all.0, each_weaker P Q xs f all.1)
-
 each_changed : (P Q : Heard → Type 0) (h : Heard) (hs : List Heard) → Q h → ((x : Heard) → (heard_key x == heard_key h) ≡ false → P x → Q x) → AllByRecursion P hs → AllByRecursion Q (with_entry_changed heard_key h hs)
 each_changed P Q h [] one other all = tt
 each_changed P Q h (x ∷ xs) one other all = (
@@ -133,28 +124,22 @@ each_changed P Q h (x ∷ xs) one other all = (
   each_changed P Q h xs one other all.1,
 )
 
-or_first : (a b : Bool) → (a || b) ≡ false → a ≡ false
-or_first true b h = absurd (false≢true (sym h))
-or_first false b h = refl
-
-or_second : (a b : Bool) → (a || b) ≡ false → b ≡ false
-or_second true b h = absurd (false≢true (sym h))
-or_second false b h = h
-
 each_added : (P Q : Heard → Type 0) (h : Heard) (hs : List Heard) → Q h → has_entry heard_key (heard_key h) hs ≡ false → ((x : Heard) → (heard_key x == heard_key h) ≡ false → P x → Q x) → AllByRecursion P hs → AllByRecursion Q (with_entry heard_key h hs)
 each_added P Q h [] one none other all = (one, tt)
 each_added P Q h (x ∷ xs) one none other all =
-    let first : Q x = other x (or_first (heard_key x == heard_key h) (has_entry heard_key (heard_key h) xs) none) all.0 in
-    let left = or_second (heard_key x == heard_key h) (has_entry heard_key (heard_key h) xs) none in
-    let rest = each_added P Q h xs one left other all.1 in
+    let left = or_parts (heard_key x == heard_key h) (has_entry heard_key (heard_key h) xs) none in
+    let first : Q x = other x left.0 all.0 in
+    let rest = each_added P Q h xs one left.1 other all.1 in
     elim (nat_lt (heard_key h) (heard_key x)) as (λ b. AllByRecursion Q (cond b (h ∷ x ∷ xs) (x ∷ with_entry heard_key h xs))) [
-      | true ↦ (one, (first, others xs left all.1))
+      | true ↦ (one, (first, others xs left.1 all.1))
       | false ↦ (first, rest)
     ]
   where
     others : (ys : List Heard) → has_entry heard_key (heard_key h) ys ≡ false → AllByRecursion P ys → AllByRecursion Q ys
     others [] none all = tt
-    others (y ∷ ys) none all = (other y (or_first (heard_key y == heard_key h) (has_entry heard_key (heard_key h) ys) none) all.0, others ys (or_second (heard_key y == heard_key h) (has_entry heard_key (heard_key h) ys) none) all.1)
+    others (y ∷ ys) none all =
+        let left = or_parts (heard_key y == heard_key h) (has_entry heard_key (heard_key h) ys) none in
+        (other y left.0 all.0, others ys left.1 all.1)
 
 -- the new entry, and all others
 pub each_kept : (P Q : Heard → Type 0) (h : Heard) (hs : List Heard) → Q h → ((x : Heard) → (heard_key x == heard_key h) ≡ false → P x → Q x) → AllByRecursion P hs → AllByRecursion Q (heard_kept h hs)
@@ -176,13 +161,3 @@ each_heard P h hs new s one all kept full = by_cases s refl
     by_cases standings.Other e = taken (λ f. absurd (cc))
     by_cases standings.Absent e = taken (λ f. absurd (cc))
     by_cases standings.Full e = subst (AllByRecursion P) (sym (full e)) all
-
--- ---- lookups
-
-pub copied_is_some : {X : Type 0} (o : Option (Bor X)) → is_some (option_copied o) ≡ is_some o
-copied_is_some None = refl
-copied_is_some (Some x) = refl
-
-pub none_where : {X : Type 0} (o : Option X) → is_some o ≡ false → o ≡ None
-none_where None e = refl
-none_where (Some x) e = absurd (false≢true (sym e))

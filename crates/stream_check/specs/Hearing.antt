@@ -1,6 +1,5 @@
 -- Hearing entries: what is reported, and what is known afterwards.
-use Rattle.std.specs.Prelude.{◌≡◌, ℕ, Bool, false, List, map, Option}
-use Rattle.stream_check.specs.declared.finding.Finding.{Finding}
+use Rattle.std.specs.Prelude.{◌≡◌, ℕ, Bool, false, List, map}
 use Rattle.stream_check.specs.declared.reporting.FrameAt.{FrameAt}
 use Rattle.stream_check.specs.declared.memory.Memory.{Memory}
 use Rattle.stream_check.specs.Reporting.{in_frame}

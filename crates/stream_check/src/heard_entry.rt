@@ -3,7 +3,7 @@
 ghost use Rattle.std.specs.Prelude.{◌≡◌};
 ghost use Rattle.stream_check.specs.Lookup.{agree};
 
-use fib_reader::{OwnedEntry, RawEntry};
+use fib_reader::{OwnedEntry, RawEntry, TableEntry};
 use mux_config::Keyed;
 use std::marker::Model;
 
@@ -23,16 +23,6 @@ impl Model for HeardEntry {
 }
 
 impl HeardEntry {
-    /// An entry that was heard at this time.
-    pub(crate) fn of(entry: &RawEntry<'_>, at: u64) -> HeardEntry
-        ensures { result ≡ record { raw = entry.now; at = at } }
-    {
-        HeardEntry {
-            entry: OwnedEntry::of(entry),
-            at,
-        }
-    }
-
     /// The time when it was last heard.
     pub(crate) fn at(&self) -> u64
         ensures { result ≡ self.now.at }
@@ -79,6 +69,17 @@ impl Keyed for HeardEntry {
         HeardEntry {
             entry: self.entry.copied(),
             at: self.at,
+        }
+    }
+}
+
+impl TableEntry for HeardEntry {
+    ghost heard = { λ raw at. record { raw = raw; at = at } };
+
+    fn heard(entry: &RawEntry<'_>, at: u64) -> HeardEntry {
+        HeardEntry {
+            entry: OwnedEntry::of(entry),
+            at,
         }
     }
 }

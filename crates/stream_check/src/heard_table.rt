@@ -3,11 +3,12 @@
 ghost use Rattle.std.specs.Prelude.{◌≡◌, ◌≤◌, ℕ, nat_lt};
 ghost use Rattle.std.specs.List.{list_all, AllByRecursion};
 ghost use Rattle.stream_check.specs.Pictures.{Heard, raws};
+ghost use Rattle.fib_reader.specs.Listening.{identifier_of};
+ghost use Rattle.stream_check.specs.Lookup.{lookup};
 ghost use Rattle.stream_check.specs.Rules.{are_same};
 
 use crate::heard_entry::HeardEntry;
-use fib_reader::RawEntry;
-use mux_config::{Keyed, SortedTable};
+use fib_reader::{EntryTable, RawEntry};
 use std::marker::Model;
 
 /// How an entry compares with those of a table.
@@ -26,7 +27,7 @@ pub enum Lookup {
 /// At most 64 entries of one extension. In contracts they are a list in ascending order of identifiers.
 #[derive(Drop)]
 pub struct HeardTable {
-    table: SortedTable<HeardEntry, 64>,
+    table: EntryTable<HeardEntry>,
     /// A time before which no entry was last heard.
     oldest: u64,
 }
@@ -44,12 +45,10 @@ impl Model for HeardTable {
 }
 
 impl HeardTable {
-    ghost use Rattle.std.specs.Prelude.{◌≡◌, ◌≢◌, ◌≤◌, [], length, nat_lt, None};
+    ghost use Rattle.std.specs.Prelude.{◌≡◌, ◌≢◌, ◌≤◌, [], length, nat_lt};
     ghost use Rattle.std.specs.List.{list_all, AllByRecursion};
-    ghost use Rattle.mux_config.specs.Tables.{entry_at};
-    ghost use Rattle.fib_reader.specs.Listening.{identifier_of};
     ghost use Rattle.stream_check.specs.Rules.{are_same};
-    ghost use Rattle.stream_check.specs.Pictures.{Heard, heard_key, heard_kept, raws};
+    ghost use Rattle.stream_check.specs.Pictures.{Heard, heard_kept, raws};
     ghost use Rattle.stream_check.specs.Lookup.{lookup};
     ghost use Rattle.stream_check.specs.declared.heard_table.Lookup.TheVariants as standings;
 
@@ -58,7 +57,7 @@ impl HeardTable {
         ensures { result ≡ [] }
     {
         HeardTable {
-            table: SortedTable::new(),
+            table: EntryTable::new(),
             oldest: u64::MAX,
         }
     }
@@ -88,22 +87,6 @@ impl HeardTable {
         }
     }
 
-    /// Inserts an entry with a new identifier, if there is room.
-    fn take_in(&mut self, entry: &RawEntry<'_>, at: u64) -> Lookup
-        requires absent { None ≡ entry_at heard_key (identifier_of entry.now) self.old }
-        ensures lookup { result ≡ lookup entry.now (raws self.old) }
-        ensures kept { result ≢ standings.Full
-            → self.new ≡ heard_kept (record { raw = entry.now; at = at }) self.old }
-        ensures full { result ≡ standings.Full → self.new ≡ self.old }
-    {
-        if self.table.is_full() {
-            return Lookup::Full;
-        }
-        self.table.insert(HeardEntry::of(entry, at));
-        self.oldest = earlier(self.oldest, at);
-        Lookup::Absent
-    }
-
     /// Replaces the entry with the same identifier, or inserts a new one, as heard at this time. Returns how
     /// it compared with the entries before; where there is no room for it, nothing changes.
     pub(crate) fn hear(&mut self, entry: &RawEntry<'_>, at: u64) -> Lookup
@@ -112,13 +95,13 @@ impl HeardTable {
             → self.new ≡ heard_kept (record { raw = entry.now; at = at }) self.old }
         ensures full { result ≡ standings.Full → self.new ≡ self.old }
     {
-        let Some(known) = self.table.get(entry.identifier()) else {
-            return self.take_in(entry, at);
-        };
-        let is_same = known.is(entry);
-        self.table.replace(HeardEntry::of(entry, at));
+        let identifier = entry.identifier();
+        let found = look_up(&self.table, identifier, entry);
+        if !self.table.keep(identifier, entry, at) {
+            return Lookup::Full;
+        }
         self.oldest = earlier(self.oldest, at);
-        if is_same { Lookup::Same } else { Lookup::Other }
+        found
     }
 
     /// Whether each entry was last heard after this time.
@@ -133,6 +116,25 @@ impl HeardTable {
         ensures { result ≡ are_same (raws self.now) (raws other.now) }
     {
         have_same_entries(self.table.as_slice(), other.table.as_slice())
+    }
+}
+
+/// How an entry with this identifier compares with those of a table.
+fn look_up(table: &EntryTable<HeardEntry>, identifier: u64, entry: &RawEntry<'_>) -> Lookup
+    requires { identifier ≡ identifier_of entry.now }
+    ensures { result ≡ lookup entry.now (raws table.now) }
+{
+    let Some(known) = table.get(identifier) else {
+        return if table.len() < 64 {
+            Lookup::Absent
+        } else {
+            Lookup::Full
+        };
+    };
+    if known.is(entry) {
+        Lookup::Same
+    } else {
+        Lookup::Other
     }
 }
 

@@ -18,10 +18,11 @@ invariant_of-self c =
 
 pub invariant_of-self-in-Services : goal.invariant_of-self-in-Services
 invariant_of-self-in-Services c =
+    let is_service : c.args.entry.now.ext ≡ 2 = sym c.extension.ensures.value ∙ ap number_of c.in-Services.is in
     record {
       subs = c.self.invariant.subs;
-      services = each_after (λ raw. raw.ext ≡ 2) c.args.entry.now _ _ c.keep-in-Services.result (sym c.extension.ensures.value ∙ ap number_of c.in-Services.is)
-          c.self.invariant.services c.keep-in-Services.ensures.kept c.keep-in-Services.ensures.unchanged;
+      services = each_after (λ raw. raw.ext ≡ 2) c.args.entry.now _ _ c.keep-in-Services.result is_service c.self.invariant.services
+          c.keep-in-Services.ensures.kept c.keep-in-Services.ensures.unchanged;
       packets = c.self.invariant.packets;
     }
 
@@ -31,8 +32,8 @@ invariant_of-self-in-Packets c =
     record {
       subs = c.self.invariant.subs;
       services = c.self.invariant.services;
-      packets = each_after (λ raw. raw.ext ≡ 3) c.args.entry.now _ _ c.keep-in-Packets.result is_packet
-          c.self.invariant.packets c.keep-in-Packets.ensures.kept c.keep-in-Packets.ensures.unchanged;
+      packets = each_after (λ raw. raw.ext ≡ 3) c.args.entry.now _ _ c.keep-in-Packets.result is_packet c.self.invariant.packets
+          c.keep-in-Packets.ensures.kept c.keep-in-Packets.ensures.unchanged;
     }
 
 pub returns-in-SubChannels-clause-full : goal.returns-in-SubChannels-clause-full
@@ -42,5 +43,5 @@ returns-in-SubChannels-clause-full c = λ no.
     subst (λ n. n < 64) c.identifier-identifier.ensures.value (c.identifier-identifier.ensures.sub is_sub) in
     let room : has_room c.args.entry.now c.self.inside.subs ≡ true =
     room_for_subs c.args.entry.now c.self.inside.subs c.keep.ensures.ascending c.self.invariant.subs low in
-    let none : has_room c.args.entry.now c.self.inside.subs ≡ false = c.keep.ensures.refused no in
+    let none : has_room c.args.entry.now c.self.inside.subs ≡ false = sym c.keep.ensures.room ∙ no in
     absurd (cc)

@@ -1,42 +1,23 @@
-use Rattle.std.proofs.Common.{◌≡◌, ◌≤◌, ◌∙◌, true, false, List, Some, is_some, sym, ap, subst}
+use Rattle.std.proofs.Common.{◌≤◌, ◌∙◌, List, sym, ap, subst}
 use Rattle.std.specs.List.{AllByRecursion}
-use Rattle.std.specs.Option.{option_copied}
-use Rattle.mux_config.specs.Tables.{entry_at, with_entry_changed}
-use Rattle.fib_reader.specs.Listening.{identifier_of}
-use Rattle.stream_check.specs.Pictures.{Heard, heard_key, heard_kept}
-use Rattle.stream_check.proofs.Tables.{kept_known, standing_known}
+use Rattle.stream_check.specs.Pictures.{Heard, raws}
+use Rattle.stream_check.specs.Lookup.{lookup}
+use Rattle.stream_check.proofs.Tables.{full_without_room, not_full}
 use Rattle.stream_check.proofs.Waiting.{kept_since}
-use Rattle.stream_check.proofs.heard_table.HeardTable.hear.Goals.{then-is_same, else-is_same}
 use Rattle.stream_check.proofs.heard_table.HeardTable.hear.Goals as goal
 
-pub invariant_of-self : goal.invariant_of-self
-invariant_of-self c =
-    let found : Some c.in-Some.known.now ≡ entry_at heard_key (identifier_of c.args.entry.now) c.args.self.now =
-    ap option_copied (sym c.in-Some.is) ∙ c.get.ensures.value ∙ ap (λ k. entry_at heard_key k c.self.inside.table) c.identifier.ensures.value
-    ∙ ap (λ hs. entry_at heard_key (identifier_of c.args.entry.now) hs) c.self.view_is in
-    let is : c.replace.new.self ≡ heard_kept (record { raw = c.args.entry.now; at = c.args.at }) c.args.self.now =
-    c.replace.ensures ∙ ap (λ h. with_entry_changed heard_key h c.self.inside.table) c.of.ensures
-    ∙ ap (with_entry_changed heard_key (record { raw = c.args.entry.now; at = c.args.at })) c.self.view_is
-    ∙ kept_known (record { raw = c.args.entry.now; at = c.args.at }) c.args.self.now (sym (ap is_some found)) in
-    subst (λ (hs : List Heard). AllByRecursion (λ (h : Heard). c.earlier-self-inside.result ≤ h.at) hs) (sym is)
-    (kept_since c.earlier-self-inside.result c.self.inside.oldest (record { raw = c.args.entry.now; at = c.args.at }) c.args.self.now c.earlier-self-inside.ensures.first c.earlier-self-inside.ensures.second
-    (subst (λ (hs : List Heard). AllByRecursion (λ (h : Heard). c.self.inside.oldest ≤ h.at) hs) c.self.view_is c.self.invariant))
+pub returns-then-not-keep-clause-lookup : goal.returns-then-not-keep-clause-lookup
+returns-then-not-keep-clause-lookup c =
+    full_without_room (record { raw = c.args.entry.now; at = c.args.at }) c.self.inside.table (sym c.if-not-keep.true ∙ c.keep.ensures.room)
+    ∙ ap (λ (hs : List Heard). lookup c.args.entry.now (raws hs)) c.self.view_is
 
-pub returns-clause-lookup : goal.returns-clause-lookup
-returns-clause-lookup c =
-    let found : Some c.in-Some.known.now ≡ entry_at heard_key (identifier_of c.args.entry.now) c.args.self.now =
-    ap option_copied (sym c.in-Some.is) ∙ c.get.ensures.value ∙ ap (λ k. entry_at heard_key k c.self.inside.table) c.identifier.ensures.value
-    ∙ ap (λ hs. entry_at heard_key (identifier_of c.args.entry.now) hs) c.self.view_is in
-    elim c.if-is_same.branch [
-      | then-is_same w ↦ w.result-is ∙ sym (standing_known c.args.entry.now c.args.self.now c.in-Some.known.now true found (sym w.if-is_same.true ∙ c.is-is_same.ensures))
-      | else-is_same w ↦ w.result-is ∙ sym (standing_known c.args.entry.now c.args.self.now c.in-Some.known.now false found (sym w.if-is_same.false ∙ c.is-is_same.ensures))
-    ]
+pub invariant_of-self-2 : goal.invariant_of-self-2
+invariant_of-self-2 c =
+    subst (λ (hs : List Heard). AllByRecursion (λ (h : Heard). c.earlier-self-inside.result ≤ h.at) hs) (sym (c.keep.ensures.kept c.if-not-keep.false))
+    (kept_since c.earlier-self-inside.result c.self.inside.oldest (record { raw = c.args.entry.now; at = c.args.at }) c.self.inside.table
+    c.earlier-self-inside.ensures.first c.earlier-self-inside.ensures.second c.self.invariant)
 
-pub returns-clause-kept : goal.returns-clause-kept
-returns-clause-kept c = λ some.
-    let found : Some c.in-Some.known.now ≡ entry_at heard_key (identifier_of c.args.entry.now) c.args.self.now =
-    ap option_copied (sym c.in-Some.is) ∙ c.get.ensures.value ∙ ap (λ k. entry_at heard_key k c.self.inside.table) c.identifier.ensures.value
-    ∙ ap (λ hs. entry_at heard_key (identifier_of c.args.entry.now) hs) c.self.view_is in
-    c.replace.ensures ∙ ap (λ h. with_entry_changed heard_key h c.self.inside.table) c.of.ensures
-    ∙ ap (with_entry_changed heard_key (record { raw = c.args.entry.now; at = c.args.at })) c.self.view_is
-    ∙ kept_known (record { raw = c.args.entry.now; at = c.args.at }) c.args.self.now (sym (ap is_some found))
+pub returns-clause-full : goal.returns-clause-full
+returns-clause-full c = λ full.
+    absurd (not_full (record { raw = c.args.entry.now; at = c.args.at }) c.self.inside.table (sym c.if-not-keep.false ∙ c.keep.ensures.room)
+    (sym c.look_up-found.ensures ∙ full))
