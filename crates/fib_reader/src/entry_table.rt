@@ -22,8 +22,8 @@ pub trait TableEntry: Keyed {
 #[derive(Drop)]
 pub struct EntryTable<T: TableEntry> {
     table: SortedTable<T, 64>,
-    /// The index at which an entry was last found, by a hash of its identifier. Entries are repeated over and over, so
-    /// most are found at once. It is only a hint: another entry may be at the index by now.
+    /// The index of each entry, by a hash of its identifier. Entries are repeated over and over, and most are found at
+    /// once. It is only a hint: another entry may be at the index, or have the same hash.
     hints: [u8; 256],
 }
 
