@@ -32,7 +32,7 @@ unread r w = record {
   runs = ((refl, refl), same w);
   whole = Some (unread_line r);
   end = Refused;
-  reported = (refl, inl refl);
+  reported = (refl, refl);
   taken = inl (refl, refl);
 }
 

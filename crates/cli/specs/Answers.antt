@@ -9,7 +9,7 @@ use Rattle.console.specs.declared.exit.Status.TheVariants.{Done, Refused, Misuse
 use Rattle.cli_plans.specs.declared.live.LiveEnding.{LiveEnding}
 use Rattle.cli_streams.specs.declared.merge.MergeFault.{MergeFault}
 use Rattle.cli.specs.Asking.{AsksBy, AsksFramesBy}
-use Rattle.cli.specs.Commands.{Inputs, Outputs, outputs, Runs, RunsLive, RunsMerge, StreamsCompiled}
+use Rattle.cli.specs.Commands.{Inputs, Outputs, outputs, Runs, RunsLive, RunsMerge, StreamsCompiled, StreamsPlayed}
 use Rattle.cli.specs.Refusals.{IsRefused, Refuses, RefusesFrames, commands, frames_commands}
 use Rattle.cli.specs.declared.args.FramesRequest.{FramesRequest}
 use Rattle.cli.specs.declared.args.FramesRequest.TheVariants as frames
@@ -54,10 +54,12 @@ IsStreamed (requests.Compile r) = r.out.now ≡ codes "-"
 IsStreamed (requests.Play r) = r.out.now ≡ codes "-"
 IsStreamed _ = ⊥
 
--- `compile` writes its output to standard output; of `play` it is not defined yet
+-- `compile` and `play` write their output to standard output
 abbrev pub Streams : Request → Inputs → (before after : Outputs) → ℕ → Type 0
 Streams (requests.Compile r) given before after status =
     (ended : Result Status Failure) × StreamsCompiled r given before after ended × HasStatus ended status
+Streams (requests.Play r) given before after status =
+    (ended : Result Status Failure) × StreamsPlayed r given before after ended × HasStatus ended status
 Streams _ given before after status = Unit {0}
 
 pub record AnswersRequest (request : Request) (given : Inputs) (before after : Outputs) (status : ℕ) : Type 0 where
@@ -67,7 +69,7 @@ pub record AnswersRequest (request : Request) (given : Inputs) (before after : O
 -- the same of the commands that write frames to standard output
 abbrev pub AnswersFrames : FramesRequest → Inputs → (before after : Outputs) → ℕ → Type 0
 AnswersFrames (frames.Live r) given before after status =
-    (ended : Result (Unit {0}) LiveEnding) × RunsLive r given ended × HasRunStatus ended status
+    (ended : Result (Unit {0}) LiveEnding) × RunsLive r given before after ended × HasRunStatus ended status
 AnswersFrames (frames.Merge r) given before after status =
     (ended : Result Status MergeFault) × RunsMerge r given before after ended × HasStatus ended status
 

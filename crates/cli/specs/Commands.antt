@@ -12,7 +12,9 @@ use Rattle.plan_session.specs.declared.command.Command.{Command}
 use Rattle.plan_session.specs.declared.step.Step.{Step}
 use Rattle.plan_session.specs.PartReading.{Fits}
 use Rattle.plan_session.specs.Playback.{asked_from, IsPlayback}
+use Rattle.stream_monitor.specs.Hinting.{IsHinted}
 use Rattle.cli_streams.specs.Checking.{ShowsCheck, ShowsUntil}
+use Rattle.cli_streams.specs.Failing.{IsInputFailure}
 use Rattle.cli_streams.specs.Frame.{ShowsFrame, frame_of, most_bytes}
 use Rattle.cli_streams.specs.Listing.{ShowsStream}
 use Rattle.cli_streams.specs.Merged.{AreTwo, MergesFiles, known_at}
@@ -31,9 +33,10 @@ use Rattle.cli_scripts.specs.declared.diff.DiffRequest.{DiffRequest}
 use Rattle.cli_scripts.specs.declared.frame_script.FrameScriptRequest.{FrameScriptRequest}
 use Rattle.cli_scripts.specs.declared.listen_script.ListenScriptRequest.{ListenScriptRequest}
 use Rattle.cli_scripts.specs.declared.verify.VerifyRequest.{VerifyRequest}
-use Rattle.cli_plans.specs.LiveEnding.{BeginsWith, IsLiveEnding}
+use Rattle.cli_plans.specs.LiveEnding.{BeginsWith, IsLiveEnding, NamesItsFile, WritesLive}
 use Rattle.cli_plans.specs.FileTranscript.{IsDebugFailure, ShowsSession}
 use Rattle.cli_plans.specs.PlayFiles.{IsPlayedInto, EndsOrIsCut, IsPlayFailure}
+use Rattle.cli_plans.specs.PlayStreams.{StreamsPlay}
 use Rattle.cli_plans.specs.Transcript.{IsSession}
 use Rattle.cli_plans.specs.declared.debug.DebugRequest.{DebugRequest}
 use Rattle.cli_plans.specs.declared.live.LiveEnding.{LiveEnding}
@@ -73,22 +76,33 @@ Prints before after text = Appends before.printed after.printed text
 abbrev pub KeepsWorld : Outputs → Outputs → Type 0
 KeepsWorld before after = Stays before.world after.world
 
+-- all files are as they were, and standard error has taken nothing but a hint on the file of this path
+abbrev pub OnlyHints : List ℕ → Outputs → Outputs → Type 0
+OnlyHints path before after = Becomes (IsHinted path) before.world after.world
+
 -- ---- commands that print: given the inputs, what was before and what is after, and how the command ends
 
 abbrev pub RunsFrame : FrameRequest → Inputs → Outputs → Outputs → Result Status Failure → Type 0
-RunsFrame r given before after ended = OfInput given r.config.now (λ bytes.
+RunsFrame r given before after ended =
+    OfInput given r.config.now (λ bytes.
     IfOk ended (ShowsFrame r.raw (frame_of r.layout r.ensemble r.page (take most_bytes bytes)) before.printed after.printed))
+    × IfErr ended (IsInputFailure r.config.now)
+    × KeepsWorld before after
 
 abbrev pub RunsFrameScript : FrameScriptRequest → Inputs → Outputs → Outputs → Result Status Failure → Type 0
 RunsFrameScript r given before after ended =
     OfInput given r.script.now (λ bytes. ShowsScriptFrame bytes r (Prints before after) ended) × KeepsWorld before after
 
 abbrev pub RunsListen : ListenRequest → Inputs → Outputs → Outputs → Result Status Failure → Type 0
-RunsListen r given before after ended = OfInput given r.file.now (λ stream.
-    IfOk ended (ShowsStream r.is_json stream before.printed after.printed))
+RunsListen r given before after ended =
+    OfInput given r.file.now (λ stream. IfOk ended (ShowsStream r.is_json stream before.printed after.printed))
+    × IfErr ended (IsInputFailure r.file.now)
+    × OnlyHints r.file.now before after
 
 abbrev pub RunsListenScript : ListenScriptRequest → Inputs → Outputs → Outputs → Result Status Failure → Type 0
-RunsListenScript r given before after ended = OfInput given r.file.now (λ stream. ShowsScript r stream (Prints before after) ended)
+RunsListenScript r given before after ended =
+    OfInput given r.file.now (λ stream. ShowsScript r stream (Prints before after) ended)
+    × OnlyHints r.file.now before after
 
 abbrev pub RunsDiff : DiffRequest → Inputs → Outputs → Outputs → Result Status Failure → Type 0
 RunsDiff r given before after ended =
@@ -99,6 +113,8 @@ abbrev pub RunsCheck : CheckRequest → Inputs → Outputs → Outputs → Resul
 RunsCheck r given before after ended =
     OfInput given r.file.now (λ stream. IfOk ended (λ status. (reading : Reading) → ShowsCheck reading r.options stream before.printed after.printed status))
     × OfInput given r.file.now (λ stream. IfErr ended (λ failure. (reading : Reading) → ShowsUntil reading r.options stream before.printed after.printed failure))
+    × IfErr ended (IsInputFailure r.file.now)
+    × OnlyHints r.file.now before after
 
 abbrev pub RunsCompile : CompileRequest → Inputs → Outputs → Outputs → Result Status Failure → Type 0
 RunsCompile r given before after ended =
@@ -150,10 +166,21 @@ pub record StreamsCompiled (r : CompileRequest) (given : Inputs) (before after :
   pub compiles : IfSome (given.file r.script.now) (λ bytes. CompilesStream bytes r (Some []) lines before.printed after.printed ended)
   pub files : Becomes HasSameFiles before.world after.world
 
-abbrev pub RunsLive : LiveRequest → Inputs → Result (Unit {0}) LiveEnding → Type 0
-RunsLive r given ended =
-    OnOk ended (IfSome (given.file r.code.now) (λ file. (p : Playing) × BeginsWith (take 1048577 file) r.start p))
+-- the frames go to standard output, and the lines elsewhere
+pub record StreamsPlayed (r : PlayRequest) (given : Inputs) (before after : Outputs) (ended : Result Status Failure) : Type 0 where
+  pub lines : Option (List ℕ)
+  pub plays : (code text : List ℕ) → given.file r.code.now ≡ Some code → given.file r.events.now ≡ Some text → Fits text
+    → StreamsPlay r.events.now (asked_from (take 1048577 code) text r.start) before.printed after.printed (Some []) lines ended
+  pub failed : IfErr ended (λ failure. (file : List ℕ) → IsPlayFailure r.code.now r.events.now file failure)
+  pub files : Becomes HasSameFiles before.world after.world
+
+abbrev pub RunsLive : LiveRequest → Inputs → Outputs → Outputs → Result (Unit {0}) LiveEnding → Type 0
+RunsLive r given before after ended =
+    WritesLive r (given.file r.code.now) given.standard before.printed after.printed ended
+    × OnOk ended (IfSome (given.file r.code.now) (λ file. (p : Playing) × BeginsWith (take 1048577 file) r.start p))
     × IfErr ended (λ ending. IfSome (given.file r.code.now) (λ file. IsLiveEnding (take 1048577 file) r.start ending))
+    × IfErr ended (NamesItsFile r.code.now)
+    × Becomes HasSameFiles before.world after.world
 
 abbrev pub RunsMerge : MergeRequest → Inputs → Outputs → Outputs → Result Status MergeFault → Type 0
 RunsMerge r given before after ended = AreTwo r.plan.now r.other.now

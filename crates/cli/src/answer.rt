@@ -152,10 +152,11 @@ fn dispatch<F: Files, W: Write>(
         (outputs (F.world files.new) (printed W.contents out.new)) result }
 {
     let ended = run(alloc, request, files, out);
-    report(alloc, is_json_of(request), ended, out)
+    report(is_json_of(request), ended, out)
 }
 
 /// Runs a command that prints.
+#[tactic(auto, using(cli_streams::proofs::Failed::input_failures))]
 fn run<'a, F: Files, W: Write>(
     alloc: Global,
     request: &Request<'a>,

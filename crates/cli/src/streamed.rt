@@ -80,18 +80,17 @@ pub(crate) fn answer_streamed<F: Files, W: Write>(
     match request {
         Streamed::Play(request) => {
             let ended = stream_play(alloc, &request, files, out, &mut lines);
-            report_lines(alloc, ended, lines, files)
+            report_lines(ended, lines, files)
         }
         Streamed::Compile(request) => {
             let ended = stream_compile(alloc, &request, files, out, &mut lines);
-            report_lines(alloc, ended, lines, files)
+            report_lines(ended, lines, files)
         }
     }
 }
 
 /// Reports the lines of a command, and the line of its failure, on standard error.
 fn report_lines<F: Files>(
-    alloc: Global,
     ended: Result<Status, Failure<'_>>,
     lines: Vec<u8>,
     files: &mut F,
@@ -101,7 +100,7 @@ fn report_lines<F: Files>(
 {
     let status = status_after(&ended);
     let mut lines = lines;
-    if report(alloc, false, ended, &mut lines).is_err() {
+    if report(false, ended, &mut lines).is_err() {
         files.report(Failure::Memory);
         return status;
     }

@@ -4,7 +4,6 @@ use Rattle.std.specs.Io.KnownBytes.{Appends, Keeps, append_known}
 use Rattle.std.proofs.KnownBytes.{Keeps-refl, Keeps-trans}
 use Rattle.console.specs.Endings.{IsPut, IsTaken, LacksEnd, Reports, ReportsTo, failure_line, status_number}
 use Rattle.console.specs.declared.exit.Failure.{Failure}
-use Rattle.console.specs.declared.exit.Failure.TheVariants.{Memory as NoMemory}
 use Rattle.console.specs.declared.exit.Status.{Status}
 use Rattle.console.specs.declared.exit.Status.TheVariants.{Refused}
 
@@ -49,21 +48,50 @@ line_put : {E : Type 0} (old new : Option (List ℕ)) (line : List ℕ) (returne
 line_put old new line (Ok s) refused printed cut = (refused, as_kept old new line printed)
 line_put old new line (Err error) refused printed cut = cut
 
-either_line : (is_json : Bool) (failure : Failure) (old new : Option (List ℕ)) (line : List ℕ) → (line ≡ failure_line is_json failure) ⊎ (line ≡ failure_line is_json NoMemory)
-    → Appends old new line → Appends old new (failure_line is_json failure) ⊎ Appends old new (failure_line is_json NoMemory)
-either_line is_json failure old new line (inl is) p = inl (subst (λ (l : List ℕ). Appends old new l) is p)
-either_line is_json failure old new line (inr is) p = inr (subst (λ (l : List ℕ). Appends old new l) is p)
+pub failure_reported : {E : Type 0} (is_json : Bool) (ended : Result Status Failure) (failure : Failure) (old new : Option (List ℕ)) (returned : Result Status E)
+    → ended ≡ Err failure → IfOk returned (λ s. s ≡ Refused) → OnOk returned (Appends old new (failure_line is_json failure))
+    → OnErr returned (LacksEnd (append_known old (failure_line is_json failure)) new) → ReportsTo {E = E} is_json ended old new returned
+failure_reported is_json ended failure old new returned is refused printed cut = record {
+  whole = append_known old (failure_line is_json failure);
+  status = Refused;
+  reported = subst (λ (e : Result Status Failure). Reports is_json e old (append_known old (failure_line is_json failure)) Refused) (sym is) (refl, appended old (failure_line is_json failure));
+  put = line_put old new (failure_line is_json failure) returned refused printed cut;
+}
 
-pub failure_reported : {E : Type 0} (is_json : Bool) (ended : Result Status Failure) (failure : Failure) (line : List ℕ) (old new : Option (List ℕ)) (returned : Result Status E)
-    → ended ≡ Err failure → (line ≡ failure_line is_json failure) ⊎ (line ≡ failure_line is_json NoMemory) → IfOk returned (λ s. s ≡ Refused)
-    → OnOk returned (Appends old new line) → OnErr returned (LacksEnd (append_known old line) new) → ReportsTo {E = E} is_json ended old new returned
-failure_reported is_json ended failure line old new returned is line_is refused printed cut =
-    let told = either_line is_json failure old (append_known old line) line line_is (appended old line) in record {
-      whole = append_known old line;
-      status = Refused;
-      reported = subst (λ (e : Result Status Failure). Reports is_json e old (append_known old line) Refused) (sym is) (refl, told);
-      put = line_put old new line returned refused printed cut;
-    }
+-- ---- pieces of a line
+
+-- the writer failed within the first piece
+pub cut_before : (old new : Option (List ℕ)) (piece more : List ℕ) → LacksEnd (append_known old piece) new → LacksEnd (append_known old (piece ++ more)) new
+cut_before old new piece more l =
+    let size : length (l.rest ++ more) ≡ length l.rest + length more = length-append l.rest more in
+    let some : 0 < length (l.rest ++ more) = omega (arith, size, l.some) in
+    record { rest = l.rest ++ more; some = some; front = lengthened old new piece more l.rest l.front }
+  where
+    lengthened : (old new : Option (List ℕ)) (piece more rest : List ℕ) → Keeps (append_known old piece) (append_known new rest)
+        → Keeps (append_known old (piece ++ more)) (append_known new (rest ++ more))
+    lengthened None new piece more rest k = tt
+    lengthened (Some o) None piece more rest k = absurd k
+    lengthened (Some o) (Some n) piece more rest k = sym (append_assoc n rest more) ∙ ap (λ (l : List ℕ). l ++ more) k ∙ append_assoc o piece more
+
+-- the first piece was taken, and the writer failed behind it
+pub cut_behind : (old mid new : Option (List ℕ)) (piece more : List ℕ) → Appends old mid piece → LacksEnd (append_known mid more) new → LacksEnd (append_known old (piece ++ more)) new
+cut_behind old mid new piece more took l = record { rest = l.rest; some = l.some; front = behind old mid new piece more l.rest took l.front }
+  where
+    behind : (old mid new : Option (List ℕ)) (piece more rest : List ℕ) → Appends old mid piece → Keeps (append_known mid more) (append_known new rest)
+        → Keeps (append_known old (piece ++ more)) (append_known new rest)
+    behind None mid new piece more rest took k = tt
+    behind (Some o) None new piece more rest took k = absurd took
+    behind (Some o) (Some m) None piece more rest took k = absurd k
+    behind (Some o) (Some m) (Some n) piece more rest took k = k ∙ ap (λ (l : List ℕ). l ++ more) took ∙ append_assoc o piece more
+
+pub if_failed : {A E : Type 0} {P : Type 0} (r : Result A E) → P → OnErr r P
+if_failed (Ok a) p = tt
+if_failed (Err e) p = p
+
+pub if_cut_behind : {A E : Type 0} (r : Result A E) (old mid new : Option (List ℕ)) (piece more : List ℕ) → Appends old mid piece → OnErr r (LacksEnd (append_known mid more) new)
+    → OnErr r (LacksEnd (append_known old (piece ++ more)) new)
+if_cut_behind (Ok a) old mid new piece more took cut = tt
+if_cut_behind (Err e) old mid new piece more took cut = cut_behind old mid new piece more took cut
 
 -- ---- the output is flushed
 

@@ -25,8 +25,11 @@ whole_failed (inr t) = lacks_none t.0
 
 -- a failure is printed as its line, and nothing else is
 printed : Reports false (Err Output) (Some []) (Some (codes "cannot write\n")) Refused
-printed = (refl, inl refl)
+printed = (refl, refl)
 
 silent : Reports false (Err Output) (Some []) (Some []) Refused → ⊥
-silent (is, inl p) = let bad : 0 ≡ 13 = ap length p in omega (arith, bad)
-silent (is, inr p) = let bad : 0 ≡ 10 = ap length p in omega (arith, bad)
+silent (is, p) = let bad : 0 ≡ 13 = ap length p in omega (arith, bad)
+
+-- that there is no memory is not said of another failure
+no_memory : Reports false (Err Output) (Some []) (Some (codes "no memory\n")) Refused → ⊥
+no_memory (is, p) = let bad : 10 ≡ 13 = ap length p in omega (arith, bad)

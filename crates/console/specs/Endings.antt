@@ -2,9 +2,9 @@
 use Rattle.std.specs.Prelude.{◌≡◌, ◌<◌, ◌⊎◌, ℕ, Bool, true, false, List, ◌++◌, codes, length, Option, Result, Ok, Err}
 use Rattle.std.specs.Io.KnownBytes.{Appends, Keeps, append_known}
 use Rattle.console.specs.Failures.{failure_text, refused_json}
+use Rattle.console.specs.declared.escaped.Form.{Form}
 use Rattle.console.specs.declared.escaped.Form.TheVariants.{Line as InLine, Json as InJson}
 use Rattle.console.specs.declared.exit.Failure.{Failure}
-use Rattle.console.specs.declared.exit.Failure.TheVariants.{Memory as NoMemory}
 use Rattle.console.specs.declared.exit.Status.{Status}
 use Rattle.console.specs.declared.exit.Status.TheVariants.{Done, Refused, Misused, Faulty}
 
@@ -27,11 +27,15 @@ abbrev pub failure_line : (is_json : Bool) → Failure → List ℕ
 failure_line true failure = refused_json (failure_text InJson failure) ++ codes "\n"
 failure_line false failure = failure_text InLine failure ++ codes "\n"
 
--- after a command has ended, its failure is printed as a line, or that there is no memory for the line
+-- the form of a path in the line
+abbrev pub form_of : (is_json : Bool) → Form
+form_of true = InJson
+form_of false = InLine
+
+-- after a command has ended, its failure is printed as a line
 abbrev pub Reports : (is_json : Bool) → Result Status Failure → (before after : Option (List ℕ)) → Status → Type 0
 Reports is_json (Ok s) before after reported = (reported ≡ s) × Keeps before after
-Reports is_json (Err failure) before after reported = (reported ≡ Refused)
-    × (Appends before after (failure_line is_json failure) ⊎ Appends before after (failure_line is_json NoMemory))
+Reports is_json (Err failure) before after reported = (reported ≡ Refused) × Appends before after (failure_line is_json failure)
 
 -- ---- what is taken of all that is printed
 

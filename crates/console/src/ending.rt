@@ -1,20 +1,17 @@
 //! The end of a command: the line of its failure, and the exit status.
 
-ghost use Rattle.std.specs.Prelude.{◌≡◌, ◌≢◌, ◌≤◌, IfOk, IsErr, OnOk, OnErr, string_bytes};
-ghost use Rattle.std.specs.Io.KnownBytes.{Appends, append_known};
-ghost use Rattle.console.specs.Endings.{IsTaken, LacksEnd, ReportsTo, failure_line, status_number};
+ghost use Rattle.std.specs.Prelude.{◌≡◌, ◌≢◌, ◌≤◌, IfOk, IsErr};
+ghost use Rattle.console.specs.Endings.{IsTaken, ReportsTo, status_number};
 ghost use Rattle.console.specs.Printed.{printed, writer_of};
-ghost use Rattle.console.specs.declared.exit.Failure.TheVariants.{Memory as NoMemory};
-ghost use Rattle.console.specs.declared.exit.Status.TheVariants.{Faulty as FoundFaulty, Refused as IsRefused};
+ghost use Rattle.console.specs.declared.exit.Status.TheVariants.{Faulty as FoundFaulty};
 
-use crate::exit::{Failure, JsonFailure, Status};
-use crate::output::{Output, write_out};
-use std::alloc::{AllocError, Global};
+use crate::exit::{Failure, Status};
+use crate::failure_line::print_failure;
+use crate::output::Output;
 use std::io::{self, Write};
 
-/// Prints the line of a failure, as an object of JSON or as text; that there is no memory, if there is none for the line.
+/// Prints the line of a failure, as an object of JSON or as text. It takes no memory.
 pub fn report<W: Write>(
-    alloc: Global,
     is_json: bool,
     ended: Result<Status, Failure<'_>>,
     out: &mut W,
@@ -23,46 +20,10 @@ pub fn report<W: Write>(
 {
     match ended {
         Ok(status) => Ok(status),
-        Err(failure) => match line_of(alloc, is_json, &failure) {
-            Ok(line) => print_refusal(line.as_str().as_bytes(), out),
-            Err(_) => print_refusal(no_memory_line(is_json), out),
+        Err(failure) => match print_failure(is_json, &failure, out) {
+            Ok(()) => Ok(Status::Refused),
+            Err(error) => Err(error),
         },
-    }
-}
-
-/// Prints the line of a refusal.
-#[tactic(auto, using(crate::proofs::Taken::cut_line))]
-fn print_refusal<W: Write>(line: &[u8], out: &mut W) -> io::Result<Status>
-    ensures status { IfOk result (λ status. status ≡ IsRefused) }
-    ensures printed { OnOk result (Appends (W.contents out.old) (W.contents out.new) line.now) }
-    ensures cut { OnErr result
-        (LacksEnd (append_known (W.contents out.old) line.now) (W.contents out.new)) }
-{
-    match write_out(line, out) {
-        (_taken, Ok(())) => Ok(Status::Refused),
-        (_taken, Err(error)) => Err(error),
-    }
-}
-
-/// The line of a failure.
-fn line_of(alloc: Global, is_json: bool, failure: &Failure<'_>) -> Result<String, AllocError>
-    ensures { IfOk result (λ line. string_bytes line ≡ failure_line is_json failure.now) }
-{
-    if is_json {
-        format!(in alloc; "{}\n", JsonFailure(failure))
-    } else {
-        format!(in alloc; "{failure}\n")
-    }
-}
-
-/// The line that there is no memory.
-fn no_memory_line(is_json: bool) -> &'static [u8]
-    ensures { result.now ≡ failure_line is_json NoMemory }
-{
-    if is_json {
-        b"{\"kind\":\"refused\",\"cause\":\"no memory\"}\n"
-    } else {
-        b"no memory\n"
     }
 }
 

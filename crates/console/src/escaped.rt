@@ -116,7 +116,7 @@ fn is_plain(form: Form, byte: u8) -> bool
 }
 
 /// A byte as it is shown.
-fn escaped_byte(form: Form, byte: u8) -> ArrayVec<u8, 6>
+pub(crate) fn escaped_byte(form: Form, byte: u8) -> ArrayVec<u8, 6>
     ensures { result.items ≡ escaped_byte form byte }
 {
     match form {

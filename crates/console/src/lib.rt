@@ -6,6 +6,7 @@ pub mod code_file;
 pub mod ending;
 pub mod escaped;
 pub mod exit;
+mod failure_line;
 pub mod files;
 pub mod hexadecimal;
 pub mod laws;
