@@ -1,9 +1,11 @@
+pub mod Blocks
 pub mod Compiled
 pub mod Compiling
 pub mod Diffing
 pub mod FileTexts
 pub mod FramingScripts
 pub mod ListenScript
+pub mod Mapping
 pub mod Naming
 pub mod Planned
 pub mod RefusalTexts

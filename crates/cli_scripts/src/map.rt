@@ -1,17 +1,22 @@
 //! `dabplan map`: shows which capacity units each sub-channel has in a plan, or the one layout that serves all of it.
 
-use crate::compile::{ScriptRefusal, made_of};
-use crate::script_file::{read_script, text_of, whole_characters};
-use console::escaped::Escaped;
+ghost use Rattle.std.specs.Prelude.{◌≡◌, ℕ, List, take, IfOk, IfErr, IfSome, OnOk};
+ghost use Rattle.std.specs.Io.KnownBytes.{Appends};
+ghost use Rattle.console.specs.Failures.{IsWriteFailure};
+ghost use Rattle.console.specs.World.{Becomes, Stays, IsSameBut, HasWritten};
+ghost use Rattle.console.specs.declared.exit.Failure.TheVariants.{Memory};
+ghost use Rattle.cli_scripts.specs.Mapping.{map_lines, layout_status, status_of, drawing_of, DrawsMap, FindsMap, Maps, KeepsOthers, IsUndrawn};
+
+use crate::compile::ScriptRefusal;
+use crate::notes::{notes_of, report_notes};
+use crate::script_file::{read_script, script_text};
+use crate::script_map::{Map, map_of};
 use console::exit::{Failure, Status, create_file};
 use console::files::Files;
 use console::output::Output;
-use plan_explain::{Warning, put_warning, warnings_of};
-use plan_map::{Layout, Row, Use, draw_map, key_of, layout_of, print_layout, print_map, rows_of};
-use script_front::{Script, Statement};
+use plan_map::{Layout, draw_map, print_layout, print_map};
 use std::alloc::Global;
 use std::io::{self, Write};
-use std::str;
 
 /// The arguments of `map`.
 #[derive(Clone, Copy)]
@@ -24,147 +29,174 @@ pub struct MapRequest<'a> {
     pub layout: bool,
 }
 
-/// The map of a script in text and drawing, its layout, and the warnings about it.
-#[derive(Drop)]
-struct Map {
-    eid: u16,
-    rows: Vec<Row>,
-    key: Vec<Use>,
-    layout: Layout,
-    warnings: Vec<Warning>,
-}
-
 /// Runs `map`: writes the drawing, if requested, and prints the map of the script, or its layout if that is requested;
 /// or prints why the script is refused, as `compile` does. The drawing is created after every check that can refuse the
-/// script. Last, it reports the warnings about the script on standard error, a line each.
+/// script. Last, it reports the warnings about the script on standard error, a line each. No other file is changed.
+///
+/// `Read` if the script can't be read, or is not UTF-8; `Create` if the drawing can't be written; `Output` if `out`
+/// fails; `Memory` if out of memory.
 pub fn show_map<'a, F: Files, W: Write>(
     alloc: Global,
     request: &MapRequest<'a>,
     files: &mut F,
     out: &mut W,
-) -> Result<Status, Failure<'a>> {
-    let bytes = read_script(alloc, files, request.script)?;
-    let text = text_of(whole_characters(bytes.as_slice()), request.script)?;
-    let map = match map_of(alloc, text) {
-        Ok(map) => map,
-        Err(ScriptRefusal::Memory) => return Err(Failure::Memory),
-        Err(refusal) => {
-            writeln!(out, "{refusal}")?;
-            return Ok(Status::Refused);
-        }
+) -> Result<Status, Failure<'a>>
+    ensures script { IfSome (F.known files.old request.now.script.now) (λ bytes.
+        Maps bytes request.now (Appends (W.contents out.old) (W.contents out.new))
+        (F.world files.old) (F.world files.new) result) }
+    ensures files { Becomes (KeepsOthers request.now.drawing)
+        (F.world files.old) (F.world files.new) }
+{
+    let map = match map_script(alloc, request, files, out) {
+        Ok(Some(map)) => map,
+        Ok(None) => return Ok(Status::Refused),
+        Err(failure) => return Err(failure),
     };
-    let Ok(notes) = notes_of(alloc, request.script, map.warnings.as_slice()) else {
-        return Err(Failure::Memory);
+    let warnings = map.warnings.as_slice();
+    let notes = match notes_of(alloc, request.script, warnings) {
+        Ok(notes) => notes,
+        Err(_) => return Err(Failure::Memory),
     };
-    if let Some(path) = request.drawing {
-        let mut file = create_file(files, path)?;
-        if write_drawing(&map, &mut file).is_err() {
-            return Err(Failure::Create(path));
-        }
+    match draw_requested(&map, request.drawing, files) {
+        Ok(()) => {}
+        Err(failure) => return Err(failure),
     }
-    let status = print_requested(&map, request.layout, out)?;
-    if let Ok(lines) = str::from_utf8(notes.as_slice()) {
-        if !lines.is_empty() {
-            files.report(lines);
+    let lines = notes.as_slice();
+    match print_requested(&map, request.layout, out) {
+        Ok(status) => {
+            report_notes(lines, files);
+            Ok(status)
         }
+        Err(_) => Err(Failure::Output),
     }
-    Ok(status)
+}
+
+/// The map of the script of the request; `None` after printing why it is refused. No file is changed.
+fn map_script<'a, F: Files, W: Write>(
+    alloc: Global,
+    request: &MapRequest<'a>,
+    files: &mut F,
+    out: &mut W,
+) -> Result<Option<Map>, Failure<'a>>
+    ensures script { IfSome (F.known files.old request.now.script.now) (λ bytes.
+        FindsMap bytes request.now (Appends (W.contents out.old) (W.contents out.new)) result) }
+    ensures files { Stays (F.world files.old) (F.world files.new) }
+{
+    match read_script(alloc, files, request.script) {
+        Ok(bytes) => map_bytes(alloc, request, bytes.as_slice(), out),
+        Err(failure) => Err(failure),
+    }
+}
+
+/// The same for the first bytes of the script's file, which are all that was read of it.
+fn map_bytes<'a, W: Write>(
+    alloc: Global,
+    request: &MapRequest<'a>,
+    bytes: &[u8],
+    out: &mut W,
+) -> Result<Option<Map>, Failure<'a>>
+    ensures { (file : List ℕ) → bytes.now ≡ take 1048581 file → FindsMap file request.now
+        (Appends (W.contents out.old) (W.contents out.new)) result }
+{
+    let text = match script_text(bytes, request.script) {
+        Ok(text) => text,
+        Err(failure) => return Err(failure),
+    };
+    match map_of(alloc, text) {
+        Ok(map) => Ok(Some(map)),
+        Err(refusal) => match refusal {
+            ScriptRefusal::Memory => Err(Failure::Memory),
+            _ => match writeln!(out, "{refusal}") {
+                Ok(()) => Ok(None),
+                Err(_) => Err(Failure::Output),
+            },
+        },
+    }
 }
 
 /// Prints the map, or its layout if that is requested; returns the exit status.
-fn print_requested<W: Write>(map: &Map, layout: bool, out: &mut W) -> io::Result<Status> {
+fn print_requested<W: Write>(map: &Map, layout: bool, out: &mut W) -> io::Result<Status>
+    ensures printed { OnOk result (Appends (W.contents out.old) (W.contents out.new)
+        (map_lines layout map.now)) }
+    ensures status { IfOk result (λ status. status ≡ status_of layout map.now) }
+{
     if layout {
-        print_layout(&map.layout, out)?;
-        return Ok(status_of(&map.layout));
-    }
-    print_map(map.rows.as_slice(), out)?;
-    Ok(Status::Done)
-}
-
-/// The lines of warnings about the script of this path. The error is out of memory.
-fn notes_of(alloc: Global, path: &str, warnings: &[Warning]) -> io::Result<Vec<u8>> {
-    let mut notes: Vec<u8> = Vec::new(alloc);
-    let path = Escaped::in_line(path).to_string(alloc)?;
-    for warning in warnings {
-        if !notes.is_empty() {
-            notes.write_all(b"\n")?;
+        match print_layout(&map.layout, out) {
+            Ok(()) => Ok(status_of(&map.layout)),
+            Err(error) => Err(error),
         }
-        put_warning(alloc, path.as_str(), warning, &mut notes)?;
+    } else {
+        match print_map(map.rows.as_slice(), out) {
+            Ok(()) => Ok(Status::Done),
+            Err(error) => Err(error),
+        }
     }
-    Ok(notes)
 }
 
 /// The exit status for a layout: `Refused` where there is none.
-fn status_of(layout: &Layout) -> Status {
+fn status_of(layout: &Layout) -> Status
+    ensures { result ≡ layout_status layout.now }
+{
     match layout {
         Layout::One(_) => Status::Done,
         Layout::Apart(_) => Status::Refused,
     }
 }
 
-/// The map of a script's text, or why it is refused.
-fn map_of(alloc: Global, text: &str) -> Result<Map, ScriptRefusal> {
-    let (script, code) = made_of(alloc, text)?;
-    let mut rows = rows_of(alloc, script.begin_line(), &code)?;
-    for row in rows.iter_mut() {
-        name_block(&script, row);
-    }
-    let key = key_of(alloc, rows.as_slice())?;
-    let layout = layout_of(alloc, rows.as_slice())?;
-    let warnings = warnings_of(alloc, &script, &code)?;
-    Ok(Map {
-        eid: code.plan().eid,
-        rows,
-        key,
-        layout,
-        warnings,
-    })
-}
-
-/// The line of a statement.
-fn line_of(statement: &Statement) -> u16 {
-    match statement {
-        Statement::Act { line, .. } => *line,
-        Statement::End { line } => *line,
-        Statement::If { line, .. } => *line,
-        Statement::IfElse { line, .. } => *line,
-        Statement::Repeat { line, .. } => *line,
-        Statement::Forever { line, .. } => *line,
-        Statement::Apply { line, .. } => *line,
+/// Writes the drawing, if one is requested.
+#[tactic(auto, using(crate::proofs::MappingFiles::draws_none, crate::proofs::MappingFiles::draws_some, crate::proofs::MappingFiles::not_drawn))]
+fn draw_requested<'a, F: Files>(
+    map: &Map,
+    drawing: Option<&'a str>,
+    files: &mut F,
+) -> Result<(), Failure<'a>>
+    ensures drawn { OnOk result
+        (Becomes (DrawsMap drawing.entry map.now) (F.world files.old) (F.world files.new)) }
+    ensures failed { IfErr result (IsUndrawn drawing.entry (F.world files.old) (F.world files.new)) }
+{
+    match drawing {
+        None => Ok(()),
+        Some(path) => write_drawing(map, path, files),
     }
 }
 
-/// The name of the block that has the statement in this line: the last one that begins in it or before it. Blocks are
-/// defined one after another before `begin`. `None` from the line of `begin` on.
-fn block_of(script: &Script, line: u16) -> Option<&str> {
-    if line >= script.begin_line() {
-        return None;
-    }
-    let mut found = None;
-    for (number, block) in script.blocks().iter().enumerate() {
-        if let Some(first) = block.as_slice().first() {
-            if line_of(first) <= line {
-                found = script.names().get(number);
-            }
-        }
-    }
-    found
-}
-
-/// Gives a row the name of its block, or the first letters of it.
-fn name_block(script: &Script, row: &mut Row) {
-    if let Some(name) = block_of(script, row.line) {
-        for letter in name.as_bytes() {
-            if !row.block.is_full() {
-                row.block.push(*letter);
-            }
-        }
+/// Writes the drawing of a map to the file of this path.
+#[tactic(auto, using(crate::proofs::MappingFiles::written_whole, console::proofs::Worlds::but_then_but))]
+fn write_drawing<'a, F: Files>(map: &Map, path: &'a str, files: &mut F) -> Result<(), Failure<'a>>
+    ensures written { OnOk result
+        (Becomes (HasWritten path.now (drawing_of map.now)) (F.world files.old) (F.world files.new)) }
+    ensures others { Becomes (IsSameBut path.now) (F.world files.old) (F.world files.new) }
+    ensures memory { IfErr result
+        (λ failure. failure ≡ Memory → Stays (F.world files.old) (F.world files.new)) }
+    ensures fault { IfErr result (IsWriteFailure path.now) }
+{
+    let file = match create_file(files, path) {
+        Ok(file) => file,
+        Err(failure) => return Err(failure),
+    };
+    let file = match with_drawing(map, file) {
+        Some(file) => file,
+        None => return Err(Failure::Create(path)),
+    };
+    match files.close(path, file) {
+        Ok(()) => Ok(()),
+        Err(_) => Err(Failure::Create(path)),
     }
 }
 
-/// Writes the drawing of a map to a file.
-fn write_drawing<W: Write>(map: &Map, file: &mut W) -> io::Result<()> {
+/// A file with the drawing of a map behind what it has; `None` if it can't be written.
+#[tactic(auto, using(crate::proofs::MappingFiles::drawn_through))]
+fn with_drawing<W: Write + Drop>(map: &Map, file: W) -> Option<W>
+    ensures { IfSome result (λ new. Appends (W.contents file) (W.contents new)
+        (drawing_of map.now)) }
+{
     let mut out = Output::new(file);
-    draw_map(map.eid, map.rows.as_slice(), map.key.as_slice(), &mut out)?;
-    out.flush()
+    match draw_map(map.eid, map.rows.as_slice(), map.key.as_slice(), &mut out) {
+        Ok(()) => {}
+        Err(_) => return None,
+    }
+    match out.flush() {
+        Ok(()) => Some(out.into_inner()),
+        Err(_) => None,
+    }
 }
