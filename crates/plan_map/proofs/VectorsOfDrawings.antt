@@ -1,22 +1,21 @@
 -- Keys and drawings of small rows, computed by the checker from the definitions: examples that hold and that fail.
-use Rattle.std.proofs.Common.{◌≡◌, ◌≢◌, ℕ, true, false, List, [], ◌∷◌, ◌++◌, length, get_or, codes, None, Some, refl, sym, ap, ◌∙◌, arith}
-use Rattle.std.proofs.lemmas.Bool.{true≢false}
+use Rattle.std.proofs.Common.{◌≡◌, ◌≢◌, ℕ, true, false, List, [], ◌∷◌, ◌++◌, length, get_or, codes, None, Some, refl, ap, arith}
 use Rattle.std.specs.Fmt.{digits}
-use Rattle.mux_eep.specs.declared.sizes.EepSet.TheVariants.{A, B}
+use Rattle.mux_eep.specs.declared.sizes.EepSet.TheVariants.{A}
 use Rattle.mux_types.specs.declared.parts.Sub.{Sub}
 use Rattle.mux_types.specs.declared.parts.Service.{Service}
-use Rattle.mux_types.specs.declared.parts.Component.TheVariants.{Sound, Stream, Packet as InPackets}
+use Rattle.mux_types.specs.declared.parts.Component.TheVariants.{Sound, Packet as InPackets}
 use Rattle.mux_types.specs.declared.parts.Packet.{Packet}
-use Rattle.mux_types.specs.declared.numbers.Sid.TheVariants.{Short, Long}
+use Rattle.mux_types.specs.declared.numbers.Sid.TheVariants.{Short}
 use Rattle.mux_types.specs.Configuration.{Configuration}
 use Rattle.plan_map.specs.declared.rows.Row.{Row}
-use Rattle.plan_map.specs.declared.rows.RowKind.TheVariants.{Begin, Commit}
+use Rattle.plan_map.specs.declared.rows.RowKind.TheVariants.{Begin}
 use Rattle.plan_map.specs.declared.key.Use.{Use}
 use Rattle.plan_map.specs.Key.{sub_of, is_carried_by, key_of}
 use Rattle.plan_map.specs.DrawnParts.{x_of, hue_of, light_of, colour_text, small_tag}
 use Rattle.plan_map.specs.DrawnSubs.{services_text, is_changed, frame_text, letter_size}
 use Rattle.plan_map.specs.DrawnRow.{is_used, next_start, gap_from, hatched_text, block_label, lead_label}
-use Rattle.plan_map.specs.Drawing.{drawn_rows, rows_from, bottom_of, eid_text}
+use Rattle.plan_map.specs.Drawing.{rows_from, bottom_of, eid_text}
 use Rattle.plan_map.specs.DrawnRow.{drawn_row}
 use Rattle.plan_map.specs.Legend.{sids_of, entries_of, legend_height, samples, sample}
 

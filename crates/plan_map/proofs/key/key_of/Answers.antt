@@ -1,6 +1,6 @@
 use Rattle.std.proofs.Common.{◌∙◌, ap, List}
 use Rattle.plan_map.specs.declared.key.Use.{Use}
-use Rattle.plan_map.specs.Key.{row_uses, uses_of, each_once, is_same_use}
+use Rattle.plan_map.specs.Key.{row_uses, each_once, is_same_use}
 use Rattle.plan_map.proofs.Printed.{texts_more}
 use Rattle.plan_map.proofs.key.key_of.Goals as goal
 

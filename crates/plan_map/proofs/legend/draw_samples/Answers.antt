@@ -1,5 +1,5 @@
 use Rattle.std.proofs.Common.{◌∙◌, sym}
-use Rattle.plan_map.proofs.Drawn.{DrawnSamples, sample_other, sample_drawn}
+use Rattle.plan_map.proofs.Drawn.{sample_other, sample_drawn}
 use Rattle.plan_map.proofs.legend.draw_samples.Goals as goal
 use Rattle.plan_map.proofs.legend.draw_samples.Goals.{then-is_of+in_ok-draw_sample, else-is_of}
 

@@ -1,5 +1,5 @@
 use Rattle.std.proofs.Common.{◌∙◌, sym}
-use Rattle.plan_map.proofs.Drawn.{DrawnServices, service_old, service_new}
+use Rattle.plan_map.proofs.Drawn.{service_old, service_new}
 use Rattle.plan_map.proofs.legend.draw_services.Goals as goal
 use Rattle.plan_map.proofs.legend.draw_services.Goals.{then-not-has_service+in_ok-draw_numbered, else-not-has_service}
 

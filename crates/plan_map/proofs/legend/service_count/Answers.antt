@@ -1,5 +1,5 @@
 use Rattle.std.proofs.Common.{◌∙◌, sym}
-use Rattle.plan_map.proofs.Drawn.{Counted, counted_old, counted_new}
+use Rattle.plan_map.proofs.Drawn.{counted_old, counted_new}
 use Rattle.plan_map.proofs.legend.service_count.Goals as goal
 use Rattle.plan_map.proofs.legend.service_count.Goals.{then-not-has_service, else-not-has_service}
 
