@@ -1,5 +1,5 @@
 -- The plan between two openings is accepted, if nothing prevents a plan.
-use Rattle.std.proofs.Common.{◌≡◌, ◌≢◌, ℕ, ◌+◌, ◌-◌, ◌*◌, ◌%◌, ◌<◌, ◌≤◌, ◌==◌, Bool, true, false, if◌then◌else◌, List, [], ◌∷◌, ◌++◌, length, Some, None, refl, sym, ap, ◌∙◌, subst, arith, append_assoc, length-append}
+use Rattle.std.proofs.Common.{◌≡◌, ◌≢◌, ℕ, ◌+◌, ◌-◌, ◌%◌, ◌≤◌, ◌==◌, Bool, true, false, if◌then◌else◌, List, [], ◌∷◌, ◌++◌, length, refl, sym, ap, ◌∙◌, subst, arith, append_assoc, length-append}
 use Rattle.mux_config.specs.Configuration.{Configuration, IsConfiguration, nothing as no_configuration}
 use Rattle.mux_config.specs.Edits.{changed}
 use Rattle.mux_config.specs.Sound.{IsSound}
@@ -17,10 +17,10 @@ use Rattle.script_front.specs.Alike.{added_by}
 use Rattle.script_front.specs.Block.{Block, nothing, table_of, block_of}
 use Rattle.script_front.specs.Tree.{Tree, IsScript}
 use Rattle.script_front.specs.declared.tree.Act.{Act}
-use Rattle.script_front.specs.declared.tree.Act.TheVariants.{Edit as Edits, Wait, CommitIn, Join}
+use Rattle.script_front.specs.declared.tree.Act.TheVariants.{Wait}
 use Rattle.script_front.specs.declared.tree.Item.{Item}
 use Rattle.script_front.specs.declared.tree.Statement.{Statement}
-use Rattle.script_config.specs.Frames.{edits_in, FitFrames}
+use Rattle.script_config.specs.Frames.{FitFrames}
 use Rattle.script_config.specs.Openings.{IsOpening}
 use Rattle.script_config.specs.Plain.{IsPlain, acts_from}
 use Rattle.script_config.specs.Plan.{pause_after, paced, committed, plan_acts}

@@ -1,12 +1,11 @@
 -- How `compile` ends, from what its steps leave.
-use Rattle.std.proofs.Common.{◌≡◌, ◌⊎◌, ℕ, Bool, List, [], Option, None, Some, IfSome, Result, Ok, Err, length, take, take_all, refl, subst, arith, inl, inr}
+use Rattle.std.proofs.Common.{◌≡◌, ℕ, List, [], Option, None, Some, IfSome, Ok, Err, length, take, take_all, refl, subst, arith, inl, inr}
 use Rattle.std.specs.Io.KnownBytes.{Appends, Keeps}
 use Rattle.std.proofs.KnownBytes.{Appends-nil, Appends-trans, Appends-kept}
 use Rattle.console.specs.Failures.{IsReadFailure, IsWriteFailure}
 use Rattle.console.specs.World.{World, Becomes, Stays, IsSameBut, HasWritten}
 use Rattle.console.specs.declared.exit.Failure.{Failure}
 use Rattle.console.specs.declared.exit.Failure.TheVariants.{Memory, Read, Create, Output}
-use Rattle.console.specs.declared.exit.Status.{Status}
 use Rattle.console.specs.declared.exit.Status.TheVariants.{Done, Refused}
 use Rattle.console.proofs.Worlds.{stays_then_stays, stays_then_but, stays_then_written, stays_but}
 use Rattle.cli_scripts.specs.declared.compile.Compiled.{Compiled}

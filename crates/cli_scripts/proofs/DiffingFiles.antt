@@ -1,5 +1,5 @@
 -- How `diff` ends, from what its steps leave.
-use Rattle.std.proofs.Common.{◌≡◌, ◌≢◌, ◌⊎◌, ℕ, List, [], ◌++◌, codes, Option, None, Some, IfSome, Result, Ok, Err, IfOk, IfErr, OnOk, refl, sym, subst, inl, inr}
+use Rattle.std.proofs.Common.{◌≡◌, ℕ, List, [], ◌++◌, codes, Option, None, Some, IfSome, Result, Ok, Err, IfOk, IfErr, OnOk, refl, sym, subst, inl, inr}
 use Rattle.std.specs.Io.KnownBytes.{Appends, Keeps}
 use Rattle.std.proofs.KnownBytes.{Appends-nil, Appends-trans}
 use Rattle.console.specs.Failures.{IsReadFailure}

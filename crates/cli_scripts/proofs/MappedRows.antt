@@ -1,5 +1,5 @@
 -- The blocks of a script, one after another.
-use Rattle.std.proofs.Common.{◌≡◌, ℕ, ◌+◌, ◌<◌, ◌≤◌, Bool, true, false, if◌then◌else◌, List, [], ◌∷◌, ◌++◌, length, get_or, take, drop, map, min, Option, None, Some, refl, sym, ap, ◌∙◌, arith, take_all}
+use Rattle.std.proofs.Common.{◌≡◌, ℕ, ◌+◌, ◌<◌, ◌≤◌, true, false, if◌then◌else◌, List, ◌∷◌, length, get_or, take, drop, map, Option, None, Some, refl, sym, ap, ◌∙◌, arith, take_all}
 use Rattle.std.proofs.lemmas.List.{drop_more, drop_all, get_or-map, length-map}
 use Rattle.script_front.specs.declared.tree.Statement.{Statement}
 use Rattle.cli_scripts.specs.Blocks.{has_begun, or_earlier, last_begun}

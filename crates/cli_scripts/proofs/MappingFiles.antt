@@ -1,9 +1,9 @@
 -- How `map` ends, from what its steps leave.
-use Rattle.std.proofs.Common.{◌≡◌, ◌⊎◌, ℕ, Bool, true, false, List, [], ◌++◌, codes, Option, None, Some, IfSome, Result, Ok, Err, IfOk, IfErr, OnOk, Bor, take, refl, sym, ap, ◌∙◌, subst, inl, inr, append-nil, IsUtf8}
+use Rattle.std.proofs.Common.{◌≡◌, ◌⊎◌, ℕ, Bool, true, false, List, [], ◌++◌, codes, Option, None, Some, IfSome, Ok, Err, Bor, take, refl, sym, ap, ◌∙◌, subst, inl, inr, append-nil, IsUtf8}
 use Rattle.std.specs.Io.KnownBytes.{Appends, Keeps}
 use Rattle.std.proofs.KnownBytes.{Appends-nil, Appends-trans, Appends-kept}
 use Rattle.console.specs.Failures.{IsReadFailure, IsWriteFailure}
-use Rattle.console.specs.World.{World, Becomes, Stays, HasSameFiles, HasSameOthers, IsSame, IsSameBut, HasWritten, HasReported}
+use Rattle.console.specs.World.{World, Becomes, Stays, HasSameFiles, IsSame, IsSameBut, HasWritten, HasReported}
 use Rattle.console.specs.declared.exit.Failure.{Failure}
 use Rattle.console.specs.declared.exit.Failure.TheVariants.{Memory, Read, Create, Output}
 use Rattle.console.specs.declared.exit.Status.{Status}
@@ -16,9 +16,9 @@ use Rattle.cli_scripts.specs.declared.compile.ScriptRefusal.{ScriptRefusal}
 use Rattle.cli_scripts.specs.declared.map.MapRequest.{MapRequest}
 use Rattle.cli_scripts.specs.declared.script_map.Map.{Map}
 use Rattle.cli_scripts.specs.Compiled.{IsUncompiled}
-use Rattle.cli_scripts.specs.Compiling.{IsReason, IsRefusedFrom}
+use Rattle.cli_scripts.specs.Compiling.{IsReason}
 use Rattle.cli_scripts.specs.FileTexts.{IsReadOf, IsUnreadable}
-use Rattle.cli_scripts.specs.Mapping.{IsMapOf, IsMapped, map_lines, layout_status, status_of, drawing_of, HasDrawn, HasNoted, IsNotedOnly, Warns, ShowsMap, DrawsMap, FindsMap, IsDrawingPath, IsShown, Maps, IsUndrawn, KeepsOthers}
+use Rattle.cli_scripts.specs.Mapping.{IsMapOf, IsMapped, map_lines, layout_status, status_of, drawing_of, HasDrawn, IsNotedOnly, ShowsMap, DrawsMap, FindsMap, IsDrawingPath, IsShown, Maps, IsUndrawn, KeepsOthers}
 use Rattle.cli_scripts.specs.RefusalTexts.{refusal_text}
 use Rattle.cli_scripts.proofs.ReadTexts.{whole_of, refused_whole}
 

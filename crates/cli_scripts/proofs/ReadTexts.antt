@@ -1,8 +1,7 @@
 -- What is said of the text that was read of a file is so of the whole file: it is no script if it was not read to its end.
-use Rattle.std.proofs.Common.{◌≡◌, ◌<◌, ◌≤◌, ◌⊎◌, ℕ, Option, None, Some, IfSome, List, length, take, min, refl, sym, ap, ◌∙◌, subst, arith, inl, inr, take_all, take-take, length-take, IsUtf8}
+use Rattle.std.proofs.Common.{◌≡◌, ◌<◌, ◌≤◌, ℕ, Option, None, Some, IfSome, List, length, take, min, sym, ap, ◌∙◌, subst, arith, inl, inr, take_all, take-take, length-take, IsUtf8}
 use Rattle.std.proofs.lemmas.Bool.{cases_lt}
 use Rattle.script_front.specs.Denoting.{IsScriptOf, IsNoScript}
-use Rattle.script_front.specs.Tree.{Tree, IsScript}
 use Rattle.script_tokens.specs.Texts.{MOST_BYTES}
 use Rattle.cli_scripts.specs.declared.compile.Compiled.{Compiled}
 use Rattle.cli_scripts.specs.declared.compile.ScriptRefusal.{ScriptRefusal}

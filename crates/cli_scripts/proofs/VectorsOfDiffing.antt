@@ -1,5 +1,5 @@
 -- The terms of `diff` in small cases, computed by the checker from the definitions: examples that hold and that fail.
-use Rattle.std.proofs.Common.{◌≡◌, ◌≢◌, ℕ, List, [], codes, length, refl, ap, inl, inr, arith, Ok, Err}
+use Rattle.std.proofs.Common.{◌≡◌, ℕ, List, [], codes, length, refl, ap, inl, inr, arith, Ok, Err}
 use Rattle.std.specs.Fmt.{digits}
 use Rattle.console.specs.declared.exit.Failure.TheVariants.{Read}
 use Rattle.console.specs.declared.exit.Status.TheVariants.{Misused}

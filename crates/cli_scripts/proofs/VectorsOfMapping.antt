@@ -1,11 +1,10 @@
 -- The blocks of a map's rows, and how `map` ends, in small cases, computed by the checker from the definitions: examples that hold
 -- and that fail.
-use Rattle.std.proofs.Common.{◌≡◌, ◌≢◌, ℕ, Bool, true, false, if◌then◌else◌, nat_le, List, [], ◌∷◌, ◌++◌, codes, length, Option, Some, None, Ok, Err, Bor, refl, sym, ap, ◌∙◌, arith}
+use Rattle.std.proofs.Common.{◌≡◌, ◌≢◌, ℕ, Bool, true, false, if◌then◌else◌, nat_le, List, [], ◌∷◌, codes, length, Option, Some, None, Ok, Err, Bor, refl, sym, ap, ◌∙◌, arith}
 use Rattle.console.specs.World.{World}
-use Rattle.console.specs.declared.exit.Failure.TheVariants.{Memory, Read, Create, Output}
-use Rattle.console.specs.declared.exit.Status.TheVariants.{Done, Refused as Declined, Misused}
+use Rattle.console.specs.declared.exit.Failure.TheVariants.{Read, Create}
+use Rattle.console.specs.declared.exit.Status.TheVariants.{Misused}
 use Rattle.script_front.specs.declared.tree.Act.TheVariants.{Join as Joins}
-use Rattle.script_front.specs.declared.tree.Statement.{Statement}
 use Rattle.script_front.specs.declared.tree.Statement.TheOpen.{Statement-F}
 use Rattle.script_front.specs.declared.tree.Statement.TheVariants.{Act as Acts, rolls-Act}
 use Rattle.script_front.specs.declared.tree.Statement.TheFolds.{fold-roll-Statement}

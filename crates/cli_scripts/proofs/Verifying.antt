@@ -1,5 +1,5 @@
 -- How `verify` ends, from what its steps leave.
-use Rattle.std.proofs.Common.{◌≡◌, ◌≢◌, ℕ, List, [], ◌++◌, codes, Option, None, Some, IfSome, Result, Ok, Err, take, refl, ◌∙◌, subst, inl, inr}
+use Rattle.std.proofs.Common.{◌≡◌, ◌≢◌, ℕ, List, ◌++◌, codes, Option, None, Some, IfSome, Result, Ok, Err, take, refl, ◌∙◌, subst, inl, inr}
 use Rattle.std.specs.Fmt.{decimal}
 use Rattle.std.specs.Io.KnownBytes.{Appends}
 use Rattle.std.proofs.KnownBytes.{Appends-nil}

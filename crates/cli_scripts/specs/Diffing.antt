@@ -1,5 +1,5 @@
 -- What `diff` prints of two script files with known bytes, and how it ends.
-use Rattle.std.specs.Prelude.{◌≡◌, ◌≢◌, ◌⊎◌, ℕ, List, [], ◌++◌, codes, Option, Some, None, Result, Ok, Err, IsUtf8}
+use Rattle.std.specs.Prelude.{◌≡◌, ◌⊎◌, ℕ, List, [], ◌++◌, codes, Option, Some, None, Result, Ok, Err, IsUtf8}
 use Rattle.console.specs.Escapes.{escaped}
 use Rattle.console.specs.declared.escaped.Form.TheVariants.{Line as InLine}
 use Rattle.console.specs.declared.exit.Failure.{Failure}

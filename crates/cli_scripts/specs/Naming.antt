@@ -1,5 +1,5 @@
 -- The state of a new listener after a stream of FIBs, and the ensemble of the stream's last FIG 0/0.
-use Rattle.std.specs.Prelude.{◌≡◌, ℕ, Bool, if◌then◌else◌, List, Option, None, Result, Ok, Err}
+use Rattle.std.specs.Prelude.{ℕ, Bool, if◌then◌else◌, List, Option, None, Result, Ok, Err}
 use Rattle.script_config.specs.Ensembles.{NamesAfter}
 use Rattle.cli_streams.specs.declared.listen.StreamFault.{StreamFault}
 use Rattle.cli_streams.specs.declared.listen.StreamFault.TheVariants.{Full as NoRoom}

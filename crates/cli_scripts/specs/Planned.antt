@@ -5,7 +5,6 @@ use Rattle.plan_code.specs.Program.{Program}
 use Rattle.plan_verifier.specs.Typing.{IsTyped}
 use Rattle.script_config.specs.Openings.{IsOpening}
 use Rattle.script_config.specs.declared.opening.Opening.{Opening}
-use Rattle.script_config.specs.declared.refusal.DiffFault.{DiffFault}
 use Rattle.script_config.specs.Plan.{plan_acts}
 use Rattle.script_config.specs.Refusals.{FitsPeriod, CanBePlanned, IsInTheWay}
 use Rattle.cli_scripts.specs.declared.diff.PlanFault.{PlanFault}

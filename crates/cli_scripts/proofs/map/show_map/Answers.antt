@@ -1,5 +1,5 @@
 use Rattle.std.specs.Prelude.{None}
-use Rattle.cli_scripts.proofs.MappingFiles.{found_as, refused, failed, unnoted, undrawn, unprinted, shown, stays_others, others_on, draws_others, noted_others, undrawn_others}
+use Rattle.cli_scripts.proofs.MappingFiles.{found_as, refused, failed, unnoted, undrawn, unprinted, shown, stays_others, others_on, draws_others, undrawn_others}
 use Rattle.cli_scripts.proofs.map.show_map.Goals as goal
 
 pub returns-in-Ok-None-clause-script : goal.returns-in-Ok-None-clause-script

@@ -1,5 +1,5 @@
 use Rattle.std.proofs.Common.{◌∙◌, sym}
-use Rattle.cli_scripts.proofs.MappedRows.{BegunSoFar, kept_here, kept_not}
+use Rattle.cli_scripts.proofs.MappedRows.{kept_here, kept_not}
 use Rattle.cli_scripts.proofs.script_map.last_begun.Goals as goal
 use Rattle.cli_scripts.proofs.script_map.last_begun.Goals.{then-has_begun, else-has_begun}
 
