@@ -16,7 +16,7 @@ use Rattle.plan_session.specs.Kept.{IsKeptOf, KeptTextsHaveSameResult}
 use Rattle.plan_session.specs.PartReading.{Fits}
 use Rattle.plan_session.specs.Playback.{asked_from, IsPlayback, Delivers}
 use Rattle.cli_plans.specs.LateFiles.{taken_in}
-use Rattle.cli_plans.specs.PlayFiles.{CutsShort, IsEnding, EndsOrIsCut}
+use Rattle.cli_plans.specs.PlayFiles.{CutsShort, IsEnding, EndsOrIsCut, IsCutLine, PrintsCut}
 use Rattle.cli_plans.proofs.PlayedFiles.{read_code_is}
 
 -- ---- faults
@@ -76,9 +76,18 @@ kept_cut {O} contents code kept source start before first taken ended (Err e) la
 
 -- ---- what was printed
 
+cut_line : (events : List ℕ) (e : FileRunFault) (old new : Option (List ℕ)) → PrintsCut events e old new → IsCutLine events old new
+cut_line events (Run (Code fault)) old new h = absurd h
+cut_line events (Run (Refused pc line cause)) old new h = absurd h
+cut_line events (Run (Start fault)) old new h = absurd h
+cut_line events (Run (Events fault)) old new h = absurd h
+cut_line events (Run (Write frames bytes)) old new h = inl (frames, bytes, h)
+cut_line events (Changed frames) old new h = absurd h
+cut_line events (Unread frames fault) old new h = inr (frames, h)
+
 pub ends_so : (events : List ℕ) (ended : Result ℕ FileRunFault) (status : Status) (old new : Option (List ℕ)) (P : FileRunFault → Type 0) → IsEnding events ended status old new → IfErr ended P → ((e : FileRunFault) → P e → CutsShort e) → EndsOrIsCut events status old new
 ends_so events (Ok frames) status old new P ending faults cut = inl ending
-ends_so events (Err e) status old new P ending faults cut = inr (ending (cut e faults))
+ends_so events (Err e) status old new P ending faults cut = inr (cut_line events e old new (ending (cut e faults)))
 
 pub still_a_world : (before after : Option World) (w : World) → Stays before after → before ≡ Some w → (v : World) × (after ≡ Some v)
 still_a_world None after w stays e = absurd cc

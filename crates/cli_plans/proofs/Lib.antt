@@ -2,10 +2,13 @@ mod CutShort
 mod DebugVectors
 mod EventFiles
 mod Keeping
+mod LiveRuns
 mod NamedFailures
 mod PartTranscripts
 mod Played
 mod PlayedFiles
+mod SameFiles
 mod ShownSessions
 mod Transcripts
+mod VectorsOfLive
 mod VectorsOfPlaying

@@ -15,7 +15,7 @@ use Rattle.console.specs.declared.files.FileFault.TheVariants.{Failed as OfSyste
 use Rattle.cli_plans.specs.declared.late_file.Creation.TheVariants.{Done, Failed}
 use Rattle.cli_plans.specs.FileTranscript.{IsDebugFailure}
 use Rattle.cli_plans.specs.LateFiles.{IsKept, IsKeptBut, taken_in}
-use Rattle.cli_plans.specs.PlayFiles.{IsWritable, IsUnwritten, EndsInFile, IsPlayedInto, played_line, write_failed_line, IsCutLine, CutsShort, IsEnding, EndsOrIsCut, IsPlayFailure}
+use Rattle.cli_plans.specs.PlayFiles.{IsWritable, IsUnwritten, EndsInFile, IsPlayedInto, played_line, write_failed_line, IsCutLine, CutsShort, IsEnding, EndsOrIsCut, IsPlayFailure, PrintsCut}
 
 path : List ℕ
 path = 111 ∷ []
@@ -141,3 +141,14 @@ no_memory_to_play code events out = tt
 
 no_lines_of_a_session : (code commands : List ℕ) → IsDebugFailure code commands failures.Output
 no_lines_of_a_session code commands = tt
+
+-- ---- the line of a playback that was cut short
+
+write_failed : (events : List ℕ) → PrintsCut events (Run (Write 1 2)) (Some []) (Some (write_failed_line 1 2))
+write_failed events = refl
+
+no_line_of_it : (events : List ℕ) → PrintsCut events (Run (Write 1 2)) (Some []) (Some []) → ⊥
+no_line_of_it events h = absurd cc
+
+changed : (events : List ℕ) (old new : Option (List ℕ)) → PrintsCut events (Changed 3) old new → ⊥
+changed events old new h = h

@@ -81,6 +81,16 @@ CutsShort (Run (Write frames bytes)) = Unit {0}
 CutsShort (Changed frames) = ⊥
 CutsShort (Unread frames fault) = Unit {0}
 
+-- the line of a playback that was cut short by this fault: its numbers are those of the fault
+abbrev pub PrintsCut : List ℕ → FileRunFault → Option (List ℕ) → Option (List ℕ) → Type 0
+PrintsCut events (Run (Code fault)) old new = ⊥
+PrintsCut events (Run (Refused pc line cause)) old new = ⊥
+PrintsCut events (Run (Start fault)) old new = ⊥
+PrintsCut events (Run (Events fault)) old new = ⊥
+PrintsCut events (Run (Write frames bytes)) old new = Appends old new (write_failed_line frames bytes)
+PrintsCut events (Changed frames) old new = ⊥
+PrintsCut events (Unread frames fault) old new = Appends old new (unread_line events frames)
+
 -- the file takes no more bytes
 abbrev pub IsWriteFault : RunFault → Type 0
 IsWriteFault fault = (frames : ℕ) × (bytes : ℕ) × (fault ≡ Write frames bytes)
@@ -88,7 +98,7 @@ IsWriteFault fault = (frames : ℕ) × (bytes : ℕ) × (fault ≡ Write frames 
 -- the status of a playback that ended so, and the line of one that was cut short
 abbrev pub IsEnding : List ℕ → Result ℕ FileRunFault → Status → Option (List ℕ) → Option (List ℕ) → Type 0
 IsEnding events (Ok frames) status old new = status ≡ PlayedToEnd
-IsEnding events (Err fault) status old new = CutsShort fault → IsCutLine events old new
+IsEnding events (Err fault) status old new = CutsShort fault → PrintsCut events fault old new
 
 -- a playback came to its end, or its line says that it was cut short
 abbrev pub EndsOrIsCut : List ℕ → Status → Option (List ℕ) → Option (List ℕ) → Type 0

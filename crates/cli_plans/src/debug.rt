@@ -1,22 +1,18 @@
 //! `dabplan debug`: steps through a plan code by the commands of a file.
 
-ghost use Rattle.std.specs.Prelude.{◌≡◌, ◌≢◌, ℕ, List, Some, ◌++◌, take, OnOk, IfOk, IfErr, IfSome, IfNone};
-ghost use Rattle.std.specs.List.{flat_map};
-ghost use Rattle.std.specs.Io.KnownBytes.{Appends};
+ghost use Rattle.std.specs.Prelude.{◌≡◌, ◌≢◌, ℕ, List, Some, take, OnOk, IfOk, IfErr, IfSome, IfNone};
 ghost use Rattle.console.specs.World.{Stays};
 ghost use Rattle.console.specs.declared.exit.Status.TheVariants.{Done as DebuggedToEnd};
 ghost use Rattle.plan_player.specs.Playing.{Playing};
-ghost use Rattle.plan_debug.specs.declared.report.Report.{Report};
-ghost use Rattle.plan_debug.specs.Commands.{Answers};
 ghost use Rattle.plan_session.specs.declared.command.Command.{Command};
 ghost use Rattle.plan_session.specs.CommandParts.{ListsCommandsInParts};
-ghost use Rattle.plan_session.specs.Listing.{ListsCommands};
 ghost use Rattle.plan_session.specs.PartReading.{Fits};
 ghost use Rattle.plan_session.specs.Playback.{asked_from};
 ghost use Rattle.cli_plans.specs.FileTranscript.{IsDebugFailure, IsFileCutShort, ShowsSession};
 ghost use Rattle.cli_plans.specs.RefusedTexts.{IsFaultOfCommands};
-ghost use Rattle.cli_plans.specs.Transcript.{place_text, swap_text, break_line, report_lines, announcement_line, shown_lines, Transcript, IsSession, IsCutShort, Prints, IsDebugFault, IsUnprinted};
+ghost use Rattle.cli_plans.specs.Transcript.{IsSession, IsCutShort, Prints, IsDebugFault, IsUnprinted};
 
+use crate::command_lines::drive;
 use crate::event_file::{examine_command_file, open_events, read_event_text, unreadable};
 use crate::file_debugging::{FileDebugFault, debug_again};
 use crate::live::is_no_memory;
@@ -24,14 +20,14 @@ use console::code_file::read_code;
 use console::exit::{Failure, Status};
 use console::files::Files;
 use mux_tables::Tables;
-use plan_debug::{Announcement, Command, Debugger, Report};
+use plan_debug::Debugger;
 use plan_player::Player;
 use plan_session::{
     CommandList, EventFault, FirstReading, RunFault, StartOptions, laws, refuse, start_with,
     typed_code,
 };
 use std::alloc::Global;
-use std::io::{self, Write};
+use std::io::Write;
 use thiserror::Error;
 
 /// The arguments of `debug`.
@@ -65,9 +61,9 @@ pub enum DebugFault {
 /// Runs `debug`: executes the commands and prints the lines of each; or prints why the code can't be
 /// debugged.
 ///
-/// Commands that can be read again are read twice, and none of them is kept, whether they are executed or refused; others
-/// are kept, and so are those with a comment, or another piece without an end, of 65,536 bytes.
-#[tactic(auto, using(crate::proofs::NamedFailures::code_of_debug, crate::proofs::NamedFailures::commands_of_debug, crate::proofs::NamedFailures::lines_of_debug))]
+/// Commands that can be read again are read twice, and none of them is kept, whether they are executed or refused;
+/// others are kept, and so are those with a comment, or another piece without an end, of 65,536 bytes.
+#[tactic(auto, using(crate::proofs::NamedFailures::code_of_debug, crate::proofs::NamedFailures::commands_of_debug))]
 pub fn show_debug<'a, F: Files, W: Write>(
     alloc: Global,
     request: &DebugRequest<'a>,
@@ -108,7 +104,7 @@ pub fn show_debug<'a, F: Files, W: Write>(
 }
 
 /// Executes commands that can be read again, part by part, and prints the lines of each.
-#[tactic(auto, using(crate::proofs::NamedFailures::code_of_debug, crate::proofs::NamedFailures::commands_of_debug, crate::proofs::NamedFailures::lines_of_debug))]
+#[tactic(auto, using(crate::proofs::NamedFailures::commands_of_debug))]
 fn debug_parts<'a, F: Files, W: Write>(
     alloc: Global,
     code: &[u8],
@@ -141,7 +137,7 @@ fn debug_parts<'a, F: Files, W: Write>(
 }
 
 /// Executes commands that are kept, and prints the lines of each.
-#[tactic(auto, using(crate::proofs::NamedFailures::code_of_debug, crate::proofs::NamedFailures::commands_of_debug, crate::proofs::NamedFailures::lines_of_debug))]
+#[tactic(auto, using(crate::proofs::NamedFailures::commands_of_debug))]
 fn debug_kept<'a, F: Files, W: Write>(
     alloc: Global,
     code: &[u8],
@@ -172,7 +168,8 @@ fn debug_kept<'a, F: Files, W: Write>(
     }
 }
 
-/// Why commands that have this fault are not executed on a code, from a start: the fault that [`debug`] returns for them.
+/// Why commands that have this fault are not executed on a code, from a start: the fault that [`debug`] returns for
+/// them.
 fn refusal_of(alloc: Global, code: &[u8], fault: EventFault, start: StartOptions) -> DebugFault
     ensures { (text : List ℕ) → IsFaultOfCommands text fault
         → IsDebugFault (asked_from code.now text start) result }
@@ -184,7 +181,7 @@ fn refusal_of(alloc: Global, code: &[u8], fault: EventFault, start: StartOptions
 }
 
 /// Prints why a session over a file that is read again ended early.
-#[tactic(auto, using(crate::proofs::NamedFailures::code_of_debug, crate::proofs::NamedFailures::commands_of_debug, crate::proofs::NamedFailures::lines_of_debug))]
+#[tactic(auto, using(crate::proofs::NamedFailures::commands_of_debug, crate::proofs::NamedFailures::lines_of_debug))]
 fn end_early<'a, W: Write>(
     fault: FileDebugFault,
     commands: &'a str,
@@ -206,7 +203,7 @@ fn end_early<'a, W: Write>(
 }
 
 /// Prints why a session was not run to its end.
-#[tactic(auto, using(crate::proofs::NamedFailures::code_of_debug, crate::proofs::NamedFailures::commands_of_debug, crate::proofs::NamedFailures::lines_of_debug))]
+#[tactic(auto, using(crate::proofs::NamedFailures::lines_of_debug))]
 fn print_fault<'a, W: Write>(fault: DebugFault, out: &mut W) -> Result<Status, Failure<'a>>
     ensures refused { IfOk result (λ status. status ≢ DebuggedToEnd) }
     ensures failed { IfOk result (λ status. IsCutShort fault → ⊥) }
@@ -287,125 +284,4 @@ pub fn debug<W: Write>(
         Ok(()) => Ok(()),
         Err(_) => Err(DebugFault::Output),
     }
-}
-
-/// Executes the commands of a list in order, and prints the lines of each.
-pub(crate) fn drive<W: Write>(
-    debugger: &mut Debugger<'_, Tables>,
-    commands: &mut CommandList<'_>,
-    out: &mut W,
-) -> io::Result<()>
-    ensures { OnOk result ((all : List Command) → ListsCommands commands.old all → (lines : List ℕ)
-        × Transcript debugger.old all lines debugger.new
-        × Appends (W.contents out.old) (W.contents out.new) lines) }
-{
-    while let Some(command) = commands.next() {
-        match run_command(debugger, &command, out) {
-            Ok(()) => {}
-            Err(error) => return Err(error),
-        }
-    }
-    Ok(())
-}
-
-/// Executes a command, and prints its lines.
-fn run_command<W: Write>(
-    debugger: &mut Debugger<'_, Tables>,
-    command: &Command,
-    out: &mut W,
-) -> io::Result<()>
-    ensures { OnOk result ((r : Report) × Answers debugger.old command.now debugger.new r
-        × Appends (W.contents out.old) (W.contents out.new)
-        (report_lines r ++ shown_lines command.now debugger.new.announcements)) }
-{
-    let report = debugger.command(*command);
-    print_report(&report, out)?;
-    print_shown(*command, debugger, out)
-}
-
-/// Prints the line of a report, and `break` if the break line was reached.
-fn print_report<W: Write>(report: &Report, out: &mut W) -> io::Result<()>
-    ensures { OnOk result (Appends (W.contents out.old) (W.contents out.new)
-        (report_lines report.now)) }
-{
-    print_position(report, out)?;
-    print_swap(report, out)?;
-    print_break(report.broke, out)
-}
-
-/// Prints the frames and steps played, the pc and the source line.
-fn print_position<W: Write>(report: &Report, out: &mut W) -> io::Result<()>
-    ensures { OnOk result (Appends (W.contents out.old) (W.contents out.new)
-        (place_text report.now)) }
-{
-    let frames = report.frames;
-    let steps = report.steps;
-    let pc = report.pc;
-    let line = report.line;
-    write!(out, "frames {frames} steps {steps} pc {pc} line {line}")
-}
-
-/// Prints the count and the frames until the swap, to the end of the line.
-fn print_swap<W: Write>(report: &Report, out: &mut W) -> io::Result<()>
-    ensures { OnOk result (Appends (W.contents out.old) (W.contents out.new)
-        (swap_text report.now)) }
-{
-    let count = report.count;
-    match report.remaining {
-        Some(frames) => writeln!(out, " count {count} remaining {frames}"),
-        None => writeln!(out, " count {count} remaining none"),
-    }
-}
-
-/// Prints `break` if the break line was reached.
-fn print_break<W: Write>(broke: bool, out: &mut W) -> io::Result<()>
-    ensures { OnOk result (Appends (W.contents out.old) (W.contents out.new) (break_line broke)) }
-{
-    if broke {
-        return writeln!(out, "break");
-    }
-    Ok(())
-}
-
-/// Prints the recorded announcements after `show`; nothing after another command.
-fn print_shown<W: Write>(
-    command: Command,
-    debugger: &Debugger<'_, Tables>,
-    out: &mut W,
-) -> io::Result<()>
-    ensures { OnOk result (Appends (W.contents out.old) (W.contents out.new)
-        (shown_lines command debugger.now.announcements)) }
-{
-    match command {
-        Command::Show => print_announcements(debugger, out),
-        Command::Contact(_, _) => Ok(()),
-        Command::Run(_) => Ok(()),
-        Command::Next => Ok(()),
-        Command::Break(_) => Ok(()),
-        Command::Clear => Ok(()),
-    }
-}
-
-/// Prints the recorded announcements, oldest first.
-fn print_announcements<W: Write>(debugger: &Debugger<'_, Tables>, out: &mut W) -> io::Result<()>
-    ensures { OnOk result (Appends (W.contents out.old) (W.contents out.new)
-        (flat_map announcement_line debugger.now.announcements)) }
-{
-    let mut place = 0;
-    while let Some(announcement) = debugger.announcement(place) {
-        print_announcement(announcement, out)?;
-        place += 1;
-    }
-    Ok(())
-}
-
-/// Prints an announcement.
-fn print_announcement<W: Write>(announcement: Announcement, out: &mut W) -> io::Result<()>
-    ensures { OnOk result (Appends (W.contents out.old) (W.contents out.new)
-        (announcement_line announcement)) }
-{
-    let count = announcement.count;
-    let occurrence = announcement.occurrence;
-    let change = announcement.change;
-    writeln!(out, "announced {count} swap {occurrence} change {change}")
 }

@@ -44,8 +44,8 @@ pub(crate) fn unreadable<'a>(fault: TextFault, path: &'a str) -> Failure<'a>
     }
 }
 
-/// What a first reading found of a file that can be read again, corrected by its bytes: unless the file is in parts they
-/// are read once more, and the first one that is not allowed is the fault of the text, before any other.
+/// What a first reading found of a file that can be read again, corrected by its bytes: unless the file is in parts
+/// they are read once more, and the first one that is not allowed is the fault of the text, before any other.
 #[tactic(auto, using(crate::proofs::EventFiles::still_known))]
 fn with_first_byte<'a, F: Files>(
     files: &mut F,
@@ -74,9 +74,9 @@ fn with_first_byte<'a, F: Files>(
     }
 }
 
-/// What a first reading finds of an event file: whether it can be played part by part, or the fault of its text. Nothing
-/// is kept. `Unparted` is found of what can be read once only, too: then nothing was read. A failure says why the file
-/// can't be read.
+/// What a first reading finds of an event file: whether it can be played part by part, or the fault of its text.
+/// Nothing is kept. `Unparted` is found of what can be read once only, too: then nothing was read. A failure says why
+/// the file can't be read.
 #[tactic(auto, using(crate::proofs::EventFiles::still_known))]
 pub(crate) fn examine_event_file<'a, F: Files>(
     files: &mut F,

@@ -37,8 +37,8 @@ pub enum FileDebugFault {
 /// # Errors
 ///
 /// The first of these: `Debug` with `Playback`, as with `debug`, or with `Memory`, with which nothing was read or
-/// printed; after some commands, whose lines were printed, `Debug` with `Output`, `Changed` if a part lists no commands,
-/// and `Unread` if the text can't be read.
+/// printed; after some commands, whose lines were printed, `Debug` with `Output`, `Changed` if a part lists no
+/// commands, and `Unread` if the text can't be read.
 pub fn debug_again<R: Read + Drop, W: Write>(
     alloc: Global,
     code: &[u8],

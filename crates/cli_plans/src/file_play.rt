@@ -53,7 +53,8 @@ fn end_again<'f, S: LateStart, F: Files>(
         → EndsInFile S.path (asked_from code.now text request.now.start)
         S.before (F.world result.files.now) frames play.new.creation) }
     ensures cut { IfErr play.new.ended (λ e. (w : World) (text : List ℕ) (p : Playing)
-        (steps : List Step) → S.before ≡ Some w → F.In.remaining events ≡ Some text → Fits text → ListsInParts text
+        (steps : List Step) → S.before ≡ Some w → F.In.remaining events ≡ Some text → Fits text
+        → ListsInParts text
         → IsPlayback (asked_from code.now text request.now.start) p steps → CutsShort e) }
 {
     let late: LateFile<'f, '_, S, F> = LateFile::new(lent, request.out);
@@ -110,8 +111,8 @@ pub(crate) fn play_again<F: Files>(
         → EndsInFile request.now.out.now (asked_from code.now text request.now.start)
         (F.world files.old) (F.world files.new) frames result.creation) }
     ensures cut { IfErr result.ended (λ e. (w : World) (text : List ℕ) (p : Playing)
-        (steps : List Step) → F.world files.old ≡ Some w → F.In.remaining events ≡ Some text → Fits text
-        → ListsInParts text
+        (steps : List Step) → F.world files.old ≡ Some w → F.In.remaining events ≡ Some text
+        → Fits text → ListsInParts text
         → IsPlayback (asked_from code.now text request.now.start) p steps → CutsShort e) }
 {
     let mut play = NO_PLAY;

@@ -9,8 +9,8 @@ use plan_player::Sink;
 use std::io::Write;
 use std::marker::{Brand, PhantomData};
 
-/// Where a file will be created, of which contracts alone know. A [`LateFile`] has it as a parameter, with the fact that
-/// its files are those: so a call that is generic over sinks returns the file with the same files.
+/// Where a file will be created, of which contracts alone know. A [`LateFile`] has it as a parameter, with the fact
+/// that its files are those: so a call that is generic over sinks returns the file with the same files.
 pub(crate) trait LateStart {
     ghost use Rattle.std.specs.Prelude.{ℕ, List, Option};
     ghost use Rattle.console.specs.World.{World};
@@ -151,7 +151,7 @@ impl<'f, 'a, S: LateStart, F: Files> LateFile<'f, 'a, S, F> {
 }
 
 /// Writes some bytes, and returns how many; `None` if the writer failed or took none.
-fn write_some<W: Write>(bytes: &[u8], out: &mut W) -> Option<usize>
+pub(crate) fn write_some<W: Write>(bytes: &[u8], out: &mut W) -> Option<usize>
     requires { 0 < length bytes.now }
     ensures bound { IfSome result (λ n. (1 ≤ n) × (n ≤ length bytes.now)) }
     ensures some { IfSome result (λ n.
@@ -165,8 +165,8 @@ fn write_some<W: Write>(bytes: &[u8], out: &mut W) -> Option<usize>
     }
 }
 
-/// The file as a sink: it fails if it can't be created, or as a writer does. It reports its bytes where the world before
-/// is known.
+/// The file as a sink: it fails if it can't be created, or as a writer does. It reports its bytes where the world
+/// before is known.
 impl<S: LateStart, F: Files> Sink for LateFile<'_, '_, S, F> {
     ghost use Rattle.cli_plans.specs.LateFiles.{taken_in};
 

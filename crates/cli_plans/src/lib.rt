@@ -1,6 +1,7 @@
 //! The commands of the program that play plans: `play`, `debug` and `live`.
 #![tactic(auto)]
 
+mod command_lines;
 pub mod debug;
 pub mod event_file;
 pub mod file_debugging;
@@ -9,3 +10,5 @@ mod late_file;
 pub mod live;
 mod part_debugging;
 pub mod play;
+mod standard_error;
+mod streaming;

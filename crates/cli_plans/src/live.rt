@@ -1,27 +1,33 @@
 //! `dabplan live`: plays a plan code over standard input, line by line as the lines arrive.
 
-ghost use Rattle.std.specs.Prelude.{◌≡◌, ◌≢◌, ◌↔◌, true, take, OnOk, IfErr, IfSome};
+ghost use Rattle.std.specs.Prelude.{◌≡◌, ◌≢◌, ◌↔◌, ℕ, List, Option, None, true, take, OnOk, IfErr, IfSome};
+ghost use Rattle.std.specs.Fmt.{WritesOnOk};
+ghost use Rattle.console.specs.Failures.{refused_json};
+ghost use Rattle.console.specs.World.{Becomes, HasSameFiles};
 ghost use Rattle.plan_code.specs.declared.fault.CodeFault.TheVariants.{Memory as NoMemoryForCode};
 ghost use Rattle.plan_player.specs.Playing.{Playing};
 ghost use Rattle.plan_session.specs.declared.run_fault.RunFault.TheVariants.{Code as OfCode};
 ghost use Rattle.plan_live.specs.declared.fault.LiveFault.TheVariants.{Playback as OfPlayback};
 ghost use Rattle.plan_live.specs.Beginning.{Lives};
 ghost use Rattle.plan_live.specs.Living.{streamed, IsPrompt};
+ghost use Rattle.plan_live.specs.Messages.{stop_text};
 ghost use Rattle.cli_plans.specs.declared.live.LiveEnding.TheVariants.{Live};
-ghost use Rattle.cli_plans.specs.LiveEnding.{BeginsWith, IsLiveEnding};
+ghost use Rattle.cli_plans.specs.LiveEnding.{BeginsWith, IsLiveEnding, IsUnbegun, NamesItsFile, WritesLive};
 
+use crate::late_file::Lent;
+use crate::standard_error::{ErrorStart, StandardError};
 use console::code_file::read_code;
 use console::exit::{Failure, JsonFailure};
 use console::files::Files;
+use console::named::{LentWriter, Named, NamedWriter};
 use plan_code::CodeFault;
-use plan_live::{
-    Ends, JsonMessage, LiveFault, LiveOptions, Message, Messages, Streams, Wanted, live,
-};
+use plan_live::{Ends, LiveFault, LiveOptions, Messages, Stop, Streams, Wanted, live};
 use plan_session::{RunFault, StartOptions};
 use std::alloc::Global;
+use std::error;
 use std::fmt::{self, Display, Formatter};
-use std::io::{BufReader, Write};
-use thiserror::Error;
+use std::io::{BufReader, Read, Write};
+use std::marker::Brand;
 
 /// The arguments of `live`.
 #[derive(Clone, Copy)]
@@ -39,130 +45,95 @@ pub struct LiveRequest<'a> {
 }
 
 /// Why a plan is not played to the end of standard input. Each is one line on standard error, and `Status::Refused`.
-#[derive(Debug, Drop, Error)]
+#[derive(Debug, Drop)]
 pub enum LiveEnding<'a> {
     /// Out of memory, or the code file or standard input can't be read.
-    #[error("{0}")]
     Failed(Failure<'a>),
     /// The code can't be played from the start, as in `play`; or the run stopped.
-    #[error("{0}")]
     Live(LiveFault),
 }
+
+/// The text of a fault of `play` is not defined.
+impl Display for LiveEnding<'_> {
+    ghost use Rattle.cli_plans.specs.LiveEnding.{ending_text};
+
+    ghost output = { ending_text };
+
+    fn fmt<W: fmt::Write>(&self, f: &mut Formatter<W>) -> fmt::Result {
+        match self {
+            LiveEnding::Failed(failure) => write!(f, "{failure}"),
+            LiveEnding::Live(LiveFault::Playback(fault)) => write!(f, "{fault}"),
+            LiveEnding::Live(LiveFault::Stopped(stop)) => write!(f, "{stop}"),
+        }
+    }
+}
+
+impl error::Error for LiveEnding<'_> {}
 
 /// The end of a live run as an object of JSON, `{"kind":"refused","cause":"cannot read PATH"}`: the cause is its line.
 #[derive(Debug, Drop)]
 pub struct JsonEnding<'e, 'a>(pub &'e LiveEnding<'a>);
 
 impl Display for JsonEnding<'_, '_> {
+    ghost use Rattle.cli_plans.specs.LiveEnding.{ending_json};
+
+    ghost output = { λ ending. ending_json ending.0.now };
+
     fn fmt<W: fmt::Write>(&self, f: &mut Formatter<W>) -> fmt::Result {
         match self.0 {
             LiveEnding::Failed(failure) => write!(f, "{}", JsonFailure(failure)),
-            LiveEnding::Live(fault) => {
+            LiveEnding::Live(LiveFault::Playback(fault)) => {
                 write!(f, "{{\"kind\":\"refused\",\"cause\":\"{fault}\"}}")
             }
+            LiveEnding::Live(LiveFault::Stopped(stop)) => write_stop(stop, f),
         }
     }
 }
 
-/// The most messages that are held.
-const MOST_HELD: usize = 64;
-
-/// A message in place of one that is not held yet.
-const NO_MESSAGE: Message = Message::Passed { frame: 0, count: 0 };
-
-/// Standard error as a message sink. Its model records no message, and one that can't be written is lost. Messages are
-/// written when they are released.
-#[derive(Drop)]
-struct StandardError<'a, F> {
-    files: &'a mut F,
-    json: bool,
-    messages: [Message; 64],
-    held: usize,
+/// Writes the object of JSON for a run that stopped.
+fn write_stop<W: fmt::Write>(stop: &Stop, f: &mut Formatter<W>) -> fmt::Result
+    ensures { WritesOnOk W.write_str_gives f.old result (refused_json (stop_text stop.now)) f.new }
+{
+    write!(f, "{{\"kind\":\"refused\",\"cause\":\"{stop}\"}}")
 }
 
-impl<'a, F: Files> StandardError<'a, F> {
-    /// Standard error, with no message held.
-    fn new(files: &'a mut F, json: bool) -> Self {
-        StandardError {
-            files,
-            json,
-            messages: [NO_MESSAGE; MOST_HELD],
-            held: 0,
-        }
-    }
-
-    /// Writes a message.
-    fn show(&mut self, message: Message) {
-        if self.json {
-            self.files.report(JsonMessage(message));
-        } else {
-            self.files.report(message);
-        }
-    }
-}
-
-impl<F: Files> Messages for StandardError<'_, F> {
-    ghost use Rattle.std.specs.Prelude.{None};
-
-    ghost reported = { λ _. None };
-
-    ghost held = { λ s. s.held };
-
-    fn has_room(&self) -> bool {
-        self.held <= MOST_HELD - 4
-    }
-
-    fn report(&mut self, message: Message) {
-        self.messages[self.held] = message;
-        self.held += 1;
-    }
-
-    fn release(&mut self) {
-        let messages = self.messages;
-        for message in messages.iter().take(self.held) {
-            self.show(*message);
-        }
-        self.held = 0;
-    }
-}
-
-/// Plays the code over standard input, line by line, to its end. The frames are written to `out` and flushed before
-/// the next line is read, as in [`live`](plan_live::live); messages go to standard error after the frames of their line,
+/// Plays the code over standard input, line by line, to its end. The frames are written to `out` and flushed before the
+/// next line is read, as in [`live`](plan_live::live); messages go to standard error after the frames of their line,
 /// and those of a line that is not played to its end after the run.
 ///
 /// # Errors
 ///
 /// `Failed` if the code file or standard input can't be read, or if out of memory for the code. `Live` with the
 /// fault with which `play` refuses the code or the start, before a line is read; or with why the run stopped.
+#[tactic(auto, using(crate::proofs::NamedFailures::code_of_live, crate::proofs::NamedFailures::input_of_live, crate::proofs::SameFiles::stays_same_files, crate::proofs::SameFiles::then_same_files))]
 pub fn play_live<'a, F: Files, W: Write>(
     alloc: Global,
     request: &LiveRequest<'a>,
     files: &mut F,
     out: &mut W,
 ) -> Result<(), LiveEnding<'a>>
+    // What standard output has taken are the frames of the run over the lines, except those skipped.
+    ensures written { WritesLive request.now (F.known files.old request.now.code.now)
+        (F.known_input files.old) (W.contents out.old) (W.contents out.new) result }
     ensures only { OnOk result (IfSome (F.known files.old request.now.code.now)
         (λ file. (p : Playing) × BeginsWith (take 1048577 file) request.now.start p)) }
     ensures refused { IfErr result (λ ending. IfSome (F.known files.old request.now.code.now)
         (λ file. IsLiveEnding (take 1048577 file) request.now.start ending)) }
+    ensures named { IfErr result (NamesItsFile request.now.code.now) }
+    ensures files { Becomes HasSameFiles (F.world files.old) (F.world files.new) }
 {
-    let code = match read_code(alloc, files, request.code) {
-        Ok(code) => code,
-        Err(failure) => return Err(LiveEnding::Failed(failure)),
-    };
     let input = match files.input() {
         Ok(input) => input,
         Err(fault) => return Err(LiveEnding::Failed(Failure::of_file(fault, "-"))),
     };
+    let code = match read_code(alloc, files, request.code) {
+        Ok(code) => code,
+        Err(failure) => return Err(LiveEnding::Failed(failure)),
+    };
     let Ok(reader) = BufReader::new(alloc, input) else {
         return Err(LiveEnding::Failed(Failure::Memory));
     };
-    let mut messages = StandardError::new(files, request.json);
-    let ended = {
-        let mut ends = Streams::new(reader, out, &mut messages);
-        drive_code(alloc, code.as_slice(), request, &mut ends)
-    };
-    messages.release();
-    match ended {
+    match drive_out(alloc, code.as_slice(), request, reader, files, out) {
         Ok(()) => Ok(()),
         Err(fault) => {
             if has_no_code_memory(&fault) {
@@ -171,6 +142,69 @@ pub fn play_live<'a, F: Files, W: Write>(
             Err(LiveEnding::Live(fault))
         }
     }
+}
+
+/// Plays a code file over the lines of a reader, with this output, and messages on standard error.
+fn drive_out<F: Files, R: Read + Drop, W: Write>(
+    alloc: Global,
+    code: &[u8],
+    request: &LiveRequest<'_>,
+    reader: R,
+    files: &mut F,
+    out: &mut W,
+) -> Result<(), LiveFault>
+    ensures played { (p : Playing) → BeginsWith code.now request.now.start p
+        → (left : Option (List ℕ)) × Lives request.now.skip request.now.wanted p
+        (streamed (R.remaining reader) (W.contents out.old) None)
+        (streamed left (W.contents out.new) None) result }
+    ensures only { OnOk result ((p : Playing) × BeginsWith code.now request.now.start p) }
+    ensures refused { IfErr result (λ fault. fault ≢ OfPlayback (OfCode NoMemoryForCode)
+        → IsLiveEnding code.now request.now.start (Live fault)) }
+    ensures unbegun { IfErr result (IsUnbegun (W.contents out.old) (W.contents out.new)) }
+    ensures files { Becomes HasSameFiles (F.world files.old) (F.world files.new) }
+{
+    let mut ended = Ok(());
+    let lent = LentWriter::new(out);
+    let errors = Lent::new(files);
+    let _lent = drive_named::<Brand, Brand, F, R, W>(
+        lent, errors, alloc, code, request, reader, &mut ended,
+    );
+    ended
+}
+
+/// The same with a writer and files that have names. Returns both.
+fn drive_named<'o, 'f, N: Named, S: ErrorStart, F: Files, R: Read + Drop, W: Write>(
+    lent: LentWriter<'o, W>,
+    errors: Lent<'f, F>,
+    alloc: Global,
+    code: &[u8],
+    request: &LiveRequest<'_>,
+    reader: R,
+    ended: &mut Result<(), LiveFault>,
+) -> (LentWriter<'o, W>, Lent<'f, F>)
+    requires writer { lent.out.ghost_name ≡ N.name }
+    requires errors { errors.files.ghost_name ≡ S.name }
+    requires before { F.world errors.files.now ≡ S.before }
+    ensures writer { result.0.out.ghost_name ≡ N.name }
+    ensures errors { result.1.files.ghost_name ≡ S.name }
+    ensures played { (p : Playing) → BeginsWith code.now request.now.start p
+        → (left : Option (List ℕ)) × Lives request.now.skip request.now.wanted p
+        (streamed (R.remaining reader) (W.contents lent.entry.out.now) None)
+        (streamed left (W.contents result.0.out.now) None) ended.new }
+    ensures only { OnOk ended.new ((p : Playing) × BeginsWith code.now request.now.start p) }
+    ensures refused { IfErr ended.new (λ fault. fault ≢ OfPlayback (OfCode NoMemoryForCode)
+        → IsLiveEnding code.now request.now.start (Live fault)) }
+    ensures unbegun { IfErr ended.new
+        (IsUnbegun (W.contents lent.entry.out.now) (W.contents result.0.out.now)) }
+    ensures files { Becomes HasSameFiles S.before (F.world result.1.files.now) }
+{
+    let named: NamedWriter<'o, N, W> = NamedWriter::new(lent);
+    let messages: StandardError<'f, S, F> = StandardError::new(errors, request.json);
+    let mut ends = Streams::new(reader, named, messages);
+    *ended = drive_code(alloc, code, request, &mut ends);
+    let (named, mut messages) = ends.into_parts();
+    messages.release();
+    (named.give_back(), messages.give_back())
 }
 
 /// Plays a code file over the lines of an input as they arrive, with the start, the skip option and the
@@ -200,6 +234,7 @@ pub fn drive_code<E: Ends>(
     ensures only { OnOk result ((p : Playing) × BeginsWith code.now request.now.start p) }
     ensures refused { IfErr result (λ fault. fault ≢ OfPlayback (OfCode NoMemoryForCode)
         → IsLiveEnding code.now request.now.start (Live fault)) }
+    ensures unbegun { IfErr result (IsUnbegun (E.written ends.old) (E.written ends.new)) }
 {
     let options = LiveOptions {
         skip: request.skip,

@@ -3,7 +3,7 @@
 ghost use Rattle.std.specs.Prelude.{IfOk};
 ghost use Rattle.cli_plans.specs.FileTranscript.{ExecutesPart, ExecutesParts};
 
-use crate::debug::drive;
+use crate::command_lines::drive;
 use mux_tables::Tables;
 use plan_debug::Debugger;
 use plan_session::{NoPart, Parts, TextFault, commands_in};

@@ -11,24 +11,23 @@ ghost use Rattle.plan_session.specs.declared.step.Step.{Step};
 ghost use Rattle.plan_session.specs.FilePlayback.{ListsInParts};
 ghost use Rattle.plan_session.specs.PartReading.{Fits};
 ghost use Rattle.plan_session.specs.Playback.{asked_from, IsPlayback};
-ghost use Rattle.cli_plans.specs.PlayFiles.{played_line, write_failed_line, IsWritable, IsPlayedInto, CutsShort, IsEnding, EndsOrIsCut, IsPlayFailure, IsWriteFault};
+ghost use Rattle.cli_plans.specs.PlayFiles.{played_line, IsWritable, IsPlayedInto, CutsShort, IsEnding, EndsOrIsCut, IsPlayFailure, IsWriteFault, PrintsCut};
 ghost use Rattle.cli_plans.specs.declared.late_file.Creation.TheVariants as end;
 
 use crate::event_file::{examine_event_file, open_events, read_event_text, unreadable};
-use crate::file_play::{of_text, play_again, play_kept};
+use crate::file_play::{play_again, play_kept};
 use crate::late_file::Creation;
+pub use crate::streaming::stream_play;
 use console::code_file::read_code;
 use console::escaped::Escaped;
 use console::exit::{Failure, Status, touch_file, write_file};
 use console::files::Files;
 use plan_code::CodeFault;
-use plan_player::Writer;
 use plan_session::{
-    EventFault, FileRunFault, FirstReading, RunFault, StartOptions, TextFault, refuse, run_again,
-    run_into,
+    EventFault, FileRunFault, FirstReading, RunFault, StartOptions, TextFault, refuse,
 };
 use std::alloc::Global;
-use std::io::{Read, Write};
+use std::io::Write;
 
 /// The arguments of `play`.
 #[derive(Clone, Copy)]
@@ -46,13 +45,13 @@ pub struct PlayRequest<'a> {
 /// Runs `play`: plays the code over the events, writes the FIBs of each frame to the file, and prints
 /// the number of frames written, or why playback failed.
 ///
-/// Events that can be read again are read twice, and none of them is kept, whether they are played or refused; others are
-/// kept, and so are those with a comment, or another piece without an end, of 65,536 bytes.
+/// Events that can be read again are read twice, and none of them is kept, whether they are played or refused; others
+/// are kept, and so are those with a comment, or another piece without an end, of 65,536 bytes.
 ///
 /// The file is created when its first byte is written, after the code, the start and the events were found to be good.
 /// Where they are refused an empty file is created if there is none; a file that is there keeps its bytes, as it does
 /// where the code or the events can't be read.
-#[tactic(auto, using(crate::proofs::NamedFailures::code_of_play, crate::proofs::NamedFailures::events_of_play, crate::proofs::NamedFailures::out_of_play, crate::proofs::NamedFailures::lines_of_play, console::proofs::Worlds::stays_but))]
+#[tactic(auto, using(crate::proofs::NamedFailures::code_of_play, crate::proofs::NamedFailures::events_of_play, console::proofs::Worlds::stays_but))]
 pub fn show_play<'a, F: Files, W: Write>(
     alloc: Global,
     request: &PlayRequest<'a>,
@@ -93,7 +92,7 @@ pub fn show_play<'a, F: Files, W: Write>(
 }
 
 /// Plays a code over events that can be read again, part by part, and prints how it ended.
-#[tactic(auto, using(crate::proofs::NamedFailures::code_of_play, crate::proofs::NamedFailures::events_of_play, crate::proofs::NamedFailures::out_of_play, crate::proofs::NamedFailures::lines_of_play, crate::proofs::PlayedFiles::file_played))]
+#[tactic(auto, using(crate::proofs::NamedFailures::events_of_play, crate::proofs::PlayedFiles::file_played))]
 fn show_again<'a, F: Files, W: Write>(
     alloc: Global,
     code: &[u8],
@@ -124,7 +123,6 @@ fn show_again<'a, F: Files, W: Write>(
 }
 
 /// Prints why a code is not played over events that have this fault.
-#[tactic(auto, using(crate::proofs::NamedFailures::code_of_play, crate::proofs::NamedFailures::events_of_play, crate::proofs::NamedFailures::out_of_play, crate::proofs::NamedFailures::lines_of_play))]
 fn show_refused<'a, F: Files, W: Write>(
     alloc: Global,
     code: &[u8],
@@ -144,12 +142,17 @@ fn show_refused<'a, F: Files, W: Write>(
 }
 
 /// Why a code is not played from a start over events that have this fault.
-fn refusal_of(alloc: Global, code: &[u8], fault: EventFault, start: StartOptions) -> FileRunFault {
+pub(crate) fn refusal_of(
+    alloc: Global,
+    code: &[u8],
+    fault: EventFault,
+    start: StartOptions,
+) -> FileRunFault {
     FileRunFault::Run(refuse(alloc, code, fault, start))
 }
 
 /// Plays a code over events that are kept, and prints how it ended.
-#[tactic(auto, using(crate::proofs::NamedFailures::code_of_play, crate::proofs::NamedFailures::events_of_play, crate::proofs::NamedFailures::out_of_play, crate::proofs::NamedFailures::lines_of_play, crate::proofs::PlayedFiles::file_played))]
+#[tactic(auto, using(crate::proofs::NamedFailures::events_of_play, crate::proofs::PlayedFiles::file_played))]
 fn show_kept<'a, F: Files, W: Write>(
     alloc: Global,
     code: &[u8],
@@ -180,7 +183,7 @@ fn show_kept<'a, F: Files, W: Write>(
 }
 
 /// Creates the file of a playback that wrote no byte, unless its events could not be read, and prints how it ended.
-#[tactic(auto, using(crate::proofs::NamedFailures::code_of_play, crate::proofs::NamedFailures::events_of_play, crate::proofs::NamedFailures::out_of_play, crate::proofs::NamedFailures::lines_of_play, console::proofs::Worlds::stays_but, crate::proofs::PlayedFiles::touched_but, crate::proofs::PlayedFiles::same_stays))]
+#[tactic(auto, using(crate::proofs::NamedFailures::out_of_play, console::proofs::Worlds::stays_but, crate::proofs::PlayedFiles::touched_but, crate::proofs::PlayedFiles::same_stays))]
 fn end_play<'a, F: Files, W: Write>(
     ended: Result<u128, FileRunFault>,
     creation: Creation,
@@ -216,55 +219,6 @@ fn end_play<'a, F: Files, W: Write>(
     }
 }
 
-/// Runs `play` with standard output in place of the file: the frames go to `out`, and the line to `lines`.
-pub fn stream_play<'a, F: Files, W: Write, L: Write>(
-    alloc: Global,
-    request: &PlayRequest<'a>,
-    files: &mut F,
-    out: &mut W,
-    lines: &mut L,
-) -> Result<Status, Failure<'a>> {
-    let code = read_code(alloc, files, request.code)?;
-    let ended = match examine_event_file(files, request.events)? {
-        FirstReading::InParts => {
-            let events = open_events(files, request.events)?;
-            stream_again(alloc, code.as_slice(), events, request.start, out)
-        }
-        FirstReading::Refused(fault) => {
-            Err(refusal_of(alloc, code.as_slice(), fault, request.start))
-        }
-        FirstReading::Unparted => {
-            let events = read_event_text(alloc, files, request.events)?;
-            stream_text(alloc, code.as_slice(), events.as_str(), request.start, out)
-        }
-    };
-    print_ending(ended, request.events, lines)
-}
-
-/// Plays a code over the text of a reader, from this start, to this output.
-fn stream_again<R: Read + Drop, W: Write>(
-    alloc: Global,
-    code: &[u8],
-    events: R,
-    start: StartOptions,
-    out: &mut W,
-) -> Result<u128, FileRunFault> {
-    let (ended, _sink) = run_again(alloc, code, events, start, Writer::new(out));
-    ended
-}
-
-/// Plays a code over a text, from this start, to this output.
-fn stream_text<W: Write>(
-    alloc: Global,
-    code: &[u8],
-    events: &str,
-    start: StartOptions,
-    out: &mut W,
-) -> Result<u128, FileRunFault> {
-    let (ended, _sink) = run_into(alloc, code, events, start, Writer::new(out));
-    of_text(ended)
-}
-
 /// Whether the events could not be read again for the first frame: then it is as if they were not read at all.
 fn is_unread(ended: Result<u128, FileRunFault>) -> bool
     ensures { result ≡ true → (frames : ℕ) → ended ≡ Ok frames → ⊥ }
@@ -294,8 +248,8 @@ fn create_or_touch<'a, F: Files>(
 }
 
 /// Prints the number of frames played, or why playback failed.
-#[tactic(auto, using(crate::proofs::NamedFailures::code_of_play, crate::proofs::NamedFailures::events_of_play, crate::proofs::NamedFailures::out_of_play, crate::proofs::NamedFailures::lines_of_play))]
-fn print_ending<'a, W: Write>(
+#[tactic(auto, using(crate::proofs::NamedFailures::events_of_play, crate::proofs::NamedFailures::lines_of_play))]
+pub(crate) fn print_ending<'a, W: Write>(
     ended: Result<u128, FileRunFault>,
     events: &'a str,
     out: &mut W,
@@ -330,11 +284,10 @@ fn print_ending<'a, W: Write>(
 }
 
 /// Prints why a playback failed.
-#[tactic(auto, using(crate::proofs::NamedFailures::code_of_play, crate::proofs::NamedFailures::events_of_play, crate::proofs::NamedFailures::out_of_play, crate::proofs::NamedFailures::lines_of_play))]
 fn print_fault<'a, W: Write>(fault: RunFault, out: &mut W) -> Result<Status, Failure<'a>>
     ensures refused { IfOk result (λ status. status ≢ PlayedToEnd) }
-    ensures cut { IfOk result (λ status. CutsShort (Run fault) → (frames : ℕ) × (bytes : ℕ)
-        × Appends (W.contents out.old) (W.contents out.new) (write_failed_line frames bytes)) }
+    ensures cut { IfOk result (λ status. (events : List ℕ) → CutsShort (Run fault)
+        → PrintsCut events (Run fault) (W.contents out.old) (W.contents out.new)) }
     ensures named { IfErr result (λ failure. (code events out : List ℕ)
         → IsPlayFailure code events out failure) }
 {
@@ -358,11 +311,11 @@ fn lacks_memory(fault: &RunFault) -> bool
 }
 
 /// Prints the line of a fault.
-#[tactic(auto, using(crate::proofs::NamedFailures::code_of_play, crate::proofs::NamedFailures::events_of_play, crate::proofs::NamedFailures::out_of_play, crate::proofs::NamedFailures::lines_of_play))]
+#[tactic(auto, using(crate::proofs::NamedFailures::lines_of_play))]
 fn print_line<'a, W: Write>(fault: &RunFault, out: &mut W) -> Result<Status, Failure<'a>>
     ensures refused { IfOk result (λ status. status ≢ PlayedToEnd) }
-    ensures line { IfOk result (λ status. IsWriteFault fault.now → (frames : ℕ) × (bytes : ℕ)
-        × Appends (W.contents out.old) (W.contents out.new) (write_failed_line frames bytes)) }
+    ensures line { IfOk result (λ status. (events : List ℕ) → IsWriteFault fault.now
+        → PrintsCut events (Run fault.now) (W.contents out.old) (W.contents out.new)) }
     ensures named { IfErr result (λ failure. (code events out : List ℕ)
         → IsPlayFailure code events out failure) }
 {

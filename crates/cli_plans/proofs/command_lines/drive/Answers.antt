@@ -7,7 +7,7 @@ use Rattle.plan_debug.specs.declared.report.Report.{Report}
 use Rattle.plan_debug.specs.Commands.{Debugging}
 use Rattle.cli_plans.specs.Transcript.{report_lines, shown_lines}
 use Rattle.cli_plans.proofs.Transcripts.{transcript_more}
-use Rattle.cli_plans.proofs.debug.drive.Goals as goal
+use Rattle.cli_plans.proofs.command_lines.drive.Goals as goal
 
 pub loop-command-preserved : goal.loop-command-preserved
 loop-command-preserved g c = λ all lists.

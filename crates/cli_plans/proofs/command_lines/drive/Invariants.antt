@@ -4,7 +4,7 @@ use Rattle.script_tokens.specs.Scanning.{bytes_left}
 use Rattle.plan_session.specs.declared.command.Command.{Command}
 use Rattle.plan_session.specs.Listing.{ListsCommands}
 use Rattle.cli_plans.specs.Transcript.{Transcript}
-use Rattle.cli_plans.proofs.debug.drive.Given as goal
+use Rattle.cli_plans.proofs.command_lines.drive.Given as goal
 
 -- the lines of the commands so far
 abbrev pub invariant-loop-command : goal.invariant-loop-command

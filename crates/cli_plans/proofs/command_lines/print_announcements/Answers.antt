@@ -3,7 +3,7 @@ use Rattle.std.specs.Io.KnownBytes.{Appends}
 use Rattle.std.proofs.KnownBytes.{Appends-trans}
 use Rattle.cli_plans.specs.Transcript.{announcement_line}
 use Rattle.cli_plans.proofs.Transcripts.{lines_more}
-use Rattle.cli_plans.proofs.debug.print_announcements.Goals as goal
+use Rattle.cli_plans.proofs.command_lines.print_announcements.Goals as goal
 
 pub loop-announcement-preserved : goal.loop-announcement-preserved
 loop-announcement-preserved g c =

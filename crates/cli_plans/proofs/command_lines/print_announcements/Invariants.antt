@@ -2,7 +2,7 @@ use Rattle.std.proofs.Common.{◌-◌, length, take}
 use Rattle.std.specs.List.{flat_map}
 use Rattle.std.specs.Io.KnownBytes.{Appends}
 use Rattle.cli_plans.specs.Transcript.{announcement_line}
-use Rattle.cli_plans.proofs.debug.print_announcements.Given as goal
+use Rattle.cli_plans.proofs.command_lines.print_announcements.Given as goal
 
 -- the lines of the announcements so far
 abbrev pub invariant-loop-announcement : goal.invariant-loop-announcement

@@ -1,7 +1,7 @@
 use Rattle.std.proofs.KnownBytes.{Appends-trans}
 use Rattle.plan_debug.specs.Commands.{Answers}
 use Rattle.std.proofs.lemmas.Result.{on_ok_weaker}
-use Rattle.cli_plans.proofs.debug.run_command.Goals as goal
+use Rattle.cli_plans.proofs.command_lines.run_command.Goals as goal
 
 pub returns : goal.returns
 returns g c =
