@@ -21,7 +21,7 @@ use Rattle.cli_plans.proofs.PlayedFiles.{read_code_is}
 
 -- ---- faults
 
-cut_again : (p : Playing) (events : List Event) (x y : Option (List ℕ)) (fault : FileRunFault) → DeliversAgain p events x y (Err fault) → CutsShort fault
+pub cut_again : (p : Playing) (events : List Event) (x y : Option (List ℕ)) (fault : FileRunFault) → DeliversAgain p events x y (Err fault) → CutsShort fault
 cut_again p events x y (Run (Code fault)) h = h
 cut_again p events x y (Run (Refused pc line cause)) h = h
 cut_again p events x y (Run (Start fault)) h = h
@@ -54,7 +54,7 @@ again_cut {O} contents code start left before first taken (Ok n) delivers none =
 again_cut {O} contents code start left before first taken (Err e) delivers none = λ w text p steps known read fits parts plays.
     cut_again p (events_of steps) (taken_in contents before first) taken e (delivers text p steps read fits parts plays (none_taken contents before w first known none))
 
-kept_playback : (code whole kept : List ℕ) (start : StartOptions) (p : Playing) (steps : List Step) → KeptTextsHaveSameResult → IsKeptOf whole kept → IsPlayback (asked_from code whole start) p steps → IsPlayback (asked_from code kept start) p steps
+pub kept_playback : (code whole kept : List ℕ) (start : StartOptions) (p : Playing) (steps : List Step) → KeptTextsHaveSameResult → IsKeptOf whole kept → IsPlayback (asked_from code whole start) p steps → IsPlayback (asked_from code kept start) p steps
 kept_playback code whole kept start p steps law of plays =
     record { ready = record { file = plays.ready.file; start = plays.ready.start }; begins = plays.begins; holds = ((law whole kept of).steps steps).1 plays.holds }
 

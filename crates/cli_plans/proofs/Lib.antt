@@ -9,6 +9,10 @@ mod Played
 mod PlayedFiles
 mod SameFiles
 mod ShownSessions
+mod StreamedPlays
+mod StreamedRuns
+mod TakenSince
 mod Transcripts
 mod VectorsOfLive
 mod VectorsOfPlaying
+mod VectorsOfStreams

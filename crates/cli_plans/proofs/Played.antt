@@ -72,7 +72,7 @@ again_in_file {O} contents path code text count day contacts left before after f
     ends_in_file contents path (asked code text count day contacts) before after file n creation played.p played.steps plays played.counted
     (λ known. (delivers played.p played.steps plays known).1) done due stays
 
-whole_playback : (code whole kept : List ℕ) (count day : ℕ) (contacts : Contacts) (p : Playing) (steps : List Step) → KeptTextsHaveSameResult → IsKeptOf whole kept
+pub whole_playback : (code whole kept : List ℕ) (count day : ℕ) (contacts : Contacts) (p : Playing) (steps : List Step) → KeptTextsHaveSameResult → IsKeptOf whole kept
     → IsPlayback (asked code kept count day contacts) p steps → IsPlayback (asked code whole count day contacts) p steps
 whole_playback code whole kept count day contacts p steps law of plays =
     record { ready = record { file = plays.ready.file; start = plays.ready.start }; begins = plays.begins; holds = ((law whole kept of).steps steps).0 plays.holds }

@@ -2,5 +2,6 @@ pub mod FileTranscript
 pub mod LateFiles
 pub mod LiveEnding
 pub mod PlayFiles
+pub mod PlayStreams
 pub mod RefusedTexts
 pub mod Transcript

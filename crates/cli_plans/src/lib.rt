@@ -11,4 +11,5 @@ pub mod live;
 mod part_debugging;
 pub mod play;
 mod standard_error;
+mod streamed_out;
 mod streaming;
