@@ -16,7 +16,7 @@ use Rattle.plan_explain.specs.declared.past.Found.{Found}
 use Rattle.plan_explain.specs.declared.past.Latest.{Latest}
 use Rattle.plan_explain.specs.declared.sought.Member.{Member}
 use Rattle.plan_explain.specs.declared.sought.Sought.{Sought}
-use Rattle.plan_explain.specs.declared.sought.Sought.TheVariants.{Adding, Dropping, Committing}
+use Rattle.plan_explain.specs.declared.sought.Sought.TheVariants.{Adding, Dropping, Changing, Committing}
 use Rattle.plan_explain.specs.Paths.{paths, paths_after}
 use Rattle.plan_explain.specs.Deeds.{does, undoes, last_line, last_lines}
 use Rattle.plan_explain.specs.Since.{IsSummary, IsFound, AreFound, IsAt, line_in, said, told, considered, silent, lines_at, line_at, AreDifferent}
@@ -136,6 +136,7 @@ after_meeting sought one other older f is = subst (λ ys. IsFound ys f) (sym (fl
 pub done_alone : (sought : Sought) (line : ℕ) (f : Found) → line_in f ≡ Some line → f.is_split ≡ false → IsFound (considered sought (Some line)) (Some f)
 done_alone (Adding m) line f e s = subst (λ o. IsSummary (o ∷ []) f) e (single f s)
 done_alone (Dropping m) line f e s = subst (λ o. IsSummary (o ∷ []) f) e (single f s)
+done_alone (Changing m) line f e s = subst (λ o. IsSummary (o ∷ []) f) e (single f s)
 done_alone Committing line f e s = subst (λ o. IsSummary (o ∷ []) f) e (single f s)
 
 -- ---- all steps
@@ -200,6 +201,10 @@ told_adding m (o ∷ lines) = ap (λ ls. o ∷ ls) (told_adding m lines)
 pub told_dropping : (m : Member) (lines : List (Option ℕ)) → told (Dropping m) lines ≡ lines
 told_dropping m [] = refl
 told_dropping m (o ∷ lines) = ap (λ ls. o ∷ ls) (told_dropping m lines)
+
+pub told_changing : (m : Member) (lines : List (Option ℕ)) → told (Changing m) lines ≡ lines
+told_changing m [] = refl
+told_changing m (o ∷ lines) = ap (λ ls. o ∷ ls) (told_changing m lines)
 
 -- of a commit only those with a pending swap have
 pub silent_all : (lines : List (Option ℕ)) → told Committing lines ≡ [] → AllByRecursion (λ o. o ≡ None) lines

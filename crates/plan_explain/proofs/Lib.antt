@@ -12,3 +12,9 @@ mod Sharing
 pub mod Vectors
 pub mod VectorsPaths
 mod Walks
+mod Passing
+mod Turns
+mod Trees
+mod Walking
+mod OnWays
+pub mod VectorsOfWays

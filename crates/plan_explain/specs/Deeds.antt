@@ -1,5 +1,5 @@
 -- What an executed statement does to the objects of a configuration, and to the swap.
-use Rattle.std.specs.Prelude.{ℕ, ◌&&◌, Bool, true, false, if◌then◌else◌, List, [], ◌∷◌, map, Option, Some, None}
+use Rattle.std.specs.Prelude.{ℕ, ◌&&◌, ◌||◌, Bool, true, false, if◌then◌else◌, List, [], ◌∷◌, map, Option, Some, None}
 use Rattle.mux_types.specs.declared.parts.Carrier.TheVariants.{Sub as BySub, Packet as ByPacket}
 use Rattle.mux_types.specs.Configuration.{carrier_of}
 use Rattle.mux_types.specs.Sameness.{is_same_carrier, is_same_sid}
@@ -11,7 +11,8 @@ use Rattle.plan_explain.specs.declared.history.Deed.{Deed}
 use Rattle.plan_explain.specs.declared.sought.Member.{Member}
 use Rattle.plan_explain.specs.declared.sought.Member.TheVariants.{Carried, Service, Component}
 use Rattle.plan_explain.specs.declared.sought.Sought.{Sought}
-use Rattle.plan_explain.specs.declared.sought.Sought.TheVariants.{Adding, Dropping, Committing}
+use Rattle.plan_explain.specs.declared.sought.Sought.TheVariants.{Adding, Dropping, Changing, Committing}
+use Rattle.plan_explain.specs.Ways.{Way}
 
 -- ---- objects
 
@@ -39,6 +40,19 @@ dropped_by (RateSub id kbits) = None
 dropped_by (AddService sid) = None
 dropped_by (AddComponent sid m) = None
 dropped_by (AddPacket p) = None
+
+-- a sub-channel that is moved, or gets another rate
+abbrev pub changed_by : Edit → Option Member
+changed_by (MoveSub id start) = Some (Carried (BySub id))
+changed_by (RateSub id kbits) = Some (Carried (BySub id))
+changed_by (AddSub s) = None
+changed_by (DropSub id) = None
+changed_by (AddService sid) = None
+changed_by (DropService sid) = None
+changed_by (AddComponent sid m) = None
+changed_by (DropComponent sid carrier) = None
+changed_by (AddPacket p) = None
+changed_by (DropPacket scid) = None
 
 abbrev pub is_same_member : Member → Member → Bool
 is_same_member (Carried a) (Carried b) = is_same_carrier a b
@@ -80,22 +94,31 @@ abbrev pub dropped_in : Instr → Option Member
 dropped_in (Edits edit) = dropped_by edit
 dropped_in _ = None
 
+abbrev pub changed_in : Instr → Option Member
+changed_in (Edits edit) = changed_by edit
+changed_in _ = None
+
 abbrev pub added : Deed → Option Member
 added d = added_in d.instr
 
 abbrev pub dropped : Deed → Option Member
 dropped d = dropped_in d.instr
 
+abbrev pub changed : Deed → Option Member
+changed d = changed_in d.instr
+
 -- ---- what is sought among the statements of a path
 
 abbrev pub does : Sought → Deed → Bool
 does (Adding m) d = is_member m (added d)
 does (Dropping m) d = is_member m (dropped d)
+does (Changing m) d = is_member m (changed d)
 does Committing d = commits d.instr
 
 abbrev pub undoes : Sought → Deed → Bool
 undoes (Adding m) d = is_member m (dropped d)
 undoes (Dropping m) d = is_member m (added d)
+undoes (Changing m) d = is_member m (added d) || is_member m (dropped d)
 undoes Committing d = d.is_idle
 
 -- the line of the last statement on a path, the last one first, that did it, unless that was undone since
@@ -107,3 +130,23 @@ last_line sought (d ∷ path) =
 -- that line on each of some paths
 abbrev pub last_lines : Sought → List (List Deed) → List (Option ℕ)
 last_lines sought paths = map (last_line sought) paths
+
+-- ---- the same of an object, on a way
+
+abbrev pub last_done : (Instr → Bool) → (Instr → Bool) → Way → Option ℕ
+last_done does undoes [] = None
+last_done does undoes (e ∷ way) =
+    if does e.instr then Some e.line else (if undoes e.instr then None else last_done does undoes way)
+
+-- the line of the last statement that added it, unless it was dropped since
+abbrev pub last_added : Member → Way → Option ℕ
+last_added m way = last_done (λ i. is_member m (added_in i)) (λ i. is_member m (dropped_in i)) way
+
+-- of the last one that dropped it, unless it was added since
+abbrev pub last_dropped : Member → Way → Option ℕ
+last_dropped m way = last_done (λ i. is_member m (dropped_in i)) (λ i. is_member m (added_in i)) way
+
+-- of the last one that moved it or changed its rate, unless it was added or dropped since
+abbrev pub last_changed : Member → Way → Option ℕ
+last_changed m way =
+    last_done (λ i. is_member m (changed_in i)) (λ i. is_member m (added_in i) || is_member m (dropped_in i)) way

@@ -11,3 +11,7 @@ pub mod Overlaps
 pub mod Paths
 pub mod Deeds
 pub mod Since
+pub mod Ways
+pub mod Control
+pub mod Walked
+pub mod Openings

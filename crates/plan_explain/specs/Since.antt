@@ -4,7 +4,7 @@ use Rattle.std.specs.List.{AllByRecursion, flat_map}
 use Rattle.plan_explain.specs.declared.history.Deed.{Deed}
 use Rattle.plan_explain.specs.declared.history.Step.{Step}
 use Rattle.plan_explain.specs.declared.sought.Sought.{Sought}
-use Rattle.plan_explain.specs.declared.sought.Sought.TheVariants.{Adding, Dropping, Committing}
+use Rattle.plan_explain.specs.declared.sought.Sought.TheVariants.{Adding, Dropping, Changing, Committing}
 use Rattle.plan_explain.specs.declared.past.Since.{Since}
 use Rattle.plan_explain.specs.declared.past.Since.TheVariants.{Never, Line, OnePath}
 use Rattle.plan_explain.specs.declared.past.PendingSince.{PendingSince}
@@ -36,6 +36,7 @@ IsPendingSince lines (Some p) =
 abbrev pub considered : Sought → Option ℕ → List (Option ℕ)
 considered (Adding m) line = line ∷ []
 considered (Dropping m) line = line ∷ []
+considered (Changing m) line = line ∷ []
 considered Committing None = []
 considered Committing (Some line) = Some line ∷ []
 

@@ -3,7 +3,7 @@
 use crate::edit::{is_there, put_since};
 use crate::names::{end_of, put_carrier, put_packet, put_sid, put_sub, put_units, units_of};
 use crate::overlap::{Overlap, overlap_of};
-use crate::past::Past;
+use crate::past::{Past, Since};
 use crate::sought::Member;
 use mux_config::{
     Carrier, Component, Config, ConfigFault, Packet, Service, Sid, Store, Sub, SubId,
@@ -37,8 +37,8 @@ pub(crate) fn room_for(config: &Config, sub: &Sub) -> Option<u32> {
     None
 }
 
-/// Explains two sub-channels that share capacity units.
-pub(crate) fn explain_overlap<W: Write>(overlap: &Overlap, out: &mut W) -> io::Result<()> {
+/// Writes that two sub-channels share capacity units.
+pub(crate) fn put_overlap<W: Write>(overlap: &Overlap, out: &mut W) -> io::Result<()> {
     let low = overlap.low;
     let high = overlap.high;
     put_sub(&overlap.first, out)?;
@@ -48,7 +48,25 @@ pub(crate) fn explain_overlap<W: Write>(overlap: &Overlap, out: &mut W) -> io::R
     put_sub(&overlap.second, out)?;
     out.write_all(b" has ")?;
     put_units(&overlap.second, out)?;
-    writeln!(out, ": they share CU {low} to {high}")
+    write!(out, ": they share CU {low} to {high}")
+}
+
+/// Writes the line in which a sub-channel was moved or got another rate, if one did that.
+fn put_change<W: Write>(past: Past, sub: &Sub, out: &mut W) -> io::Result<()> {
+    let id = sub.id.get();
+    match past.changed(Member::Carried(Carrier::Sub(sub.id)))? {
+        Since::Never => Ok(()),
+        Since::Line(line) => write!(out, "; line {line} changed sub {id}"),
+        Since::OnePath(line) => write!(out, "; line {line} changed sub {id} on one path"),
+    }
+}
+
+/// Explains two sub-channels that share capacity units, with the lines that changed them.
+fn explain_overlap<W: Write>(overlap: &Overlap, past: Past, out: &mut W) -> io::Result<()> {
+    put_overlap(overlap, out)?;
+    put_change(past, &overlap.first, out)?;
+    put_change(past, &overlap.second, out)?;
+    writeln!(out)
 }
 
 /// Advises on two sub-channels that share capacity units.
@@ -257,7 +275,7 @@ pub(crate) fn explain_config<W: Write>(
 ) -> io::Result<()> {
     match fault {
         ConfigFault::Overlap(first, second) => match overlap_of(config, first, second) {
-            Some(overlap) => explain_overlap(&overlap, out),
+            Some(overlap) => explain_overlap(&overlap, past, out),
             None => writeln!(out, "two sub-channels share capacity units"),
         },
         ConfigFault::Orphan => explain_orphan(config, past, out),

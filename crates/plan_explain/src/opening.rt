@@ -1,5 +1,10 @@
 //! Explains why the opening of a script is refused: its items, and the configuration that they make.
 
+ghost use Rattle.std.specs.Prelude.{◌≡◌, ◌↔◌, [], IfOk, OnOk, IsTrue};
+ghost use Rattle.plan_explain.specs.Paths.{ways_of, IsEnd};
+ghost use Rattle.plan_explain.specs.Ways.{each_with};
+ghost use Rattle.plan_explain.specs.Openings.{of_item, ways_with};
+
 use crate::config::{advise_config, explain_config};
 use crate::edit::{advise_edit, explain_edit};
 use crate::hint_config::try_config;
@@ -31,31 +36,62 @@ pub(crate) struct ItemFaults {
     faults: Vec<ItemFault>,
 }
 
+/// Applies an item, and extends each path by it; or appends its fault, if it has one.
+fn apply_item(
+    item: &Item,
+    config: &mut Config,
+    faults: &mut Vec<ItemFault>,
+    history: &mut History,
+    end: &mut PathEnd,
+) -> Result<(), AllocError>
+    ensures faults { OnOk result (faults.new.items ≡ [] → faults.old.items ≡ []) }
+    ensures ways { OnOk result (faults.new.items ≡ [] → ways_of history.new end.new
+        ≡ each_with (of_item item.now) (ways_of history.old end.old)) }
+    ensures end { OnOk result (IsEnd history.old end.old → IsEnd history.new end.new) }
+{
+    if let Err(fault) = item.edit.apply(config) {
+        let found = ItemFault {
+            line: item.line,
+            edit: item.edit,
+            fault,
+        };
+        return match faults.push(found) {
+            Ok(()) => Ok(()),
+            Err(_full) => Err(AllocError),
+        };
+    }
+    let deed = Deed {
+        line: item.line,
+        instr: Instr::Edit(item.edit),
+        is_idle: true,
+    };
+    match history.extend(*end, &deed) {
+        Ok(next) => {
+            *end = next;
+            Ok(())
+        }
+        Err(error) => Err(error),
+    }
+}
+
 impl ItemFaults {
-    /// Applies items in order, without those that have a fault.
+    /// Applies items in order, without those that have a fault. If none has, each path is extended by all of them.
     pub(crate) fn of(
         alloc: Global,
         items: &[Item],
         history: &mut History,
         end: &mut PathEnd,
-    ) -> Result<ItemFaults, AllocError> {
+    ) -> Result<ItemFaults, AllocError>
+        ensures ways { IfOk result (λ f. f.faults.items ≡ [] → ways_of history.new end.new
+            ≡ ways_with items.now (ways_of history.old end.old)) }
+        ensures end { IsEnd history.old end.old → IfOk result (λ f. IsEnd history.new end.new) }
+    {
         let mut config = Config::new();
         let mut faults = Vec::new(alloc);
         for item in items {
-            if let Err(fault) = item.edit.apply(&mut config) {
-                faults.push(ItemFault {
-                    line: item.line,
-                    edit: item.edit,
-                    fault,
-                })?;
-            } else {
-                let deed = Deed {
-                    line: item.line,
-                    instr: Instr::Edit(item.edit),
-                    is_idle: true,
-                };
-                let next = history.extend(*end, &deed)?;
-                *end = next;
+            match apply_item(item, &mut config, &mut faults, history, end) {
+                Ok(()) => {}
+                Err(error) => return Err(error),
             }
         }
         Ok(ItemFaults { config, faults })
@@ -72,7 +108,9 @@ impl ItemFaults {
     }
 
     /// Whether no item has a fault.
-    pub(crate) fn is_none(&self) -> bool {
+    pub(crate) fn is_none(&self) -> bool
+        ensures { IsTrue result ↔ (self.now.faults.items ≡ []) }
+    {
         self.faults.is_empty()
     }
 }

@@ -1,6 +1,6 @@
 //! The faults of a script's opening beside the first one: each that is there whatever becomes of the others.
 
-use crate::config::{explain_overlap, missing_of, put_orphan, put_orphan_packet};
+use crate::config::{missing_of, put_orphan, put_orphan_packet, put_overlap};
 use crate::edit::{explain_edit, is_there};
 use crate::names::put_sid;
 use crate::opening::ItemFault;
@@ -96,7 +96,8 @@ impl<'a> Others<'a> {
             return Ok(());
         };
         self.put_since(Member::Carried(Carrier::Sub(second)), out)?;
-        explain_overlap(&overlap, out)
+        put_overlap(&overlap, out)?;
+        writeln!(out)
     }
 
     /// Explains the sub-channels that share capacity units with this one, among those after it.

@@ -1,12 +1,12 @@
 //! Which statements did something last, on all paths to a point of a plan.
 
-ghost use Rattle.std.specs.Prelude.{◌≡◌, ◌≢◌, ℕ, ◌++◌, ◌⊎◌, false, true, List, Option, Some, None, IfOk, reverse};
+ghost use Rattle.std.specs.Prelude.{◌≡◌, ◌≢◌, ℕ, ◌++◌, ◌⊎◌, false, true, List, Option, Some, None, IfOk, map, reverse};
 ghost use Rattle.std.specs.List.{flat_map};
 ghost use Rattle.plan_explain.specs.declared.history.Step.{Step};
 ghost use Rattle.plan_explain.specs.declared.history.Step.TheVariants.{Done};
-ghost use Rattle.plan_explain.specs.declared.sought.Sought.TheVariants.{Adding, Dropping, Committing};
-ghost use Rattle.plan_explain.specs.Deeds.{last_lines};
-ghost use Rattle.plan_explain.specs.Paths.{paths_of, paths_after};
+ghost use Rattle.plan_explain.specs.declared.sought.Sought.TheVariants.{Adding, Dropping, Changing, Committing};
+ghost use Rattle.plan_explain.specs.Deeds.{last_lines, last_added, last_dropped, last_changed};
+ghost use Rattle.plan_explain.specs.Paths.{paths_of, ways_of, paths_after};
 ghost use Rattle.plan_explain.specs.Since.{IsSince, IsPendingSince, IsFound, AreFound, line_in, said, silent, lines_at, told};
 
 use crate::history::{Deed, History, PathEnd, Step};
@@ -116,7 +116,7 @@ fn silence(sought: &Sought) -> Option<Found>
 {
     match sought {
         Sought::Committing => None,
-        Sought::Adding(_) | Sought::Dropping(_) => Some(Found {
+        Sought::Adding(_) | Sought::Dropping(_) | Sought::Changing(_) => Some(Found {
             latest: None,
             is_split: false,
         }),
@@ -271,8 +271,10 @@ impl<'a> Past<'a> {
 
     /// The statement that added an object, and none dropped it since.
     pub(crate) fn added(&self, member: Member) -> Result<Since, AllocError>
-        ensures { IfOk result (λ s. IsSince (last_lines (Adding member)
+        ensures paths { IfOk result (λ s. IsSince (last_lines (Adding member)
             (paths_of self.now.history.now self.now.end)) s) }
+        ensures ways { IfOk result (λ s. IsSince (map (last_added member)
+            (ways_of self.now.history.now self.now.end)) s) }
     {
         match self.find(Sought::Adding(member)) {
             Ok(found) => Ok(statement_of(found)),
@@ -282,10 +284,25 @@ impl<'a> Past<'a> {
 
     /// The statement that dropped an object, and none added it since.
     pub(crate) fn dropped(&self, member: Member) -> Result<Since, AllocError>
-        ensures { IfOk result (λ s. IsSince (last_lines (Dropping member)
+        ensures paths { IfOk result (λ s. IsSince (last_lines (Dropping member)
             (paths_of self.now.history.now self.now.end)) s) }
+        ensures ways { IfOk result (λ s. IsSince (map (last_dropped member)
+            (ways_of self.now.history.now self.now.end)) s) }
     {
         match self.find(Sought::Dropping(member)) {
+            Ok(found) => Ok(statement_of(found)),
+            Err(error) => Err(error),
+        }
+    }
+
+    /// The statement that moved a sub-channel or gave it another rate, where none added or dropped it since.
+    pub(crate) fn changed(&self, member: Member) -> Result<Since, AllocError>
+        ensures paths { IfOk result (λ s. IsSince (last_lines (Changing member)
+            (paths_of self.now.history.now self.now.end)) s) }
+        ensures ways { IfOk result (λ s. IsSince (map (last_changed member)
+            (ways_of self.now.history.now self.now.end)) s) }
+    {
+        match self.find(Sought::Changing(member)) {
             Ok(found) => Ok(statement_of(found)),
             Err(error) => Err(error),
         }

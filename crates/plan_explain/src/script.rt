@@ -1,5 +1,12 @@
 //! Explains why a script is not compiled.
 
+ghost use Rattle.std.specs.Prelude.{◌≡◌, None, OnOk, IfOk, IfSome};
+ghost use Rattle.script_compiler.specs.Scheme.{instr_of_act};
+ghost use Rattle.script_compiler.specs.Compiled.{body_of};
+ghost use Rattle.plan_explain.specs.Paths.{ways_of, IsEnd};
+ghost use Rattle.plan_explain.specs.Walked.{ways_at, StopsIn};
+ghost use Rattle.plan_explain.specs.Openings.{opening_ways};
+
 use crate::cause::{Refused, advise_instr, explain_instr};
 use crate::cost::{advise_costs, costs_of, explain_costs, try_costs};
 use crate::hint_loop::try_loop;
@@ -35,12 +42,19 @@ pub(crate) struct PlanPath {
     stop: Option<Stop>,
 }
 
-/// Walks through a script up to the first refusal.
-fn path_to(alloc: Global, script: &Script) -> Result<PlanPath, AllocError> {
+/// Walks through a script up to the first refusal. A statement at which it stops is at a place of the script to which
+/// the paths of its history are the ways.
+fn path_to(alloc: Global, script: &Script) -> Result<PlanPath, AllocError>
+    ensures { IfOk result (λ p. IfSome p.stop (λ s. StopsIn script.now.header (body_of script.now)
+        (opening_ways script.now) s p.walk)) }
+{
     let plan = script.header();
     let mut history = History::new(alloc);
     let mut end = PathEnd::start();
-    let items = ItemFaults::of(alloc, script.items(), &mut history, &mut end)?;
+    let items = match ItemFaults::of(alloc, script.items(), &mut history, &mut end) {
+        Ok(items) => items,
+        Err(error) => return Err(error),
+    };
     let mut opening = None;
     if items.is_none() {
         if let Err(cause) = test_opening(&plan, items.config()) {
@@ -54,14 +68,22 @@ fn path_to(alloc: Global, script: &Script) -> Result<PlanPath, AllocError> {
         opening,
         stop: None,
     };
-    if path_taken.items.is_none() && path_taken.opening.is_none() {
-        extend(&plan, script, &mut path_taken)?;
+    if !path_taken.items.is_none() || path_taken.opening.is_some() {
+        return Ok(path_taken);
     }
-    Ok(path_taken)
+    match extend(&plan, script, &mut path_taken) {
+        Ok(()) => Ok(path_taken),
+        Err(error) => Err(error),
+    }
 }
 
 /// Walks from the opening of a script to the first refusal.
-fn extend(plan: &Plan, script: &Script, path_taken: &mut PlanPath) -> Result<(), AllocError> {
+fn extend(plan: &Plan, script: &Script, path_taken: &mut PlanPath) -> Result<(), AllocError>
+    requires end { let w = path_taken.old.walk in IsEnd w.history w.state.end }
+    requires stop { path_taken.old.stop ≡ None }
+    ensures { OnOk result (IfSome path_taken.new.stop (λ s. StopsIn plan.now (body_of script.now)
+        (ways_at path_taken.old.walk) s path_taken.new.walk)) }
+{
     match path_taken
         .walk
         .whole(plan, script.blocks(), script.statements())
@@ -72,6 +94,21 @@ fn extend(plan: &Plan, script: &Script, path_taken: &mut PlanPath) -> Result<(),
             path_taken.stop = Some(stop);
             Ok(())
         }
+    }
+}
+
+/// A refused statement without a block, at which the walk stops.
+fn refused_by<'x>(plan: &'x Plan, walk: &'x Walk, act: Act, cause: Cause) -> Refused<'x>
+    ensures flow { result.flow.now ≡ walk.now.state.flow }
+    ensures ways { ways_of result.past.history.now result.past.end ≡ ways_at walk.now }
+    ensures instr { result.instr ≡ instr_of_act act }
+{
+    Refused {
+        plan,
+        flow: &walk.state.flow,
+        past: walk.past(),
+        instr: instr_of(act),
+        cause,
     }
 }
 
@@ -185,13 +222,7 @@ fn explain_stop<'x, W: Write>(
 ) -> io::Result<()> {
     match stop {
         Stop::Act { line, act, cause } => {
-            let refused = Refused {
-                plan,
-                flow: &walk.state.flow,
-                past: walk.past(),
-                instr: instr_of(*act),
-                cause: *cause,
-            };
+            let refused = refused_by(plan, walk, *act, *cause);
             explain_act(trier, &refused, *line, act, out)
         }
         Stop::Loop { line } => explain_loop_at(trier, plan, walk, *line, out),

@@ -1,7 +1,7 @@
 //! What statements do to the objects of a configuration, and to the swap.
 
 ghost use Rattle.std.specs.Prelude.{◌≡◌};
-ghost use Rattle.plan_explain.specs.Deeds.{added_by, dropped_by, is_same_member, is_member, commits, added, dropped, does, undoes};
+ghost use Rattle.plan_explain.specs.Deeds.{added_by, dropped_by, changed_by, is_same_member, is_member, commits, added, dropped, changed, does, undoes};
 
 use crate::history::Deed;
 use mux_config::{Carrier, Edit, Sid};
@@ -95,6 +95,24 @@ fn dropped_by(edit: &Edit) -> Option<Member>
     }
 }
 
+/// The sub-channel that an edit moves, or gives another rate.
+fn changed_by(edit: &Edit) -> Option<Member>
+    ensures { result ≡ changed_by edit.now }
+{
+    match *edit {
+        Edit::MoveSub { id, .. } => Some(Member::Carried(Carrier::Sub(id))),
+        Edit::RateSub { id, .. } => Some(Member::Carried(Carrier::Sub(id))),
+        Edit::AddSub(_) => None,
+        Edit::DropSub(_) => None,
+        Edit::AddService(_) => None,
+        Edit::DropService(_) => None,
+        Edit::AddComponent { .. } => None,
+        Edit::DropComponent { .. } => None,
+        Edit::AddPacket(_) => None,
+        Edit::DropPacket(_) => None,
+    }
+}
+
 /// Whether an instruction commits the next configuration.
 fn commits(instr: &Instr) -> bool
     ensures { result ≡ commits instr.now }
@@ -123,6 +141,8 @@ pub(crate) enum Sought {
     Adding(Member),
     /// The one that dropped this object; adding it undoes that.
     Dropping(Member),
+    /// The one that moved this sub-channel, or gave it another rate; adding or dropping it undoes that.
+    Changing(Member),
     /// The commit of a swap that is or may be pending; it is undone where no swap is pending any more.
     Committing,
 }
@@ -135,6 +155,7 @@ impl Sought {
         match self {
             Sought::Adding(member) => member.is(&deed.added()),
             Sought::Dropping(member) => member.is(&deed.dropped()),
+            Sought::Changing(member) => member.is(&deed.changed()),
             Sought::Committing => commits(&deed.instr),
         }
     }
@@ -146,6 +167,7 @@ impl Sought {
         match self {
             Sought::Adding(member) => member.is(&deed.dropped()),
             Sought::Dropping(member) => member.is(&deed.added()),
+            Sought::Changing(member) => { member.is(&deed.added()) || member.is(&deed.dropped()) }
             Sought::Committing => deed.is_idle,
         }
     }
@@ -168,6 +190,15 @@ impl Deed {
     {
         match self.instr {
             Instr::Edit(edit) => dropped_by(&edit),
+            _ => None,
+        }
+    }
+    /// The sub-channel that it moves, or gives another rate.
+    fn changed(&self) -> Option<Member>
+        ensures { result ≡ changed self.now }
+    {
+        match self.instr {
+            Instr::Edit(edit) => changed_by(&edit),
             _ => None,
         }
     }

@@ -1,5 +1,11 @@
 //! Walks through a script up to the refused statement, with the transfer function of plans.
 
+ghost use Rattle.std.specs.Prelude.{◌≡◌, [], ℕ, List, true, false};
+ghost use Rattle.script_front.specs.Block.{Block, nothing, basic, when, either, repeat, forever, before, block_of};
+ghost use Rattle.script_compiler.specs.Emission.{tables};
+ghost use Rattle.plan_explain.specs.Paths.{paths_of, IsEnd};
+ghost use Rattle.plan_explain.specs.Walked.{IsLine, Walks};
+
 use crate::history::History;
 use crate::past::Past;
 use crate::state::PathState;
@@ -60,7 +66,7 @@ pub(crate) struct Walk {
     /// The steps of all paths so far.
     pub(crate) history: History,
     /// What is known at the entry of each enclosing loop or branch, or at the end of its first branch.
-    saved: Vec<PathState>,
+    pub(crate) saved: Vec<PathState>,
     /// The other path, where two can't be merged: the beginning of a loop, or the path past an `if` or through its
     /// first block.
     pub(crate) other: Option<PathState>,
@@ -69,7 +75,9 @@ pub(crate) struct Walk {
 }
 
 /// The line of a statement's first token.
-fn line_of(statement: &Statement) -> u16 {
+fn line_of(statement: &Statement) -> u16
+    ensures { (table : List Block) (rest : Block) → IsLine (before table statement.now rest) result }
+{
     match statement {
         Statement::Act { line, .. } => *line,
         Statement::End { line } => *line,
@@ -97,7 +105,11 @@ impl Walk {
     }
 
     /// The start of a walk.
-    pub(crate) fn new(alloc: Global, state: PathState, history: History) -> Walk {
+    pub(crate) fn new(alloc: Global, state: PathState, history: History) -> Walk
+        ensures state { result.state ≡ state }
+        ensures history { result.history ≡ history }
+        ensures saved { result.saved.items ≡ [] }
+    {
         Walk {
             state,
             history,
@@ -108,69 +120,29 @@ impl Walk {
     }
 
     /// What was executed on the path so far.
-    pub(crate) fn past(&self) -> Past {
+    pub(crate) fn past(&self) -> Past
+        ensures { paths_of result.history.now result.end
+            ≡ paths_of self.now.history self.now.state.end }
+    {
         Past::new(&self.history, self.state.end)
     }
 
-    /// Executes one instruction; if refused, nothing changes.
-    fn step(&mut self, plan: &Plan, line: u16, act: &Act) -> Result<(), Stop> {
+    /// Executes one instruction; if refused, nothing changes. Returns true: control reaches what follows.
+    fn step(&mut self, plan: &Plan, line: u16, act: &Act) -> Result<bool, Stop>
+        requires end { IsEnd self.old.history self.old.state.end }
+        ensures { (rest : Block) → Walks plan.now (basic line act.now rest) rest
+            self.old self.new result }
+    {
         let instr = instr_of(*act);
-        let Some(cause) = self.state.pass(plan, &mut self.history, line, &instr)? else {
-            return Ok(());
-        };
-        Err(Stop::Act {
-            line,
-            act: *act,
-            cause,
-        })
-    }
-
-    /// Saves what is known here.
-    fn save(&mut self) -> Result<(), Stop> {
-        let kept = self.state.copied();
-        match self.saved.push(kept) {
-            Ok(()) => Ok(()),
+        match self.state.pass(plan, &mut self.history, line, &instr) {
+            Ok(None) => Ok(true),
+            Ok(Some(cause)) => Err(Stop::Act {
+                line,
+                act: *act,
+                cause,
+            }),
             Err(_full) => Err(Stop::Memory),
         }
-    }
-
-    /// Removes and returns what was saved last.
-    fn restore(&mut self) -> Result<PathState, Stop> {
-        match self.saved.pop() {
-            Some(saved) => Ok(saved),
-            None => Err(Stop::Long),
-        }
-    }
-
-    /// Merges this path with another one; this one may be unreachable.
-    fn join(&mut self, falls: bool, line: u16, other: PathState) -> Result<(), Stop> {
-        if !falls {
-            self.state = other;
-            return Ok(());
-        }
-        if self.state.meet(&mut self.history, &other)? {
-            return Ok(());
-        }
-        self.other = Some(other);
-        Err(Stop::Ways { line })
-    }
-
-    /// Ends a loop, whose entry was saved.
-    fn close_loop(&mut self, falls: bool, line: u16) -> Result<(), Stop> {
-        let entry = self.restore()?;
-        if !falls {
-            return Ok(());
-        }
-        let beginning = &entry.flow;
-        if self
-            .state
-            .flow
-            .fits(&beginning.current, &beginning.next, beginning.pending)
-        {
-            return Ok(());
-        }
-        self.other = Some(entry);
-        Err(Stop::Loop { line })
     }
 
     /// Walks through the statements after `begin`; returns whether control reaches their end.
@@ -179,7 +151,11 @@ impl Walk {
         plan: &Plan,
         blocks: &[Vec<Statement>],
         statements: &[Statement],
-    ) -> Result<bool, Stop> {
+    ) -> Result<bool, Stop>
+        requires end { IsEnd self.old.history self.old.state.end }
+        ensures { Walks plan.now (block_of (tables blocks.now) statements.now) nothing
+            self.old self.new result }
+    {
         self.block(plan, blocks, DEEPEST, statements)
     }
 
@@ -191,7 +167,11 @@ impl Walk {
         blocks: &[Vec<Statement>],
         depth: u16,
         statements: &[Statement],
-    ) -> Result<bool, Stop> {
+    ) -> Result<bool, Stop>
+        requires end { IsEnd self.old.history self.old.state.end }
+        ensures { Walks plan.now (block_of (tables blocks.now) statements.now) nothing
+            self.old self.new result }
+    {
         let mut falls = true;
         let mut after = 0u16;
         for statement in statements {
@@ -220,7 +200,11 @@ impl Walk {
         blocks: &[Vec<Statement>],
         depth: u16,
         statement: &Statement,
-    ) -> Result<bool, Stop> {
+    ) -> Result<bool, Stop>
+        requires end { IsEnd self.old.history self.old.state.end }
+        ensures { (rest : Block) → Walks plan.now (before (tables blocks.now) statement.now rest)
+            rest self.old self.new result }
+    {
         if depth == 0 {
             return Err(Stop::Long);
         }
@@ -229,10 +213,7 @@ impl Walk {
         }
         self.left -= 1;
         match statement {
-            Statement::Act { line, act } => match self.step(plan, *line, act) {
-                Ok(()) => Ok(true),
-                Err(stop) => Err(stop),
-            },
+            Statement::Act { line, act } => self.step(plan, *line, act),
             Statement::End { .. } => Ok(false),
             Statement::If { line, first, .. } => self.when(plan, blocks, depth - 1, *line, first),
             Statement::IfElse {
@@ -276,7 +257,12 @@ impl Walk {
         depth: u16,
         line: u16,
         first: &[Statement],
-    ) -> Result<bool, Stop> {
+    ) -> Result<bool, Stop>
+        requires end { IsEnd self.old.history self.old.state.end }
+        ensures { (contact : ℕ) (rest : Block) → Walks plan.now
+            (when line contact (block_of (tables blocks.now) first.now) rest)
+            rest self.old self.new result }
+    {
         if let Err(stop) = self.save() {
             return Err(stop);
         }
@@ -285,13 +271,6 @@ impl Walk {
             Err(stop) => return Err(stop),
         };
         self.close_if(falls, line)
-    }
-
-    /// Ends an `if` without `else`: merges the path through its block, if reachable, with the path past it.
-    fn close_if(&mut self, falls: bool, line: u16) -> Result<bool, Stop> {
-        let entry = self.restore()?;
-        self.join(falls, line, entry)?;
-        Ok(true)
     }
 
     /// An `if` with `else`.
@@ -304,7 +283,12 @@ impl Walk {
         line: u16,
         first: &[Statement],
         second: &[Statement],
-    ) -> Result<bool, Stop> {
+    ) -> Result<bool, Stop>
+        requires end { IsEnd self.old.history self.old.state.end }
+        ensures { (contact : ℕ) (rest : Block) → Walks plan.now
+            (either line contact (block_of (tables blocks.now) first.now)
+            (block_of (tables blocks.now) second.now) rest) rest self.old self.new result }
+    {
         if let Err(stop) = self.save() {
             return Err(stop);
         }
@@ -322,24 +306,6 @@ impl Walk {
         self.close_else(first_falls, second_falls, line)
     }
 
-    /// Ends a first branch: saves what is known there, and begins the second with what was known before both.
-    fn begin_else(&mut self) -> Result<(), Stop> {
-        let entry = self.restore()?;
-        self.save()?;
-        self.state = entry;
-        Ok(())
-    }
-
-    /// Ends a second branch: merges it with the first, if that is reachable.
-    fn close_else(&mut self, first: bool, second: bool, line: u16) -> Result<bool, Stop> {
-        let exit = self.restore()?;
-        if !first {
-            return Ok(second);
-        }
-        self.join(second, line, exit)?;
-        Ok(true)
-    }
-
     /// A loop; `ends` is whether it ends.
     #[cycle(walk)]
     fn iterations(
@@ -350,7 +316,15 @@ impl Walk {
         line: u16,
         body: &[Statement],
         ends: bool,
-    ) -> Result<bool, Stop> {
+    ) -> Result<bool, Stop>
+        requires end { IsEnd self.old.history self.old.state.end }
+        ensures repeats { (times : ℕ) (rest : Block) → ends ≡ true → Walks plan.now
+            (repeat line times (block_of (tables blocks.now) body.now) rest)
+            rest self.old self.new result }
+        ensures endless { (rest : Block) → ends ≡ false → Walks plan.now
+            (forever line (block_of (tables blocks.now) body.now) rest)
+            rest self.old self.new result }
+    {
         if let Err(stop) = self.save() {
             return Err(stop);
         }
@@ -361,6 +335,9 @@ impl Walk {
         if let Err(stop) = self.close_loop(falls, line) {
             return Err(stop);
         }
-        Ok(falls && ends)
+        if !falls {
+            return Ok(false);
+        }
+        Ok(ends)
     }
 }

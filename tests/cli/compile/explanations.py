@@ -163,6 +163,21 @@ def configurations(rows):
          "refused line 10: Config Overlap 1 2",
          "x.plan:10: sub 1 at 0 eep 3-A 128 has CU 0 to 95, sub 2 at 90 eep 3-A 64 has CU 90 to 137: they share CU 90 to 95",
          "hint: write 'sub 2 at 96 eep 3-A 64' in place of 'sub 2 at 90 eep 3-A 64' in line 7; then it is accepted"),
+        (after("sub 2 at 96 eep 3-A 64\nservice C222\naudio 63 sub 2 in C222\nmove sub 2 at 90\ncommit in 250"),
+         "refused line 11: Config Overlap 1 2",
+         "x.plan:11: sub 1 at 0 eep 3-A 128 has CU 0 to 95, sub 2 at 90 eep 3-A 64 has CU 90 to 137: they share CU 90 to 95;"
+         " line 10 changed sub 2",
+         "hint: put 'move sub 2 at 96' before line 11; then it is accepted"),
+        (after("sub 2 at 96 eep 3-A 64\nsub 3 at 144 eep 3-A 64\nrate sub 2 128\ncommit in 250"),
+         "refused line 10: Config Overlap 2 3",
+         "x.plan:10: sub 2 at 96 eep 3-A 128 has CU 96 to 191, sub 3 at 144 eep 3-A 64 has CU 144 to 191: they share CU 144 to"
+         " 191; line 9 changed sub 2",
+         "hint: write 'sub 3 at 192 eep 3-A 64' in place of 'sub 3 at 144 eep 3-A 64' in line 8; then it is accepted"),
+        (after("sub 2 at 96 eep 3-A 64\nif contact 1 {\nmove sub 2 at 90\n} else {\nmove sub 2 at 90\n}\ncommit in 250"),
+         "refused line 13: Config Overlap 1 2",
+         "x.plan:13: sub 1 at 0 eep 3-A 128 has CU 0 to 95, sub 2 at 90 eep 3-A 64 has CU 90 to 137: they share CU 90 to 95;"
+         " line 11 changed sub 2 on one path",
+         "hint: put 'move sub 2 at 96' before line 13; then it is accepted"),
         (after("drop sub 1\ncommit in 250"), "refused line 8: Config Orphan",
          "x.plan:8: service C221 has a component on sub 1, which is not there; line 7 dropped it",
          "hint: put 'drop service C221' before line 8; then it is accepted"),

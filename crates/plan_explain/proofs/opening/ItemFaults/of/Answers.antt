@@ -1,0 +1,19 @@
+use Rattle.std.proofs.Common.{ap, ◌∙◌}
+use Rattle.script_front.specs.declared.tree.Item.{Item}
+use Rattle.plan_explain.specs.Ways.{each_with}
+use Rattle.plan_explain.specs.Paths.{ways_of}
+use Rattle.plan_explain.specs.Openings.{of_item}
+use Rattle.plan_explain.proofs.Walking.{items_step}
+use Rattle.plan_explain.proofs.opening.ItemFaults.of.Goals as goal
+
+pub loop-item-preserved : goal.loop-item-preserved
+loop-item-preserved c =
+    let items = c.args.items.now in
+    let i = c.loop-item.item-index in
+    let ways = ways_of c.loop-item.history c.loop-item.end in
+    record {
+      ways = λ e.
+          items_step items i c.item-item.result ways _ c.loop-item-test.true (c.in-Ok.ensures.ways e ∙ ap (λ (x : Item). each_with (of_item x) ways) c.item-item.is)
+          ∙ c.loop-item.invariant.ways (c.in-Ok.ensures.faults e);
+      end = λ h. c.in-Ok.ensures.end (c.loop-item.invariant.end h);
+    }

@@ -1,0 +1,12 @@
+use Rattle.std.proofs.Common.{◌≡◌, [], drop}
+use Rattle.plan_explain.specs.Paths.{ways_of, IsEnd}
+use Rattle.plan_explain.specs.Openings.{ways_with}
+use Rattle.plan_explain.proofs.opening.ItemFaults.of.Given as goal
+
+-- unless one has a fault, the ways with those so far are on the way to those with all
+abbrev pub invariant-loop-item : goal.invariant-loop-item
+invariant-loop-item l =
+    record {
+      ways : l.faults.items ≡ [] → ways_with (drop l.item-index l.items) (ways_of l.history l.end) ≡ ways_with l.items (ways_of l.initial.history l.initial.end);
+      end : IsEnd l.initial.history l.initial.end → IsEnd l.history l.end;
+    }
