@@ -8,5 +8,7 @@ pub mod Shorter
 mod VectorsOfAnswers
 mod VectorsOfRefusals
 mod VectorsOfRequests
+mod VectorsOfTelling
 mod VectorsOfWords
 pub mod Words
+pub mod Telling

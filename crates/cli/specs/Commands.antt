@@ -27,11 +27,13 @@ use Rattle.cli_scripts.specs.Compiling.{CompilesFile, CompilesStream, KeepsFiles
 use Rattle.cli_scripts.specs.Diffing.{Diffs}
 use Rattle.cli_scripts.specs.FramingScripts.{ShowsScriptFrame}
 use Rattle.cli_scripts.specs.ListenScript.{ShowsScript}
+use Rattle.cli_scripts.specs.Mapping.{KeepsOthers, Maps}
 use Rattle.cli_scripts.specs.Verdict.{Verifies}
 use Rattle.cli_scripts.specs.declared.compile.CompileRequest.{CompileRequest}
 use Rattle.cli_scripts.specs.declared.diff.DiffRequest.{DiffRequest}
 use Rattle.cli_scripts.specs.declared.frame_script.FrameScriptRequest.{FrameScriptRequest}
 use Rattle.cli_scripts.specs.declared.listen_script.ListenScriptRequest.{ListenScriptRequest}
+use Rattle.cli_scripts.specs.declared.map.MapRequest.{MapRequest}
 use Rattle.cli_scripts.specs.declared.verify.VerifyRequest.{VerifyRequest}
 use Rattle.cli_plans.specs.LiveEnding.{BeginsWith, IsLiveEnding, NamesItsFile, WritesLive}
 use Rattle.cli_plans.specs.FileTranscript.{IsDebugFailure, ShowsSession}
@@ -42,6 +44,7 @@ use Rattle.cli_plans.specs.declared.debug.DebugRequest.{DebugRequest}
 use Rattle.cli_plans.specs.declared.live.LiveEnding.{LiveEnding}
 use Rattle.cli_plans.specs.declared.live.LiveRequest.{LiveRequest}
 use Rattle.cli_plans.specs.declared.play.PlayRequest.{PlayRequest}
+use Rattle.cli.specs.Telling.{Tells}
 use Rattle.cli.specs.declared.args.Request.{Request}
 use Rattle.cli.specs.declared.args.Request.TheVariants as requests
 
@@ -144,7 +147,11 @@ RunsDebug r given before after ended =
     × IfErr ended (IsDebugFailure r.code.now r.commands.now)
     × KeepsWorld before after
 
--- of `map` it is not defined yet
+abbrev pub RunsMap : MapRequest → Inputs → Outputs → Outputs → Result Status Failure → Type 0
+RunsMap r given before after ended =
+    IfSome (given.file r.script.now) (λ bytes. Maps bytes r (Prints before after) before.world after.world ended)
+    × Becomes (KeepsOthers r.drawing) before.world after.world
+
 abbrev pub Runs : Request → Inputs → Outputs → Outputs → Result Status Failure → Type 0
 Runs (requests.Frame r) given before after ended = RunsFrame r given before after ended
 Runs (requests.FrameScript r) given before after ended = RunsFrameScript r given before after ended
@@ -156,7 +163,7 @@ Runs (requests.Compile r) given before after ended = RunsCompile r given before 
 Runs (requests.Verify r) given before after ended = RunsVerify r given before after ended
 Runs (requests.Play r) given before after ended = RunsPlay r given before after ended
 Runs (requests.Debug r) given before after ended = RunsDebug r given before after ended
-Runs (requests.Map r) given before after ended = Unit {0}
+Runs (requests.Map r) given before after ended = RunsMap r given before after ended
 
 -- ---- commands that write frames or a code file to standard output
 
@@ -164,14 +171,16 @@ Runs (requests.Map r) given before after ended = Unit {0}
 pub record StreamsCompiled (r : CompileRequest) (given : Inputs) (before after : Outputs) (ended : Result Status Failure) : Type 0 where
   pub lines : Option (List ℕ)
   pub compiles : IfSome (given.file r.script.now) (λ bytes. CompilesStream bytes r (Some []) lines before.printed after.printed ended)
+  pub told : IfSome lines (λ l. Becomes (Tells l ended) before.world after.world)
   pub files : Becomes HasSameFiles before.world after.world
 
 -- the frames go to standard output, and the lines elsewhere
 pub record StreamsPlayed (r : PlayRequest) (given : Inputs) (before after : Outputs) (ended : Result Status Failure) : Type 0 where
   pub lines : Option (List ℕ)
   pub plays : (code text : List ℕ) → given.file r.code.now ≡ Some code → given.file r.events.now ≡ Some text → Fits text
-    → StreamsPlay r.events.now (asked_from (take 1048577 code) text r.start) before.printed after.printed (Some []) lines ended
+      → StreamsPlay r.events.now (asked_from (take 1048577 code) text r.start) before.printed after.printed (Some []) lines ended
   pub failed : IfErr ended (λ failure. (file : List ℕ) → IsPlayFailure r.code.now r.events.now file failure)
+  pub told : IfSome lines (λ l. Becomes (Tells l ended) before.world after.world)
   pub files : Becomes HasSameFiles before.world after.world
 
 abbrev pub RunsLive : LiveRequest → Inputs → Outputs → Outputs → Result (Unit {0}) LiveEnding → Type 0

@@ -9,3 +9,4 @@ pub mod Program
 pub mod Refusals
 pub mod Requests
 pub mod Streaming
+pub mod Telling

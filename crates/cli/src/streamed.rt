@@ -6,6 +6,7 @@ ghost use Rattle.console.specs.Endings.{HasStatus, status_number};
 ghost use Rattle.cli.specs.Answers.{IsStreamed, Streams};
 ghost use Rattle.cli.specs.Commands.{inputs, outputs};
 ghost use Rattle.cli.specs.Streaming.{request_in};
+ghost use Rattle.cli.specs.Telling.{HasTold, Tells};
 
 use crate::args::Request;
 use cli_plans::play::{PlayRequest, stream_play};
@@ -96,18 +97,38 @@ fn report_lines<F: Files>(
     files: &mut F,
 ) -> Status
     ensures status { HasStatus ended.entry (status_number result) }
+    ensures told { Becomes (Tells lines.items ended.entry)
+        (F.world files.old) (F.world files.new) }
     ensures files { Becomes HasSameFiles (F.world files.old) (F.world files.new) }
 {
     let status = status_after(&ended);
     let mut lines = lines;
-    if report(false, ended, &mut lines).is_err() {
-        files.report(Failure::Memory);
-        return status;
+    match report(false, ended, &mut lines) {
+        Ok(_status) => {
+            tell(lines.as_slice(), files);
+            status
+        }
+        Err(_error) => {
+            files.report(Failure::Memory);
+            status
+        }
     }
-    if let Ok(text) = str::from_utf8(lines.as_slice()) {
-        files.report(text.trim_end());
+}
+
+/// Reports lines on standard error: all of them, the last of which ends with a line feed.
+#[tactic(auto, using(crate::proofs::Telling::nothing_told))]
+fn tell<F: Files>(lines: &[u8], files: &mut F)
+    ensures { Becomes (HasTold lines.now) (F.world files.old) (F.world files.new) }
+{
+    let Some((last, line)) = lines.split_last() else {
+        return;
+    };
+    if *last != b'\n' {
+        return;
     }
-    status
+    if let Ok(text) = str::from_utf8(line) {
+        files.report(text);
+    }
 }
 
 /// The exit status of a command that ends so.

@@ -56,17 +56,27 @@ fn json_parts<'a>(failure: &Failure<'a>) -> LineParts<'a>
         ≡ result.front.now ++ (escaped (form_of true) result.path.now ++ result.end.now) }
 {
     match failure {
-        Failure::Memory => {
-            parts(b"{\"kind\":\"refused\",\"cause\":\"no memory", "", b"\"}\n")
-        }
+        Failure::Memory => { parts(b"{\"kind\":\"refused\",\"cause\":\"no memory", "", b"\"}\n") }
         Failure::Read(path) => {
-            parts(b"{\"kind\":\"refused\",\"cause\":\"cannot read ", path, b"\"}\n")
+            parts(
+                b"{\"kind\":\"refused\",\"cause\":\"cannot read ",
+                path,
+                b"\"}\n",
+            )
         }
         Failure::Create(path) => {
-            parts(b"{\"kind\":\"refused\",\"cause\":\"cannot write ", path, b"\"}\n")
+            parts(
+                b"{\"kind\":\"refused\",\"cause\":\"cannot write ",
+                path,
+                b"\"}\n",
+            )
         }
         Failure::Output => {
-            parts(b"{\"kind\":\"refused\",\"cause\":\"cannot write", "", b"\"}\n")
+            parts(
+                b"{\"kind\":\"refused\",\"cause\":\"cannot write",
+                "",
+                b"\"}\n",
+            )
         }
     }
 }

@@ -29,4 +29,4 @@ returns-in-Err-clause-cut g c =
     let all = ap (λ (l : List ℕ). so_far.0 ++ escaped form l) (sym c.in-Some.ensures.cases.0) ∙ so_far.2 in
     let here : LacksEnd (append_known mid (escaped_byte form byte)) new = rw (← shown) c.in-Err.ensures.cut in
     subst (λ (l : List ℕ). LacksEnd (append_known old l) new) all
-      (cut_behind old mid new so_far.0 (escaped_byte form byte ++ more) so_far.1 (cut_before mid new (escaped_byte form byte) more here))
+    (cut_behind old mid new so_far.0 (escaped_byte form byte ++ more) so_far.1 (cut_before mid new (escaped_byte form byte) more here))

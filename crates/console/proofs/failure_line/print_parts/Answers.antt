@@ -16,7 +16,7 @@ returns-in_err-print_escaped-clause-cut g c =
     let new = g.W.Write.contents c.print_escaped.new.out in
     let here : LacksEnd (append_known mid path) new = subst (λ (l : List ℕ). LacksEnd (append_known mid (escaped c.args.form l)) new) c.as_bytes.ensures.value c.in_err-print_escaped.ensures.cut in
     if_failed c.from_residual-in_err-print_escaped.result
-      (cut_behind _ mid new c.args.line.now.front.now _ c.in_ok-print_piece.ensures.printed (cut_before mid new path _ here))
+    (cut_behind _ mid new c.args.line.now.front.now _ c.in_ok-print_piece.ensures.printed (cut_before mid new path _ here))
 
 pub returns-clause-cut : goal.returns-clause-cut
 returns-clause-cut g c =
@@ -27,4 +27,4 @@ returns-clause-cut g c =
     let new = g.W.Write.contents c.print_piece-2.new.out in
     let there = subst (λ (l : List ℕ). Appends mid late (escaped c.args.form l)) c.as_bytes.ensures.value c.in_ok-print_escaped.ensures.printed in
     if_cut_behind c.print_piece-2.result old mid new c.args.line.now.front.now (path ++ c.args.line.now.end.now) c.in_ok-print_piece.ensures.printed
-      (if_cut_behind c.print_piece-2.result mid late new path c.args.line.now.end.now there c.print_piece-2.ensures.cut)
+    (if_cut_behind c.print_piece-2.result mid late new path c.args.line.now.end.now there c.print_piece-2.ensures.cut)

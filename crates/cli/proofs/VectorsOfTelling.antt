@@ -1,0 +1,37 @@
+-- Lines on standard error: what it may have taken, and what not.
+use Rattle.std.proofs.Common.{◌≡◌, ◌⊎◌, ℕ, zero, suc, List, [], ◌∷◌, ◌++◌, None, Ok, Err, inl, inr, refl, subst}
+use Rattle.std.specs.Prelude.{codes, take}
+use Rattle.console.specs.World.{World}
+use Rattle.console.specs.declared.exit.Failure.TheVariants.{Output}
+use Rattle.console.specs.declared.exit.Status.TheVariants.{Done}
+use Rattle.cli.specs.Telling.{HasTold, Tells}
+
+-- there are no files
+abbrev taken : List ℕ → World
+taken errors = record { files = λ path. None; errors = errors }
+
+all_told : Tells (codes "a\n") (Ok Done) (taken []) (taken (codes "a\n"))
+all_told = record { text = codes "a\n"; which = inl refl; taken = record { count = 2; errors = refl; files = λ path. refl } }
+
+with_a_failure : Tells (codes "a\n") (Err Output) (taken []) (taken (codes "a\ncannot write\n"))
+with_a_failure = record { text = codes "a\ncannot write\n"; which = inl refl; taken = record { count = 15; errors = refl; files = λ path. refl } }
+
+-- the front of these bytes begins with their first
+another : (count : ℕ) → 7 ∷ [] ≡ take count (codes "no memory\n") → ⊥
+another zero e = absurd cc
+another (suc n) e = absurd cc
+
+abbrev none : List ℕ
+none = []
+
+-- a command without a line tells nothing else
+nothing_else : Tells [] (Ok Done) (taken []) (taken (7 ∷ [])) → ⊥
+nothing_else t = which t.text t.taken.count t.which t.taken.errors
+  where
+    nothing : (count : ℕ) → 7 ∷ [] ≡ take count none → ⊥
+    nothing zero e = absurd cc
+    nothing (suc n) e = absurd cc
+
+    which : (text : List ℕ) (count : ℕ) → (text ≡ none) ⊎ (text ≡ codes "no memory\n") → 7 ∷ [] ≡ take count text → ⊥
+    which text count (inl is) e = nothing count (subst (λ (l : List ℕ). 7 ∷ [] ≡ take count l) is e)
+    which text count (inr is) e = another count (subst (λ (l : List ℕ). 7 ∷ [] ≡ take count l) is e)
