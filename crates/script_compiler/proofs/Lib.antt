@@ -9,7 +9,7 @@ mod VectorsOfCodes
 mod VectorsOfRefusals
 mod Paths
 mod Trees
-mod Weight
+pub mod Weight
 mod Arms
 mod Continuing
 mod Emitted
@@ -23,7 +23,7 @@ mod Whole
 mod Accepting
 mod Refusing
 mod Opened
-mod Reasons
+pub mod Reasons
 mod Sound
 mod Connected
 mod Labelled
@@ -42,5 +42,7 @@ mod Pooled
 mod Numbered
 mod Cycles
 mod Uncosted
+mod LongestPaths
 mod VectorsOfCompiling
 mod VectorsOfCosts
+mod VectorsOfFrameCosts

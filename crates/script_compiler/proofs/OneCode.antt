@@ -1,6 +1,6 @@
 -- A script has at most one code whose labels cost their needs: the table has the configurations of its labels, each
 -- once, so each label determines the indices.
-use Rattle.std.proofs.Common.{◌≡◌, ℕ, zero, suc, ◌+◌, ◌≤◌, ◌<◌, ◌⊎◌, List, [], ◌∷◌, ◌++◌, length, Option, Some, refl, sym, ap, ◌∙◌, subst, arith, inl, inr}
+use Rattle.std.proofs.Common.{◌≡◌, ℕ, zero, suc, ◌⊎◌, List, [], ◌∷◌, ◌++◌, length, Some, refl, sym, ap, ◌∙◌, subst, arith, inl, inr}
 use Rattle.std.specs.Prelude.{slice_get, Contains}
 use Rattle.mux_config.specs.Configuration.{Configuration}
 use Rattle.plan_code.specs.declared.flags.Counters.{Counters}
@@ -10,11 +10,10 @@ use Rattle.plan_code.specs.declared.label.Label.{Label}
 use Rattle.plan_code.specs.declared.label.Swap.{Swap}
 use Rattle.plan_code.specs.declared.plan.Plan.{Plan}
 use Rattle.plan_code.specs.Program.{Program}
-use Rattle.script_front.specs.Tree.{Tree}
 use Rattle.script_compiler.specs.declared.flow.UnpricedLabel.{UnpricedLabel}
 use Rattle.script_compiler.specs.Scheme.{unpriced_labels}
 use Rattle.script_compiler.specs.Need.{IsNeed}
-use Rattle.script_compiler.specs.Compiled.{Added, Tabled, IsLabelOf, AreLabelsOf, IsCodeOf, CostsItsNeeds, ScriptsHaveOneCode, instrs_of, placed_instrs}
+use Rattle.script_compiler.specs.Compiled.{Added, Tabled, AreLabelsOf, ScriptsHaveOneCode, instrs_of, placed_instrs}
 
 some_same : {A : Type 0} (x y : A) → Some x ≡ Some y → x ≡ y
 some_same x y e = cc

@@ -141,7 +141,7 @@ each_round code further next long each pc = elim (cases_lt pc (length code)) [
       get_or_past next pc 0 (omega (arith, long, le)) ∙ sym (ap (λ o. need_at o pc (λ to. get_or further to 0)) none)
 ]
 
-need_same : (o : Option Instr) (pc : ℕ) (f g : ℕ → ℕ) → ((to : ℕ) → f to ≡ g to) → need_at o pc f ≡ need_at o pc g
+pub need_same : (o : Option Instr) (pc : ℕ) (f g : ℕ → ℕ) → ((to : ℕ) → f to ≡ g to) → need_at o pc f ≡ need_at o pc g
 need_same None pc f g h = refl
 need_same (Some i) pc f g h =
     let back : (t : Option ℕ) → need_to f t ≡ need_to g t = λ t. elim t as (λ x. need_to f x ≡ need_to g x) [ None ↦ refl | Some to ↦ h to ] in

@@ -14,11 +14,11 @@ use Rattle.mux_config.specs.Sound.{IsSound}
 use Rattle.script_front.specs.Tree.{Tree}
 use Rattle.script_compiler.specs.Compiled.{opening_of}
 use Rattle.script_front.specs.declared.tree.Statement.{Statement}
-use Rattle.script_front.specs.Block.{Block, nothing, when, either, repeat, forever, before, block_of}
+use Rattle.script_front.specs.Block.{Block, nothing, basic, stop, when, either, repeat, forever, apply, before, block_of}
 use Rattle.script_compiler.specs.declared.flow.ProgramPoint.{ProgramPoint}
 use Rattle.script_compiler.specs.Scheme.{without_label, at_label, head, point_after, falls_out}
 use Rattle.script_compiler.specs.Judged.{WaysAgree, BranchesAgree, FitsEntry}
-use Rattle.script_compiler.specs.Refused.{IsRefusedIn, IsRefusedAfter, IsUnreached}
+use Rattle.script_compiler.specs.Refused.{IsLine, IsRefusedIn, IsRefusedAfter, IsUnreached}
 use Rattle.script_compiler.specs.Working.{Work}
 use Rattle.script_compiler.specs.declared.fault.CompileFault.{CompileFault}
 use Rattle.script_compiler.specs.declared.fault.CompileFault.TheVariants.{Refused, Limit, Memory}
@@ -104,6 +104,17 @@ module _ (plan : Plan) (r line : ℕ) (body rest : Block) (w0 w2 w3 : Work) (f f
       inr (whole.judged, inl ((λ round. h.1 w0.saved.items w2.now (left.emits.saved ∙ s2) (subst (λ s. FitsEntry (way f w3) s) (sym is) (subst (λ w. FitsEntry w start) whole.leads round))), refl, h.0))
 
 -- ---- a block's statements
+
+-- where nothing comes to a block, its first statement is refused, at its line
+pub unreached_at : (b : Block) (line : ℕ) → IsLine b line → IsUnreached b line Table
+unreached_at nothing line h = absurd h
+unreached_at (basic at act rest) line h = (sym h, refl)
+unreached_at (stop at rest) line h = (sym h, refl)
+unreached_at (when at contact first rest) line h = (sym h, refl)
+unreached_at (either at contact first second rest) line h = (sym h, refl)
+unreached_at (repeat at times body rest) line h = (sym h, refl)
+unreached_at (forever at body rest) line h = (sym h, refl)
+unreached_at (apply at number named rest) line h = (sym h, refl)
 
 module _ (plan : Plan) (r : ℕ) (table : List Block) (ss : List Statement) (k : ℕ) (s : Statement) (u v : Work) (g : Bool) where
   rest_is : s ≡ get_or ss k s → k < length ss → block_of table (drop k ss) ≡ before table s (block_of table (drop (k + 1) ss))

@@ -175,7 +175,7 @@ costly_there : (code : List Instr) (budget pc : ℕ) → IsCostlyAt budget code 
 costly_there code budget pc (inl f) = (f.point_here.instr, f.point_here.there)
 costly_there code budget pc (inr f) = over_there code f.1.point_here.0 pc budget f.1.point_here.1 f.1.point_here.2
 
-line_there : (lines : List Line) (pc : ℕ) (i : Instr) → slice_get (instrs_of lines) pc ≡ Some i → (l : Line) × (slice_get lines pc ≡ Some l)
+pub line_there : (lines : List Line) (pc : ℕ) (i : Instr) → slice_get (instrs_of lines) pc ≡ Some i → (l : Line) × (slice_get lines pc ≡ Some l)
 line_there [] pc i e = cc
 line_there (l ∷ lines) zero i e = (l, refl)
 line_there (l ∷ lines) (suc pc) i e = line_there lines pc i e

@@ -1,5 +1,5 @@
 -- Test vectors: small scripts that are refused, with the line and the cause, and wrong lines and causes.
-use Rattle.std.proofs.Common.{◌≡◌, ◌≢◌, ℕ, ◌<◌, ◌≤◌, List, [], ◌∷◌, Some, None, inl, inr, refl, ap, sym, arith}
+use Rattle.std.proofs.Common.{◌≡◌, ◌≢◌, ℕ, List, [], ◌∷◌, Some, None, inl, inr, refl, ap, arith}
 use Rattle.mux_config.specs.Configuration.{Configuration, nothing as no_configuration}
 use Rattle.mux_config.specs.declared.edit.Edit.TheVariants.{AddSub}
 use Rattle.mux_config.specs.declared.fault.EditFault.TheVariants.{IdUsed}
@@ -13,13 +13,13 @@ use Rattle.plan_flow.specs.declared.cause.Cause.{Cause}
 use Rattle.plan_flow.specs.declared.cause.Cause.TheVariants.{Table, Edit as OfEdit, Config as OfConfig, JoinIdle, Mismatch}
 use Rattle.script_front.specs.declared.tree.Act.TheVariants.{Edit as Edits, Wait as Waits, Join as Joins}
 use Rattle.script_front.specs.declared.tree.Item.{Item}
-use Rattle.script_front.specs.Block.{Block, nothing, basic, stop, forever}
+use Rattle.script_front.specs.Block.{nothing, basic, stop, forever}
 use Rattle.script_front.specs.Tree.{Tree}
 use Rattle.script_compiler.specs.declared.flow.ProgramPoint.{ProgramPoint}
-use Rattle.script_compiler.specs.Scheme.{without_label, point_after}
+use Rattle.script_compiler.specs.Scheme.{point_after}
 use Rattle.script_compiler.specs.Judged.{FitsEntry}
 use Rattle.script_compiler.specs.Compiled.{beginning}
-use Rattle.script_compiler.specs.Refused.{IsUnreached, IsMismatch, IsRefusedAfter, IsRefusedIn, IsItemRefused, IsOpeningRefused, IsRefused}
+use Rattle.script_compiler.specs.Refused.{IsMismatch, IsRefusedAfter, IsRefusedIn, IsItemRefused, IsOpeningRefused, IsRefused}
 
 abbrev plan : Plan
 plan = record { eid = 0xe1c5; layout = Whole I; period = 4; notice = 24; budget = 20 }

@@ -37,15 +37,15 @@ weight_each table (x ∷ ss) (suc k) s is lt = let more = weight_before table x 
 -- ---- the blocks defined before one
 
 -- the blocks that are added
-abbrev added : List Block → List (List Statement) → List Block
+abbrev pub added : List Block → List (List Statement) → List Block
 added table [] = []
 added table (b ∷ bs) = block_of table b ∷ added (table ++ block_of table b ∷ []) bs
 
-table_added : (table : List Block) (bs : List (List Statement)) → table_of table bs ≡ table ++ added table bs
+pub table_added : (table : List Block) (bs : List (List Statement)) → table_of table bs ≡ table ++ added table bs
 table_added table [] = sym (append-nil table)
 table_added table (b ∷ bs) = table_added (table ++ block_of table b ∷ []) bs ∙ append_assoc table (block_of table b ∷ []) (added (table ++ block_of table b ∷ []) bs)
 
-added_length : (table : List Block) (bs : List (List Statement)) → length (added table bs) ≡ length bs
+pub added_length : (table : List Block) (bs : List (List Statement)) → length (added table bs) ≡ length bs
 added_length table [] = refl
 added_length table (b ∷ bs) = let ih = added_length (table ++ block_of table b ∷ []) bs in omega (arith, ih)
 

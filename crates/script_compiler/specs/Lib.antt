@@ -14,6 +14,7 @@ pub mod Space
 pub mod Limits
 pub mod Unpriced
 pub mod Costs
+pub mod FrameCosts
 pub mod Reaching
 pub mod Pool
 pub mod Working

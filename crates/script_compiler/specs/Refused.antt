@@ -20,6 +20,17 @@ use Rattle.script_compiler.specs.Compiled.{AreFine, opening_of, body_of, beginni
 
 -- ---- statements
 
+-- the line of the first statement
+abbrev pub IsLine : Block → ℕ → Type 0
+IsLine nothing line = ⊥
+IsLine (basic at act rest) line = at ≡ line
+IsLine (stop at rest) line = at ≡ line
+IsLine (when at contact first rest) line = at ≡ line
+IsLine (either at contact first second rest) line = at ≡ line
+IsLine (repeat at times body rest) line = at ≡ line
+IsLine (forever at body rest) line = at ≡ line
+IsLine (apply at number named rest) line = at ≡ line
+
 -- the first statement is unreachable: `Table`, at its line
 abbrev pub IsUnreached : Block → ℕ → Cause → Type 0
 IsUnreached nothing at given = ⊥

@@ -53,7 +53,7 @@ fn facts_of(alloc: Global, blocks: &[Vec<Statement>]) -> Result<Vec<BlockFacts>,
 }
 
 /// Compiles the statements of a script that begins with this configuration; the labels are still unpriced.
-fn emit(
+pub(crate) fn emit(
     alloc: Global,
     plan: &Plan,
     script: &Script,
@@ -93,7 +93,7 @@ fn emit(
 }
 
 /// The line number of an instruction.
-fn line_at(lines: &[Line], pc: usize) -> u16
+pub(crate) fn line_at(lines: &[Line], pc: usize) -> u16
     ensures { (line : Line) → slice_get lines.now pc ≡ Some line → result ≡ line.number }
 {
     match lines.get(pc) {

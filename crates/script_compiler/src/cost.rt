@@ -173,7 +173,7 @@ fn closes_cycle(alloc: Global, lines: &[Line], pc: usize) -> Result<bool, AllocE
 }
 
 /// The first instruction that closes a loop that can iterate without a suspension, if there is one.
-fn first_round(alloc: Global, lines: &[Line]) -> Result<Option<usize>, AllocError>
+pub(crate) fn first_round(alloc: Global, lines: &[Line]) -> Result<Option<usize>, AllocError>
     requires few { length lines.now ≤ 4096 }
     ensures some { IfOk result (λ o. IfSome o (λ pc. IsFirst (ClosesCycle
         (instrs_of lines.now)) pc)) }

@@ -1,12 +1,19 @@
 //! The laws of scripts and their codes. Each law is a function that does nothing; its contract is the law.
 
 ghost use Rattle.script_compiler.specs.Compiled.{ScriptsHaveOneCode};
+ghost use Rattle.script_compiler.specs.FrameCosts.{LongestPathIsLeastBudget};
 ghost use Rattle.script_compiler.specs.Meaning.{ScenesSuffice, ScriptsPlayAsTheyRead};
 
 /// The law of codes: a script has at most one code in which each label costs what the code needs from there, the most
 /// instructions that can run in one frame.
 pub fn codes()
     ensures { ScriptsHaveOneCode }
+{}
+
+/// The law of budgets: a code whose longest path is known has no more instructions in a frame than a budget allows,
+/// exactly if the budget is at least the number of the path's instructions.
+pub fn budgets()
+    ensures { LongestPathIsLeastBudget }
 {}
 
 /// The law of scenes: how a frame and a statement change the configurations, the swap, the contacts, the counts and the

@@ -27,7 +27,7 @@ fn greater(a: u16, b: u16) -> u16
 }
 
 /// The number at the pc after an instruction; 0 if it does not continue there.
-fn at_next(numbers: &[u16], instr: &Instr, pc: usize) -> u16
+pub(crate) fn at_next(numbers: &[u16], instr: &Instr, pc: usize) -> u16
     requires bound { (to : ℕ) → slice_index numbers.now to ≤ 256 }
     requires place { pc < 4096 }
     ensures value { result ≡ if continues instr.now then slice_index numbers.now (pc + 1) else 0 }

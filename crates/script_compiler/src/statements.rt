@@ -2,8 +2,7 @@
 
 ghost use Rattle.std.specs.Prelude.{List};
 ghost use Rattle.script_front.specs.Block.{Block, nothing, when, either, repeat, forever, before};
-ghost use Rattle.plan_flow.specs.declared.cause.Cause.TheVariants.{Table};
-ghost use Rattle.script_compiler.specs.Refused.{IsUnreached};
+ghost use Rattle.script_compiler.specs.Refused.{IsLine};
 ghost use Rattle.script_compiler.specs.Compiling.{CanCompile, Compiles, block_in, statement_in};
 
 use crate::context::Context;
@@ -15,10 +14,10 @@ use plan_code::{ContactId, CounterId, Instr, Times};
 use plan_flow::Cause;
 use script_front::Statement;
 
-/// The line of a statement's first token.
-fn line_of(statement: &Statement) -> u16
-    ensures { (table : List Block) (rest : Block) → IsUnreached
-        (before table statement.now rest) result Table }
+/// The line of a statement's first token, 1 to 65,535.
+pub fn line_of(statement: &Statement) -> u16
+    ensures { (table : List Block) (rest : Block) → IsLine (before table statement.now rest)
+        result }
 {
     match statement {
         Statement::Act { line, .. } => *line,

@@ -16,7 +16,7 @@ use Rattle.script_compiler.proofs.Arms.{is_act, is_end, is_if, is_if_else, is_re
 use Rattle.script_compiler.proofs.Steps.{ok_map, act_step, when_step, either_step, repeat_step, forever_step, block_step, facts_length, facts_take, silent_step, unnamed_step}
 use Rattle.script_compiler.proofs.Refusing.{when_first, when_agrees, either_first, either_second, either_saved, either_agrees, some_is, repeat_body, repeat_round, forever_body, forever_round, block_refused, block_unreached}
 use Rattle.script_compiler.proofs.Emitted.{left_start}
-use Rattle.script_compiler.proofs.Reasons.{err_two, when_body_why, when_why, either_first_why, either_second_why, either_why, repeat_body_why, repeat_why, forever_body_why, forever_why, block_why, block_unreached_why}
+use Rattle.script_compiler.proofs.Reasons.{unreached_at, err_two, when_body_why, when_why, either_first_why, either_second_why, either_why, repeat_body_why, repeat_why, forever_body_why, forever_why, block_why, block_unreached_why}
 use Rattle.script_compiler.proofs.Spaces.{limit_map}
 use Rattle.script_compiler.proofs.Fitting.{block_limited, act_limited, stop_limited, when_limited, either_limited, repeat_limited, repeat_deep, can_when_first, can_when_closed, can_either_first, can_either_turned, can_either_second, can_either_closed, can_repeat_entered, can_repeat_body, can_repeat_closed, can_forever_entered, can_forever_body, can_forever_closed}
 use Rattle.script_compiler.proofs.Compiling.{compiles, fails, fails_at, compiles_as, compiles_applied}
@@ -56,7 +56,7 @@ block-returns-then-not-is_reached t c =
     let w = c.loop-statement in
     record {
       refused = λ is judged. block_unreached x.plan.now x.counters (tables x.blocks.now) c.args.statements.now w.statement-index c.statement-item.result c.args.self.now w.self w.is_reached c.statement-item.is c.loop-statement-test.true c.if-not-is_reached.true w.invariant.left judged;
-      why = block_unreached_why x.plan.now x.counters (tables x.blocks.now) c.args.statements.now w.statement-index c.statement-item.result c.args.self.now w.self w.is_reached c.line_of.result c.refused.result c.refused.ensures c.statement-item.is c.loop-statement-test.true c.if-not-is_reached.true w.invariant.left (λ rest. c.line_of.ensures (tables x.blocks.now) rest);
+      why = block_unreached_why x.plan.now x.counters (tables x.blocks.now) c.args.statements.now w.statement-index c.statement-item.result c.args.self.now w.self w.is_reached c.line_of.result c.refused.result c.refused.ensures c.statement-item.is c.loop-statement-test.true c.if-not-is_reached.true w.invariant.left (λ rest. unreached_at _ c.line_of.result (c.line_of.ensures (tables x.blocks.now) rest));
       limited = subst (λ (e : CompileFault). IfLimit e (λ _ limit. CanEmit limit x.plan.now x.counters (block_in x c.args.statements.now) c.args.self.now → ⊥)) (sym c.refused.ensures) tt;
     }
 

@@ -1,0 +1,5 @@
+use Rattle.script_compiler.proofs.LongestPaths.{least_budget}
+use Rattle.script_compiler.proofs.laws.budgets.Goals as goal
+
+pub returns : goal.returns
+returns c = least_budget
