@@ -7,6 +7,8 @@ mod Known
 mod Changed
 mod WarningLaws
 mod VectorsOfWarnings
+mod VectorsOfTexts
+mod Digits
 mod Finding
 mod Sharing
 pub mod Vectors
@@ -16,5 +18,14 @@ mod Passing
 mod Turns
 mod Trees
 mod Walking
+mod Alike
+mod Passages
+mod Judging
+mod Faults
+mod Differing
 mod OnWays
 pub mod VectorsOfWays
+mod Said
+mod VectorsOfSwaps
+pub mod VectorsOfDifferences
+pub mod VectorsOfJudging

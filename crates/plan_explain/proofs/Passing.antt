@@ -1,7 +1,7 @@
 -- No way leads out of a block into which none leads.
-use Rattle.std.proofs.Common.{◌≡◌, List, [], ◌++◌, refl, ap, ◌∙◌}
+use Rattle.std.proofs.Common.{◌≡◌, [], ◌++◌, refl, ap, ◌∙◌}
 use Rattle.script_front.specs.Block.{Block, nothing, basic, stop, when, either, repeat, forever, apply}
-use Rattle.plan_explain.specs.Ways.{Way, ways_through}
+use Rattle.plan_explain.specs.Ways.{ways_through}
 
 pub none_through : (b : Block) → ways_through b [] ≡ []
 none_through nothing = refl

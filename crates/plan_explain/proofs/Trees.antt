@@ -1,5 +1,5 @@
 -- What a statement of each kind is as a block, the statements after it, and the blocks that a script names.
-use Rattle.std.proofs.Common.{◌≡◌, ℕ, zero, suc, ◌+◌, ◌<◌, ◌≤◌, List, [], ◌∷◌, ◌++◌, map, take, drop, length, get_or, Vec, Global, refl, sym, ap, ◌∙◌, arith, add-one, drop-cons, append_assoc, append-nil}
+use Rattle.std.proofs.Common.{◌≡◌, ℕ, zero, suc, ◌+◌, ◌<◌, ◌≤◌, List, [], ◌∷◌, ◌++◌, map, take, drop, length, get_or, Vec, Global, refl, sym, ap, ◌∙◌, arith, add-one, drop-cons}
 use Rattle.std.proofs.lemmas.List.{get_or_past}
 use Rattle.script_front.specs.declared.tree.Act.{Act}
 use Rattle.script_front.specs.declared.tree.Statement.{Statement}
@@ -8,6 +8,7 @@ use Rattle.script_front.specs.declared.tree.Statement.TheVariants.{Act as Acts, 
 use Rattle.script_front.specs.declared.tree.Statement.TheFolds.{fold-roll-Statement}
 use Rattle.script_front.specs.Block.{Block, nothing, basic, stop, when, either, repeat, forever, apply, Before, statement_step, named_at, before, block_of, table_of}
 use Rattle.script_compiler.specs.Emission.{tables}
+use Rattle.script_compiler.proofs.Weight.{added, table_added, added_length}
 
 -- ---- statements
 
@@ -41,19 +42,6 @@ statements_cut table ss k s is lt =
     ap (block_of table) cut ∙ ap (λ x. before table x (block_of table (drop (k + 1) ss))) (sym is)
 
 -- ---- named blocks
-
--- those that are added to a table
-abbrev added : List Block → List (List Statement) → List Block
-added table [] = []
-added table (b ∷ bs) = block_of table b ∷ added (table ++ block_of table b ∷ []) bs
-
-table_added : (table : List Block) (bs : List (List Statement)) → table_of table bs ≡ table ++ added table bs
-table_added table [] = sym (append-nil table)
-table_added table (b ∷ bs) = table_added (table ++ block_of table b ∷ []) bs ∙ append_assoc table (block_of table b ∷ []) (added (table ++ block_of table b ∷ []) bs)
-
-added_length : (table : List Block) (bs : List (List Statement)) → length (added table bs) ≡ length bs
-added_length table [] = refl
-added_length table (b ∷ bs) = let ih = added_length (table ++ block_of table b ∷ []) bs in omega (arith, ih)
 
 -- the one at an index is made of its statements and the blocks before it
 added_at : (table : List Block) (bs : List (Vec Statement Global)) (k : ℕ) (v : Vec Statement Global) → v ≡ get_or bs k v → k < length bs

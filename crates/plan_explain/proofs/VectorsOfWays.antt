@@ -1,6 +1,5 @@
 -- Short scripts: the ways through them, how control goes, where a walk may stop, and the lines that are named.
-use Rattle.std.proofs.Common.{◌≡◌, ℕ, zero, suc, ◌∷◌, [], List, Option, Some, None, true, inl, inr, refl, sym, ◌∙◌, arith}
-use Rattle.std.specs.Prelude.{Contains}
+use Rattle.std.proofs.Common.{◌≡◌, ℕ, ◌∷◌, [], List, Some, None, true, inl, inr, refl, sym, ◌∙◌}
 use Rattle.mux_eep.specs.declared.sizes.EepSet.TheVariants.{A}
 use Rattle.mux_types.specs.declared.parts.Sub.{Sub}
 use Rattle.mux_types.specs.declared.parts.Carrier.TheVariants.{Sub as BySub}
@@ -14,10 +13,10 @@ use Rattle.script_front.specs.Block.{Block, nothing, basic, stop, when, either, 
 use Rattle.plan_explain.specs.declared.history.Deed.{Deed}
 use Rattle.plan_explain.specs.declared.sought.Member.TheVariants.{Carried}
 use Rattle.plan_explain.specs.declared.sought.Sought.TheVariants.{Changing}
-use Rattle.plan_explain.specs.declared.walk.Stop.TheVariants.{Act as StopsAtAct, Loop, Ways, Unreached, Long, Memory}
+use Rattle.plan_explain.specs.declared.walk.Stop.TheVariants.{Act as StopsAtAct, Loop, Ways, Unreached, Long}
 use Rattle.plan_explain.specs.declared.walk.Walk.{Walk}
 use Rattle.plan_explain.specs.Deeds.{last_line, last_added, last_dropped, last_changed}
-use Rattle.plan_explain.specs.Ways.{Executed, Way, ways_through, ways_past, Place, here, later, inside, in_else, from_place, ways_to}
+use Rattle.plan_explain.specs.Ways.{Executed, Way, ways_through, ways_past, here, later, inside, in_else, from_place, ways_to}
 use Rattle.plan_explain.specs.Control.{Takes, Goes, todo_at}
 use Rattle.plan_explain.specs.Walked.{IsStop, StopsIn}
 use Rattle.plan_explain.specs.Openings.{ways_with}

@@ -1,8 +1,7 @@
 -- The steps of a walk: from what its parts do to what the whole does.
 use Rattle.std.proofs.Common.{◌≡◌, ℕ, ◌+◌, ◌<◌, Bool, true, false, if◌then◌else◌, List, [], ◌∷◌, ◌++◌, map, drop, length, get_or, add-one, drop-cons, Option, Some, None, Ok, Err, refl, sym, ap, subst, ◌∙◌}
-use Rattle.std.specs.Prelude.{Result, OnOk}
+use Rattle.std.specs.Prelude.{Result}
 use Rattle.plan_code.specs.declared.plan.Plan.{Plan}
-use Rattle.plan_flow.specs.Flows.{FitsFlow}
 use Rattle.script_front.specs.declared.tree.Act.{Act}
 use Rattle.script_front.specs.declared.tree.Item.{Item}
 use Rattle.script_front.specs.Block.{Block, nothing, basic, stop, when, either, repeat, forever, apply}
@@ -15,7 +14,8 @@ use Rattle.plan_explain.specs.declared.walk.Stop.TheVariants.{Act as StopsAtAct,
 use Rattle.plan_explain.specs.declared.walk.Walk.{Walk}
 use Rattle.plan_explain.specs.Paths.{paths_of, way_of, ways_of, IsEnd, Keeps}
 use Rattle.plan_explain.specs.Ways.{Executed, Way, executed, each_with, ways_through, ways_past, rest_of, inner_of, ways_into, Place, here, later, inside, in_else, from_place, ways_to}
-use Rattle.plan_explain.specs.Walked.{ways_at, ways_if, Walked, IsLine, IsStop, StopsIn, IsOther, DoNotAgree, DoesNotFit, Walks, Merged, IsUnmerged, Merges}
+use Rattle.script_compiler.specs.Refused.{IsLine}
+use Rattle.plan_explain.specs.Walked.{ways_at, ways_if, Walked, IsStop, StopsIn, IsOther, Walks, IsUnmerged, Merges}
 use Rattle.plan_explain.specs.Openings.{of_item, ways_with}
 use Rattle.plan_explain.proofs.Passing.{none_through}
 

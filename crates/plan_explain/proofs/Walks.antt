@@ -4,7 +4,6 @@ use Rattle.std.specs.Prelude.{◌==◌, true, false, Result, Ok, Err, is_ok, is_
 use Rattle.std.proofs.lemmas.Bool.{eq-eqb, ne_eqb, cond-true, cond-false, cases_eq, false≢true}
 use Rattle.std.proofs.lemmas.List.{reverse-append, length-reverse}
 use Rattle.plan_explain.specs.declared.history.Deed.{Deed}
-use Rattle.plan_explain.specs.declared.history.PathEnd.{PathEnd}
 use Rattle.plan_explain.specs.declared.history.Step.{Step}
 use Rattle.plan_explain.specs.declared.history.Step.TheVariants.{Done, Meeting}
 use Rattle.plan_explain.specs.Paths.{paths, paths_after, IsAmong}

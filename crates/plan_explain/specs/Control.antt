@@ -1,5 +1,5 @@
 -- How control goes through a script, statement by statement, and the law of ways: they are what it executes.
-use Rattle.std.specs.Prelude.{◌≡◌, ◌↔◌, ℕ, zero, suc, ◌⊎◌, List, [], ◌∷◌, Contains}
+use Rattle.std.specs.Prelude.{◌≡◌, ◌↔◌, ℕ, zero, suc, ◌⊎◌, [], ◌∷◌, Contains}
 use Rattle.script_front.specs.Block.{Block, nothing, basic, stop, when, either, repeat, forever, apply}
 use Rattle.script_compiler.specs.Meaning.{followed}
 use Rattle.plan_explain.specs.Ways.{Way, executed, rest_of, inner_of, else_of, Place, here, later, inside, in_else, ways_to}

@@ -6,6 +6,7 @@ pub mod ConfigurationChanges
 pub mod Walking
 pub mod Listed
 pub mod Warnings
+pub mod WarningTexts
 pub mod TextChanges
 pub mod Overlaps
 pub mod Paths
@@ -14,4 +15,9 @@ pub mod Since
 pub mod Ways
 pub mod Control
 pub mod Walked
+pub mod Judging
+pub mod Differences
+pub mod Contrasts
 pub mod Openings
+pub mod SwapTexts
+pub mod SinceTexts

@@ -1,5 +1,5 @@
 -- Which statements did something last, on all paths to a point.
-use Rattle.std.specs.Prelude.{◌≡◌, ◌≢◌, ℕ, ◌⊎◌, Bool, true, false, List, [], ◌∷◌, ◌++◌, length, Option, Some, None, Contains, slice_get}
+use Rattle.std.specs.Prelude.{◌≡◌, ◌≢◌, ℕ, ◌⊎◌, true, false, List, [], ◌∷◌, length, Option, Some, None, Contains, slice_get}
 use Rattle.std.specs.List.{AllByRecursion, flat_map}
 use Rattle.plan_explain.specs.declared.history.Deed.{Deed}
 use Rattle.plan_explain.specs.declared.history.Step.{Step}

@@ -1,5 +1,5 @@
 -- What a walk through a script finds: where it comes, and where it stops, the paths of its history are the ways there.
-use Rattle.std.specs.Prelude.{◌≡◌, ℕ, Bool, true, if◌then◌else◌, List, [], ◌++◌, Option, Some, None, Result, Ok, Err}
+use Rattle.std.specs.Prelude.{◌≡◌, ℕ, Bool, if◌then◌else◌, List, [], ◌++◌, Option, Some, None, Result, Ok, Err}
 use Rattle.plan_code.specs.declared.plan.Plan.{Plan}
 use Rattle.plan_flow.specs.declared.cause.Cause.{Cause}
 use Rattle.plan_flow.specs.Flows.{known_at, FitsFlow, merged}
@@ -7,6 +7,7 @@ use Rattle.plan_flow.specs.Causes.{FlowRefused}
 use Rattle.script_front.specs.declared.tree.Act.{Act}
 use Rattle.script_front.specs.Block.{Block, nothing, basic, stop, when, either, repeat, forever, apply}
 use Rattle.script_compiler.specs.Scheme.{instr_of_act}
+use Rattle.script_compiler.specs.Refused.{IsLine}
 use Rattle.plan_explain.specs.declared.history.History.{History}
 use Rattle.plan_explain.specs.declared.state.PathState.{PathState}
 use Rattle.plan_explain.specs.declared.walk.Stop.{Stop}
@@ -73,17 +74,6 @@ AreRefusedWays (either at contact first second rest) ways line w =
     (at ≡ line) × (ways_at w ≡ ways_through second ways) × IsOther w.other w.history (ways_through first ways)
     × DoNotAgree w.other w.state
 AreRefusedWays _ ways line w = ⊥
-
--- the line of the first statement
-abbrev pub IsLine : Block → ℕ → Type 0
-IsLine nothing line = ⊥
-IsLine (basic at act rest) line = at ≡ line
-IsLine (stop at rest) line = at ≡ line
-IsLine (when at contact first rest) line = at ≡ line
-IsLine (either at contact first second rest) line = at ≡ line
-IsLine (repeat at times body rest) line = at ≡ line
-IsLine (forever at body rest) line = at ≡ line
-IsLine (apply at number named rest) line = at ≡ line
 
 abbrev pub IsStop : Plan → Block → List Way → Stop → Walk → Type 0
 IsStop plan b ways (StopsAtAct line act cause) w = IsRefusedAct plan b ways line act cause w

@@ -1,10 +1,12 @@
 //! The beginnings and ends of branches and loops in a walk: what is saved, and what must agree where paths meet.
 
-ghost use Rattle.std.specs.Prelude.{◌≡◌, ◌∷◌, ◌++◌, [], List, true, if◌then◌else◌, Some, Ok, OnOk, IfErr};
+ghost use Rattle.std.specs.Prelude.{◌≡◌, ◌∷◌, ◌++◌, [], List, true, if◌then◌else◌, Some, None, Ok, OnOk, IfErr};
+ghost use Rattle.script_compiler.specs.Scheme.{without_label};
 ghost use Rattle.plan_flow.specs.Flows.{FitsFlow};
 ghost use Rattle.plan_explain.specs.Paths.{ways_of, IsEnd};
 ghost use Rattle.plan_explain.specs.declared.state.PathState.{PathState};
 ghost use Rattle.plan_explain.specs.declared.walk.Stop.TheVariants.{Loop, Memory};
+ghost use Rattle.plan_explain.specs.Judging.{point_if, JoinsFlows};
 ghost use Rattle.plan_explain.specs.Walked.{ways_if, Merges};
 
 use crate::state::PathState;
@@ -41,8 +43,10 @@ impl Walk {
 
     /// Merges this path with another one; this one may be unreachable.
     fn join(&mut self, falls: bool, line: u16, other: PathState) -> Result<bool, Stop>
-        ensures { IsEnd self.old.history other.end → Merges line (ways_if falls self.old)
+        ensures ways { IsEnd self.old.history other.end → Merges line (ways_if falls self.old)
             (ways_of self.old.history other.end) self.old.saved.items self.old self.new result }
+        ensures flows { JoinsFlows line (point_if falls self.old) (Some (without_label other.flow))
+            self.new result }
     {
         if !falls {
             self.state = other;
@@ -67,6 +71,9 @@ impl Walk {
         ensures refused { IfErr result (λ stop. (front : List PathState) (entry : PathState)
             → self.old.saved.items ≡ front ++ entry ∷ [] → (stop ≡ Loop line) × (falls ≡ true)
             × (self.new.other ≡ Some entry) × (FitsFlow self.old.state.flow entry.flow → ⊥)) }
+        ensures fits { OnOk result ((front : List PathState) (entry : PathState)
+            → self.old.saved.items ≡ front ++ entry ∷ [] → falls ≡ true
+            → FitsFlow self.old.state.flow entry.flow) }
     {
         let entry = match self.restore() {
             Ok(entry) => entry,
@@ -89,10 +96,13 @@ impl Walk {
 
     /// Ends an `if` without `else`: merges the path through its block, if reachable, with the path past it.
     pub(crate) fn close_if(&mut self, falls: bool, line: u16) -> Result<bool, Stop>
-        ensures { (front : List PathState) (entry : PathState) → self.old.saved.items
+        ensures ways { (front : List PathState) (entry : PathState) → self.old.saved.items
             ≡ front ++ entry ∷ [] → IsEnd self.old.history entry.end → Merges line
             (ways_if falls self.old) (ways_of self.old.history entry.end) front
             self.old self.new result }
+        ensures flows { (front : List PathState) (entry : PathState) → self.old.saved.items
+            ≡ front ++ entry ∷ [] → JoinsFlows line (point_if falls self.old)
+            (Some (without_label entry.flow)) self.new result }
     {
         match self.restore() {
             Ok(entry) => self.join(falls, line, entry),
@@ -125,11 +135,14 @@ impl Walk {
     /// Ends a second branch: merges it with the first, if that is reachable.
     pub(crate) fn close_else(&mut self, first: bool, second: bool, line: u16) -> Result<bool, Stop>
         requires end { IsEnd self.old.history self.old.state.end }
-        ensures { (front : List PathState) (exit : PathState) → self.old.saved.items
+        ensures ways { (front : List PathState) (exit : PathState) → self.old.saved.items
             ≡ front ++ exit ∷ [] → IsEnd self.old.history exit.end → Merges line
             (ways_if second self.old)
             (if first then ways_of self.old.history exit.end else []) front
             self.old self.new result }
+        ensures flows { (front : List PathState) (exit : PathState) → self.old.saved.items
+            ≡ front ++ exit ∷ [] → JoinsFlows line (point_if second self.old)
+            (if first then Some (without_label exit.flow) else None) self.new result }
     {
         let exit = match self.restore() {
             Ok(exit) => exit,

@@ -1,5 +1,11 @@
 //! Explains why an instruction is refused, from what is known before it, and advises on it.
 
+ghost use Rattle.std.specs.Prelude.{◌≡◌, OnOk};
+ghost use Rattle.std.specs.Io.KnownBytes.{Appends};
+ghost use Rattle.plan_flow.specs.declared.cause.Cause.TheVariants.{Pending};
+ghost use Rattle.plan_explain.specs.Paths.{paths_of};
+ghost use Rattle.plan_explain.specs.SwapTexts.{SaysPending};
+
 use crate::config::{advise_config, explain_config};
 use crate::edit::{advise_edit, explain_edit};
 use crate::past::Past;
@@ -53,7 +59,11 @@ fn explain_frames<W: Write>(refused: &Refused, out: &mut W) -> io::Result<()> {
 
 /// Explains why an instruction is refused, on the lines after its position. Causes that do not depend on what an
 /// instruction needs have no numbers here.
-pub(crate) fn explain_instr<W: Write>(refused: &Refused, out: &mut W) -> io::Result<()> {
+pub(crate) fn explain_instr<W: Write>(refused: &Refused, out: &mut W) -> io::Result<()>
+    ensures pending { refused.now.cause ≡ Pending → OnOk result (SaysPending
+        (paths_of refused.now.past.history.now refused.now.past.end)
+        refused.now.flow.now.pending (Appends (W.contents out.old) (W.contents out.new))) }
+{
     let flow = refused.flow;
     match refused.cause {
         Cause::Edit(fault) => explain_change(refused, fault, out),

@@ -1,79 +1,26 @@
-//! Explains budgets that are too small: the longest path is the least budget with which `compile` does not refuse.
+//! Explains budgets that are too small, and costs that no budget allows.
 
-use crate::change::{Splice, spliced};
+ghost use Rattle.std.specs.Prelude.{◌≡◌, IfOk, IfSome};
+ghost use Rattle.script_compiler.specs.Compiled.{placed_instrs, lines_of_placed};
+ghost use Rattle.script_compiler.specs.FrameCosts.{IsFrameCost};
+
 use crate::hint_loop::{Braces, try_wait_in};
 use crate::source::Source;
-use crate::trial::{Outcome, outcome_of};
 use crate::trier::Trier;
-use plan_flow::Cause;
-use script_compiler::CompileFault;
+use script_compiler::{CompileFault, FrameCost, LongestPath, frame_cost};
+use script_front::Script;
 use std::alloc::{AllocError, Global};
 use std::io::{self, Write};
-
-/// The text of a script with another budget, if its header has one.
-fn with_budget(alloc: Global, source: &Source, budget: u16) -> Result<Option<String>, AllocError> {
-    let Some(index) = source.index_of("budget") else {
-        return Ok(None);
-    };
-    let Some(spot) = source.spot(index.saturating_add(1), 1) else {
-        return Ok(None);
-    };
-    let splice = Splice {
-        start: spot.start,
-        end: spot.end,
-        part: format!(in alloc; "{budget}")?,
-    };
-    spliced(alloc, source.text, &splice)
-}
-
-/// Whether a script with another budget is refused for its costs.
-fn costs_more(alloc: Global, source: &Source, budget: u16) -> Result<bool, AllocError> {
-    let Some(changed) = with_budget(alloc, source, budget)? else {
-        return Ok(true);
-    };
-    match outcome_of(alloc, changed.as_str())? {
-        Outcome::Accepted => Ok(false),
-        Outcome::NoScript(_fault) => Ok(true),
-        Outcome::NoPlan(CompileFault::Limit { .. }) => Ok(false),
-        Outcome::NoPlan(CompileFault::Refused { cause, .. }) => Ok(cause == Cause::Cost),
-        Outcome::NoPlan(CompileFault::Memory) => Err(AllocError),
-    }
-}
-
-/// The number of instructions on the longest path in one frame, if `budget` is too small for it; `None` if more
-/// than 255, or unbounded.
-fn longest(alloc: Global, source: &Source, budget: u8) -> Result<Option<u16>, AllocError> {
-    let mut low = u16::from(budget);
-    let mut high = 255u16;
-    if costs_more(alloc, source, high)? {
-        return Ok(None);
-    }
-    for _halving in 0..9 {
-        if low.saturating_add(1) < high {
-            let middle = low + (high - low) / 2;
-            if costs_more(alloc, source, middle)? {
-                low = middle;
-            } else {
-                high = middle;
-            }
-        }
-    }
-    Ok(Some(high))
-}
 
 /// The facts that explain a cost.
 #[derive(Clone, Copy)]
 pub(crate) struct Costs {
-    /// The number of instructions on the longest path in one frame, if at most 255.
-    longest: Option<u16>,
-    /// The loop that begins in the refused line, if one does.
+    /// How many instructions can run in one frame; none if the script is refused before its costs.
+    cost: Option<FrameCost>,
+    /// The loop that can repeat without a wait, if only one begins in its line.
     found: Option<Loop>,
-    /// The refused line.
-    line: u16,
     /// The budget of the script.
     budget: u8,
-    /// Whether the script is so short that only a loop can have more than 255 instructions in one frame.
-    is_short: bool,
 }
 
 /// A loop of a script.
@@ -97,92 +44,139 @@ fn loop_of(source: &Source, line: u16) -> Option<Loop> {
     })
 }
 
-/// The facts that explain why a script is refused in this line for its costs.
-pub(crate) fn costs_of(
-    alloc: Global,
-    source: &Source,
-    budget: u8,
-    line: u16,
-    is_short: bool,
-) -> Result<Costs, AllocError> {
+/// How many instructions of a script's code can run in one frame; none if the script is refused before its costs.
+fn cost_of(alloc: Global, script: &Script) -> Result<Option<FrameCost>, AllocError>
+    ensures { IfOk result (λ cost. IfSome cost
+        (IsFrameCost (lines_of_placed (placed_instrs script.now)))) }
+{
+    match frame_cost(alloc, script) {
+        Ok(cost) => Ok(Some(cost)),
+        Err(CompileFault::Memory) => Err(AllocError),
+        Err(CompileFault::Refused { .. }) => Ok(None),
+        Err(CompileFault::Limit { .. }) => Ok(None),
+    }
+}
+
+/// The facts that explain why a script with these tokens is refused for its costs.
+pub(crate) fn costs_of(alloc: Global, source: &Source, script: &Script) -> Result<Costs, AllocError>
+    ensures cost { IfOk result (λ costs. IfSome costs.cost
+        (IsFrameCost (lines_of_placed (placed_instrs script.now)))) }
+    ensures budget { IfOk result (λ costs. costs.budget ≡ script.now.header.budget) }
+{
+    let cost = match cost_of(alloc, script) {
+        Ok(cost) => cost,
+        Err(error) => return Err(error),
+    };
+    let found = match cost {
+        Some(FrameCost::Repeats { line }) => loop_of(source, line),
+        Some(FrameCost::Most(_)) => None,
+        Some(FrameCost::Beyond { .. }) => None,
+        None => None,
+    };
     Ok(Costs {
-        longest: longest(alloc, source, budget)?,
-        found: loop_of(source, line),
-        line,
-        budget,
-        is_short,
+        cost,
+        found,
+        budget: script.header().budget,
     })
 }
 
 /// Explains why a script costs more than its budget, on the lines after the position.
 pub(crate) fn explain_costs<W: Write>(costs: &Costs, out: &mut W) -> io::Result<()> {
     let budget = costs.budget;
-    if let Some(longest) = costs.longest {
-        return writeln!(
+    match costs.cost {
+        Some(FrameCost::Most(path)) => {
+            let instructions = path.instructions;
+            let (first, last) = (path.first, path.last);
+            writeln!(
+                out,
+                "the longest path runs {instructions} instructions in one frame, from line {first} to line {last}; the budget is {budget}"
+            )
+        }
+        Some(FrameCost::Repeats { line }) => explain_repeated(line, &costs.found, out),
+        Some(FrameCost::Beyond { line }) => writeln!(
             out,
-            "the longest path runs {longest} instructions in one frame; the budget is {budget}"
-        );
+            "from line {line} on more than 255 instructions can run in one frame, which no budget allows; the budget is {budget}"
+        ),
+        None => writeln!(out, "the plan is refused here"),
     }
-    explain_unbounded(costs, out)
 }
 
-/// Explains costs that exceed every budget.
-fn explain_unbounded<W: Write>(costs: &Costs, out: &mut W) -> io::Result<()> {
-    let budget = costs.budget;
-    let first = costs.line;
-    let Some(Loop { braces, ends }) = costs.found else {
+/// Explains a loop that begins in this line and can repeat without a wait.
+fn explain_repeated<W: Write>(first: u16, found: &Option<Loop>, out: &mut W) -> io::Result<()> {
+    let Some(Loop { braces, ends }) = found else {
         return writeln!(
             out,
-            "from here more than 255 instructions run in one frame; the budget is {budget}"
+            "a loop that begins in line {first} can repeat without a wait, so that its instructions in one frame have no bound"
         );
     };
     let last = braces.last.line;
-    if costs.is_short && ends {
+    if *ends {
         return writeln!(
             out,
             "an iteration of the loop of lines {first} to {last} can run without a wait: that is refused, however few iterations it has"
         );
     }
-    if costs.is_short {
-        return writeln!(
-            out,
-            "the loop of lines {first} to {last} can repeat without a wait, so that its instructions in one frame have no bound"
-        );
-    }
     writeln!(
         out,
-        "the loop of lines {first} to {last} can repeat without a wait, or more than 255 instructions run in one frame from here; the budget is {budget}"
+        "the loop of lines {first} to {last} can repeat without a wait, so that its instructions in one frame have no bound"
     )
 }
 
 /// Corrections of costs: a greater budget, or a wait in the loop.
 pub(crate) fn try_costs(trier: &mut Trier, costs: &Costs) -> Result<(), AllocError> {
-    let budget = costs.budget;
-    if let Some(longest) = costs.longest {
-        let old = format!(in trier.alloc; "budget {budget}")?;
-        let new = format!(in trier.alloc; "budget {longest}")?;
-        if let Some(spot) = trier.header_spot("budget", old.as_str())? {
-            return trier.write_at(spot, new.as_str());
-        }
-        return Ok(());
+    match costs.cost {
+        Some(FrameCost::Most(path)) => try_budget(trier, costs.budget, path.instructions),
+        Some(FrameCost::Repeats { .. }) => match costs.found {
+            Some(Loop { braces, .. }) => try_wait_in(trier, braces),
+            None => Ok(()),
+        },
+        Some(FrameCost::Beyond { .. }) => Ok(()),
+        None => Ok(()),
     }
-    match costs.found {
-        Some(Loop { braces, .. }) => try_wait_in(trier, braces),
+}
+
+/// The correction of a budget: the least one that is enough.
+fn try_budget(trier: &mut Trier, budget: u8, enough: u16) -> Result<(), AllocError> {
+    let old = format!(in trier.alloc; "budget {budget}")?;
+    let new = format!(in trier.alloc; "budget {enough}")?;
+    match trier.header_spot("budget", old.as_str())? {
+        Some(spot) => trier.write_at(spot, new.as_str()),
         None => Ok(()),
     }
 }
 
 /// Advises on a script that costs more than its budget.
 pub(crate) fn advise_costs<W: Write>(costs: &Costs, out: &mut W) -> io::Result<()> {
-    let first = costs.line;
-    if let Some(longest) = costs.longest {
+    match costs.cost {
+        Some(FrameCost::Most(path)) => {
+            let LongestPath {
+                instructions,
+                first,
+                last,
+            } = path;
+            writeln!(
+                out,
+                "hint: a budget of {instructions}, or a 'wait 1' between line {first} and line {last}"
+            )
+        }
+        Some(FrameCost::Repeats { line }) => advise_repeated(line, &costs.found, out),
+        Some(FrameCost::Beyond { line }) => {
+            writeln!(
+                out,
+                "hint: a 'wait 1' among the statements from line {line} on"
+            )
+        }
+        None => Ok(()),
+    }
+}
+
+/// Advises on a loop that begins in this line and can repeat without a wait.
+fn advise_repeated<W: Write>(first: u16, found: &Option<Loop>, out: &mut W) -> io::Result<()> {
+    let Some(Loop { braces, .. }) = found else {
         return writeln!(
             out,
-            "hint: a budget of {longest}, or a 'wait 1' between the instructions that follow line {first}"
+            "hint: a 'wait 1' on each path through the loops that begin in line {first}"
         );
-    }
-    let Some(Loop { braces, .. }) = costs.found else {
-        return writeln!(out, "hint: a 'wait 1' between them");
     };
     let last = braces.last.line;
     writeln!(

@@ -1,7 +1,13 @@
 //! The first difference between two configurations.
 
+ghost use Rattle.std.specs.Prelude.{◌≡◌, ◌↔◌, ℕ, None, Some, IfSome, IsTrue};
+ghost use Rattle.mux_config.specs.Configuration.{IsConfiguration, sub_key, service_key, packet_key};
+ghost use Rattle.mux_config.specs.Edits.{service_at};
+ghost use Rattle.plan_explain.specs.Differences.{HasNoOther, IsFirstDifference};
+
 use crate::names::{put_packet, put_service, put_sid, put_sub};
-use mux_config::{Config, Packet, Sid, Store, Sub};
+use mux_config::{Config, Packet, Service, Sid, Store, Sub};
+use mux_types::sameness::is_same_service;
 use std::io::{self, Write};
 
 /// A member that differs between two configurations, as it is in each that has it.
@@ -16,7 +22,11 @@ pub(crate) enum Difference {
 }
 
 /// The first sub-channel of the first configuration that differs in the second or is missing there.
-fn sub_difference(a: &Config, b: &Config) -> Option<Difference> {
+fn sub_difference(a: &Config, b: &Config) -> Option<Difference>
+    ensures found { IfSome result (IsFirstDifference a.now b.now) }
+    ensures none { result ≡ None → (id : ℕ) → HasNoOther sub_key a.now.subs b.now.subs id }
+    ensures configuration { IsConfiguration a.now }
+{
     for sub in a.subs() {
         let other = b.sub(sub.id);
         if other != Some(*sub) {
@@ -26,8 +36,13 @@ fn sub_difference(a: &Config, b: &Config) -> Option<Difference> {
     None
 }
 
-/// The first sub-channel of the second that is missing in the first.
-fn sub_added(a: &Config, b: &Config) -> Option<Difference> {
+/// The first sub-channel of the second that is missing in the first, which has no other one.
+fn sub_added(a: &Config, b: &Config) -> Option<Difference>
+    requires others { (id : ℕ) → HasNoOther sub_key a.now.subs b.now.subs id }
+    requires configuration { IsConfiguration a.now }
+    ensures found { IfSome result (IsFirstDifference a.now b.now) }
+    ensures none { result ≡ None → a.now.subs ≡ b.now.subs }
+{
     for sub in b.subs() {
         if a.sub(sub.id).is_none() {
             return Some(Difference::Sub(None, Some(*sub)));
@@ -36,22 +51,40 @@ fn sub_added(a: &Config, b: &Config) -> Option<Difference> {
     None
 }
 
+/// Whether a configuration has this service, with the same components in the same order.
+fn has_service(config: &Config, service: &Service) -> bool
+    ensures { IsTrue result ↔ (service_at service.now.sid config.now ≡ Some service.now) }
+{
+    match config.service(service.sid) {
+        Some(other) => is_same_service(other, service),
+        None => false,
+    }
+}
+
 /// The first service of the first that is missing in the second or has other components there.
-fn service_difference(a: &Config, b: &Config) -> Option<Difference> {
+fn service_difference(a: &Config, b: &Config) -> Option<Difference>
+    requires { a.now.subs ≡ b.now.subs }
+    ensures found { IfSome result (IsFirstDifference a.now b.now) }
+    ensures none { result ≡ None → (key : ℕ) → HasNoOther service_key a.now.services
+        b.now.services key }
+    ensures configuration { IsConfiguration a.now }
+{
     for service in a.services() {
-        let is_same = match b.service(service.sid) {
-            Some(other) => service.components.as_slice() == other.components.as_slice(),
-            None => false,
-        };
-        if !is_same {
+        if !has_service(b, service) {
             return Some(Difference::Service(service.sid));
         }
     }
     None
 }
 
-/// The first service of the second that is missing in the first.
-fn service_added(a: &Config, b: &Config) -> Option<Difference> {
+/// The first service of the second that is missing in the first, which has no other one.
+fn service_added(a: &Config, b: &Config) -> Option<Difference>
+    requires subs { a.now.subs ≡ b.now.subs }
+    requires others { (key : ℕ) → HasNoOther service_key a.now.services b.now.services key }
+    requires configuration { IsConfiguration a.now }
+    ensures found { IfSome result (IsFirstDifference a.now b.now) }
+    ensures none { result ≡ None → a.now.services ≡ b.now.services }
+{
     for service in b.services() {
         if a.service(service.sid).is_none() {
             return Some(Difference::Service(service.sid));
@@ -61,7 +94,14 @@ fn service_added(a: &Config, b: &Config) -> Option<Difference> {
 }
 
 /// The first packet component of the first configuration that differs in the second or is missing there.
-fn packet_difference(a: &Config, b: &Config) -> Option<Difference> {
+fn packet_difference(a: &Config, b: &Config) -> Option<Difference>
+    requires subs { a.now.subs ≡ b.now.subs }
+    requires services { a.now.services ≡ b.now.services }
+    ensures found { IfSome result (IsFirstDifference a.now b.now) }
+    ensures none { result ≡ None → (scid : ℕ) → HasNoOther packet_key a.now.packets b.now.packets
+        scid }
+    ensures configuration { IsConfiguration a.now }
+{
     for packet in a.packets() {
         let other = b.packet(packet.scid);
         if other != Some(*packet) {
@@ -71,8 +111,15 @@ fn packet_difference(a: &Config, b: &Config) -> Option<Difference> {
     None
 }
 
-/// The first packet component of the second that is missing in the first.
-fn packet_added(a: &Config, b: &Config) -> Option<Difference> {
+/// The first packet component of the second that is missing in the first, which has no other one.
+fn packet_added(a: &Config, b: &Config) -> Option<Difference>
+    requires subs { a.now.subs ≡ b.now.subs }
+    requires services { a.now.services ≡ b.now.services }
+    requires others { (scid : ℕ) → HasNoOther packet_key a.now.packets b.now.packets scid }
+    requires configuration { IsConfiguration a.now }
+    ensures found { IfSome result (IsFirstDifference a.now b.now) }
+    ensures none { result ≡ None → a.now.packets ≡ b.now.packets }
+{
     for packet in b.packets() {
         if a.packet(packet.scid).is_none() {
             return Some(Difference::Packet(None, Some(*packet)));
@@ -82,7 +129,10 @@ fn packet_added(a: &Config, b: &Config) -> Option<Difference> {
 }
 
 /// The first member that differs between two configurations; `None` if they are equal.
-pub(crate) fn first_difference(a: &Config, b: &Config) -> Option<Difference> {
+pub(crate) fn first_difference(a: &Config, b: &Config) -> Option<Difference>
+    ensures found { IfSome result (IsFirstDifference a.now b.now) }
+    ensures none { (result ≡ None) ↔ (a.now ≡ b.now) }
+{
     if let Some(found) = sub_difference(a, b) {
         return Some(found);
     }
@@ -152,7 +202,9 @@ pub(crate) fn put_difference<W: Write>(
     here: &str,
     there: &str,
     out: &mut W,
-) -> io::Result<()> {
+) -> io::Result<()>
+    requires { IsFirstDifference a.now b.now difference.now }
+{
     match difference {
         Difference::Sub(one, other) => {
             put_one_sub(one, other, out)?;

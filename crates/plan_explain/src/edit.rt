@@ -1,6 +1,8 @@
 //! Explains refused edits.
 
-ghost use Rattle.std.specs.Prelude.{◌≤◌};
+ghost use Rattle.std.specs.Prelude.{◌≤◌, OnOk};
+ghost use Rattle.std.specs.Io.KnownBytes.{Appends};
+ghost use Rattle.plan_explain.specs.SinceTexts.{since_text};
 
 use crate::absent::{advise_absent, explain_absent};
 use crate::names::{put_carrier, put_packet, put_profile, put_service, put_sid, put_sub, units_of};
@@ -19,7 +21,10 @@ pub(crate) fn is_there(config: &Config, carrier: &Carrier) -> bool {
 }
 
 /// Writes the line in which something was done, if one did it, and ends the line.
-pub(crate) fn put_since<W: Write>(since: Since, word: &str, out: &mut W) -> io::Result<()> {
+pub(crate) fn put_since<W: Write>(since: Since, word: &str, out: &mut W) -> io::Result<()>
+    ensures { OnOk result (Appends (W.contents out.old) (W.contents out.new)
+        (since_text since word.now)) }
+{
     match since {
         Since::Never => writeln!(out),
         Since::Line(line) => writeln!(out, "; line {line} {word} it"),

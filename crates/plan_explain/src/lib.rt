@@ -21,6 +21,7 @@ mod change;
 mod changes;
 mod code;
 mod config;
+mod contrast;
 mod cost;
 mod difference;
 mod edit;

@@ -4,14 +4,71 @@ ghost use Rattle.std.specs.Prelude.{◌≤◌};
 
 use mux_config::{Carrier, Component, Packet, Service, Sid, Sub};
 use mux_eep::{EepSet, Protection, size_of};
+use std::fmt::{self, Display, Formatter};
 use std::io::{self, Write};
+
+/// A number in four digits 0-9 or A-F.
+#[derive(Clone, Copy)]
+struct HexU16(u16);
+
+impl Display for HexU16 {
+    ghost use Rattle.std.specs.Prelude.{Some};
+    ghost use Rattle.script_front.specs.Spelling.{hex_text};
+
+    ghost output = { λ text. Some (hex_text text.0) };
+
+    #[tactic(auto, using(crate::proofs::Digits::written_byte))]
+    fn fmt<W: fmt::Write>(&self, f: &mut Formatter<W>) -> fmt::Result {
+        let high = (self.0 / 256) as u8;
+        let low = (self.0 % 256) as u8;
+        write!(f, "{high:02X}{low:02X}")
+    }
+}
+
+/// An SId: four digits for a short one, eight for a long one.
+#[derive(Clone, Copy)]
+pub(crate) struct SidText(pub(crate) Sid);
+
+impl Display for SidText {
+    ghost use Rattle.std.specs.Prelude.{Some};
+    ghost use Rattle.script_front.specs.Spelling.{sid_text};
+
+    ghost output = { λ text. Some (sid_text text.0) };
+
+    fn fmt<W: fmt::Write>(&self, f: &mut Formatter<W>) -> fmt::Result {
+        match self.0 {
+            Sid::Short(number) => write!(f, "{}", HexU16(number)),
+            Sid::Long(number) => {
+                let high = (number / 65_536) as u16;
+                let low = (number % 65_536) as u16;
+                write!(f, "{}{}", HexU16(high), HexU16(low))
+            }
+        }
+    }
+}
+
+/// A component in the script's notation.
+#[derive(Clone, Copy)]
+pub(crate) struct ComponentText(pub(crate) Component);
+
+impl Display for ComponentText {
+    ghost use Rattle.std.specs.Prelude.{Some};
+    ghost use Rattle.plan_explain.specs.WarningTexts.{component_text};
+
+    ghost output = { λ text. Some (component_text text.0) };
+
+    fn fmt<W: fmt::Write>(&self, f: &mut Formatter<W>) -> fmt::Result {
+        match self.0 {
+            Component::Sound { ty, sub } => write!(f, "audio {} sub {}", ty.get(), sub.get()),
+            Component::Stream { ty, sub } => write!(f, "data {} sub {}", ty.get(), sub.get()),
+            Component::Packet { scid } => write!(f, "carry {}", scid.get()),
+        }
+    }
+}
 
 /// Writes an SId in digits.
 pub(crate) fn put_sid<W: Write>(sid: Sid, out: &mut W) -> io::Result<()> {
-    match sid {
-        Sid::Short(number) => write!(out, "{number:04X}"),
-        Sid::Long(number) => write!(out, "{number:08X}"),
-    }
+    write!(out, "{}", SidText(sid))
 }
 
 /// Writes a protection profile.
@@ -71,22 +128,7 @@ pub(crate) fn put_carrier<W: Write>(carrier: &Carrier, out: &mut W) -> io::Resul
 
 /// Writes a component.
 pub(crate) fn put_component<W: Write>(component: &Component, out: &mut W) -> io::Result<()> {
-    match *component {
-        Component::Sound { ty, sub } => {
-            let ty = ty.get();
-            let sub = sub.get();
-            write!(out, "audio {ty} sub {sub}")
-        }
-        Component::Stream { ty, sub } => {
-            let ty = ty.get();
-            let sub = sub.get();
-            write!(out, "data {ty} sub {sub}")
-        }
-        Component::Packet { scid } => {
-            let scid = scid.get();
-            write!(out, "carry {scid}")
-        }
-    }
+    write!(out, "{}", ComponentText(*component))
 }
 
 /// Writes a service with its components.

@@ -1,6 +1,12 @@
 //! Explains why the opening of a script is refused: its items, and the configuration that they make.
 
-ghost use Rattle.std.specs.Prelude.{◌≡◌, ◌↔◌, [], IfOk, OnOk, IsTrue};
+ghost use Rattle.std.specs.Prelude.{◌≡◌, ◌↔◌, ◌≤◌, [], None, IfOk, OnOk, IsTrue};
+ghost use Rattle.mux_config.specs.Configuration.{nothing};
+ghost use Rattle.mux_config.specs.Edits.{changed, edit_fault};
+ghost use Rattle.mux_config.specs.Sound.{IsSound};
+ghost use Rattle.plan_flow.specs.Rules.{pages_alone};
+ghost use Rattle.plan_flow.specs.Tests.{start_cause};
+ghost use Rattle.script_compiler.specs.Compiled.{AreFine, with_items};
 ghost use Rattle.plan_explain.specs.Paths.{ways_of, IsEnd};
 ghost use Rattle.plan_explain.specs.Ways.{each_with};
 ghost use Rattle.plan_explain.specs.Openings.{of_item, ways_with};
@@ -16,7 +22,7 @@ use crate::script::PlanPath;
 use crate::trier::Trier;
 use mux_config::{Config, Edit, EditFault};
 use plan_code::{Instr, Plan};
-use plan_flow::Cause;
+use plan_flow::{Cause, test_opening};
 use script_front::Item;
 use std::alloc::{AllocError, Global};
 use std::io::{self, Write};
@@ -45,6 +51,10 @@ fn apply_item(
     end: &mut PathEnd,
 ) -> Result<(), AllocError>
     ensures faults { OnOk result (faults.new.items ≡ [] → faults.old.items ≡ []) }
+    ensures fine { OnOk result (faults.new.items ≡ []
+        → edit_fault item.now.edit config.old ≡ None) }
+    ensures made { OnOk result (faults.new.items ≡ []
+        → config.new ≡ changed item.now.edit config.old) }
     ensures ways { OnOk result (faults.new.items ≡ [] → ways_of history.new end.new
         ≡ each_with (of_item item.now) (ways_of history.old end.old)) }
     ensures end { OnOk result (IsEnd history.old end.old → IsEnd history.new end.new) }
@@ -85,6 +95,9 @@ impl ItemFaults {
         ensures ways { IfOk result (λ f. f.faults.items ≡ [] → ways_of history.new end.new
             ≡ ways_with items.now (ways_of history.old end.old)) }
         ensures end { IsEnd history.old end.old → IfOk result (λ f. IsEnd history.new end.new) }
+        ensures fine { IfOk result (λ f. f.faults.items ≡ [] → AreFine items.now nothing) }
+        ensures made { IfOk result (λ f. f.faults.items ≡ []
+            → f.config ≡ with_items items.now nothing) }
     {
         let mut config = Config::new();
         let mut faults = Vec::new(alloc);
@@ -98,13 +111,31 @@ impl ItemFaults {
     }
 
     /// The configuration that the items without a fault make.
-    pub(crate) fn config(&self) -> &Config {
+    pub(crate) fn config(&self) -> &Config
+        ensures { result.now ≡ self.now.config }
+    {
         &self.config
     }
 
     /// The items with a fault, in order.
     pub(crate) fn faults(&self) -> &[ItemFault] {
         self.faults.as_slice()
+    }
+
+    /// The cause for which a plan can't begin with that configuration; None if an item has a fault.
+    pub(crate) fn opening_cause(&self, plan: &Plan) -> Option<Cause>
+        ensures cause { result ≡ None → self.now.faults.items ≡ []
+            → start_cause plan.now self.now.config ≡ None }
+        ensures fine { result ≡ None → self.now.faults.items ≡ [] → IsSound self.now.config
+            × (pages_alone plan.now self.now.config ≤ plan.now.period) }
+    {
+        if !self.is_none() {
+            return None;
+        }
+        match test_opening(plan, &self.config) {
+            Ok(()) => None,
+            Err(cause) => Some(cause),
+        }
     }
 
     /// Whether no item has a fault.

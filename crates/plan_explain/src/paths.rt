@@ -1,6 +1,11 @@
 //! Explains control-flow paths that can't be merged, by the first difference between them.
 
-use crate::difference::{first_difference, put_difference};
+ghost use Rattle.std.specs.Prelude.{◌≡◌, ◌↔◌, false, IfOk};
+ghost use Rattle.plan_flow.specs.Flows.{FitsFlow};
+ghost use Rattle.plan_explain.specs.Contrasts.{AgreeAtMerge, with_swap};
+
+use crate::contrast::{Contrast, first_contrast, has_other_swap};
+use crate::difference::put_difference;
 use crate::hint_loop::Braces;
 use crate::swap::put_swap;
 use mux_config::Config;
@@ -33,68 +38,30 @@ struct Sides {
     there: &'static str,
 }
 
-/// Whether what is known of the swap does not match what is declared, whatever the configurations are: it does not even
-/// if they are all empty.
-fn has_other_swap(known: Swap, declared: Swap) -> bool {
-    let empty = Config::new();
-    let flow = Flow {
-        current: Config::new(),
-        next: Config::new(),
-        pending: known,
-    };
-    !flow.fits(&empty, &empty, declared)
-}
-
-/// Writes the first difference between two configurations, if there is one; returns whether there is.
-fn put_pair<W: Write>(
-    a: &Config,
-    b: &Config,
-    name: &str,
-    sides: Sides,
-    out: &mut W,
-) -> io::Result<bool> {
-    let Some(difference) = first_difference(a, b) else {
-        return Ok(false);
-    };
-    write!(out, "in {name} ")?;
-    put_difference(&difference, a, b, sides.here, sides.there, out)?;
-    out.write_all(b"\n")?;
-    Ok(true)
-}
-
-/// Writes the first difference between the current configurations of two paths, or else between the next ones. If a
-/// swap is pending on only one of them, the current configuration of the other must be the one after the swap.
+/// Writes the first difference between the configurations of two paths, if there is one; returns whether there is.
 fn put_configs<W: Write>(
     here: &Flow<Config>,
     there: &Flow<Config>,
     sides: Sides,
     out: &mut W,
-) -> io::Result<bool> {
-    let current = if is_idle(there.pending) || !is_idle(here.pending) {
-        &there.current
-    } else {
-        &there.next
+) -> io::Result<bool>
+    ensures merge { IfOk result (λ differ. (differ ≡ false) ↔ AgreeAtMerge here.now there.now) }
+    ensures label { FitsFlow (with_swap here.now.pending) (with_swap there.now.pending)
+        → IfOk result (λ differ. (differ ≡ false) ↔ FitsFlow here.now there.now) }
+{
+    let Some(found) = first_contrast(here, there) else {
+        return Ok(false);
     };
-    let known = if is_idle(here.pending) || !is_idle(there.pending) {
-        &here.current
-    } else {
-        &here.next
-    };
-    let name = if is_idle(here.pending) == is_idle(there.pending) {
-        "the current configuration"
-    } else {
-        "the configuration after the swap"
-    };
-    if put_pair(known, current, name, sides, out)? {
-        return Ok(true);
-    }
-    put_pair(
-        &here.next,
-        &there.next,
-        "the next configuration",
-        sides,
-        out,
-    )
+    let Contrast {
+        here: one,
+        there: other,
+        name,
+        difference,
+    } = found;
+    write!(out, "in {name} ")?;
+    put_difference(&difference, one, other, sides.here, sides.there, out)?;
+    out.write_all(b"\n")?;
+    Ok(true)
 }
 
 /// Writes the swap state of two paths.

@@ -1,10 +1,13 @@
 //! Explains why a script is not compiled.
 
-ghost use Rattle.std.specs.Prelude.{◌≡◌, None, OnOk, IfOk, IfSome};
+ghost use Rattle.std.specs.Prelude.{◌≡◌, [], None, OnOk, IfOk, IfSome};
 ghost use Rattle.script_compiler.specs.Scheme.{instr_of_act};
-ghost use Rattle.script_compiler.specs.Compiled.{body_of};
+ghost use Rattle.script_compiler.specs.declared.flow.ProgramPoint.{ProgramPoint};
+ghost use Rattle.script_compiler.specs.Judged.{IsJudged};
+ghost use Rattle.script_compiler.specs.Compiled.{body_of, beginning, opening_of};
 ghost use Rattle.plan_explain.specs.Paths.{ways_of, IsEnd};
 ghost use Rattle.plan_explain.specs.Walked.{ways_at, StopsIn};
+ghost use Rattle.plan_explain.specs.Judging.{IfStopped, IsTheRefusal, IsTheFault};
 ghost use Rattle.plan_explain.specs.Openings.{opening_ways};
 
 use crate::cause::{Refused, advise_instr, explain_instr};
@@ -22,7 +25,7 @@ use crate::trial::Refusal;
 use crate::trier::Trier;
 use crate::walk::{Stop, Walk};
 use plan_code::Plan;
-use plan_flow::{Cause, test_opening};
+use plan_flow::Cause;
 use script_compiler::{CompileFault, instr_of};
 use script_front::lexemes::put_act;
 use script_front::{Act, Script};
@@ -43,10 +46,15 @@ pub(crate) struct PlanPath {
 }
 
 /// Walks through a script up to the first refusal. A statement at which it stops is at a place of the script to which
-/// the paths of its history are the ways.
+/// the paths of its history are the ways, and it is the one for which the script is refused.
 fn path_to(alloc: Global, script: &Script) -> Result<PlanPath, AllocError>
-    ensures { IfOk result (λ p. IfSome p.stop (λ s. StopsIn script.now.header (body_of script.now)
-        (opening_ways script.now) s p.walk)) }
+    ensures ways { IfOk result (λ p. IfSome p.stop (λ s. StopsIn script.now.header
+        (body_of script.now) (opening_ways script.now) s p.walk)) }
+    ensures refused { IfOk result (λ p. IfSome p.stop (λ s. IfStopped s
+        (IsTheFault script.now))) }
+    ensures valid { IfOk result (λ p. p.stop ≡ None → p.items.faults.items ≡ []
+        → p.opening ≡ None → IsJudged script.now.header (body_of script.now)
+        (beginning (opening_of script.now))) }
 {
     let plan = script.header();
     let mut history = History::new(alloc);
@@ -55,12 +63,7 @@ fn path_to(alloc: Global, script: &Script) -> Result<PlanPath, AllocError>
         Ok(items) => items,
         Err(error) => return Err(error),
     };
-    let mut opening = None;
-    if items.is_none() {
-        if let Err(cause) = test_opening(&plan, items.config()) {
-            opening = Some(cause);
-        }
-    }
+    let opening = items.opening_cause(&plan);
     let state = PathState::at_opening(items.config(), end, plan.budget);
     let mut path_taken = PlanPath {
         walk: Walk::new(alloc, state, history),
@@ -81,8 +84,14 @@ fn path_to(alloc: Global, script: &Script) -> Result<PlanPath, AllocError>
 fn extend(plan: &Plan, script: &Script, path_taken: &mut PlanPath) -> Result<(), AllocError>
     requires end { let w = path_taken.old.walk in IsEnd w.history w.state.end }
     requires stop { path_taken.old.stop ≡ None }
-    ensures { OnOk result (IfSome path_taken.new.stop (λ s. StopsIn plan.now (body_of script.now)
-        (ways_at path_taken.old.walk) s path_taken.new.walk)) }
+    ensures ways { OnOk result (IfSome path_taken.new.stop (λ s. StopsIn plan.now
+        (body_of script.now) (ways_at path_taken.old.walk) s path_taken.new.walk)) }
+    ensures refused { OnOk result (IfSome path_taken.new.stop (λ s. (t : ProgramPoint)
+        → (let w = path_taken.old.walk in t.flow ≡ w.state.flow)
+        → IfStopped s (λ line cause. IsTheRefusal plan.now (body_of script.now) t line cause))) }
+    ensures valid { OnOk result (path_taken.new.stop ≡ None → (t : ProgramPoint)
+        → (let w = path_taken.old.walk in t.flow ≡ w.state.flow)
+        → IsJudged plan.now (body_of script.now) t) }
 {
     match path_taken
         .walk
@@ -262,14 +271,8 @@ fn explain_path<W: Write>(
 }
 
 /// Explains a refusal for costs.
-fn explain_cost_at<W: Write>(
-    trier: &mut Trier,
-    budget: u8,
-    line: u16,
-    is_short: bool,
-    out: &mut W,
-) -> io::Result<()> {
-    let costs = costs_of(trier.alloc, &trier.source, budget, line, is_short)?;
+fn explain_cost_at<W: Write>(trier: &mut Trier, script: &Script, out: &mut W) -> io::Result<()> {
+    let costs = costs_of(trier.alloc, &trier.source, script)?;
     explain_costs(&costs, out)?;
     try_costs(trier, &costs)?;
     if trier.is_at_loss() {
@@ -298,8 +301,7 @@ fn explain_cause<W: Write>(
     let mut trier = Trier::new(alloc, text, refusal)?;
     write!(out, "{path}:{line}: ")?;
     if cause == Cause::Cost {
-        let is_short = path_taken.walk.is_short();
-        return explain_cost_at(&mut trier, plan.budget, line, is_short, out);
+        return explain_cost_at(&mut trier, script, out);
     }
     if path_taken.items.is_none() && path_taken.opening.is_none() {
         return explain_path(&mut trier, &plan, &path_taken, line, out);

@@ -3,7 +3,8 @@
 ghost use Rattle.std.specs.Prelude.{◌≡◌, ◌∷◌, ◌++◌, ◌↔◌, map, true, false, None, IsSome, IfOk, IfSome};
 ghost use Rattle.plan_code.specs.declared.label.Swap.TheVariants.{Idle};
 ghost use Rattle.plan_flow.specs.Causes.{FlowRefused};
-ghost use Rattle.plan_flow.specs.Flows.{known_at, after_instr, set_after, merged, FitsFlow};
+ghost use Rattle.plan_flow.specs.Flows.{known_at, after_instr, set_after, merged, FitsFlow, HasItsCounter};
+ghost use Rattle.plan_flow.specs.Rules.{IsFine};
 ghost use Rattle.plan_flow.specs.Tests.{flow_cause};
 ghost use Rattle.plan_explain.specs.Paths.{paths_of, deed_of, IsEnd, Keeps};
 
@@ -129,6 +130,8 @@ impl PathState {
             (known_at self.old.flow)) }
         ensures refused { IfOk result (λ cause. IfSome cause (λ c. FlowRefused plan.now instr.now
             (known_at self.old.flow) c)) }
+        ensures fine { IfOk result (λ cause. HasItsCounter instr.now (record { 0 = 0 })
+            → (cause ≡ None) ↔ IsFine plan.now instr.now (known_at self.old.flow)) }
         ensures unchanged { IfOk result (λ cause. IsSome cause → (self.new ≡ self.old)
             × (history.new ≡ history.old)) }
         ensures flow { IfOk result (λ cause. cause ≡ None

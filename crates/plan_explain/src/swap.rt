@@ -1,11 +1,20 @@
 //! Explains refused commits and waits.
 
+ghost use Rattle.std.specs.Prelude.{◌-◌, codes, OnOk};
+ghost use Rattle.std.specs.Io.KnownBytes.{Appends};
+ghost use Rattle.fib_codec.specs.Modes.{count_step};
+ghost use Rattle.fib_codec.specs.Layouts.{layout_mode};
+ghost use Rattle.plan_explain.specs.SwapTexts.{swap_text, commit_text, pending_text, pending_advice, notice_text, notice_advice, count_text, join_text, join_advice, wait_text, wait_advice, no_change_text, no_change_advice};
+
 use crate::past::PendingSince;
 use plan_code::{Delay, Frames, Plan, Swap};
 use std::io::{self, Write};
 
 /// Writes when a pending swap is due.
-pub(crate) fn put_swap<W: Write>(pending: Swap, out: &mut W) -> io::Result<()> {
+pub(crate) fn put_swap<W: Write>(pending: Swap, out: &mut W) -> io::Result<()>
+    ensures { OnOk result (Appends (W.contents out.old) (W.contents out.new)
+        (swap_text pending)) }
+{
     match pending {
         Swap::Idle => write!(out, "no swap is pending"),
         Swap::Within(low, high) => {
@@ -24,24 +33,36 @@ pub(crate) fn put_swap<W: Write>(pending: Swap, out: &mut W) -> io::Result<()> {
     }
 }
 
+/// Writes the line of the commit by which a swap is pending, if it is known.
+fn put_commit<W: Write>(since: Option<PendingSince>, out: &mut W) -> io::Result<()>
+    ensures { OnOk result (Appends (W.contents out.old) (W.contents out.new)
+        (commit_text since)) }
+{
+    match since {
+        Some(PendingSince { line }) => write!(out, ", by the commit in line {line}"),
+        None => Ok(()),
+    }
+}
+
 /// Explains an edit or a commit while a swap is or may be pending, by the commit in this line if it is known.
 pub(crate) fn explain_pending<W: Write>(
     pending: Swap,
     since: Option<PendingSince>,
     out: &mut W,
-) -> io::Result<()> {
+) -> io::Result<()>
+    ensures { OnOk result (Appends (W.contents out.old) (W.contents out.new)
+        (pending_text pending since)) }
+{
     put_swap(pending, out)?;
-    match since {
-        Some(PendingSince { line }) => writeln!(
-            out,
-            ", by the commit in line {line}; until then the next configuration stays as it is"
-        ),
-        None => writeln!(out, "; until then the next configuration stays as it is"),
-    }
+    put_commit(since, out)?;
+    writeln!(out, "; until then the next configuration stays as it is")
 }
 
 /// Advises on an edit or a commit while a swap is or may be pending.
-pub(crate) fn advise_pending<W: Write>(since: Option<PendingSince>, out: &mut W) -> io::Result<()> {
+pub(crate) fn advise_pending<W: Write>(since: Option<PendingSince>, out: &mut W) -> io::Result<()>
+    ensures { OnOk result (Appends (W.contents out.old) (W.contents out.new)
+        (pending_advice since)) }
+{
     match since {
         Some(PendingSince { line }) => writeln!(
             out,
@@ -52,7 +73,10 @@ pub(crate) fn advise_pending<W: Write>(since: Option<PendingSince>, out: &mut W)
 }
 
 /// Explains a commit whose delay is shorter than the notice.
-pub(crate) fn explain_notice<W: Write>(plan: &Plan, delay: Delay, out: &mut W) -> io::Result<()> {
+pub(crate) fn explain_notice<W: Write>(plan: &Plan, delay: Delay, out: &mut W) -> io::Result<()>
+    ensures { OnOk result (Appends (W.contents out.old) (W.contents out.new)
+        (notice_text delay plan.now.notice)) }
+{
     let notice = plan.notice;
     let delay = delay.get();
     writeln!(
@@ -62,13 +86,19 @@ pub(crate) fn explain_notice<W: Write>(plan: &Plan, delay: Delay, out: &mut W) -
 }
 
 /// Advises on a commit whose delay is shorter than the notice.
-pub(crate) fn advise_notice<W: Write>(plan: &Plan, out: &mut W) -> io::Result<()> {
+pub(crate) fn advise_notice<W: Write>(plan: &Plan, out: &mut W) -> io::Result<()>
+    ensures { OnOk result (Appends (W.contents out.old) (W.contents out.new)
+        (notice_advice plan.now.notice)) }
+{
     let notice = plan.notice;
     writeln!(out, "hint: 'commit in {notice}' or more")
 }
 
 /// Explains a commit at a count that is not a possible count of a swap.
-pub(crate) fn explain_count<W: Write>(plan: &Plan, count: u16, out: &mut W) -> io::Result<()> {
+pub(crate) fn explain_count<W: Write>(plan: &Plan, count: u16, out: &mut W) -> io::Result<()>
+    ensures { OnOk result (Appends (W.contents out.old) (W.contents out.new)
+        (count_text count (count_step (layout_mode plan.now.layout)))) }
+{
     let step = plan.layout.mode().step();
     writeln!(
         out,
@@ -94,7 +124,10 @@ pub(crate) fn advise_count<W: Write>(plan: &Plan, count: u16, out: &mut W) -> io
 }
 
 /// Explains a `join` without a pending swap, or where there may be none.
-pub(crate) fn explain_join<W: Write>(pending: Swap, out: &mut W) -> io::Result<()> {
+pub(crate) fn explain_join<W: Write>(pending: Swap, out: &mut W) -> io::Result<()>
+    ensures { OnOk result (Appends (W.contents out.old) (W.contents out.new)
+        (join_text pending)) }
+{
     match pending {
         Swap::Perhaps(_) => writeln!(
             out,
@@ -108,7 +141,10 @@ pub(crate) fn explain_join<W: Write>(pending: Swap, out: &mut W) -> io::Result<(
 }
 
 /// Advises on a `join` without a pending swap, or where there may be none.
-pub(crate) fn advise_join<W: Write>(pending: Swap, out: &mut W) -> io::Result<()> {
+pub(crate) fn advise_join<W: Write>(pending: Swap, out: &mut W) -> io::Result<()>
+    ensures { OnOk result (Appends (W.contents out.old) (W.contents out.new)
+        (join_advice pending)) }
+{
     match pending {
         Swap::Perhaps(_) => writeln!(
             out,
@@ -126,7 +162,10 @@ pub(crate) fn explain_wait<W: Write>(
     frames: Frames,
     since: Option<PendingSince>,
     out: &mut W,
-) -> io::Result<()> {
+) -> io::Result<()>
+    ensures { OnOk result (Appends (W.contents out.old) (W.contents out.new)
+        (wait_text pending frames since)) }
+{
     let frames = frames.get();
     let Swap::Within(low, high) = pending else {
         return writeln!(out);
@@ -135,14 +174,15 @@ pub(crate) fn explain_wait<W: Write>(
         out,
         "after {frames} frames the swap has come or not, as the count allows: it comes after {low} to {high} frames"
     )?;
-    match since {
-        Some(PendingSince { line }) => writeln!(out, ", by the commit in line {line}"),
-        None => writeln!(out),
-    }
+    put_commit(since, out)?;
+    writeln!(out)
 }
 
 /// Advises on a wait that may end before the swap or after it.
-pub(crate) fn advise_wait<W: Write>(pending: Swap, out: &mut W) -> io::Result<()> {
+pub(crate) fn advise_wait<W: Write>(pending: Swap, out: &mut W) -> io::Result<()>
+    ensures { OnOk result (Appends (W.contents out.old) (W.contents out.new)
+        (wait_advice pending)) }
+{
     let Swap::Within(low, high) = pending else {
         return Ok(());
     };
@@ -157,7 +197,10 @@ pub(crate) fn advise_wait<W: Write>(pending: Swap, out: &mut W) -> io::Result<()
 }
 
 /// Explains a commit of a configuration equal to the current one.
-pub(crate) fn explain_no_change<W: Write>(out: &mut W) -> io::Result<()> {
+pub(crate) fn explain_no_change<W: Write>(out: &mut W) -> io::Result<()>
+    ensures { OnOk result (Appends (W.contents out.old) (W.contents out.new)
+        (no_change_text)) }
+{
     writeln!(
         out,
         "nothing differs: the next configuration is the current one"
@@ -165,6 +208,9 @@ pub(crate) fn explain_no_change<W: Write>(out: &mut W) -> io::Result<()> {
 }
 
 /// Advises on a commit of a configuration equal to the current one.
-pub(crate) fn advise_no_change<W: Write>(out: &mut W) -> io::Result<()> {
+pub(crate) fn advise_no_change<W: Write>(out: &mut W) -> io::Result<()>
+    ensures { OnOk result (Appends (W.contents out.old) (W.contents out.new)
+        (no_change_advice)) }
+{
     writeln!(out, "hint: leave the commit out, or edit before it")
 }

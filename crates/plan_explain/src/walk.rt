@@ -4,14 +4,15 @@ ghost use Rattle.std.specs.Prelude.{◌≡◌, [], ℕ, List, true, false};
 ghost use Rattle.script_front.specs.Block.{Block, nothing, basic, when, either, repeat, forever, before, block_of};
 ghost use Rattle.script_compiler.specs.Emission.{tables};
 ghost use Rattle.plan_explain.specs.Paths.{paths_of, IsEnd};
-ghost use Rattle.plan_explain.specs.Walked.{IsLine, Walks};
+ghost use Rattle.plan_explain.specs.Walked.{Walks};
+ghost use Rattle.plan_explain.specs.Judging.{Judges, JudgesBlock};
 
 use crate::history::History;
 use crate::past::Past;
 use crate::state::PathState;
 use plan_code::Plan;
 use plan_flow::Cause;
-use script_compiler::instr_of;
+use script_compiler::{instr_of, line_of};
 use script_front::{Act, Statement};
 use std::alloc::{AllocError, Global};
 
@@ -74,21 +75,6 @@ pub(crate) struct Walk {
     left: u32,
 }
 
-/// The line of a statement's first token.
-fn line_of(statement: &Statement) -> u16
-    ensures { (table : List Block) (rest : Block) → IsLine (before table statement.now rest) result }
-{
-    match statement {
-        Statement::Act { line, .. } => *line,
-        Statement::End { line } => *line,
-        Statement::If { line, .. } => *line,
-        Statement::IfElse { line, .. } => *line,
-        Statement::Repeat { line, .. } => *line,
-        Statement::Forever { line, .. } => *line,
-        Statement::Apply { line, .. } => *line,
-    }
-}
-
 /// A statement without a block.
 fn act_of(statement: &Statement) -> Option<Act> {
     if let Statement::Act { act, .. } = statement {
@@ -98,12 +84,6 @@ fn act_of(statement: &Statement) -> Option<Act> {
 }
 
 impl Walk {
-    /// Whether so few statements were visited that no path without a loop has more than 255 instructions: a statement
-    /// has at most two.
-    pub(crate) fn is_short(&self) -> bool {
-        self.left >= MOST - 120
-    }
-
     /// The start of a walk.
     pub(crate) fn new(alloc: Global, state: PathState, history: History) -> Walk
         ensures state { result.state ≡ state }
@@ -130,8 +110,10 @@ impl Walk {
     /// Executes one instruction; if refused, nothing changes. Returns true: control reaches what follows.
     fn step(&mut self, plan: &Plan, line: u16, act: &Act) -> Result<bool, Stop>
         requires end { IsEnd self.old.history self.old.state.end }
-        ensures { (rest : Block) → Walks plan.now (basic line act.now rest) rest
+        ensures ways { (rest : Block) → Walks plan.now (basic line act.now rest) rest
             self.old self.new result }
+        ensures judged { (rest : Block) → Judges plan.now (basic line act.now rest) rest
+            self.old.state.flow self.new result }
     {
         let instr = instr_of(*act);
         match self.state.pass(plan, &mut self.history, line, &instr) {
@@ -153,8 +135,10 @@ impl Walk {
         statements: &[Statement],
     ) -> Result<bool, Stop>
         requires end { IsEnd self.old.history self.old.state.end }
-        ensures { Walks plan.now (block_of (tables blocks.now) statements.now) nothing
+        ensures ways { Walks plan.now (block_of (tables blocks.now) statements.now) nothing
             self.old self.new result }
+        ensures judged { JudgesBlock plan.now (block_of (tables blocks.now) statements.now)
+            self.old.state.flow self.new result }
     {
         self.block(plan, blocks, DEEPEST, statements)
     }
@@ -169,8 +153,10 @@ impl Walk {
         statements: &[Statement],
     ) -> Result<bool, Stop>
         requires end { IsEnd self.old.history self.old.state.end }
-        ensures { Walks plan.now (block_of (tables blocks.now) statements.now) nothing
+        ensures ways { Walks plan.now (block_of (tables blocks.now) statements.now) nothing
             self.old self.new result }
+        ensures judged { Judges plan.now (block_of (tables blocks.now) statements.now) nothing
+            self.old.state.flow self.new result }
     {
         let mut falls = true;
         let mut after = 0u16;
@@ -202,8 +188,10 @@ impl Walk {
         statement: &Statement,
     ) -> Result<bool, Stop>
         requires end { IsEnd self.old.history self.old.state.end }
-        ensures { (rest : Block) → Walks plan.now (before (tables blocks.now) statement.now rest)
-            rest self.old self.new result }
+        ensures ways { (rest : Block) → Walks plan.now (before (tables blocks.now) statement.now
+            rest) rest self.old self.new result }
+        ensures judged { (rest : Block) → Judges plan.now (before (tables blocks.now)
+            statement.now rest) rest self.old.state.flow self.new result }
     {
         if depth == 0 {
             return Err(Stop::Long);
@@ -259,9 +247,12 @@ impl Walk {
         first: &[Statement],
     ) -> Result<bool, Stop>
         requires end { IsEnd self.old.history self.old.state.end }
-        ensures { (contact : ℕ) (rest : Block) → Walks plan.now
+        ensures ways { (contact : ℕ) (rest : Block) → Walks plan.now
             (when line contact (block_of (tables blocks.now) first.now) rest)
             rest self.old self.new result }
+        ensures judged { (contact : ℕ) (rest : Block) → Judges plan.now
+            (when line contact (block_of (tables blocks.now) first.now) rest)
+            rest self.old.state.flow self.new result }
     {
         if let Err(stop) = self.save() {
             return Err(stop);
@@ -285,9 +276,13 @@ impl Walk {
         second: &[Statement],
     ) -> Result<bool, Stop>
         requires end { IsEnd self.old.history self.old.state.end }
-        ensures { (contact : ℕ) (rest : Block) → Walks plan.now
+        ensures ways { (contact : ℕ) (rest : Block) → Walks plan.now
             (either line contact (block_of (tables blocks.now) first.now)
             (block_of (tables blocks.now) second.now) rest) rest self.old self.new result }
+        ensures judged { (contact : ℕ) (rest : Block) → Judges plan.now
+            (either line contact (block_of (tables blocks.now) first.now)
+            (block_of (tables blocks.now) second.now) rest) rest self.old.state.flow
+            self.new result }
     {
         if let Err(stop) = self.save() {
             return Err(stop);
@@ -324,6 +319,12 @@ impl Walk {
         ensures endless { (rest : Block) → ends ≡ false → Walks plan.now
             (forever line (block_of (tables blocks.now) body.now) rest)
             rest self.old self.new result }
+        ensures judged { (times : ℕ) (rest : Block) → ends ≡ true → Judges plan.now
+            (repeat line times (block_of (tables blocks.now) body.now) rest)
+            rest self.old.state.flow self.new result }
+        ensures judged_endless { (rest : Block) → ends ≡ false → Judges plan.now
+            (forever line (block_of (tables blocks.now) body.now) rest)
+            rest self.old.state.flow self.new result }
     {
         if let Err(stop) = self.save() {
             return Err(stop);
