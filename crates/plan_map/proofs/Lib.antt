@@ -5,3 +5,7 @@ pub mod Places
 pub mod Keys
 pub mod Drawn
 pub mod VectorsOfDrawings
+pub mod KnownRows
+pub mod Executed
+pub mod SentRows
+pub mod VectorsOfRows

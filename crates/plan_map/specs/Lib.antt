@@ -1,5 +1,6 @@
 pub mod Leads
 pub mod Rows
+pub mod Committed
 pub mod Cells
 pub mod Layout
 pub mod Changes

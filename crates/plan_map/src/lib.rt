@@ -2,7 +2,8 @@
 //!
 //! [`rows_of`] returns the rows of a code, [`print_map`] writes them as text, and [`draw_map`] as a drawing to scale.
 //! Which rows a code has is defined in `specs/Rows.antt`, the text of a row in `specs/Bars.antt`,
-//! the key of the services in `specs/Key.antt`, and the drawing in `specs/Drawing.antt`.
+//! the key of the services in `specs/Key.antt`, and the drawing in `specs/Drawing.antt`. [`laws`] says what the rows
+//! have to do with the runs of the code.
 #![tactic(auto)]
 
 pub mod cells;
@@ -12,6 +13,7 @@ mod drawn_parts;
 mod drawn_row;
 mod drawn_subs;
 pub mod key;
+pub mod laws;
 pub mod layout;
 pub mod lead;
 mod legend;
