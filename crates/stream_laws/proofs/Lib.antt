@@ -46,6 +46,7 @@ pub mod NextRows
 pub mod Repeating
 pub mod NoFault
 pub mod Counting
+pub mod RunningOn
 pub mod Pieces
 pub mod Delivered
 pub mod Whole

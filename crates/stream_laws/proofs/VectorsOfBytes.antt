@@ -19,6 +19,7 @@ use Rattle.plan_code.specs.Program.{Program}
 use Rattle.plan_code.specs.Machine.{State}
 use Rattle.stream_laws.specs.Faultless.{IsNoFault}
 use Rattle.stream_laws.specs.Counting.{IsCounted, AreCounted}
+use Rattle.stream_laws.specs.RunningOn.{IsAtCount, RunOn}
 use Rattle.stream_laws.specs.Delivered.{IsCleared, IsPieceOf, IsHeardOut}
 use Rattle.stream_check.proofs.Fronts.{no_flat}
 
@@ -50,6 +51,19 @@ three_frames size = (off 4997 (λ on. omega (arith, on)), (off 4998 (λ on. omeg
 -- after 4999 comes 0
 the_next_is_zero : FibHas32Bytes → AreCounted 4 7 4999 ([] ∷ [] ∷ []) → ⊥
 the_next_is_zero size c = (let header = c.1.0.there refl in heard_nowhere size false header.0 header.1)
+
+-- in a stream, too
+no_header : FibHas32Bytes → (eid count : ℕ) → (count % 4 ≡ 0 → ⊥) → IsAtCount 4 eid count []
+no_header size eid count never = record { there = λ on. absurd (never on); only = λ next e h. absurd (heard_nowhere size next e h) }
+
+a_header_is_due : FibHas32Bytes → IsAtCount 4 7 4 [] → ⊥
+a_header_is_due size c = (let header = c.there refl in heard_nowhere size header.0 header.1 header.2)
+
+two_run_on : FibHas32Bytes → RunOn 4 7 4998 ([] ∷ [] ∷ [])
+two_run_on size = (no_header size 7 4998 (λ on. omega (arith, on)), (no_header size 7 4999 (λ on. omega (arith, on)), tt))
+
+zero_follows : FibHas32Bytes → RunOn 4 7 4999 ([] ∷ [] ∷ []) → ⊥
+zero_follows size c = (let header = c.1.0.there refl in heard_nowhere size header.0 header.1 header.2)
 
 -- ---- pieces
 

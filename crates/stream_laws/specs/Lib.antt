@@ -11,5 +11,6 @@ pub mod Naming
 pub mod Sorts
 pub mod Faults
 pub mod Counting
+pub mod RunningOn
 pub mod Delivered
 pub mod Merging

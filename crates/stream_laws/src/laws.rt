@@ -13,6 +13,7 @@ ghost use Rattle.stream_laws.specs.Merging.{MergedAreHeardAlike, MergedHaveTheEn
 ghost use Rattle.stream_laws.specs.Merging.{MergedListenersAreRight, MergedRunsAreFaultless, MergedSwapsAreAnnounced};
 ghost use Rattle.stream_laws.specs.Naming.{SwapsAreNamed};
 ghost use Rattle.stream_laws.specs.Notices.{FramesAreOfBytes};
+ghost use Rattle.stream_laws.specs.RunningOn.{CountsRunOn};
 ghost use Rattle.stream_laws.specs.Sorts.{RunsAgree, RunsAreFree, RunsAreInPlace, RunsAreKnown};
 ghost use Rattle.stream_laws.specs.Sorts.{RunsAreNeverSilent, RunsAreTimely, RunsFlagTheChange, RunsRepeatTheNext};
 ghost use Rattle.stream_laws.specs.Staying.{CurrentIsSent, CurrentStays};
@@ -87,6 +88,19 @@ pub fn held()
     fib_codec::laws::spelling();
     fib_reader::laws::ensemble();
     stream_check::laws::parts();
+}
+
+/// The law of running counts: in a stream without a fault, where a frame has one FIB or more, the
+/// counts of the frames run on, modulo 5000, from a multiple of the mode's step, with one EId: FIG
+/// 0/0 is heard in the bytes of each frame at a multiple of the step, and in no other, always with
+/// that EId and the count of its frame.
+pub fn running_counts()
+    ensures { CountsRunOn }
+{
+    fib_codec::laws::one_list();
+    fib_codec::laws::fib_length();
+    fib_codec::laws::spelling();
+    fib_reader::laws::ensemble();
 }
 
 /// The law of cutting: the frames into which the checker cuts FIBs are frames of their bytes.
