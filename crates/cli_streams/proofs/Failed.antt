@@ -15,8 +15,8 @@ use Rattle.stream_monitor.specs.declared.monitor.Stop.TheVariants as stops
 use Rattle.stream_monitor.specs.declared.options.CheckOptions.{CheckOptions}
 use Rattle.stream_monitor.specs.Outcome.{GoesOn}
 use Rattle.stream_monitor.specs.Unfinished.{Failures, FindsTooMuch, GivesUp, IsWithinFrame, PrintsFront, StopsBetween, StopsInside}
-use Rattle.cli_streams.specs.Failing.{IsInputFailure}
-use Rattle.cli_streams.specs.Checking.{FailsInput, IsCheckFailure, IsFailureOf, IsUnended, ShowsFront, ShowsSome, ShowsUntil}
+use Rattle.cli_streams.specs.Failing.{IsCommandFailure, IsInputFailure}
+use Rattle.cli_streams.specs.Checking.{FailsInput, IsFailureOf, IsUnended, ShowsFront, ShowsSome, ShowsUntil}
 use Rattle.cli_streams.proofs.Checked.{checks_known}
 
 -- ---- before the first FIB
@@ -52,7 +52,7 @@ not_opened o path (Some stream) before (Read named) why = λ r. nothing_shown r 
 not_opened o path (Some stream) before (Create named) why = absurd why
 not_opened o path (Some stream) before Output why = absurd why
 
-pub not_opened_why : (path : List ℕ) (output : Bool) (failure : Failure) → IsReadFailure path failure → IsCheckFailure path output failure
+pub not_opened_why : (path : List ℕ) (output : Bool) (failure : Failure) → IsReadFailure path failure → IsCommandFailure path output failure
 not_opened_why path output Memory why = tt
 not_opened_why path output (Read named) why = why
 not_opened_why path output (Create named) why = absurd why
@@ -126,7 +126,7 @@ fails_known o path (Some stream) left now before after f failure kept h = λ r. 
 
 -- why it fails
 gives_up_why : (r : Reading) (o : CheckOptions) (path : List ℕ) (left now before after : Option (List ℕ)) (f : Failures) (stop : Stop) (failure : Failure) → IsFailureOf path stop failure
-    → GivesUp r o left now before after f stop → IsCheckFailure path f.output failure
+    → GivesUp r o left now before after f stop → IsCommandFailure path f.output failure
 gives_up_why r o path left now before after f (stops.Read fault) Memory is h = tt
 gives_up_why r o path left now before after f (stops.Read Failed) (Read named) is h = is
 gives_up_why r o path left now before after f (stops.Read NoMemory) (Read named) is h = absurd cc
@@ -134,27 +134,27 @@ gives_up_why r o path left now before after f (stops.Read Failed) (Create named)
 gives_up_why r o path left now before after f (stops.Read NoMemory) (Create named) is h = absurd cc
 gives_up_why r o path left now before after f (stops.Read Failed) Output is h = absurd is
 gives_up_why r o path left now before after f (stops.Read NoMemory) Output is h = absurd cc
-gives_up_why r o path left now before after f stops.Write failure is h = subst (λ (x : Failure). IsCheckFailure path f.output x) (sym is) h.0
-gives_up_why r o path left now before after f stops.Memory failure is h = subst (λ (x : Failure). IsCheckFailure path f.output x) (sym is) tt
+gives_up_why r o path left now before after f stops.Write failure is h = subst (λ (x : Failure). IsCommandFailure path f.output x) (sym is) h.0
+gives_up_why r o path left now before after f stops.Memory failure is h = subst (λ (x : Failure). IsCommandFailure path f.output x) (sym is) tt
 
-pub input_failure : (path : List ℕ) (output : Bool) (failure : Failure) → IsCheckFailure path output failure → IsInputFailure path failure
+pub input_failure : (path : List ℕ) (output : Bool) (failure : Failure) → IsCommandFailure path output failure → IsInputFailure path failure
 input_failure path output Memory h = tt
 input_failure path output (Read named) h = h
 input_failure path output (Create named) h = h
 input_failure path output Output h = tt
 
-pub input_failures : {A : Type 0} (ended : Result A Failure) (path : List ℕ) (output : Bool) → IfErr ended (IsCheckFailure path output) → IfErr ended (IsInputFailure path)
+pub input_failures : {A : Type 0} (ended : Result A Failure) (path : List ℕ) (output : Bool) → IfErr ended (IsCommandFailure path output) → IfErr ended (IsInputFailure path)
 input_failures (Ok a) path output h = tt
 input_failures (Err failure) path output h = input_failure path output failure h
 
-unended_why : (path : List ℕ) (output line : Bool) (failure : Failure) → IsUnended output line failure → IsCheckFailure path output failure
+unended_why : (path : List ℕ) (output line : Bool) (failure : Failure) → IsUnended output line failure → IsCommandFailure path output failure
 unended_why path output line Memory why = tt
 unended_why path output line (Read named) why = absurd why
 unended_why path output line (Create named) why = absurd why
 unended_why path output line Output why = why
 
 pub fails_why : (r : Reading) (o : CheckOptions) (path : List ℕ) (left now before after : Option (List ℕ)) (f : Failures) (failure : Failure) → FailsInput r o path left now before after f failure
-    → IsCheckFailure path f.output failure
+    → IsCommandFailure path f.output failure
 fails_why r o path left now before after f failure (inl x) = gives_up_why r o path left now before after f x.0 failure x.1 x.2
 fails_why r o path left now before after f failure (inr x) = unended_why path f.output f.line failure x.4
 

@@ -12,10 +12,15 @@ mod MergingEnds
 mod MergingFiles
 mod MergingStreams
 mod OneAnswer
+mod Parts
 mod PictureLines
+mod Rates
 mod ReadingAhead
 mod ReadingOn
+mod ShownFrames
+mod ShownStreams
 mod VectorsOfChecks
 mod VectorsOfFailures
 mod VectorsOfMerging
 mod VectorsOfHolding
+mod VectorsOfPrinting

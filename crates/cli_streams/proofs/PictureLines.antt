@@ -1,13 +1,13 @@
 -- The lines of a picture's entries, entry after entry, and the listing that contains them.
-use Rattle.std.proofs.Common.{◌≡◌, ℕ, List, [], ◌∷◌, ◌++◌, Option, Result, Ok, Err, OnOk, codes, append_assoc, append-nil, refl, sym, subst}
-use Rattle.std.specs.Io.KnownBytes.{Appends}
-use Rattle.std.proofs.KnownBytes.{Appends-trans}
+use Rattle.std.proofs.Common.{◌≡◌, ℕ, List, [], ◌∷◌, ◌++◌, codes, append_assoc, append-nil, refl, sym, subst}
 use Rattle.mux_types.specs.declared.entry.Entry.{Entry}
 use Rattle.fib_reader.specs.Raw.{Raw, IsValue}
 use Rattle.fib_reader.specs.Listening.{all_entries}
 use Rattle.cli_streams.specs.Lines.{entry_lines}
 use Rattle.cli_streams.specs.Listing.{AreLinesOf, IsListing, counts_line, swap_line}
+use Rattle.cli_streams.specs.Printing.{Adds, Printing}
 use Rattle.cli_streams.specs.declared.listen.Heard.{Heard}
+use Rattle.cli_streams.proofs.Parts.{Adds-trans}
 
 -- this text precedes the lines of the remaining entries, and both together are the lines of all
 abbrev pub IsBefore : (text : List ℕ) (left all : List Raw) → Type 0
@@ -25,10 +25,10 @@ all_of text left all none so_far =
     subst (AreLinesOf all) (append-nil text) (so_far [] (subst (λ raws. AreLinesOf raws []) (sym none) refl))
 
 -- the last line of a listing, after all lines before it
-pub then_listed : {X E : Type 0} (r : Result X E) (h : Heard) (old mid new : Option (List ℕ)) (current next : List ℕ) → AreLinesOf (all_entries h.listener.current) current → AreLinesOf (all_entries h.listener.next) next → Appends old mid (counts_line h ++ codes "current\n" ++ current ++ codes "next\n" ++ next) → OnOk r (Appends mid new (swap_line h.listener.awaited)) → OnOk r ((text : List ℕ) × IsListing h text × Appends old new text)
-then_listed (Ok x) h old mid new current next are also before after = (
+pub then_listed : (h : Heard) (old mid new : Printing) (current next : List ℕ) → AreLinesOf (all_entries h.listener.current) current → AreLinesOf (all_entries h.listener.next) next
+    → Adds old mid (counts_line h ++ codes "current\n" ++ current ++ codes "next\n" ++ next) → Adds mid new (swap_line h.listener.awaited) → (text : List ℕ) × IsListing h text × Adds old new text
+then_listed h old mid new current next are also before after = (
   counts_line h ++ codes "current\n" ++ current ++ codes "next\n" ++ next ++ swap_line h.listener.awaited,
   record { current = current; next = next; current_lines = are; next_lines = also; whole = refl },
-  Appends-trans _ _ _ _ _ before after,
+  Adds-trans old mid new _ _ before after,
 )
-then_listed (Err e) h old mid new current next are also before after = tt

@@ -19,8 +19,8 @@ use Rattle.stream_monitor.specs.Frames.{frames_text}
 use Rattle.stream_monitor.specs.Lines.{line_of}
 use Rattle.stream_monitor.specs.Outcome.{GoesOn}
 use Rattle.stream_monitor.specs.Unfinished.{GivesUp, failures}
-use Rattle.cli_streams.specs.Checking.{ShowsSome, ShowsFront, ShowsUntil, IsCheckFailure, IsFailureOf, IsUnended, FailsInput, ShowsInput, last_line}
-use Rattle.cli_streams.specs.Failing.{IsInputFailure}
+use Rattle.cli_streams.specs.Checking.{ShowsSome, ShowsFront, ShowsUntil, IsFailureOf, IsUnended, FailsInput, ShowsInput, last_line}
+use Rattle.cli_streams.specs.Failing.{IsCommandFailure, IsInputFailure}
 use Rattle.cli_streams.specs.FrameRefusals.{frame_refusal}
 use Rattle.cli_streams.specs.declared.frame.FrameFault.TheVariants.{Record, Trailing, NoSuchPage}
 use Rattle.mux_config.specs.declared.record.RecordFault.TheVariants.{Short}
@@ -78,10 +78,10 @@ not_until_a_read_fails r Output h is = is
 
 -- ---- why
 
-output_failed : IsCheckFailure (codes "a.fibs") true Output
+output_failed : IsCommandFailure (codes "a.fibs") true Output
 output_failed = refl
 
-output_works : IsCheckFailure (codes "a.fibs") false Output → ⊥
+output_works : IsCommandFailure (codes "a.fibs") false Output → ⊥
 output_works h = false≢true h
 
 told_of_the_output : IsFailureOf (codes "a.fibs") stops.Write Output

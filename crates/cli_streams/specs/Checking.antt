@@ -67,14 +67,6 @@ ShowsUntil r o stream before after (Read named) = ShowsSome r o stream before af
 ShowsUntil r o stream before after (Create named) = ⊥
 ShowsUntil r o stream before after Output = ShowsFront r o stream before after
 
--- a failure of `check` names its file, or says that there is no memory or that the output failed,
--- and then it has
-abbrev pub IsCheckFailure : (path : List ℕ) (output : Bool) → Failure → Type 0
-IsCheckFailure path output Memory = Unit {0}
-IsCheckFailure path output (Read named) = named.now ≡ path
-IsCheckFailure path output (Create named) = ⊥
-IsCheckFailure path output Output = output ≡ true
-
 -- ---- once its file is open
 
 -- the failure for a check that gives up

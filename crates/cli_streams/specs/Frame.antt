@@ -2,8 +2,10 @@
 use Rattle.std.specs.Prelude.{◌≡◌, ℕ, ◌/◌, ◌%◌, ◌==◌, nat_lt, Bool, if◌then◌else◌, List, ◌++◌, codes, length, Option, Some, None, Result, Ok, Err}
 use Rattle.std.specs.List.{flat_map}
 use Rattle.std.specs.Simd.{first_chunks}
-use Rattle.std.specs.Io.KnownBytes.{Appends}
+use Rattle.std.specs.Io.KnownBytes.{Appends, Keeps}
 use Rattle.console.specs.Digits.{digits_of_bytes}
+use Rattle.console.specs.declared.exit.Failure.{Failure}
+use Rattle.console.specs.declared.exit.Failure.TheVariants.{Memory, Read, Create, Output}
 use Rattle.console.specs.declared.exit.Status.{Status}
 use Rattle.console.specs.declared.exit.Status.TheVariants.{Done, Refused}
 use Rattle.mux_config.specs.Configuration.{Configuration}
@@ -18,6 +20,7 @@ use Rattle.fib_codec.specs.declared.frame_layout.FrameLayout.{FrameLayout}
 use Rattle.fib_codec.specs.declared.modes.Mode.{Mode}
 use Rattle.fib_carousel.specs.Pages.{page_set, rounds}
 use Rattle.fib_carousel.specs.Bytes.{page_bytes}
+use Rattle.stream_monitor.specs.Unfinished.{PrintsFront}
 use Rattle.cli_streams.specs.FrameRefusals.{frame_refusal}
 use Rattle.cli_streams.specs.declared.frame.FrameFault.{FrameFault}
 use Rattle.cli_streams.specs.declared.frame.FrameFault.TheVariants.{Record, Trailing, Unsound, NoSuchPage}
@@ -68,3 +71,19 @@ most_bytes = 3460
 abbrev pub ShowsFrame : (raw : Bool) → Result (List ℕ) FrameFault → (old new : Option (List ℕ)) → Status → Type 0
 ShowsFrame raw (Ok frame) old new status = (status ≡ Done) × Appends old new (frame_text raw frame)
 ShowsFrame raw (Err fault) old new status = (status ≡ Refused) × Appends old new (frame_refusal fault ++ codes "\n")
+
+-- what is printed of a frame, or of why there is none
+abbrev pub shown_text : (raw : Bool) → Result (List ℕ) FrameFault → List ℕ
+shown_text raw (Ok frame) = frame_text raw frame
+shown_text raw (Err fault) = frame_refusal fault ++ codes "\n"
+
+abbrev pub status_of : Result (List ℕ) FrameFault → Status
+status_of (Ok frame) = Done
+status_of (Err fault) = Refused
+
+-- what is printed before a failure: where the record can't be read, nothing; else a part, from the first byte on
+abbrev pub ShowsFrameUntil : (raw : Bool) → Result (List ℕ) FrameFault → (old new : Option (List ℕ)) → Failure → Type 0
+ShowsFrameUntil raw frame old new Memory = PrintsFront old new (shown_text raw frame)
+ShowsFrameUntil raw frame old new (Read named) = Keeps old new
+ShowsFrameUntil raw frame old new (Create named) = ⊥
+ShowsFrameUntil raw frame old new Output = PrintsFront old new (shown_text raw frame)

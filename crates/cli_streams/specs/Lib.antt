@@ -10,4 +10,5 @@ pub mod Lines
 pub mod Listing
 pub mod Merged
 pub mod Merging
+pub mod Printing
 pub mod Stream

@@ -1,12 +1,15 @@
 -- The listing that `listen` prints of a stream of FIBs.
-use Rattle.std.specs.Prelude.{◌≡◌, ℕ, Bool, true, false, List, [], ◌∷◌, ◌++◌, codes, Option, Some, None, Result, Ok, Err}
+use Rattle.std.specs.Prelude.{◌≡◌, ◌⊎◌, ℕ, Bool, true, false, List, [], ◌∷◌, ◌++◌, codes, Option, Some, None, Result, Ok, Err}
 use Rattle.std.specs.Fmt.{decimal}
-use Rattle.std.specs.Io.KnownBytes.{Appends}
+use Rattle.std.specs.Io.KnownBytes.{Appends, Keeps}
 use Rattle.mux_types.specs.declared.entry.Entry.{Entry}
 use Rattle.fib_reader.specs.Raw.{Raw, IsValue}
 use Rattle.fib_reader.specs.Listening.{all_entries}
+use Rattle.console.specs.declared.exit.Failure.{Failure}
+use Rattle.console.specs.declared.exit.Failure.TheVariants.{Memory, Read, Create, Output}
 use Rattle.console.specs.declared.exit.Status.{Status}
 use Rattle.console.specs.declared.exit.Status.TheVariants.{Done, Refused}
+use Rattle.stream_monitor.specs.Unfinished.{PrintsFront}
 use Rattle.cli_streams.specs.JsonListing.{IsShownAsJson}
 use Rattle.cli_streams.specs.Lines.{entry_lines}
 use Rattle.cli_streams.specs.Stream.{HearsStream}
@@ -59,3 +62,20 @@ pub record ShowsStream (is_json : Bool) (stream : List ℕ) (old new : Option (L
   pub hears : HearsStream stream heard
   pub shown : IsShownIn is_json heard status text
   pub printed : Appends old new text
+
+-- a part of it is printed, from the first byte on
+pub record ShowsStreamFront (is_json : Bool) (stream : List ℕ) (old new : Option (List ℕ)) : Type 0 where
+  pub heard : Result Heard StreamFault
+  pub status : Status
+  pub text : List ℕ
+  pub hears : HearsStream stream heard
+  pub shown : IsShownIn is_json heard status text
+  pub printed : PrintsFront old new text
+
+-- what is printed before a failure: where the stream can't be read, or there is no memory to read it, nothing; else a
+-- part
+abbrev pub ShowsStreamUntil : (is_json : Bool) → (stream : List ℕ) → (old new : Option (List ℕ)) → Failure → Type 0
+ShowsStreamUntil is_json stream old new Memory = Keeps old new ⊎ ShowsStreamFront is_json stream old new
+ShowsStreamUntil is_json stream old new (Read named) = Keeps old new
+ShowsStreamUntil is_json stream old new (Create named) = ⊥
+ShowsStreamUntil is_json stream old new Output = ShowsStreamFront is_json stream old new

@@ -8,7 +8,8 @@ ghost use Rattle.stream_check.specs.Frames.{Reading};
 ghost use Rattle.stream_monitor.specs.Hinting.{IsHinted};
 ghost use Rattle.stream_monitor.specs.Lines.{line_of};
 ghost use Rattle.stream_monitor.specs.Unfinished.{PrintsFront, failures};
-ghost use Rattle.cli_streams.specs.Checking.{FailsInput, IsCheckFailure, IsFailureOf, IsUnended, ShowsCheck, ShowsInput, ShowsUntil, last_line, status_of};
+ghost use Rattle.cli_streams.specs.Checking.{FailsInput, IsFailureOf, IsUnended, ShowsCheck, ShowsInput, ShowsUntil, last_line, status_of};
+ghost use Rattle.cli_streams.specs.Failing.{IsCommandFailure};
 
 use console::exit::{Failure, Status, pieces_of};
 use console::files::{FileFault, Files};
@@ -52,7 +53,7 @@ pub fn show_check<'a, F: Files, W: Write>(
         → IfSome (F.known files.old request.now.file.now) (λ stream.
         IfOk result (λ status. (r : Reading) → ShowsCheck r request.now.options stream
         (printed W.contents out.old) (printed W.contents out.new) status)) }
-    ensures failed { IfErr result (IsCheckFailure request.now.file.now out.new.has_failed) }
+    ensures failed { IfErr result (IsCommandFailure request.now.file.now out.new.has_failed) }
     ensures input_until { request.now.file.now ≡ codes "-" → IfSome (F.known_input files.old)
         (λ stream. IfErr result (λ failure. (r : Reading) → ShowsUntil r request.now.options stream
         (printed W.contents out.old) (printed W.contents out.new) failure)) }

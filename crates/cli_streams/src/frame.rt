@@ -3,14 +3,18 @@
 ghost use Rattle.std.specs.Prelude.{◌≡◌, ◌≢◌, IfErr, IfOk, IfSome, OnOk, codes, take};
 ghost use Rattle.std.specs.Fmt.{WritesOnOk};
 ghost use Rattle.std.specs.Io.KnownBytes.{Appends};
+ghost use Rattle.console.specs.Printed.{printed};
 ghost use Rattle.console.specs.World.{Stays};
-ghost use Rattle.cli_streams.specs.Failing.{IsInputFailure};
+ghost use Rattle.cli_streams.specs.Failing.{IsCommandFailure, IsCutShort, IsSilentUnread};
 ghost use Rattle.cli_streams.specs.FrameRefusals.{record_refusal, unsound_refusal};
-ghost use Rattle.cli_streams.specs.Frame.{ShowsFrame, fibs_text, frame_of, frame_text, most_bytes, page_or_fault, sent};
+ghost use Rattle.cli_streams.specs.Frame.{ShowsFrame, ShowsFrameUntil, fibs_text, frame_of, frame_text, most_bytes, page_or_fault, sent, shown_text, status_of};
 
+use crate::printing::Progress;
+use arrayvec::ArrayVec;
 use console::exit::{Failure, Status, read_input};
 use console::files::Files;
 use console::hexadecimal::digits_of_fib;
+use console::output::Output;
 use fib_carousel::{page, pages};
 use fib_codec::{FibFrame, FrameLayout, Mode};
 use mux_config::{Config, ConfigFault, Ensemble, RecordFault, read_config, soundness};
@@ -23,6 +27,9 @@ use std::io::{self, Write};
 /// each, and 64 services of 4 bytes with 12 components of 3 bytes each. One byte more is read, to detect bytes after
 /// the record.
 const MOST_BYTES: usize = 3 + 64 * 7 + 64 * (4 + 12 * 3) + 64 * 7;
+
+/// The most bytes that are printed of a frame, or of why there is none: four FIBs of 64 digits and a line feed have 260.
+const LONGEST: usize = 512;
 
 /// The arguments of `frame`.
 #[derive(Clone, Copy)]
@@ -96,38 +103,94 @@ fn put_unsound_refusal<W: fmt::Write>(fault: ConfigFault, f: &mut Formatter<W>) 
     }
 }
 
-/// Runs `frame`: prints the FIBs of the frame, three or in mode III four, a line each.
+/// Runs `frame`: prints the FIBs of the frame, three or in mode III four, a line each. If the output does not take all
+/// of it, it has taken a part, from the first byte on.
+#[tactic(auto, using(crate::proofs::Parts::cut_why, crate::proofs::Parts::cut_not_unread, crate::proofs::Parts::unread_why, crate::proofs::Parts::unread_silent, crate::proofs::ShownFrames::unread_until))]
 pub fn show_frame<'a, F: Files, W: Write>(
     alloc: Global,
     request: &FrameRequest<'a>,
     files: &mut F,
-    out: &mut W,
+    out: &mut Output<W>,
 ) -> Result<Status, Failure<'a>>
     ensures input { request.now.config.now ≡ codes "-" → IfSome (F.known_input files.old) (λ bytes.
         IfOk result (ShowsFrame request.now.raw (frame_of request.now.layout request.now.ensemble
-        request.now.page (take most_bytes bytes)) (W.contents out.old) (W.contents out.new))) }
+        request.now.page (take most_bytes bytes))
+        (printed W.contents out.old) (printed W.contents out.new))) }
     ensures file { request.now.config.now ≢ codes "-"
         → IfSome (F.known files.old request.now.config.now) (λ bytes.
         IfOk result (ShowsFrame request.now.raw (frame_of request.now.layout request.now.ensemble
-        request.now.page (take most_bytes bytes)) (W.contents out.old) (W.contents out.new))) }
-    ensures failed { IfErr result (IsInputFailure request.now.config.now) }
+        request.now.page (take most_bytes bytes))
+        (printed W.contents out.old) (printed W.contents out.new))) }
+    ensures failed { IfErr result (IsCommandFailure request.now.config.now out.new.has_failed) }
+    ensures unread { IfErr result
+        (IsSilentUnread (printed W.contents out.old) (printed W.contents out.new)) }
+    ensures input_until { request.now.config.now ≡ codes "-"
+        → IfSome (F.known_input files.old) (λ bytes.
+        IfErr result (ShowsFrameUntil request.now.raw (frame_of request.now.layout
+        request.now.ensemble request.now.page (take most_bytes bytes))
+        (printed W.contents out.old) (printed W.contents out.new))) }
+    ensures file_until { request.now.config.now ≢ codes "-"
+        → IfSome (F.known files.old request.now.config.now) (λ bytes.
+        IfErr result (ShowsFrameUntil request.now.raw (frame_of request.now.layout
+        request.now.ensemble request.now.page (take most_bytes bytes))
+        (printed W.contents out.old) (printed W.contents out.new))) }
     ensures world { Stays (F.world files.old) (F.world files.new) }
 {
-    let record = read_input(alloc, files, request.config, MOST_BYTES + 1)?;
-    match frame_of(
+    let record = match read_input(alloc, files, request.config, MOST_BYTES + 1) {
+        Ok(record) => record,
+        Err(failure) => return Err(failure),
+    };
+    let frame = frame_of(
         record.as_slice(),
         request.layout,
         request.ensemble,
         request.page,
-    ) {
-        Ok(frame) => match print_frame(&frame, request.raw, out) {
-            Ok(()) => Ok(Status::Done),
-            Err(_) => Err(Failure::Output),
-        },
-        Err(fault) => {
-            writeln!(out, "{fault}")?;
-            Ok(Status::Refused)
-        }
+    );
+    print_shown(&frame, request.raw, out)
+}
+
+/// Prints the FIBs of a frame, or the line of why there is none. If the output does not take all of it, it has taken a
+/// part, from the first byte on.
+fn print_shown<'a, W: Write>(
+    frame: &Result<FibFrame, FrameFault>,
+    raw: bool,
+    out: &mut Output<W>,
+) -> Result<Status, Failure<'a>>
+    ensures shown { IfOk result
+        (ShowsFrame raw frame.now (printed W.contents out.old) (printed W.contents out.new)) }
+    ensures until { IfErr result (ShowsFrameUntil raw frame.now
+        (printed W.contents out.old) (printed W.contents out.new)) }
+    ensures failed { IfErr result (IsCutShort out.new.has_failed) }
+{
+    let mut text: ArrayVec<u8, LONGEST> = ArrayVec::new();
+    let made = print_in(frame, raw, &mut text);
+    let mut progress = Progress::Whole;
+    progress.print_made(made, text.as_slice(), out);
+    progress.end(status_of(frame))
+}
+
+/// The exit status.
+fn status_of(frame: &Result<FibFrame, FrameFault>) -> Status
+    ensures { result ≡ status_of frame.now }
+{
+    match frame {
+        Ok(_) => Status::Done,
+        Err(_) => Status::Refused,
+    }
+}
+
+/// Prints the FIBs of a frame, or the line of why there is none.
+fn print_in<W: Write>(
+    frame: &Result<FibFrame, FrameFault>,
+    raw: bool,
+    out: &mut W,
+) -> io::Result<()>
+    ensures { OnOk result
+        (Appends (W.contents out.old) (W.contents out.new) (shown_text raw frame.now)) }
+{
+    match frame {
+        Ok(frame) => print_frame(frame, raw, out),
+        Err(fault) => writeln!(out, "{fault}"),
     }
 }
 

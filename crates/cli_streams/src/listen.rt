@@ -1,25 +1,29 @@
 //! `dabplan listen`: decodes a stream of FIBs as a receiver would, and prints the resulting configuration.
 
-ghost use Rattle.std.specs.Prelude.{◌≡◌, ◌≢◌, ◌⊎◌, ℕ, List, Option, Result, Err, Ok, IfErr, IfOk, IfSome, OnErr, OnOk, codes, true};
+ghost use Rattle.std.specs.Prelude.{◌≡◌, ◌≢◌, ◌⊎◌, ℕ, List, Option, Result, Err, Ok, IfErr, IfOk, IfSome, OnErr, codes, true};
 ghost use Rattle.std.specs.Io.KnownBytes.{Appends, Consumes, IsAtEnd};
-ghost use Rattle.fib_reader.specs.Listening.{all_entries};
+ghost use Rattle.console.specs.Printed.{printed};
 ghost use Rattle.console.specs.World.{World, Becomes};
+ghost use Rattle.console.specs.declared.exit.Status.{Status as StatusOf};
 ghost use Rattle.stream_monitor.specs.Hinting.{IsHinted, OnlyHints};
-ghost use Rattle.cli_streams.specs.Failing.{IsInputFailure};
-ghost use Rattle.cli_streams.specs.Listing.{AreLinesOf, IsListing, IsShown, IsShownIn, ShowsStream, counts_line, refusal_line, swap_line};
-ghost use Rattle.cli_streams.specs.JsonListing.{AreObjectsOf, IsJsonListing, IsShownAsJson, json_counts, json_refusal, json_swap};
+ghost use Rattle.stream_monitor.specs.Unfinished.{PrintsFront};
+ghost use Rattle.cli_streams.specs.Failing.{IsCommandFailure, IsCutShort, IsSilentUnread};
+ghost use Rattle.cli_streams.specs.Listing.{IsShownIn, ShowsStream, ShowsStreamUntil};
+ghost use Rattle.cli_streams.specs.Printing.{Adds, printing_to};
 ghost use Rattle.cli_streams.specs.Stream.{HearsStream, IsTooLong, ended};
 ghost use Rattle.cli_streams.specs.declared.listen.Heard.{Heard as HeardOf};
 ghost use Rattle.cli_streams.specs.declared.listen.StreamFault.{StreamFault as FaultOf};
 
-use crate::entries::print_entry;
 use crate::fib_pieces::{FibPieces, WatchedPieces};
-use crate::json::{print_comma, print_json_entry};
+use crate::json_listing::print_json_answer;
+use crate::listing::print_answer;
+use crate::printing::Progress;
 use console::exit::{Failure, Status, pieces_of};
 use console::files::{FileFault, Files};
-use fib_reader::{ListenFault, Listener, Picture};
+use console::output::Output;
+use fib_reader::{ListenFault, Listener};
 use std::alloc::Global;
-use std::io::{self, Write};
+use std::io::Write;
 use stream_monitor::Hints;
 use thiserror::Error;
 
@@ -98,77 +102,81 @@ pub struct ListenRequest<'a> {
 /// Runs `listen`: prints what was decoded from the file, or from standard input if the path is `-`. The stream is
 /// decoded piece by piece, so that memory use does not depend on its length. Where it is no stream of FIBs, a hint is
 /// given on standard error.
-#[tactic(auto, using(stream_monitor::proofs::Hinted::not_hinted))]
+#[tactic(auto, using(stream_monitor::proofs::Hinted::not_hinted, crate::proofs::Parts::cut_why, crate::proofs::Parts::cut_not_unread, crate::proofs::Parts::unread_why, crate::proofs::Parts::unread_silent, crate::proofs::ShownStreams::unread_until))]
 pub fn show_heard<'a, F: Files, W: Write>(
     alloc: Global,
     request: &ListenRequest<'a>,
     files: &mut F,
-    out: &mut W,
+    out: &mut Output<W>,
 ) -> Result<Status, Failure<'a>>
     ensures input { request.now.file.now ≡ codes "-" → IfSome (F.known_input files.old) (λ stream.
         IfOk result (ShowsStream request.now.is_json stream
-        (W.contents out.old) (W.contents out.new))) }
+        (printed W.contents out.old) (printed W.contents out.new))) }
     ensures file { request.now.file.now ≢ codes "-"
         → IfSome (F.known files.old request.now.file.now) (λ stream.
         IfOk result (ShowsStream request.now.is_json stream
-        (W.contents out.old) (W.contents out.new))) }
-    ensures failed { IfErr result (IsInputFailure request.now.file.now) }
+        (printed W.contents out.old) (printed W.contents out.new))) }
+    ensures failed { IfErr result (IsCommandFailure request.now.file.now out.new.has_failed) }
+    ensures unread { IfErr result
+        (IsSilentUnread (printed W.contents out.old) (printed W.contents out.new)) }
+    ensures input_until { request.now.file.now ≡ codes "-" → IfSome (F.known_input files.old)
+        (λ stream. IfErr result (ShowsStreamUntil request.now.is_json stream
+        (printed W.contents out.old) (printed W.contents out.new))) }
+    ensures file_until { request.now.file.now ≢ codes "-"
+        → IfSome (F.known files.old request.now.file.now)
+        (λ stream. IfErr result (ShowsStreamUntil request.now.is_json stream
+        (printed W.contents out.old) (printed W.contents out.new))) }
     ensures hinted { Becomes (IsHinted request.now.file.now)
         (F.world files.old) (F.world files.new) }
 {
     let path = request.file;
-    let mut pieces = WatchedPieces::new(pieces_of(alloc, files, path)?);
+    let pieces = match pieces_of(alloc, files, path) {
+        Ok(pieces) => pieces,
+        Err(failure) => return Err(failure),
+    };
+    let mut input = WatchedPieces::new(pieces);
     let mut hints = Hints::new(path);
-    let heard = match listen_to(&mut pieces, &mut hints, files) {
+    let heard = match listen_to(&mut input, &mut hints, files) {
         Ok(heard) => heard,
         Err(fault) => return Err(Failure::of_file(fault, path)),
     };
-    match print_in(request.is_json, &heard, out) {
-        Ok(status) => Ok(status),
-        Err(_) => Err(Failure::Output),
-    }
+    print_shown(request.is_json, &heard, out)
 }
 
-/// Prints the listing, or the line of a refusal, as text or as JSON.
+/// Prints the listing, or the line of a refusal, as text or as JSON. If the output does not take all of it, it has taken
+/// a part, from the first byte on.
+fn print_shown<'a, W: Write>(
+    is_json: bool,
+    heard: &Result<Heard, StreamFault>,
+    out: &mut Output<W>,
+) -> Result<Status, Failure<'a>>
+    ensures shown { IfOk result (λ status. (text : List ℕ) × IsShownIn is_json heard.now status text
+        × Appends (printed W.contents out.old) (printed W.contents out.new) text) }
+    ensures begun { OnErr result ((status : StatusOf) × (text : List ℕ)
+        × IsShownIn is_json heard.now status text
+        × PrintsFront (printed W.contents out.old) (printed W.contents out.new) text) }
+    ensures failed { IfErr result (IsCutShort out.new.has_failed) }
+{
+    let mut progress = Progress::Whole;
+    let status = print_in(is_json, heard, &mut progress, out);
+    progress.end(status)
+}
+
+/// The same, part by part. Returns the exit status.
 fn print_in<W: Write>(
     is_json: bool,
     heard: &Result<Heard, StreamFault>,
-    out: &mut W,
-) -> io::Result<Status>
-    ensures { IfOk result (λ status. (text : List ℕ) × IsShownIn is_json heard.now status text
-        × Appends (W.contents out.old) (W.contents out.new) text) }
+    progress: &mut Progress,
+    out: &mut Output<W>,
+) -> Status
+    ensures { (text : List ℕ) × IsShownIn is_json heard.now result text
+        × Adds (printing_to W.contents progress.old out.old)
+        (printing_to W.contents progress.new out.new) text }
 {
     if is_json {
-        print_json_answer(heard, out)
+        print_json_answer(heard, progress, out)
     } else {
-        print_answer(heard, out)
-    }
-}
-
-/// Prints the listing, or the line of a refusal.
-fn print_answer<W: Write>(heard: &Result<Heard, StreamFault>, out: &mut W) -> io::Result<Status>
-    ensures { IfOk result (λ status. (text : List ℕ) × IsShown heard.now status text
-        × Appends (W.contents out.old) (W.contents out.new) text) }
-{
-    match heard {
-        Ok(heard) => {
-            print_heard(heard, out)?;
-            Ok(Status::Done)
-        }
-        Err(fault) => {
-            print_refusal(*fault, out)?;
-            Ok(Status::Refused)
-        }
-    }
-}
-
-/// Prints the line of a refusal.
-fn print_refusal<W: Write>(fault: StreamFault, out: &mut W) -> io::Result<()>
-    ensures { OnOk result (Appends (W.contents out.old) (W.contents out.new) (refusal_line fault)) }
-{
-    match fault {
-        StreamFault::NotWhole => writeln!(out, "refused: not whole FIBs"),
-        StreamFault::Full => writeln!(out, "refused: Full"),
+        print_answer(heard, progress, out)
     }
 }
 
@@ -221,136 +229,4 @@ fn ended(has_room: bool, heard: Heard) -> Result<Heard, StreamFault>
     } else {
         Err(StreamFault::Full)
     }
-}
-
-/// Prints the listing of a decoded stream.
-fn print_heard<W: Write>(heard: &Heard, out: &mut W) -> io::Result<()>
-    ensures { OnOk result ((text : List ℕ) × IsListing heard.now text
-        × Appends (W.contents out.old) (W.contents out.new) text) }
-{
-    let current = heard.listener.current();
-    let next = heard.listener.next();
-    print_counts(heard, out)?;
-    out.write_all(b"current\n")?;
-    print_picture(current, out)?;
-    out.write_all(b"next\n")?;
-    print_picture(next, out)?;
-    print_swap(heard.listener.swap_at(), out)
-}
-
-/// Prints the object of a decoded stream, or of a refusal.
-fn print_json_answer<W: Write>(
-    heard: &Result<Heard, StreamFault>,
-    out: &mut W,
-) -> io::Result<Status>
-    ensures { IfOk result (λ status. (text : List ℕ) × IsShownAsJson heard.now status text
-        × Appends (W.contents out.old) (W.contents out.new) text) }
-{
-    match heard {
-        Ok(heard) => {
-            print_json_heard(heard, out)?;
-            Ok(Status::Done)
-        }
-        Err(fault) => {
-            print_json_refusal(*fault, out)?;
-            Ok(Status::Refused)
-        }
-    }
-}
-
-/// Prints the object of a refusal.
-fn print_json_refusal<W: Write>(fault: StreamFault, out: &mut W) -> io::Result<()>
-    ensures { OnOk result
-        (Appends (W.contents out.old) (W.contents out.new) (json_refusal fault)) }
-{
-    match fault {
-        StreamFault::NotWhole => {
-            out.write_all(b"{\"kind\":\"refused\",\"cause\":\"not whole FIBs\"}\n")
-        }
-        StreamFault::Full => out.write_all(b"{\"kind\":\"refused\",\"cause\":\"Full\"}\n"),
-    }
-}
-
-/// Prints the object of a decoded stream.
-fn print_json_heard<W: Write>(heard: &Heard, out: &mut W) -> io::Result<()>
-    ensures { OnOk result ((text : List ℕ) × IsJsonListing heard.now text
-        × Appends (W.contents out.old) (W.contents out.new) text) }
-{
-    let current = heard.listener.current();
-    let next = heard.listener.next();
-    print_json_counts(heard, out)?;
-    out.write_all(b",\"current\":[")?;
-    print_json_picture(current, out)?;
-    out.write_all(b"],\"next\":[")?;
-    print_json_picture(next, out)?;
-    print_json_swap(heard.listener.swap_at(), out)
-}
-
-/// Prints the number of FIBs, and how many of them were damaged, from the beginning of the object.
-fn print_json_counts<W: Write>(heard: &Heard, out: &mut W) -> io::Result<()>
-    ensures { OnOk result (Appends (W.contents out.old) (W.contents out.new)
-        (json_counts heard.now)) }
-{
-    let fibs = heard.fibs;
-    let damaged = heard.damaged;
-    write!(out, "{{\"fibs\":{fibs},\"damaged\":{damaged}")
-}
-
-/// Prints the low part of the CIF count of the awaited swap, to the end of the object.
-fn print_json_swap<W: Write>(swap_at: Option<u8>, out: &mut W) -> io::Result<()>
-    ensures { OnOk result (Appends (W.contents out.old) (W.contents out.new)
-        (json_swap swap_at)) }
-{
-    match swap_at {
-        Some(low) => writeln!(out, "],\"swap_at\":{low}}}"),
-        None => out.write_all(b"],\"swap_at\":null}\n"),
-    }
-}
-
-/// Prints the objects of the entries of a picture, in their order, with commas between them.
-fn print_json_picture<W: Write>(picture: &Picture, out: &mut W) -> io::Result<()>
-    ensures { OnOk result ((text : List ℕ) × AreObjectsOf true (all_entries picture.now) text
-        × Appends (W.contents out.old) (W.contents out.new) text) }
-{
-    let mut is_first = true;
-    let mut entries = picture.entries();
-    while let Some(entry) = entries.next() {
-        print_comma(is_first, out)?;
-        print_json_entry(&entry.value(), out)?;
-        is_first = false;
-    }
-    Ok(())
-}
-
-/// Prints the number of FIBs, and how many of them were damaged.
-fn print_counts<W: Write>(heard: &Heard, out: &mut W) -> io::Result<()>
-    ensures { OnOk result (Appends (W.contents out.old) (W.contents out.new)
-        (counts_line heard.now)) }
-{
-    let fibs = heard.fibs;
-    let damaged = heard.damaged;
-    writeln!(out, "fibs {fibs} damaged {damaged}")
-}
-
-/// Prints the low part of the CIF count of the awaited swap.
-fn print_swap<W: Write>(swap_at: Option<u8>, out: &mut W) -> io::Result<()>
-    ensures { OnOk result (Appends (W.contents out.old) (W.contents out.new)
-        (swap_line swap_at)) }
-{
-    match swap_at {
-        Some(low) => writeln!(out, "swap at low {low}"),
-        None => writeln!(out, "no swap"),
-    }
-}
-
-/// Prints the lines of each entry of a picture, in the order of its entries.
-fn print_picture<W: Write>(picture: &Picture, out: &mut W) -> io::Result<()>
-    ensures { OnOk result ((text : List ℕ) × AreLinesOf (all_entries picture.now) text
-        × Appends (W.contents out.old) (W.contents out.new) text) }
-{
-    let mut entries = picture.entries();
-    while let Some(entry) = entries.next() {
-        print_entry(&entry.value(), out)?;
-    }
-    Ok(())
 }

@@ -1,12 +1,12 @@
 use Rattle.std.proofs.Common.{ℕ, List, true, ◌++◌, length}
-use Rattle.std.specs.Io.KnownBytes.{Appends}
 use Rattle.cli_streams.specs.JsonListing.{AreObjectsOf}
-use Rattle.cli_streams.proofs.listen.print_json_picture.Given as goal
+use Rattle.cli_streams.specs.Printing.{Adds, printing_to}
+use Rattle.cli_streams.proofs.json_listing.print_json_picture.Given as goal
 
 -- the printed text precedes the objects of the remaining entries
 abbrev pub invariant-loop-entry : goal.invariant-loop-entry
 invariant-loop-entry g l =
-    (text : List ℕ) × Appends (g.W.Write.contents l.fn.out) (g.W.Write.contents l.out) text
+    (text : List ℕ) × Adds (printing_to g.W.Write.contents l.fn.progress l.fn.out) (printing_to g.W.Write.contents l.progress l.out) text
     × ((rest : List ℕ) → AreObjectsOf l.is_first l.entries rest → AreObjectsOf true l.initial.entries (text ++ rest))
 
 abbrev pub decreases-loop-entry : goal.decreases-loop-entry

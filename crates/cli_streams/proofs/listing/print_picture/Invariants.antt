@@ -1,12 +1,12 @@
 use Rattle.std.proofs.Common.{ℕ, List, ◌++◌, length}
-use Rattle.std.specs.Io.KnownBytes.{Appends}
 use Rattle.cli_streams.specs.Listing.{AreLinesOf}
-use Rattle.cli_streams.proofs.listen.print_picture.Given as goal
+use Rattle.cli_streams.specs.Printing.{Adds, printing_to}
+use Rattle.cli_streams.proofs.listing.print_picture.Given as goal
 
 -- the printed text precedes the lines of the remaining entries
 abbrev pub invariant-loop-entry : goal.invariant-loop-entry
 invariant-loop-entry g l =
-    (text : List ℕ) × Appends (g.W.Write.contents l.fn.out) (g.W.Write.contents l.out) text
+    (text : List ℕ) × Adds (printing_to g.W.Write.contents l.fn.progress l.fn.out) (printing_to g.W.Write.contents l.progress l.out) text
     × ((rest : List ℕ) → AreLinesOf l.entries rest → AreLinesOf l.initial.entries (text ++ rest))
 
 abbrev pub decreases-loop-entry : goal.decreases-loop-entry

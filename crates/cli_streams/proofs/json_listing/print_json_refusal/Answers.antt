@@ -1,0 +1,15 @@
+use Rattle.std.proofs.Common.{sym, subst}
+use Rattle.cli_streams.specs.JsonListing.{json_refusal}
+use Rattle.cli_streams.specs.Printing.{Adds, printing_to}
+use Rattle.cli_streams.specs.declared.listen.StreamFault.{StreamFault}
+use Rattle.cli_streams.proofs.json_listing.print_json_refusal.Goals as goal
+
+pub returns-in-NotWhole : goal.returns-in-NotWhole
+returns-in-NotWhole g c =
+    let contents = g.W.Write.contents in
+    subst (λ (f : StreamFault). Adds (printing_to contents c.args.progress.now c.args.out.now) (printing_to contents c.print.new.self c.print.new.out) (json_refusal f)) (sym c.in-NotWhole.is) c.print.ensures
+
+pub returns-in-Full : goal.returns-in-Full
+returns-in-Full g c =
+    let contents = g.W.Write.contents in
+    subst (λ (f : StreamFault). Adds (printing_to contents c.args.progress.now c.args.out.now) (printing_to contents c.print-in-Full.new.self c.print-in-Full.new.out) (json_refusal f)) (sym c.in-Full.is) c.print-in-Full.ensures
