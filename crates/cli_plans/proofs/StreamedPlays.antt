@@ -2,6 +2,7 @@
 use Rattle.std.proofs.Common.{◌≡◌, ◌⊎◌, inl, inr, ℕ, ◌+◌, ◌≤◌, List, [], ◌∷◌, ◌++◌, length, take, drop, Option, None, Some, Result, Ok, Err, IfOk, IfErr, IfSome, refl, sym, ap, subst, ◌∙◌, arith, length-append, append_assoc}
 use Rattle.std.specs.List.{concat}
 use Rattle.std.specs.Io.KnownBytes.{Appends, Keeps}
+use Rattle.std.proofs.KnownBytes.{Keeps-refl}
 use Rattle.std.proofs.lemmas.List.{append-nil, take_all, take-append-drop}
 use Rattle.std.proofs.Math.Seq.{take-append_seam}
 use Rattle.console.specs.declared.exit.Failure.{Failure}
@@ -20,7 +21,7 @@ use Rattle.plan_session.specs.Events.{events_of}
 use Rattle.plan_session.specs.FilePlayback.{DeliversAgain, IsFileSilent}
 use Rattle.plan_session.specs.Playback.{Request, IsPlayback}
 use Rattle.cli_plans.specs.PlayFiles.{CutsShort, IsEnding, PrintsCut, played_line}
-use Rattle.cli_plans.specs.PlayStreams.{EndsOrIsCutTo, IsPlayedTo, RunsTo, StreamsPlay, TakesFront}
+use Rattle.cli_plans.specs.PlayStreams.{EndsOrIsCutTo, HasNoPlayback, IsPlayedTo, RunsTo, StreamsPlay, TakesFront}
 use Rattle.cli_plans.proofs.CutShort.{cut_again}
 
 -- ---- a front of the bytes
@@ -128,11 +129,12 @@ streams_so path r old new lines printed ended result runs number ending = record
   played = λ e. let n = done_so ended lines printed result number e in to_the_end r old new lines printed ended n.0 runs n.1 n.2;
   cut = cut_so path r old new lines printed ended result runs ending;
   front = λ taken p steps known plays. front_of p (events_of steps) old new ended (runs.delivers taken p steps known plays) runs.silent;
+  refused = runs.refused;
 }
 
 -- ---- a request without a playback, of which nothing was written
 
-none_cut : (path : List ℕ) (r : Request) (old lines printed : Option (List ℕ)) (result : Result Status Failure) → ((p : Playing) (steps : List Step) → IsPlayback r p steps → ⊥)
+none_cut : (path : List ℕ) (r : Request) (old lines printed : Option (List ℕ)) (result : Result Status Failure) → HasNoPlayback r
     → IfOk result (λ status. (taken : List ℕ) (p : Playing) (steps : List Step) → old ≡ Some taken → IsPlayback r p steps → EndsOrIsCutTo path p (events_of steps) status old old lines printed)
 none_cut path r old lines printed (Err failure) none = tt
 none_cut path r old lines printed (Ok status) none = λ taken p steps known plays. absurd (none p steps plays)
@@ -141,9 +143,10 @@ fault_is : (ended : Result ℕ FileRunFault) (e : FileRunFault) (n : ℕ) → en
 fault_is ended e n is other = let both = sym is ∙ other in absurd cc
 
 pub refused_so : (path : List ℕ) (r : Request) (old lines printed : Option (List ℕ)) (e : FileRunFault) (result : Result Status Failure) → PrintsNumber (Err e) lines printed result
-    → ((p : Playing) (steps : List Step) → IsPlayback r p steps → ⊥) → StreamsPlay path r old old lines printed result
+    → HasNoPlayback r → StreamsPlay path r old old lines printed result
 refused_so path r old lines printed e result number none = record {
   played = λ is. let n = done_so (Err e) lines printed result number is in absurd (fault_is (Err e) e n.0 refl n.1);
   cut = none_cut path r old lines printed result none;
   front = λ taken p steps known plays. absurd (none p steps plays);
+  refused = λ never. Keeps-refl old;
 }

@@ -10,12 +10,13 @@ use Rattle.plan_session.specs.declared.run_fault.RunFault.{RunFault}
 use Rattle.plan_session.specs.declared.run_fault.RunFault.TheVariants.{Code, Refused, Start, Events, Write}
 use Rattle.plan_session.specs.declared.start.StartOptions.{StartOptions}
 use Rattle.plan_session.specs.declared.step.Step.{Step}
-use Rattle.plan_session.specs.Events.{events_of}
-use Rattle.plan_session.specs.FilePlayback.{DeliversAgain, IsFileSilent, IsPlayed, ListsInParts}
+use Rattle.plan_session.specs.Events.{IsStep, events_of, step_lexemes}
+use Rattle.plan_session.specs.FilePlayback.{Begins, DeliversAgain, IsFileFault, IsFileSilent, IsPlayed, ListsInParts}
 use Rattle.plan_session.specs.Kept.{IsKeptOf, KeptTextsHaveSameResult}
 use Rattle.plan_session.specs.PartReading.{Fits}
-use Rattle.plan_session.specs.Playback.{asked_from, Delivers, IsPlayback, IsSilent}
-use Rattle.cli_plans.specs.PlayStreams.{Continues, RunsTo, since}
+use Rattle.plan_session.specs.Playback.{asked_from, Delivers, IsPlayback, IsRunFault, IsSilent}
+use Rattle.plan_session.proofs.PartTexts.{in_parts_hold}
+use Rattle.cli_plans.specs.PlayStreams.{Continues, HasNoPlayback, RunsTo, since}
 use Rattle.cli_plans.proofs.CutShort.{kept_playback}
 use Rattle.cli_plans.proofs.Played.{known_text, whole_playback}
 use Rattle.cli_plans.proofs.TakenSince.{all_since, none_more, none_since}
@@ -59,14 +60,36 @@ silent_in : (before now : Option (List ℕ)) (ended : Result ℕ FileRunFault) �
 silent_in before now (Ok n) c s = tt
 silent_in before now (Err e) c s = silent_all before now e c s
 
+-- a run of which something was written has a playback
+refused_again : (code text : List ℕ) (start : StartOptions) (left before now : Option (List ℕ)) (ended : Result ℕ FileRunFault) → Fits text → ListsInParts text
+    → IfOk ended (λ n. (p : Playing) × (steps : List Step) × IsPlayback (asked_from code text start) p steps × (n ≡ length (frames_of p (events_of steps))))
+    → IfErr ended (λ e. IsFileFault left (asked_from code [] start) e) → IfErr ended (λ e. IsFileSilent before now e) → HasNoPlayback (asked_from code text start) → Keeps before now
+refused_again code text start left before now (Ok n) fits parts number fault quiet none = absurd (none number.0 number.1 number.2)
+refused_again code text start left before now (Err e) fits parts number fault quiet none = by_fault e fault quiet
+  where
+    begun : (p : Playing) → Begins (asked_from code [] start) p → Keeps before now
+    begun p b =
+        let held = in_parts_hold step_lexemes IsStep text parts.0 fits parts.1 in
+        absurd (none p held.0 (record { ready = record { file = b.ready.file; start = b.ready.start }; begins = b.begins; holds = held.1 }))
+
+    by_fault : (e : FileRunFault) → IsFileFault left (asked_from code [] start) e → IsFileSilent before now e → Keeps before now
+    by_fault (Run (Code fault)) is s = s
+    by_fault (Run (Refused pc line cause)) is s = s
+    by_fault (Run (Start fault)) is s = s
+    by_fault (Run (Events fault)) is s = s
+    by_fault (Run (Write frames bytes)) is s = begun is.0 is.1
+    by_fault (Changed frames) is s = begun is.0 is.1
+    by_fault (Unread frames fault) is s = begun is.0 is.1
+
 -- `first` is what the writer had taken when it was lent
 pub again_runs : (code : List ℕ) (start : StartOptions) (left before first now : Option (List ℕ)) (ended : Result ℕ FileRunFault) → first ≡ before → Continues before now
     → ((text : List ℕ) (p : Playing) (steps : List Step) → left ≡ Some text → Fits text → ListsInParts text → IsPlayback (asked_from code text start) p steps → since before first ≡ Some []
     → DeliversAgain p (events_of steps) (since before first) (since before now) ended)
     → IfOk ended (λ n. IsPlayed left (asked_from code [] start) n)
+    → IfErr ended (λ e. IsFileFault left (asked_from code [] start) e)
     → IfErr ended (λ e. IsFileSilent (since before first) (since before now) e)
     → (text : List ℕ) → left ≡ Some text → Fits text → ListsInParts text → RunsTo (asked_from code text start) before now ended
-again_runs code start left before first now ended is_first c played only silent text known fits parts =
+again_runs code start left before first now ended is_first c played only fault silent text known fits parts =
     let number = only_again code text start left ended known only in
     let quiet = silent_in before now ended c (subst (λ (f : Option (List ℕ)). IfErr ended (λ e. IsFileSilent (since before f) (since before now) e)) is_first silent) in
     record {
@@ -76,6 +99,7 @@ again_runs code start left before first now ended is_first c played only silent 
           delivered_all p (events_of steps) before now ended c
           (subst (λ (f : Option (List ℕ)). DeliversAgain p (events_of steps) (since before f) (since before now) ended) is_first (played text p steps known fits parts plays none));
       silent = quiet;
+      refused = refused_again code text start left before now ended fits parts number fault quiet;
     }
 
 -- ---- a text that is kept
@@ -127,14 +151,30 @@ module _ (code text kept : List ℕ) (start : StartOptions) (law : KeptTextsHave
       let number = subst (λ (r : Result ℕ RunFault). IfOk r (λ k. (p : Playing) (steps : List Step) → IsPlayback (asked_from code kept start) p steps → k ≡ length (frames_of p (events_of steps)))) same.0 counted in
       (plays.0, plays.1, whole_plays plays.0 plays.1 plays.2, number plays.0 plays.1 plays.2)
 
+  refused_kept : (before now : Option (List ℕ)) (ended_kept : Result ℕ RunFault) (ended : Result ℕ FileRunFault) → IsAsFile ended_kept ended
+      → IfOk ended (λ n. (p : Playing) × (steps : List Step) × IsPlayback (asked_from code text start) p steps × (n ≡ length (frames_of p (events_of steps))))
+      → IfErr ended_kept (λ e. IsRunFault (asked_from code kept start) e) → IfErr ended (λ e. IsFileSilent before now e) → HasNoPlayback (asked_from code text start) → Keeps before now
+  refused_kept before now ended_kept (Ok n) same number fault quiet none = absurd (none number.0 number.1 number.2)
+  refused_kept before now ended_kept (Err e) same number fault quiet none =
+      let f = same.1 in
+      by_fault f.0 (subst (λ (r : Result ℕ RunFault). IfErr r (λ q. IsRunFault (asked_from code kept start) q)) f.1 fault) (subst (λ (q : FileRunFault). IsFileSilent before now q) f.2 quiet)
+    where
+      by_fault : (fault : RunFault) → IsRunFault (asked_from code kept start) fault → IsFileSilent before now (Run fault) → Keeps before now
+      by_fault (Code fault) is s = s
+      by_fault (Refused pc line cause) is s = s
+      by_fault (Start fault) is s = s
+      by_fault (Events fault) is s = s
+      by_fault (Write frames bytes) is s = absurd (none is.0 is.1 (whole_plays is.0 is.1 is.2))
+
 pub kept_runs : (code kept : List ℕ) (start : StartOptions) (before first now : Option (List ℕ)) (ended_kept : Result ℕ RunFault) (ended : Result ℕ FileRunFault) → KeptTextsHaveSameResult → first ≡ before → Continues before now
     → IfOk ended (λ n. ended_kept ≡ Ok n) → IfErr ended (λ e. (fault : RunFault) × (ended_kept ≡ Err fault) × (e ≡ Run fault))
     → ((p : Playing) (steps : List Step) → IsPlayback (asked_from code kept start) p steps → since before first ≡ Some [] → Delivers p (events_of steps) (since before first) (since before now) ended_kept)
     → IfOk ended_kept (λ n. (p : Playing) (steps : List Step) → IsPlayback (asked_from code kept start) p steps → n ≡ length (frames_of p (events_of steps)))
     → OnOk ended_kept ((p : Playing) × (steps : List Step) × IsPlayback (asked_from code kept start) p steps)
+    → IfErr ended_kept (λ e. IsRunFault (asked_from code kept start) e)
     → IfErr ended_kept (λ e. since before first ≡ Some [] → IsSilent (since before first) (since before now) e)
     → (text : List ℕ) → IsKeptOf text kept → RunsTo (asked_from code text start) before now ended
-kept_runs code kept start before first now ended_kept ended law is_first c ok err played counted only silent text of =
+kept_runs code kept start before first now ended_kept ended law is_first c ok err played counted only fault silent text of =
     let same : IsAsFile ended_kept ended = (ok, err) in
     let number = only_kept code text kept start law of ended_kept ended same only counted in
     let quiet = kept_silent before now ended_kept ended c same
@@ -148,4 +188,5 @@ kept_runs code kept start before first now ended_kept ended law is_first c ok er
           (kept_delivers p (events_of steps) (since before before) (since before now) ended_kept ended same
           (subst (λ (f : Option (List ℕ)). Delivers p (events_of steps) (since before f) (since before now) ended_kept) is_first (played p steps there none)));
       silent = quiet;
+      refused = refused_kept code text kept start law of before now ended_kept ended same number fault quiet;
     }

@@ -1,7 +1,10 @@
 -- Vectors of what `play` leaves of standard output.
-use Rattle.std.proofs.Common.{◌≡◌, inl, inr, ℕ, zero, suc, List, [], ◌∷◌, ◌++◌, length, Option, None, Some, Ok, Err, refl}
+use Rattle.std.proofs.Common.{◌≡◌, inl, inr, ℕ, zero, suc, List, [], ◌∷◌, ◌++◌, length, Option, None, Some, Result, Ok, Err, refl, sym, ◌∙◌}
+use Rattle.console.specs.declared.exit.Failure.{Failure}
 use Rattle.console.specs.declared.exit.Failure.TheVariants as failures
+use Rattle.console.specs.declared.exit.Status.{Status}
 use Rattle.console.specs.declared.exit.Status.TheVariants.{Done as PlayedToEnd, Refused}
+use Rattle.plan_code.specs.Spelling.{code_bytes}
 use Rattle.plan_runs.specs.declared.event.Event.{Event}
 use Rattle.plan_runs.specs.declared.event.Event.TheVariants.{Frame}
 use Rattle.plan_player.specs.Playing.{Playing}
@@ -10,7 +13,7 @@ use Rattle.plan_session.specs.declared.step.Step.{Step}
 use Rattle.plan_session.specs.Events.{events_of}
 use Rattle.plan_session.specs.Playback.{Request, IsPlayback}
 use Rattle.cli_plans.specs.PlayFiles.{played_line, unread_line, write_failed_line}
-use Rattle.cli_plans.specs.PlayStreams.{Continues, EndsOrIsCutTo, IsCutByEvents, IsCutByOutput, IsPlayedTo, StreamsPlay, TakesFront, since}
+use Rattle.cli_plans.specs.PlayStreams.{Continues, EndsOrIsCutTo, HasNoPlayback, IsCutByEvents, IsCutByOutput, IsPlayedTo, StreamsPlay, TakesFront, since}
 
 -- ---- a front of bytes
 
@@ -71,6 +74,15 @@ no_frame_to_cut p old new lines printed cut = none_behind cut.stopped.done cut.s
 no_events_read : (path : List ℕ) (p : Playing) → IsCutByEvents path p [] (Some []) (Some []) (Some []) (Some (unread_line path 0))
 no_events_read path p = record { frames = 0; done = []; later = []; whole = refl; taken = (refl, refl); line = refl }
 
+-- ---- a request without a playback
+
+-- an empty file is none of a code
+no_code : (r : Request) → r.file ≡ [] → HasNoPlayback r
+no_code r none p steps plays = let e : [] ≡ code_bytes p.code = sym none ∙ plays.ready.file.read.bytes in absurd cc
+
+has_one : (r : Request) (p : Playing) (steps : List Step) → IsPlayback r p steps → HasNoPlayback r → ⊥
+has_one r p steps plays none = none p steps plays
+
 -- ---- the command
 
 -- it failed before a frame, and nothing was written
@@ -79,7 +91,15 @@ nothing_begun path r = record {
   played = λ e. absurd cc;
   cut = tt;
   front = λ taken p steps known plays. (0, refl);
+  refused = λ none. refl;
 }
+
+some : (bytes : List ℕ) → [] ≡ 7 ∷ bytes → ⊥
+some bytes e = absurd cc
+
+-- a byte was written without a playback
+written_without_a_playback : (path : List ℕ) (r : Request) (lines printed : Option (List ℕ)) (ended : Result Status Failure) → HasNoPlayback r → StreamsPlay path r (Some []) (Some (7 ∷ [])) lines printed ended → ⊥
+written_without_a_playback path r lines printed ended none s = let kept : [] ≡ 7 ∷ [] = sym (s.refused none) in some [] kept
 
 -- it says that it is done, and printed nothing
 done_without_a_line : (path : List ℕ) (r : Request) → StreamsPlay path r (Some []) (Some []) (Some []) (Some []) (Ok PlayedToEnd) → ⊥

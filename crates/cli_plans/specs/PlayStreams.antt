@@ -1,6 +1,6 @@
 -- What `play` leaves of standard output where its frames go there, and what it prints elsewhere.
 use Rattle.std.specs.Prelude.{◌≡◌, ◌⊎◌, ℕ, Bool, true, false, List, [], ◌++◌, drop, length, take, Option, None, Some, Result, Ok, IfOk, IfErr}
-use Rattle.std.specs.Io.KnownBytes.{Appends}
+use Rattle.std.specs.Io.KnownBytes.{Appends, Keeps}
 use Rattle.console.specs.declared.exit.Failure.{Failure}
 use Rattle.console.specs.declared.exit.Status.{Status}
 use Rattle.console.specs.declared.exit.Status.TheVariants.{Done as PlayedToEnd}
@@ -52,17 +52,23 @@ EndsOrIsCutTo path p events status old new lines printed =
 abbrev pub TakesFront : (old new : Option (List ℕ)) → List ℕ → Type 0
 TakesFront old new bytes = (count : ℕ) × Appends old new (take count bytes)
 
+-- there is no playback of the request: its code is not typed, its start is out of range, or its events list no steps
+abbrev pub HasNoPlayback : Request → Type 0
+HasNoPlayback r = (p : Playing) (steps : List Step) → IsPlayback r p steps → ⊥
+
 -- ---- the command
 
 -- what standard output, which had taken `old`, has taken of a request over the events of this path; what was printed
 -- elsewhere; and how it ended: done, all frames of its playback, and the line of their number; else, where there is a
--- playback, the frames up to where it was cut short, and the line that says so; and in any case no other bytes
+-- playback, the frames up to where it was cut short, and the line that says so; and in any case no other bytes, and
+-- none where there is no playback
 pub record StreamsPlay (path : List ℕ) (r : Request) (old new lines printed : Option (List ℕ)) (ended : Result Status Failure) : Type 0 where
   pub played : ended ≡ Ok PlayedToEnd → IsPlayedTo r old new lines printed
   pub cut : IfOk ended (λ status. (taken : List ℕ) (p : Playing) (steps : List Step) → old ≡ Some taken → IsPlayback r p steps
       → EndsOrIsCutTo path p (events_of steps) status old new lines printed)
   pub front : (taken : List ℕ) (p : Playing) (steps : List Step) → old ≡ Some taken → IsPlayback r p steps
       → TakesFront old new (played_bytes p (events_of steps))
+  pub refused : HasNoPlayback r → Keeps old new
 
 -- ---- below it. No public contract needs what follows to be believed
 
@@ -71,6 +77,7 @@ pub record RunsTo (r : Request) (old new : Option (List ℕ)) (ended : Result �
   pub only : IfOk ended (λ frames. (p : Playing) × (steps : List Step) × IsPlayback r p steps × (frames ≡ length (frames_of p (events_of steps))))
   pub delivers : (taken : List ℕ) (p : Playing) (steps : List Step) → old ≡ Some taken → IsPlayback r p steps → DeliversAgain p (events_of steps) old new ended
   pub silent : IfErr ended (IsFileSilent old new)
+  pub refused : HasNoPlayback r → Keeps old new
 
 -- what a writer has taken since it had taken the first of these, if both are known
 abbrev pub since : (before now : Option (List ℕ)) → Option (List ℕ)

@@ -18,7 +18,7 @@ mod PartEnds
 mod PartLoop
 mod PartOutcomes
 mod PartReads
-mod PartTexts
+pub mod PartTexts
 mod PartVectors
 pub mod ReadParts
 mod Readings

@@ -10,7 +10,8 @@ use std::marker::Model;
 
 /// The commands of the text of a command file, one by one: none is kept.
 ///
-/// Contracts refer to the part of the text that is left; the commands that it lists are defined in `specs/Listing.antt`.
+/// Contracts refer to the part of the text that is left; the commands that it lists are defined in
+/// `specs/Listing.antt`.
 #[derive(Drop)]
 pub struct CommandList<'a> {
     scanner: Scanner<'a>,

@@ -17,9 +17,9 @@ use crate::text_fault::TextFault;
 use std::io::Read;
 use std::str;
 
-/// What the first reading of a command file finds: whether each part of the text of a reader, which has less than 65,536
-/// bytes and ends before a command, lists commands by itself; or the fault of the first part that does not. None of the
-/// text is kept.
+/// What the first reading of a command file finds: whether each part of the text of a reader, which has less than
+/// 65,536 bytes and ends before a command, lists commands by itself; or the fault of the first part that does not.
+/// None of the text is kept.
 ///
 /// # Errors
 ///

@@ -113,9 +113,9 @@ fn play_again<R: Read + Drop, K: Sink>(
     (outcome_of(ended), sink)
 }
 
-/// What the first reading of an event file finds: whether each part of the text of a reader, which has less than 65,536
-/// bytes and ends before a step, lists steps by itself; or the fault of the first part that does not. None of the text is
-/// kept.
+/// What the first reading of an event file finds: whether each part of the text of a reader, which has less than
+/// 65,536 bytes and ends before a step, lists steps by itself; or the fault of the first part that does not. None of
+/// the text is kept.
 ///
 /// # Errors
 ///
@@ -139,9 +139,9 @@ pub fn examine_events<R: Read + Drop>(events: R) -> Result<FirstReading, TextFau
 ///
 /// # Errors
 ///
-/// The first of these: `Run` with `Code`, `Refused` or `Start`, as in [`run`](crate::run), with which nothing was read or
-/// written; after some frames, which were written, `Run` with `Write`, and what the sink took in all, `Changed` if a part
-/// lists no steps, and `Unread` if the text can't be read.
+/// The first of these: `Run` with `Code`, `Refused` or `Start`, as in [`run`](crate::run), with which nothing was
+/// read or written; after some frames, which were written, `Run` with `Write`, and what the sink took in all,
+/// `Changed` if a part lists no steps, and `Unread` if the text can't be read.
 pub fn run_again<R: Read + Drop, K: Sink>(
     alloc: Global,
     code: &[u8],

@@ -30,7 +30,8 @@ pub(crate) trait Item: Copy {
     /// Whether its numbers are in their ranges.
     ghost is_item: { Self → Type 0 };
 
-    /// The law of items: their tokens identify them, and the first alone begins like one. The function does nothing; its contract is the law.
+    /// The law of items: their tokens identify them, and the first alone begins like one. The function does nothing;
+    /// its contract is the law.
     fn uniqueness()
         ensures unique { AreUnique spelled is_item }
         ensures some { HasLexemes spelled }

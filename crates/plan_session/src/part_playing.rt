@@ -75,8 +75,8 @@ fn play_part<'a, S: Store, K: Sink>(
     }
 }
 
-/// Plays the steps of a text part by part, as they are read. Returns how many frames were put into the sink, and whether
-/// they are all; or what the sink took before it failed.
+/// Plays the steps of a text part by part, as they are read. Returns how many frames were put into the sink, and
+/// whether they are all; or what the sink took before it failed.
 pub(crate) fn play_parts<'a, S: Store, R: Read + Drop, K: Sink>(
     player: &mut Player<'a, S>,
     source: R,

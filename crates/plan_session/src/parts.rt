@@ -22,8 +22,8 @@ pub enum NoPart {
     Endless,
 }
 
-/// The parts of a text, one by one: each is in memory alone. A part is what fits into 65,536 bytes, up to the last blank
-/// or line end in front of an item; the last part is what is left when the rest fits.
+/// The parts of a text, one by one: each is in memory alone. A part is what fits into 65,536 bytes, up to the last
+/// blank or line end in front of an item; the last part is what is left when the rest fits.
 ///
 /// Contracts refer to what is left of the text, if it is known, and to the last part read.
 #[derive(Drop)]

@@ -10,4 +10,4 @@ returns-clause-runs g c = λ text of.
     let ended = c.of_text.ensures in
     let kept : IsKeptOf text c.as_str.result.now = subst (λ (l : List ℕ). IsKeptOf text l) (sym c.as_str.ensures.value) of in
     let continued = subst (λ (o : g.row.W.Denot). Continues g.S.OutStart.before (g.W.Write.contents o)) c.give_back.ensures.writer c.give_back.ensures.continued in
-    rw (c.give_back.ensures.writer) (kept_runs c.args.code.now c.as_str.result.now c.args.start _ _ _ _ _ c.kept_texts.ensures c.new-out.ensures.taken continued ended.frames ended.fault played.played played.counted played.only played.silent text kept)
+    rw (c.give_back.ensures.writer) (kept_runs c.args.code.now c.as_str.result.now c.args.start _ _ _ _ _ c.kept_texts.ensures c.new-out.ensures.taken continued ended.frames ended.fault played.played played.counted played.only played.first_fault played.silent text kept)
