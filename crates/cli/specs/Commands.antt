@@ -14,9 +14,9 @@ use Rattle.plan_session.specs.PartReading.{Fits}
 use Rattle.plan_session.specs.Playback.{asked_from, IsPlayback}
 use Rattle.stream_monitor.specs.Hinting.{IsHinted}
 use Rattle.cli_streams.specs.Checking.{ShowsCheck, ShowsUntil}
-use Rattle.cli_streams.specs.Failing.{IsInputFailure}
-use Rattle.cli_streams.specs.Frame.{ShowsFrame, frame_of, most_bytes}
-use Rattle.cli_streams.specs.Listing.{ShowsStream}
+use Rattle.cli_streams.specs.Failing.{IsInputFailure, IsSilentUnread}
+use Rattle.cli_streams.specs.Frame.{ShowsFrame, ShowsFrameUntil, frame_of, most_bytes}
+use Rattle.cli_streams.specs.Listing.{ShowsStream, ShowsStreamUntil}
 use Rattle.cli_streams.specs.Merged.{AreTwo, MergesFiles, known_at}
 use Rattle.cli_streams.specs.declared.check.CheckRequest.{CheckRequest}
 use Rattle.cli_streams.specs.declared.frame.FrameRequest.{FrameRequest}
@@ -89,7 +89,10 @@ abbrev pub RunsFrame : FrameRequest → Inputs → Outputs → Outputs → Resul
 RunsFrame r given before after ended =
     OfInput given r.config.now (λ bytes.
     IfOk ended (ShowsFrame r.raw (frame_of r.layout r.ensemble r.page (take most_bytes bytes)) before.printed after.printed))
+    × OfInput given r.config.now (λ bytes.
+    IfErr ended (ShowsFrameUntil r.raw (frame_of r.layout r.ensemble r.page (take most_bytes bytes)) before.printed after.printed))
     × IfErr ended (IsInputFailure r.config.now)
+    × IfErr ended (IsSilentUnread before.printed after.printed)
     × KeepsWorld before after
 
 abbrev pub RunsFrameScript : FrameScriptRequest → Inputs → Outputs → Outputs → Result Status Failure → Type 0
@@ -99,7 +102,9 @@ RunsFrameScript r given before after ended =
 abbrev pub RunsListen : ListenRequest → Inputs → Outputs → Outputs → Result Status Failure → Type 0
 RunsListen r given before after ended =
     OfInput given r.file.now (λ stream. IfOk ended (ShowsStream r.is_json stream before.printed after.printed))
+    × OfInput given r.file.now (λ stream. IfErr ended (ShowsStreamUntil r.is_json stream before.printed after.printed))
     × IfErr ended (IsInputFailure r.file.now)
+    × IfErr ended (IsSilentUnread before.printed after.printed)
     × OnlyHints r.file.now before after
 
 abbrev pub RunsListenScript : ListenScriptRequest → Inputs → Outputs → Outputs → Result Status Failure → Type 0

@@ -1,9 +1,9 @@
 -- How `map` ends, from what its steps leave.
-use Rattle.std.proofs.Common.{◌≡◌, ◌⊎◌, ℕ, Bool, true, false, List, [], ◌++◌, codes, Option, None, Some, IfSome, Ok, Err, Bor, take, refl, sym, ap, ◌∙◌, subst, inl, inr, append-nil, IsUtf8}
+use Rattle.std.proofs.Common.{◌≡◌, ◌⊎◌, ℕ, Bool, true, false, List, [], ◌++◌, codes, Option, None, Some, IfSome, Ok, Err, Bor, refl, sym, ap, ◌∙◌, subst, inl, inr, IsUtf8}
 use Rattle.std.specs.Io.KnownBytes.{Appends, Keeps}
 use Rattle.std.proofs.KnownBytes.{Appends-nil, Appends-trans, Appends-kept}
 use Rattle.console.specs.Failures.{IsReadFailure, IsWriteFailure}
-use Rattle.console.specs.World.{World, Becomes, Stays, HasSameFiles, IsSame, IsSameBut, HasWritten, HasReported}
+use Rattle.console.specs.World.{World, Becomes, Stays, HasSameFiles, IsSame, IsSameBut, HasWritten}
 use Rattle.console.specs.declared.exit.Failure.{Failure}
 use Rattle.console.specs.declared.exit.Failure.TheVariants.{Memory, Read, Create, Output}
 use Rattle.console.specs.declared.exit.Status.{Status}
@@ -18,8 +18,10 @@ use Rattle.cli_scripts.specs.declared.script_map.Map.{Map}
 use Rattle.cli_scripts.specs.Compiled.{IsUncompiled}
 use Rattle.cli_scripts.specs.Compiling.{IsReason}
 use Rattle.cli_scripts.specs.FileTexts.{IsReadOf, IsUnreadable}
-use Rattle.cli_scripts.specs.Mapping.{IsMapOf, IsMapped, map_lines, layout_status, status_of, drawing_of, HasDrawn, IsNotedOnly, ShowsMap, DrawsMap, FindsMap, IsDrawingPath, IsShown, Maps, IsUndrawn, KeepsOthers}
+use Rattle.cli_scripts.specs.Mapping.{IsMapOf, IsMapped, map_lines, layout_status, status_of, drawing_of, HasDrawn, ShowsMap, DrawsMap, FindsMap, IsDrawingPath, IsShown, Maps, IsUndrawn, KeepsOthers}
+use Rattle.cli_scripts.specs.Noting.{HasNoted, IsNotedOnly, warning_lines}
 use Rattle.cli_scripts.specs.RefusalTexts.{refusal_text}
+use Rattle.cli_scripts.proofs.Noted.{noted_behind}
 use Rattle.cli_scripts.proofs.ReadTexts.{whole_of, refused_whole}
 
 -- ---- a drawing goes through a buffer
@@ -47,20 +49,6 @@ written_whole path bytes (Some a) None new before after empty p took q = absurd 
 written_whole path bytes (Some a) (Some b) new before after empty p took q =
     let whole = whole_written path bytes b new after (subst (λ (known : Option (List ℕ)). Appends known after bytes) empty took) q in
     but_then_written path bytes (Some a) (Some b) new p whole
-
--- ---- standard error
-
-pub unreported : (world : Option World) (notes : List ℕ) → Becomes (IsNotedOnly notes) world world
-unreported None notes = tt
-unreported (Some w) notes = record { noted = record { count = 0; grown = sym (append-nil w.errors); none = λ h. refl }; files = λ path. refl }
-
-reported_in : (notes : List ℕ) (old new : World) → (notes ≡ [] → ⊥) → HasReported notes old new → IsNotedOnly notes old new
-reported_in notes old new some h = record { noted = record { count = h.count; grown = h.errors; none = λ none. absurd (some none) }; files = h.files }
-
-pub reported : (notes text : List ℕ) (old new : Option World) → (notes ≡ [] → ⊥) → text ≡ notes → Becomes (HasReported text) old new → Becomes (IsNotedOnly notes) old new
-reported notes text None new some same h = tt
-reported notes text (Some v) None some same h = absurd h
-reported notes text (Some v) (Some w) some same h = reported_in notes v w some (subst (λ (t : List ℕ). HasReported t v w) same h)
 
 -- ---- the file of the drawing
 
@@ -143,28 +131,19 @@ drawn_before : (path : Option (Bor (List ℕ))) (m : Map) (u v w : World) → Ha
 drawn_before None m u v w h kept = λ p. kept p ∙ h p
 drawn_before (Some path) m u v w h kept = (kept path.now ∙ h.0, λ other apart. kept other ∙ h.1 other apart)
 
-warned_after : (request : MapRequest) (m : Map) (notes : List ℕ) (u v w : World) → DrawsMap request.drawing m u v → (m.warnings.items ≡ [] → notes ≡ []) → IsNotedOnly notes v w → ShowsMap request m u w
-warned_after request m notes u v w drawn silent only =
-    let noted = only.noted in
-    record {
-      drawn = drawn_before request.drawing m u v w drawn.drawn only.files;
-      warned = record {
-        notes = notes;
-        noted = record {
-          count = noted.count;
-          grown = noted.grown ∙ ap (λ (l : List ℕ). l ++ take noted.count (notes ++ codes "\n")) drawn.errors;
-          none = λ none. noted.none none ∙ drawn.errors;
-        };
-        silent = silent;
-      };
-    }
+warned_after : (request : MapRequest) (m : Map) (lines : List ℕ) (u v w : World) → DrawsMap request.drawing m u v → lines ≡ warning_lines request.script.now m.warnings.items → IsNotedOnly lines v w
+    → ShowsMap request m u w
+warned_after request m lines u v w drawn all only = record {
+  drawn = drawn_before request.drawing m u v w drawn.drawn only.files;
+  warned = subst (λ (l : List ℕ). HasNoted l u w) all (noted_behind lines u v w drawn.errors only.noted);
+}
 
-shows_on : (request : MapRequest) (m : Map) (notes : List ℕ) (u v w : Option World) → Becomes (DrawsMap request.drawing m) u v → (m.warnings.items ≡ [] → notes ≡ []) → Becomes (IsNotedOnly notes) v w
-    → Becomes (ShowsMap request m) u w
-shows_on request m notes None v w h silent noted = tt
-shows_on request m notes (Some a) None w h silent noted = absurd h
-shows_on request m notes (Some a) (Some b) None h silent noted = absurd noted
-shows_on request m notes (Some a) (Some b) (Some c) h silent noted = warned_after request m notes a b c h silent noted
+shows_on : (request : MapRequest) (m : Map) (lines : List ℕ) (u v w : Option World) → Becomes (DrawsMap request.drawing m) u v → lines ≡ warning_lines request.script.now m.warnings.items
+    → Becomes (IsNotedOnly lines) v w → Becomes (ShowsMap request m) u w
+shows_on request m lines None v w h all noted = tt
+shows_on request m lines (Some a) None w h all noted = absurd h
+shows_on request m lines (Some a) (Some b) None h all noted = absurd noted
+shows_on request m lines (Some a) (Some b) (Some c) h all noted = warned_after request m lines a b c h all noted
 
 -- ---- the command
 
@@ -225,14 +204,14 @@ ends_as bytes request a d u w status (inl e) h =
 ends_as bytes request a d u w status (inr e) h =
     subst (λ (s : Status). Maps bytes request (Appends a d) u w (Ok s)) (sym e) (inl (subst (IsShown bytes request (Appends a d) u w) e h))
 
-pub shown : (known : Option (List ℕ)) (request : MapRequest) (a b d : Option (List ℕ)) (u v w x : Option World) (m : Map) (listed : List Warning) (kept_notes notes : List ℕ) (status : Status)
+pub shown : (known : Option (List ℕ)) (request : MapRequest) (a b d : Option (List ℕ)) (u v w x : Option World) (m : Map) (listed : List Warning) (held lines : List ℕ) (status : Status)
     → IfSome known (λ bytes. FindsMap bytes request (Appends a b) (Ok (Some m))) → Stays u v → Becomes (DrawsMap request.drawing m) v w
-    → listed ≡ m.warnings.items → (listed ≡ [] → kept_notes ≡ []) → notes ≡ kept_notes → Becomes (IsNotedOnly notes) w x → Appends b d (map_lines request.layout m) → status ≡ status_of request.layout m
+    → listed ≡ m.warnings.items → held ≡ warning_lines request.script.now listed → lines ≡ held → Becomes (IsNotedOnly lines) w x → Appends b d (map_lines request.layout m) → status ≡ status_of request.layout m
     → IfSome known (λ bytes. Maps bytes request (Appends a d) u x (Ok status))
-shown None request a b d u v w x m listed kept_notes notes status h kept drawn all silent same noted printed is = tt
-shown (Some bytes) request a b d u v w x m listed kept_notes notes status h kept drawn all silent same noted printed is =
+shown None request a b d u v w x m listed held lines status h kept drawn all are same noted printed is = tt
+shown (Some bytes) request a b d u v w x m listed held lines status h kept drawn all are same noted printed is =
     let ends : (status ≡ Done) ⊎ (status ≡ Refused) = subst (λ (s : Status). (s ≡ Done) ⊎ (s ≡ Refused)) (sym is) (status_ends request.layout m) in
-    let world = shows_on request m notes u w x (draws_on request.drawing m u v w kept drawn) (λ none. same ∙ silent (all ∙ none)) noted in
+    let world = shows_on request m lines u w x (draws_on request.drawing m u v w kept drawn) (same ∙ are ∙ ap (warning_lines request.script.now) all) noted in
     ends_as bytes request a d u x status ends (m, h.0, is, Appends-trans a b d [] (map_lines request.layout m) h.1 printed, world)
 
 -- ---- no other file is changed
@@ -265,10 +244,10 @@ draws_others path m None w h = tt
 draws_others path m (Some a) None h = absurd h
 draws_others path m (Some a) (Some b) h = drawn_others path m a b h.drawn
 
-pub noted_others : (path : Option (Bor (List ℕ))) (notes : List ℕ) (v w : Option World) → Becomes (IsNotedOnly notes) v w → Becomes (KeepsOthers path) v w
-noted_others path notes None w h = tt
-noted_others path notes (Some a) None h = absurd h
-noted_others path notes (Some a) (Some b) h = same_others path a b h.files
+pub noted_others : (path : Option (Bor (List ℕ))) (lines : List ℕ) (v w : Option World) → Becomes (IsNotedOnly lines) v w → Becomes (KeepsOthers path) v w
+noted_others path lines None w h = tt
+noted_others path lines (Some a) None h = absurd h
+noted_others path lines (Some a) (Some b) h = same_others path a b h.files
 
 but_others : (path : Option (Bor (List ℕ))) (named : List ℕ) (v w : Option World) → IsDrawingPath path named → Becomes (IsSameBut named) v w → Becomes (KeepsOthers path) v w
 but_others None named v w is h = absurd is

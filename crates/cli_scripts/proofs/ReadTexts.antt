@@ -4,10 +4,11 @@ use Rattle.std.proofs.lemmas.Bool.{cases_lt}
 use Rattle.script_front.specs.Denoting.{IsScriptOf, IsNoScript}
 use Rattle.script_tokens.specs.Texts.{MOST_BYTES}
 use Rattle.cli_scripts.specs.declared.compile.Compiled.{Compiled}
+use Rattle.cli_scripts.specs.declared.compile.CompileRequest.{CompileRequest}
 use Rattle.cli_scripts.specs.declared.compile.ScriptRefusal.{ScriptRefusal}
 use Rattle.cli_scripts.specs.declared.compile.ScriptRefusal.TheVariants.{Script, Plan, Memory}
-use Rattle.cli_scripts.specs.Compiled.{IsCompiled, IsUncompiled}
-use Rattle.cli_scripts.specs.Compiling.{IsCompiledFrom, IsReason, IsRefusedFrom}
+use Rattle.cli_scripts.specs.Compiled.{IsUncompiled}
+use Rattle.cli_scripts.specs.Compiling.{IsAcceptedAs, IsAcceptedFrom, IsReason, IsRefusedFrom}
 use Rattle.cli_scripts.specs.FileTexts.{IsReadOf}
 
 -- what follows from the first bytes of a file, where its bytes are known
@@ -40,10 +41,11 @@ whole_of bytes text r fits = elim r.enough [
   | inr more ↦ absurd (omega (arith, fits, more))
 ]
 
-pub compiled_whole : (bytes text : List ℕ) (c : Compiled) → IsReadOf bytes text → IsCompiled text c → IsCompiledFrom bytes c
-compiled_whole bytes text c r h =
-    let e : text ≡ bytes = whole_of bytes text r h.2.denotes.short in
-    record { utf8 = subst IsUtf8 e r.utf8; compiled = subst (λ (t : List ℕ). IsCompiled t c) e h }
+pub accepted_whole : (bytes text : List ℕ) (request : CompileRequest) (c : Compiled) (notes : List ℕ) → IsReadOf bytes text → IsAcceptedAs text request c notes
+    → IsAcceptedFrom bytes request c notes
+accepted_whole bytes text request c notes r h =
+    let e : text ≡ bytes = whole_of bytes text r h.made.denotes.short in
+    record { utf8 = subst IsUtf8 e r.utf8; accepted = subst (λ (t : List ℕ). IsAcceptedAs t request c notes) e h }
 
 pub none_in_whole : (bytes text : List ℕ) → IsReadOf bytes text → IsNoScript text → IsNoScript bytes
 none_in_whole bytes text r none tree script is = elim r.enough [

@@ -12,7 +12,7 @@ use Rattle.script_front.specs.Block.{nothing, Before, statement_step, before}
 use Rattle.cli_scripts.specs.declared.map.MapRequest.{MapRequest}
 use Rattle.cli_scripts.specs.declared.script_map.Map.{Map}
 use Rattle.cli_scripts.specs.Blocks.{first_line, line_of, has_begun, or_earlier, last_begun, name_at, first_letters}
-use Rattle.cli_scripts.specs.Mapping.{HasDrawn, HasNoted, IsUndrawn, Maps, KeepsOthers, drawing_of}
+use Rattle.cli_scripts.specs.Mapping.{HasDrawn, IsUndrawn, Maps, KeepsOthers, drawing_of}
 
 -- ---- blocks
 
@@ -52,20 +52,11 @@ empty = record { files = λ path. None; errors = [] }
 abbrev with_one : World
 with_one = record { files = λ path. Some (7 ∷ []); errors = [] }
 
-abbrev noted : World
-noted = record { files = λ path. None; errors = codes "a\n" }
-
 drawn_or_not : (m : Map) → HasDrawn None m empty with_one → ⊥
 drawn_or_not m h = absurd (let same : ◌≡◌ {A = Option (List ℕ)} (Some (7 ∷ [])) None = h [] in cc)
 
 not_another_drawing : (path : Bor (List ℕ)) (m : Map) → drawing_of m ≢ [] → HasDrawn (Some path) m empty (record { files = λ p. Some []; errors = [] }) → ⊥
 not_another_drawing path m some h = some (let same : Some [] ≡ Some (drawing_of m) = h.0 in cc)
-
-one_note : HasNoted (codes "a") empty noted
-one_note = record { count = 2; grown = refl; none = λ e. (let lengths : 1 ≡ 0 = ap length e in absurd (omega (arith, lengths))) }
-
-no_note_is_silent : HasNoted [] empty noted → ⊥
-no_note_is_silent h = (let lengths : 2 ≡ 0 = ap length (h.none refl) in omega (arith, lengths))
 
 others_kept : KeepsOthers None empty with_one → ⊥
 others_kept h = absurd (let same : ◌≡◌ {A = Option (List ℕ)} (Some (7 ∷ [])) None = h [] in cc)

@@ -7,6 +7,7 @@ pub mod FramingScripts
 pub mod ListenScript
 pub mod Mapping
 pub mod Naming
+pub mod Noting
 pub mod Planned
 pub mod RefusalTexts
 pub mod Refusing

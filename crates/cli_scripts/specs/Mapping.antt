@@ -1,6 +1,6 @@
 -- What `map` leaves of a script file with known bytes: what is printed, what the file of the drawing holds, what standard error has
 -- taken, and how it ends.
-use Rattle.std.specs.Prelude.{◌≡◌, ◌⊎◌, ◌↔◌, ℕ, Bool, true, false, List, [], ◌++◌, codes, map, take, Contains, Option, Some, None, Result, Ok, Err, IsUtf8}
+use Rattle.std.specs.Prelude.{◌≡◌, ◌⊎◌, ℕ, Bool, true, false, List, [], ◌++◌, codes, map, Option, Some, None, Result, Ok, Err, IsUtf8}
 use Rattle.std.specs.Borrow.{Bor}
 use Rattle.console.specs.World.{World, Becomes, Stays, HasSameFiles, HasSameOthers, IsSameBut}
 use Rattle.console.specs.declared.exit.Failure.{Failure}
@@ -8,8 +8,6 @@ use Rattle.console.specs.declared.exit.Failure.TheVariants.{Memory, Read, Create
 use Rattle.console.specs.declared.exit.Status.{Status}
 use Rattle.console.specs.declared.exit.Status.TheVariants.{Done, Refused, Misused, Faulty}
 use Rattle.plan_code.specs.Program.{Program}
-use Rattle.plan_explain.specs.declared.warning.Warning.{Warning}
-use Rattle.plan_explain.specs.Warnings.{IsWarranted}
 use Rattle.plan_map.specs.declared.layout.Layout.{Layout}
 use Rattle.plan_map.specs.declared.layout.Layout.TheVariants.{One, Apart}
 use Rattle.plan_map.specs.declared.rows.Row.{Row}
@@ -25,6 +23,7 @@ use Rattle.cli_scripts.specs.declared.script_map.Map.{Map}
 use Rattle.cli_scripts.specs.Blocks.{named_row}
 use Rattle.cli_scripts.specs.Compiled.{IsMadeOf}
 use Rattle.cli_scripts.specs.Compiling.{IsRefusedFrom}
+use Rattle.cli_scripts.specs.Noting.{AreWarnings, Warns}
 use Rattle.cli_scripts.specs.RefusalTexts.{refusal_text}
 
 -- ---- the map of a script
@@ -39,7 +38,7 @@ pub record IsMapFrom (script : Tree) (code : Program) (m : Map) : Type 0 where
   pub rows : m.rows.items ≡ rows_in script code
   pub key : m.key.items ≡ key_of m.rows.items
   pub layout : IsLayout m.layout (subs_of m.rows.items)
-  pub warnings : (w : Warning) → Contains m.warnings.items w ↔ IsWarranted script code w
+  pub warnings : AreWarnings script code m.warnings.items
 
 -- the text is that of an accepted script, of which this is the map
 abbrev pub IsMapOf : List ℕ → Map → Type 0
@@ -73,27 +72,10 @@ abbrev pub HasDrawn : Option (Bor (List ℕ)) → Map → World → World → Ty
 HasDrawn None m old new = HasSameFiles old new
 HasDrawn (Some path) m old new = (new.files path.now ≡ Some (drawing_of m)) × HasSameOthers path.now old new
 
--- standard error has grown by these lines, or by the front of them where it failed, and by nothing if there are none
-pub record HasNoted (notes : List ℕ) (old new : World) : Type 0 where
-  pub count : ℕ
-  pub grown : new.errors ≡ old.errors ++ take count (notes ++ codes "\n")
-  pub none : notes ≡ [] → new.errors ≡ old.errors
-
--- and the files are as they were
-pub record IsNotedOnly (notes : List ℕ) (old new : World) : Type 0 where
-  pub noted : HasNoted notes old new
-  pub files : HasSameFiles old new
-
--- lines about a list of warnings, none if it is empty
-pub record Warns (warnings : List Warning) (old new : World) : Type 0 where
-  pub notes : List ℕ
-  pub noted : HasNoted notes old new
-  pub silent : warnings ≡ [] → notes ≡ []
-
 -- the drawing is in its file, and the warnings are on standard error
 pub record ShowsMap (request : MapRequest) (m : Map) (old new : World) : Type 0 where
   pub drawn : HasDrawn request.drawing m old new
-  pub warned : Warns m.warnings.items old new
+  pub warned : Warns request.script.now m.warnings.items old new
 
 -- the drawing is in its file, and nothing was reported
 pub record DrawsMap (path : Option (Bor (List ℕ))) (m : Map) (old new : World) : Type 0 where

@@ -1,12 +1,14 @@
 //! `dabplan compile`: compiles a script into a code file.
 
-ghost use Rattle.std.specs.Prelude.{◌≡◌, ℕ, List, take, IfOk, IfErr, IfSome, OnOk};
+ghost use Rattle.std.specs.Prelude.{◌≡◌, ◌++◌, ℕ, List, take, IfOk, IfErr, IfSome, OnOk};
 ghost use Rattle.std.specs.Io.KnownBytes.{Appends};
 ghost use Rattle.console.specs.World.{Stays};
-ghost use Rattle.cli_scripts.specs.Compiled.{IsCompiled, IsMadeOf, IsUncompiled, counts_line};
-ghost use Rattle.cli_scripts.specs.Compiling.{CompilesFile, CompilesStream, FindsCompiled, IsReasonOrMemory, KeepsFiles};
+ghost use Rattle.cli_scripts.specs.Compiled.{IsCompiled, IsFileOf, IsMadeOf, IsUncompiled, counts_line};
+ghost use Rattle.cli_scripts.specs.Compiling.{CompilesFile, CompilesStream, FindsCompiled, IsFoundIn, IsReasonOrMemory, KeepsFiles};
+ghost use Rattle.cli_scripts.specs.Noting.{lines_of};
 
 use crate::explained::show_script_refusal;
+use crate::notes::{Notes, report_notes};
 use crate::script_file::{read_script, script_text};
 use console::exit::{Failure, Status, write_file};
 use console::files::Files;
@@ -24,7 +26,7 @@ pub struct CompileRequest<'a> {
     pub script: &'a str,
     /// The path of the code file to write.
     pub out: &'a str,
-    /// Whether a refusal is explained.
+    /// Whether a refusal is explained, and warnings about an accepted script are reported.
     pub explain: bool,
 }
 
@@ -39,6 +41,13 @@ pub struct Compiled {
     pub labels: usize,
     /// The number of configurations.
     pub configurations: usize,
+}
+
+/// An accepted script: its compilation, and the notes on it.
+#[derive(Drop)]
+pub(crate) struct Found {
+    compiled: Compiled,
+    notes: Notes,
 }
 
 /// Why a script is not compiled.
@@ -60,7 +69,9 @@ impl From<AllocError> for ScriptRefusal {
 
 /// Runs `compile`: writes the code file of the script, and prints the numbers of instructions, labels and
 /// configurations; or prints why the script is refused, with an explanation if requested. The file is created last,
-/// so that an earlier failure leaves it as it was; no other file is changed.
+/// so that an earlier failure leaves it as it was; no other file is changed. At the end the warnings about an accepted
+/// script are reported on standard error, if an explanation is requested: a line each, or `no memory` if out of memory
+/// for them, which changes nothing else.
 ///
 /// `Read` if the script can't be read, or is not UTF-8; `Create` if the file can't be written; `Output` if `out`
 /// fails; `Memory` if out of memory.
@@ -75,23 +86,28 @@ pub fn show_compile<'a, F: Files, W: Write>(
         (F.world files.old) (F.world files.new) result) }
     ensures files { KeepsFiles request.now (F.world files.old) (F.world files.new) result }
 {
-    let compiled = match compile_script(alloc, request, files, out) {
-        Ok(Some(compiled)) => compiled,
+    let found = match compile_script(alloc, request, files, out) {
+        Ok(Some(found)) => found,
         Ok(None) => return Ok(Status::Refused),
         Err(failure) => return Err(failure),
     };
-    match write_file(files, request.out, compiled.file.as_slice()) {
+    match write_file(files, request.out, found.compiled.file.as_slice()) {
         Ok(()) => {}
         Err(failure) => return Err(failure),
     }
-    match print_counts(&compiled, out) {
-        Ok(()) => Ok(Status::Done),
-        Err(_) => Err(Failure::Output),
+    match print_counts(&found.compiled, out) {
+        Ok(()) => {}
+        Err(_) => return Err(Failure::Output),
     }
+    if !request.explain {
+        return Ok(Status::Done);
+    }
+    report_notes(found.notes.as_slice(), files);
+    Ok(Status::Done)
 }
 
-/// Runs `compile` with standard output in place of the file: the code file goes to `out`, and the lines to `lines`. No
-/// file is changed.
+/// Runs `compile` with standard output in place of the file: the code file goes to `out`, and the lines to `lines`, the
+/// warnings among them. No file is changed.
 ///
 /// The failures are those of [`show_compile`]: `Create` if `out` fails, which may have taken some bytes then, and
 /// `Output` if `lines` fails.
@@ -107,16 +123,16 @@ pub fn stream_compile<'a, F: Files, W: Write, L: Write>(
         (W.contents out.old) (W.contents out.new) result) }
     ensures files { Stays (F.world files.old) (F.world files.new) }
 {
-    let compiled = match compile_script(alloc, request, files, lines) {
-        Ok(Some(compiled)) => compiled,
+    let found = match compile_script(alloc, request, files, lines) {
+        Ok(Some(found)) => found,
         Ok(None) => return Ok(Status::Refused),
         Err(failure) => return Err(failure),
     };
-    match write_through(compiled.file.as_slice(), out) {
+    match write_through(found.compiled.file.as_slice(), out) {
         Ok(()) => {}
         Err(_) => return Err(Failure::Create(request.out)),
     }
-    match print_counts(&compiled, lines) {
+    match print_all(&found, lines) {
         Ok(()) => Ok(Status::Done),
         Err(_) => Err(Failure::Output),
     }
@@ -134,14 +150,14 @@ fn write_through<W: Write>(bytes: &[u8], out: &mut W) -> io::Result<()>
     }
 }
 
-/// The compiled script of the request; `None` after printing why it is refused, with an explanation if requested. No
-/// file is changed.
+/// The compiled script of the request, with the notes on it; `None` after printing why it is refused, with an
+/// explanation if requested. No file is changed.
 fn compile_script<'a, F: Files, W: Write>(
     alloc: Global,
     request: &CompileRequest<'a>,
     files: &mut F,
     out: &mut W,
-) -> Result<Option<Compiled>, Failure<'a>>
+) -> Result<Option<Found>, Failure<'a>>
     ensures script { IfSome (F.known files.old request.now.script.now) (λ bytes.
         FindsCompiled bytes request.now
         (Appends (W.contents out.old) (W.contents out.new)) result) }
@@ -159,7 +175,7 @@ fn compile_bytes<'a, W: Write>(
     request: &CompileRequest<'a>,
     bytes: &[u8],
     out: &mut W,
-) -> Result<Option<Compiled>, Failure<'a>>
+) -> Result<Option<Found>, Failure<'a>>
     ensures { (file : List ℕ) → bytes.now ≡ take 1048581 file → FindsCompiled file request.now
         (Appends (W.contents out.old) (W.contents out.new)) result }
 {
@@ -167,8 +183,8 @@ fn compile_bytes<'a, W: Write>(
         Ok(text) => text,
         Err(failure) => return Err(failure),
     };
-    match compile_text(alloc, text) {
-        Ok(compiled) => Ok(Some(compiled)),
+    match compile_noted(alloc, request, text) {
+        Ok(found) => Ok(Some(found)),
         Err(refusal) => match refusal {
             ScriptRefusal::Memory => Err(Failure::Memory),
             _ => {
@@ -180,6 +196,30 @@ fn compile_bytes<'a, W: Write>(
             }
         },
     }
+}
+
+/// Compiles the text of the script of the request, with the notes on it.
+///
+/// The refusals are those of [`compile_text`].
+fn compile_noted(
+    alloc: Global,
+    request: &CompileRequest<'_>,
+    text: &str,
+) -> Result<Found, ScriptRefusal>
+    ensures found { IfOk result (IsFoundIn text.now request.now) }
+    ensures refused { IfErr result (IsUncompiled text.now) }
+    ensures reason { IfErr result IsReasonOrMemory }
+{
+    let (script, code) = match made_of(alloc, text) {
+        Ok(made) => made,
+        Err(refusal) => return Err(refusal),
+    };
+    let compiled = match compiled_of(alloc, &code) {
+        Ok(compiled) => compiled,
+        Err(_) => return Err(ScriptRefusal::Memory),
+    };
+    let notes = Notes::on(alloc, request.script, &script, &code, request.explain);
+    Ok(Found { compiled, notes })
 }
 
 /// Compiles the text of a script into a code file.
@@ -194,9 +234,19 @@ pub fn compile_text(alloc: Global, text: &str) -> Result<Compiled, ScriptRefusal
         Ok(made) => made,
         Err(refusal) => return Err(refusal),
     };
-    let file = match encode(alloc, &code) {
+    match compiled_of(alloc, &code) {
+        Ok(compiled) => Ok(compiled),
+        Err(_) => Err(ScriptRefusal::Memory),
+    }
+}
+
+/// The code file of a code, with its numbers. The error is out of memory.
+fn compiled_of(alloc: Global, code: &Code) -> Result<Compiled, AllocError>
+    ensures { IfOk result (IsFileOf code.now) }
+{
+    let file = match encode(alloc, code) {
         Ok(file) => file,
-        Err(_) => return Err(ScriptRefusal::Memory),
+        Err(error) => return Err(error),
     };
     Ok(Compiled {
         file,
@@ -239,4 +289,15 @@ fn print_counts<W: Write>(compiled: &Compiled, out: &mut W) -> io::Result<()>
         out,
         "instructions {instructions} labels {labels} configurations {configurations}"
     )
+}
+
+/// Prints the numbers, and the notes after them.
+fn print_all<W: Write>(found: &Found, out: &mut W) -> io::Result<()>
+    ensures { OnOk result (Appends (W.contents out.old) (W.contents out.new)
+        (counts_line found.now.compiled ++ lines_of found.now.notes)) }
+{
+    match print_counts(&found.compiled, out) {
+        Ok(()) => out.write_all(found.notes.as_slice()),
+        Err(error) => Err(error),
+    }
 }

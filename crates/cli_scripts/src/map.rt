@@ -8,7 +8,7 @@ ghost use Rattle.console.specs.declared.exit.Failure.TheVariants.{Memory};
 ghost use Rattle.cli_scripts.specs.Mapping.{map_lines, layout_status, status_of, drawing_of, DrawsMap, FindsMap, Maps, KeepsOthers, IsUndrawn};
 
 use crate::compile::ScriptRefusal;
-use crate::notes::{notes_of, report_notes};
+use crate::notes::{report_notes, warning_lines};
 use crate::script_file::{read_script, script_text};
 use crate::script_map::{Map, map_of};
 use console::exit::{Failure, Status, create_file};
@@ -53,18 +53,17 @@ pub fn show_map<'a, F: Files, W: Write>(
         Err(failure) => return Err(failure),
     };
     let warnings = map.warnings.as_slice();
-    let notes = match notes_of(alloc, request.script, warnings) {
-        Ok(notes) => notes,
+    let lines = match warning_lines(alloc, request.script, warnings) {
+        Ok(lines) => lines,
         Err(_) => return Err(Failure::Memory),
     };
     match draw_requested(&map, request.drawing, files) {
         Ok(()) => {}
         Err(failure) => return Err(failure),
     }
-    let lines = notes.as_slice();
     match print_requested(&map, request.layout, out) {
         Ok(status) => {
-            report_notes(lines, files);
+            report_notes(lines.as_slice(), files);
             Ok(status)
         }
         Err(_) => Err(Failure::Output),
@@ -152,7 +151,8 @@ fn draw_requested<'a, F: Files>(
 ) -> Result<(), Failure<'a>>
     ensures drawn { OnOk result
         (Becomes (DrawsMap drawing.entry map.now) (F.world files.old) (F.world files.new)) }
-    ensures failed { IfErr result (IsUndrawn drawing.entry (F.world files.old) (F.world files.new)) }
+    ensures failed { IfErr result
+        (IsUndrawn drawing.entry (F.world files.old) (F.world files.new)) }
 {
     match drawing {
         None => Ok(()),

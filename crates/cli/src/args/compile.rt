@@ -8,7 +8,7 @@ ghost use Rattle.cli.specs.Refusals.{RefusesCompile};
 ghost use Rattle.cli.specs.Requests.{Asks};
 
 use crate::args::parser::{Grammar, Page, Values};
-use crate::args::shared::{check_output, explain, file};
+use crate::args::shared::{check_output, file, flag};
 use crate::args::{Request, UsageError};
 use cli_scripts::compile::CompileRequest;
 use std::alloc::{AllocError, Global};
@@ -72,6 +72,10 @@ begins with 'hint:' and says how to correct it:
   night.plan:7: ..              line 7 of the script
   night.plan:1:10: ..           line 1, column 10; the line follows, with a caret below the column
 
+With --explain the warnings of 'dabplan help map' follow on standard error where the script is
+accepted; the status stays as it is:
+  night.plan:9: warning: no component names sub 3
+
 OUT is created last: where the script is refused it stays as it was. '-' is standard output, and the
 lines then go to standard error.
 
@@ -91,7 +95,10 @@ pub(crate) fn grammar<'a>(alloc: Global) -> Result<Grammar<'a>, AllocError>
     Grammar::of_command(alloc, PAGE)
         .argument(file("script", "SCRIPT", "The script"))?
         .argument(file("out", "OUT", "The code file to write"))?
-        .argument(explain())
+        .argument(flag(
+            "explain",
+            "Explains a refusal, and how to correct it; reports the warnings about an accepted script",
+        ))
 }
 
 /// Reads the arguments of `compile`.

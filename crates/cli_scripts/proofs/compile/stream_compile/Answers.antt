@@ -14,15 +14,15 @@ returns-in-Err-clause-script g c =
 
 pub returns-in-Err-write_through-clause-script : goal.returns-in-Err-write_through-clause-script
 returns-in-Err-write_through-clause-script g c =
-    stream_cut (g.F.Files.known c.args.files.now c.args.request.now.script.now) c.args.request.now _ _ None None c.in-Ok-Some.compiled
+    stream_cut (g.F.Files.known c.args.files.now c.args.request.now.script.now) c.args.request.now _ _ None None c.in-Ok-Some.found
     (found_as _ c.args.request.now _ _ _ _ c.in-Ok-Some.field-0-is c.in-Ok-Some.ensures.script)
 
-pub returns-in-Ok-print_counts-clause-script : goal.returns-in-Ok-print_counts-clause-script
-returns-in-Ok-print_counts-clause-script g c =
-    stream_written (g.F.Files.known c.args.files.now c.args.request.now.script.now) c.args.request.now _ _ _ _ _ c.in-Ok-Some.compiled _
-    (found_as _ c.args.request.now _ _ _ _ c.in-Ok-Some.field-0-is c.in-Ok-Some.ensures.script) c.as_slice.ensures.value c.in-Ok.ensures c.in-Ok-print_counts.ensures
+pub returns-in-Ok-print_all-clause-script : goal.returns-in-Ok-print_all-clause-script
+returns-in-Ok-print_all-clause-script g c =
+    stream_written (g.F.Files.known c.args.files.now c.args.request.now.script.now) c.args.request.now _ _ _ _ _ c.in-Ok-Some.found _
+    (found_as _ c.args.request.now _ _ _ _ c.in-Ok-Some.field-0-is c.in-Ok-Some.ensures.script) c.as_slice.ensures.value c.in-Ok.ensures c.in-Ok-print_all.ensures
 
 pub returns-clause-script : goal.returns-clause-script
 returns-clause-script g c =
-    stream_unprinted (g.F.Files.known c.args.files.now c.args.request.now.script.now) c.args.request.now _ _ None _ _ c.in-Ok-Some.compiled _
+    stream_unprinted (g.F.Files.known c.args.files.now c.args.request.now.script.now) c.args.request.now _ _ None _ _ c.in-Ok-Some.found _
     (found_as _ c.args.request.now _ _ _ _ c.in-Ok-Some.field-0-is c.in-Ok-Some.ensures.script) c.as_slice.ensures.value c.in-Ok.ensures

@@ -16,13 +16,13 @@ returns-in-Err-clause-script g c =
 pub returns-in-Err-clause-files : goal.returns-in-Err-clause-files
 returns-in-Err-clause-files g c = stays_others c.args.request.now.drawing _ _ c.in-Err.ensures.files
 
-pub returns-in-Err-notes_of-clause-script : goal.returns-in-Err-notes_of-clause-script
-returns-in-Err-notes_of-clause-script g c =
+pub returns-in-Err-warning_lines-clause-script : goal.returns-in-Err-warning_lines-clause-script
+returns-in-Err-warning_lines-clause-script g c =
     unnoted (g.F.Files.known c.args.files.now c.args.request.now.script.now) c.args.request.now _ _ _ _ c.in-Ok-Some.map
     (found_as _ c.args.request.now _ _ _ _ c.in-Ok-Some.field-0-is c.in-Ok-Some.ensures.script) c.in-Ok-Some.ensures.files
 
-pub returns-in-Err-notes_of-clause-files : goal.returns-in-Err-notes_of-clause-files
-returns-in-Err-notes_of-clause-files g c = stays_others c.args.request.now.drawing _ _ c.in-Ok-Some.ensures.files
+pub returns-in-Err-warning_lines-clause-files : goal.returns-in-Err-warning_lines-clause-files
+returns-in-Err-warning_lines-clause-files g c = stays_others c.args.request.now.drawing _ _ c.in-Ok-Some.ensures.files
 
 pub returns-in-Err-draw_requested-clause-script : goal.returns-in-Err-draw_requested-clause-script
 returns-in-Err-draw_requested-clause-script g c =
@@ -48,4 +48,4 @@ pub returns-in-Ok-print_requested-clause-script : goal.returns-in-Ok-print_reque
 returns-in-Ok-print_requested-clause-script g c =
     shown (g.F.Files.known c.args.files.now c.args.request.now.script.now) c.args.request.now _ _ _ _ _ _ _ c.in-Ok-Some.map _ _ _ c.in-Ok-print_requested.status
     (found_as _ c.args.request.now _ _ _ _ c.in-Ok-Some.field-0-is c.in-Ok-Some.ensures.script) c.in-Ok-Some.ensures.files c.in-Ok-draw_requested.ensures.drawn
-    c.as_slice-warnings.ensures.value c.in-Ok.ensures c.as_slice-lines.ensures.value c.report_notes.ensures c.in-Ok-print_requested.ensures.printed c.in-Ok-print_requested.ensures.status
+    c.as_slice-warnings.ensures.value c.in-Ok.ensures c.as_slice.ensures.value c.report_notes.ensures c.in-Ok-print_requested.ensures.printed c.in-Ok-print_requested.ensures.status
