@@ -7,7 +7,7 @@ of a contact in version 1, and one of version 2 with a label at which a swap is 
 
 And files of each kind with random changes, from a seed that is printed: each command ends with 0 or 1, and prints one
 of the lines of docs/guide/COMMANDS.md and no other; if it can explain a refusal, the line and the status are the same with
-the explanation. Lines of `live`: `play` makes the same frames of those that are not reported as bad. The last line is
+the explanation, and only warnings about an accepted script are on standard error. Lines of `live`: `play` makes the same frames of those that are not reported as bad. The last line is
 'N passed, M failed'.
 """
 import random
@@ -32,6 +32,7 @@ LISTED = (r"fibs \d+ damaged \d+\ncurrent\n(ENTRY\n)*next\n(ENTRY\n)*(swap at lo
              r"|service ([0-9A-F]{4}){1,2}|  (audio|data) \d+ sub \d+ (primary|secondary)"
              r"|  packet \d+ (primary|secondary)|  other [0-9A-F]{4}|packet \d+ (groups|raw) type \d+ sub \d+ address \d+)")
 EXPLAINED = re.compile(r"a\.file:\d+(:\d+)?: .+|hint: .+|    .*")
+WARNING = re.compile(r"a\.file:\d+: warning: .+")
 BAD_LINE = re.compile(r"line (\d+): (\d+: (Byte|Number|Expected)|Limit|Byte)")
 REPORTED = (r"(frames \d+ steps \d+ pc \d+ line \d+ count \d+ remaining (\d+|none)\n(break\n)?"
             r"(announced \d+ swap \d+ change [123]\n)*)*")
@@ -158,9 +159,11 @@ def try_random(tally, program, folder, seed, times):
             if words[0] in ("compile", "verify"):
                 explained = common.run([program, *words, "--explain"], folder)
                 first, *rest = explained.printed.decode(errors="replace").removesuffix("\n").split("\n")
-                tally.same(f"{name}, seed {seed}: {content.hex()}, explained", (*ended.lines(), b""),
-                           (explained.status, f"{first}\n".encode(), explained.messages))
+                tally.same(f"{name}, seed {seed}: {content.hex()}, explained", ended.lines(), (explained.status, f"{first}\n".encode()))
                 tally.hold(all(map(EXPLAINED.fullmatch, rest)), f"{name}, seed {seed}: {content.hex()}: {rest}")
+                warnings = explained.messages.decode(errors="replace").splitlines()
+                tally.hold(all(map(WARNING.fullmatch, warnings)) and (not warnings or ended.status == 0 and words[0] == "compile"),
+                           f"{name}, seed {seed}: {content.hex()}: {warnings}")
         print(f"{name}: {times} files with random changes, {done} of them done, the others refused", flush=True)
 
 

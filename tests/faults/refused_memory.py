@@ -6,7 +6,8 @@ once with only that allocation failing, and once with all later ones too. A call
 own name, with nothing lost, and the same call with memory then gives its result; `run` has written nothing, and
 `Debugger::new` returns the player. A command prints `no memory` alone, ends with 1 and leaves nothing in its output
 file; or it tolerates a single failed allocation, and ends as it does with memory. If
-it was to explain a refusal, the line of the refusal may precede `no memory`. `live` reports `no memory` on standard
+it was to explain a refusal, the line of the refusal may precede `no memory`; if the script is accepted, `no memory` may be on
+standard error in place of the warnings. `live` reports `no memory` on standard
 error, and has written whole frames of lines before.
 The last line is 'N passed, M failed', where each failing run is one, and each complete run one more.
 """
@@ -171,6 +172,28 @@ def try_commands(tally, library, program, folder):
             tally.hold(refused > 0, f"{shown} makes a request")
 
 
+def try_warned(tally, library, program, folder):
+    """Lets each allocation of `compile --explain` fail, for an accepted script with a warning: `no memory` alone, and no code file;
+    or the code file and its line, and `no memory` on standard error in place of the warning; or it tolerates the failure. Each of
+    these happens."""
+    made = ["made.code"]
+    common.write(folder, "warned.plan", SCRIPT.read_text().replace("begin\n", "sub 3 at 300 eep 3-A 32\nbegin\n"))
+    words = [program, "compile", "warned.plan", *made, "--explain"]
+    remove(folder, made)
+    whole = common.run(words, folder)
+    tally.hold(b"warning: no component names sub 3" in whole.messages, "a warning about warned.plan")
+    files = contents(folder, made)
+    done, unwarned, silent = (*whole.lines(), whole.messages, files), (*whole.lines(), b"no memory\n", files), (1, b"no memory\n", b"", {"made.code": b""})
+    seen = []
+    for goes_on in (False, True):
+        for number, ended, is_refused in requests(library, words, folder, goes_on, False, b"", made):
+            found = (*ended.lines(), ended.messages, contents(folder, made))
+            tally.hold(found in ((done, unwarned, silent) if is_refused else (done,)), f"warned.plan, request {number} refused: {found}")
+            seen.append(found)
+    print(f"dabplan compile warned.plan made.code --explain: {len(seen)} runs, {seen.count(unwarned)} of them without the warning", flush=True)
+    tally.hold(unwarned in seen and silent in seen, "warned.plan: no memory for the warning, and none for the code")
+
+
 def try_live(tally, library, program, folder):
     """Lets each allocation of `live` fail, over lines and with an invalid command line: `no memory` on standard error,
     status 1, and the frames of the lines before; or it tolerates the failure."""
@@ -204,6 +227,7 @@ def main():
         library = common.preloaded(folder, "refuse")
         try_calls(tally, library, program, trials, folder)
         try_commands(tally, library, program, folder)
+        try_warned(tally, library, program, folder)
         try_live(tally, library, program, folder)
     tally.end()
 

@@ -2,5 +2,6 @@
 
 mod comparing;
 mod compiling;
+mod flushing;
 mod playing;
 mod verifying;

@@ -323,11 +323,21 @@ def costs(rows):
     many = "".join(f"sub {i} at {90 + 6 * i} eep 3-A 8\nservice C3{i:02X}\naudio 63 sub {i} in C3{i:02X}\n" for i in range(2, 30))
     long = after(f"wait 100\nrate sub 1 96\n{moves}commit in 250\njoin", HEAD.replace("budget 20", "budget 6"))
     for script, first, *rest in (
-        (long, "refused line 8: Cost", "x.plan:8: the longest path runs 8 instructions in one frame; the budget is 6",
+        (long, "refused line 8: Cost", "x.plan:8: the longest path runs 8 instructions in one frame, from line 8 to line 15; the budget is 6",
          "hint: write 'budget 8' in place of 'budget 6' in line 2; then it is accepted"),
         (after("forever {\n  if contact 3 { wait 1 }\n}"), "refused line 7: Cost",
          "x.plan:7: the loop of lines 7 to 9 can repeat without a wait, so that its instructions in one frame have no bound",
          "hint: put 'wait 1' before line 9; then it is accepted"),
+        (after("".join(f"move sub 1 at {10 + n % 2}\n" for n in range(260))), "refused line 7: Cost",
+         "x.plan:7: from line 7 on more than 255 instructions can run in one frame, which no budget allows; the budget is 20",
+         "hint: a 'wait 1' among the statements from line 7 on"),
+        (after("forever { repeat 2 {\n  move sub 1 at 10\n  move sub 1 at 0\n} wait 1 }"), "refused line 7: Cost",
+         "x.plan:7: a loop that begins in line 7 can repeat without a wait, so that its instructions in one frame have no bound",
+         "hint: a 'wait 1' on each path through the loops that begin in line 7"),
+        (after("wait 1\n" + "move sub 1 at 10\nmove sub 1 at 0\n" * 9 + "if contact 3 {\nrate sub 1 96\nrate sub 1 128\n}\nwait 1"),
+         "refused line 8: Cost",
+         "x.plan:8: the longest path runs 22 instructions in one frame, from line 8 to line 30; the budget is 20",
+         "hint: write 'budget 22' in place of 'budget 20' in line 2; then it is accepted"),
         (HEAD.replace("period 4", "period 1") + f"{many}begin\n", "refused line 90: Round",
          "x.plan:90: the configuration takes 4 pages, a frame each; the period is 1 frames",
          "hint: write 'period 4' in place of 'period 1' in line 2; then it is accepted"),
@@ -415,7 +425,7 @@ def first_mistakes(rows):
          "x.plan:7: the loop does not come back as it began: in the current configuration sub 2 at 96 eep 3-A 128 at its end,"
          " no sub 2 at its beginning",
          "hint: undo before line 14 what the loop did, then 'commit' and 'join'; or do it before line 7"),
-        (busy, "refused line 9: Cost", "x.plan:9: the longest path runs 8 instructions in one frame; the budget is 6",
+        (busy, "refused line 9: Cost", "x.plan:9: the longest path runs 8 instructions in one frame, from line 9 to line 16; the budget is 6",
          "hint: write 'budget 8' in place of 'budget 6' in line 2; then it is accepted"),
     ):
         explained(rows, script, first, *rest)

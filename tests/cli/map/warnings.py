@@ -16,7 +16,7 @@ data 5 sub 2 in C221
 
 def warned(rows, script, *warnings):
     """Counts that `map` accepts a script, and that these are the warnings about it; that the status and what is printed are
-    those of any plan; and that `compile` says nothing of them."""
+    those of any plan; and that `compile` says nothing of them unless an explanation is requested."""
     ended = rows.run("map x.plan", {"x.plan": script})
     messages = "".join(f"x.plan:{warning}\n" for warning in warnings)
     rows.tally.same(script, (0, messages), (ended.status, ended.messages.decode()))
