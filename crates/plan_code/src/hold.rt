@@ -5,7 +5,9 @@ use crate::numbers::{ContactId, DayFrame};
 /// What the machine waits for before it executes the next instruction.
 #[derive(Clone, Copy, Debug, PartialEq, Eq)]
 pub enum Hold {
-    /// A number of frames; 0 means running.
+    /// Nothing: it executes instructions.
+    Running,
+    /// A number of frames; when none is left, the wait ends with the next frame.
     Waits(u16),
     /// A later frame at this frame of the day.
     WaitsDay(DayFrame),
