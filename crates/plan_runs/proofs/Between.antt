@@ -5,7 +5,7 @@ use Rattle.std.proofs.lemmas.Bool.{eqb-true, eqb-false}
 use Rattle.mux_config.specs.Configuration.{Configuration}
 use Rattle.std.specs.List.{AllByRecursion}
 use Rattle.plan_code.specs.declared.hold.Hold.{Hold}
-use Rattle.plan_code.specs.declared.hold.Hold.TheVariants.{Waits, WaitsDay, WaitsContact, WaitsSwap, Ended}
+use Rattle.plan_code.specs.declared.hold.Hold.TheVariants.{Running, Waits, WaitsDay, WaitsContact, WaitsSwap, Ended}
 use Rattle.plan_code.specs.declared.instr.Line.{Line}
 use Rattle.plan_code.specs.declared.instr.Instr.{Instr}
 use Rattle.plan_code.specs.Program.{Program, IsProgram, IsLine, IsInstr, instr_at}
@@ -14,7 +14,7 @@ use Rattle.plan_verifier.specs.Typing.{Known, IsTyping}
 use Rattle.plan_runs.specs.Frames.{is_due, with_swap, with_due_swap, hold_after_swap, is_running, is_here, with_hold_ended, ready, Executes, after_burst, FrameIsAllowed, is_first_noticed, left_after_frame, hold_after_frame, with_next_counts, after_frame}
 use Rattle.plan_runs.proofs.Knowledge.{ComesBy, IsAhead, IsOnAir, CommittedBy, IsKept}
 use Rattle.plan_runs.proofs.Passing.{swap_comes, swap_pauses, swap_joins, now, pauses_come, comes_later, pauses_later, joins_later, ahead_from}
-use Rattle.plan_runs.proofs.Steps.{Expects, ResumesBy, Suspends, RunsAt, Outcome, arrive}
+use Rattle.plan_runs.proofs.Steps.{Expects, ResumesBy, IsSuspended, not_running, Suspends, RunsAt, Outcome, arrive}
 use Rattle.plan_runs.proofs.Instructions.{IsHere, succeeds}
 use Rattle.plan_runs.proofs.Bursts.{bursts_are_one}
 
@@ -44,7 +44,7 @@ pub step_is : (p : Program) (s : State) (i : Instr) → instr_at p s.pc ≡ Some
 step_is p s i e = ap (λ o. effect_of p.plan o s) e
 
 pub bursts : (b : ℕ) (p : Program) (ts : List Known) (s : State) → IsProgram p → IsTyping p ts → b ≤ p.plan.budget → Outcome p ts b s → Bursts p ts b s
-bursts b p ts s pr ty within (inl h) = record { steps = 0; end = s; executes = (h.stops, refl); within = omega arith; after = h }
+bursts b p ts s pr ty within (inl h) = record { steps = 0; end = s; executes = (not_running s.hold h.stops, refl); within = omega arith; after = h }
 bursts zero p ts s pr ty within (inr h) =
     let safe = ty.safe s.pc h.instr h.known h.at h.there in
     absurd (omega (arith, safe.allowance, h.affords))
@@ -86,6 +86,7 @@ expects_as p ts pc counters R Q f h = record { known = h.known; arrives = h.arri
 -- a due swap is made
 swap_resumes : (p : Program) (ts : List Known) (pc : ℕ) (hold : Hold) (left : Option ℕ) (c n : Configuration) (counters : List ℕ) → is_due left ≡ true
     → ResumesBy p ts pc hold left c n counters → ResumesBy p ts pc (hold_after_swap hold) None n n counters
+swap_resumes p ts pc Running left c n counters due h = expects_as p ts pc counters _ _ (λ t. swap_comes 0 t.pending t left c n due) h
 swap_resumes p ts pc (Waits k) left c n counters due h = expects_as p ts pc counters _ _ (λ t. swap_comes k t.pending t left c n due) h
 swap_resumes p ts pc (WaitsDay d) left c n counters due h = expects_as p ts pc counters _ _ (λ t. swap_pauses t.pending t left c n due) h
 swap_resumes p ts pc (WaitsContact d closed) left c n counters due h = expects_as p ts pc counters _ _ (λ t. swap_pauses t.pending t left c n due) h
@@ -117,23 +118,26 @@ opens p ts s h = by (is_due s.left) refl
 
 -- the wait is over
 resumed : (p : Program) (ts : List Known) (ty : IsTyping p ts) (s : State) (hold : Hold) → is_here s hold ≡ true → IsAhead s.left → IsKept p.plan s.left s.current s.next s.counters
-    → ResumesBy p ts s.pc hold s.left s.current s.next s.counters → RunsAt p ts p.plan.budget (let r : State = record s { hold = Waits 0 } in r)
+    → ResumesBy p ts s.pc hold s.left s.current s.next s.counters → RunsAt p ts p.plan.budget (let r : State = record s { hold = Running } in r)
+resumed p ts ty s Running here ahead kept h =
+    arrive p ts ty p.plan.budget (record s { hold = Running }) h.known refl h.arrives h.affords (now h.known.pending h.known s.left s.current s.next ahead h.comes) h.set kept
 resumed p ts ty s (Waits k) here ahead kept h =
     let over : k ≡ 0 = eqb-true k 0 here in
     let comes : ComesBy 0 h.known.pending h.known.current h.known.next s.left s.current s.next = subst (λ (n : ℕ). ComesBy n h.known.pending h.known.current h.known.next s.left s.current s.next) over h.comes in
-    arrive p ts ty p.plan.budget (record s { hold = Waits 0 }) h.known refl h.arrives h.affords (now h.known.pending h.known s.left s.current s.next ahead comes) h.set kept
+    arrive p ts ty p.plan.budget (record s { hold = Running }) h.known refl h.arrives h.affords (now h.known.pending h.known s.left s.current s.next ahead comes) h.set kept
 resumed p ts ty s (WaitsDay d) here ahead kept h =
     let comes = pauses_come h.known.pending h.known s.left s.current s.next h.comes in
-    arrive p ts ty p.plan.budget (record s { hold = Waits 0 }) h.known refl h.arrives h.affords (now h.known.pending h.known s.left s.current s.next ahead comes) h.set kept
+    arrive p ts ty p.plan.budget (record s { hold = Running }) h.known refl h.arrives h.affords (now h.known.pending h.known s.left s.current s.next ahead comes) h.set kept
 resumed p ts ty s (WaitsContact d closed) here ahead kept h =
     let comes = pauses_come h.known.pending h.known s.left s.current s.next h.comes in
-    arrive p ts ty p.plan.budget (record s { hold = Waits 0 }) h.known refl h.arrives h.affords (now h.known.pending h.known s.left s.current s.next ahead comes) h.set kept
+    arrive p ts ty p.plan.budget (record s { hold = Running }) h.known refl h.arrives h.affords (now h.known.pending h.known s.left s.current s.next ahead comes) h.set kept
 resumed p ts ty s WaitsSwap here ahead kept h = absurd cc
 resumed p ts ty s Ended here ahead kept h = absurd cc
 
 -- the wait continues for another frame
 holds : (p : Program) (ts : List Known) (s : State) (hold : Hold) → is_here s hold ≡ false → IsAhead s.left
     → ResumesBy p ts s.pc hold s.left s.current s.next s.counters → ResumesBy p ts s.pc (hold_after_frame hold) (left_after_frame s.left) s.current s.next s.counters
+holds p ts s Running away ahead h = absurd cc
 holds p ts s (Waits k) away ahead h =
     let apart = eqb-false k 0 away in
     let more : k ≡ k - 1 + 1 = omega (arith, apart) in
@@ -144,17 +148,21 @@ holds p ts s (WaitsContact d closed) away ahead h = expects_as p ts s.pc s.count
 holds p ts s WaitsSwap away ahead h = expects_as p ts s.pc s.counters _ _ (λ t. joins_later t s.left s.next) h
 holds p ts s Ended away ahead h = tt
 
-pub still : (s : State) (hold : Hold) → is_here s hold ≡ false → is_running hold ≡ false
-still s (Waits k) e = e
-still s (WaitsDay d) e = refl
-still s (WaitsContact d closed) e = refl
-still s WaitsSwap e = refl
-still s Ended e = refl
+still : (s : State) (hold : Hold) → is_here s hold ≡ false → IsSuspended hold
+still s Running e = absurd cc
+still s (Waits k) e = let apart = eqb-false k 0 e in omega (arith, apart)
+still s (WaitsDay d) e = tt
+still s (WaitsContact d closed) e = tt
+still s WaitsSwap e = tt
+still s Ended e = tt
+
+pub still_stops : (s : State) (hold : Hold) → is_here s hold ≡ false → is_running hold ≡ false
+still_stops s hold e = not_running hold (still s hold e)
 
 begins : (p : Program) (ts : List Known) (ty : IsTyping p ts) (s : State) → Opens p ts s → Outcome p ts p.plan.budget (with_hold_ended s)
 begins p ts ty s h = by (is_here s s.hold) refl
   where
-    by : (b : Bool) → is_here s s.hold ≡ b → Outcome p ts p.plan.budget (cond b (let r : State = record s { hold = Waits 0 } in r) s)
+    by : (b : Bool) → is_here s s.hold ≡ b → Outcome p ts p.plan.budget (cond b (let r : State = record s { hold = Running } in r) s)
     by true e = inr (resumed p ts ty s s.hold e h.ahead h.between.kept h.between.resumes)
     by false e = inl (record { stops = still s s.hold e; ahead = h.ahead; resumes = holds p ts s s.hold e h.ahead h.between.resumes; kept = h.between.kept })
 

@@ -10,7 +10,7 @@ use Rattle.fib_codec.specs.declared.modes.Mode.{Mode}
 use Rattle.fib_codec.specs.declared.modes.Mode.TheVariants.{I, II, III, IV}
 use Rattle.fib_codec.specs.Modes.{count_step}
 use Rattle.plan_code.specs.declared.plan.Plan.{Plan}
-use Rattle.plan_code.specs.declared.hold.Hold.TheVariants.{Waits}
+use Rattle.plan_code.specs.declared.hold.Hold.TheVariants.{Running}
 use Rattle.plan_code.specs.declared.instr.Instr.{Instr}
 use Rattle.plan_code.specs.declared.instr.Instr.TheVariants.{Wait, Until, WaitContact, CommitIn, CommitAt, Join, Settle, End, Edit as Edits, Test, Jump, Set, Loop}
 use Rattle.plan_code.specs.Program.{Program, IsProgram, IsInstr, IsEdit}
@@ -138,7 +138,7 @@ burst_carries p pr s (suc n) t h =
     let first : Carries p.plan s (step p s) = subst (λ (u : State). Carries p.plan s u) (sym (step_is p s i h.1.within)) one in
     carries_joined p.plan s (step p s) t first (burst_carries p pr (step p s) n t h.2)
 
-held_carries : (plan : Plan) (s : State) (b : Bool) → Carries plan s (cond b (let r : State = record s { hold = Waits 0 } in r) s)
+held_carries : (plan : Plan) (s : State) (b : Bool) → Carries plan s (cond b (let r : State = record s { hold = Running } in r) s)
 held_carries plan s true = record { current = refl; count = refl; eid = refl; page_index = refl; left = left_same plan s.count s.left s.next; next = λ c. c }
 held_carries plan s false = carries_itself plan s
 

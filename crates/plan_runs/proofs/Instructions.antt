@@ -93,9 +93,6 @@ paused_counters (Perhaps hi) t = within_counters hi t (nat_lt 1 hi)
 set_as : (a d : Counters) (counters : List ℕ) → a ≡ d → AreSet d counters → AreSet a counters
 set_as a d counters e h = subst (λ (x : Counters). AreSet x counters) (sym e) h
 
-some_eqb : (n : ℕ) → 1 ≤ n → eqb n 0 ≡ false
-some_eqb n some = grind (arith, some)
-
 wait : (p : Program) (ts : List Known) (b : ℕ) (s : State) (n : ℕ) (t : Known) → IsHere p ts b s (Wait n) t → Succeeds p ts b s (Wait n)
 wait p ts b s n t h =
     let u : Known = leaves p.plan (Wait n) t in
@@ -107,7 +104,7 @@ wait p ts b s n t h =
       set = set_as u.counters t.counters s.counters (waited_counters n t.pending t) h.set;
       comes = wait_by n t.pending t s.left s.current s.next refl h.formed.0 h.safe.fine h.agrees;
     } in
-    (tt, inl (record { stops = some_eqb n h.formed.0; ahead = agrees_ahead t.pending t.current t.next s.left s.current s.next h.agrees; resumes = expects; kept = h.kept }))
+    (tt, inl (record { stops = h.formed.0; ahead = agrees_ahead t.pending t.current t.next s.left s.current s.next h.agrees; resumes = expects; kept = h.kept }))
 
 until : (p : Program) (ts : List Known) (b : ℕ) (s : State) (d : ℕ) (t : Known) → IsHere p ts b s (Until d) t → Succeeds p ts b s (Until d)
 until p ts b s d t h =
@@ -120,7 +117,7 @@ until p ts b s d t h =
       set = set_as u.counters t.counters s.counters (paused_counters t.pending t) h.set;
       comes = pause_by t.pending t s.left s.current s.next refl h.agrees;
     } in
-    (tt, inl (record { stops = refl; ahead = agrees_ahead t.pending t.current t.next s.left s.current s.next h.agrees; resumes = expects; kept = h.kept }))
+    (tt, inl (record { stops = tt; ahead = agrees_ahead t.pending t.current t.next s.left s.current s.next h.agrees; resumes = expects; kept = h.kept }))
 
 wait_contact : (p : Program) (ts : List Known) (b : ℕ) (s : State) (d : ℕ) (closed : Bool) (t : Known) → IsHere p ts b s (WaitContact d closed) t → Succeeds p ts b s (WaitContact d closed)
 wait_contact p ts b s d closed t h =
@@ -133,7 +130,7 @@ wait_contact p ts b s d closed t h =
       set = set_as u.counters t.counters s.counters (paused_counters t.pending t) h.set;
       comes = pause_by t.pending t s.left s.current s.next refl h.agrees;
     } in
-    (tt, inl (record { stops = refl; ahead = agrees_ahead t.pending t.current t.next s.left s.current s.next h.agrees; resumes = expects; kept = h.kept }))
+    (tt, inl (record { stops = tt; ahead = agrees_ahead t.pending t.current t.next s.left s.current s.next h.agrees; resumes = expects; kept = h.kept }))
 
 -- a wait for the swap
 joins : (p : Program) (ts : List Known) (s : State) (u : Known) (l : ℕ) → s.left ≡ Some l → Arrives p ts (s.pc + 1) (label_at p (s.pc + 1)) u → u.allowance ≤ p.plan.budget → AreSet u.counters s.counters
@@ -163,10 +160,10 @@ join p ts b s t h =
     let sure = surely t.pending t.current t.next s.left s.current s.next h.safe.fine h.agrees in
     let some : is_some s.left ≡ true = ap is_some sure.is in
     let expects = joins p ts s u sure.frames sure.is (h.safe.onward refl) (omega arith) h.set refl sure.next sure.next in
-    (some, inl (record { stops = refl; ahead = agrees_ahead t.pending t.current t.next s.left s.current s.next h.agrees; resumes = expects; kept = h.kept }))
+    (some, inl (record { stops = tt; ahead = agrees_ahead t.pending t.current t.next s.left s.current s.next h.agrees; resumes = expects; kept = h.kept }))
 
 end : (p : Program) (ts : List Known) (b : ℕ) (s : State) (t : Known) → IsHere p ts b s End t → Succeeds p ts b s End
-end p ts b s t h = (tt, inl (record { stops = refl; ahead = agrees_ahead t.pending t.current t.next s.left s.current s.next h.agrees; resumes = tt; kept = h.kept }))
+end p ts b s t h = (tt, inl (record { stops = tt; ahead = agrees_ahead t.pending t.current t.next s.left s.current s.next h.agrees; resumes = tt; kept = h.kept }))
 
 -- ---- settling
 
@@ -176,7 +173,7 @@ settle_pending : (p : Program) (ts : List Known) (b : ℕ) (s : State) (u : Know
 settle_pending p ts b s u l is ahead kept arrives affords set idle current next =
     let expects = joins p ts s u l is arrives affords set idle current next in
     let out : Outcome p ts b (suspend WaitsSwap s) =
-    inl (record { stops = refl; ahead = subst IsAhead (sym is) ahead; resumes = expects; kept = kept }) in
+    inl (record { stops = tt; ahead = subst IsAhead (sym is) ahead; resumes = expects; kept = kept }) in
     subst (λ (o : Option ℕ). Outcome p ts b (settle o s)) (sym is) out
 
 settle_idle : (p : Program) (ts : List Known) (ty : IsTyping p ts) (b : ℕ) (s : State) (u : Known) → s.left ≡ None → is_running s.hold ≡ true

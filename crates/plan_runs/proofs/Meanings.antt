@@ -6,7 +6,7 @@ use Rattle.mux_config.specs.Configuration.{Configuration, nothing}
 use Rattle.mux_types.specs.Facts.{Marked, facts_of}
 use Rattle.fib_codec.specs.declared.modes.Mode.TheVariants.{I}
 use Rattle.plan_code.specs.declared.plan.Plan.{Plan}
-use Rattle.plan_code.specs.declared.hold.Hold.TheVariants.{Waits, Ended}
+use Rattle.plan_code.specs.declared.hold.Hold.TheVariants.{Running, Ended}
 use Rattle.plan_code.specs.declared.flags.Counters.{Counters}
 use Rattle.plan_code.specs.declared.flags.Contacts.{Contacts}
 use Rattle.plan_code.specs.declared.label.Label.{Label}
@@ -52,7 +52,7 @@ first_state count =
       next = nothing;
       left = None;
       pc = 0;
-      hold = Waits 0;
+      hold = Running;
       counters = replicate 8 0;
       contacts = all_open;
       count = count;

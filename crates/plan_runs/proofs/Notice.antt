@@ -4,7 +4,7 @@ use Rattle.std.proofs.Common.{◌≡◌, ℕ, zero, suc, ◌+◌, ◌-◌, ◌%�
 use Rattle.mux_config.specs.Configuration.{Configuration}
 use Rattle.fib_carousel.specs.Pages.{page_set, rounds, page_after}
 use Rattle.plan_code.specs.declared.plan.Plan.{Plan}
-use Rattle.plan_code.specs.declared.hold.Hold.TheVariants.{Waits}
+use Rattle.plan_code.specs.declared.hold.Hold.TheVariants.{Running}
 use Rattle.plan_code.specs.Program.{Program}
 use Rattle.plan_code.specs.Machine.{State}
 use Rattle.plan_verifier.specs.Typing.{Known}
@@ -90,7 +90,7 @@ notice_state c n eid left count page_index =
       next = n;
       left = left;
       pc = 0;
-      hold = Waits 0;
+      hold = Running;
       counters = [];
       contacts = record { 0 = 0 };
       count = count;

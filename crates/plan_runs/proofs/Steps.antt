@@ -4,7 +4,7 @@ use Rattle.std.proofs.Common.{◌≡◌, ℕ, ◌<◌, ◌≤◌, true, false, e
 use Rattle.std.proofs.lemmas.Bool.{eqb-true}
 use Rattle.mux_config.specs.Configuration.{Configuration}
 use Rattle.plan_code.specs.declared.hold.Hold.{Hold}
-use Rattle.plan_code.specs.declared.hold.Hold.TheVariants.{Waits, WaitsDay, WaitsContact, WaitsSwap, Ended}
+use Rattle.plan_code.specs.declared.hold.Hold.TheVariants.{Running, Waits, WaitsDay, WaitsContact, WaitsSwap, Ended}
 use Rattle.plan_code.specs.declared.flags.Counters.{Counters}
 use Rattle.plan_code.specs.declared.label.Label.{Label}
 use Rattle.plan_code.specs.declared.label.Swap.{Swap}
@@ -27,15 +27,33 @@ pub record Expects (p : Program) (ts : List Known) (pc : ℕ) (counters : List �
   pub comes : R known
 
 abbrev pub ResumesBy : Program → List Known → ℕ → Hold → Option ℕ → Configuration → Configuration → List ℕ → Type 0
+ResumesBy p ts pc Running left c n counters = Expects p ts pc counters (λ t. ComesBy 0 t.pending t.current t.next left c n)
 ResumesBy p ts pc (Waits k) left c n counters = Expects p ts pc counters (λ t. ComesBy k t.pending t.current t.next left c n)
 ResumesBy p ts pc (WaitsDay d) left c n counters = Expects p ts pc counters (λ t. PausesBy t.pending t.current t.next left c n)
 ResumesBy p ts pc (WaitsContact d closed) left c n counters = Expects p ts pc counters (λ t. PausesBy t.pending t.current t.next left c n)
 ResumesBy p ts pc WaitsSwap left c n counters = Expects p ts pc counters (λ t. JoinsBy t left n)
 ResumesBy p ts pc Ended left c n counters = Unit {0}
 
--- the machine is suspended, after the instructions of a frame
+-- the machine is suspended, and a wait for a number of frames has one to come
+abbrev pub IsSuspended : Hold → Type 0
+IsSuspended Running = ⊥
+IsSuspended (Waits k) = 1 ≤ k
+IsSuspended (WaitsDay d) = Unit {0}
+IsSuspended (WaitsContact d closed) = Unit {0}
+IsSuspended WaitsSwap = Unit {0}
+IsSuspended Ended = Unit {0}
+
+pub not_running : (hold : Hold) → IsSuspended hold → is_running hold ≡ false
+not_running Running h = absurd h
+not_running (Waits k) h = refl
+not_running (WaitsDay d) h = refl
+not_running (WaitsContact d closed) h = refl
+not_running WaitsSwap h = refl
+not_running Ended h = refl
+
+-- so it is after the instructions of a frame
 pub record Suspends (p : Program) (ts : List Known) (s : State) : Type 0 where
-  pub stops : is_running s.hold ≡ false
+  pub stops : IsSuspended s.hold
   pub ahead : IsAhead s.left
   pub resumes : ResumesBy p ts s.pc (hold_after_frame s.hold) (left_after_frame s.left) s.current s.next s.counters
   pub kept : IsKept p.plan s.left s.current s.next s.counters

@@ -5,7 +5,7 @@ use Rattle.std.specs.Int.{bit_at}
 use Rattle.std.proofs.lemmas.Nat.Bits.{bit_at-zero}
 use Rattle.mux_config.specs.Configuration.{Configuration}
 use Rattle.plan_code.specs.declared.hold.Hold.{Hold}
-use Rattle.plan_code.specs.declared.hold.Hold.TheVariants.{Waits}
+use Rattle.plan_code.specs.declared.hold.Hold.TheVariants.{Running}
 use Rattle.plan_code.specs.declared.flags.Counters.{Counters}
 use Rattle.plan_code.specs.declared.label.Label.{Label}
 use Rattle.plan_code.specs.declared.label.Swap.{Swap}
@@ -81,7 +81,7 @@ started_between p ts start s ty st =
     } in
     let on_air : IsOnAir p.plan s.current = subst (λ (c : Configuration). IsOnAir p.plan c) current (record { sound = o.opening.sound; within_period = o.opening.within_period }) in
     record {
-      resumes = resumes_at p ts s 0 (Waits 0) None (replicate 8 0) (sym st.pc) (sym st.hold) (sym st.left) (sym st.counters) expects;
+      resumes = resumes_at p ts s 0 Running None (replicate 8 0) (sym st.pc) (sym st.hold) (sym st.left) (sym st.counters) expects;
       kept = record {
         on_air = on_air;
         committed = subst (λ (l : Option ℕ). CommittedBy p.plan l s.current s.next) (sym st.left) tt;

@@ -1,7 +1,7 @@
 -- Without a commit no swap becomes pending.
 use Rattle.std.proofs.Common.{◌≡◌, ℕ, zero, suc, ◌+◌, ◌<◌, Bool, true, false, cond, Option, Some, None, refl, sym, ap, ◌∙◌, arith, inl, inr, ◌⊎◌}
 use Rattle.plan_code.specs.declared.plan.Plan.{Plan}
-use Rattle.plan_code.specs.declared.hold.Hold.TheVariants.{Waits}
+use Rattle.plan_code.specs.declared.hold.Hold.TheVariants.{Running}
 use Rattle.plan_code.specs.declared.instr.Instr.{Instr}
 use Rattle.plan_code.specs.declared.instr.Instr.TheVariants.{Wait, Until, WaitContact, CommitIn, CommitAt, Join, Settle, End, Edit as Edits, Test, Jump, Set, Loop}
 use Rattle.plan_code.specs.Program.{Program, instr_at}
@@ -68,7 +68,7 @@ begun s (inr due) = ap (λ (b : Bool). (cond b (with_swap s) s).left) due
 pub swaps_are_committed : SwapsAreCommitted
 swaps_are_committed p s idle other =
     let t : State = with_due_swap s in
-    let before : (ready s).left ≡ None = either_left (is_here t t.hold) (record t { hold = Waits 0 }) t refl ∙ begun s idle in
+    let before : (ready s).left ≡ None = either_left (is_here t t.hold) (record t { hold = Running }) t refl ∙ begun s idle in
     let end : State = after_burst p s in
     let after : end.left ≡ None = burst_left p.plan.budget p (ready s) (λ k i below at. other i (k, below, at)) ∙ before in
     let shows = either_left (is_first_noticed p.plan.notice end.left) (record end { page_index = 0 }) end refl ∙ after in

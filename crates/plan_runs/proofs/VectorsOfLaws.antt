@@ -9,7 +9,7 @@ use Rattle.fib_codec.specs.declared.modes.Mode.{Mode}
 use Rattle.fib_codec.specs.declared.modes.Mode.TheVariants.{I, II}
 use Rattle.plan_code.specs.declared.plan.Plan.{Plan}
 use Rattle.plan_code.specs.declared.flags.Contacts.{Contacts}
-use Rattle.plan_code.specs.declared.hold.Hold.TheVariants.{Waits, WaitsDay, WaitsContact, WaitsSwap, Ended}
+use Rattle.plan_code.specs.declared.hold.Hold.TheVariants.{Running, Waits, WaitsDay, WaitsContact, WaitsSwap, Ended}
 use Rattle.plan_code.specs.declared.instr.Instr.{Instr}
 use Rattle.plan_code.specs.declared.instr.Instr.TheVariants.{Wait, CommitIn, CommitAt, End, Set}
 use Rattle.plan_code.specs.declared.instr.Line.{Line}
@@ -17,7 +17,7 @@ use Rattle.plan_code.specs.Program.{Program}
 use Rattle.plan_code.specs.Machine.{State}
 use Rattle.plan_runs.specs.declared.event.Event.TheVariants.{Contact, Frame}
 use Rattle.plan_runs.specs.declared.event.Start.{Start}
-use Rattle.plan_runs.specs.Frames.{is_due, ensemble_of, shown, frame_bytes, after_frame}
+use Rattle.plan_runs.specs.Frames.{is_due, hold_after_swap, is_running, is_here, with_hold_ended, ensemble_of, shown, frame_bytes, hold_after_frame, after_frame}
 use Rattle.plan_runs.specs.Firsts.{is_active, CarriesOut, IsFirstWhere}
 use Rattle.plan_runs.specs.Swaps.{IsOnStep, SwapsWhereDue, IsSwapAtCount, IsSwapAfterDelay, IsCommit}
 use Rattle.plan_runs.specs.Waits.{IsWaitOf, HasCome, WaitsUntil}
@@ -121,6 +121,41 @@ out_of_time h = by (h (0, omega arith, refl))
     by (inl g) = let clash : false ≡ true = g.0 in absurd cc
     by (inr g) = g.1 (omega arith, refl)
 
+-- ---- running and waiting
+
+executes_instructions : is_running Running ≡ true
+executes_instructions = refl
+
+executes_none_before_the_frame : is_running (Waits 0) ≡ true → ⊥
+executes_none_before_the_frame e = let clash : false ≡ true = e in absurd cc
+
+no_frame_left : is_here first (Waits 0) ≡ true
+no_frame_left = refl
+
+one_frame_left : is_here first (Waits 1) ≡ true → ⊥
+one_frame_left e = let clash : false ≡ true = e in absurd cc
+
+nothing_to_wait_for : is_here first Running ≡ true
+nothing_to_wait_for = refl
+
+resumes : (with_hold_ended (record first { hold = Waits 0 })).hold ≡ Running
+resumes = refl
+
+does_not_resume : (with_hold_ended (record first { hold = Waits 1 })).hold ≡ Running → ⊥
+does_not_resume e = absurd cc
+
+joins_and_runs : hold_after_swap WaitsSwap ≡ Running
+joins_and_runs = refl
+
+waits_on : hold_after_swap (Waits 1) ≡ Running → ⊥
+waits_on e = absurd cc
+
+runs_on : hold_after_frame Running ≡ Running
+runs_on = refl
+
+waits_a_frame_less : hold_after_frame (Waits 1) ≡ Running → ⊥
+waits_a_frame_less e = absurd cc
+
 -- ---- waits
 
 suspends_for_three : IsWaitOf (Wait 3) (Waits 3)
@@ -163,6 +198,9 @@ before_the_swap h = let clash : false ≡ true = h in absurd cc
 never : HasCome Ended 1 first → ⊥
 never h = h
 
+no_wait : HasCome Running 1 first → ⊥
+no_wait h = h
+
 waits_for_one : WaitsUntil waits second (Frame ∷ Contact 3 true ∷ Frame ∷ [])
 waits_for_one = waits_are_kept waits second (Frame ∷ Contact 3 true ∷ Frame ∷ []) played
 
@@ -171,7 +209,7 @@ abbrev cut_off : Program
 cut_off = code 1 (line (Set 0 1) ∷ line (Set 0 1) ∷ line End ∷ [])
 
 waits_for_nothing : WaitsUntil cut_off first (Frame ∷ []) → ⊥
-waits_for_nothing (inl h) = let e : 1 ≡ 0 = h.1 in omega (arith, e)
+waits_for_nothing (inl h) = h.1
 waits_for_nothing (inr h) = let clash : true ≡ false = h.0 in absurd cc
 
 -- ---- counts and contacts

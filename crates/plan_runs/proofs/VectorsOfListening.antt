@@ -35,7 +35,7 @@ use Rattle.fib_reader.specs.Laws.{EnsembleIsHeard}
 use Rattle.plan_code.specs.declared.plan.Plan.{Plan}
 use Rattle.plan_code.specs.declared.flags.Counters.{Counters}
 use Rattle.plan_code.specs.declared.flags.Contacts.{Contacts}
-use Rattle.plan_code.specs.declared.hold.Hold.TheVariants.{Waits, Ended}
+use Rattle.plan_code.specs.declared.hold.Hold.TheVariants.{Running, Ended}
 use Rattle.plan_code.specs.declared.label.Label.{Label}
 use Rattle.plan_code.specs.declared.label.Swap.TheVariants.{Idle}
 use Rattle.plan_code.specs.declared.instr.Instr.{Instr}
@@ -95,7 +95,7 @@ first count =
       next = with_sub 128;
       left = None;
       pc = 0;
-      hold = Waits 0;
+      hold = Running;
       counters = replicate 8 0;
       contacts = all_open;
       count = count;

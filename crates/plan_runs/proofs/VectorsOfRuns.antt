@@ -11,7 +11,7 @@ use Rattle.fib_carousel.specs.Pages.{page_set}
 use Rattle.plan_code.specs.declared.plan.Plan.{Plan}
 use Rattle.plan_code.specs.declared.flags.Counters.{Counters}
 use Rattle.plan_code.specs.declared.flags.Contacts.{Contacts}
-use Rattle.plan_code.specs.declared.hold.Hold.TheVariants.{Waits}
+use Rattle.plan_code.specs.declared.hold.Hold.TheVariants.{Running, Waits}
 use Rattle.plan_code.specs.declared.label.Label.{Label}
 use Rattle.plan_code.specs.declared.label.Swap.TheVariants.{Idle}
 use Rattle.plan_code.specs.declared.instr.Instr.{Instr}
@@ -74,7 +74,7 @@ first =
       next = with_sub 128;
       left = None;
       pc = 0;
-      hold = Waits 0;
+      hold = Running;
       counters = replicate 8 0;
       contacts = all_open;
       count = 0;
@@ -126,6 +126,10 @@ some_left left e = absurd cc
 -- with a swap that no instruction committed
 not_with_a_swap : IsStart waits start (record first { left = Some 4 }) → ⊥
 not_with_a_swap h = some_left 4 h.left
+
+-- nor in a wait, even if no frame of it is left
+not_in_a_wait : IsStart waits start (record first { hold = Waits 0 }) → ⊥
+not_in_a_wait h = let e : Waits 0 ≡ Running = h.hold in absurd cc
 
 -- ---- events without a trap
 

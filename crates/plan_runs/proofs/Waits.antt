@@ -4,7 +4,7 @@ use Rattle.std.proofs.Common.{◌≡◌, ℕ, zero, suc, ◌+◌, ◌-◌, ◌�
 use Rattle.std.proofs.lemmas.Bool.{eqb-true, eqb-false, le-leb}
 use Rattle.mux_config.specs.Sameness.{is_same_flag}
 use Rattle.plan_code.specs.declared.hold.Hold.{Hold}
-use Rattle.plan_code.specs.declared.hold.Hold.TheVariants.{Waits, WaitsDay, WaitsContact, WaitsSwap, Ended}
+use Rattle.plan_code.specs.declared.hold.Hold.TheVariants.{Running, Waits, WaitsDay, WaitsContact, WaitsSwap, Ended}
 use Rattle.plan_code.specs.declared.instr.Instr.{Instr}
 use Rattle.plan_code.specs.declared.instr.Instr.TheVariants.{Wait, Until, WaitContact, CommitIn, CommitAt, Join, Settle, End, Edit as Edits, Test, Jump, Set, Loop}
 use Rattle.plan_code.specs.Flags.{is_closed}
@@ -17,13 +17,15 @@ use Rattle.plan_runs.specs.Runs.{happens}
 use Rattle.plan_runs.specs.Firsts.{is_active, CarriesOut, IsFirstWhere}
 use Rattle.plan_runs.specs.TypedRuns.{IsPlayed}
 use Rattle.plan_runs.specs.Waits.{HasCome, WaitsAreKept, InstructionsSuspend}
-use Rattle.plan_runs.proofs.Between.{line_formed, step_is, frame_goes, still}
+use Rattle.plan_runs.proofs.Between.{line_formed, step_is, frame_goes, still_stops}
+use Rattle.plan_runs.proofs.Steps.{IsSuspended}
 use Rattle.plan_runs.proofs.Facts.{code_of, played_holds}
 use Rattle.plan_runs.proofs.Swaps.{midway}
 
 -- ---- the wait ends with the frame from this state
 
 abbrev ends_by : State → Hold → Bool
+ends_by s Running = true
 ends_by s (Waits n) = n == 0
 ends_by s (WaitsDay t) = s.day == t
 ends_by s (WaitsContact c closed) = is_same_flag (is_closed s.contacts c) closed
@@ -31,6 +33,7 @@ ends_by s WaitsSwap = is_due s.left
 ends_by s Ended = false
 
 after_swap : (s : State) (h : Hold) → is_due s.left ≡ true → is_here (with_swap s) (hold_after_swap h) ≡ ends_by s h
+after_swap s Running due = refl
 after_swap s (Waits n) due = refl
 after_swap s (WaitsDay t) due = refl
 after_swap s (WaitsContact c closed) due = refl
@@ -38,6 +41,7 @@ after_swap s WaitsSwap due = sym due
 after_swap s Ended due = refl
 
 without_swap : (s : State) (h : Hold) → is_due s.left ≡ false → is_here s h ≡ ends_by s h
+without_swap s Running due = refl
 without_swap s (Waits n) due = refl
 without_swap s (WaitsDay t) due = refl
 without_swap s (WaitsContact c closed) due = refl
@@ -56,9 +60,9 @@ steps_by (suc most) p s true e some =
     ap (λ (b : Bool). nat_le 1 (cond b (1 + burst_steps most p (step p s)) 0)) e ∙ le-leb 1 (1 + burst_steps most p (step p s)) (omega arith)
 steps_by (suc most) p s false e some = ap (λ (b : Bool). nat_le 1 (cond b (1 + burst_steps most p (step p s)) 0)) e
 
-ready_runs : (s : State) (here : Bool) → is_here s s.hold ≡ here → is_running (cond here (let r : State = record s { hold = Waits 0 } in r) s).hold ≡ here
+ready_runs : (s : State) (here : Bool) → is_here s s.hold ≡ here → is_running (cond here (let r : State = record s { hold = Running } in r) s).hold ≡ here
 ready_runs s true e = refl
-ready_runs s false e = still s s.hold e
+ready_runs s false e = still_stops s s.hold e
 
 active_is : (p : Program) (s : State) → 1 ≤ p.plan.budget → is_active p s ≡ ends_by s s.hold
 active_is p s some =
@@ -79,6 +83,7 @@ hold_shown : (p : Program) (s : State) → (shown p s).hold ≡ (after_burst p s
 hold_shown p s = hold_turned (after_burst p s) (is_first_noticed p.plan.notice (after_burst p s).left)
 
 hold_swapped : (s : State) (h : Hold) → is_due s.left ≡ true → ends_by s h ≡ false → hold_after_swap h ≡ h
+hold_swapped s Running due away = refl
 hold_swapped s (Waits n) due away = refl
 hold_swapped s (WaitsDay t) due away = refl
 hold_swapped s (WaitsContact c closed) due away = refl
@@ -93,8 +98,8 @@ still_held : (p : Program) (s : State) → ends_by s s.hold ≡ false → (after
 still_held p s away =
     let t : State = with_due_swap s in
     let not_here : is_here t t.hold ≡ false = ends_is s (is_due s.left) refl ∙ away in
-    let same : ready s ≡ t = ap (λ (b : Bool). cond b (let r : State = record t { hold = Waits 0 } in r) t) not_here in
-    let rests : is_running (ready s).hold ≡ false = ap (λ (x : State). is_running x.hold) same ∙ still t t.hold not_here in
+    let same : ready s ≡ t = ap (λ (b : Bool). cond b (let r : State = record t { hold = Running } in r) t) not_here in
+    let rests : is_running (ready s).hold ≡ false = ap (λ (x : State). is_running x.hold) same ∙ still_stops t t.hold not_here in
     let held : (shown p s).hold ≡ s.hold =
     hold_shown p s
     ∙ ap (λ (x : State). x.hold) (burst_stays p.plan.budget p (ready s) rests)
@@ -106,6 +111,7 @@ still_held p s away =
 
 -- the hold before the n-th frame after one that left the machine in `hold`
 abbrev IsHeld : Hold → ℕ → Hold → Type 0
+IsHeld Running n h = ⊥
 IsHeld (Waits frames) n h = (h ≡ Waits (frames - n)) × (n ≤ frames)
 IsHeld (WaitsDay t) n h = h ≡ WaitsDay t
 IsHeld (WaitsContact c closed) n h = h ≡ WaitsContact c closed
@@ -125,6 +131,7 @@ flag_same false true e = absurd cc
 flag_same false false e = refl
 
 has_come : (hold : Hold) (n : ℕ) (s : State) (h : Hold) → IsHeld hold n h → ends_by s h ≡ true → HasCome hold n s
+has_come Running n s h held e = held
 has_come (Waits frames) n s h held e =
     let over : (frames - n == 0) ≡ true = sym (ap (ends_by s) held.0) ∙ e in
     let none : frames - n ≡ 0 = eqb-true (frames - n) 0 over in
@@ -135,6 +142,7 @@ has_come WaitsSwap n s h held e = sym (ap (ends_by s) held) ∙ e
 has_come Ended n s h held e = let clash : false ≡ true = sym (ap (ends_by s) held) ∙ e in absurd cc
 
 not_yet : (hold : Hold) (n : ℕ) (s : State) (h : Hold) → IsHeld hold n h → ends_by s h ≡ false → HasCome hold n s → ⊥
+not_yet Running n s h held e came = came
 not_yet (Waits frames) n s h held e came =
     let over : (frames - n == 0) ≡ false = sym (ap (ends_by s) held.0) ∙ e in
     let none : frames - n ≡ 0 = omega (arith, came) in
@@ -147,6 +155,7 @@ not_yet WaitsSwap n s h held e came = let clash : true ≡ false = sym came ∙ 
 not_yet Ended n s h held e came = came
 
 held_later : (hold : Hold) (n : ℕ) (s : State) (h : Hold) → IsHeld hold n h → ends_by s h ≡ false → IsHeld hold (n + 1) (hold_after_frame h)
+held_later Running n s h held e = held
 held_later (Waits frames) n s h held e =
     let over : (frames - n == 0) ≡ false = sym (ap (ends_by s) held.0) ∙ e in
     let apart = eqb-false (frames - n) 0 over in
@@ -172,8 +181,9 @@ waits_from p hold n s (Contact c closed ∷ es) some held = waits_from p hold n 
 waits_from p hold n s (Frame ∷ es) some held =
     frame_waits p hold n s es some held (λ later. waits_from p hold (n + 1) (after_frame p s) es some later) (ends_by s s.hold) refl
 
-held_first : (h : Hold) → is_running h ≡ false → IsHeld h 1 (hold_after_frame h)
-held_first (Waits n) e = let apart = eqb-false n 0 e in (refl, omega (arith, apart))
+held_first : (h : Hold) → IsSuspended h → IsHeld h 1 (hold_after_frame h)
+held_first Running e = absurd e
+held_first (Waits n) e = (refl, e)
 held_first (WaitsDay t) e = refl
 held_first (WaitsContact c closed) e = refl
 held_first WaitsSwap e = refl
@@ -183,7 +193,7 @@ pub waits_are_kept : WaitsAreKept
 waits_are_kept p s events h =
     let c = code_of p s h in
     let goes = frame_goes p h.typed.0 c.program c.typing s (played_holds p s h).between in
-    let stops : is_running (shown p s).hold ≡ false = ap is_running (hold_shown p s) ∙ goes.suspends.stops in
+    let stops : IsSuspended (shown p s).hold = subst IsSuspended (sym (hold_shown p s)) goes.suspends.stops in
     waits_from p (shown p s).hold 1 (after_frame p s) events h.program.planned.budget_from (held_first (shown p s).hold stops)
 
 -- ---- instructions that suspend
@@ -203,15 +213,8 @@ leaves p s i hold h stops holds (k, below, instr) =
     let end = suspended_end p (step p at) (after_burst p s) m.more (ap is_running now ∙ stops formed) m.executes in
     hold_shown p s ∙ ap (λ (t : State). t.hold) (sym end) ∙ now
 
-some_frames : (n : ℕ) → 1 ≤ n → is_running (Waits n) ≡ false
-some_frames n some = by (n == 0) refl
-  where
-    by : (b : Bool) → (n == 0) ≡ b → (n == 0) ≡ false
-    by true e = let none = eqb-true n 0 e in absurd (omega (arith, none, some))
-    by false e = e
-
 pub instructions_suspend : InstructionsSuspend
-instructions_suspend p s (Wait n) h carries = leaves p s (Wait n) (Waits n) h (λ formed. some_frames n formed.0) (λ t. refl) carries
+instructions_suspend p s (Wait n) h carries = leaves p s (Wait n) (Waits n) h (λ formed. refl) (λ t. refl) carries
 instructions_suspend p s (Until d) h carries = leaves p s (Until d) (WaitsDay d) h (λ formed. refl) (λ t. refl) carries
 instructions_suspend p s (WaitContact d closed) h carries = leaves p s (WaitContact d closed) (WaitsContact d closed) h (λ formed. refl) (λ t. refl) carries
 instructions_suspend p s (CommitIn k) h carries = tt

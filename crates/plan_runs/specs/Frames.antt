@@ -12,7 +12,7 @@ use Rattle.fib_carousel.specs.Bytes.{page_bytes}
 use Rattle.mux_types.specs.declared.limits.TheConstants.{COUNTS}
 use Rattle.plan_code.specs.declared.limits.TheConstants.{FRAMES_A_DAY}
 use Rattle.plan_code.specs.declared.hold.Hold.{Hold}
-use Rattle.plan_code.specs.declared.hold.Hold.TheVariants.{Waits, WaitsDay, WaitsContact, WaitsSwap, Ended}
+use Rattle.plan_code.specs.declared.hold.Hold.TheVariants.{Running, Waits, WaitsDay, WaitsContact, WaitsSwap, Ended}
 use Rattle.plan_code.specs.declared.plan.Plan.{Plan}
 use Rattle.plan_code.specs.Flags.{is_closed}
 use Rattle.plan_code.specs.Program.{Program}
@@ -27,7 +27,8 @@ is_due (Some left) = left == 0
 
 -- a wait for the swap ends
 abbrev pub hold_after_swap : Hold → Hold
-hold_after_swap WaitsSwap = Waits 0
+hold_after_swap Running = Running
+hold_after_swap WaitsSwap = Running
 hold_after_swap (Waits n) = Waits n
 hold_after_swap (WaitsDay t) = WaitsDay t
 hold_after_swap (WaitsContact c closed) = WaitsContact c closed
@@ -44,14 +45,16 @@ with_due_swap s = if is_due s.left then with_swap s else s
 
 -- the machine is not suspended: instructions are executed
 abbrev pub is_running : Hold → Bool
-is_running (Waits n) = n == 0
+is_running Running = true
+is_running (Waits n) = false
 is_running (WaitsDay t) = false
 is_running (WaitsContact c closed) = false
 is_running WaitsSwap = false
 is_running Ended = false
 
--- the wait condition is met
+-- the wait condition is met; where the machine is running, there is none
 abbrev pub is_here : State → Hold → Bool
+is_here s Running = true
 is_here s (Waits n) = n == 0
 is_here s (WaitsDay t) = s.day == t
 is_here s (WaitsContact c closed) = is_same_flag (is_closed s.contacts c) closed
@@ -59,7 +62,7 @@ is_here s WaitsSwap = false
 is_here s Ended = false
 
 abbrev pub with_hold_ended : State → State
-with_hold_ended s = if is_here s s.hold then record s { hold = Waits 0 } else s
+with_hold_ended s = if is_here s s.hold then record s { hold = Running } else s
 
 -- the state in which instructions are executed
 abbrev pub ready : State → State
@@ -159,6 +162,7 @@ left_after_frame None = None
 left_after_frame (Some left) = Some (left - 1)
 
 abbrev pub hold_after_frame : Hold → Hold
+hold_after_frame Running = Running
 hold_after_frame (Waits n) = Waits (n - 1)
 hold_after_frame (WaitsDay t) = WaitsDay t
 hold_after_frame (WaitsContact c closed) = WaitsContact c closed

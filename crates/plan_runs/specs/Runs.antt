@@ -3,7 +3,7 @@ use Rattle.std.specs.Prelude.{◌≡◌, ℕ, ◌<◌, List, [], ◌∷◌, Some
 use Rattle.std.specs.List.{AllByRecursion}
 use Rattle.mux_types.specs.declared.limits.TheConstants.{COUNTS}
 use Rattle.plan_code.specs.declared.limits.TheConstants.{FRAMES_A_DAY}
-use Rattle.plan_code.specs.declared.hold.Hold.TheVariants.{Waits}
+use Rattle.plan_code.specs.declared.hold.Hold.TheVariants.{Running}
 use Rattle.plan_code.specs.declared.label.Label.{Label}
 use Rattle.plan_code.specs.Flags.{with_contact}
 use Rattle.plan_code.specs.Program.{Program, label_at}
@@ -34,7 +34,7 @@ pub record IsStart (p : Program) (start : Start) (s : State) : Type 0 where
   pub next : s.next ≡ s.current
   pub left : s.left ≡ None
   pub pc : s.pc ≡ 0
-  pub hold : s.hold ≡ Waits 0
+  pub hold : s.hold ≡ Running
   pub counters : s.counters ≡ replicate 8 0
   pub contacts : s.contacts ≡ start.contacts
   pub count : s.count ≡ start.count

@@ -1,7 +1,7 @@
 -- How long a suspended code waits.
 use Rattle.std.specs.Prelude.{◌≡◌, ℕ, true, List}
 use Rattle.plan_code.specs.declared.hold.Hold.{Hold}
-use Rattle.plan_code.specs.declared.hold.Hold.TheVariants.{Waits, WaitsDay, WaitsContact, WaitsSwap, Ended}
+use Rattle.plan_code.specs.declared.hold.Hold.TheVariants.{Running, Waits, WaitsDay, WaitsContact, WaitsSwap, Ended}
 use Rattle.plan_code.specs.declared.instr.Instr.{Instr}
 use Rattle.plan_code.specs.declared.instr.Instr.TheVariants.{Wait, Until, WaitContact, CommitIn, CommitAt, Join, Settle, End, Edit as Edits, Test, Jump, Set, Loop}
 use Rattle.plan_code.specs.Flags.{is_closed}
@@ -28,8 +28,9 @@ IsWaitOf (Jump target) hold = Unit {0}
 IsWaitOf (Set r n) hold = Unit {0}
 IsWaitOf (Loop r target) hold = Unit {0}
 
--- the wait ends with the frame from this state, the n-th after the one that suspended
+-- the wait ends with the frame from this state, the n-th after the one that suspended; a running machine does not wait
 abbrev pub HasCome : Hold → ℕ → State → Type 0
+HasCome Running n s = ⊥
 HasCome (Waits frames) n s = n ≡ frames
 HasCome (WaitsDay t) n s = s.day ≡ t
 HasCome (WaitsContact c closed) n s = is_closed s.contacts c ≡ closed
