@@ -5,7 +5,7 @@ use Rattle.std.proofs.Math.Nat.{mod-eq_of_lt, mod-add-mod, mod_self, mod-lt}
 use Rattle.mux_types.specs.declared.limits.TheConstants.{COUNTS}
 use Rattle.fib_carousel.specs.Pages.{page_after}
 use Rattle.plan_code.specs.declared.hold.Hold.{Hold}
-use Rattle.plan_code.specs.declared.hold.Hold.TheVariants.{Waits, WaitsDay, WaitsContact, WaitsSwap, Ended}
+use Rattle.plan_code.specs.declared.hold.Hold.TheVariants.{Running, Waits, WaitsDay, WaitsContact, WaitsSwap, Ended}
 use Rattle.plan_code.specs.declared.limits.TheConstants.{FRAMES_A_DAY}
 use Rattle.plan_code.specs.declared.plan.Plan.{Plan}
 use Rattle.plan_code.specs.Machine.{State}
@@ -51,6 +51,7 @@ left_on plan zero s = left_none s.left
 left_on plan (suc k) s = left_on plan k (with_next_counts plan s) ∙ left_step k s.left
 
 hold_none : (hold : Hold) → hold ≡ hold_later 0 hold
+hold_none Running = refl
 hold_none (Waits n) =
     let same : n ≡ n - 0 = omega arith in
     ap (λ (k : ℕ). Waits k) same
@@ -60,6 +61,7 @@ hold_none WaitsSwap = refl
 hold_none Ended = refl
 
 hold_step : (n : ℕ) (hold : Hold) → hold_later n (hold_after_frame hold) ≡ hold_later (suc n) hold
+hold_step n Running = refl
 hold_step n (Waits m) =
     let same : m - 1 - n ≡ m - suc n = omega arith in
     ap (λ (k : ℕ). Waits k) same

@@ -3,7 +3,7 @@ use Rattle.std.specs.Prelude.{slice_get, option_map, IsSome}
 use Rattle.std.proofs.Common.{◌≡◌, ℕ, zero, suc, ◌<◌, Bool, true, false, cond, eqb, List, [], ◌∷◌, length, Option, Some, None, refl, sym, ap, subst, ◌∙◌, arith}
 use Rattle.std.proofs.lemmas.Bool.{eqb-true}
 use Rattle.plan_code.specs.declared.hold.Hold.{Hold}
-use Rattle.plan_code.specs.declared.hold.Hold.TheVariants.{Waits, WaitsDay, WaitsContact, WaitsSwap, Ended}
+use Rattle.plan_code.specs.declared.hold.Hold.TheVariants.{Running, Waits, WaitsDay, WaitsContact, WaitsSwap, Ended}
 use Rattle.plan_code.specs.declared.instr.Instr.{Instr}
 use Rattle.plan_code.specs.declared.instr.Instr.TheVariants.{Wait, Until, WaitContact, CommitIn, CommitAt, Join, Settle, End, Edit as Edits, Test, Jump, Set, Loop}
 use Rattle.plan_code.specs.declared.instr.Line.{Line}
@@ -87,7 +87,7 @@ due_place : (s : State) (b : Bool) → (cond b (with_swap s) s).pc ≡ s.pc
 due_place s true = refl
 due_place s false = refl
 
-held_place : (s : State) (b : Bool) → (cond b (let r : State = record s { hold = Waits 0 } in r) s).pc ≡ s.pc
+held_place : (s : State) (b : Bool) → (cond b (let r : State = record s { hold = Running } in r) s).pc ≡ s.pc
 held_place s true = refl
 held_place s false = refl
 
@@ -100,6 +100,7 @@ turned_place u false = refl
 
 suspended_inside : (p : Program) (ts : List Known) → IsTyping p ts → (u : State) (hold : Hold) → u.hold ≡ hold → ResumesBy p ts u.pc (hold_after_frame hold) (left_after_frame u.left) u.current u.next u.counters
     → (u.hold ≡ Ended → IsInside p u.pc) → IsInside p u.pc
+suspended_inside p ts ty u Running e h ended = expects_inside p ts ty u.pc u.counters _ h
 suspended_inside p ts ty u (Waits k) e h ended = expects_inside p ts ty u.pc u.counters _ h
 suspended_inside p ts ty u (WaitsDay d) e h ended = expects_inside p ts ty u.pc u.counters _ h
 suspended_inside p ts ty u (WaitsContact d closed) e h ended = expects_inside p ts ty u.pc u.counters _ h

@@ -5,7 +5,7 @@ use Rattle.std.proofs.lemmas.Bool.{eqb-true}
 use Rattle.std.proofs.Math.Nat.{mod-eq_of_lt}
 use Rattle.mux_config.specs.Sameness.{is_same_flag}
 use Rattle.plan_code.specs.declared.hold.Hold.{Hold}
-use Rattle.plan_code.specs.declared.hold.Hold.TheVariants.{Waits, WaitsDay, WaitsContact, WaitsSwap, Ended}
+use Rattle.plan_code.specs.declared.hold.Hold.TheVariants.{Running, Waits, WaitsDay, WaitsContact, WaitsSwap, Ended}
 use Rattle.plan_code.specs.declared.limits.TheConstants.{FRAMES_A_DAY}
 use Rattle.plan_code.specs.declared.plan.Plan.{Plan}
 use Rattle.plan_code.specs.Flags.{is_closed}
@@ -21,7 +21,7 @@ use Rattle.plan_player.specs.Quiet.{IsQuiet, AreQuiet, counted_on, QuietFramesAr
 -- ---- a quiet frame
 
 abbrev resumed : State → State
-resumed s = record s { hold = Waits 0 }
+resumed s = record s { hold = Running }
 
 no_swap_due : (s : State) (b : Bool) → b ≡ false → cond b (with_swap s) s ≡ s
 no_swap_due s true e = absurd cc
@@ -108,6 +108,7 @@ fewer_swap notice None m n le away = tt
 fewer_swap notice (Some l) m n le away = (omega (arith, le, away.0), λ from. omega (arith, le, away.1 from))
 
 pub fewer_hold : (s : State) (hold : Hold) (m n : ℕ) → n ≤ m → HoldIsAway s hold m → HoldIsAway s hold n
+fewer_hold s Running m n le away = omega (arith, le, away)
 fewer_hold s (Waits frames) m n le away = omega (arith, le, away)
 fewer_hold s (WaitsDay t) m n le away = λ some.
     let day = away (omega (arith, le, some)) in
@@ -146,6 +147,7 @@ contact_not_here true n away = let none : suc n ≡ 0 = away refl in absurd (ome
 contact_not_here false n away = refl
 
 not_here : (s : State) (hold : Hold) (n : ℕ) → HoldIsAway s hold (suc n) → is_here s hold ≡ false
+not_here s Running n away = absurd (omega (arith, away))
 not_here s (Waits k) n away = not_zero k (omega (arith, away)) (k == 0) refl
 not_here s (WaitsDay t) n away = day_not_here s.day t n (away (omega arith)).1 (s.day == t) refl
 not_here s (WaitsContact c closed) n away = contact_not_here (is_same_flag (is_closed s.contacts c) closed) n away
@@ -162,7 +164,8 @@ neither false b e f = f
 
 -- a machine whose wait condition is not met is suspended
 not_running : (s : State) (hold : Hold) → is_here s hold ≡ false → is_running hold ≡ false
-not_running s (Waits k) e = e
+not_running s Running e = absurd cc
+not_running s (Waits k) e = refl
 not_running s (WaitsDay t) e = refl
 not_running s (WaitsContact c closed) e = refl
 not_running s WaitsSwap e = refl
@@ -189,6 +192,7 @@ is_quiet p s n swap hold =
     }
 
 hold_nearer : (plan : Plan) (s : State) (hold : Hold) (n : ℕ) → HoldIsAway s hold (suc n) → HoldIsAway (with_next_counts plan s) (hold_after_frame hold) n
+hold_nearer plan s Running n away = absurd (omega (arith, away))
 hold_nearer plan s (Waits k) n away = omega (arith, away)
 hold_nearer plan s (WaitsDay t) n away = λ some.
     let day = away (omega arith) in

@@ -6,7 +6,7 @@ use Rattle.fib_codec.specs.declared.modes.Mode.TheVariants.{I}
 use Rattle.plan_code.specs.declared.plan.Plan.{Plan}
 use Rattle.plan_code.specs.declared.flags.Counters.{Counters}
 use Rattle.plan_code.specs.declared.flags.Contacts.{Contacts}
-use Rattle.plan_code.specs.declared.hold.Hold.TheVariants.{Waits}
+use Rattle.plan_code.specs.declared.hold.Hold.TheVariants.{Running}
 use Rattle.plan_code.specs.declared.label.Label.{Label}
 use Rattle.plan_code.specs.declared.label.Swap.TheVariants.{Idle}
 use Rattle.plan_code.specs.declared.instr.Instr.{Instr}
@@ -49,7 +49,7 @@ first =
       next = nothing;
       left = None;
       pc = 0;
-      hold = Waits 0;
+      hold = Running;
       counters = replicate 8 0;
       contacts = all_open;
       count = 1;

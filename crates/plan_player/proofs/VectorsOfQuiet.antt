@@ -6,7 +6,7 @@ use Rattle.fib_codec.specs.declared.modes.Mode.TheVariants.{I}
 use Rattle.plan_code.specs.declared.plan.Plan.{Plan}
 use Rattle.plan_code.specs.declared.flags.Contacts.{Contacts}
 use Rattle.plan_code.specs.declared.hold.Hold.{Hold}
-use Rattle.plan_code.specs.declared.hold.Hold.TheVariants.{Waits, WaitsDay, WaitsContact, WaitsSwap, Ended}
+use Rattle.plan_code.specs.declared.hold.Hold.TheVariants.{Running, Waits, WaitsDay, WaitsContact, WaitsSwap, Ended}
 use Rattle.plan_code.specs.declared.instr.Instr.TheVariants.{Wait, End}
 use Rattle.plan_code.specs.Program.{Program}
 use Rattle.plan_code.specs.Machine.{State}
@@ -58,6 +58,9 @@ at_a_swap h = let e : true ≡ false = h.no_swap in absurd cc
 with_an_instruction : IsQuiet waits (at (Waits 0) None) → ⊥
 with_an_instruction h = let e : true ≡ false = h.suspended in absurd cc
 
+running : IsQuiet waits (at Running None) → ⊥
+running h = let e : true ≡ false = h.suspended in absurd cc
+
 at_the_frame_of_the_day : IsQuiet waits (at (WaitsDay 3599998) None) → ⊥
 at_the_frame_of_the_day h = let e : true ≡ false = h.suspended in absurd cc
 
@@ -100,6 +103,12 @@ five_in_the_notice = (omega arith, λ from. omega (arith, from))
 
 no_sixth : SwapIsAway 24 (Some 5) 6 → ⊥
 no_sixth h = omega (arith, h.0)
+
+none_while_running : HoldIsAway (at Running None) Running 0
+none_while_running = refl
+
+no_first_while_running : HoldIsAway (at Running None) Running 1 → ⊥
+no_first_while_running h = let e : 1 ≡ 0 = h in omega (arith, e)
 
 three_of_three : HoldIsAway (at (Waits 3) None) (Waits 3) 3
 three_of_three = omega arith

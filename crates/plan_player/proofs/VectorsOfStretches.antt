@@ -3,7 +3,7 @@ use Rattle.std.proofs.Common.{◌≡◌, ℕ, zero, suc, ◌<◌, false, true, L
 use Rattle.std.specs.List.{concat}
 use Rattle.fib_carousel.specs.Carried.{IsPageable}
 use Rattle.fib_codec.specs.declared.modes.Mode.TheVariants.{I}
-use Rattle.plan_code.specs.declared.hold.Hold.TheVariants.{Waits, Ended}
+use Rattle.plan_code.specs.declared.hold.Hold.TheVariants.{Running, Waits, Ended}
 use Rattle.plan_code.specs.Machine.{State}
 use Rattle.plan_runs.specs.Frames.{shown, ensemble_sent, shown_bytes, sent_entries}
 use Rattle.plan_runs.specs.Announced.{notice_frames}
@@ -24,6 +24,12 @@ not_three_left e = absurd cc
 
 waits_over : hold_later 9 (Waits 5) ≡ Waits 0
 waits_over = refl
+
+not_running : hold_later 9 (Waits 5) ≡ Running → ⊥
+not_running e = absurd cc
+
+runs_on : hold_later 9 Running ≡ Running
+runs_on = refl
 
 not_ended : hold_later 9 (Waits 5) ≡ Ended → ⊥
 not_ended e = absurd cc

@@ -1,7 +1,7 @@
 -- Quiet frames: they make no swap, execute no instruction and begin no phase.
 use Rattle.std.specs.Prelude.{◌≡◌, ℕ, zero, suc, ◌+◌, ◌≤◌, true, false, replicate, Option, Some, None}
 use Rattle.plan_code.specs.declared.hold.Hold.{Hold}
-use Rattle.plan_code.specs.declared.hold.Hold.TheVariants.{Waits, WaitsDay, WaitsContact, WaitsSwap, Ended}
+use Rattle.plan_code.specs.declared.hold.Hold.TheVariants.{Running, Waits, WaitsDay, WaitsContact, WaitsSwap, Ended}
 use Rattle.plan_code.specs.declared.limits.TheConstants.{FRAMES_A_DAY}
 use Rattle.plan_code.specs.declared.plan.Plan.{Plan}
 use Rattle.plan_code.specs.Flags.{is_closed}
@@ -50,8 +50,9 @@ abbrev pub SwapIsAway : ℕ → Option ℕ → ℕ → Type 0
 SwapIsAway notice None n = Unit {0}
 SwapIsAway notice (Some left) n = (n ≤ left) × (notice ≤ left → notice + n ≤ left)
 
--- this wait ends in none of n frames
+-- this wait ends in none of n frames; a running machine executes instructions in the first
 abbrev pub HoldIsAway : State → Hold → ℕ → Type 0
+HoldIsAway s Running n = n ≡ 0
 HoldIsAway s (Waits frames) n = n ≤ frames
 HoldIsAway s (WaitsDay t) n = 1 ≤ n → (s.day + n ≤ FRAMES_A_DAY) × (s.day ≤ t → s.day + n ≤ t)
 HoldIsAway s (WaitsContact c closed) n = is_same_flag (is_closed s.contacts c) closed ≡ true → n ≡ 0

@@ -9,7 +9,7 @@ use Rattle.fib_codec.specs.Modes.{count_step}
 use Rattle.fib_codec.specs.declared.modes.Mode.{Mode}
 use Rattle.fib_carousel.specs.Carried.{IsPageable}
 use Rattle.plan_code.specs.declared.hold.Hold.{Hold}
-use Rattle.plan_code.specs.declared.hold.Hold.TheVariants.{Waits, WaitsDay, WaitsContact, WaitsSwap, Ended}
+use Rattle.plan_code.specs.declared.hold.Hold.TheVariants.{Running, Waits, WaitsDay, WaitsContact, WaitsSwap, Ended}
 use Rattle.plan_code.specs.declared.plan.Plan.{Plan}
 use Rattle.plan_code.specs.Machine.{State}
 use Rattle.plan_runs.specs.Frames.{is_noticed, low_of_swap, ensemble_sent, shown_bytes, sent_entries, sent_rounds}
@@ -87,6 +87,7 @@ left_later n None = None
 left_later n (Some left) = Some (left - n)
 
 abbrev pub hold_later : ℕ → Hold → Hold
+hold_later n Running = Running
 hold_later n (Waits frames) = Waits (frames - n)
 hold_later n (WaitsDay t) = WaitsDay t
 hold_later n (WaitsContact c closed) = WaitsContact c closed

@@ -71,7 +71,7 @@ impl<S: Store> Machine<S> {
             next: S::from_config(config),
             left: None,
             pc: 0,
-            hold: Hold::Waits(0),
+            hold: Hold::Running,
             counters: [0; 8],
             contacts: start.contacts,
             count: start.count,

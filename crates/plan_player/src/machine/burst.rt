@@ -15,7 +15,8 @@ fn is_running(hold: Hold) -> bool
     ensures { result ≡ is_running hold }
 {
     match hold {
-        Hold::Waits(frames) => frames == 0,
+        Hold::Running => true,
+        Hold::Waits(_) => false,
         Hold::WaitsDay(_) => false,
         Hold::WaitsContact { .. } => false,
         Hold::WaitsSwap => false,

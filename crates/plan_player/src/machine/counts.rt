@@ -28,6 +28,7 @@ fn hold_after_frame(hold: Hold) -> Hold
     ensures { result ≡ hold_after_frame hold }
 {
     match hold {
+        Hold::Running => Hold::Running,
         Hold::Waits(frames) => Hold::Waits(frames.saturating_sub(1)),
         Hold::WaitsDay(frame) => Hold::WaitsDay(frame),
         Hold::WaitsContact { contact, closed } => Hold::WaitsContact { contact, closed },
@@ -112,6 +113,7 @@ fn hold_later(hold: Hold, frames: u16) -> Hold
     ensures { result ≡ hold_later frames hold }
 {
     match hold {
+        Hold::Running => Hold::Running,
         Hold::Waits(left) => Hold::Waits(left.saturating_sub(frames)),
         Hold::WaitsDay(frame) => Hold::WaitsDay(frame),
         Hold::WaitsContact { contact, closed } => Hold::WaitsContact { contact, closed },

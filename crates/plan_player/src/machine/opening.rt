@@ -23,7 +23,8 @@ fn hold_after_swap(hold: Hold) -> Hold
     ensures { result ≡ hold_after_swap hold }
 {
     match hold {
-        Hold::WaitsSwap => Hold::Waits(0),
+        Hold::Running => Hold::Running,
+        Hold::WaitsSwap => Hold::Running,
         Hold::Waits(frames) => Hold::Waits(frames),
         Hold::WaitsDay(frame) => Hold::WaitsDay(frame),
         Hold::WaitsContact { contact, closed } => Hold::WaitsContact { contact, closed },
@@ -46,6 +47,7 @@ fn is_here<S: Store>(machine: &Machine<S>) -> bool
     ensures { result ≡ is_here (state_of S.content machine.now) machine.now.hold }
 {
     match machine.hold {
+        Hold::Running => true,
         Hold::Waits(frames) => frames == 0,
         Hold::WaitsDay(frame) => machine.day == frame.get(),
         Hold::WaitsContact { contact, closed } => machine.contacts.is_closed(contact) == closed,
@@ -59,7 +61,7 @@ fn end_hold<S: Store>(machine: &mut Machine<S>)
     ensures { state_of S.content machine.new ≡ with_hold_ended (state_of S.content machine.old) }
 {
     if is_here(machine) {
-        machine.hold = Hold::Waits(0);
+        machine.hold = Hold::Running;
     }
 }
 

@@ -44,6 +44,7 @@ fn before_resuming<S: Store>(machine: &Machine<S>) -> u32
     ensures { HoldIsAway (state_of S.content machine.now) machine.now.hold result }
 {
     match machine.hold {
+        Hold::Running => 0,
         Hold::Waits(frames) => u32::from(frames),
         Hold::WaitsDay(frame) => before_day(machine.day, frame.get()),
         Hold::WaitsContact { contact, closed } => {
