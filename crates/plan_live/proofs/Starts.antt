@@ -2,7 +2,7 @@
 use Rattle.std.specs.Prelude.{slice_get}
 use Rattle.std.proofs.Common.{◌≡◌, ℕ, Some, None, replicate, refl, sym, ap, subst, ◌∙◌}
 use Rattle.mux_config.specs.Configuration.{Configuration}
-use Rattle.plan_code.specs.declared.hold.Hold.TheVariants.{Waits}
+use Rattle.plan_code.specs.declared.hold.Hold.TheVariants.{Running}
 use Rattle.plan_code.specs.declared.label.Label.{Label}
 use Rattle.plan_code.specs.Machine.{State}
 use Rattle.plan_code.specs.Program.{Program}
@@ -16,7 +16,7 @@ use Rattle.plan_session.specs.Parts.{IsCodeFault}
 use Rattle.plan_live.specs.Beginning.{Begins, IsBeginFault}
 
 abbrev opening : Configuration → Starting → State
-opening current start = record { current = current; next = current; left = None; pc = 0; hold = Waits 0; counters = replicate 8 0; contacts = start.contacts; count = start.count; day = start.day; eid = start.eid; page_index = 0 }
+opening current start = record { current = current; next = current; left = None; pc = 0; hold = Running; counters = replicate 8 0; contacts = start.contacts; count = start.count; day = start.day; eid = start.eid; page_index = 0 }
 
 is_opening : (code : Program) (start : Starting) (s : State) → IsStart code start s → s ≡ opening s.current start
 is_opening code start s h = rw (h.next, h.left, h.pc, h.hold, h.counters, h.contacts, h.count, h.day, h.eid, h.page_index) refl

@@ -2,7 +2,7 @@
 use Rattle.std.specs.Prelude.{ℕ, ◌+◌, ◌%◌, ◌==◌, Bool, true, false, if◌then◌else◌, List, [], ◌∷◌, ◌++◌}
 use Rattle.mux_config.specs.Change.{change_of, bits_of}
 use Rattle.plan_code.specs.declared.hold.Hold.{Hold}
-use Rattle.plan_code.specs.declared.hold.Hold.TheVariants.{Waits, WaitsDay, WaitsContact, WaitsSwap, Ended}
+use Rattle.plan_code.specs.declared.hold.Hold.TheVariants.{Running, Waits, WaitsDay, WaitsContact, WaitsSwap, Ended}
 use Rattle.plan_code.specs.declared.plan.Plan.{Plan}
 use Rattle.plan_code.specs.Program.{Program}
 use Rattle.plan_code.specs.Machine.{State}
@@ -26,6 +26,7 @@ notice_note n count plan t =
 
 -- the plan has ended after the frame, and had not before it
 abbrev pub has_ended : Hold → Bool
+has_ended Running = false
 has_ended (Waits n) = false
 has_ended (WaitsDay t) = false
 has_ended (WaitsContact c closed) = false

@@ -31,6 +31,7 @@ fn has_ended(hold: Hold) -> bool
 {
     match hold {
         Hold::Ended => true,
+        Hold::Running => false,
         Hold::Waits(_) => false,
         Hold::WaitsDay(_) => false,
         Hold::WaitsContact { .. } => false,
