@@ -5,7 +5,7 @@ use Rattle.std.proofs.lemmas.Option.{slice_get-map}
 use Rattle.plan_code.specs.declared.plan.Plan.{Plan}
 use Rattle.plan_code.specs.declared.instr.Instr.TheVariants.{End}
 use Rattle.plan_code.specs.declared.instr.Line.{Line}
-use Rattle.plan_code.specs.declared.hold.Hold.TheVariants.{Waits}
+use Rattle.plan_code.specs.declared.hold.Hold.TheVariants.{Running}
 use Rattle.plan_code.specs.Program.{Program, IsProgram, IsInstr, instr_at}
 use Rattle.plan_code.specs.Machine.{State, step}
 use Rattle.plan_runs.specs.declared.event.Event.{Event}
@@ -141,9 +141,9 @@ starts_alike s p start first code h =
     ∙ ap (λ x. let y : Scene = record { current = opening_of s; next = x; left = first.left; hold = first.hold; contacts = first.contacts; count = first.count; day = first.day } in y) next
     ∙ ap (λ x. let y : Scene = record { current = opening_of s; next = opening_of s; left = x; hold = first.hold; contacts = first.contacts; count = first.count; day = first.day } in y) h.left
     ∙ ap (λ x. let y : Scene = record { current = opening_of s; next = opening_of s; left = None; hold = x; contacts = first.contacts; count = first.count; day = first.day } in y) h.hold
-    ∙ ap (λ x. let y : Scene = record { current = opening_of s; next = opening_of s; left = None; hold = Waits 0; contacts = x; count = first.count; day = first.day } in y) h.contacts
-    ∙ ap (λ x. let y : Scene = record { current = opening_of s; next = opening_of s; left = None; hold = Waits 0; contacts = start.contacts; count = x; day = first.day } in y) h.count
-    ∙ ap (λ x. let y : Scene = record { current = opening_of s; next = opening_of s; left = None; hold = Waits 0; contacts = start.contacts; count = start.count; day = x } in y) h.day
+    ∙ ap (λ x. let y : Scene = record { current = opening_of s; next = opening_of s; left = None; hold = Running; contacts = x; count = first.count; day = first.day } in y) h.contacts
+    ∙ ap (λ x. let y : Scene = record { current = opening_of s; next = opening_of s; left = None; hold = Running; contacts = start.contacts; count = x; day = first.day } in y) h.count
+    ∙ ap (λ x. let y : Scene = record { current = opening_of s; next = opening_of s; left = None; hold = Running; contacts = start.contacts; count = start.count; day = x } in y) h.day
 
 pub scripts_play : ScriptsPlayAsTheyRead
 scripts_play s p formed typed code start first events in_range started within =

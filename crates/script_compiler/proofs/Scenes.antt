@@ -1,7 +1,7 @@
 -- The scene after an instruction or a frame depends on the scene before alone.
 use Rattle.std.proofs.Common.{◌≡◌, ℕ, ◌+◌, Bool, true, false, if◌then◌else◌, Option, Some, None, refl, sym, ap, ◌∙◌}
 use Rattle.plan_code.specs.declared.hold.Hold.{Hold}
-use Rattle.plan_code.specs.declared.hold.Hold.TheVariants.{Waits, WaitsDay, WaitsContact, WaitsSwap, Ended}
+use Rattle.plan_code.specs.declared.hold.Hold.TheVariants.{Running, Waits, WaitsDay, WaitsContact, WaitsSwap, Ended}
 use Rattle.plan_code.specs.declared.plan.Plan.{Plan}
 use Rattle.plan_code.specs.Program.{Program}
 use Rattle.plan_code.specs.Machine.{State, effect, settle, IsAllowed}
@@ -22,18 +22,19 @@ SamePlace s t = (t.pc ≡ s.pc) × (t.counters ≡ s.counters)
 -- ---- a frame's beginning and end
 
 here_same : (s : State) (h : Hold) → is_here s h ≡ is_here (plain s) h
+here_same s Running = refl
 here_same s (Waits n) = refl
 here_same s (WaitsDay t) = refl
 here_same s (WaitsContact c closed) = refl
 here_same s WaitsSwap = refl
 here_same s Ended = refl
 
-ends_by : (b : Bool) (s : State) → scene_of (if b then record s { hold = Waits 0 } else s) ≡ scene_of (if b then record (plain s) { hold = Waits 0 } else plain s)
+ends_by : (b : Bool) (s : State) → scene_of (if b then record s { hold = Running } else s) ≡ scene_of (if b then record (plain s) { hold = Running } else plain s)
 ends_by true s = refl
 ends_by false s = refl
 
 hold_ends : (s : State) → scene_of (with_hold_ended s) ≡ scene_of (with_hold_ended (plain s))
-hold_ends s = ends_by (is_here s s.hold) s ∙ ap (λ b. scene_of (if b then record (plain s) { hold = Waits 0 } else plain s)) (here_same s s.hold)
+hold_ends s = ends_by (is_here s s.hold) s ∙ ap (λ b. scene_of (if b then record (plain s) { hold = Running } else plain s)) (here_same s s.hold)
 
 swaps_by : (b : Bool) (s : State) → scene_of (if b then with_swap s else s) ≡ scene_of (if b then with_swap (plain s) else plain s)
 swaps_by true s = refl
@@ -50,7 +51,7 @@ swap_place : (b : Bool) (s : State) → SamePlace s (if b then with_swap s else 
 swap_place true s = (refl, refl)
 swap_place false s = (refl, refl)
 
-hold_place : (b : Bool) (s : State) → SamePlace s (if b then record s { hold = Waits 0 } else s)
+hold_place : (b : Bool) (s : State) → SamePlace s (if b then record s { hold = Running } else s)
 hold_place true s = (refl, refl)
 hold_place false s = (refl, refl)
 

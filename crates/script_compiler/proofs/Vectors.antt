@@ -8,7 +8,7 @@ use Rattle.fib_codec.specs.declared.frame_layout.FrameLayout.TheVariants.{Whole}
 use Rattle.fib_codec.specs.declared.modes.Mode.TheVariants.{I}
 use Rattle.plan_code.specs.declared.flags.Contacts.{Contacts}
 use Rattle.plan_code.specs.declared.hold.Hold.{Hold}
-use Rattle.plan_code.specs.declared.hold.Hold.TheVariants.{Waits, WaitsSwap, Ended}
+use Rattle.plan_code.specs.declared.hold.Hold.TheVariants.{Running, Waits, WaitsSwap, Ended}
 use Rattle.plan_code.specs.declared.instr.Instr.{Instr}
 use Rattle.plan_code.specs.declared.instr.Instr.TheVariants.{Wait as WaitInstr, End}
 use Rattle.plan_code.specs.declared.instr.Line.{Line}
@@ -60,25 +60,25 @@ held_same x y e = ap (λ (r : Reading). r.scene.hold) e
 
 -- ---- statements
 
-waits_two : Performs plan (reading (wait 2 nothing) (after 0 all_open (Waits 0))) 1 (reading nothing (after 0 all_open (Waits 2)))
+waits_two : Performs plan (reading (wait 2 nothing) (after 0 all_open Running)) 1 (reading nothing (after 0 all_open (Waits 2)))
 waits_two = (refl, tt, (refl, refl))
 
 -- a wait one frame short
-not_one : (n : ℕ) → Performs plan (reading (wait 2 nothing) (after 0 all_open (Waits 0))) n (reading nothing (after 0 all_open (Waits 1))) → ⊥
+not_one : (n : ℕ) → Performs plan (reading (wait 2 nothing) (after 0 all_open Running)) n (reading nothing (after 0 all_open (Waits 1))) → ⊥
 not_one n h = let e = held_same _ _ (performs_one plan 1 n _ _ _ waits_two h) in absurd (two_is_one e)
   where
     two_is_one : Waits 1 ≡ Waits 2 → ⊥
     two_is_one e = absurd cc
 
 -- no statement is left
-ends : Performs plan (reading nothing (after 0 all_open (Waits 0))) 1 (reading nothing (after 0 all_open Ended))
+ends : Performs plan (reading nothing (after 0 all_open Running)) 1 (reading nothing (after 0 all_open Ended))
 ends = (refl, tt, (refl, refl))
 
-does_not_end : (n : ℕ) → Performs plan (reading nothing (after 0 all_open (Waits 0))) n (reading nothing (after 0 all_open (Waits 0))) → ⊥
+does_not_end : (n : ℕ) → Performs plan (reading nothing (after 0 all_open Running)) n (reading nothing (after 0 all_open Running)) → ⊥
 does_not_end zero h = let e : true ≡ false = h.0 in absurd cc
 does_not_end (suc zero) h = let e = held_same _ _ h.2.1 in absurd (different e)
   where
-    different : Ended ≡ Waits 0 → ⊥
+    different : Ended ≡ Running → ⊥
     different e = absurd cc
 does_not_end (suc (suc n)) h = let e : false ≡ true = h.2.0 in absurd (false≢true e)
 
@@ -86,41 +86,41 @@ does_not_end (suc (suc n)) h = let e : false ≡ true = h.2.0 in absurd (false�
 abbrev branches : Block
 branches = either 1 3 (wait 4 nothing) (wait 5 nothing) nothing
 
-closed_branch : Performs plan (reading branches (after 0 third_closed (Waits 0))) 2 (reading nothing (after 0 third_closed (Waits 4)))
+closed_branch : Performs plan (reading branches (after 0 third_closed Running)) 2 (reading nothing (after 0 third_closed (Waits 4)))
 closed_branch = (refl, tt, (refl, tt, (refl, refl)))
 
-open_branch : Performs plan (reading branches (after 0 all_open (Waits 0))) 2 (reading nothing (after 0 all_open (Waits 5)))
+open_branch : Performs plan (reading branches (after 0 all_open Running)) 2 (reading nothing (after 0 all_open (Waits 5)))
 open_branch = (refl, tt, (refl, tt, (refl, refl)))
 
-branches_exchanged : (n : ℕ) → Performs plan (reading branches (after 0 all_open (Waits 0))) n (reading nothing (after 0 all_open (Waits 4))) → ⊥
+branches_exchanged : (n : ℕ) → Performs plan (reading branches (after 0 all_open Running)) n (reading nothing (after 0 all_open (Waits 4))) → ⊥
 branches_exchanged n h = let e = held_same _ _ (performs_one plan 2 n _ _ _ open_branch h) in absurd (different e)
   where
     different : Waits 4 ≡ Waits 5 → ⊥
     different e = absurd cc
 
 -- without `else`, an open contact skips the branch
-no_branch : Performs plan (reading (when 1 3 (wait 4 nothing) (wait 5 nothing)) (after 0 all_open (Waits 0))) 2 (reading nothing (after 0 all_open (Waits 5)))
+no_branch : Performs plan (reading (when 1 3 (wait 4 nothing) (wait 5 nothing)) (after 0 all_open Running)) 2 (reading nothing (after 0 all_open (Waits 5)))
 no_branch = (refl, tt, (refl, tt, (refl, refl)))
 
 -- without a swap, `settle` does nothing and `join` traps
-settles : Performs plan (reading (basic 1 Settle (wait 5 nothing)) (after 0 all_open (Waits 0))) 2 (reading nothing (after 0 all_open (Waits 5)))
+settles : Performs plan (reading (basic 1 Settle (wait 5 nothing)) (after 0 all_open Running)) 2 (reading nothing (after 0 all_open (Waits 5)))
 settles = (refl, tt, (refl, tt, (refl, refl)))
 
-settling_does_not_wait : (n : ℕ) → Performs plan (reading (basic 1 Settle (wait 5 nothing)) (after 0 all_open (Waits 0))) n (reading (wait 5 nothing) (after 0 all_open WaitsSwap)) → ⊥
+settling_does_not_wait : (n : ℕ) → Performs plan (reading (basic 1 Settle (wait 5 nothing)) (after 0 all_open Running)) n (reading (wait 5 nothing) (after 0 all_open WaitsSwap)) → ⊥
 settling_does_not_wait n h = let e = held_same _ _ (performs_one plan 2 n _ _ _ settles h) in absurd (different e)
   where
     different : WaitsSwap ≡ Waits 5 → ⊥
     different e = absurd cc
 
-join_traps : (n : ℕ) (y : Reading) → Performs plan (reading (basic 1 Join nothing) (after 0 all_open (Waits 0))) n y → ⊥
+join_traps : (n : ℕ) (y : Reading) → Performs plan (reading (basic 1 Join nothing) (after 0 all_open Running)) n y → ⊥
 join_traps zero y h = let e : true ≡ false = h.0 in absurd cc
 join_traps (suc n) y h = let e : false ≡ true = h.1 in absurd cc
 
-edit_traps : (n : ℕ) (y : Reading) → Performs plan (reading (basic 1 (Edit (DropSub 9)) nothing) (after 0 all_open (Waits 0))) n y → ⊥
+edit_traps : (n : ℕ) (y : Reading) → Performs plan (reading (basic 1 (Edit (DropSub 9)) nothing) (after 0 all_open Running)) n y → ⊥
 edit_traps zero y h = let e : true ≡ false = h.0 in absurd cc
 edit_traps (suc n) y h = let e : Some IdAbsent ≡ None = h.1.1 in absurd cc
 
--- ---- frames and events
+-- ---- frames and events, where a wait is over
 
 abbrev rounds : ℕ → Block
 rounds times = repeat 1 times (wait 1 nothing) nothing
@@ -226,7 +226,7 @@ first =
       next = no_configuration;
       left = None;
       pc = 0;
-      hold = Waits 0;
+      hold = Running;
       counters = replicate 8 0;
       contacts = all_open;
       count = 0;

@@ -5,7 +5,7 @@ use Rattle.mux_config.specs.Configuration.{Configuration}
 use Rattle.std.specs.List.{AllByRecursion}
 use Rattle.plan_code.specs.declared.flags.Contacts.{Contacts}
 use Rattle.plan_code.specs.declared.hold.Hold.{Hold}
-use Rattle.plan_code.specs.declared.hold.Hold.TheVariants.{Waits}
+use Rattle.plan_code.specs.declared.hold.Hold.TheVariants.{Running}
 use Rattle.plan_code.specs.declared.instr.Instr.{Instr}
 use Rattle.plan_code.specs.declared.instr.Instr.TheVariants.{End, Edit as DoesEdit, Wait as DoesWait, WaitContact as DoesWaitContact, Until as DoesUntil, CommitIn as DoesCommitIn, CommitAt as DoesCommitAt, Join as DoesJoin, Settle as DoesSettle}
 use Rattle.plan_code.specs.declared.plan.Plan.{Plan}
@@ -187,7 +187,7 @@ begins s start =
       current = opening_of s;
       next = opening_of s;
       left = None;
-      hold = Waits 0;
+      hold = Running;
       contacts = start.contacts;
       count = start.count;
       day = start.day;
