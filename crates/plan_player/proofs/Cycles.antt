@@ -1,8 +1,9 @@
 -- Quiet frames that come whole cycles after others, and differ from these in the count alone.
-use Rattle.std.proofs.Common.{◌≡◌, ℕ, zero, suc, ◌+◌, ◌-◌, ◌*◌, ◌%◌, ◌<◌, ◌≤◌, ◌==◌, Bool, true, false, cond, List, ◌∷◌, ◌++◌, length, take, drop, Option, Some, None, refl, sym, ap, ap₂, subst, ◌∙◌, arith, length-append, length-take-le}
-use Rattle.std.specs.List.{concat}
-use Rattle.std.proofs.lemmas.List.{take_at, drop_at, take-append-le, take-append-drop}
-use Rattle.std.proofs.Math.Seq.{take-append-add}
+use Rattle.std.proofs.Common.{◌≡◌, ℕ, zero, suc, ◌+◌, ◌-◌, ◌*◌, ◌%◌, ◌<◌, ◌≤◌, ◌==◌, Bool, true, false, cond, List, ◌∷◌, ◌++◌, length, take, drop, Option, Some, None, refl, sym, ap, ap₂, subst, ◌∙◌, arith, length-append, length-drop, length-take-le}
+use Rattle.std.specs.List.{concat, copy_within}
+use Rattle.std.proofs.lemmas.List.{take_at, drop_at, drop-take, take-append-le, take-append-drop}
+use Rattle.std.proofs.lemmas.List.Edits.{take-paste}
+use Rattle.std.proofs.Math.Seq.{paste, take-append-add}
 use Rattle.std.proofs.Math.Nat.{suc-mul, mod-add-mod}
 use Rattle.fib_codec.specs.Layouts.{layout_mode, frame_fibs}
 use Rattle.mux_config.specs.declared.flags.Change.{Change}
@@ -180,7 +181,7 @@ header_small plan s header is =
     let small = header_small_by s.eid (bits_of change) (low_of_swap s.count s.left) (is_noticed plan.notice s.left) (bits_small change.subs change.services) in
     subst (λ (h : Header). h.change < 4) (sym is) small
 
--- ---- in a batch
+-- ---- in a buffer of bytes
 
 pub copied : (b : List ℕ) (offset len : ℕ) (copy : List ℕ) → len ≤ offset → offset + len ≤ length b → copy ≡ take offset b ++ (take len b ++ drop (offset + len) b)
     → take len (drop offset copy) ≡ take len (take offset b)
@@ -203,3 +204,17 @@ appended b copy text last offset len fits is long is_last =
     ∙ ap (λ (k : ℕ). take (k + len) (take offset b ++ (text ++ past))) (sym front)
     ∙ take-append-add (take offset b) (text ++ past) len
     ∙ ap (λ (l : List ℕ). take offset b ++ l) (take_at text past len long)
+
+-- the first bytes are removed, and the others moved to the front
+pub moved : (bytes after : List ℕ) (len count : ℕ) → count ≤ length (take len bytes) → len ≤ length bytes → after ≡ copy_within bytes count len 0 → take (len - count) after ≡ drop count (take len bytes)
+moved bytes after len count few fits is =
+    let front : length (take len bytes) ≡ len = length-take-le len bytes fits in
+    let left : ℕ = len - count in
+    let start : 0 + left ≡ left = omega arith in
+    let all : count + left ≡ len = omega (arith, few, front) in
+    let rest : length (drop count bytes) ≡ length bytes - count = length-drop count bytes in
+    ap (λ (l : List ℕ). take left l) is
+    ∙ ap (λ (n : ℕ). take n (paste bytes 0 (drop count bytes) left)) (sym start)
+    ∙ take-paste bytes 0 (drop count bytes) left (omega arith) (omega (arith, rest, fits))
+    ∙ sym (drop-take count left bytes)
+    ∙ ap (λ (n : ℕ). drop count (take n bytes)) all

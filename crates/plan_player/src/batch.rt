@@ -1,14 +1,14 @@
 //! A buffer of frames that go to a sink together.
 
-ghost use Rattle.std.specs.Prelude.{◌≡◌, ℕ, List, ◌+◌, ◌*◌, ◌<◌, ◌≤◌, [], ◌++◌, length, take, drop};
+ghost use Rattle.std.specs.Prelude.{◌≡◌, ℕ, List, ◌+◌, ◌*◌, ◌<◌, ◌≤◌, ◌++◌, length, take, drop};
 ghost use Rattle.fib_codec.specs.Layouts.{frame_fibs};
 ghost use Rattle.plan_player.specs.Stretch.{AreRecounted};
 
+use crate::bytes::Bytes;
 use crate::machine::Header;
 use crate::recount::recount_frames;
 use plan_code::Plan;
 use plan_code::limits::COUNTS;
-use std::marker::Model;
 
 /// The size of a batch in bytes.
 const SIZE: usize = 16_384;
@@ -16,31 +16,8 @@ const SIZE: usize = 16_384;
 /// The maximum number of frames in a batch; they fit in every mode.
 pub(crate) const MOST_FRAMES: u16 = 128;
 
-/// The bytes of up to 128 frames, one after another. Clearing it only resets the length.
-#[derive(Drop)]
-pub(crate) struct Batch {
-    bytes: [u8; SIZE],
-    len: usize,
-}
-
-impl Model for Batch {
-    ghost use Rattle.std.specs.Prelude.{ℕ, List, ◌≡◌, ◌≤◌, length, take};
-
-    ghost Value = { List ℕ };
-
-    ghost view = { λ b. take b.len b.bytes };
-
-    ghost invariant = { λ b. (b.len ≤ 16384) × (length b.bytes ≡ 16384) };
-}
-
-/// Overwrites bytes with a piece, from an offset on.
-fn write_at(bytes: &mut [u8], offset: usize, piece: &[u8])
-    requires { offset + length piece.now ≤ length bytes.old }
-    ensures { bytes.new ≡ take offset bytes.old
-        ++ (piece.now ++ drop (offset + length piece.now) bytes.old) }
-{
-    bytes[offset..offset + piece.len()].copy_from_slice(piece);
-}
+/// The bytes of up to 128 frames, one after another.
+pub(crate) type Batch = Bytes<SIZE>;
 
 /// Copies the first `len` bytes to an offset.
 fn copy_front(bytes: &mut [u8], len: usize, offset: usize)
@@ -53,33 +30,7 @@ fn copy_front(bytes: &mut [u8], len: usize, offset: usize)
     behind[..len].copy_from_slice(&front[..len]);
 }
 
-impl Batch {
-    /// An empty batch.
-    pub(crate) fn new() -> Batch
-        ensures { result ≡ [] }
-    {
-        Batch {
-            bytes: [0; SIZE],
-            len: 0,
-        }
-    }
-
-    /// The bytes.
-    pub(crate) fn as_slice(&self) -> &[u8]
-        ensures { result.now ≡ self.now }
-    {
-        &self.bytes[..self.len]
-    }
-
-    /// Appends these bytes, for which there has to be room.
-    pub(crate) fn append(&mut self, bytes: &[u8])
-        requires { length self.old + length bytes.now ≤ 16384 }
-        ensures { self.new ≡ self.old ++ bytes.now }
-    {
-        write_at(&mut self.bytes, self.len, bytes);
-        self.len += bytes.len();
-    }
-
+impl Bytes<SIZE> {
     /// Appends this many frames, starting with this count, for which there has to be room: copies of its first frames
     /// that differ in the count alone.
     pub(crate) fn repeat(&mut self, plan: &Plan, header: Header, count: u16, frames: u16)
@@ -98,12 +49,5 @@ impl Batch {
         let copy = &mut self.bytes[offset..offset + len];
         recount_frames(plan, header, count, frames, copy);
         self.len += len;
-    }
-
-    /// Removes all bytes.
-    pub(crate) fn clear(&mut self)
-        ensures { self.new ≡ [] }
-    {
-        self.len = 0;
     }
 }

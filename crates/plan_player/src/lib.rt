@@ -8,6 +8,7 @@
 #![tactic(auto)]
 
 mod batch;
+pub mod bytes;
 mod count_tables;
 pub mod delivery;
 pub mod fault;
@@ -21,6 +22,7 @@ mod recount;
 pub mod sink;
 mod stretch;
 
+pub use bytes::Bytes;
 pub use delivery::play;
 pub use fault::{PlayFault, StartFault};
 pub use frames::play_frames;

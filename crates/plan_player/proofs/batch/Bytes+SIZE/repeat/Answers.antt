@@ -1,7 +1,7 @@
 use Rattle.std.proofs.Common.{◌≡◌, ℕ, List, ◌+◌, ◌-◌, ◌*◌, ◌≤◌, ◌++◌, sym, ap, ap₂, ◌∙◌, arith, length, take, drop, length-take-le}
 use Rattle.fib_codec.specs.Layouts.{frame_fibs}
 use Rattle.plan_player.proofs.Cycles.{copied, appended}
-use Rattle.plan_player.proofs.batch.Batch.repeat.Goals as goal
+use Rattle.plan_player.proofs.batch.Bytes+SIZE.repeat.Goals as goal
 
 pub returns : goal.returns
 returns c =
