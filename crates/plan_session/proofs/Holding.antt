@@ -1,38 +1,9 @@
--- Bytes that are held: in a block, and at the end of a playback.
-use Rattle.std.proofs.Common.{length-drop, ◌≡◌, ℕ, suc, ◌+◌, ◌-◌, ◌*◌, ◌<◌, ◌≤◌, List, length, ◌++◌, take, drop, sym, ap, subst, ◌∙◌, arith, inl, inr}
+-- The bytes that are held at the end of a playback.
+use Rattle.std.proofs.Common.{◌≡◌, ℕ, suc, ◌+◌, ◌-◌, ◌*◌, ◌<◌, ◌≤◌, sym, ap, subst, ◌∙◌, arith, inl, inr}
 use Rattle.std.specs.Int.{div_ceil}
-use Rattle.std.specs.List.{copy_within}
 use Rattle.std.proofs.lemmas.Bool.{cases_lt}
 use Rattle.std.proofs.lemmas.Grind.{div_ceil_times}
-use Rattle.std.proofs.lemmas.List.{length-take-le, drop-take}
-use Rattle.std.proofs.lemmas.List.Edits.{take-paste}
 use Rattle.std.proofs.Math.Nat.{add-mul, mul-le-mul_right, suc-mul}
-use Rattle.std.proofs.Math.Seq.{paste, take-append-add, take-append_seam}
-
--- ---- in a block
-
-pub filled : (bytes piece rest : List ℕ) (len : ℕ) → len ≤ length bytes → take (len + length piece) (take len bytes ++ (piece ++ rest)) ≡ take len bytes ++ piece
-filled bytes piece rest len fits =
-    let front : length (take len bytes) ≡ len = length-take-le len bytes fits in
-    ap (λ (n : ℕ). take (n + length piece) (take len bytes ++ (piece ++ rest))) (sym front)
-    ∙ take-append-add (take len bytes) (piece ++ rest) (length piece)
-    ∙ ap (λ (l : List ℕ). take len bytes ++ l) (take-append_seam piece rest)
-
--- the first bytes are removed, and the others moved to the front
-pub moved : (bytes after : List ℕ) (len count : ℕ) → count ≤ length (take len bytes) → len ≤ length bytes → after ≡ copy_within bytes count len 0 → take (len - count) after ≡ drop count (take len bytes)
-moved bytes after len count few fits is =
-    let front : length (take len bytes) ≡ len = length-take-le len bytes fits in
-    let left : ℕ = len - count in
-    let start : 0 + left ≡ left = omega arith in
-    let all : count + left ≡ len = omega (arith, few, front) in
-    let rest : length (drop count bytes) ≡ length bytes - count = length-drop count bytes in
-    ap (λ (l : List ℕ). take left l) is
-    ∙ ap (λ (n : ℕ). take n (paste bytes 0 (drop count bytes) left)) (sym start)
-    ∙ take-paste bytes 0 (drop count bytes) left (omega arith) (omega (arith, rest, fits))
-    ∙ sym (drop-take count left bytes)
-    ∙ ap (λ (n : ℕ). drop count (take n bytes)) all
-
--- ---- at the end of a playback
 
 -- no more frames are undelivered than there are
 back_fits : (frames short size : ℕ) → 0 < size → short ≤ frames * size → div_ceil short size ≤ frames

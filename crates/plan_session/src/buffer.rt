@@ -3,17 +3,19 @@
 ghost use Rattle.std.specs.Prelude.{◌≡◌, ◌+◌, ◌*◌, ◌<◌, ◌≤◌, length, take, true, false, IfSome, IfNone};
 ghost use Rattle.std.specs.Io.KnownBytes.{Appends, Keeps};
 
-use crate::block::Block;
-use plan_player::{Sink, put_all};
+use plan_player::{Bytes, Sink, put_all};
 
-/// A sink that passes bytes to an inner sink in pieces of up to 98,304: about 24 seconds of frames.
+/// The capacity of a buffer in bytes: about 24 seconds of frames.
+const SIZE: usize = 98_304;
+
+/// A sink that passes bytes to an inner sink in pieces of up to 98,304.
 ///
 /// It has taken what the inner sink has taken, followed by what it holds. It has failed when the inner sink has; after
 /// that nothing is put into the inner sink.
 #[derive(Drop)]
 pub(crate) struct Buffer<K> {
     out: K,
-    held: Block,
+    held: Bytes<SIZE>,
 }
 
 impl<K: Sink> Buffer<K> {
@@ -26,7 +28,7 @@ impl<K: Sink> Buffer<K> {
     {
         Buffer {
             out,
-            held: Block::new(),
+            held: Bytes::new(),
         }
     }
 

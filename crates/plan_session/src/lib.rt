@@ -11,7 +11,6 @@
 //! and its faults in `specs/Playback.antt`.
 #![tactic(auto)]
 
-mod block;
 mod buffer;
 pub mod buffered;
 pub mod byte_reading;
