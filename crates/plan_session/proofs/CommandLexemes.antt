@@ -68,6 +68,20 @@ told_by s t xs ys e =
     let both = head_told _ _ _ _ (sym (split s xs) ∙ e ∙ split t ys) in
     (sym (seconds (keyword_in s)) ∙ ap second both.0 ∙ seconds (keyword_in t), both.1)
 
+whole : (s : Command) → command_lexemes s ≡ keyword_text (keyword_in s) ∷ tail_words s
+whole (Contact c closed) = refl
+whole (Run n) = refl
+whole Next = refl
+whole (Break line) = refl
+whole Clear = refl
+whole Show = refl
+
+-- a command that begins with a keyword
+pub keyword_told : (s : Command) (k : Keyword) (more : List (List ℕ)) → command_lexemes s ≡ keyword_text k ∷ more → (number_of (keyword_in s) ≡ number_of k) × (tail_words s ≡ more)
+keyword_told s k more e =
+    let both = head_told _ _ _ _ (sym (whole s) ∙ e) in
+    (sym (seconds (keyword_in s)) ∙ ap second both.0 ∙ seconds k, both.1)
+
 -- ---- one command
 
 same_contact : (c d : ℕ) (b e : Bool) (xs ys : List (List ℕ)) → c < 16 → d < 16 → decimal c ∷ level_text b ∷ xs ≡ decimal d ∷ level_text e ∷ ys → (Contact c b ≡ Contact d e) × (xs ≡ ys)

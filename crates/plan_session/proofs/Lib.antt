@@ -4,6 +4,9 @@ mod ByteVectors
 mod CharacterSteps
 mod CommandLexemes
 mod Cutting
+mod FaultLaws
+mod FaultVectors
+mod FaultyItems
 mod FirstReadings
 mod Holding
 mod ItemHeads
@@ -27,4 +30,8 @@ pub mod Requests
 mod SplitTexts
 mod StepLexemes
 mod Steps
+mod TextEnds
 mod Windows
+mod WrongCommands
+mod WrongItems
+mod WrongSteps

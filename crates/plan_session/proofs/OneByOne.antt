@@ -9,8 +9,13 @@ use Rattle.script_tokens.specs.declared.token.Token.{Token}
 use Rattle.script_tokens.specs.Lexing.{added}
 use Rattle.script_tokens.specs.Reading.{AreWithin, lexemes_of}
 use Rattle.script_tokens.specs.Scanning.{Scan, FindsNext, Advances, tokens_left, bytes_left}
+use Rattle.plan_session.specs.declared.event_fault.EventFault.{EventFault}
+use Rattle.plan_session.specs.declared.item_fault.Wrong.{Wrong}
 use Rattle.plan_session.specs.Items.{AreUnique, HasLexemes, HoldsItems}
-use Rattle.plan_session.specs.Listing.{as_lexemes, lexemes_left, Lists, TakesItem, all_added, preceded, HasNoTokens, TakesUpTo, ReadsItem, FindsItem}
+use Rattle.plan_session.specs.ItemFaults.{HasItemFault, ReportsItemFault, IsWrongItem}
+use Rattle.plan_session.specs.Kept.{reported_fault}
+use Rattle.plan_session.specs.Listing.{as_lexemes, lexemes_left, Lists, TakesItem, all_added, preceded, HasNoTokens, TakesUpTo, ReadsItem, PassesItem, HasFaultLeft, FindsItem}
+use Rattle.plan_session.proofs.FaultyItems.{count_lexemes, fault_after_item, fault_in_item}
 
 -- ---- tokens before others
 
@@ -37,10 +42,6 @@ lexemes_of_all text (t ∷ ts) r =
     lexemes_of_added text t (all_added ts r) ∙ ap (preceded (lexemes_of text (t ∷ []))) (lexemes_of_all text ts r)
     ∙ preceded_twice (lexemes_of text (t ∷ [])) (lexemes_of text ts) (as_lexemes text r)
 
-pub count_lexemes : (text : List ℕ) (ts : List Token) → length (lexemes_of text ts) ≡ length ts
-count_lexemes text [] = refl
-count_lexemes text (t ∷ ts) = omega (arith, count_lexemes text ts)
-
 pub within_join : (n : ℕ) (ts us : List Token) → AreWithin n ts → AreWithin n us → AreWithin n (ts ++ us)
 within_join n [] us h k = k
 within_join n (t ∷ ts) us h k = (h.0, h.1, within_join n ts us h.2 k)
@@ -58,6 +59,18 @@ added_end (t ∷ ts) = ap (added t) (added_end ts)
 tokens_after : (t : Token) (r : Result (List Token) ScriptFault) (all : List Token) → added t r ≡ Ok all → (rest : List Token) × (r ≡ Ok rest)
 tokens_after t (Ok rest) all e = (rest, refl)
 tokens_after t (Err f) all e = absurd cc
+
+added_before : (t : Token) (ts : List Token) (r mid : Result (List Token) ScriptFault) (all : List Token) → ((us : List Token) → mid ≡ Ok us → (rest : List Token) × (r ≡ Ok rest) × (us ≡ ts ++ rest))
+    → added t mid ≡ Ok all → (rest : List Token) × (r ≡ Ok rest) × (all ≡ (t ∷ ts) ++ rest)
+added_before t ts r (Err f) all on e = absurd cc
+added_before t ts r (Ok us) all on e =
+    let o = on us refl in
+    let tail = o.2 in
+    (o.0, o.1, cc (tail, e))
+
+all_after : (ts : List Token) (r : Result (List Token) ScriptFault) (all : List Token) → all_added ts r ≡ Ok all → (rest : List Token) × (r ≡ Ok rest) × (all ≡ ts ++ rest)
+all_after [] r all e = (all, e, refl)
+all_after (t ∷ ts) r all e = added_before t ts r (all_added ts r) all (λ us is. all_after ts r us is) e
 
 lexemes_after : (xs : List (List ℕ)) (r : Result (List (List ℕ)) ScriptFault) (all : List (List ℕ)) → preceded xs r ≡ Ok all → (rest : List (List ℕ)) × (r ≡ Ok rest) × (xs ++ rest ≡ all)
 lexemes_after xs (Ok rest) all e = (rest, refl, cc)
@@ -154,7 +167,7 @@ module _ {T : Type 0} (spelled : T → List (List ℕ)) (IsItem : T → Type 0) 
       ∙ ap (λ (x : List ℕ). preceded (lexemes_of old.text (first ∷ more)) (as_lexemes x (tokens_left new))) (sym w.text)
 
   pub item_found : (old new : Scan) (first : Token) (more : List Token) (count : ℕ) (word : List ℕ) (item : T) → HasLexemes spelled → Window old new first more count word
-      → ReadsItem spelled IsItem (lexemes_of old.text (first ∷ more)) (Ok item) → IsItem item × (lexemes_left old ≡ preceded (spelled item) (lexemes_left new))
+      → ReadsItem spelled IsItem old.text (first ∷ more) (Ok item) → IsItem item × (lexemes_left old ≡ preceded (spelled item) (lexemes_left new)) × PassesItem spelled old new item
   item_found old new first more count word item has w r =
       let words = words_of old new first more count word w in
       let front = head_of word (lexemes_of old.text more) (spelled item) r.1.0 (sym words ∙ r.1.1) (λ e. has item [] (ap (λ (l : List (List ℕ)). l ++ []) e)) in
@@ -162,8 +175,11 @@ module _ {T : Type 0} (spelled : T → List (List ℕ)) (IsItem : T → Type 0) 
       let number = count_lexemes old.text more in
       let whole = ap (λ (l : List (List ℕ)). length l) front.2 ∙ length-append front.0 r.1.0 in
       let none : r.1.0 ≡ [] = no_items_empty r.1.0 (omega (arith, size, number, whole, w.most)) in
-      let all : lexemes_of old.text (first ∷ more) ≡ spelled item = r.1.1 ∙ ap (λ (l : List (List ℕ)). spelled item ++ l) none ∙ append-nil (spelled item) in
-      (r.0, left_by old new first more count word w ∙ ap (λ (l : List (List ℕ)). preceded l (lexemes_left new)) all)
+      let all : lexemes_of old.text (first ∷ more) ≡ spelled item = r.1.1 ∙ ap (λ (l : List (List ℕ)). spelled item ++ l) none ∙ append-nil (spelled item) in (
+        r.0,
+        left_by old new first more count word w ∙ ap (λ (l : List (List ℕ)). preceded l (lexemes_left new)) all,
+        record { tokens = first ∷ more; lexemes = all; left = w.left; text = w.text },
+      )
 
   none_by : (old new : Scan) (first : Token) (more : List Token) (count : ℕ) (word : List ℕ) (item : T) (rest later : List (List ℕ)) → HasLexemes spelled → Window old new first more count word
       → ((s : T) (xs : List (List ℕ)) → IsItem s → lexemes_of old.text (first ∷ more) ≢ spelled s ++ xs) → IsItem item
@@ -181,13 +197,39 @@ module _ {T : Type 0} (spelled : T → List (List ℕ)) (IsItem : T → Type 0) 
       none item [] is (words ∙ ap (λ (l : List (List ℕ)). word ∷ l) tail ∙ sym front.1 ∙ sym (append-nil (spelled item)))
 
   pub no_item_found : (old new : Scan) (first : Token) (more : List Token) (count : ℕ) (word : List ℕ) (e : ScriptFault) → HasLexemes spelled → Window old new first more count word
-      → ReadsItem spelled IsItem (lexemes_of old.text (first ∷ more)) (Err e) → (items : List T) → Lists spelled IsItem old items → ⊥
+      → ReadsItem spelled IsItem old.text (first ∷ more) (Err e) → (items : List T) → Lists spelled IsItem old items → ⊥
   no_item_found old new first more count word e has w r [] l =
       let after = lexemes_after (lexemes_of old.text (first ∷ more)) (lexemes_left new) [] (sym (left_by old new first more count word w) ∙ l.left) in
       absurd (cc after.2)
   no_item_found old new first more count word e has w r (s ∷ ss) l =
       let after = lexemes_after (lexemes_of old.text (first ∷ more)) (lexemes_left new) (flat_map spelled (s ∷ ss)) (sym (left_by old new first more count word w) ∙ l.left) in
       none_by old new first more count word s (flat_map spelled ss) after.0 has w r.1 l.in_range.0 after.1 after.2 w.all
+
+  -- where an item can't be read because the tokens end, no token follows
+  last_by : (old new : Scan) (first : Token) (more later : List Token) (count : ℕ) (word : List ℕ) (wrong : Wrong) → Window old new first more count word → IsWrongItem spelled IsItem (lexemes_of old.text (first ∷ more)) wrong
+      → tokens_left new ≡ Ok later → wrong.index ≡ length (first ∷ more) → (length more ≡ count) ⊎ (tokens_left new ≡ Ok []) → later ≡ []
+  last_by old new first more later count word wrong w h is index (inr end) = cc (sym is ∙ end)
+  last_by old new first more later count word wrong w h is index (inl full) =
+      let words = words_of old new first more count word w in
+      let long : length h.front ≡ length more + 1 = sym h.index ∙ index ∙ omega arith in
+      let front = head_of word (lexemes_of old.text more) h.front h.rest (sym words ∙ h.whole) (λ e. let none = ap (λ (l : List (List ℕ)). length l) e in absurd (omega (arith, none, long))) in
+      let tail = front.0 in
+      let size = w.counts h.item (tail ++ h.next ∷ h.more) (h.begins ∙ ap (λ (l : List (List ℕ)). l ++ h.next ∷ h.more) front.1) in
+      let joined = length-append tail (h.next ∷ h.more) in
+      let one = ap (λ (l : List (List ℕ)). length l) front.1 in
+      absurd (omega (arith, size, joined, one, long, full))
+
+  pub fault_found : (old new : Scan) (first : Token) (more : List Token) (count : ℕ) (word : List ℕ) (e : ScriptFault) → AreUnique spelled IsItem → HasLexemes spelled → Window old new first more count word
+      → ReadsItem spelled IsItem old.text (first ∷ more) (Err e) → HasFaultLeft spelled IsItem old e
+  fault_found old new first more count word e unique has w r = λ tokens is.
+      let after = all_after (first ∷ more) (tokens_left new) tokens (sym w.left ∙ is) in
+      let wrong : Wrong = r.2.0 in
+      let fault = fault_in_item spelled IsItem unique has old.text (first ∷ more) after.0 wrong (λ none. absurd cc) r.2.1 (λ index. last_by old new first more after.0 count word wrong w r.2.1 after.1 index w.all) in
+      subst (λ (l : List Token). HasItemFault spelled IsItem old.text l (reported_fault e)) (sym after.2)
+      (subst (λ (f : ScriptFault). HasItemFault spelled IsItem old.text ((first ∷ more) ++ after.0) (reported_fault f)) (sym r.2.2) fault)
+
+  pub no_fault_left : (s : Scan) (e : ScriptFault) → HasNoTokens s → HasFaultLeft spelled IsItem s e
+  no_fault_left s e none = λ tokens is. absurd (none tokens is)
 
 -- ---- one item after another
 
@@ -200,6 +242,14 @@ module _ {T : Type 0} (spelled : T → List (List ℕ)) (IsItem : T → Type 0) 
       let after = lexemes_after (spelled item) (lexemes_left new) (flat_map spelled (s ∷ ss)) (sym f.1 ∙ l.left) in
       let both = unique item s after.0 (flat_map spelled ss) f.0 l.in_range.0 after.2 in
       (ss, ap (λ (x : T). x ∷ ss) (sym both.0), record { left = after.1 ∙ ap (λ (l : List (List ℕ)). Ok l) both.1; in_range = l.in_range.1 })
+
+  pub fault_left : (old new : Scan) (item : T) (e : ScriptFault) → FindsItem spelled IsItem old new (Ok (Some item)) → HasFaultLeft spelled IsItem new e → HasFaultLeft spelled IsItem old e
+  fault_left old new item e f h = λ tokens is.
+      let p : PassesItem spelled old new item = f.4 in
+      let after = all_after p.tokens (tokens_left new) tokens (sym p.left ∙ is) in
+      let later = subst (λ (x : List ℕ). HasItemFault spelled IsItem x after.0 (reported_fault e)) p.text (h after.0 after.1) in
+      subst (λ (l : List Token). HasItemFault spelled IsItem old.text l (reported_fault e)) (sym after.2)
+      (fault_after_item spelled IsItem unique has old.text item p.tokens after.0 (reported_fault e) f.0 p.lexemes later)
 
   no_items : (items : List T) → flat_map spelled items ≡ [] → items ≡ []
   no_items [] e = refl
@@ -221,10 +271,11 @@ pub record HaveRead {T : Type 0} (spelled : T → List (List ℕ)) (IsItem : T �
   pub in_range : AllByRecursion IsItem done
   pub left : lexemes_left old ≡ preceded (flat_map spelled done) (lexemes_left now)
   pub on : (all : List T) → Lists spelled IsItem old all → (rest : List T) × Lists spelled IsItem now rest
+  pub fault : (e : ScriptFault) → HasFaultLeft spelled IsItem now e → HasFaultLeft spelled IsItem old e
 
 module _ {T : Type 0} (spelled : T → List (List ℕ)) (IsItem : T → Type 0) where
   pub none_read : (s : Scan) → HaveRead spelled IsItem s s
-  none_read s = record { done = []; in_range = tt; left = preceded_none (lexemes_left s); on = λ all l. (all, l) }
+  none_read s = record { done = []; in_range = tt; left = preceded_none (lexemes_left s); on = λ all l. (all, l); fault = λ e f. f }
 
   each_pushed : (done : List T) (s : T) → AllByRecursion IsItem done → IsItem s → AllByRecursion IsItem (done ++ s ∷ [])
   each_pushed [] s h is = (is, tt)
@@ -241,6 +292,7 @@ module _ {T : Type 0} (spelled : T → List (List ℕ)) (IsItem : T → Type 0) 
     left = h.left ∙ ap (preceded (flat_map spelled h.done)) f.1 ∙ preceded_twice (flat_map spelled h.done) (spelled item) (lexemes_left new)
         ∙ ap (λ (l : List (List ℕ)). preceded l (lexemes_left new)) (sym (flat_pushed h.done item));
     on = λ all l. let o = h.on all l in let t = took spelled IsItem unique has mid new item o.0 f o.1 in (t.0, t.2);
+    fault = λ e later. h.fault e (fault_left spelled IsItem unique has mid new item e f later);
   }
 
   pub all_read : (old mid new : Scan) → HaveRead spelled IsItem old mid → FindsItem spelled IsItem mid new (Ok None) → (items : List T) × Lists spelled IsItem old items
@@ -266,3 +318,9 @@ module _ {T : Type 0} (spelled : T → List (List ℕ)) (IsItem : T → Type 0) 
       let here : Lists spelled IsItem start items = subst (λ (x : Scan). Lists spelled IsItem x items) is l in
       let left = tokens_of_left text (tokens_left start) (flat_map spelled items) here.left in
       record { tokens = left.0; cut = left.1; lexemes = left.2; in_range = here.in_range }
+
+  pub fault_of_text : (text : List ℕ) (s : Scan) (e : ScriptFault) (f : EventFault) → s ≡ record { text = text; limits = NO_LIMITS; place = first_position } → f ≡ reported_fault e → HasFaultLeft spelled IsItem s e → ReportsItemFault spelled IsItem text f
+  fault_of_text text s e f is same h = λ tokens cut.
+      let start : Scan = record { text = text; limits = NO_LIMITS; place = first_position } in
+      let here : HasFaultLeft spelled IsItem start e = subst (λ (x : Scan). HasFaultLeft spelled IsItem x e) is h in
+      subst (HasItemFault spelled IsItem text tokens) (sym same) (here tokens cut)

@@ -6,6 +6,7 @@ pub mod Events
 pub mod FilePlayback
 pub mod Gathered
 pub mod InParts
+pub mod ItemFaults
 pub mod Items
 pub mod Kept
 pub mod Listing

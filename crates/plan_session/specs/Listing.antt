@@ -8,9 +8,12 @@ use Rattle.script_tokens.specs.Lexing.{added}
 use Rattle.script_tokens.specs.Reading.{AreWithin, lexemes_of}
 use Rattle.script_tokens.specs.Scanning.{Scan, tokens_left, bytes_left}
 use Rattle.plan_session.specs.declared.command.Command.{Command}
+use Rattle.plan_session.specs.declared.item_fault.Wrong.{Wrong}
 use Rattle.plan_session.specs.declared.step.Step.{Step}
 use Rattle.plan_session.specs.Commands.{IsCommand, command_lexemes}
 use Rattle.plan_session.specs.Events.{IsStep, step_lexemes}
+use Rattle.plan_session.specs.ItemFaults.{HasItemFault, IsWrongItem, fault_at}
+use Rattle.plan_session.specs.Kept.{reported_fault}
 
 -- the tokens as their bytes, or the first fault
 abbrev pub as_lexemes : List ℕ → Result (List Token) ScriptFault → Result (List (List ℕ)) ScriptFault
@@ -80,14 +83,27 @@ abbrev pub TakesTokens : ℕ → Scan → Scan → (before after : List Token) �
 TakesTokens count old new before after (Ok done) = (tokens : List Token) × (after ≡ before ++ tokens) × TakesUpTo count old new tokens
 TakesTokens count old new before after (Err e) = (e ≢ Memory) × HasNoTokens old
 
--- the tokens begin with the item; or they begin with none
-abbrev pub ReadsItem : {T : Type 0} → (T → List (List ℕ)) → (T → Type 0) → List (List ℕ) → Result T ScriptFault → Type 0
-ReadsItem {T} spelled IsItem lexemes (Ok item) = IsItem item × ((rest : List (List ℕ)) × (lexemes ≡ spelled item ++ rest))
-ReadsItem {T} spelled IsItem lexemes (Err e) = (e ≢ Memory) × ((item : T) (rest : List (List ℕ)) → IsItem item → lexemes ≢ spelled item ++ rest)
+-- the tokens begin with the item; or they begin with none, and this is the fault of the first that is wrong
+abbrev pub ReadsItem : {T : Type 0} → (T → List (List ℕ)) → (T → Type 0) → List ℕ → List Token → Result T ScriptFault → Type 0
+ReadsItem {T} spelled IsItem text tokens (Ok item) = IsItem item × ((rest : List (List ℕ)) × (lexemes_of text tokens ≡ spelled item ++ rest))
+ReadsItem {T} spelled IsItem text tokens (Err e) =
+    (e ≢ Memory) × ((item : T) (rest : List (List ℕ)) → IsItem item → lexemes_of text tokens ≢ spelled item ++ rest)
+    × ((wrong : Wrong) × IsWrongItem spelled IsItem (lexemes_of text tokens) wrong × (e ≡ fault_at text tokens wrong))
 
--- the next item, if no token is at fault; none at the end of the text; or a fault of a text that lists no items
+-- these are the tokens of the item, and the others are left
+pub record PassesItem {T : Type 0} (spelled : T → List (List ℕ)) (old new : Scan) (item : T) : Type 0 where
+  pub tokens : List Token
+  pub lexemes : lexemes_of old.text tokens ≡ spelled item
+  pub left : tokens_left old ≡ all_added tokens (tokens_left new)
+  pub text : new.text ≡ old.text
+
+-- where tokens are left, and none is refused, this is their fault
+abbrev pub HasFaultLeft : {T : Type 0} → (T → List (List ℕ)) → (T → Type 0) → Scan → ScriptFault → Type 0
+HasFaultLeft {T} spelled IsItem s e = (tokens : List Token) → tokens_left s ≡ Ok tokens → HasItemFault spelled IsItem s.text tokens (reported_fault e)
+
+-- the next item, if no token is at fault; none at the end of the text; or the fault of a text that lists no items
 abbrev pub FindsItem : {T : Type 0} → (T → List (List ℕ)) → (T → Type 0) → Scan → Scan → Result (Option T) ScriptFault → Type 0
 FindsItem {T} spelled IsItem old new (Ok None) = (lexemes_left old ≡ Ok []) × (new ≡ old)
 FindsItem {T} spelled IsItem old new (Ok (Some item)) =
-    IsItem item × (lexemes_left old ≡ preceded (spelled item) (lexemes_left new)) × (bytes_left new < bytes_left old) × (bytes_left old < 18446744073709551616)
-FindsItem {T} spelled IsItem old new (Err e) = (e ≢ Memory) × ((items : List T) → Lists spelled IsItem old items → ⊥)
+    IsItem item × (lexemes_left old ≡ preceded (spelled item) (lexemes_left new)) × (bytes_left new < bytes_left old) × (bytes_left old < 18446744073709551616) × PassesItem spelled old new item
+FindsItem {T} spelled IsItem old new (Err e) = (e ≢ Memory) × ((items : List T) → Lists spelled IsItem old items → ⊥) × HasFaultLeft spelled IsItem old e

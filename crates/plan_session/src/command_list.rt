@@ -35,6 +35,7 @@ impl<'a> CommandList<'a> {
     ghost use Rattle.plan_session.specs.declared.command.Command.{Command};
     ghost use Rattle.plan_session.specs.declared.event_fault.EventFault.TheVariants.{Memory};
     ghost use Rattle.plan_session.specs.Commands.{HoldsCommands};
+    ghost use Rattle.plan_session.specs.ItemFaults.{ReportsCommandFault};
     ghost use Rattle.plan_session.specs.Kept.{ReportsFirstFault};
     ghost use Rattle.plan_session.specs.Listing.{ListsCommands, TakesCommand};
 
@@ -51,6 +52,7 @@ impl<'a> CommandList<'a> {
             × ListsCommands list commands) }
         ensures only { IfErr result (λ e. (all : List Command) → HoldsCommands text.now all → ⊥) }
         ensures first { IfErr result (λ e. ReportsFirstFault text.now e) }
+        ensures fault { IfErr result (λ e. ReportsCommandFault text.now e) }
         ensures named { IfErr result (λ e. e ≢ Memory) }
     {
         match list_items::<Command>(text) {

@@ -1,20 +1,21 @@
 //! Reading command files.
 
 ghost use Rattle.std.specs.Prelude.{◌≡◌, ◌≢◌, ℕ, List, ◌∷◌, ◌++◌, IfOk, IfErr, IfSome, IfNone};
-ghost use Rattle.script_tokens.specs.declared.fault.ScriptFault.TheVariants.{Memory as NoMemory};
 ghost use Rattle.plan_session.specs.declared.command.Command.{Command};
 ghost use Rattle.plan_session.specs.declared.commands.Keyword.{Keyword};
 ghost use Rattle.plan_session.specs.declared.event_fault.EventFault.TheVariants.{Memory};
 ghost use Rattle.plan_session.specs.Commands.{IsCommand, command_lexemes, HoldsCommands};
+ghost use Rattle.plan_session.specs.ItemFaults.{IsWrongItem, ReportsCommandFault};
 ghost use Rattle.plan_session.specs.Kept.{ReportsFirstFault};
 ghost use Rattle.plan_session.specs.Keywords.{keyword_text, tokens_after};
 
 use crate::command::Command;
 use crate::event_fault::EventFault;
-use crate::items::{Item, change, read_items};
+use crate::item_fault::{NO_ITEM, Wrong};
+use crate::items::{Item, change, number};
+use crate::reading::read_items;
 use plan_code::limits::FRAMES_A_DAY;
-use script_tokens::values::decimal;
-use script_tokens::{Reader, ScriptFault};
+use script_tokens::Reader;
 use std::alloc::Global;
 
 /// The keywords of commands.
@@ -56,28 +57,29 @@ fn tokens_after(keyword: Keyword) -> usize
 }
 
 /// The rest of a command, after its keyword.
-fn command_after(keyword: Keyword, reader: &mut Reader) -> Result<Command, ScriptFault>
+fn command_after(keyword: Keyword, reader: &mut Reader) -> Result<Command, Wrong>
     ensures read { IfOk result (λ s. keyword_text keyword ∷ reader.old.lexemes
         ≡ command_lexemes s ++ reader.new.lexemes) }
     ensures range { IfOk result IsCommand }
     ensures none { IfErr result (λ e. (s : Command) (rest : List (List ℕ)) → IsCommand s
         → keyword_text keyword ∷ reader.old.lexemes ≢ command_lexemes s ++ rest) }
-    ensures named { IfErr result (λ e. e ≢ NoMemory) }
+    ensures wrong { IfErr result (λ e.
+        IsWrongItem command_lexemes IsCommand (keyword_text keyword ∷ reader.old.lexemes) e) }
 {
     match keyword {
-        Keyword::Contact => {
-            let (contact, closed) = change(reader)?;
-            Ok(Command::Contact(contact, closed))
-        }
-        Keyword::Run => {
-            let frames = decimal(reader, 1, FRAMES_A_DAY)?;
-            Ok(Command::Run(frames))
-        }
+        Keyword::Contact => match change(reader) {
+            Ok((contact, closed)) => Ok(Command::Contact(contact, closed)),
+            Err(wrong) => Err(wrong),
+        },
+        Keyword::Run => match number(reader, 1, FRAMES_A_DAY) {
+            Ok(frames) => Ok(Command::Run(frames)),
+            Err(wrong) => Err(wrong),
+        },
         Keyword::Next => Ok(Command::Next),
-        Keyword::Break => {
-            let line = decimal(reader, 1, 65_535)?;
-            Ok(Command::Break(line as u16))
-        }
+        Keyword::Break => match number(reader, 1, 65_535) {
+            Ok(line) => Ok(Command::Break(line as u16)),
+            Err(wrong) => Err(wrong),
+        },
         Keyword::Clear => Ok(Command::Clear),
         Keyword::Show => Ok(Command::Show),
     }
@@ -97,12 +99,12 @@ impl Item for Command {
         }
     }
 
-    fn read(reader: &mut Reader) -> Result<Command, ScriptFault> {
+    fn read(reader: &mut Reader) -> Result<Command, Wrong> {
         let Some(word) = reader.peek() else {
-            return Err(reader.expected());
+            return Err(NO_ITEM);
         };
         let Some(keyword) = keyword_of(word) else {
-            return Err(reader.expected());
+            return Err(NO_ITEM);
         };
         reader.advance();
         command_after(keyword, reader)
@@ -123,6 +125,7 @@ pub fn read_commands(alloc: Global, text: &str) -> Result<Vec<Command>, EventFau
     ensures only { IfErr result (λ e. e ≢ Memory → (all : List Command)
         → HoldsCommands text.now all → ⊥) }
     ensures first { IfErr result (λ e. e ≢ Memory → ReportsFirstFault text.now e) }
+    ensures fault { IfErr result (λ e. e ≢ Memory → ReportsCommandFault text.now e) }
 {
     read_items(alloc, text)
 }

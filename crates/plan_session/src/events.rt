@@ -1,35 +1,41 @@
 //! Reading event files.
 
 ghost use Rattle.std.specs.Prelude.{◌≡◌, ◌≢◌, Bool, List, ℕ, ◌∷◌, ◌++◌, codes, IfOk, IfErr, IfSome, IfNone};
-ghost use Rattle.script_tokens.specs.declared.fault.ScriptFault.TheVariants.{Memory as NoMemory};
 ghost use Rattle.plan_session.specs.declared.event_fault.EventFault.TheVariants.{Memory};
 ghost use Rattle.plan_session.specs.declared.step.Step.{Step};
 ghost use Rattle.plan_session.specs.Events.{IsStep, step_lexemes, first_lexeme, Holds};
+ghost use Rattle.plan_session.specs.ItemFaults.{IsWrongItem, ReportsStepFault};
 ghost use Rattle.plan_session.specs.Kept.{ReportsFirstFault};
 
 use crate::event_fault::EventFault;
-use crate::items::{Item, change, read_items};
+use crate::item_fault::{NO_ITEM, Wrong};
+use crate::items::{Item, change, number};
+use crate::reading::read_items;
 use crate::step::Step;
 use plan_code::limits::FRAMES_A_DAY;
-use script_tokens::values::decimal;
-use script_tokens::{Reader, ScriptFault};
+use script_tokens::Reader;
 use std::alloc::Global;
 
 /// The rest of a step, after the token `frames`, or otherwise `contact`.
-fn step_after(of_frames: bool, reader: &mut Reader) -> Result<Step, ScriptFault>
+fn step_after(of_frames: bool, reader: &mut Reader) -> Result<Step, Wrong>
     ensures read { IfOk result (λ s. first_lexeme of_frames ∷ reader.old.lexemes
         ≡ step_lexemes s ++ reader.new.lexemes) }
     ensures range { IfOk result IsStep }
     ensures none { IfErr result (λ e. (s : Step) (rest : List (List ℕ)) → IsStep s
         → first_lexeme of_frames ∷ reader.old.lexemes ≢ step_lexemes s ++ rest) }
-    ensures named { IfErr result (λ e. e ≢ NoMemory) }
+    ensures wrong { IfErr result (λ e.
+        IsWrongItem step_lexemes IsStep (first_lexeme of_frames ∷ reader.old.lexemes) e) }
 {
     if of_frames {
-        let frames = decimal(reader, 1, FRAMES_A_DAY)?;
-        Ok(Step::Frames(frames))
+        match number(reader, 1, FRAMES_A_DAY) {
+            Ok(frames) => Ok(Step::Frames(frames)),
+            Err(wrong) => Err(wrong),
+        }
     } else {
-        let (contact, closed) = change(reader)?;
-        Ok(Step::Contact(contact, closed))
+        match change(reader) {
+            Ok((contact, closed)) => Ok(Step::Contact(contact, closed)),
+            Err(wrong) => Err(wrong),
+        }
     }
 }
 
@@ -60,12 +66,12 @@ impl Item for Step {
         }
     }
 
-    fn read(reader: &mut Reader) -> Result<Step, ScriptFault> {
+    fn read(reader: &mut Reader) -> Result<Step, Wrong> {
         let Some(word) = reader.peek() else {
-            return Err(reader.expected());
+            return Err(NO_ITEM);
         };
         let Some(of_frames) = begins_frames(word) else {
-            return Err(reader.expected());
+            return Err(NO_ITEM);
         };
         reader.advance();
         step_after(of_frames, reader)
@@ -84,6 +90,7 @@ pub fn read_events(alloc: Global, text: &str) -> Result<Vec<Step>, EventFault>
     ensures found { IfOk result (λ v. Holds text.now v.items) }
     ensures only { IfErr result (λ e. e ≢ Memory → (all : List Step) → Holds text.now all → ⊥) }
     ensures first { IfErr result (λ e. e ≢ Memory → ReportsFirstFault text.now e) }
+    ensures fault { IfErr result (λ e. e ≢ Memory → ReportsStepFault text.now e) }
 {
     read_items(alloc, text)
 }

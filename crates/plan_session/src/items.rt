@@ -1,27 +1,21 @@
-//! Reading a text that lists items: the steps of an event file, or the commands of a command file.
+//! Reading an item that a text lists: a step of an event file, or a command of a command file.
 
-ghost use Rattle.std.specs.Prelude.{◌≡◌, ◌≢◌, ℕ, ◌<◌, Bool, List, ◌∷◌, ◌++◌, length, flat_map, [], OnOk, IfOk, IfErr};
+ghost use Rattle.std.specs.Prelude.{◌≡◌, ◌≢◌, ℕ, ◌<◌, ◌≤◌, Bool, List, ◌∷◌, ◌++◌, length, [], IfOk, IfErr};
 ghost use Rattle.std.specs.Fmt.{decimal};
-ghost use Rattle.std.specs.List.{AllByRecursion};
-ghost use Rattle.script_tokens.specs.declared.fault.ScriptFault.TheVariants.{Memory as NoMemory};
-ghost use Rattle.script_tokens.specs.Reading.{AreWithin, Passes, lexemes_of};
+ghost use Rattle.script_tokens.specs.Reading.{Passes};
 ghost use Rattle.script_tokens.specs.Spelling.{level_text};
-ghost use Rattle.plan_session.specs.declared.event_fault.EventFault.TheVariants.{Memory};
-ghost use Rattle.plan_session.specs.Items.{HoldsItems};
-ghost use Rattle.plan_session.specs.Kept.{ReportsFirstFault};
+ghost use Rattle.plan_session.specs.ItemFaults.{IsAtomNext, IsNoNumber, IsNoChange};
 
-use crate::event_fault::EventFault;
+use crate::item_fault::Wrong;
 use plan_code::ContactId;
-use script_tokens::token::NO_LIMITS;
-use script_tokens::values::{contact, level};
-use script_tokens::{Reader, ScriptFault, Token, cut};
-use std::alloc::Global;
+use script_tokens::Reader;
+use script_tokens::values::{contact, decimal, level};
 
 /// An item that a text lists, spelled by tokens.
 pub(crate) trait Item: Copy {
     ghost use Rattle.std.specs.Prelude.{◌≡◌, ◌≢◌, ◌≤◌, ℕ, List, ◌∷◌, ◌++◌, length, IfOk, IfErr};
-    ghost use Rattle.script_tokens.specs.declared.fault.ScriptFault.TheVariants.{Memory};
     ghost use Rattle.plan_session.specs.InParts.{BeginOnce};
+    ghost use Rattle.plan_session.specs.ItemFaults.{IsWrongItem};
     ghost use Rattle.plan_session.specs.Items.{AreUnique, HasLexemes};
 
     /// The tokens that spell it.
@@ -43,71 +37,77 @@ pub(crate) trait Item: Copy {
         ensures count { (s : Self) (rest : List (List ℕ)) → spelled s ≡ word.now ∷ rest
             → length rest ≡ result };
 
-    /// Reads the next item.
-    fn read(reader: &mut Reader) -> Result<Self, ScriptFault>
+    /// Reads the next item; the token at which it can't be read, if it can't.
+    fn read(reader: &mut Reader) -> Result<Self, Wrong>
         ensures read { IfOk result (λ s. reader.old.lexemes ≡ spelled s ++ reader.new.lexemes) }
         ensures range { IfOk result is_item }
         ensures none { IfErr result (λ e. (s : Self) (rest : List (List ℕ)) → is_item s
             → reader.old.lexemes ≢ spelled s ++ rest) }
-        ensures named { IfErr result (λ e. e ≢ Memory) };
+        ensures wrong { IfErr result (λ e. IsWrongItem spelled is_item reader.old.lexemes e) };
+}
+
+/// Whether the next token is an atom: no brace, and not the end of the text.
+fn is_atom_next(reader: &Reader) -> bool
+    ensures { IsAtomNext reader.now.lexemes result }
+{
+    match reader.peek() {
+        None => false,
+        Some(b"{") => false,
+        Some(b"}") => false,
+        Some(_atom) => true,
+    }
+}
+
+/// A number from `low` to `high`, the second token of an item.
+pub(crate) fn number(reader: &mut Reader, low: u32, high: u32) -> Result<u32, Wrong>
+    ensures read { IfOk result (λ n. Passes (decimal n ∷ []) reader.old reader.new) }
+    ensures range { IfOk result (λ n. (low ≤ n) × (n ≤ high)) }
+    ensures wrong { IfErr result (λ e. IsNoNumber low high reader.old.lexemes e) }
+{
+    let is_number = is_atom_next(reader);
+    match decimal(reader, low, high) {
+        Ok(value) => Ok(value),
+        Err(_other) => Err(Wrong {
+            index: 1,
+            is_number,
+        }),
+    }
+}
+
+/// A contact, the second token of an item.
+fn contact_number(reader: &mut Reader) -> Result<ContactId, Wrong>
+    ensures read { IfOk result (λ c. Passes (decimal c ∷ []) reader.old reader.new) }
+    ensures range { IfOk result (λ c. c < 16) }
+    ensures wrong { IfErr result (λ e. IsNoNumber 0 15 reader.old.lexemes e) }
+{
+    let is_number = is_atom_next(reader);
+    match contact(reader) {
+        Ok(contact) => Ok(contact),
+        Err(_other) => Err(Wrong {
+            index: 1,
+            is_number,
+        }),
+    }
 }
 
 /// A contact and its level, after `contact`.
-pub(crate) fn change(reader: &mut Reader) -> Result<(ContactId, bool), ScriptFault>
+pub(crate) fn change(reader: &mut Reader) -> Result<(ContactId, bool), Wrong>
     ensures read { IfOk result (λ c. Passes (decimal c.0 ∷ level_text c.1 ∷ []) reader.old
         reader.new) }
     ensures range { IfOk result (λ c. c.0 < 16) }
     ensures none { IfErr result (λ e. (c : ℕ) (closed : Bool) (rest : List (List ℕ)) → c < 16
         → reader.old.lexemes ≢ decimal c ∷ level_text closed ∷ rest) }
-    ensures named { IfErr result (λ e. e ≢ NoMemory) }
+    ensures wrong { IfErr result (λ e. IsNoChange reader.old.lexemes e) }
 {
-    let contact = contact(reader)?;
-    let closed = level(reader)?;
-    Ok((contact, closed))
-}
-
-/// Appends an item.
-fn push<T: Item>(items: &mut Vec<T>, item: T) -> Result<(), ScriptFault>
-    ensures added { OnOk result (items.new.items ≡ items.old.items ++ item ∷ []) }
-    ensures named { IfErr result (λ e. e ≡ NoMemory) }
-{
-    match items.push(item) {
-        Ok(()) => Ok(()),
-        Err(_full) => Err(ScriptFault::Memory),
+    let contact = match contact_number(reader) {
+        Ok(contact) => contact,
+        Err(wrong) => return Err(wrong),
+    };
+    match level(reader) {
+        Ok(closed) => Ok((contact, closed)),
+        Err(_other) => Err(Wrong {
+            index: 2,
+            is_number: false,
+        }),
     }
-}
-
-/// The items that these tokens of a text spell.
-fn items_of<T: Item>(alloc: Global, text: &[u8], tokens: &[Token]) -> Result<Vec<T>, ScriptFault>
-    requires { AreWithin (length text.now) tokens.now }
-    ensures read { IfOk result (λ v. lexemes_of text.now tokens.now ≡ flat_map T.spelled v.items) }
-    ensures range { IfOk result (λ v. AllByRecursion T.is_item v.items) }
-    ensures none { IfErr result (λ e. e ≢ NoMemory → (all : List T) → AllByRecursion T.is_item all
-        → lexemes_of text.now tokens.now ≢ flat_map T.spelled all) }
-{
-    T::uniqueness();
-    let mut items = Vec::new(alloc);
-    let mut reader = Reader::new(text, tokens);
-    while !reader.is_empty() {
-        let item = T::read(&mut reader)?;
-        push(&mut items, item)?;
-    }
-    Ok(items)
-}
-
-/// The items of a text, one after another, separated by blanks and comments as in scripts.
-///
-/// # Errors
-///
-/// First `Byte`, for a byte outside comments that is not allowed; then the fault of the first item that cannot be read.
-/// `Memory` if memory runs out. A text that lists items has no other fault.
-pub(crate) fn read_items<T: Item>(alloc: Global, text: &str) -> Result<Vec<T>, EventFault>
-    ensures found { IfOk result (λ v. HoldsItems T.spelled T.is_item text.now v.items) }
-    ensures only { IfErr result (λ e. e ≢ Memory → (all : List T)
-        → HoldsItems T.spelled T.is_item text.now all → ⊥) }
-    ensures first { IfErr result (λ e. e ≢ Memory → ReportsFirstFault text.now e) }
-{
-    let tokens = cut(alloc, text, NO_LIMITS)?;
-    let items = items_of(alloc, text.as_bytes(), tokens.as_slice())?;
-    Ok(items)
 }

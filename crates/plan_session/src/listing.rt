@@ -6,11 +6,13 @@ ghost use Rattle.script_tokens.specs.declared.token.Token.{Token};
 ghost use Rattle.script_tokens.specs.Reading.{AreWithin, lexemes_of};
 ghost use Rattle.script_tokens.specs.Scanning.{bytes_left};
 ghost use Rattle.plan_session.specs.declared.event_fault.EventFault.TheVariants.{Memory};
+ghost use Rattle.plan_session.specs.ItemFaults.{ReportsItemFault};
 ghost use Rattle.plan_session.specs.Items.{HoldsItems};
 ghost use Rattle.plan_session.specs.Kept.{ReportsFirstFault, cut_of};
-ghost use Rattle.plan_session.specs.Listing.{Lists, TakesItem, TakesTokens, FindsItem, ReadsItem};
+ghost use Rattle.plan_session.specs.Listing.{Lists, TakesItem, TakesTokens, FindsItem, ReadsItem, HasFaultLeft};
 
 use crate::event_fault::EventFault;
+use crate::item_fault::fault_at;
 use crate::items::Item;
 use arrayvec::ArrayVec;
 use script_tokens::token::NO_LIMITS;
@@ -38,10 +40,13 @@ fn take_tokens(
 /// The item that these tokens of a text begin with.
 fn item_of<T: Item>(text: &[u8], tokens: &[Token]) -> Result<T, ScriptFault>
     requires { AreWithin (length text.now) tokens.now }
-    ensures { ReadsItem T.spelled T.is_item (lexemes_of text.now tokens.now) result }
+    ensures { ReadsItem T.spelled T.is_item text.now tokens.now result }
 {
     let mut reader = Reader::new(text, tokens);
-    T::read(&mut reader)
+    match T::read(&mut reader) {
+        Ok(item) => Ok(item),
+        Err(wrong) => Err(fault_at(text, tokens, wrong)),
+    }
 }
 
 /// The next item; None at the end of the text.
@@ -88,6 +93,7 @@ fn check_items<T: Item>(scanner: &mut Scanner<'_>) -> Result<(), ScriptFault>
     ensures found { OnOk result ((items : List T) × Lists T.spelled T.is_item scanner.old items) }
     ensures none { IfErr result (λ e. (items : List T) → Lists T.spelled T.is_item scanner.old items
         → ⊥) }
+    ensures fault { IfErr result (λ e. HasFaultLeft T.spelled T.is_item scanner.old e) }
     ensures named { IfErr result (λ e. e ≢ NoMemory) }
 {
     T::uniqueness();
@@ -108,6 +114,7 @@ pub(crate) fn list_items<'a, T: Item>(text: &'a str) -> Result<Scanner<'a>, Even
     ensures none { IfErr result (λ e. (items : List T)
         → HoldsItems T.spelled T.is_item text.now items → ⊥) }
     ensures first { IfErr result (λ e. ReportsFirstFault text.now e) }
+    ensures fault { IfErr result (λ e. ReportsItemFault T.spelled T.is_item text.now e) }
     ensures named { IfErr result (λ e. e ≢ Memory) }
     ensures few { IfOk result (λ s. bytes_left s ≤ length text.now) }
 {

@@ -35,6 +35,7 @@ impl<'a> StepList<'a> {
     ghost use Rattle.plan_session.specs.declared.step.Step.{Step};
     ghost use Rattle.plan_session.specs.declared.event_fault.EventFault.TheVariants.{Memory};
     ghost use Rattle.plan_session.specs.Events.{Holds};
+    ghost use Rattle.plan_session.specs.ItemFaults.{ReportsStepFault};
     ghost use Rattle.plan_session.specs.Kept.{ReportsFirstFault};
     ghost use Rattle.plan_session.specs.Listing.{ListsSteps, TakesStep};
 
@@ -50,6 +51,7 @@ impl<'a> StepList<'a> {
             × ListsSteps list steps) }
         ensures only { IfErr result (λ e. (all : List Step) → Holds text.now all → ⊥) }
         ensures first { IfErr result (λ e. ReportsFirstFault text.now e) }
+        ensures fault { IfErr result (λ e. ReportsStepFault text.now e) }
         ensures named { IfErr result (λ e. e ≢ Memory) }
         ensures few { IfOk result (λ list. bytes_left list ≤ length text.now) }
     {

@@ -2,10 +2,9 @@ use Rattle.std.specs.Prelude.{slice_range, Option, Some, Ok, Err}
 use Rattle.std.proofs.Common.{◌≡◌, ℕ, List, [], ◌∷◌, ◌++◌, length, ap, subst, sym, refl, ◌∙◌, arith}
 use Rattle.script_tokens.specs.declared.token.Token.{Token}
 use Rattle.script_tokens.specs.Lexing.{added}
-use Rattle.script_tokens.specs.Reading.{lexemes_of}
 use Rattle.script_tokens.specs.Scanning.{FindsNext}
 use Rattle.plan_session.specs.Listing.{ReadsItem}
-use Rattle.plan_session.proofs.OneByOne.{Window, item_found, no_item_found}
+use Rattle.plan_session.proofs.OneByOne.{Window, item_found, no_item_found, fault_found}
 use Rattle.plan_session.proofs.listing.next_item.Goals as goal
 
 pub returns-in-Ok-item_of : goal.returns-in-Ok-item_of
@@ -28,11 +27,11 @@ returns-in-Ok-item_of g c =
       counts = λ item rest e. c.further-count.ensures.count item rest (e ∙ ap (λ (x : List ℕ). slice_range x first.start first.end ∷ rest) (sym c.text-text.ensures));
     } in
     let items : c.as_slice.result.now ≡ first ∷ more = c.as_slice.ensures.value ∙ t.1 ∙ ap (λ (l : List Token). l ++ more) (c.push.ensures.items ∙ ap (λ (l : List Token). l ++ first ∷ []) c.new-tokens.ensures) in
-    let lexemes : lexemes_of c.text-text.result.now c.as_slice.result.now ≡ lexemes_of text (first ∷ more) = ap (λ (x : List ℕ). lexemes_of x c.as_slice.result.now) c.text-text.ensures ∙ ap (lexemes_of text) items in
-    let read : ReadsItem spelled is (lexemes_of text (first ∷ more)) (Ok c.in-Ok-item_of.item) = subst (λ (l : List (List ℕ)). ReadsItem spelled is l (Ok c.in-Ok-item_of.item)) lexemes c.in-Ok-item_of.ensures in
+    let here = subst (λ (x : List ℕ). ReadsItem spelled is x c.as_slice.result.now (Ok c.in-Ok-item_of.item)) c.text-text.ensures c.in-Ok-item_of.ensures in
+    let read : ReadsItem spelled is text (first ∷ more) (Ok c.in-Ok-item_of.item) = subst (λ (l : List Token). ReadsItem spelled is text l (Ok c.in-Ok-item_of.item)) items here in
     let found = item_found spelled is c.args.scanner.now c.take_tokens.new.scanner first more count word c.in-Ok-item_of.item c.uniqueness.ensures.some window read in
     let size = ap (λ (x : List ℕ). length x) c.text-text.ensures in
-    (found.0, found.1, omega (arith, f.3, t.2.bytes), omega (arith, size, c.text-text.type_inv))
+    (found.0, found.1, omega (arith, f.3, t.2.bytes), omega (arith, size, c.text-text.type_inv), found.2)
 
 pub returns-in-Err-item_of : goal.returns-in-Err-item_of
 returns-in-Err-item_of g c =
@@ -54,6 +53,9 @@ returns-in-Err-item_of g c =
       counts = λ item rest e. c.further-count.ensures.count item rest (e ∙ ap (λ (x : List ℕ). slice_range x first.start first.end ∷ rest) (sym c.text-text.ensures));
     } in
     let items : c.as_slice.result.now ≡ first ∷ more = c.as_slice.ensures.value ∙ t.1 ∙ ap (λ (l : List Token). l ++ more) (c.push.ensures.items ∙ ap (λ (l : List Token). l ++ first ∷ []) c.new-tokens.ensures) in
-    let lexemes : lexemes_of c.text-text.result.now c.as_slice.result.now ≡ lexemes_of text (first ∷ more) = ap (λ (x : List ℕ). lexemes_of x c.as_slice.result.now) c.text-text.ensures ∙ ap (lexemes_of text) items in
-    let read : ReadsItem spelled is (lexemes_of text (first ∷ more)) (Err c.in-Err-item_of.fault) = subst (λ (l : List (List ℕ)). ReadsItem spelled is l (Err c.in-Err-item_of.fault)) lexemes c.in-Err-item_of.ensures in
-    (read.0, no_item_found spelled is c.args.scanner.now c.take_tokens.new.scanner first more count word c.in-Err-item_of.fault c.uniqueness.ensures.some window read)
+    let here = subst (λ (x : List ℕ). ReadsItem spelled is x c.as_slice.result.now (Err c.in-Err-item_of.fault)) c.text-text.ensures c.in-Err-item_of.ensures in
+    let read : ReadsItem spelled is text (first ∷ more) (Err c.in-Err-item_of.fault) = subst (λ (l : List Token). ReadsItem spelled is text l (Err c.in-Err-item_of.fault)) items here in (
+      read.0,
+      no_item_found spelled is c.args.scanner.now c.take_tokens.new.scanner first more count word c.in-Err-item_of.fault c.uniqueness.ensures.some window read,
+      fault_found spelled is c.args.scanner.now c.take_tokens.new.scanner first more count word c.in-Err-item_of.fault c.uniqueness.ensures.unique c.uniqueness.ensures.some window read,
+    )
