@@ -11,3 +11,4 @@ mod VectorsOfGoing
 mod VectorsOfMessages
 mod VectorsOfOneFile
 mod VectorsOfRuns
+mod VectorsOfWords

@@ -249,6 +249,7 @@ no_steps = record {
   text = (at_sign, (refl, refl));
   none = λ steps h. not_cut h.tokens h.cut;
   first = λ fault cut. sym (ap reported_fault (fault_of_at_sign fault cut));
+  step = λ tokens cut. absurd (not_cut tokens cut);
 }
 
 some_steps : (fault : EventFault) → IsRefusedWith two_frames fault → ⊥

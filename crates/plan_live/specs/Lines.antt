@@ -8,6 +8,7 @@ use Rattle.plan_session.specs.declared.event_fault.EventFault.{EventFault}
 use Rattle.plan_session.specs.declared.event_fault.EventFault.TheVariants.{Byte as AtByte, Number as AtNumber, Expected as AtOther, Memory as NoMemory}
 use Rattle.plan_session.specs.declared.step.Step.{Step}
 use Rattle.plan_session.specs.Events.{Holds, events_of}
+use Rattle.plan_session.specs.ItemFaults.{ReportsStepFault}
 use Rattle.plan_session.specs.Kept.{ReportsFirstFault}
 use Rattle.plan_live.specs.declared.message.LineFault.{LineFault}
 use Rattle.plan_live.specs.declared.message.LineFault.TheVariants.{Limit, NoText, Byte, Number, Expected}
@@ -26,13 +27,14 @@ pub record LineHolds (line : List ℕ) (steps : List Step) : Type 0 where
   pub text : IsUtf8 line
   pub holds : Holds line steps
 
--- a line that is short enough and text, but lists no steps: as an event file it is refused with this fault, which is
--- its first one, at its position, if it has no tokens
+-- a line that is short enough and text, but lists no steps: as an event file it is refused with this fault, at its
+-- position. That is its first one if it has no tokens, else that of the first token with which no list of steps goes on
 pub record IsRefusedWith (line : List ℕ) (fault : EventFault) : Type 0 where
   pub short : length line ≤ 65536
   pub text : IsUtf8 line
   pub none : (steps : List Step) → Holds line steps → ⊥
   pub first : ReportsFirstFault line fault
+  pub step : ReportsStepFault line fault
 
 -- the line lists no steps, for this reason, in this column
 abbrev pub IsLineFault : List ℕ → LineFault → Type 0
