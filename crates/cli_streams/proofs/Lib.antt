@@ -17,6 +17,7 @@ mod PictureLines
 mod Rates
 mod ReadingAhead
 mod ReadingOn
+pub mod ReportedLines
 mod ShownFrames
 mod ShownStreams
 mod VectorsOfChecks
@@ -24,3 +25,4 @@ mod VectorsOfFailures
 mod VectorsOfMerging
 mod VectorsOfHolding
 mod VectorsOfPrinting
+mod VectorsOfReports

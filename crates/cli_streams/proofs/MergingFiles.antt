@@ -14,7 +14,7 @@ use Rattle.cli_streams.specs.declared.merge.MergeFault.TheVariants.{Failed, NotW
 use Rattle.cli_streams.specs.declared.merge.MergeSummary.{MergeSummary}
 use Rattle.cli_streams.specs.declared.merge.MergeFault.{MergeFault}
 
-keeps_consumes : (a b c : Option (List ℕ)) (bs : List ℕ) → Keeps a b → Consumes b c bs → Consumes a c bs
+pub keeps_consumes : (a b c : Option (List ℕ)) (bs : List ℕ) → Keeps a b → Consumes b c bs → Consumes a c bs
 keeps_consumes None b c bs k h = tt
 keeps_consumes (Some x) None c bs k h = absurd k
 keeps_consumes (Some x) (Some y) None bs k h = absurd h
@@ -45,18 +45,25 @@ of_files {path} {size} {plan} {other} {known_plan} {known_other} keeps_plan keep
   written = m.written;
 }
 
+-- and so of those of a size that is the same
+pub merges_of : (later_other : Option (List ℕ)) {path : List ℕ} {size read_size : ℕ} {plan other known_plan known_other old new : Option (List ℕ)} {status : Status} {outcome : Result MergeSummary MergeFault}
+    → read_size ≡ size → Keeps known_plan plan → Keeps known_other later_other → Keeps later_other other → Merges path read_size plan other old new status outcome
+    → Merges path size known_plan known_other old new status outcome
+merges_of later_other {path} {size} {read_size} {plan} {other} {known_plan} {known_other} {old} {new} {status} {outcome} same keeps_plan keeps_other keeps m =
+    subst (λ n. Merges path n known_plan known_other old new status outcome) same (of_files keeps_plan (Keeps-trans known_other later_other other keeps_other keeps) m)
+
 pub merges_files : (later_other : Option (List ℕ)) {path : List ℕ} {size read_size : ℕ} {plan other known_plan known_other old new : Option (List ℕ)} {status : Status} {outcome : Result MergeSummary MergeFault} {result : Result Status MergeFault}
     → read_size ≡ size → Keeps known_plan plan → Keeps known_other later_other → Keeps later_other other → Merges path read_size plan other old new status outcome → Returns status outcome result
     → MergesFiles path size known_plan known_other old new result
 merges_files later_other {path} {size} {read_size} {plan} {other} {known_plan} {known_other} {old} {new} {status} {outcome} same keeps_plan keeps_other keeps m returns = record {
   status = status;
   outcome = outcome;
-  merges = subst (λ n. Merges path n known_plan known_other old new status outcome) same (of_files keeps_plan (Keeps-trans known_other later_other other keeps_other keeps) m);
+  merges = merges_of later_other same keeps_plan keeps_other keeps m;
   returns = returns;
 }
 
 -- one of them can't be opened
-none_read : (path : List ℕ) (size : ℕ) (plan other old : Option (List ℕ)) (failure : Failure) → Merges path size plan other old old Done (Err (Failed failure))
+pub none_read : (path : List ℕ) (size : ℕ) (plan other old : Option (List ℕ)) (failure : Failure) → Merges path size plan other old old Done (Err (Failed failure))
 none_read path size plan other old failure = record {
   frames = [];
   taken = [];

@@ -8,6 +8,7 @@ pub mod Json
 pub mod JsonListing
 pub mod Lines
 pub mod Listing
+pub mod MergeReports
 pub mod Merged
 pub mod Merging
 pub mod Printing

@@ -1,12 +1,16 @@
 //! `dabplan merge`: carries the other FIGs of a multiplexer in the frames of a plan.
 
 ghost use Rattle.std.specs.Prelude.{◌≡◌, ◌+◌, ◌*◌, ◌%◌, ◌<◌, ◌≤◌, ◌^◌, ℕ, List, [], length, IfErr, IfOk, OnErr, OnOk, true, false};
+ghost use Rattle.std.specs.Fmt.{WritesOnOk};
 ghost use Rattle.std.specs.Io.KnownBytes.{IsAtEnd, Keeps};
 ghost use Rattle.fib_codec.specs.Modes.{fib_count};
 ghost use Rattle.stream_check.specs.Frames.{Reading};
 ghost use Rattle.cli_streams.specs.Buffered.{left_of};
 ghost use Rattle.cli_streams.specs.Held.{Counts, IsWritten, finished, writer_of};
+ghost use Rattle.cli_streams.specs.MergeReports.{IsMergeFault, ReportsMerge, ReportsStop, summary_lines, write_failed_text};
 ghost use Rattle.cli_streams.specs.Merged.{AreTwo, CutsHeld, FillsFib, Merges, MergesFiles, ReadsFrame, after_frame_filled, frame_filled, known_at, summary_of};
+ghost use Rattle.console.specs.Failures.{IsReadFailure};
+ghost use Rattle.console.specs.World.{Becomes, HasSameFiles, Stays};
 ghost use Rattle.console.specs.declared.exit.Status.TheVariants.{Done, Refused};
 
 use crate::frame_reader::FrameReader;
@@ -18,9 +22,9 @@ use console::files::Files;
 use fib_codec::Mode;
 use fig_merge::Merger;
 use std::alloc::Global;
+use std::error;
 use std::fmt::{self, Display, Formatter};
 use std::io::{ErrorKind, Read, Write};
-use thiserror::Error;
 
 /// More frames than any stream has.
 const MOST_FRAMES: u64 = 1 << 63;
@@ -41,17 +45,40 @@ pub struct MergeRequest<'a> {
 
 /// Why frames are not merged, or the multiplexer's are not read on. Each is one line on standard error, and
 /// `Status::Refused`.
-#[derive(Debug, Drop, Error)]
+#[derive(Debug, Drop)]
 pub enum MergeFault<'a> {
     /// Out of memory, or a file can't be read.
-    #[error("{0}")]
     Failed(Failure<'a>),
     /// The file of this path ends within a frame.
-    #[error("{}: not whole frames", Escaped::in_line(.0))]
     NotWhole(&'a str),
     /// Standard output took this many whole frames, and this many bytes of the next one.
-    #[error("write failed after {frames} frames and {bytes} bytes")]
     Write { frames: u64, bytes: usize },
+}
+
+impl Display for MergeFault<'_> {
+    ghost use Rattle.std.specs.Prelude.{Some};
+    ghost use Rattle.cli_streams.specs.MergeReports.{fault_text};
+
+    ghost output = { λ fault. Some (fault_text fault) };
+
+    fn fmt<W: fmt::Write>(&self, f: &mut Formatter<W>) -> fmt::Result {
+        match self {
+            MergeFault::Failed(failure) => write!(f, "{failure}"),
+            MergeFault::NotWhole(path) => {
+                write!(f, "{}: not whole frames", Escaped::in_line(path))
+            }
+            MergeFault::Write { frames, bytes } => write_failed(*frames, *bytes, f),
+        }
+    }
+}
+
+impl error::Error for MergeFault<'_> {}
+
+/// Writes after how many frames and bytes the output failed.
+fn write_failed<W: fmt::Write>(frames: u64, bytes: usize, f: &mut Formatter<W>) -> fmt::Result
+    ensures { WritesOnOk W.write_str_gives f.old result (write_failed_text frames bytes) f.new }
+{
+    write!(f, "write failed after {frames} frames and {bytes} bytes")
 }
 
 /// What was merged.
@@ -70,6 +97,11 @@ pub struct MergeSummary {
 }
 
 impl Display for MergeSummary {
+    ghost use Rattle.std.specs.Prelude.{Some};
+    ghost use Rattle.cli_streams.specs.MergeReports.{summary_text};
+
+    ghost output = { λ summary. Some (summary_text summary) };
+
     fn fmt<W: fmt::Write>(&self, f: &mut Formatter<W>) -> fmt::Result {
         let MergeSummary {
             frames,
@@ -100,11 +132,21 @@ pub fn show_merged<'a, F: Files, W: Write>(
     files: &mut F,
     out: &mut W,
 ) -> Result<Status, MergeFault<'a>>
-    ensures { AreTwo request.now.plan.now request.now.other.now
+    ensures merges { AreTwo request.now.plan.now request.now.other.now
         → MergesFiles request.now.plan.now (fib_count request.now.mode * 32)
         (known_at (F.known files.old) (F.known_input files.old) request.now.plan.now)
         (known_at (F.known files.old) (F.known_input files.old) request.now.other.now)
         (W.contents out.old) (W.contents out.new) result }
+    // What standard error has taken, with the numbers of the frames that are merged.
+    ensures told { AreTwo request.now.plan.now request.now.other.now
+        → ReportsMerge summary_lines request.now.plan.now request.now.other.now
+        (fib_count request.now.mode * 32)
+        (known_at (F.known files.old) (F.known_input files.old) request.now.plan.now)
+        (known_at (F.known files.old) (F.known_input files.old) request.now.other.now)
+        (W.contents out.old) (W.contents out.new)
+        (F.world files.old) (F.world files.new) result }
+    ensures fault { IfErr result (IsMergeFault request.now.plan.now request.now.other.now) }
+    ensures files { Becomes HasSameFiles (F.world files.old) (F.world files.new) }
 {
     let mut plan = match frames_of(alloc, files, request.plan) {
         Ok(source) => source,
@@ -134,6 +176,8 @@ fn frames_of<'a, F: Files>(
     ensures bytes { IfOk result (λ source.
         Keeps (known_at (F.known files.old) (F.known_input files.old) path.now)
         (left_of source)) }
+    ensures world { Stays (F.world files.old) (F.world files.new) }
+    ensures fault { IfErr result (IsReadFailure path.now) }
     ensures kept { (other : List ℕ) → AreTwo path.now other
         → Keeps (known_at (F.known files.old) (F.known_input files.old) other)
         (known_at (F.known files.new) (F.known_input files.new) other) }
@@ -169,9 +213,12 @@ fn merge_frames<'a, P: Read + Drop, O: Read + Drop, F: Files, W: Write>(
     requires size { (0 < length frame.old) × (length frame.old % 32 ≡ 0)
         × (length frame.old ≤ 128) }
     requires open { (other.old.is_open ≡ true) × (other.old.status ≡ Done) }
-    ensures { Merges path.now (length frame.old) (left_of plan.old)
+    ensures merges { Merges path.now (length frame.old) (left_of plan.old)
         (left_of other.old.source) (W.contents out.old) (W.contents out.new)
         other.new.status result }
+    ensures told { ReportsStop other.old.path.now (length frame.old) (left_of other.old.source)
+        other.new.status (F.world files.old) (F.world files.new) }
+    ensures fault { (other_path : List ℕ) → IfErr result (IsMergeFault path.now other_path) }
 {
     let mut held = HeldFrames::new(out, frame.len());
     merge_held(plan, path, other, frame, files, &mut held)
@@ -194,6 +241,9 @@ fn merge_held<'a, P: Read + Drop, O: Read + Drop, F: Files, W: Write>(
     ensures merges { Merges path.now (length frame.old) (left_of plan.old)
         (left_of other.old.source) (W.contents (writer_of out.old))
         (W.contents (writer_of out.new)) other.new.status result }
+    ensures told { ReportsStop other.old.path.now (length frame.old) (left_of other.old.source)
+        other.new.status (F.world files.old) (F.world files.new) }
+    ensures fault { (other_path : List ℕ) → IfErr result (IsMergeFault path.now other_path) }
     ensures output { out.new.out.ghost_name ≡ out.old.out.ghost_name }
 {
     let mut merger = Merger::new();

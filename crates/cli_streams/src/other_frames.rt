@@ -1,11 +1,13 @@
 //! The frames of the multiplexer that `merge` reads beside the plan's.
 
-ghost use Rattle.std.specs.Prelude.{◌≡◌, ◌+◌, ◌%◌, ◌<◌, ◌≤◌, ◌^◌, ◌⊎◌, ℕ, List, Option, length, IfErr, OnErr, OnOk, true};
+ghost use Rattle.std.specs.Prelude.{◌≡◌, ◌+◌, ◌%◌, ◌<◌, ◌≤◌, ◌^◌, ◌⊎◌, ℕ, List, Option, length, IfErr, OnErr, OnOk, true, false};
 ghost use Rattle.std.specs.Io.KnownBytes.{Keeps};
 ghost use Rattle.stream_check.specs.Frames.{Reading};
 ghost use Rattle.cli_streams.specs.Buffered.{left_of};
 ghost use Rattle.cli_streams.specs.Held.{Counts, IsWritten, finished, writer_of};
+ghost use Rattle.cli_streams.specs.MergeReports.{ReportsNext};
 ghost use Rattle.cli_streams.specs.Merged.{CutsHeld, ReadsFrame, TakesAs, TakesFrames, TakesNext, after_frame_taken};
+ghost use Rattle.console.specs.World.{Stays};
 ghost use Rattle.console.specs.declared.exit.Status.TheVariants.{Done, Refused};
 
 use crate::frame_reader::FrameReader;
@@ -31,6 +33,7 @@ impl<'a, R: Read + Drop> OtherFrames<'a, R> {
     /// None read so far.
     pub(crate) fn new(source: FrameReader<R>, path: &'a str) -> Self
         ensures source { result.source ≡ source }
+        ensures path { result.path.now ≡ path.now }
         ensures open { (result.is_open ≡ true) × (result.status ≡ Done) }
     {
         OtherFrames {
@@ -91,6 +94,12 @@ impl<'a, R: Read + Drop> OtherFrames<'a, R> {
             self.new.status count taken merger.old merger.new }
         ensures asked { self.new.status ≡ Refused → (self.old.status ≡ Refused)
             ⊎ ((self.old.is_open ≡ true) × (length self.old.source.ahead < size)) }
+        ensures told { self.old.is_open ≡ true → self.old.status ≡ Done
+            → ReportsNext self.old.path.now size (left_of self.old.source)
+            (left_of self.new.source) self.new.status (F.world files.old) (F.world files.new) }
+        ensures closed { self.old.is_open ≡ false → (self.new.status ≡ self.old.status)
+            × Stays (F.world files.old) (F.world files.new) }
+        ensures path { self.new.path.now ≡ self.old.path.now }
     {
         if !self.is_open {
             return;

@@ -1,15 +1,23 @@
-use Rattle.std.proofs.Common.{◌<◌, length, refl, ap, subst, ◌∙◌, arith}
+use Rattle.std.proofs.Common.{inl, ◌<◌, length, refl, ap, subst, ◌∙◌, arith}
 use Rattle.std.specs.Prelude.{Err}
 use Rattle.cli_streams.specs.Buffered.{left_of}
 use Rattle.cli_streams.specs.Merged.{ReadsFrame}
 use Rattle.cli_streams.proofs.HoldingBack.{all_written, asked_of, ends_writing, holds_more, none_so_far, way_made}
 use Rattle.cli_streams.proofs.MergingEnds.{none_read, one_of, ends_whole, ends_reading, ends_early}
+use Rattle.cli_streams.proofs.ReportedLines.{cut_fault, none_reported, read_fault, stop_next}
 use Rattle.cli_streams.proofs.merge.merge_held.Goals as goal
 
 pub loop-frames-init : goal.loop-frames-init
 loop-frames-init g c =
-    let none = c.requires.first in
-    (refl, c.requires.sized, refl, omega (arith, ap length none.0), none_so_far _ _ _ _ _ _ _ _ _ none.0 none.1 c.requires.open.0 c.requires.open.1 c.new-merger.ensures)
+    let none = c.requires.first in (
+      refl,
+      c.requires.sized,
+      refl,
+      omega (arith, ap length none.0),
+      none_so_far _ _ _ _ _ _ _ _ _ none.0 none.1 c.requires.open.0 c.requires.open.1 c.new-merger.ensures,
+      refl,
+      none_reported _ _ _ _ _ c.requires.open.1,
+    )
 
 pub make_way-requires-clause-few : goal.make_way-requires-clause-few
 make_way-requires-clause-few g c = omega (arith, c.loop-frames.invariant.3, c.loop-frames.invariant.4.counts.all, c.loop-frames-test.true)
@@ -64,6 +72,8 @@ loop-frames-preserved g c =
       omega (arith, c.hold.ensures.held, later.room, later.size),
       holds_more held one c.requires.size.0 size long c.hold.ensures.frame c.hold.ensures.held c.hold.ensures.taken
           (asked_of c.take_next.ensures.asked (λ is lt. (later.written is (omega (arith, lt, read.whole, inv.0, inv.1, way.size))).0)),
+      c.take_next.ensures.path ∙ inv.5,
+      stop_next _ _ inv.5 (read.whole ∙ inv.0) inv.4.so_far.takes inv.6 c.take_next.ensures.told c.take_next.ensures.closed,
     )
 
 pub write_held-requires-clause-few : goal.write_held-requires-clause-few
@@ -78,3 +88,18 @@ returns-in-Ok-write_held-clause-merges g c =
 pub returns-in-Err-write_held-clause-merges : goal.returns-in-Err-write_held-clause-merges
 returns-in-Err-write_held-clause-merges g c =
     ends_writing c.args.path.now c.in-Err-write_held.fault c.loop-frames.invariant.1 c.loop-frames.invariant.4 c.in-Err-write_held.ensures.cut
+
+pub returns-in-Err-clause-fault : goal.returns-in-Err-clause-fault
+returns-in-Err-clause-fault g c = λ other_path. cut_fault _ other_path _ _ _ _ _ c.in-Err.fault c.in-Err.ensures.cut
+
+pub returns-in-Err-read_frame-clause-fault : goal.returns-in-Err-read_frame-clause-fault
+returns-in-Err-read_frame-clause-fault g c = λ other_path. read_fault _ other_path _ _ _ c.read_frame.new.frame c.in-Err-read_frame.fault c.in-Err-read_frame.ensures.reads
+
+pub returns-in-Err-make_way-clause-fault : goal.returns-in-Err-make_way-clause-fault
+returns-in-Err-make_way-clause-fault g c = λ other_path. cut_fault _ other_path _ _ _ _ _ c.in-Err-make_way.fault c.in-Err-make_way.ensures.cut
+
+pub returns-in-Ok-write_held-clause-fault : goal.returns-in-Ok-write_held-clause-fault
+returns-in-Ok-write_held-clause-fault g c = λ other_path. inl refl
+
+pub returns-in-Err-write_held-clause-fault : goal.returns-in-Err-write_held-clause-fault
+returns-in-Err-write_held-clause-fault g c = λ other_path. cut_fault _ other_path _ _ _ _ _ c.in-Err-write_held.fault c.in-Err-write_held.ensures.cut

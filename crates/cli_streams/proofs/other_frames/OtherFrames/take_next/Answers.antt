@@ -1,3 +1,4 @@
+use Rattle.std.proofs.Common.{inr, refl}
 use Rattle.cli_streams.proofs.ReadingOn.{closed_next, read_next, failed_next}
 use Rattle.cli_streams.proofs.other_frames.OtherFrames.take_next.Goals as goal
 
@@ -13,3 +14,6 @@ pub returns-in-Err-clause-takes : goal.returns-in-Err-clause-takes
 returns-in-Err-clause-takes g c =
     let read = c.in-Err.ensures.takes in
     λ before count taken t. failed_next c.args.self.now.path.now _ before _ _ _ _ count taken read.0 c.in-Err.fault _ _ c.if-not-self.false read.2 read.3 t
+
+pub returns-in-Err-clause-told : goal.returns-in-Err-clause-told
+returns-in-Err-clause-told g c = λ opened done. inr (refl, (c.in-Err.fault, c.in-Err.ensures.takes.0, c.in-Err.ensures.takes.2, c.report.ensures.line))
