@@ -1,5 +1,5 @@
 -- Hexadecimal digits.
-use Rattle.std.proofs.Common.{◌≡◌, ℕ, ◌<◌, ◌^◌, ◌-◌, true, false, List, []}
+use Rattle.std.proofs.Common.{◌≡◌, ℕ, ◌<◌, ◌^◌, ◌-◌, true, false, []}
 use Rattle.std.specs.Fmt.{digits, padded_integral, format_spec}
 use Rattle.std.proofs.lemmas.Fmt.{hex_byte as shown_byte}
 use Rattle.script_front.specs.Spelling.{hex_byte}

@@ -1,8 +1,8 @@
 -- What is known along a code is what a typing of it says.
-use Rattle.std.proofs.Common.{◌≡◌, ◌==◌, ℕ, ◌+◌, ◌<◌, ◌≤◌, true, false, List, [], ◌∷◌, ◌++◌, length, drop, get_or, slice_get, Option, Some, None, option_map, refl, sym, ap, subst, ◌∙◌, arith, append_assoc, append-nil}
+use Rattle.std.proofs.Common.{◌≡◌, ◌==◌, ℕ, ◌+◌, ◌<◌, ◌≤◌, true, false, List, [], ◌∷◌, ◌++◌, length, drop, get_or, slice_get, Option, Some, None, option_map, refl, sym, ap, subst, ◌∙◌, append_assoc, append-nil}
 use Rattle.std.specs.Prelude.{Result, Ok, Err, IsOk, OnOk, ◌↔◌}
 use Rattle.std.proofs.lemmas.Bool.{eqb-true, false≢true}
-use Rattle.std.proofs.lemmas.Option.{slice_get_within, slice_get-get_or}
+use Rattle.std.proofs.lemmas.Option.{slice_get-get_or}
 use Rattle.std.proofs.lemmas.List.{drop_more, drop_all}
 use Rattle.mux_types.specs.Configuration.{nothing}
 use Rattle.plan_code.specs.declared.instr.Instr.{Instr}
@@ -16,8 +16,8 @@ use Rattle.plan_flow.specs.Rules.{leaves, IsFine}
 use Rattle.plan_flow.specs.Flows.{Flow, flow_of, known_with, after_instr, HasItsCounter}
 use Rattle.plan_flow.specs.declared.cause.Cause.{Cause}
 use Rattle.plan_flow.proofs.Leaving.{leaves_known}
-use Rattle.plan_verifier.specs.Typing.{Known, Declares, Arrives, IsTyping, continues}
-use Rattle.plan_verifier.proofs.Tabled.{found}
+use Rattle.plan_verifier.specs.Typing.{Known, Declares, IsTyping}
+use Rattle.plan_verifier.proofs.Tabled.{found, unlabelled}
 use Rattle.plan_explain.specs.declared.warning.Warning.{Warning}
 use Rattle.plan_explain.specs.Walking.{or_else, at_label, entered, Knows, at_flow}
 use Rattle.plan_explain.specs.ConfigurationChanges.{between, at_opening, at_instr, at_commits}
@@ -42,20 +42,6 @@ labelled p typing pc label f t h e there =
     let here : slice_get typing pc ≡ Some typed.known = subst (λ k. slice_get typing k ≡ Some typed.known) at typed.there in
     let same : typed.known ≡ t = some_same typed.known t (sym here ∙ there) in
     subst (λ u. at_label p (Some label) f ≡ flow_of u) same (declared p label typed.known f typed.declares)
-
--- without one, it is what the instruction before left
-unlabelled : (p : Program) (typing : List Known) (pc : ℕ) (i : Instr) (t u : Known) → IsTyping p typing → instr_at p pc ≡ Some i → slice_get typing pc ≡ Some t → label_at p (pc + 1) ≡ None
-    → slice_get typing (pc + 1) ≡ Some u → u ≡ leaves p.plan i t
-unlabelled p typing pc i t u h at there e later =
-    let within : pc + 1 < length typing = slice_get_within typing (pc + 1) u later in
-    let inside : pc + 1 < length p.lines = subst (λ n. pc + 1 < n) h.each within in
-    let after = h.reached (pc + 1) inside e in
-    let back : after.before ≡ pc = omega (arith, after.next) in
-    let same : after.instr ≡ i = some_same after.instr i (sym (subst (λ k. instr_at p k ≡ Some after.instr) back after.there) ∙ at) in
-    let onward : continues i ≡ true = subst (λ j. continues j ≡ true) same after.onward in
-    let arrives = (h.safe pc i t at there).onward onward in
-    let gets : slice_get typing (pc + 1) ≡ Some (leaves p.plan i t) = subst (λ o. Arrives p typing (pc + 1) o (leaves p.plan i t)) e arrives in
-    some_same u (leaves p.plan i t) (sym later ∙ gets)
 
 entering : (p : Program) (typing : List Known) (pc : ℕ) (i : Instr) (t u : Known) (f : Flow) (o : Option Label) → IsTyping p typing → instr_at p pc ≡ Some i → slice_get typing pc ≡ Some t → f ≡ flow_of (leaves p.plan i t)
     → label_at p (pc + 1) ≡ o → slice_get typing (pc + 1) ≡ Some u → at_label p o f ≡ flow_of u

@@ -1,15 +1,11 @@
 -- Short scripts: what a walk that passes their statements judges, and where one may stop.
 use Rattle.std.proofs.Common.{◌≡◌, ℕ, true, false, [], ◌∷◌, Some, None, Ok, Err, inl, inr, refl, sym, ap, arith}
-use Rattle.mux_eep.specs.declared.sizes.EepSet.TheVariants.{A}
-use Rattle.mux_types.specs.declared.parts.Sub.{Sub}
 use Rattle.mux_config.specs.Configuration.{nothing as no_configuration}
 use Rattle.mux_config.specs.Edits.{changed}
 use Rattle.mux_config.specs.declared.edit.Edit.TheVariants.{AddSub}
 use Rattle.mux_config.specs.declared.fault.EditFault.TheVariants.{IdUsed}
-use Rattle.fib_codec.specs.declared.frame_layout.FrameLayout.TheVariants.{Whole}
-use Rattle.fib_codec.specs.declared.modes.Mode.TheVariants.{I}
-use Rattle.plan_code.specs.declared.plan.Plan.{Plan}
 use Rattle.plan_code.specs.declared.label.Swap.TheVariants.{Idle}
+use Rattle.plan_flow.proofs.Samples.{plan, sub}
 use Rattle.plan_flow.specs.declared.cause.Cause.{Cause}
 use Rattle.plan_flow.specs.declared.cause.Cause.TheVariants.{Table, Edit as OfEdit, JoinIdle, Mismatch}
 use Rattle.plan_flow.specs.Flows.{Flow}
@@ -24,9 +20,6 @@ use Rattle.plan_explain.specs.declared.walk.Stop.TheVariants.{Loop, Ways, Long}
 use Rattle.plan_explain.specs.declared.walk.Walk.{Walk}
 use Rattle.plan_explain.specs.Judging.{IsTheRefusal, IfStopped, JudgesBlock, Passes, Judges, JoinsFlows, IsTheFault}
 use Rattle.plan_explain.proofs.Passages.{passes_act, passes_end, act_refused, refused_after}
-
-abbrev plan : Plan
-plan = record { eid = 0xe1c5; layout = Whole I; period = 4; notice = 24; budget = 20 }
 
 -- nothing is pending
 abbrev idle : Flow
@@ -107,9 +100,6 @@ no_loop_here : (w : Walk) → JoinsFlows 2 None None w (Err (Loop 2)) → ⊥
 no_loop_here w h = h
 
 -- ---- a script whose second item adds a sub-channel again
-
-abbrev sub : Sub
-sub = record { id = 1; start = 0; protection = record { set = A; level = 3 }; kbits = 128 }
 
 abbrev item : ℕ → Item
 item line = record { line = line; edit = AddSub sub }

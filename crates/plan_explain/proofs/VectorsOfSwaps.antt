@@ -1,10 +1,10 @@
 -- What is said of swaps, and what is not.
-use Rattle.std.proofs.Common.{◌≡◌, ℕ, zero, suc, List, [], ◌∷◌, length, get_or, Option, Some, None, inl, inr, true, false, refl, sym, ap, ◌∙◌, arith}
+use Rattle.std.proofs.Common.{◌≡◌, ℕ, zero, suc, [], ◌∷◌, length, get_or, Option, Some, None, inl, inr, false, refl, sym, ap, ◌∙◌, arith}
 use Rattle.std.specs.Prelude.{codes, Contains}
 use Rattle.plan_code.specs.declared.instr.Instr.TheVariants.{CommitIn}
 use Rattle.plan_code.specs.declared.label.Swap.TheVariants.{Idle, Within, Perhaps}
 use Rattle.plan_explain.specs.declared.history.Deed.{Deed}
-use Rattle.plan_explain.specs.declared.past.Since.TheVariants.{Never, OnePath}
+use Rattle.plan_explain.specs.declared.past.Since.TheVariants.{Never}
 use Rattle.plan_explain.specs.declared.past.PendingSince.{PendingSince}
 use Rattle.plan_explain.specs.Since.{IsPendingSince}
 use Rattle.plan_explain.specs.SinceTexts.{since_text}

@@ -1,5 +1,5 @@
 -- The lines of warnings, computed by the checker from the definitions, and lines that they are not.
-use Rattle.std.proofs.Common.{◌≡◌, ℕ, ◌+◌, ◌*◌, ◌/◌, List, [], ◌∷◌, codes, get_or, refl, ap, arith}
+use Rattle.std.proofs.Common.{◌≡◌, ℕ, List, codes, get_or, refl, ap, arith}
 use Rattle.std.specs.Fmt.{digits}
 use Rattle.mux_types.specs.declared.parts.Component.TheVariants.{Sound, Stream}
 use Rattle.mux_types.specs.declared.numbers.Sid.TheVariants.{Short, Long}
@@ -7,8 +7,8 @@ use Rattle.script_front.specs.Keywords.{letters}
 use Rattle.script_front.specs.Times.{frame_at}
 use Rattle.plan_explain.specs.declared.flaw.Flaw.TheVariants.{Unnamed, LongAudio}
 use Rattle.plan_explain.specs.declared.primary.Primary.{Primary}
-use Rattle.plan_explain.specs.declared.warning.Warning.TheVariants.{Flawed, OtherPrimary, WaitsForTime, Unreached}
-use Rattle.plan_explain.specs.WarningTexts.{flaw_text, primary_text, second_of, wait_text, warning_text}
+use Rattle.plan_explain.specs.declared.warning.Warning.TheVariants.{Flawed, WaitsForTime, Unreached}
+use Rattle.plan_explain.specs.WarningTexts.{flaw_text, primary_text, second_of, warning_text}
 
 unnamed : warning_text (codes "x.plan") (Flawed 9 (Unnamed 3)) ≡ codes "x.plan:9: warning: no component names sub 3"
 unfolding digits

@@ -7,6 +7,7 @@ use Rattle.mux_types.proofs.Elements.{contains_first, contains_none}
 use Rattle.mux_types.specs.Configuration.{Configuration, nothing}
 use Rattle.plan_code.specs.declared.instr.Line.{Line}
 use Rattle.plan_code.specs.Program.{Program}
+use Rattle.plan_flow.specs.Rules.{commits}
 use Rattle.plan_verifier.specs.Typing.{Known, IsTyping, IsTyped}
 use Rattle.script_front.specs.Tree.{Tree}
 use Rattle.plan_explain.specs.declared.flaw.Flaw.{Flaw}
@@ -18,7 +19,7 @@ use Rattle.plan_explain.specs.Flaws.{HasFlaw, flaws, is_among, unless_among}
 use Rattle.plan_explain.specs.Primaries.{IsOtherPrimary, primaries}
 use Rattle.plan_explain.specs.Beginnings.{first_wait}
 use Rattle.plan_explain.specs.Blocks.{unreached}
-use Rattle.plan_explain.specs.ConfigurationChanges.{commits, between, at_instr, at_commits, at_opening}
+use Rattle.plan_explain.specs.ConfigurationChanges.{between, at_instr, at_commits, at_opening}
 use Rattle.plan_explain.specs.Listed.{at_wait, warnings}
 use Rattle.plan_explain.specs.Warnings.{IsOpening, IsCommit, Comes, IsNewFlaw, IsWarranted}
 use Rattle.plan_explain.proofs.Lists.{from_flat, to_flat, from_map, to_map, from_one}

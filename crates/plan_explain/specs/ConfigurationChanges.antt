@@ -1,30 +1,14 @@
 -- What is to be said of the configurations of a code, as a list.
-use Rattle.std.specs.Prelude.{ℕ, Bool, true, false, if◌then◌else◌, List, [], ◌∷◌, ◌++◌, map}
+use Rattle.std.specs.Prelude.{ℕ, if◌then◌else◌, List, [], ◌∷◌, ◌++◌, map}
 use Rattle.std.specs.List.{flat_map}
 use Rattle.mux_types.specs.Configuration.{Configuration, nothing}
-use Rattle.plan_code.specs.declared.instr.Instr.{Instr}
-use Rattle.plan_code.specs.declared.instr.Instr.TheVariants.{Wait, Until, WaitContact, CommitIn, CommitAt, Join, Settle, End, Edit, Test, Jump, Set, Loop}
 use Rattle.plan_code.specs.declared.instr.Line.{Line}
+use Rattle.plan_flow.specs.Rules.{commits}
 use Rattle.plan_verifier.specs.Typing.{Known}
 use Rattle.plan_explain.specs.declared.warning.Warning.{Warning}
 use Rattle.plan_explain.specs.declared.warning.Warning.TheVariants.{Flawed, OtherPrimary}
 use Rattle.plan_explain.specs.Flaws.{flaws, unless_among}
 use Rattle.plan_explain.specs.Primaries.{primaries}
-
-abbrev pub commits : Instr → Bool
-commits (CommitIn d) = true
-commits (CommitAt n) = true
-commits (Wait n) = false
-commits (Until t) = false
-commits (WaitContact k b) = false
-commits Join = false
-commits Settle = false
-commits End = false
-commits (Edit e) = false
-commits (Test k t) = false
-commits (Jump t) = false
-commits (Set k n) = false
-commits (Loop k t) = false
 
 -- one configuration in the place of another
 abbrev pub between : ℕ → Configuration → Configuration → List Warning

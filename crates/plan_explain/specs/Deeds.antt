@@ -1,12 +1,13 @@
 -- What an executed statement does to the objects of a configuration, and to the swap.
-use Rattle.std.specs.Prelude.{ℕ, ◌&&◌, ◌||◌, Bool, true, false, if◌then◌else◌, List, [], ◌∷◌, map, Option, Some, None}
+use Rattle.std.specs.Prelude.{ℕ, ◌&&◌, ◌||◌, Bool, false, if◌then◌else◌, List, [], ◌∷◌, map, Option, Some, None}
 use Rattle.mux_types.specs.declared.parts.Carrier.TheVariants.{Sub as BySub, Packet as ByPacket}
 use Rattle.mux_types.specs.Configuration.{carrier_of}
 use Rattle.mux_types.specs.Sameness.{is_same_carrier, is_same_sid}
 use Rattle.mux_config.specs.declared.edit.Edit.{Edit}
 use Rattle.mux_config.specs.declared.edit.Edit.TheVariants.{AddSub, DropSub, MoveSub, RateSub, AddService, DropService, AddComponent, DropComponent, AddPacket, DropPacket}
 use Rattle.plan_code.specs.declared.instr.Instr.{Instr}
-use Rattle.plan_code.specs.declared.instr.Instr.TheVariants.{Wait, Until, WaitContact, CommitIn, CommitAt, Join, Settle, End, Edit as Edits, Test, Jump, Set, Loop}
+use Rattle.plan_code.specs.declared.instr.Instr.TheVariants.{Edit as Edits}
+use Rattle.plan_flow.specs.Rules.{commits}
 use Rattle.plan_explain.specs.declared.history.Deed.{Deed}
 use Rattle.plan_explain.specs.declared.sought.Member.{Member}
 use Rattle.plan_explain.specs.declared.sought.Member.TheVariants.{Carried, Service, Component}
@@ -70,21 +71,6 @@ is_member m None = false
 is_member m (Some other) = is_same_member m other
 
 -- ---- instructions
-
-abbrev pub commits : Instr → Bool
-commits (CommitIn delay) = true
-commits (CommitAt count) = true
-commits (Edits edit) = false
-commits (Wait frames) = false
-commits (Until day) = false
-commits (WaitContact contact closed) = false
-commits Join = false
-commits Settle = false
-commits End = false
-commits (Test contact target) = false
-commits (Jump target) = false
-commits (Set counter times) = false
-commits (Loop counter target) = false
 
 abbrev pub added_in : Instr → Option Member
 added_in (Edits edit) = added_by edit

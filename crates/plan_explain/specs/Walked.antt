@@ -5,7 +5,7 @@ use Rattle.plan_flow.specs.declared.cause.Cause.{Cause}
 use Rattle.plan_flow.specs.Flows.{known_at, FitsFlow, merged}
 use Rattle.plan_flow.specs.Causes.{FlowRefused}
 use Rattle.script_front.specs.declared.tree.Act.{Act}
-use Rattle.script_front.specs.Block.{Block, nothing, basic, stop, when, either, repeat, forever, apply}
+use Rattle.script_front.specs.Block.{Block, basic, when, either, repeat, forever}
 use Rattle.script_compiler.specs.Scheme.{instr_of_act}
 use Rattle.script_compiler.specs.Refused.{IsLine}
 use Rattle.plan_explain.specs.declared.history.History.{History}

@@ -5,9 +5,10 @@ use Rattle.plan_code.specs.declared.label.Label.{Label}
 use Rattle.plan_code.specs.declared.instr.Line.{Line}
 use Rattle.plan_code.specs.Program.{Program, label_at}
 use Rattle.plan_flow.specs.Flows.{Flow, flow_of}
+use Rattle.plan_flow.specs.Rules.{commits}
 use Rattle.plan_verifier.specs.Typing.{Known}
 use Rattle.plan_explain.specs.declared.warning.Warning.{Warning}
-use Rattle.plan_explain.specs.ConfigurationChanges.{commits, between}
+use Rattle.plan_explain.specs.ConfigurationChanges.{between}
 
 abbrev pub or_else : Option Configuration → Configuration → Configuration
 or_else None other = other

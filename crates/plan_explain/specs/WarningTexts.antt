@@ -1,7 +1,6 @@
 -- The lines of warnings, as they are printed.
 use Rattle.std.specs.Prelude.{ℕ, ◌*◌, ◌/◌, List, ◌++◌, codes}
 use Rattle.std.specs.Fmt.{decimal}
-use Rattle.mux_types.specs.declared.numbers.Sid.{Sid}
 use Rattle.mux_types.specs.declared.parts.Component.{Component}
 use Rattle.mux_types.specs.declared.parts.Component.TheVariants.{Sound, Stream, Packet as InPackets}
 use Rattle.script_front.specs.declared.tree.Act.TheVariants.{Until}

@@ -7,7 +7,7 @@ ghost use Rattle.plan_flow.specs.Flows.{flow_of};
 ghost use Rattle.plan_verifier.specs.Typing.{Known, IsTyping};
 ghost use Rattle.plan_explain.specs.declared.warning.Warning.TheVariants.{Flawed, OtherPrimary};
 ghost use Rattle.plan_explain.specs.Flaws.{unless_among};
-ghost use Rattle.plan_explain.specs.ConfigurationChanges.{commits, between, at_commits, at_opening};
+ghost use Rattle.plan_explain.specs.ConfigurationChanges.{between, at_commits, at_opening};
 ghost use Rattle.plan_explain.specs.Walking.{entered, at_flow};
 
 use crate::flaw::{Flaw, flaws_of, is_among};
@@ -17,28 +17,8 @@ use crate::warning::Warning;
 use mux_config::Config;
 use plan_code::{Code, Instr, Line, Plan, Swap};
 use plan_flow::Flow;
+use plan_flow::properties::commits;
 use std::alloc::{AllocError, Global};
-
-/// Whether an instruction commits the next configuration.
-fn commits(instr: Instr) -> bool
-    ensures { result ≡ commits instr }
-{
-    match instr {
-        Instr::CommitIn(_) => true,
-        Instr::CommitAt(_) => true,
-        Instr::Edit(_) => false,
-        Instr::Wait(_) => false,
-        Instr::Until(_) => false,
-        Instr::WaitContact { .. } => false,
-        Instr::Join => false,
-        Instr::Settle => false,
-        Instr::End => false,
-        Instr::Test { .. } => false,
-        Instr::Jump(_) => false,
-        Instr::Set { .. } => false,
-        Instr::Loop { .. } => false,
-    }
-}
 
 /// Appends a flaw in a line, unless it is among others.
 fn push_flaw(

@@ -4,7 +4,7 @@ use crate::paths::explain_label;
 use crate::reach::{Reach, declared_at};
 use plan_code::{Code, CounterId, Counters, Label};
 use plan_flow::flow::{is_idle, is_same};
-use plan_flow::successors::target_of;
+use plan_flow::properties::target_of;
 use std::io::{self, Write};
 
 /// The target of the instruction at this pc, if it jumps.

@@ -6,7 +6,7 @@ use crate::state::{Allowance, PathState, copied};
 use mux_config::Config;
 use plan_code::{Code, Instr, Label, Line};
 use plan_flow::Flow;
-use plan_flow::successors::{continues, target_of};
+use plan_flow::properties::{continues, target_of};
 use std::alloc::{AllocError, Global};
 
 /// A path that jumps.

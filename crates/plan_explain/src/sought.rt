@@ -1,11 +1,12 @@
 //! What statements do to the objects of a configuration, and to the swap.
 
 ghost use Rattle.std.specs.Prelude.{◌≡◌};
-ghost use Rattle.plan_explain.specs.Deeds.{added_by, dropped_by, changed_by, is_same_member, is_member, commits, added, dropped, changed, does, undoes};
+ghost use Rattle.plan_explain.specs.Deeds.{added_by, dropped_by, changed_by, is_same_member, is_member, added, dropped, changed, does, undoes};
 
 use crate::history::Deed;
 use mux_config::{Carrier, Edit, Sid};
 use plan_code::Instr;
+use plan_flow::properties::commits;
 
 /// An object of a configuration.
 #[derive(Clone, Copy)]
@@ -113,27 +114,6 @@ fn changed_by(edit: &Edit) -> Option<Member>
     }
 }
 
-/// Whether an instruction commits the next configuration.
-fn commits(instr: &Instr) -> bool
-    ensures { result ≡ commits instr.now }
-{
-    match *instr {
-        Instr::CommitIn(_) => true,
-        Instr::CommitAt(_) => true,
-        Instr::Edit(_) => false,
-        Instr::Wait(_) => false,
-        Instr::Until(_) => false,
-        Instr::WaitContact { .. } => false,
-        Instr::Join => false,
-        Instr::Settle => false,
-        Instr::End => false,
-        Instr::Test { .. } => false,
-        Instr::Jump(_) => false,
-        Instr::Set { .. } => false,
-        Instr::Loop { .. } => false,
-    }
-}
-
 /// What is sought among the statements of a path.
 #[derive(Clone, Copy)]
 pub(crate) enum Sought {
@@ -156,7 +136,7 @@ impl Sought {
             Sought::Adding(member) => member.is(&deed.added()),
             Sought::Dropping(member) => member.is(&deed.dropped()),
             Sought::Changing(member) => member.is(&deed.changed()),
-            Sought::Committing => commits(&deed.instr),
+            Sought::Committing => commits(deed.instr),
         }
     }
 

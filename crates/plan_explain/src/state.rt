@@ -12,7 +12,7 @@ use crate::history::{Deed, History, PathEnd};
 use mux_config::{Config, Store};
 use plan_code::{Counters, Instr, Plan, Swap};
 use plan_flow::flow::is_idle;
-use plan_flow::successors::suspends;
+use plan_flow::properties::suspends;
 use plan_flow::{Cause, Flow};
 use std::alloc::AllocError;
 

@@ -153,7 +153,13 @@ FitsSwap (Perhaps hi) Idle t declared = ⊥
 FitsSwap (Perhaps hi) (Within low high) t declared = ⊥
 FitsSwap (Perhaps hi) (Perhaps high) t declared = HasConfigurationsOf t declared × (hi ≤ high)
 
--- ---- the successors of an instruction
+-- ---- the properties of an instruction
+
+-- whether it commits the next configuration
+abbrev pub commits : Instr → Bool
+commits (CommitIn delay) = true
+commits (CommitAt count) = true
+commits _ = false
 
 -- its jump target; a jump changes nothing, so a loop's counter is still set there
 abbrev pub target_of : Instr → Option ℕ

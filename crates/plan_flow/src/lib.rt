@@ -20,7 +20,7 @@ pub mod indices;
 mod meeting;
 pub mod opening;
 mod pages;
-pub mod successors;
+pub mod properties;
 mod swaps;
 pub mod tracked;
 

@@ -5,6 +5,7 @@ use Rattle.plan_code.specs.declared.instr.Line.{Line}
 use Rattle.plan_code.specs.declared.plan.Plan.{Plan}
 use Rattle.plan_code.specs.Program.{Program}
 use Rattle.plan_code.specs.Machine.{State}
+use Rattle.plan_flow.specs.Rules.{commits}
 use Rattle.plan_verifier.specs.Typing.{Known, IsTyping, IsTyped}
 use Rattle.plan_runs.specs.declared.event.Start.{Start}
 use Rattle.plan_runs.specs.Frames.{ready, burst, frame_steps, shown, announced_next}
@@ -13,7 +14,7 @@ use Rattle.plan_runs.specs.Swaps.{IsCommit}
 use Rattle.plan_runs.specs.TypedRuns.{IsPlayed}
 use Rattle.plan_map.specs.declared.rows.Row.{Row}
 use Rattle.plan_map.specs.declared.rows.RowKind.TheVariants.{Begin, Commit}
-use Rattle.plan_map.specs.Rows.{commits, rows_of}
+use Rattle.plan_map.specs.Rows.{rows_of}
 
 -- ---- what a row says
 

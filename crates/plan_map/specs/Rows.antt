@@ -1,5 +1,5 @@
 -- The rows of a map: the configuration that a code begins with, and the configuration committed by each commit.
-use Rattle.std.specs.Prelude.{ℕ, ◌+◌, Bool, true, false, if◌then◌else◌, List, [], ◌∷◌, ◌++◌, Option, Some, None, slice_get}
+use Rattle.std.specs.Prelude.{ℕ, ◌+◌, if◌then◌else◌, List, [], ◌∷◌, ◌++◌, Option, Some, None, slice_get}
 use Rattle.mux_types.specs.Configuration.{Configuration, nothing}
 use Rattle.mux_config.specs.declared.fault.EditFault.{EditFault}
 use Rattle.mux_config.specs.Edits.{edit_fault, changed}
@@ -8,6 +8,7 @@ use Rattle.plan_code.specs.declared.instr.Instr.TheVariants.{Wait, Until, WaitCo
 use Rattle.plan_code.specs.declared.instr.Line.{Line}
 use Rattle.plan_code.specs.declared.label.Label.{Label}
 use Rattle.plan_code.specs.Program.{Program, label_at}
+use Rattle.plan_flow.specs.Rules.{commits}
 use Rattle.plan_map.specs.declared.rows.Row.{Row}
 use Rattle.plan_map.specs.declared.rows.RowKind.TheVariants.{Begin, Commit}
 use Rattle.plan_map.specs.declared.lead.Lead.{Lead}
@@ -51,21 +52,6 @@ left_by (Test k t) c = c
 left_by (Jump t) c = c
 left_by (Set k n) c = c
 left_by (Loop k t) c = c
-
-abbrev pub commits : Instr → Bool
-commits (CommitIn d) = true
-commits (CommitAt n) = true
-commits (Wait n) = false
-commits (Until t) = false
-commits (WaitContact k b) = false
-commits Join = false
-commits Settle = false
-commits End = false
-commits (Edits e) = false
-commits (Test k t) = false
-commits (Jump t) = false
-commits (Set k n) = false
-commits (Loop k t) = false
 
 -- the row of an instruction that commits this configuration, with what leads to it; none for another instruction
 abbrev pub row_at : Line → Option Lead → Configuration → List Row

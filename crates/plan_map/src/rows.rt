@@ -2,12 +2,13 @@
 
 ghost use Rattle.std.specs.Prelude.{◌≡◌, ◌++◌, ◌∷◌, [], IfOk, OnOk};
 ghost use Rattle.plan_map.specs.Leads.{lead_at, lead_after};
-ghost use Rattle.plan_map.specs.Rows.{rows_of, row_at, known_next, left_by, commits};
+ghost use Rattle.plan_map.specs.Rows.{rows_of, row_at, known_next, left_by};
 
 use crate::lead::{Lead, lead_after, lead_at};
 use mux_config::Config;
 use mux_types::BoundedVec;
 use plan_code::{Code, Instr, Line};
+use plan_flow::properties::commits;
 use std::alloc::{AllocError, Global};
 
 /// The kind of a row.
@@ -68,27 +69,6 @@ fn pass(line: &Line, lead: &mut Option<Lead>)
     ensures { let l = line.now in lead.new ≡ lead_after l.instr lead.old }
 {
     *lead = lead_after(line.instr, *lead);
-}
-
-/// Whether an instruction commits the next configuration.
-fn commits(instr: Instr) -> bool
-    ensures { result ≡ commits instr }
-{
-    match instr {
-        Instr::CommitIn(_) => true,
-        Instr::CommitAt(_) => true,
-        Instr::Edit(_) => false,
-        Instr::Wait(_) => false,
-        Instr::Until(_) => false,
-        Instr::WaitContact { .. } => false,
-        Instr::Join => false,
-        Instr::Settle => false,
-        Instr::End => false,
-        Instr::Test { .. } => false,
-        Instr::Jump(_) => false,
-        Instr::Set { .. } => false,
-        Instr::Loop { .. } => false,
-    }
 }
 
 /// A row of this configuration.

@@ -14,7 +14,7 @@ use crate::labels::{label_at, test_entry};
 use mux_config::Store;
 use plan_code::{Code, Instr, Plan};
 use plan_flow::Cause;
-use plan_flow::successors::continues;
+use plan_flow::properties::continues;
 
 /// Checks a jump to the label at the target. Refusals: `Target`, where there is none, `Mismatch` and `Cost`.
 fn test_jump<S: Store>(code: &Code, target: u16, state: &mut KnownState<S>) -> Result<(), Cause>

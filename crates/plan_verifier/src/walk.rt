@@ -14,7 +14,7 @@ use crate::step::{instr_at, judge};
 use mux_config::Store;
 use plan_code::{Code, Counters, Label, Swap};
 use plan_flow::flow::{is_idle, is_same};
-use plan_flow::successors::continues;
+use plan_flow::properties::continues;
 use plan_flow::{Cause, Flow, TrackedFlow, test_opening};
 
 /// Whether a code can start in this state: equal configurations, no pending swap and no counter set.

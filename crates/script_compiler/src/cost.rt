@@ -9,7 +9,7 @@ ghost use Rattle.script_compiler.specs.Longest.{longest};
 ghost use Rattle.script_compiler.specs.Reaching.{GrowsBy, IsAt, Searched, trues};
 
 use plan_code::{Instr, Line};
-use plan_flow::successors::{continues, suspends, target_of};
+use plan_flow::properties::{continues, suspends, target_of};
 use std::alloc::{AllocError, Global};
 
 /// A search for reachable pcs: those reached, and those still to be expanded.

@@ -24,7 +24,7 @@ pub enum FrameCost {
     /// At most those of this path.
     Most(LongestPath),
     /// Without a bound: a loop can repeat without a suspension. The line is that of the first instruction that closes
-    /// such a loop, which is that of the loop's statement.
+    /// such a loop.
     Repeats { line: u16 },
     /// More than 255, so that no budget suffices, though no loop can repeat without a suspension. The line is that of
     /// the first instruction from which so many can run.

@@ -6,7 +6,7 @@ ghost use Rattle.script_compiler.specs.Longest.{need_at, need_to, longest};
 ghost use Rattle.plan_flow.specs.Rules.{continues, target_of};
 
 use plan_code::{Instr, Line};
-use plan_flow::successors::{continues, suspends, target_of};
+use plan_flow::properties::{continues, suspends, target_of};
 use std::alloc::{AllocError, Global};
 
 /// The number at an index; 0 past the end.

@@ -1,9 +1,30 @@
-//! The successors of an instruction.
+//! The properties of an instruction: whether it commits a configuration, and what can run after it.
 
 ghost use Rattle.std.specs.Prelude.{◌≡◌};
-ghost use Rattle.plan_flow.specs.Rules.{continues, suspends, target_of};
+ghost use Rattle.plan_flow.specs.Rules.{commits, continues, suspends, target_of};
 
 use plan_code::Instr;
+
+/// Whether an instruction commits the next configuration.
+pub fn commits(instr: Instr) -> bool
+    ensures { result ≡ commits instr }
+{
+    match instr {
+        Instr::CommitIn(_) => true,
+        Instr::CommitAt(_) => true,
+        Instr::Edit(_) => false,
+        Instr::Wait(_) => false,
+        Instr::Until(_) => false,
+        Instr::WaitContact { .. } => false,
+        Instr::Join => false,
+        Instr::Settle => false,
+        Instr::End => false,
+        Instr::Test { .. } => false,
+        Instr::Jump(_) => false,
+        Instr::Set { .. } => false,
+        Instr::Loop { .. } => false,
+    }
+}
 
 /// Whether an instruction can continue to the one after it.
 pub fn continues(instr: Instr) -> bool
