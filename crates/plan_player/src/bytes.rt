@@ -51,7 +51,8 @@ impl<const N: usize> Bytes<N> {
 
     /// Whether there is no room left.
     pub fn is_full(&self) -> bool
-        ensures { result ≡ false → length self.now < N }
+        ensures room { result ≡ false → length self.now < N }
+        ensures full { result ≡ true → length self.now ≡ N }
     {
         self.len == N
     }
@@ -65,7 +66,8 @@ impl<const N: usize> Bytes<N> {
 
     /// Whether there is room for this many more bytes.
     pub fn has_room(&self, count: usize) -> bool
-        ensures { result ≡ true → length self.now + count ≤ N }
+        ensures room { result ≡ true → length self.now + count ≤ N }
+        ensures none { result ≡ false → N < length self.now + count }
     {
         count <= N - self.len
     }
