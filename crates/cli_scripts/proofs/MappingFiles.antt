@@ -8,6 +8,7 @@ use Rattle.console.specs.declared.exit.Failure.{Failure}
 use Rattle.console.specs.declared.exit.Failure.TheVariants.{Memory, Read, Create, Output}
 use Rattle.console.specs.declared.exit.Status.{Status}
 use Rattle.console.specs.declared.exit.Status.TheVariants.{Done, Refused}
+use Rattle.console.proofs.Writing.{written_whole}
 use Rattle.console.proofs.Worlds.{stays_then_stays, stays_then_but, but_then_written}
 use Rattle.plan_explain.specs.declared.warning.Warning.{Warning}
 use Rattle.plan_map.specs.declared.layout.Layout.{Layout}
@@ -34,21 +35,6 @@ kept_then_appends (Some xs) (Some ys) (Some zs) bytes k h = h ∙ ap (λ (l : Li
 
 pub drawn_through : (a b c d : Option (List ℕ)) (bytes : List ℕ) → Keeps a b → Appends b c bytes → Keeps c d → Appends a d bytes
 drawn_through a b c d bytes first drawn last = Appends-kept a c d bytes (kept_then_appends a b c bytes first drawn) last
-
--- a file that is created, written and closed has the bytes that were written to it
-whole_written : (path bytes : List ℕ) (b : World) (new : Option World) (after : Option (List ℕ)) → Appends (Some []) after bytes
-    → IfSome after (λ held. Becomes (HasWritten path held) (Some b) new) → Becomes (HasWritten path bytes) (Some b) new
-whole_written path bytes b new None took q = absurd took
-whole_written path bytes b None (Some held) took q = absurd q
-whole_written path bytes b (Some c) (Some held) took q = record { written = q.written ∙ ap Some took; rest = q.rest }
-
-pub written_whole : (path bytes : List ℕ) (old mid new : Option World) (before after : Option (List ℕ)) → IfSome old (λ _. before ≡ Some []) → Becomes (IsSameBut path) old mid
-    → Appends before after bytes → IfSome after (λ held. Becomes (HasWritten path held) mid new) → Becomes (HasWritten path bytes) old new
-written_whole path bytes None mid new before after empty p took q = tt
-written_whole path bytes (Some a) None new before after empty p took q = absurd p
-written_whole path bytes (Some a) (Some b) new before after empty p took q =
-    let whole = whole_written path bytes b new after (subst (λ (known : Option (List ℕ)). Appends known after bytes) empty took) q in
-    but_then_written path bytes (Some a) (Some b) new p whole
 
 -- ---- the file of the drawing
 

@@ -161,7 +161,7 @@ fn draw_requested<'a, F: Files>(
 }
 
 /// Writes the drawing of a map to the file of this path.
-#[tactic(auto, using(crate::proofs::MappingFiles::written_whole, console::proofs::Worlds::but_then_but))]
+#[tactic(auto, using(console::proofs::Writing::written_whole, console::proofs::Worlds::but_then_but))]
 fn write_drawing<'a, F: Files>(map: &Map, path: &'a str, files: &mut F) -> Result<(), Failure<'a>>
     ensures written { OnOk result
         (Becomes (HasWritten path.now (drawing_of map.now)) (F.world files.old) (F.world files.new)) }

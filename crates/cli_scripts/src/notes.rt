@@ -77,7 +77,8 @@ pub(crate) fn warning_lines(alloc: Global, path: &str, warnings: &[Warning]) -> 
     Ok(lines)
 }
 
-/// Reports lines on standard error: all of them, the last of which ends with a line feed. No file is changed.
+/// Reports lines on standard error, the last of which ends with a line feed: these lines, or their front where standard
+/// error fails, and nothing else. No file is changed.
 #[tactic(auto, using(crate::proofs::Noted::unreported, crate::proofs::Noted::reported))]
 pub(crate) fn report_notes<F: Files>(lines: &[u8], files: &mut F)
     ensures { Becomes (IsNotedOnly lines.now) (F.world files.old) (F.world files.new) }

@@ -1,45 +1,26 @@
 -- A buffer filled from the front by reads, and the multiplexer's next frame.
-use Rattle.std.proofs.Common.{◌≡◌, ℕ, ◌+◌, ◌-◌, ◌<◌, ◌≤◌, Bool, true, false, inl, inr, List, [], ◌∷◌, ◌++◌, Option, arith, length, take, slice_range, refl, sym, ap, ◌∙◌, subst, le_refl, drop_at, length-take-le, length-append, append_assoc, append-nil}
+use Rattle.std.proofs.Common.{◌≡◌, ℕ, ◌+◌, ◌<◌, ◌≤◌, Bool, true, false, inl, inr, List, [], ◌∷◌, ◌++◌, Option, arith, length, take, refl, sym, ap, ◌∙◌, subst, length-append, append_assoc, append-nil}
 use Rattle.std.specs.Prelude.{Result, Ok, Err, IfOk}
 use Rattle.std.specs.Io.{ReadsAtMost}
 use Rattle.std.specs.List.{concat}
 use Rattle.std.proofs.lemmas.List.Folds.{concat-append}
-use Rattle.std.proofs.lemmas.Slice.{take-put_mid_below}
 use Rattle.std.specs.Io.KnownBytes.{ReadConsumes, Consumes}
 use Rattle.std.proofs.KnownBytes.{Consumes-trans}
 use Rattle.fib_codec.proofs.Lengths.{AllByRecursion-append}
 use Rattle.fig_merge.specs.Taking.{Merging}
+use Rattle.console.proofs.Filling.{filled_more}
 use Rattle.console.specs.declared.exit.Status.{Status}
 use Rattle.console.specs.declared.exit.Status.TheVariants.{Done, Refused, Misused, Faulty}
 use Rattle.cli_streams.specs.Merged.{ReadsFrame, TakesAs, TakesFrames, TakesNext}
 use Rattle.cli_streams.specs.declared.merge.MergeFault.{MergeFault}
 use Rattle.cli_streams.specs.declared.merge.MergeFault.TheVariants.{Failed, NotWhole, Write}
-use borrow.Rule.Slice.PartMut.{put_mid, post_of}
-use lib.Seq.{take-add, take-append-le}
+use borrow.Rule.Slice.PartMut.{put_mid}
 
 -- ---- one more read
 
-take_split : (a b : ℕ) (old new : List ℕ) → a ≤ b → take a new ≡ take a old → take a old ++ slice_range new a b ≡ take b new
-take_split a b old new h front =
-    let same : a + (b - a) ≡ b = omega arith in
-    ap (λ l. l ++ slice_range new a b) (sym front) ∙ sym (take-add a (b - a) new) ∙ ap (λ n. take n new) same
-
-slice_range-put_mid : (a k n : ℕ) (xs ys : List ℕ) → a ≤ length xs → n ≤ length ys → slice_range (put_mid a k xs ys) a (a + n) ≡ take n ys
-slice_range-put_mid a k n xs ys within fits =
-    let same : (a + n) - a ≡ n = omega arith in
-    let after = post_of a k xs in
-    ap (take ((a + n) - a)) (drop_at (take a xs) (ys ++ after) a (length-take-le a xs within)) ∙ ap (λ m. take m (ys ++ after)) same ∙ take-append-le n ys after fits
-
--- bytes that are read into the rest of a buffer follow those before them
-pub read_more : (a b c : Option (List ℕ)) (at room n : ℕ) (buffer part : List ℕ) → at ≤ length buffer → n ≤ length part → Consumes a b (take at buffer) → Consumes b c (take n part) → Consumes a c (take (at + n) (put_mid at room buffer part))
-read_more a b c at room n buffer part within fits before read =
-    let some = slice_range-put_mid at room n buffer part within fits in
-    let joined = take_split at (at + n) buffer (put_mid at room buffer part) (omega arith) (take-put_mid_below _ _ _ _ _ (le_refl _) within) in
-    subst (Consumes a c) (ap (λ l. take at buffer ++ l) (sym some) ∙ joined) (Consumes-trans a b c _ _ before read)
-
 pub ok_reads : {E : Type 0} (b c : Option (List ℕ)) (at room : ℕ) (buffer part : List ℕ) (result : Result ℕ E) → at ≤ length buffer → ReadsAtMost result part → ReadConsumes b c result part
     → IfOk result (λ n. (a : Option (List ℕ)) → Consumes a b (take at buffer) → Consumes a c (take (at + n) (put_mid at room buffer part)))
-ok_reads b c at room buffer part (Ok n) within bound bytes = λ a before. read_more a b c at room n buffer part within bound.0 before bytes.0
+ok_reads b c at room buffer part (Ok n) within bound bytes = λ a before. filled_more a b c at room n buffer part within bound.0 before bytes.0
 ok_reads b c at room buffer part (Err e) within bound bytes = tt
 
 -- ---- the multiplexer's next frame

@@ -1,5 +1,5 @@
 mod Escaping
-mod Filling
+pub mod Filling
 mod LineLaws
 mod LineReading
 mod Reporting
@@ -8,4 +8,4 @@ mod VectorsOfEndings
 mod VectorsOfEscapes
 mod VectorsOfWorlds
 pub mod Worlds
-mod Writing
+pub mod Writing

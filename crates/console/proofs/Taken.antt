@@ -1,5 +1,5 @@
 -- What the output has taken at the end, from what was printed and what its flush left.
-use Rattle.std.proofs.Common.{◌≡◌, ◌+◌, ◌-◌, ◌<◌, ◌⊎◌, ℕ, List, ◌++◌, length, Option, None, Some, Result, Ok, Err, Bool, IfOk, IsErr, OnOk, OnErr, take, drop, refl, sym, ◌∙◌, ap, subst, inl, inr, append_assoc, length-append, length-drop, take-append-drop, arith}
+use Rattle.std.proofs.Common.{◌≡◌, ◌+◌, ◌-◌, ◌<◌, ℕ, List, ◌++◌, length, Option, None, Some, Result, Ok, Err, Bool, IfOk, IsErr, OnOk, OnErr, take, drop, refl, sym, ◌∙◌, ap, subst, inl, inr, append_assoc, length-append, length-drop, take-append-drop, arith}
 use Rattle.std.specs.Io.KnownBytes.{Appends, Keeps, append_known}
 use Rattle.std.proofs.KnownBytes.{Keeps-refl, Keeps-trans}
 use Rattle.console.specs.Endings.{IsPut, IsTaken, LacksEnd, Reports, ReportsTo, failure_line, status_number}

@@ -3,4 +3,5 @@ pub mod Finding
 pub mod Leaving
 pub mod Merging
 pub mod Moving
+pub mod Samples
 mod VectorsOfIndices

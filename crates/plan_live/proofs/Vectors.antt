@@ -3,7 +3,6 @@ use Rattle.std.specs.Prelude.{codes, replicate}
 use Rattle.std.proofs.Common.{◌≡◌, ℕ, List, [], ◌∷◌, length, Result, Ok, Err, Some, None, true, false, refl, sym, ap, arith, inl, inr}
 use Rattle.std.proofs.lemmas.Fmt.{decimal_digit}
 use Rattle.std.proofs.lemmas.List.{length-replicate}
-use Rattle.fib_codec.specs.declared.frame_layout.FrameLayout.TheVariants.{Whole}
 use Rattle.script_tokens.specs.declared.fault.Position.{Position}
 use Rattle.script_tokens.specs.declared.fault.ScriptFault.{ScriptFault}
 use Rattle.script_tokens.specs.declared.fault.ScriptFault.TheVariants.{Byte as ByteAt}
@@ -12,20 +11,15 @@ use Rattle.script_tokens.specs.declared.token.Inside.TheVariants.{Nothing}
 use Rattle.script_tokens.specs.declared.token.TheConstants.{NO_LIMITS}
 use Rattle.script_tokens.specs.Bytes.{first_position}
 use Rattle.script_tokens.specs.Lexing.{lexed}
-use Rattle.plan_code.specs.declared.hold.Hold.TheVariants.{Running, Waits, WaitsSwap, Ended}
+use Rattle.plan_code.specs.declared.hold.Hold.TheVariants.{Waits, WaitsSwap, Ended}
 use Rattle.plan_code.specs.Machine.{State}
 use Rattle.plan_runs.specs.declared.event.Event.{Event}
 use Rattle.plan_runs.specs.declared.event.Event.TheVariants.{Contact, Frame}
 use Rattle.mux_config.specs.Configuration.{Configuration, nothing}
-use Rattle.fib_codec.specs.declared.modes.Mode.TheVariants.{I}
-use Rattle.plan_code.specs.declared.plan.Plan.{Plan}
-use Rattle.plan_code.specs.declared.flags.Counters.{Counters}
-use Rattle.plan_code.specs.declared.flags.Contacts.{Contacts}
-use Rattle.plan_code.specs.declared.label.Label.{Label}
-use Rattle.plan_code.specs.declared.label.Swap.TheVariants.{Idle}
 use Rattle.plan_code.specs.declared.instr.Line.{Line}
 use Rattle.plan_code.specs.declared.instr.Instr.TheVariants.{Wait, End as EndOfPlan}
 use Rattle.plan_code.specs.Program.{Program}
+use Rattle.plan_runs.proofs.Samples.{plan, label, code, first_state}
 use Rattle.plan_player.specs.Playing.{Playing}
 use Rattle.plan_session.specs.declared.event_fault.EventFault.{EventFault}
 use Rattle.plan_session.specs.declared.event_fault.EventFault.TheVariants.{Byte as AtByte, Number as AtNumber, Expected as AtOther, Memory as NoMemory}
@@ -44,39 +38,14 @@ use Rattle.plan_live.specs.Lines.{LineHolds, IsRefusedWith, IsLineFault, LineDoe
 
 -- ---- values shared by these vectors: a code of an empty multiplex that waits for a frame and ends
 
-abbrev pub plan : Plan
-plan = record { eid = 0xe1c5; layout = Whole I; period = 4; notice = 24; budget = 20 }
-
-abbrev no_counters : Counters
-no_counters = record { 0 = 0 }
-
-abbrev pub all_open : Contacts
-all_open = record { 0 = 0 }
-
-abbrev label : Label
-label = record { pc = 0; cur = 0; next = 0; pending = Idle; counters = no_counters; cost = 1 }
-
 abbrev instructions : List Line
 instructions = record { number = 1; instr = Wait 1 } ∷ record { number = 2; instr = EndOfPlan } ∷ []
 
 abbrev pub waits : Program
-waits = record { plan = plan; configurations = nothing ∷ []; labels = label ∷ []; lines = instructions }
+waits = code (label 0 1 ∷ []) instructions
 
 abbrev pub first : State
-first =
-    record {
-      current = nothing;
-      next = nothing;
-      left = None;
-      pc = 0;
-      hold = Running;
-      counters = replicate 8 0;
-      contacts = all_open;
-      count = 0;
-      day = 0;
-      eid = 0xe1c5;
-      page_index = 0;
-    }
+first = first_state nothing 0
 
 abbrev pub fresh : Playing
 fresh = record { code = waits; state = first; steps = 0 }

@@ -8,6 +8,7 @@ use Rattle.plan_player.specs.Delivery.{frames_of}
 use Rattle.plan_session.specs.declared.step.Step.{Step}
 use Rattle.plan_session.specs.declared.step.Step.TheVariants.{Frames}
 use Rattle.plan_session.specs.Events.{events_of}
+use Rattle.plan_runs.proofs.Samples.{plan}
 use Rattle.plan_live.specs.declared.fault.Stop.TheVariants.{Write, Memory, TooMany}
 use Rattle.plan_live.specs.declared.message.Message.{Message}
 use Rattle.plan_live.specs.declared.message.Message.TheVariants.{Swap, End}
@@ -16,7 +17,7 @@ use Rattle.plan_live.specs.declared.options.LiveOptions.{LiveOptions}
 use Rattle.plan_live.specs.Living.{Streamed, streamed, streams_at}
 use Rattle.plan_live.specs.Looking.{look_of, notes_between}
 use Rattle.plan_live.specs.Going.{kept, FrameWent, FrameCut, FrameStops, Went, CutIn, StopsIn, Plays, LineWent, LineStops, TakesLine, Going}
-use Rattle.plan_live.proofs.Vectors.{plan, first, fresh, frames, two_frames, at_sign, no_steps, two_are_held, end_told, bad_told, two_are_played, bad_is_told, with_status}
+use Rattle.plan_live.proofs.Vectors.{first, fresh, frames, two_frames, at_sign, no_steps, two_are_held, end_told, bad_told, two_are_played, bad_is_told, with_status}
 use Rattle.plan_live.proofs.VectorsOfRuns.{input, before, after, one, reached, reached_first, in_a_frame, four_bytes}
 
 -- ---- a frame

@@ -4,8 +4,9 @@ use Rattle.std.proofs.Common.{◌≡◌, ℕ, List, [], ◌∷◌, ◌++◌, len
 use Rattle.std.proofs.lemmas.Bool.{false≢true}
 use Rattle.std.specs.List.{AllByRecursion}
 use Rattle.console.specs.Lines.{lines_of, GivesLines}
+use Rattle.mux_config.specs.Configuration.{nothing}
 use Rattle.plan_code.specs.declared.fault.CodeFault.TheVariants.{Memory as NoMemoryForCode, Magic}
-use Rattle.plan_code.specs.declared.label.Swap.TheVariants.{Idle}
+use Rattle.plan_runs.proofs.Samples.{all_open, it_starts}
 use Rattle.plan_player.specs.Playing.{Playing, played}
 use Rattle.plan_player.specs.Delivery.{next_frame}
 use Rattle.plan_session.specs.declared.run_fault.RunFault.TheVariants.{Code, Write as WriteOfPlay}
@@ -21,7 +22,7 @@ use Rattle.plan_live.specs.declared.message.Message.{Message}
 use Rattle.plan_live.specs.Lines.{IsLineFault, LinesDo}
 use Rattle.plan_live.specs.Living.{kept_bytes, Streamed, streamed, Reached, AreDone, Whole, IsPrompt, Broken, Unserved, IsCutAt, Cut, StoppedBy, HasFailed}
 use Rattle.plan_live.specs.Beginning.{Begins, Lives, IsBeginFault, IsLiveFault, HasLiveFailed}
-use Rattle.plan_live.proofs.Vectors.{all_open, waits, fresh, frames, two_frames, two_are_held, only_two, end_told, two_are_played, with_status}
+use Rattle.plan_live.proofs.Vectors.{waits, fresh, frames, two_frames, two_are_held, only_two, end_told, two_are_played, with_status}
 
 -- ---- the bytes that are written
 
@@ -224,21 +225,7 @@ starts h = record {
   ready = h;
   begins = record {
     code_is = refl;
-    state_is = record {
-      label = record { pc = 0; cur = 0; next = 0; pending = Idle; counters = record { 0 = 0 }; cost = 1 };
-      first = refl;
-      current = refl;
-      next = refl;
-      left = refl;
-      pc = refl;
-      hold = refl;
-      counters = refl;
-      contacts = refl;
-      count = refl;
-      day = refl;
-      eid = refl;
-      page_index = refl;
-    };
+    state_is = it_starts nothing waits.lines 0 1;
     none_yet = refl;
   };
 }

@@ -1,8 +1,7 @@
 -- A line of one word, with which no list of steps begins.
-use Rattle.std.proofs.Common.{◌≡◌, ℕ, List, [], ◌∷◌, ◌++◌, flat_map, true, false, length, refl, sym, ap, ◌∙◌, arith}
-use Rattle.std.specs.Prelude.{codes, Result, Ok}
+use Rattle.std.proofs.Common.{◌≡◌, ℕ, List, [], ◌∷◌, ◌++◌, flat_map, true, false, refl, sym, ap, ◌∙◌}
+use Rattle.std.specs.Prelude.{codes, Ok}
 use Rattle.std.specs.Str.{all_ascii_digits}
-use Rattle.script_tokens.specs.declared.fault.ScriptFault.{ScriptFault}
 use Rattle.script_tokens.specs.declared.fault.Position.{Position}
 use Rattle.script_tokens.specs.declared.token.Token.{Token}
 use Rattle.script_tokens.specs.Bytes.{first_position, token_at}

@@ -14,8 +14,9 @@ use Rattle.plan_code.specs.declared.instr.Instr.{Instr}
 use Rattle.plan_code.specs.declared.instr.Instr.TheVariants.{Wait, Until, WaitContact, CommitIn, CommitAt, Join, Settle, End, Edit as Edits, Test, Jump, Set, Loop}
 use Rattle.plan_code.specs.declared.instr.Line.{Line}
 use Rattle.plan_code.specs.Program.{Program, instr_at, label_at}
-use Rattle.plan_verifier.specs.Typing.{Known, IsTyping, IsFine, Arrives, continues, leaves, known_after_swap, after_wait, perhaps_swapped, after_pause, after_settle}
-use Rattle.plan_verifier.proofs.Tabled.{found}
+use Rattle.plan_flow.specs.Rules.{commits}
+use Rattle.plan_verifier.specs.Typing.{Known, IsTyping, IsFine, leaves, known_after_swap, after_wait, perhaps_swapped, after_pause, after_settle}
+use Rattle.plan_verifier.proofs.Tabled.{found, unlabelled}
 use Rattle.plan_runs.specs.Swaps.{IsCommit}
 use Rattle.plan_runs.proofs.Lookups.{get_some}
 use Rattle.plan_map.specs.declared.rows.Row.{Row}
@@ -23,7 +24,7 @@ use Rattle.plan_map.specs.declared.rows.RowKind.TheVariants.{Commit}
 use Rattle.plan_map.specs.declared.lead.Lead.{Lead}
 use Rattle.plan_map.specs.declared.lead.Lead.TheVariants.{Begin as Beginning}
 use Rattle.plan_map.specs.Leads.{lead_at, lead_after}
-use Rattle.plan_map.specs.Rows.{or_else, declared_by, known_next, opening_of, unless_at_fault, left_by, commits, commits_from, rows_of}
+use Rattle.plan_map.specs.Rows.{or_else, declared_by, known_next, opening_of, unless_at_fault, left_by, commits_from, rows_of}
 use Rattle.plan_map.specs.Committed.{HasCommit, RowsAreCommits}
 
 some_same : {A : Type 0} (x y : A) → Some x ≡ Some y → x ≡ y
@@ -92,20 +93,6 @@ labelled p typing pc label next t h e there =
     let here : slice_get typing pc ≡ Some typed.known = subst (λ k. slice_get typing k ≡ Some typed.known) at typed.there in
     let same : typed.known ≡ t = some_same typed.known t (sym here ∙ there) in
     ap (λ o. or_else o next) typed.declares.next ∙ ap (λ (k : Known). k.next) same
-
--- without one, it is what the instruction before left
-unlabelled : (p : Program) (typing : List Known) (pc : ℕ) (i : Instr) (t u : Known) → IsTyping p typing → instr_at p pc ≡ Some i → slice_get typing pc ≡ Some t → label_at p (pc + 1) ≡ None
-    → slice_get typing (pc + 1) ≡ Some u → u ≡ leaves p.plan i t
-unlabelled p typing pc i t u h at there e later =
-    let within : pc + 1 < length typing = slice_get_within typing (pc + 1) u later in
-    let inside : pc + 1 < length p.lines = subst (λ n. pc + 1 < n) h.each within in
-    let after = h.reached (pc + 1) inside e in
-    let back : after.before ≡ pc = omega (arith, after.next) in
-    let same : after.instr ≡ i = some_same after.instr i (sym (subst (λ k. instr_at p k ≡ Some after.instr) back after.there) ∙ at) in
-    let onward : continues i ≡ true = subst (λ j. continues j ≡ true) same after.onward in
-    let arrives = (h.safe pc i t at there).onward onward in
-    let gets : slice_get typing (pc + 1) ≡ Some (leaves p.plan i t) = subst (λ o. Arrives p typing (pc + 1) o (leaves p.plan i t)) e arrives in
-    some_same u (leaves p.plan i t) (sym later ∙ gets)
 
 entering : (p : Program) (typing : List Known) (pc : ℕ) (i : Instr) (t u : Known) (next : Configuration) (o : Option Label) → IsTyping p typing → instr_at p pc ≡ Some i → slice_get typing pc ≡ Some t
     → next ≡ (leaves p.plan i t).next → label_at p (pc + 1) ≡ o → slice_get typing (pc + 1) ≡ Some u → declared_by p o next ≡ u.next

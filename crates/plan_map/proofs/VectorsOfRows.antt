@@ -1,25 +1,20 @@
 -- A code that drops a sub-channel and commits that: for each definition, an example that holds and one that fails.
-use Rattle.std.proofs.Common.{◌≡◌, ℕ, zero, suc, ◌+◌, ◌<◌, List, [], ◌∷◌, length, Some, None, replicate, refl, sym, ap, ◌∙◌, arith, inl, inr}
-use Rattle.fib_codec.specs.declared.frame_layout.FrameLayout.TheVariants.{Whole}
-use Rattle.fib_codec.specs.declared.modes.Mode.TheVariants.{I}
+use Rattle.std.proofs.Common.{◌≡◌, ℕ, zero, suc, ◌+◌, ◌<◌, List, [], ◌∷◌, length, Some, None, refl, sym, ap, ◌∙◌, arith, inl, inr}
 use Rattle.mux_eep.specs.declared.sizes.EepSet.TheVariants.{A}
 use Rattle.mux_types.specs.declared.parts.Sub.{Sub}
 use Rattle.mux_types.specs.Configuration.{Configuration}
 use Rattle.mux_types.proofs.Elements.{contains_first, contains_later, contains_cases, contains_none}
 use Rattle.mux_config.specs.declared.edit.Edit.TheVariants.{DropSub}
-use Rattle.plan_code.specs.declared.plan.Plan.{Plan}
-use Rattle.plan_code.specs.declared.flags.Counters.{Counters}
-use Rattle.plan_code.specs.declared.flags.Contacts.{Contacts}
-use Rattle.plan_code.specs.declared.hold.Hold.TheVariants.{Running}
-use Rattle.plan_code.specs.declared.label.Label.{Label}
 use Rattle.plan_code.specs.declared.label.Swap.TheVariants.{Idle}
 use Rattle.plan_code.specs.declared.instr.Instr.{Instr}
 use Rattle.plan_code.specs.declared.instr.Instr.TheVariants.{CommitIn, Join, End, Edit}
 use Rattle.plan_code.specs.declared.instr.Line.{Line}
 use Rattle.plan_code.specs.Program.{Program}
 use Rattle.plan_code.specs.Machine.{State}
+use Rattle.plan_flow.proofs.Samples.{plan, counters, label}
 use Rattle.plan_verifier.specs.Typing.{Known}
 use Rattle.plan_runs.specs.Frames.{ready, burst}
+use Rattle.plan_runs.proofs.Samples.{first_state}
 use Rattle.plan_map.specs.declared.rows.Row.{Row}
 use Rattle.plan_map.specs.declared.rows.RowKind.TheVariants.{Begin, Commit}
 use Rattle.plan_map.specs.declared.lead.Lead.TheVariants.{Begin as Beginning}
@@ -37,18 +32,6 @@ both = record { subs = sub 1 0 ∷ sub 2 96 ∷ []; services = []; packets = [] 
 abbrev one : Configuration
 one = record { subs = sub 1 0 ∷ []; services = []; packets = [] }
 
-abbrev plan : Plan
-plan = record { eid = 0xe1c5; layout = Whole I; period = 4; notice = 24; budget = 20 }
-
-abbrev no_counters : Counters
-no_counters = record { 0 = 0 }
-
-abbrev all_open : Contacts
-all_open = record { 0 = 0 }
-
-abbrev label : Label
-label = record { pc = 0; cur = 0; next = 0; pending = Idle; counters = no_counters; cost = 3 }
-
 abbrev line : ℕ → Instr → Line
 line number i = record { number = number; instr = i }
 
@@ -60,7 +43,7 @@ drops =
     record {
       plan = plan;
       configurations = both ∷ [];
-      labels = label ∷ [];
+      labels = label 0 3 ∷ [];
       lines = line 3 (Edit (DropSub 2)) ∷ commit ∷ line 5 Join ∷ line 5 End ∷ [];
     }
 
@@ -109,7 +92,7 @@ wrong_line h =
     omega (arith, lines)
 
 abbrev knows : Configuration → Configuration → Known
-knows c n = record { current = c; next = n; pending = Idle; counters = no_counters; allowance = 3 }
+knows c n = record { current = c; next = n; pending = Idle; counters = counters 0; allowance = 3 }
 
 abbrev typing : List Known
 typing = knows both both ∷ knows both one ∷ []
@@ -134,20 +117,7 @@ opening_is_of_none n h = let same : Begin ≡ Commit = h.kind in absurd cc
 -- ---- a run
 
 abbrev first : State
-first =
-    record {
-      current = both;
-      next = both;
-      left = None;
-      pc = 0;
-      hold = Running;
-      counters = replicate 8 0;
-      contacts = all_open;
-      count = 0;
-      day = 0;
-      eid = 0xe1c5;
-      page_index = 0;
-    }
+first = first_state both 0
 
 commits_one : CommitsAt drops first 1 commit one
 commits_one = record { steps = 1; within = omega arith; reached = refl; there = refl; commits = tt; next = refl }

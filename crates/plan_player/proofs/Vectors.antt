@@ -7,12 +7,6 @@ use Rattle.mux_config.specs.Configuration.{nothing}
 use Rattle.fib_codec.specs.declared.modes.Mode.TheVariants.{I}
 use Rattle.fib_carousel.specs.Bytes.{page_bytes}
 use Rattle.fib_carousel.specs.declared.kept_page.KeptPage.{KeptPage}
-use Rattle.plan_code.specs.declared.plan.Plan.{Plan}
-use Rattle.plan_code.specs.declared.flags.Counters.{Counters}
-use Rattle.plan_code.specs.declared.flags.Contacts.{Contacts}
-use Rattle.plan_code.specs.declared.hold.Hold.TheVariants.{Running}
-use Rattle.plan_code.specs.declared.label.Label.{Label}
-use Rattle.plan_code.specs.declared.label.Swap.TheVariants.{Idle}
 use Rattle.plan_code.specs.declared.instr.Line.{Line}
 use Rattle.plan_code.specs.declared.instr.Instr.TheVariants.{Wait, End}
 use Rattle.plan_code.specs.Program.{Program}
@@ -20,6 +14,7 @@ use Rattle.plan_code.specs.Machine.{State}
 use Rattle.plan_runs.specs.declared.event.Event.{Event}
 use Rattle.plan_runs.specs.declared.event.Event.TheVariants.{Contact, Frame}
 use Rattle.plan_runs.specs.declared.event.Start.{Start}
+use Rattle.plan_runs.proofs.Samples.{label, code, start_at, first_state, it_starts}
 use Rattle.plan_player.specs.declared.fault.StartFault.TheVariants.{Count, Day}
 use Rattle.plan_player.specs.declared.fault.PlayFault.TheVariants.{Write}
 use Rattle.plan_player.specs.Playing.{Playing, start_fault, IsAtStart, last_steps, played}
@@ -29,42 +24,17 @@ use Rattle.plan_player.specs.Phase.{HasPage, ShowsAs, HasChange, KeepsChange}
 
 -- ---- values shared by these vectors: an empty multiplex
 
-abbrev plan : Plan
-plan = record { eid = 0xe1c5; layout = Whole I; period = 4; notice = 24; budget = 20 }
-
-abbrev no_counters : Counters
-no_counters = record { 0 = 0 }
-
-abbrev all_open : Contacts
-all_open = record { 0 = 0 }
-
-abbrev label : Label
-label = record { pc = 0; cur = 0; next = 0; pending = Idle; counters = no_counters; cost = 1 }
-
 abbrev lines : List Line
 lines = record { number = 1; instr = Wait 1 } ∷ record { number = 2; instr = End } ∷ []
 
 abbrev waits : Program
-waits = record { plan = plan; configurations = nothing ∷ []; labels = label ∷ []; lines = lines }
+waits = code (label 0 1 ∷ []) lines
 
 abbrev start : Start
-start = record { eid = 0xe1c5; count = 0; day = 0; contacts = all_open }
+start = start_at 0
 
 abbrev first : State
-first =
-    record {
-      current = nothing;
-      next = nothing;
-      left = None;
-      pc = 0;
-      hold = Running;
-      counters = replicate 8 0;
-      contacts = all_open;
-      count = 0;
-      day = 0;
-      eid = 0xe1c5;
-      page_index = 0;
-    }
+first = first_state nothing 0
 
 abbrev fresh : Playing
 fresh = record { code = waits; state = first; steps = 0 }
@@ -90,21 +60,7 @@ day_alone = refl
 begins : IsAtStart waits start fresh
 begins = record {
   code_is = refl;
-  state_is = record {
-    label = label;
-    first = refl;
-    current = refl;
-    next = refl;
-    left = refl;
-    pc = refl;
-    hold = refl;
-    counters = refl;
-    contacts = refl;
-    count = refl;
-    day = refl;
-    eid = refl;
-    page_index = refl;
-  };
+  state_is = it_starts nothing lines 0 1;
   none_yet = refl;
 }
 

@@ -1,39 +1,17 @@
 -- The preconditions of a frame: examples that hold and examples that fail.
-use Rattle.std.proofs.Common.{◌≡◌, ℕ, zero, suc, ◌<◌, true, false, List, [], ◌∷◌, replicate, Some, None, refl, sym, subst, arith}
-use Rattle.fib_codec.specs.declared.frame_layout.FrameLayout.TheVariants.{Whole}
-use Rattle.mux_config.specs.Configuration.{IsConfiguration, nothing}
-use Rattle.fib_codec.specs.declared.modes.Mode.TheVariants.{I}
-use Rattle.plan_code.specs.declared.plan.Plan.{Plan}
-use Rattle.plan_code.specs.declared.flags.Counters.{Counters}
-use Rattle.plan_code.specs.declared.flags.Contacts.{Contacts}
-use Rattle.plan_code.specs.declared.hold.Hold.TheVariants.{Running}
-use Rattle.plan_code.specs.declared.label.Label.{Label}
-use Rattle.plan_code.specs.declared.label.Swap.TheVariants.{Idle}
+use Rattle.std.proofs.Common.{◌≡◌, ℕ, zero, suc, ◌<◌, true, false, List, [], ◌∷◌, Some, refl, sym, subst, arith}
+use Rattle.mux_config.specs.Configuration.{nothing}
 use Rattle.plan_code.specs.declared.instr.Instr.{Instr}
 use Rattle.plan_code.specs.declared.instr.Line.{Line}
 use Rattle.plan_code.specs.declared.instr.Instr.TheVariants.{Wait, Join, End}
 use Rattle.plan_code.specs.Program.{Program}
 use Rattle.plan_code.specs.Machine.{State, IsAllowed}
+use Rattle.plan_runs.proofs.Samples.{plan, label, line, empty_is, code as labelled, first_state}
 use Rattle.plan_runs.specs.Frames.{Executes, ready, after_burst}
 use Rattle.plan_player.specs.Positions.{CanRun, CanContinue}
 
-abbrev plan : Plan
-plan = record { eid = 0xe1c5; layout = Whole I; period = 4; notice = 24; budget = 20 }
-
-abbrev no_counters : Counters
-no_counters = record { 0 = 0 }
-
-abbrev all_open : Contacts
-all_open = record { 0 = 0 }
-
-abbrev label : Label
-label = record { pc = 0; cur = 0; next = 0; pending = Idle; counters = no_counters; cost = 1 }
-
-abbrev line : Instr → Line
-line i = record { number = 1; instr = i }
-
 abbrev code : List Line → Program
-code lines = record { plan = plan; configurations = nothing ∷ []; labels = label ∷ []; lines = lines }
+code lines = labelled (label 0 1 ∷ []) lines
 
 abbrev waits : Program
 waits = code (line (Wait 1) ∷ line End ∷ [])
@@ -43,20 +21,7 @@ joins = code (line Join ∷ [])
 
 -- at count 1, where no FIG 0/0 is sent
 abbrev first : State
-first =
-    record {
-      current = nothing;
-      next = nothing;
-      left = None;
-      pc = 0;
-      hold = Running;
-      counters = replicate 8 0;
-      contacts = all_open;
-      count = 1;
-      day = 0;
-      eid = 0xe1c5;
-      page_index = 0;
-    }
+first = first_state nothing 1
 
 -- ---- instructions
 
@@ -83,19 +48,6 @@ joins_no_swap : CanRun joins (ready first) → ⊥
 joins_no_swap h = join_traps h.steps h.end h.executes
 
 -- ---- a frame
-
-empty_is : IsConfiguration nothing
-empty_is = record {
-  subs_ascend = tt;
-  services_ascend = tt;
-  packets_ascend = tt;
-  subs_placed = tt;
-  services_formed = tt;
-  packets_addressed = tt;
-  subs_few = omega arith;
-  services_few = omega arith;
-  packets_few = omega arith;
-}
 
 progress : CanContinue waits first
 progress = record {

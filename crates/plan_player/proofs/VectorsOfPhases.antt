@@ -1,11 +1,8 @@
 -- The pages that a player keeps of a phase, and its invariant between frames, for a code with one sub-channel that
 -- waits for a frame and ends: examples that hold and examples that fail for each definition.
 use Rattle.std.specs.Prelude.{get_or}
-use Rattle.std.proofs.Common.{◌≡◌, ℕ, zero, suc, ◌+◌, ◌*◌, ◌<◌, ◌≤◌, true, false, List, [], ◌∷◌, Some, None, replicate, refl, ap, arith}
+use Rattle.std.proofs.Common.{◌≡◌, ℕ, zero, suc, ◌<◌, ◌≤◌, true, false, List, [], ◌∷◌, Some, None, replicate, refl, ap, arith}
 use Rattle.fib_codec.specs.declared.frame_layout.FrameLayout.TheVariants.{Whole}
-use Rattle.mux_eep.specs.declared.sizes.EepSet.TheVariants.{A}
-use Rattle.mux_types.specs.declared.parts.Sub.{Sub}
-use Rattle.mux_config.specs.Configuration.{Configuration, IsPlaced, IsConfiguration}
 use Rattle.mux_types.specs.Facts.{Marked}
 use Rattle.fib_codec.specs.declared.modes.Mode.TheVariants.{I}
 use Rattle.fib_carousel.specs.declared.kept_page.KeptPage.{KeptPage}
@@ -14,22 +11,14 @@ use Rattle.fib_carousel.specs.Bytes.{page_bytes}
 use Rattle.fib_carousel.specs.Greedy.{start as before_all}
 use Rattle.fib_carousel.specs.Pages.{page_set, rounds}
 use Rattle.fib_carousel.proofs.Sendable.{sendable_page_set}
-use Rattle.plan_code.specs.declared.plan.Plan.{Plan}
-use Rattle.plan_code.specs.declared.flags.Counters.{Counters}
-use Rattle.plan_code.specs.declared.flags.Contacts.{Contacts}
-use Rattle.plan_code.specs.declared.hold.Hold.TheVariants.{Running}
-use Rattle.plan_code.specs.declared.label.Label.{Label}
-use Rattle.plan_code.specs.declared.label.Swap.TheVariants.{Idle}
-use Rattle.plan_code.specs.declared.instr.Instr.{Instr}
-use Rattle.plan_code.specs.declared.instr.Line.{Line}
 use Rattle.plan_code.specs.declared.instr.Instr.TheVariants.{Wait, End}
-use Rattle.plan_code.specs.Program.{Program, IsProgram, IsPlan, IsLabel, IsInstr, IsLine}
+use Rattle.plan_code.specs.Program.{Program, IsProgram}
 use Rattle.plan_code.specs.Machine.{State}
 use Rattle.plan_verifier.proofs.OneVerdict.{typed_if}
+use Rattle.plan_runs.proofs.Samples.{plan, with_sub, one_sub, one_sub_is, many_subs, label, line, line_is, code_from, first_from_is, start_at, in_range, first_state, it_starts}
 use Rattle.plan_runs.specs.declared.event.Event.TheVariants.{Frame}
 use Rattle.plan_runs.specs.declared.event.Start.{Start}
 use Rattle.plan_runs.specs.Frames.{after_frame}
-use Rattle.plan_runs.specs.Runs.{StartIsInRange, IsStart}
 use Rattle.plan_runs.specs.TypedRuns.{IsPlayed}
 use Rattle.plan_runs.proofs.Reached.{starts_are_reached, reached_is_kept}
 use Rattle.plan_player.specs.declared.phase_pages.PhasePages.{PhasePages}
@@ -39,54 +28,14 @@ use Rattle.plan_player.proofs.FrameFacts.{frame_ready}
 
 -- ---- values shared by these vectors: one sub-channel, at 128 kbit/s and at 96 kbit/s, and a code with it
 
-abbrev pub plan : Plan
-plan = record { eid = 0xe1c5; layout = Whole I; period = 4; notice = 24; budget = 20 }
-
-abbrev with_sub : ℕ → Configuration
-with_sub kbits = record {
-  subs = record { id = 1; start = 0; protection = record { set = A; level = 3 }; kbits = kbits } ∷ [];
-  services = [];
-  packets = [];
-}
-
-abbrev no_counters : Counters
-no_counters = record { 0 = 0 }
-
-abbrev all_open : Contacts
-all_open = record { 0 = 0 }
-
-abbrev label : Label
-label = record { pc = 0; cur = 0; next = 0; pending = Idle; counters = no_counters; cost = 1 }
-
-abbrev line : Instr → Line
-line i = record { number = 1; instr = i }
-
 abbrev pub waits : Program
-waits = record {
-  plan = plan;
-  configurations = with_sub 128 ∷ [];
-  labels = label ∷ [];
-  lines = line (Wait 1) ∷ line End ∷ [];
-}
+waits = code_from one_sub (label 0 1 ∷ []) (line (Wait 1) ∷ line End ∷ [])
 
 abbrev start : Start
-start = record { eid = 0xe1c5; count = 0; day = 0; contacts = all_open }
+start = start_at 0
 
 abbrev first : State
-first =
-    record {
-      current = with_sub 128;
-      next = with_sub 128;
-      left = None;
-      pc = 0;
-      hold = Running;
-      counters = replicate 8 0;
-      contacts = all_open;
-      count = 0;
-      day = 0;
-      eid = 0xe1c5;
-      page_index = 0;
-    }
+first = first_state one_sub 0
 
 abbrev pub second : State
 second = after_frame waits first
@@ -94,14 +43,6 @@ second = after_frame waits first
 -- with a swap due in 23 frames, whose notice has begun
 abbrev noticed : State
 noticed = record second { next = with_sub 96; left = Some 23 }
-
--- n sub-channels of 8 kbit/s, one after the other: 24 of them take two pages
-abbrev small_subs : ℕ → ℕ → List Sub
-small_subs zero id = []
-small_subs (suc n) id = record { id = id; start = 6 * id; protection = record { set = A; level = 3 }; kbits = 8 } ∷ small_subs n (id + 1)
-
-abbrev many_subs : Configuration
-many_subs = record { subs = small_subs 24 0; services = []; packets = [] }
 
 -- ---- the pages of a phase
 
@@ -147,30 +88,8 @@ kept = record {
   headed = replicate 96 0;
 }
 
-sub_is : IsPlaced (record { id = 1; start = 0; protection = record { set = A; level = 3 }; kbits = 128 })
-sub_is = record {
-  named = omega arith;
-  from_one = omega arith;
-  to_four = omega arith;
-  sized = record { positive = omega arith; multiple = refl; from_table = refl; within = omega arith };
-  ends = omega arith;
-}
-
-configuration_is : IsConfiguration (with_sub 128)
-configuration_is = record {
-  subs_ascend = (tt, tt);
-  services_ascend = tt;
-  packets_ascend = tt;
-  subs_placed = (sub_is, tt);
-  services_formed = tt;
-  packets_addressed = tt;
-  subs_few = omega arith;
-  services_few = omega arith;
-  packets_few = omega arith;
-}
-
 has_page : HasPage (Whole I) (entries 128) 0 kept.pages
-has_page = record { page = page_of 128; held = refl; kept = record { plain = refl; sendable = sendable_page_set (with_sub 128) None configuration_is tt } }
+has_page = record { page = page_of 128; held = refl; kept = record { plain = refl; sendable = sendable_page_set (with_sub 128) None one_sub_is tt } }
 
 keeps_none : Keeps (Whole I) (entries 128) 0 fresh
 keeps_none = record {
@@ -278,71 +197,14 @@ not_these_pages h =
     fig_after : List ℕ → ℕ
     fig_after bytes = get_or bytes 6 0
 
-plan_is : IsPlan plan
-plan_is = record {
-  ensemble = omega arith;
-  period_from = omega arith;
-  period_to = omega arith;
-  notice_from = omega arith;
-  notice_to = omega arith;
-  budget_from = omega arith;
-  budget_to = omega arith;
-}
-
-label_is : IsLabel 1 label
-label_is = record {
-  place = omega arith;
-  current = omega arith;
-  following = omega arith;
-  bounds = tt;
-  set = omega arith;
-  cost_from = omega arith;
-  cost_to = omega arith;
-}
-
-line_is : (i : Instr) → IsInstr i → IsLine (line i)
-line_is i h = record { numbered = omega arith; formed = h }
-
 waits_is : IsProgram waits
-waits_is = record {
-  planned = plan_is;
-  configurations_from = omega arith;
-  configurations_to = omega arith;
-  configurations_formed = (configuration_is, tt);
-  labels_from = omega arith;
-  labels_to = omega arith;
-  labels_formed = (label_is, tt);
-  labels_ascend = (tt, tt);
-  lines_from = omega arith;
-  lines_to = omega arith;
-  lines_formed = (line_is (Wait 1) (omega arith, omega arith), (line_is End tt, tt));
-}
-
-it_starts : IsStart waits start first
-it_starts = record {
-  label = label;
-  first = refl;
-  current = refl;
-  next = refl;
-  left = refl;
-  pc = refl;
-  hold = refl;
-  counters = refl;
-  contacts = refl;
-  count = refl;
-  day = refl;
-  eid = refl;
-  page_index = refl;
-}
-
-in_range : StartIsInRange start
-in_range = record { eid = omega arith; count = omega arith; day = omega arith; contacts = omega arith }
+waits_is = first_from_is one_sub 1 waits.lines one_sub_is (omega arith) (omega arith) (line_is (Wait 1) (omega arith, omega arith), (line_is End tt, tt)) (omega arith) (omega arith)
 
 played : IsPlayed waits second
 played = record {
   program = waits_is;
   typed = typed_if waits waits_is refl;
-  reached = reached_is_kept waits first (Frame ∷ []) (starts_are_reached waits start first in_range it_starts) (tt, tt);
+  reached = reached_is_kept waits first (Frame ∷ []) (starts_are_reached waits start first (in_range 0 (omega arith)) (it_starts one_sub waits.lines 0 1)) (tt, tt);
 }
 
 -- the first frame executed the wait, and sent page 0, which is in turn again

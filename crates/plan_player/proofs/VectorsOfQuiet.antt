@@ -1,48 +1,21 @@
 -- Quiet frames of a code that waits, with an empty multiplex: examples that hold and examples that fail.
-use Rattle.std.proofs.Common.{◌≡◌, ℕ, zero, suc, true, false, [], ◌∷◌, Option, Some, None, replicate, refl, arith}
-use Rattle.fib_codec.specs.declared.frame_layout.FrameLayout.TheVariants.{Whole}
+use Rattle.std.proofs.Common.{◌≡◌, ℕ, zero, suc, true, false, [], ◌∷◌, Option, Some, None, refl, arith}
 use Rattle.mux_config.specs.Configuration.{nothing}
-use Rattle.fib_codec.specs.declared.modes.Mode.TheVariants.{I}
-use Rattle.plan_code.specs.declared.plan.Plan.{Plan}
-use Rattle.plan_code.specs.declared.flags.Contacts.{Contacts}
 use Rattle.plan_code.specs.declared.hold.Hold.{Hold}
 use Rattle.plan_code.specs.declared.hold.Hold.TheVariants.{Running, Waits, WaitsDay, WaitsContact, WaitsSwap, Ended}
 use Rattle.plan_code.specs.declared.instr.Instr.TheVariants.{Wait, End}
 use Rattle.plan_code.specs.Program.{Program}
 use Rattle.plan_code.specs.Machine.{State}
+use Rattle.plan_runs.proofs.Samples.{plan, line, code, first_state}
 use Rattle.plan_player.specs.Quiet.{IsQuiet, AreQuiet, counted_on, AreCopied, SwapIsAway, HoldIsAway}
 use Rattle.plan_player.proofs.Quiet.{quiet_frames_are_copied}
 
-abbrev plan : Plan
-plan = record { eid = 0xe1c5; layout = Whole I; period = 4; notice = 24; budget = 20 }
-
 abbrev waits : Program
-waits = record {
-  plan = plan;
-  configurations = nothing ∷ [];
-  labels = [];
-  lines = record { number = 1; instr = Wait 1 } ∷ record { number = 2; instr = End } ∷ [];
-}
-
-abbrev all_open : Contacts
-all_open = record { 0 = 0 }
+waits = code [] (line (Wait 1) ∷ line End ∷ [])
 
 -- suspended by this hold, with this swap pending
 abbrev at : Hold → Option ℕ → State
-at hold left =
-    record {
-      current = nothing;
-      next = nothing;
-      left = left;
-      pc = 0;
-      hold = hold;
-      counters = replicate 8 0;
-      contacts = all_open;
-      count = 4999;
-      day = 3599998;
-      eid = 0xe1c5;
-      page_index = 0;
-    }
+at hold left = record (first_state nothing 4999) { left = left; hold = hold; day = 3599998 }
 
 -- ---- one frame
 

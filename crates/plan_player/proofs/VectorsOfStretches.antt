@@ -10,9 +10,10 @@ use Rattle.plan_runs.specs.Announced.{notice_frames}
 use Rattle.plan_player.specs.declared.machine.sending.Header.{Header}
 use Rattle.plan_player.specs.Quiet.{counted_on}
 use Rattle.plan_player.specs.Stretch.{header_of, ensemble_at, headed_at, IsPageReady, IsStretch, IsCut, IsAlike, AreAlike, AreRecounted, left_later, hold_later, HasRounds}
+use Rattle.plan_runs.proofs.Samples.{plan}
 use Rattle.plan_player.proofs.Together.{stretch_page}
 use Rattle.plan_player.proofs.Cycles.{bytes_long}
-use Rattle.plan_player.proofs.VectorsOfPhases.{plan, waits, second, fresh, kept, ready_for_the_second}
+use Rattle.plan_player.proofs.VectorsOfPhases.{waits, second, fresh, kept, ready_for_the_second}
 
 -- ---- the counts
 

@@ -86,7 +86,7 @@ swap_base IV notice count i below short low whole = omega (arith, below, short, 
 frame_count : (x : ℕ) → x % 5000 < 5000
 frame_count x = omega arith
 
-notice_airs : (plan : Plan) (c n : Configuration) (eid count i : ℕ) → IsDue plan c n eid count → i < plan.notice → Airs plan (noticed_state plan c n eid (base_of plan count 0) i)
+pub notice_airs : (plan : Plan) (c n : Configuration) (eid count i : ℕ) → IsDue plan c n eid count → i < plan.notice → Airs plan (noticed_state plan c n eid (base_of plan count 0) i)
 notice_airs plan c n eid count i d below =
     let ahead : 1 ≤ plan.notice - i = omega (arith, below) in
     let back : plan.notice - (plan.notice - i) ≡ i = omega (arith, below) in

@@ -61,7 +61,7 @@ sent_by c n true m h =
 set_sent : (plan : Plan) (u : State) → AllByRecursion (IsSentOf (is_noticed plan.notice u.left) u.current u.next) (sent_entries plan u)
 set_sent plan u = each_from (IsSentOf (is_noticed plan.notice u.left) u.current u.next) (sent_entries plan u) (sent_by u.current u.next (is_noticed plan.notice u.left))
 
-fib_sent : (plan : Plan) (u : State) (n : ℕ) → AllByRecursion (IsSentOf (is_noticed plan.notice u.left) u.current u.next) (fib_entries plan.layout n (sent_entries plan u))
+pub fib_sent : (plan : Plan) (u : State) (n : ℕ) → AllByRecursion (IsSentOf (is_noticed plan.notice u.left) u.current u.next) (fib_entries plan.layout n (sent_entries plan u))
 fib_sent plan u n = each_where (IsSentOf (is_noticed plan.notice u.left) u.current u.next) (λ m. m == n) (sent_entries plan u) (packing plan.layout (sent_entries plan u)) (set_sent plan u)
 
 fibs_sent : (plan : Plan) (u : State) (ns : List ℕ) → AreSentOf (is_noticed plan.notice u.left) u.current u.next (map (λ n. fib_entries plan.layout n (sent_entries plan u)) ns)

@@ -54,7 +54,7 @@ ext_low (PacketOf p) = omega arith
 second_ext : (m : Marked) → head_byte (head_of m) % 32 ≡ ext_of m.entry
 second_ext m = omega (arith, ext_low m.entry, flag_low m.next, flag_low (is_long_entry m.entry))
 
-second_next : (m : Marked) → is_next (head_byte (head_of m)) ≡ m.next
+pub second_next : (m : Marked) → is_next (head_byte (head_of m)) ≡ m.next
 second_next m =
     let n : head_byte (head_of m) / 128 ≡ bit_of m.next = omega (arith, ext_low m.entry, flag_low m.next, flag_low (is_long_entry m.entry)) in
     ap (λ (k : ℕ). k == 1) n ∙ flag_is m.next
@@ -71,7 +71,7 @@ raw_said (ShortOf s) = refl
 raw_said (ServiceOf s) = refl
 raw_said (PacketOf p) = refl
 
-raw_is : (m : Marked) → raw_of (head_byte (head_of m) % 32) (is_long (head_byte (head_of m))) (entry_bytes m.entry) ≡ raw_entry m.entry
+pub raw_is : (m : Marked) → raw_of (head_byte (head_of m) % 32) (is_long (head_byte (head_of m))) (entry_bytes m.entry) ≡ raw_entry m.entry
 raw_is m =
     ap (λ (n : ℕ). raw_of n (is_long (head_byte (head_of m))) (entry_bytes m.entry)) (second_ext m)
     ∙ ap (λ (b : Bool). raw_of (ext_of m.entry) b (entry_bytes m.entry)) (second_long m)

@@ -3,6 +3,7 @@ pub mod Unmoved
 mod LastLevels
 pub mod Joined
 pub mod Reached
+pub mod Samples
 mod Vectors
 mod Meanings
 pub mod Lookups

@@ -11,7 +11,7 @@ use Rattle.fib_reader.specs.Raw.{Raw, raw_entry}
 use Rattle.fib_reader.specs.Listening.{Pictured, blank, identifier_of, kept, has_room, pictured}
 use Rattle.fib_reader.specs.Picture.{Shows}
 use Rattle.fib_reader.proofs.FromEntries.{sub_identified, service_identified, packet_identified}
-use Rattle.fib_reader.proofs.Shown.{each_shows}
+use Rattle.fib_reader.proofs.Shown.{ShowsEach, each_shows}
 use Rattle.plan_runs.proofs.Parts.{In, each_in, IsPart, Also, part_takes, part_weaker, part_empty, part_whole}
 
 -- the picture with all entries of a configuration
@@ -134,12 +134,12 @@ in_append x [] ys h = inr h
 in_append x (z ∷ zs) ys (inl same) = inl (inl same)
 in_append x (z ∷ zs) ys (inr more) = elim (in_append x zs ys more) [ inl here ↦ inl (inr here) | inr there ↦ inr there ]
 
-in_first : {T : Type 0} (x : T) (xs ys : List T) → In x xs → In x (xs ++ ys)
+pub in_first : {T : Type 0} (x : T) (xs ys : List T) → In x xs → In x (xs ++ ys)
 in_first x [] ys h = absurd h
 in_first x (z ∷ zs) ys (inl same) = inl same
 in_first x (z ∷ zs) ys (inr more) = inr (in_first x zs ys more)
 
-in_second : {T : Type 0} (x : T) (xs ys : List T) → In x ys → In x (xs ++ ys)
+pub in_second : {T : Type 0} (x : T) (xs ys : List T) → In x ys → In x (xs ++ ys)
 in_second x [] ys h = h
 in_second x (z ∷ zs) ys h = inr (in_second x zs ys h)
 
@@ -158,7 +158,7 @@ said_in f [] e h = absurd h
 said_in f (x ∷ xs) e (inl same) = inl (ap raw_entry same)
 said_in f (x ∷ xs) e (inr more) = inr (said_in f xs e more)
 
-said_by : {T : Type 0} (f : T → Entry) (xs : List T) (raw : Raw) → In raw (map (λ x. raw_entry (f x)) xs) → (e : Entry) × (raw_entry e ≡ raw) × In e (map f xs)
+pub said_by : {T : Type 0} (f : T → Entry) (xs : List T) (raw : Raw) → In raw (map (λ x. raw_entry (f x)) xs) → (e : Entry) × (raw_entry e ≡ raw) × In e (map f xs)
 said_by f [] raw h = absurd h
 said_by f (x ∷ xs) raw (inl same) = (f x, same, inl refl)
 said_by f (x ∷ xs) raw (inr more) = let there = said_by f xs raw more in (there.0, there.1, inr there.2)
@@ -229,17 +229,18 @@ whole_is_set c h =
 abbrev pub HasAll : Configuration → (Raw → Type 0) → Type 0
 HasAll c C = (e : Entry) → In e (entries_of c) → C (raw_entry e)
 
+pub each_whole : (c : Configuration) (C : Raw → Type 0) (p : Pictured) → IsPartial (whole_of c) C p → HasAll c C → ShowsEach p c
+each_whole c C p h all = record {
+  subs = part_whole (whole_of c).subs C p.subs h.subs (λ x inside.
+      let there = said_by sub_entry c.subs x inside in
+      subst C there.1 (all there.0 (in_first there.0 (sub_entries c) (service_entries c) there.2)));
+  services = part_whole (whole_of c).services C p.services h.services (λ x inside.
+      let there = said_by service_entry c.services x inside in
+      subst C there.1 (all there.0 (in_second there.0 (sub_entries c) (service_entries c) (in_first there.0 (map service_entry c.services) (map packet_entry c.packets) there.2))));
+  packets = part_whole (whole_of c).packets C p.packets h.packets (λ x inside.
+      let there = said_by packet_entry c.packets x inside in
+      subst C there.1 (all there.0 (in_second there.0 (sub_entries c) (service_entries c) (in_second there.0 (map service_entry c.services) (map packet_entry c.packets) there.2))));
+}
+
 pub all_shown : (c : Configuration) (C : Raw → Type 0) (p : Pictured) → IsPartial (whole_of c) C p → HasAll c C → Shows p c
-all_shown c C p h all =
-    each_shows p c
-    (record {
-      subs = part_whole (whole_of c).subs C p.subs h.subs (λ x inside.
-          let there = said_by sub_entry c.subs x inside in
-          subst C there.1 (all there.0 (in_first there.0 (sub_entries c) (service_entries c) there.2)));
-      services = part_whole (whole_of c).services C p.services h.services (λ x inside.
-          let there = said_by service_entry c.services x inside in
-          subst C there.1 (all there.0 (in_second there.0 (sub_entries c) (service_entries c) (in_first there.0 (map service_entry c.services) (map packet_entry c.packets) there.2))));
-      packets = part_whole (whole_of c).packets C p.packets h.packets (λ x inside.
-          let there = said_by packet_entry c.packets x inside in
-          subst C there.1 (all there.0 (in_second there.0 (sub_entries c) (service_entries c) (in_second there.0 (map service_entry c.services) (map packet_entry c.packets) there.2))));
-    })
+all_shown c C p h all = each_shows p c (each_whole c C p h all)

@@ -21,14 +21,15 @@ use Rattle.plan_code.specs.declared.plan.Plan.{Plan}
 use Rattle.plan_code.specs.declared.hold.Hold.TheVariants.{Ended}
 use Rattle.plan_code.specs.Program.{Program}
 use Rattle.plan_code.specs.Machine.{State}
+use Rattle.plan_flow.proofs.Samples.{sub_at_rate, with_sub, one_sub_is, lower_is}
 use Rattle.plan_runs.specs.declared.event.Event.TheVariants.{Frame}
 use Rattle.plan_runs.specs.Frames.{FrameIsAllowed, sent_entries, ensemble_sent, shown_bytes, after_frame, frame_bytes}
 use Rattle.plan_runs.specs.Announced.{IsHeardInSome, IsHeardWhole, HasHeader, IsHeaded, HasThreeHeaders, IsFlagged, IsAnnounced, FrameRuns, EventRuns, Runs}
 use Rattle.plan_runs.specs.RightBytes.{IsEnsembleFig, IsNoHeader, IsFlaggedBy, IsEnsembleOf, IsHeadedBy, IsUnheaded, IsRight, BeginsNoPhase, IsOnePhase}
 use Rattle.plan_runs.specs.Headline.{IsAnnouncedIn, AnnouncesOnly, SwapsAt, KeepsCount}
+use Rattle.plan_runs.proofs.Samples.{all_open}
 use Rattle.plan_runs.proofs.Tracked.{Airs}
 use Rattle.plan_runs.proofs.Right.{PageLaws, frame_right, ensemble_right, page_inside}
-use Rattle.plan_runs.proofs.VectorsOfRuns.{sub, with_sub, all_open, configuration_is, lower_configuration_is}
 
 -- FIG 0/0 is in every fourth frame of mode I, and in every frame of mode II
 abbrev plan : Mode → Plan
@@ -140,10 +141,10 @@ abbrev IsSendableBy : Plan → State → Type 0
 IsSendableBy plan s = IsPageable (ensemble_sent plan s) (sent_entries plan s)
 
 with_header : IsSendableBy (plan I) (on_air None 8)
-with_header = page_sets_are_pageable (with_sub 128) None (Some (unflagged 8)) configuration_is tt (unflagged_is 8 (omega arith))
+with_header = page_sets_are_pageable (with_sub 128) None (Some (unflagged 8)) one_sub_is tt (unflagged_is 8 (omega arith))
 
 without_header : IsSendableBy (plan I) (on_air None 9)
-without_header = page_sets_are_pageable (with_sub 128) None None configuration_is tt tt
+without_header = page_sets_are_pageable (with_sub 128) None None one_sub_is tt tt
 
 -- the bytes of page 0
 abbrev headed : List ℕ
@@ -153,10 +154,10 @@ abbrev bare : List ℕ
 bare = shown_bytes (plan I) (on_air None 9)
 
 abbrev current_sub : Marked
-current_sub = marked false (sub_entry (sub 128))
+current_sub = marked false (sub_entry (sub_at_rate 128))
 
 abbrev next_sub : Marked
-next_sub = marked true (sub_entry (sub 96))
+next_sub = marked true (sub_entry (sub_at_rate 96))
 
 heard_in_headed : IsHeardInRow headed current_sub
 heard_in_headed =
@@ -241,8 +242,8 @@ airs : (count : ℕ) → count < 5000 → Airs (plan I) (on_air None count)
 airs count below = record {
   count = below;
   eid = omega arith;
-  current = configuration_is;
-  next = lower_configuration_is;
+  current = one_sub_is;
+  next = lower_is;
   ahead = tt;
   on_air = record { sound = sound_told (with_sub 128) refl; within_period = omega arith };
   committed = tt;
@@ -313,21 +314,21 @@ record IsNoticeFrame (count left : ℕ) : Type 0 where
 
 three_before : IsNoticeFrame 7 3
 three_before = record {
-  sendable = page_sets_are_pageable (with_sub 128) (Some (with_sub 96)) (Some (flagged 7 10)) configuration_is lower_configuration_is (flagged_is 7 10 (omega arith) (omega arith));
+  sendable = page_sets_are_pageable (with_sub 128) (Some (with_sub 96)) (Some (flagged 7 10)) one_sub_is lower_is (flagged_is 7 10 (omega arith) (omega arith));
   header = refl;
   next = (1, omega arith, refl);
 }
 
 two_before : IsNoticeFrame 8 2
 two_before = record {
-  sendable = page_sets_are_pageable (with_sub 128) (Some (with_sub 96)) (Some (flagged 8 10)) configuration_is lower_configuration_is (flagged_is 8 10 (omega arith) (omega arith));
+  sendable = page_sets_are_pageable (with_sub 128) (Some (with_sub 96)) (Some (flagged 8 10)) one_sub_is lower_is (flagged_is 8 10 (omega arith) (omega arith));
   header = refl;
   next = (1, omega arith, refl);
 }
 
 one_before : IsNoticeFrame 9 1
 one_before = record {
-  sendable = page_sets_are_pageable (with_sub 128) (Some (with_sub 96)) (Some (flagged 9 10)) configuration_is lower_configuration_is (flagged_is 9 10 (omega arith) (omega arith));
+  sendable = page_sets_are_pageable (with_sub 128) (Some (with_sub 96)) (Some (flagged 9 10)) one_sub_is lower_is (flagged_is 9 10 (omega arith) (omega arith));
   header = refl;
   next = (1, omega arith, refl);
 }
@@ -454,7 +455,7 @@ too_long = record (code II) { plan = record (plan II) { notice = 251 } }
 
 first_of_251 : IsSendableBy too_long.plan (noticed 0 251)
 first_of_251 =
-    page_sets_are_pageable (with_sub 128) (Some (with_sub 96)) (Some (flagged 0 1)) configuration_is lower_configuration_is (flagged_is 0 1 (omega arith) (omega arith))
+    page_sets_are_pageable (with_sub 128) (Some (with_sub 96)) (Some (flagged 0 1)) one_sub_is lower_is (flagged_is 0 1 (omega arith) (omega arith))
 
 names_the_second : IsAnnouncedIn (frame_bytes too_long (noticed 0 251)) 1
 names_the_second = (

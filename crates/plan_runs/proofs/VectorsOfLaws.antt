@@ -15,6 +15,7 @@ use Rattle.plan_code.specs.declared.instr.Instr.TheVariants.{Wait, CommitIn, Com
 use Rattle.plan_code.specs.declared.instr.Line.{Line}
 use Rattle.plan_code.specs.Program.{Program}
 use Rattle.plan_code.specs.Machine.{State}
+use Rattle.plan_flow.proofs.Samples.{with_sub}
 use Rattle.plan_runs.specs.declared.event.Event.TheVariants.{Contact, Frame}
 use Rattle.plan_runs.specs.declared.event.Start.{Start}
 use Rattle.plan_runs.specs.Frames.{is_due, hold_after_swap, is_running, is_here, with_hold_ended, ensemble_of, shown, frame_bytes, hold_after_frame, after_frame}
@@ -24,9 +25,10 @@ use Rattle.plan_runs.specs.Waits.{IsWaitOf, HasCome, WaitsUntil}
 use Rattle.plan_runs.specs.Clock.{IsCounted, level_after}
 use Rattle.plan_runs.specs.LastSent.{AreLastSent}
 use Rattle.plan_runs.specs.SentHeaders.{HasHeaderOf}
+use Rattle.plan_runs.proofs.Samples.{all_open}
 use Rattle.plan_runs.proofs.Waits.{waits_are_kept}
 use Rattle.plan_runs.proofs.SentHeaders.{headers_are_sent}
-use Rattle.plan_runs.proofs.VectorsOfRuns.{with_sub, all_open, waits, first, second, played, played_first}
+use Rattle.plan_runs.proofs.VectorsOfRuns.{waits, first, second, played, played_first}
 use Rattle.plan_runs.proofs.VectorsOfBytes.{laws}
 
 abbrev plan : Mode → ℕ → ℕ → Plan

@@ -1,6 +1,6 @@
 -- Listeners to small codes: for each definition of listening, examples that hold and examples that fail.
 use Rattle.std.specs.Prelude.{is_some, get_or}
-use Rattle.std.proofs.Common.{◌≡◌, ℕ, zero, suc, ◌+◌, ◌*◌, ◌/◌, ◌%◌, ◌==◌, cond, ◌<◌, Bool, true, false, List, [], ◌∷◌, ◌++◌, length, map, Option, Some, None, inl, inr, refl, sym, ap, ◌∙◌, replicate, arith}
+use Rattle.std.proofs.Common.{◌≡◌, ℕ, zero, suc, ◌+◌, ◌*◌, ◌/◌, ◌%◌, ◌==◌, cond, ◌<◌, Bool, true, false, List, [], ◌∷◌, ◌++◌, length, map, Option, Some, None, inl, inr, refl, sym, ap, ◌∙◌, arith}
 use Rattle.std.proofs.lemmas.Bool.{false≢true}
 use Rattle.fib_codec.specs.declared.frame_layout.FrameLayout.TheVariants.{Whole}
 use Rattle.mux_types.specs.Entries.{EnsembleInformation}
@@ -16,11 +16,10 @@ use Rattle.fib_codec.specs.Spelling.{bit_of, occurrence_bytes}
 use Rattle.fib_reader.specs.Listening.{blank, Listening, untuned, hear_figs}
 use Rattle.fib_reader.specs.Picture.{Shows}
 use Rattle.plan_runs.specs.Frames.{frame_bytes, after_frame}
+use Rattle.plan_runs.proofs.Samples.{start_at, first_state}
 use Rattle.plan_runs.proofs.Pictures.{whole_of}
-use Rattle.mux_eep.specs.declared.sizes.EepSet.TheVariants.{A}
 use Rattle.mux_config.specs.declared.edit.Edit.TheVariants.{RateSub}
-use Rattle.mux_types.specs.declared.parts.Sub.{Sub}
-use Rattle.mux_config.specs.Configuration.{Configuration, IsPlaced, IsConfiguration}
+use Rattle.mux_config.specs.Configuration.{Configuration}
 use Rattle.fib_codec.specs.declared.modes.Mode.{Mode}
 use Rattle.fib_codec.specs.declared.modes.Mode.TheVariants.{I, II}
 use Rattle.fib_codec.proofs.Uniqueness.{one_fib}
@@ -33,19 +32,13 @@ use Rattle.fib_reader.specs.FirstFault.{entries_fault, figs_fault}
 use Rattle.fib_reader.proofs.FigFaults.{found_is_fault, no_fault}
 use Rattle.fib_reader.specs.Laws.{EnsembleIsHeard}
 use Rattle.plan_code.specs.declared.plan.Plan.{Plan}
-use Rattle.plan_code.specs.declared.flags.Counters.{Counters}
-use Rattle.plan_code.specs.declared.flags.Contacts.{Contacts}
-use Rattle.plan_code.specs.declared.hold.Hold.TheVariants.{Running, Ended}
-use Rattle.plan_code.specs.declared.label.Label.{Label}
-use Rattle.plan_code.specs.declared.label.Swap.TheVariants.{Idle}
-use Rattle.plan_code.specs.declared.instr.Instr.{Instr}
-use Rattle.plan_code.specs.declared.instr.Line.{Line}
+use Rattle.plan_code.specs.declared.hold.Hold.TheVariants.{Ended}
 use Rattle.plan_code.specs.declared.instr.Instr.TheVariants.{CommitIn, Join, End, Edit as Edits}
-use Rattle.plan_code.specs.Program.{Program, IsProgram, IsInstr, IsLine}
+use Rattle.plan_code.specs.Program.{Program, IsProgram}
 use Rattle.plan_code.specs.Machine.{State}
+use Rattle.plan_flow.proofs.Samples.{sub_at_rate, with_sub, one_sub, one_sub_is, label, line, line_is}
 use Rattle.plan_verifier.proofs.OneVerdict.{typed_if}
 use Rattle.plan_runs.specs.declared.event.Event.TheVariants.{Frame}
-use Rattle.plan_runs.specs.declared.event.Start.{Start}
 use Rattle.plan_runs.specs.TypedRuns.{IsPlayed}
 use Rattle.plan_runs.specs.Listening.{HearsFib, HasCount, IsTunedBy, KnowsTheCurrent, KnowsTheNew, IsNeverFull, ListenersKnow}
 use Rattle.plan_runs.proofs.Reached.{starts_are_reached}
@@ -54,26 +47,8 @@ use Rattle.plan_runs.proofs.Contents.{Laws}
 use Rattle.plan_runs.proofs.CurrentKnown.{never_full, knows_the_current}
 use Rattle.plan_runs.proofs.NewKnown.{knows_the_new}
 
-abbrev sub : ℕ → Sub
-sub kbits = record { id = 1; start = 0; protection = record { set = A; level = 3 }; kbits = kbits }
-
-abbrev with_sub : ℕ → Configuration
-with_sub kbits = record { subs = sub kbits ∷ []; services = []; packets = [] }
-
 abbrev plan : Mode → Plan
 plan mode = record { eid = 0xe1c5; layout = Whole mode; period = 1; notice = 12; budget = 20 }
-
-abbrev no_counters : Counters
-no_counters = record { 0 = 0 }
-
-abbrev all_open : Contacts
-all_open = record { 0 = 0 }
-
-abbrev label : Label
-label = record { pc = 0; cur = 0; next = 0; pending = Idle; counters = no_counters; cost = 3 }
-
-abbrev line : Instr → Line
-line i = record { number = 1; instr = i }
 
 -- lowers the rate of a sub-channel, and waits for the swap
 abbrev lowers : Mode → Program
@@ -81,55 +56,14 @@ lowers mode =
     record {
       plan = plan mode;
       configurations = with_sub 128 ∷ [];
-      labels = label ∷ [];
+      labels = label 0 3 ∷ [];
       lines = line (Edits (RateSub 1 96)) ∷ line (CommitIn 12) ∷ line Join ∷ line End ∷ [];
     }
 
-abbrev start : ℕ → Start
-start count = record { eid = 0xe1c5; count = count; day = 0; contacts = all_open }
-
 abbrev first : ℕ → State
-first count =
-    record {
-      current = with_sub 128;
-      next = with_sub 128;
-      left = None;
-      pc = 0;
-      hold = Running;
-      counters = replicate 8 0;
-      contacts = all_open;
-      count = count;
-      day = 0;
-      eid = 0xe1c5;
-      page_index = 0;
-    }
+first count = first_state one_sub count
 
 -- ---- playing the code
-
-sub_is : IsPlaced (sub 128)
-sub_is = record {
-  named = omega arith;
-  from_one = omega arith;
-  to_four = omega arith;
-  sized = record { positive = omega arith; multiple = refl; from_table = refl; within = omega arith };
-  ends = omega arith;
-}
-
-configuration_is : IsConfiguration (with_sub 128)
-configuration_is = record {
-  subs_ascend = (tt, tt);
-  services_ascend = tt;
-  packets_ascend = tt;
-  subs_placed = (sub_is, tt);
-  services_formed = tt;
-  packets_addressed = tt;
-  subs_few = omega arith;
-  services_few = omega arith;
-  packets_few = omega arith;
-}
-
-line_is : (i : Instr) → IsInstr i → IsLine (line i)
-line_is i h = record { numbered = omega arith; formed = h }
 
 lowers_is : (mode : Mode) → IsProgram (lowers mode)
 lowers_is mode = record {
@@ -144,7 +78,7 @@ lowers_is mode = record {
   };
   configurations_from = omega arith;
   configurations_to = omega arith;
-  configurations_formed = (configuration_is, tt);
+  configurations_formed = (one_sub_is, tt);
   labels_from = omega arith;
   labels_to = omega arith;
   labels_formed = (
@@ -164,10 +98,10 @@ played : IsPlayed (lowers II) (first 7)
 played = record {
   program = lowers_is II;
   typed = typed_if (lowers II) (lowers_is II) refl;
-  reached = starts_are_reached (lowers II) (start 7) (first 7)
+  reached = starts_are_reached (lowers II) (start_at 7) (first 7)
       (record { eid = omega arith; count = omega arith; day = omega arith; contacts = omega arith })
       (record {
-        label = label;
+        label = label 0 3;
         first = refl;
         current = refl;
         next = refl;
@@ -273,14 +207,14 @@ flagged_is : (count low : ℕ) → count < 5000 → low < 256 → IsEnsembleInfo
 flagged_is count low below last =
     record { eid = omega arith; change = omega arith; count = below; flagged = (λ there. omega arith, λ some. refl); occurrence = last }
 
-sendable : (next : Bool) → IsSendable (marked next (sub_entry (sub 96)))
+sendable : (next : Bool) → IsSendable (marked next (sub_entry (sub_at_rate 96)))
 sendable next = record {
   organization = omega arith;
   within = record { id = omega arith; start = omega arith; option = omega arith; level = omega arith; size = omega arith };
   small = omega arith;
 }
 
-current_sendable : IsSendable (marked false (sub_entry (sub 128)))
+current_sendable : IsSendable (marked false (sub_entry (sub_at_rate 128)))
 current_sendable = record {
   organization = omega arith;
   within = record { id = omega arith; start = omega arith; option = omega arith; level = omega arith; size = omega arith };
@@ -315,7 +249,7 @@ not_passed_over h = false≢true (sym (ap (λ (l : Listening). l.tuned) (same_he
 -- ---- a notice of an invalid configuration: two sub-channels with the same identifier
 
 abbrev twice : Configuration
-twice = record { subs = sub 96 ∷ sub 96 ∷ []; services = []; packets = [] }
+twice = record { subs = sub_at_rate 96 ∷ sub_at_rate 96 ∷ []; services = []; packets = [] }
 
 abbrev ended : Program
 ended = record {

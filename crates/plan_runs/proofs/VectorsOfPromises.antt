@@ -7,6 +7,7 @@ use Rattle.mux_types.specs.declared.entry.Entry.TheVariants.{Ensemble as Ensembl
 use Rattle.fib_codec.specs.Grammar.{Fig, Open, Other}
 use Rattle.fib_codec.specs.Heard.{IsInFig}
 use Rattle.plan_code.specs.Machine.{State}
+use Rattle.plan_flow.proofs.Samples.{plan, sub_at_rate}
 use Rattle.plan_runs.specs.declared.event.Event.{Event}
 use Rattle.plan_runs.specs.declared.event.Event.TheVariants.{Contact, Frame}
 use Rattle.plan_runs.specs.Frames.{IsOneBurst, ready, after_burst}
@@ -19,7 +20,7 @@ use Rattle.plan_runs.proofs.TypedRuns.{typed_code_runs}
 use Rattle.plan_runs.proofs.Announcing.{swaps_are_announced}
 use Rattle.plan_runs.proofs.Periods.{periods_are_whole}
 use Rattle.plan_runs.proofs.Headline.{frames_are_right, headline_holds}
-use Rattle.plan_runs.proofs.VectorsOfRuns.{plan, sub, waits, joins, first, second, played, frame_traps, one_instruction}
+use Rattle.plan_runs.proofs.VectorsOfRuns.{waits, joins, first, second, played, frame_traps, one_instruction}
 use Rattle.plan_runs.proofs.VectorsOfBytes.{laws}
 
 -- a frame, a contact that closes, and a frame
@@ -82,7 +83,7 @@ heard_each_period = periods_are_whole laws waits second played
 -- with a period of no frames nothing is heard
 no_period : IsHeardEachPeriod (record waits { plan = record plan { period = 0 } }) first → ⊥
 no_period h =
-    let heard : IsHeardInSome [] (marked false (sub_entry (sub 128))) = h [] [] tt refl (marked false (sub_entry (sub 128))) (0, omega arith, refl) in
+    let heard : IsHeardInSome [] (marked false (sub_entry (sub_at_rate 128))) = h [] [] tt refl (marked false (sub_entry (sub_at_rate 128))) (0, omega arith, refl) in
     omega (arith, heard.1.1)
 
 -- ---- all of it

@@ -1,25 +1,17 @@
 -- Runs of a code that waits for a frame and ends: for each definition, an example that holds and one that fails.
-use Rattle.std.proofs.Common.{◌≡◌, ℕ, zero, suc, ◌<◌, ◌≤◌, Bool, true, false, cond, List, [], ◌∷◌, length, Some, None, ◌==◌, replicate, refl, sym, ap, subst, arith}
+use Rattle.std.proofs.Common.{◌≡◌, ℕ, zero, suc, ◌<◌, ◌≤◌, Bool, true, false, cond, List, [], ◌∷◌, length, Some, None, ◌==◌, refl, sym, ap, subst, arith}
 use Rattle.std.proofs.lemmas.Bool.{false≢true}
-use Rattle.fib_codec.specs.declared.frame_layout.FrameLayout.TheVariants.{Whole}
-use Rattle.mux_eep.specs.declared.sizes.EepSet.TheVariants.{A}
-use Rattle.mux_types.specs.declared.parts.Sub.{Sub}
-use Rattle.mux_config.specs.Configuration.{Configuration, IsPlaced, IsConfiguration}
 use Rattle.mux_types.specs.Facts.{Marked}
-use Rattle.fib_codec.specs.declared.modes.Mode.TheVariants.{I}
 use Rattle.fib_carousel.specs.Pages.{page_set}
-use Rattle.plan_code.specs.declared.plan.Plan.{Plan}
-use Rattle.plan_code.specs.declared.flags.Counters.{Counters}
 use Rattle.plan_code.specs.declared.flags.Contacts.{Contacts}
 use Rattle.plan_code.specs.declared.hold.Hold.TheVariants.{Running, Waits}
-use Rattle.plan_code.specs.declared.label.Label.{Label}
-use Rattle.plan_code.specs.declared.label.Swap.TheVariants.{Idle}
 use Rattle.plan_code.specs.declared.instr.Instr.{Instr}
 use Rattle.plan_code.specs.declared.instr.Line.{Line}
 use Rattle.plan_code.specs.declared.instr.Instr.TheVariants.{Wait, Join, End}
-use Rattle.plan_code.specs.Program.{Program, IsProgram, IsPlan, IsLabel, IsLine, IsInstr}
+use Rattle.plan_code.specs.Program.{Program, IsProgram}
 use Rattle.plan_code.specs.Machine.{State, IsAllowed}
 use Rattle.plan_flow.specs.declared.cause.Cause.TheVariants.{JoinIdle}
+use Rattle.plan_flow.proofs.Samples.{plan, with_sub, one_sub, one_sub_is, label, line, line_is, code_from, first_from_is}
 use Rattle.plan_verifier.proofs.OneVerdict.{typed_if, refused_if, codes_have_one_verdict}
 use Rattle.plan_runs.specs.declared.event.Event.TheVariants.{Contact, Frame}
 use Rattle.plan_runs.specs.declared.event.Start.{Start}
@@ -29,34 +21,14 @@ use Rattle.plan_runs.specs.Settings.{Setting, IsSetting, AgreeOnContacts, AreAll
 use Rattle.plan_runs.specs.Phases.{SentBy}
 use Rattle.plan_runs.specs.TypedRuns.{IsPlayed, CanBeSent}
 use Rattle.plan_runs.specs.Announced.{IsJoined}
+use Rattle.plan_runs.proofs.Samples.{all_open, start_at, in_range, first_state, it_starts}
 use Rattle.plan_runs.proofs.Joined.{runs_join}
 use Rattle.plan_runs.proofs.Reached.{starts_are_reached, reached_is_kept}
 
 -- ---- values shared by these vectors: one sub-channel, at 128 kbit/s and at 96 kbit/s
 
-abbrev pub plan : Plan
-plan = record { eid = 0xe1c5; layout = Whole I; period = 4; notice = 24; budget = 20 }
-
-abbrev pub sub : ℕ → Sub
-sub kbits = record { id = 1; start = 0; protection = record { set = A; level = 3 }; kbits = kbits }
-
-abbrev pub with_sub : ℕ → Configuration
-with_sub kbits = record { subs = sub kbits ∷ []; services = []; packets = [] }
-
-abbrev no_counters : Counters
-no_counters = record { 0 = 0 }
-
-abbrev pub all_open : Contacts
-all_open = record { 0 = 0 }
-
-abbrev label : Label
-label = record { pc = 0; cur = 0; next = 0; pending = Idle; counters = no_counters; cost = 1 }
-
-abbrev line : Instr → Line
-line i = record { number = 1; instr = i }
-
 abbrev code : List Line → Program
-code lines = record { plan = plan; configurations = with_sub 128 ∷ []; labels = label ∷ []; lines = lines }
+code lines = code_from one_sub (label 0 1 ∷ []) lines
 
 abbrev pub waits : Program
 waits = code (line (Wait 1) ∷ line End ∷ [])
@@ -65,31 +37,15 @@ abbrev pub joins : Program
 joins = code (line Join ∷ [])
 
 abbrev start : Start
-start = record { eid = 0xe1c5; count = 0; day = 0; contacts = all_open }
+start = start_at 0
 
 abbrev pub first : State
-first =
-    record {
-      current = with_sub 128;
-      next = with_sub 128;
-      left = None;
-      pc = 0;
-      hold = Running;
-      counters = replicate 8 0;
-      contacts = all_open;
-      count = 0;
-      day = 0;
-      eid = 0xe1c5;
-      page_index = 0;
-    }
+first = first_state one_sub 0
 
 abbrev pub second : State
 second = after_frame waits first
 
 -- ---- starts and events
-
-in_range : StartIsInRange start
-in_range = record { eid = omega arith; count = omega arith; day = omega arith; contacts = omega arith }
 
 past_the_day : StartIsInRange (record start { day = 3600000 }) → ⊥
 past_the_day h = let e : 3600000 < 3600000 = h.day in omega (arith, e)
@@ -103,22 +59,8 @@ no_such_contact h = let e : 16 < 16 = h in omega (arith, e)
 a_frame : IsEvent Frame
 a_frame = tt
 
-it_starts : IsStart waits start first
-it_starts = record {
-  label = label;
-  first = refl;
-  current = refl;
-  next = refl;
-  left = refl;
-  pc = refl;
-  hold = refl;
-  counters = refl;
-  contacts = refl;
-  count = refl;
-  day = refl;
-  eid = refl;
-  page_index = refl;
-}
+waits_starts : IsStart waits start first
+waits_starts = it_starts one_sub waits.lines 0 1
 
 some_left : (left : ℕ) → Some left ≡ None → ⊥
 some_left left e = absurd cc
@@ -194,7 +136,7 @@ frame_by_frame = runs_join waits first [] (Frame ∷ []) (Contact 3 true ∷ Fra
 -- ---- states that a run reaches
 
 reached_by_a_frame : IsReached waits second
-reached_by_a_frame = reached_is_kept waits first (Frame ∷ []) (starts_are_reached waits start first in_range it_starts) (tt, tt)
+reached_by_a_frame = reached_is_kept waits first (Frame ∷ []) (starts_are_reached waits start first (in_range 0 (omega arith)) waits_starts) (tt, tt)
 
 -- a code without a label at its first instruction has no start
 never_reached : IsReached (record waits { labels = [] }) first → ⊥
@@ -202,103 +144,17 @@ never_reached h = let e : None ≡ Some h.started.label = h.started.first in abs
 
 -- ---- typed codes in states that they reach
 
-sub_is : IsPlaced (sub 128)
-sub_is = record {
-  named = omega arith;
-  from_one = omega arith;
-  to_four = omega arith;
-  sized = record { positive = omega arith; multiple = refl; from_table = refl; within = omega arith };
-  ends = omega arith;
-}
-
-lower_is : IsPlaced (sub 96)
-lower_is = record {
-  named = omega arith;
-  from_one = omega arith;
-  to_four = omega arith;
-  sized = record { positive = omega arith; multiple = refl; from_table = refl; within = omega arith };
-  ends = omega arith;
-}
-
-one_sub_is : (kbits : ℕ) → IsPlaced (sub kbits) → IsConfiguration (with_sub kbits)
-one_sub_is kbits placed = record {
-  subs_ascend = (tt, tt);
-  services_ascend = tt;
-  packets_ascend = tt;
-  subs_placed = (placed, tt);
-  services_formed = tt;
-  packets_addressed = tt;
-  subs_few = omega arith;
-  services_few = omega arith;
-  packets_few = omega arith;
-}
-
-pub configuration_is : IsConfiguration (with_sub 128)
-configuration_is = one_sub_is 128 sub_is
-
-pub lower_configuration_is : IsConfiguration (with_sub 96)
-lower_configuration_is = one_sub_is 96 lower_is
-
-plan_is : IsPlan plan
-plan_is = record {
-  ensemble = omega arith;
-  period_from = omega arith;
-  period_to = omega arith;
-  notice_from = omega arith;
-  notice_to = omega arith;
-  budget_from = omega arith;
-  budget_to = omega arith;
-}
-
-label_is : IsLabel 1 label
-label_is = record {
-  place = omega arith;
-  current = omega arith;
-  following = omega arith;
-  bounds = tt;
-  set = omega arith;
-  cost_from = omega arith;
-  cost_to = omega arith;
-}
-
-line_is : (i : Instr) → IsInstr i → IsLine (line i)
-line_is i h = record { numbered = omega arith; formed = h }
-
 waits_is : IsProgram waits
-waits_is = record {
-  planned = plan_is;
-  configurations_from = omega arith;
-  configurations_to = omega arith;
-  configurations_formed = (configuration_is, tt);
-  labels_from = omega arith;
-  labels_to = omega arith;
-  labels_formed = (label_is, tt);
-  labels_ascend = (tt, tt);
-  lines_from = omega arith;
-  lines_to = omega arith;
-  lines_formed = (line_is (Wait 1) (omega arith, omega arith), (line_is End tt, tt));
-}
+waits_is = first_from_is one_sub 1 waits.lines one_sub_is (omega arith) (omega arith) (line_is (Wait 1) (omega arith, omega arith), (line_is End tt, tt)) (omega arith) (omega arith)
 
 joins_is : IsProgram joins
-joins_is = record {
-  planned = plan_is;
-  configurations_from = omega arith;
-  configurations_to = omega arith;
-  configurations_formed = (configuration_is, tt);
-  labels_from = omega arith;
-  labels_to = omega arith;
-  labels_formed = (label_is, tt);
-  labels_ascend = (tt, tt);
-  lines_from = omega arith;
-  lines_to = omega arith;
-  lines_formed = (line_is Join tt, tt);
-}
+joins_is = first_from_is one_sub 1 joins.lines one_sub_is (omega arith) (omega arith) (line_is Join tt, tt) (omega arith) (omega arith)
 
 pub played : IsPlayed waits second
 played = record { program = waits_is; typed = typed_if waits waits_is refl; reached = reached_by_a_frame }
 
 pub played_first : IsPlayed waits first
-played_first = record { program = waits_is; typed = typed_if waits waits_is refl; reached = starts_are_reached waits start first in_range it_starts }
+played_first = record { program = waits_is; typed = typed_if waits waits_is refl; reached = starts_are_reached waits start first (in_range 0 (omega arith)) waits_starts }
 
 -- the verifier refuses its join
 not_played : (s : State) → IsPlayed joins s → ⊥
@@ -307,8 +163,8 @@ not_played s h = (codes_have_one_verdict joins joins_is).never_both 0 JoinIdle h
 can_be_sent : CanBeSent plan first
 can_be_sent = record {
   page_index = omega arith;
-  current = configuration_is;
-  next = configuration_is;
+  current = one_sub_is;
+  next = one_sub_is;
   count = omega arith;
   ensemble = record { eid = omega arith; change = omega arith; count = omega arith; flagged = (λ none. absurd cc, λ some. absurd (omega (arith, some))); occurrence = tt };
 }

@@ -1,5 +1,5 @@
 -- Short texts, and the first byte of each that is not allowed; and why a code is not played over them.
-use Rattle.std.proofs.Common.{◌≡◌, List, [], ◌∷◌, refl}
+use Rattle.std.proofs.Common.{[], ◌∷◌, refl}
 use Rattle.std.specs.Prelude.{Some, None}
 use Rattle.script_tokens.specs.declared.fault.ScriptFault.TheVariants.{Byte}
 use Rattle.script_tokens.specs.Bytes.{first_position}

@@ -1,5 +1,5 @@
 -- Lookup in the tables of a code: the label at an instruction, and what it declares.
-use Rattle.std.proofs.Common.{◌≡◌, ℕ, ◌<◌, Bool, true, false, eqb, List, [], ◌∷◌, length, Contains, find, slice_get, Option, Some, None, option_map, refl, sym, ap, subst, ◌∙◌}
+use Rattle.std.proofs.Common.{◌≡◌, ℕ, ◌+◌, ◌<◌, Bool, true, false, eqb, List, [], ◌∷◌, length, Contains, find, slice_get, Option, Some, None, option_map, refl, sym, ap, subst, ◌∙◌, arith}
 use Rattle.std.proofs.lemmas.Bool.{eqb-true}
 use Rattle.std.proofs.lemmas.Option.{slice_get_within, get_or_from_slice_get, slice_get-get_or}
 use Rattle.mux_config.specs.Configuration.{Configuration, IsConfiguration, nothing}
@@ -9,7 +9,7 @@ use Rattle.plan_code.specs.declared.instr.Instr.{Instr}
 use Rattle.plan_code.specs.declared.instr.Line.{Line}
 use Rattle.plan_code.specs.Program.{Program, IsProgram, IsLabel, IsInstr, IsLine, label_key, label_at, instr_at}
 use Rattle.plan_code.proofs.Ascending.{find_at}
-use Rattle.plan_verifier.specs.Typing.{Known, Declares}
+use Rattle.plan_verifier.specs.Typing.{Known, Declares, IsTyping, Arrives, continues, leaves}
 use Rattle.plan_flow.specs.Indexed.{configuration_at}
 use Rattle.plan_verifier.specs.Walking.{declared_by}
 
@@ -97,3 +97,17 @@ declared_once code label t u a b =
     let counters : t.counters ≡ u.counters = sym a.counters ∙ b.counters in
     let allowance : t.allowance ≡ u.allowance = sym a.cost ∙ b.cost in
     λ i. record { current = current i; next = next i; pending = pending i; counters = counters i; allowance = allowance i }
+
+-- without a label, what is known is what the instruction before left
+pub unlabelled : (p : Program) (typing : List Known) (pc : ℕ) (i : Instr) (t u : Known) → IsTyping p typing → instr_at p pc ≡ Some i → slice_get typing pc ≡ Some t → label_at p (pc + 1) ≡ None
+    → slice_get typing (pc + 1) ≡ Some u → u ≡ leaves p.plan i t
+unlabelled p typing pc i t u h at there e later =
+    let within : pc + 1 < length typing = slice_get_within typing (pc + 1) u later in
+    let inside : pc + 1 < length p.lines = subst (λ n. pc + 1 < n) h.each within in
+    let after = h.reached (pc + 1) inside e in
+    let back : after.before ≡ pc = omega (arith, after.next) in
+    let same : after.instr ≡ i = some_same _ after.instr i (subst (λ k. instr_at p k ≡ Some after.instr) back after.there) at in
+    let onward : continues i ≡ true = subst (λ j. continues j ≡ true) same after.onward in
+    let arrives = (h.safe pc i t at there).onward onward in
+    let gets : slice_get typing (pc + 1) ≡ Some (leaves p.plan i t) = subst (λ o. Arrives p typing (pc + 1) o (leaves p.plan i t)) e arrives in
+    some_same _ u (leaves p.plan i t) later gets

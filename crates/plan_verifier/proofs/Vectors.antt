@@ -1,113 +1,27 @@
 -- Small codes: which are typed, and why and where others are refused.
-use Rattle.std.proofs.Common.{◌≡◌, ℕ, ◌<◌, ◌≤◌, true, List, [], ◌∷◌, length, refl, arith}
-use Rattle.fib_codec.specs.declared.frame_layout.FrameLayout.TheVariants.{Whole}
-use Rattle.mux_config.specs.Configuration.{IsConfiguration, IsAscending, nothing}
-use Rattle.std.specs.List.{AllByRecursion}
+use Rattle.std.proofs.Common.{◌≡◌, ℕ, ◌<◌, true, List, [], ◌∷◌, refl, arith}
+use Rattle.mux_config.specs.Configuration.{nothing}
 use Rattle.mux_config.specs.declared.edit.Edit.TheVariants.{AddSub, DropSub, AddService}
 use Rattle.mux_config.specs.declared.fault.EditFault.TheVariants.{IdAbsent}
 use Rattle.mux_config.specs.declared.fault.ConfigFault.TheVariants.{EmptyService}
 use Rattle.mux_types.specs.declared.numbers.Sid.TheVariants.{Short}
 use Rattle.mux_types.specs.declared.parts.Sub.{Sub}
 use Rattle.mux_eep.specs.declared.sizes.EepSet.TheVariants.{A}
-use Rattle.fib_codec.specs.declared.modes.Mode.TheVariants.{I}
-use Rattle.plan_code.specs.declared.plan.Plan.{Plan}
-use Rattle.plan_code.specs.declared.flags.Counters.{Counters}
-use Rattle.plan_code.specs.declared.label.Label.{Label}
 use Rattle.plan_code.specs.declared.label.Swap.TheVariants.{Idle, Within, Perhaps}
 use Rattle.plan_code.specs.declared.instr.Instr.{Instr}
 use Rattle.plan_code.specs.declared.instr.Line.{Line}
 use Rattle.plan_code.specs.declared.instr.Instr.TheVariants.{Wait, Until, WaitContact, CommitIn, CommitAt, Join, Settle, End, Edit as Edits, Jump, Set, Loop}
-use Rattle.plan_code.specs.Program.{Program, IsProgram, IsPlan, IsLabel, IsLine, IsInstr, label_key}
+use Rattle.plan_code.specs.Program.{Program, IsProgram, IsLine, IsInstr}
 use Rattle.plan_flow.specs.declared.cause.Cause.{Cause}
 use Rattle.plan_flow.specs.declared.cause.Cause.TheVariants.{Target, Table, Edit as OfEdit, Config as OfConfig, Pending, NoChange, Notice, Count, JoinIdle, SwapUncertain, CounterUnset, Mismatch, Cost, FallsOff}
+use Rattle.plan_flow.proofs.Samples.{plan, counters, counting, counting_is, label, label_is, line, line_is, code, code_is, first_is}
 use Rattle.plan_verifier.specs.Typing.{Known, leaves, IsTyped}
 use Rattle.plan_verifier.specs.Refusals.{IsRefused}
 use Rattle.plan_verifier.proofs.OneVerdict.{typed_if, refused_if, codes_have_one_verdict}
 
-abbrev plan : Plan
-plan = record { eid = 0xe1c5; layout = Whole I; period = 4; notice = 24; budget = 20 }
-
-abbrev no_counters : Counters
-no_counters = record { 0 = 0 }
-
-abbrev one_counter : Counters
-one_counter = record { 0 = 1 }
-
-abbrev label : ℕ → Counters → ℕ → Label
-label pc counters cost = record { pc = pc; cur = 0; next = 0; pending = Idle; counters = counters; cost = cost }
-
-abbrev line : Instr → Line
-line i = record { number = 1; instr = i }
-
--- a code that starts with an empty configuration
-abbrev code : List Label → List Line → Program
-code labels lines = record { plan = plan; configurations = nothing ∷ []; labels = labels; lines = lines }
-
--- ---- their fields are within their limits
-
-empty_is : IsConfiguration nothing
-empty_is = record {
-  subs_ascend = tt;
-  services_ascend = tt;
-  packets_ascend = tt;
-  subs_placed = tt;
-  services_formed = tt;
-  packets_addressed = tt;
-  subs_few = omega arith;
-  services_few = omega arith;
-  packets_few = omega arith;
-}
-
-plan_is : IsPlan plan
-plan_is = record {
-  ensemble = omega arith;
-  period_from = omega arith;
-  period_to = omega arith;
-  notice_from = omega arith;
-  notice_to = omega arith;
-  budget_from = omega arith;
-  budget_to = omega arith;
-}
-
-label_is : (pc cost : ℕ) (counters : Counters) → pc < 65536 → counters.0 < 256 → 1 ≤ cost → cost ≤ 255 → IsLabel 1 (label pc counters cost)
-label_is pc cost counters low set from to = record {
-  place = low;
-  current = omega arith;
-  following = omega arith;
-  bounds = tt;
-  set = set;
-  cost_from = from;
-  cost_to = to;
-}
-
-line_is : (i : Instr) → IsInstr i → IsLine (line i)
-line_is i h = record { numbered = omega arith; formed = h }
-
-code_is : (labels : List Label) (lines : List Line) → AllByRecursion (IsLabel 1) labels → IsAscending label_key labels → 1 ≤ length labels → length labels ≤ 1024
-    → AllByRecursion IsLine lines → 1 ≤ length lines → length lines ≤ 4096 → IsProgram (code labels lines)
-code_is labels lines formed ascend from to each first last = record {
-  planned = plan_is;
-  configurations_from = omega arith;
-  configurations_to = omega arith;
-  configurations_formed = (empty_is, tt);
-  labels_from = from;
-  labels_to = to;
-  labels_formed = formed;
-  labels_ascend = ascend;
-  lines_from = first;
-  lines_to = last;
-  lines_formed = each;
-}
-
--- one label and these instructions
-first_is : (cost : ℕ) (lines : List Line) → 1 ≤ cost → cost ≤ 255 → AllByRecursion IsLine lines → 1 ≤ length lines → length lines ≤ 4096
-    → IsProgram (code (label 0 no_counters cost ∷ []) lines)
-first_is cost lines from to each first last =
-    code_is (label 0 no_counters cost ∷ []) lines (label_is 0 cost no_counters (omega arith) (omega arith) from to, tt) (tt, tt) (omega arith) (omega arith) each first last
-
 -- one instruction, with a cost of 1
 abbrev lone : Instr → Program
-lone i = code (label 0 no_counters 1 ∷ []) (line i ∷ [])
+lone i = code (label 0 1 ∷ []) (line i ∷ [])
 
 lone_is : (i : Instr) → IsInstr i → IsProgram (lone i)
 lone_is i h = first_is 1 (line i ∷ []) (omega arith) (omega arith) (line_is i h, tt) (omega arith) (omega arith)
@@ -153,19 +67,19 @@ change_refused = refused_if (lone (CommitIn 24)) 0 NoChange (lone_is (CommitIn 2
 -- ---- labels
 
 abbrev late : Program
-late = code (label 1 no_counters 1 ∷ []) (line End ∷ [])
+late = code (label 1 1 ∷ []) (line End ∷ [])
 
 late_is : IsProgram late
-late_is = code_is (label 1 no_counters 1 ∷ []) (line End ∷ []) (label_is 1 1 no_counters (omega arith) (omega arith) (omega arith) (omega arith), tt) (tt, tt) (omega arith) (omega arith) (line_is End tt, tt) (omega arith) (omega arith)
+late_is = code_is (label 1 1 ∷ []) (line End ∷ []) (label_is 1 1 (omega arith) (omega arith) (omega arith), tt) (tt, tt) (omega arith) (omega arith) (line_is End tt, tt) (omega arith) (omega arith)
 
 late_refused : IsRefused late 0 Table
 late_refused = refused_if late 0 Table late_is refl
 
 abbrev counted : Program
-counted = code (label 0 one_counter 1 ∷ []) (line End ∷ [])
+counted = code (counting 0 1 1 ∷ []) (line End ∷ [])
 
 counted_is : IsProgram counted
-counted_is = code_is (label 0 one_counter 1 ∷ []) (line End ∷ []) (label_is 0 1 one_counter (omega arith) (omega arith) (omega arith) (omega arith), tt) (tt, tt) (omega arith) (omega arith) (line_is End tt, tt) (omega arith) (omega arith)
+counted_is = code_is (counting 0 1 1 ∷ []) (line End ∷ []) (counting_is 0 1 1 (omega arith) (omega arith) (omega arith) (omega arith), tt) (tt, tt) (omega arith) (omega arith) (line_is End tt, tt) (omega arith) (omega arith)
 
 counted_refused : IsRefused counted 0 Mismatch
 counted_refused = refused_if counted 0 Mismatch counted_is refl
@@ -173,13 +87,13 @@ counted_refused = refused_if counted 0 Mismatch counted_is refl
 -- the body of a loop runs three times, with a wait in it
 abbrev thrice : Program
 thrice =
-    code (label 0 no_counters 2 ∷ label 1 one_counter 1 ∷ [])
+    code (label 0 2 ∷ counting 1 1 1 ∷ [])
     (line (Set 0 3) ∷ line (Wait 1) ∷ line (Loop 0 1) ∷ line End ∷ [])
 
 thrice_is : IsProgram thrice
 thrice_is =
-    code_is (label 0 no_counters 2 ∷ label 1 one_counter 1 ∷ []) (line (Set 0 3) ∷ line (Wait 1) ∷ line (Loop 0 1) ∷ line End ∷ [])
-    (label_is 0 2 no_counters (omega arith) (omega arith) (omega arith) (omega arith), (label_is 1 1 one_counter (omega arith) (omega arith) (omega arith) (omega arith), tt))
+    code_is (label 0 2 ∷ counting 1 1 1 ∷ []) (line (Set 0 3) ∷ line (Wait 1) ∷ line (Loop 0 1) ∷ line End ∷ [])
+    (label_is 0 2 (omega arith) (omega arith) (omega arith), (counting_is 1 1 1 (omega arith) (omega arith) (omega arith) (omega arith), tt))
     ((omega arith, tt), (tt, tt)) (omega arith) (omega arith)
     (line_is (Set 0 3) (omega arith, omega arith, omega arith), (line_is (Wait 1) (omega arith, omega arith), (line_is (Loop 0 1) (omega arith, omega arith), (line_is End tt, tt))))
     (omega arith) (omega arith)
@@ -190,9 +104,9 @@ thrice_typed = typed_if thrice thrice_is refl
 abbrev at_midnight : List Line
 at_midnight = line (Until 0) ∷ line End ∷ []
 
-midnight_typed : IsTyped (code (label 0 no_counters 1 ∷ []) at_midnight)
+midnight_typed : IsTyped (code (label 0 1 ∷ []) at_midnight)
 midnight_typed =
-    typed_if (code (label 0 no_counters 1 ∷ []) at_midnight)
+    typed_if (code (label 0 1 ∷ []) at_midnight)
     (first_is 1 at_midnight (omega arith) (omega arith) (line_is (Until 0) (omega arith), (line_is End tt, tt)) (omega arith) (omega arith)) refl
 
 -- ---- commits of one sub-channel
@@ -209,17 +123,17 @@ commits = line_is (CommitIn 24) (omega arith, omega arith)
 abbrev joined : List Line
 joined = line (Edits (AddSub (sub 1 0))) ∷ line (CommitIn 24) ∷ line Join ∷ line End ∷ []
 
-joined_typed : IsTyped (code (label 0 no_counters 3 ∷ []) joined)
+joined_typed : IsTyped (code (label 0 3 ∷ []) joined)
 joined_typed =
-    typed_if (code (label 0 no_counters 3 ∷ []) joined)
+    typed_if (code (label 0 3 ∷ []) joined)
     (first_is 3 joined (omega arith) (omega arith) (adds 1 0 (omega arith) (omega arith), (commits, (line_is Join tt, (line_is End tt, tt)))) (omega arith) (omega arith)) refl
 
 abbrev after_settle : List Line
 after_settle = line (Edits (AddSub (sub 1 0))) ∷ line (CommitIn 24) ∷ line (WaitContact 3 true) ∷ line Settle ∷ line (Edits (DropSub 1)) ∷ line End ∷ []
 
-settled_typed : IsTyped (code (label 0 no_counters 3 ∷ []) after_settle)
+settled_typed : IsTyped (code (label 0 3 ∷ []) after_settle)
 settled_typed =
-    typed_if (code (label 0 no_counters 3 ∷ []) after_settle)
+    typed_if (code (label 0 3 ∷ []) after_settle)
     (first_is 3 after_settle (omega arith) (omega arith)
     (adds 1 0 (omega arith) (omega arith), (commits, (line_is (WaitContact 3 true) (omega arith), (line_is Settle tt, (line_is (Edits (DropSub 1)) (omega arith), (line_is End tt, tt))))))
     (omega arith) (omega arith)) refl
@@ -227,31 +141,31 @@ settled_typed =
 abbrev twice : List Line
 twice = line (Edits (AddSub (sub 1 0))) ∷ line (CommitIn 24) ∷ line (Edits (AddSub (sub 2 96))) ∷ []
 
-pending_refused : IsRefused (code (label 0 no_counters 3 ∷ []) twice) 2 Pending
+pending_refused : IsRefused (code (label 0 3 ∷ []) twice) 2 Pending
 pending_refused =
-    refused_if (code (label 0 no_counters 3 ∷ []) twice) 2 Pending
+    refused_if (code (label 0 3 ∷ []) twice) 2 Pending
     (first_is 3 twice (omega arith) (omega arith) (adds 1 0 (omega arith) (omega arith), (commits, (adds 2 96 (omega arith) (omega arith), tt))) (omega arith) (omega arith)) refl
 
 abbrev uncertain : List Line
 uncertain = line (Edits (AddSub (sub 1 0))) ∷ line (CommitIn 24) ∷ line (Wait 25) ∷ []
 
-wait_of_25_refused : IsRefused (code (label 0 no_counters 3 ∷ []) uncertain) 2 SwapUncertain
+wait_of_25_refused : IsRefused (code (label 0 3 ∷ []) uncertain) 2 SwapUncertain
 wait_of_25_refused =
-    refused_if (code (label 0 no_counters 3 ∷ []) uncertain) 2 SwapUncertain
+    refused_if (code (label 0 3 ∷ []) uncertain) 2 SwapUncertain
     (first_is 3 uncertain (omega arith) (omega arith) (adds 1 0 (omega arith) (omega arith), (commits, (line_is (Wait 25) (omega arith, omega arith), tt))) (omega arith) (omega arith)) refl
 
 abbrev unsound : List Line
 unsound = line (Edits (AddService (Short 1))) ∷ line (CommitIn 24) ∷ []
 
-unsound_refused : IsRefused (code (label 0 no_counters 2 ∷ []) unsound) 1 (OfConfig EmptyService)
+unsound_refused : IsRefused (code (label 0 2 ∷ []) unsound) 1 (OfConfig EmptyService)
 unsound_refused =
-    refused_if (code (label 0 no_counters 2 ∷ []) unsound) 1 (OfConfig EmptyService)
+    refused_if (code (label 0 2 ∷ []) unsound) 1 (OfConfig EmptyService)
     (first_is 2 unsound (omega arith) (omega arith) (line_is (Edits (AddService (Short 1))) (omega arith), (commits, tt)) (omega arith) (omega arith)) refl
 
 -- ---- the bounds of a swap, before and after waiting
 
 abbrev idle : Known
-idle = record { current = nothing; next = nothing; pending = Idle; counters = no_counters; allowance = 5 }
+idle = record { current = nothing; next = nothing; pending = Idle; counters = counters 0; allowance = 5 }
 
 abbrev committed : Known
 committed = leaves plan (CommitIn 24) idle

@@ -1,25 +1,25 @@
 -- Why small codes are refused: for each definition of refusals, examples that hold and examples that fail.
-use Rattle.std.proofs.Common.{◌≡◌, ◌≢◌, ℕ, zero, suc, ◌<◌, ◌≤◌, List, [], ◌∷◌, length, slice_get, Contains, Some, None, inl, inr, refl, sym, ap, subst, arith}
+use Rattle.std.proofs.Common.{◌≡◌, ◌≢◌, ℕ, zero, suc, ◌<◌, ◌≤◌, [], ◌∷◌, length, slice_get, Contains, Some, None, inl, inr, refl, sym, ap, subst, arith}
 use Rattle.std.proofs.lemmas.Bool.{false≢true}
-use Rattle.mux_config.specs.Configuration.{Configuration, IsConfiguration, IsAscending, nothing}
+use Rattle.mux_config.specs.Configuration.{Configuration, nothing}
 use Rattle.std.specs.List.{AllByRecursion}
 use Rattle.mux_config.specs.declared.edit.Edit.TheVariants.{AddSub, DropSub}
 use Rattle.mux_config.specs.declared.fault.EditFault.TheVariants.{IdAbsent}
 use Rattle.plan_code.specs.declared.label.Label.{Label}
 use Rattle.plan_code.specs.declared.label.Swap.TheVariants.{Idle, Within}
 use Rattle.plan_code.specs.declared.instr.Instr.{Instr}
-use Rattle.plan_code.specs.declared.instr.Line.{Line}
 use Rattle.plan_code.specs.declared.instr.Instr.TheVariants.{CommitIn, Join, End, Edit as Edits, Jump}
-use Rattle.plan_code.specs.Program.{Program, IsProgram, IsPlan, IsLabel, IsLine, IsInstr, instr_at, label_at, label_key}
+use Rattle.plan_code.specs.Program.{Program, IsProgram, IsLabel, IsLine, IsInstr, instr_at, label_at, label_key}
 use Rattle.plan_flow.specs.declared.cause.Cause.{Cause}
 use Rattle.plan_flow.specs.declared.cause.Cause.TheVariants.{Target, Table, Edit as OfEdit, Pending, Notice, JoinIdle, Mismatch, Cost, Round, FallsOff}
+use Rattle.plan_flow.proofs.Samples.{plan, sub, counters, label, label_is, line, code, code_is, line_is, first_is}
 use Rattle.plan_verifier.specs.Typing.{Known, Declares, HasOpening, IsLabelTyped, IsAfter, IsSafe}
 use Rattle.plan_verifier.specs.Refusals.{Where, WhereSome, ◌orelse◌, CommitRefused, FitsLabel, EntryRefused, JumpRefused, InstrRefused, KnownRefused, TakenRefused, LabelRefused, PcRefused, OpenedRefused, OpeningRefused, IsSafeBelow, IsTypingBelow, InstructionRefused, IsFirstPast, IsRefusedAt, IsRefused, HasOneVerdict}
 use Rattle.plan_verifier.proofs.Tabled.{IsTabled, tabled, declared_once}
 use Rattle.plan_verifier.proofs.Causes.{decides_label, entry_computes, known_computes}
 use Rattle.plan_verifier.proofs.Entries.{whole_computes}
 use Rattle.plan_verifier.proofs.OneVerdict.{refused_if, codes_have_one_verdict}
-use Rattle.plan_verifier.proofs.VectorsOfTyping.{plan, each_frame, many_subs, knows, counters, no_room_in_each_frame, sub, label, line, code, joins, opened, edited, committed, its_label_declares, opened_fits, a_first_sub_channel, opens_empty}
+use Rattle.plan_verifier.proofs.VectorsOfTyping.{each_frame, many_subs, knows, no_room_in_each_frame, joins, opened, edited, committed, its_label_declares, opened_fits, a_first_sub_channel, opens_empty}
 
 -- adds a sub-channel, and then waits for a swap although none was committed
 abbrev unjoined : Program
@@ -31,76 +31,18 @@ lone i = code (label 0 3 ∷ []) (line i ∷ [])
 
 -- ---- their fields are within their limits
 
-empty_is : IsConfiguration nothing
-empty_is = record {
-  subs_ascend = tt;
-  services_ascend = tt;
-  packets_ascend = tt;
-  subs_placed = tt;
-  services_formed = tt;
-  packets_addressed = tt;
-  subs_few = omega arith;
-  services_few = omega arith;
-  packets_few = omega arith;
-}
-
-plan_is : IsPlan plan
-plan_is = record {
-  ensemble = omega arith;
-  period_from = omega arith;
-  period_to = omega arith;
-  notice_from = omega arith;
-  notice_to = omega arith;
-  budget_from = omega arith;
-  budget_to = omega arith;
-}
-
-label_at_pc : (pc : ℕ) → pc < 65536 → IsLabel 1 (label pc 3)
-label_at_pc pc low = record {
-  place = low;
-  current = omega arith;
-  following = omega arith;
-  bounds = tt;
-  set = omega arith;
-  cost_from = omega arith;
-  cost_to = omega arith;
-}
-
-code_is : (labels : List Label) (lines : List Line) → AllByRecursion (IsLabel 1) labels → IsAscending label_key labels → 1 ≤ length labels → length labels ≤ 1024
-    → AllByRecursion IsLine lines → 1 ≤ length lines → length lines ≤ 4096 → IsProgram (code labels lines)
-code_is labels lines formed ascend from to each first last = record {
-  planned = plan_is;
-  configurations_from = omega arith;
-  configurations_to = omega arith;
-  configurations_formed = (empty_is, tt);
-  labels_from = from;
-  labels_to = to;
-  labels_formed = formed;
-  labels_ascend = ascend;
-  lines_from = first;
-  lines_to = last;
-  lines_formed = each;
-}
-
--- with a label at the first instruction
-first_is : (lines : List Line) → AllByRecursion IsLine lines → 1 ≤ length lines → length lines ≤ 4096 → IsProgram (code (label 0 3 ∷ []) lines)
-first_is lines each first last = code_is (label 0 3 ∷ []) lines (label_at_pc 0 (omega arith), tt) (tt, tt) (omega arith) (omega arith) each first last
-
-line_is : (i : Instr) → IsInstr i → IsLine (line i)
-line_is i h = record { numbered = omega arith; formed = h }
-
 adds : IsLine (line (Edits (AddSub sub)))
 adds = line_is (Edits (AddSub sub)) (record { named = omega arith; start = omega arith; from_one = omega arith; to_four = omega arith; rate = omega arith })
 
 joins_tabled : IsTabled joins
 joins_tabled =
-    tabled joins (first_is joins.lines (adds, (line_is (CommitIn 24) (omega arith, omega arith), (line_is Join tt, (line_is End tt, tt)))) (omega arith) (omega arith))
+    tabled joins (first_is 3 joins.lines (omega arith) (omega arith) (adds, (line_is (CommitIn 24) (omega arith, omega arith), (line_is Join tt, (line_is End tt, tt)))) (omega arith) (omega arith))
 
 unjoined_is : IsProgram unjoined
-unjoined_is = first_is unjoined.lines (adds, (line_is Join tt, tt)) (omega arith) (omega arith)
+unjoined_is = first_is 3 unjoined.lines (omega arith) (omega arith) (adds, (line_is Join tt, tt)) (omega arith) (omega arith)
 
 lone_tabled : (i : Instr) → IsInstr i → IsTabled (lone i)
-lone_tabled i h = tabled (lone i) (first_is (line i ∷ []) (line_is i h, tt) (omega arith) (omega arith))
+lone_tabled i h = tabled (lone i) (first_is 3 (line i ∷ []) (omega arith) (omega arith) (line_is i h, tt) (omega arith) (omega arith))
 
 -- ---- causes in order
 
@@ -314,7 +256,7 @@ so_it_is_refused : IsRefused unjoined 1 JoinIdle
 so_it_is_refused = ((opened ∷ []), refused_at_the_join)
 
 labels_past_are : AllByRecursion (IsLabel 1) labels_past.labels
-labels_past_are = (label_at_pc 0 (omega arith), (label_at_pc 7 (omega arith), (label_at_pc 9 (omega arith), tt)))
+labels_past_are = (label_is 0 3 (omega arith) (omega arith) (omega arith), (label_is 7 3 (omega arith) (omega arith) (omega arith), (label_is 9 3 (omega arith) (omega arith) (omega arith), tt)))
 
 labels_past_is : IsProgram labels_past
 labels_past_is =

@@ -1,43 +1,28 @@
 -- Typed codes on a small code: for each definition, an example that holds and one that fails.
 use Rattle.std.proofs.Common.{◌≡◌, ◌≢◌, ℕ, zero, suc, ◌+◌, ◌*◌, ◌<◌, ◌≤◌, true, false, List, [], ◌∷◌, slice_get, Contains, Option, Some, None, inl, inr, refl, ap, subst, ◌∙◌, arith}
 use Rattle.std.proofs.lemmas.Bool.{false≢true}
-use Rattle.fib_codec.specs.declared.frame_layout.FrameLayout.TheVariants.{Whole}
 use Rattle.mux_config.specs.Configuration.{Configuration, nothing}
 use Rattle.mux_config.specs.Sound.{IsSound}
 use Rattle.mux_config.specs.declared.edit.Edit.TheVariants.{AddSub, DropSub}
 use Rattle.mux_types.specs.declared.parts.Sub.{Sub}
 use Rattle.mux_config.proofs.Sounding.{sound_told}
 use Rattle.mux_eep.specs.declared.sizes.EepSet.TheVariants.{A}
-use Rattle.fib_codec.specs.declared.modes.Mode.TheVariants.{I}
 use Rattle.plan_code.specs.declared.plan.Plan.{Plan}
-use Rattle.plan_code.specs.declared.flags.Counters.{Counters}
 use Rattle.plan_code.specs.declared.label.Label.{Label}
 use Rattle.plan_code.specs.declared.label.Swap.{Swap}
 use Rattle.plan_code.specs.declared.label.Swap.TheVariants.{Idle, Within, Perhaps}
 use Rattle.plan_code.specs.declared.instr.Instr.{Instr}
-use Rattle.plan_code.specs.declared.instr.Line.{Line}
 use Rattle.plan_code.specs.declared.instr.Instr.TheVariants.{Wait, CommitIn, CommitAt, Join, End, Edit as Edits, Loop}
 use Rattle.plan_code.specs.Program.{Program, instr_at, label_at}
+use Rattle.plan_flow.proofs.Samples.{plan, sub, one_sub, counters, label, line, code}
 use Rattle.plan_verifier.specs.Typing.{Known, HasRoom, CanCommit, IsCertain, IsSurelyPending, IsFine, Declares, HasConfigurationsOf, FitsSwap, Fits, CanEnter, IsInitial, IsOpening, Arrives, HasOpening, IsLabelTyped, Reaches, IsAfter, IsSafe, IsTyping, leaves, continues}
 use Rattle.plan_verifier.proofs.Deciding.{decides_room, decides_includes, decides_initial}
 
--- ---- values shared by these vectors: one sub-channel of 128 kbit/s, added to an empty multiplex
+-- ---- values shared by these vectors: the sub-channel of the samples, added to an empty multiplex
 
-abbrev pub plan : Plan
-plan = record { eid = 0xe1c5; layout = Whole I; period = 4; notice = 24; budget = 20 }
-
--- the same, but the whole configuration goes out in each frame
+-- the plan of the samples, but the whole configuration goes out in each frame
 abbrev pub each_frame : Plan
-each_frame = record { eid = 0xe1c5; layout = Whole I; period = 1; notice = 24; budget = 20 }
-
-abbrev pub counters : ℕ → Counters
-counters set = record { 0 = set }
-
-abbrev pub sub : Sub
-sub = record { id = 1; start = 0; protection = record { set = A; level = 3 }; kbits = 128 }
-
-abbrev pub one_sub : Configuration
-one_sub = record { subs = sub ∷ []; services = []; packets = [] }
+each_frame = record plan { period = 1 }
 
 -- two sub-channels that share all capacity units
 abbrev pub overlapping : Configuration
@@ -54,16 +39,6 @@ many_subs = record { subs = small_subs 24 0; services = []; packets = [] }
 -- with an empty current configuration
 abbrev pub knows : Configuration → Swap → ℕ → Known
 knows next pending allowance = record { current = nothing; next = next; pending = pending; counters = counters 0; allowance = allowance }
-
--- a label as at the first instruction: no swap pending, no counter set, and this cost
-abbrev pub label : ℕ → ℕ → Label
-label pc cost = record { pc = pc; cur = 0; next = 0; pending = Idle; counters = counters 0; cost = cost }
-
-abbrev pub line : Instr → Line
-line i = record { number = 1; instr = i }
-
-abbrev pub code : List Label → List Line → Program
-code labels lines = record { plan = plan; configurations = nothing ∷ []; labels = labels; lines = lines }
 
 -- adds the sub-channel, commits it, waits for the swap and ends
 abbrev pub joins : Program

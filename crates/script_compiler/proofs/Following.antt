@@ -15,7 +15,8 @@ use Rattle.script_compiler.specs.declared.flow.ProgramPoint.{ProgramPoint}
 use Rattle.script_compiler.specs.Scheme.{PlacedInstr, without_label, at_label, meet, join, onward, head, falls_out, instr_of_act, point_after, placed_instr, alone, places}
 use Rattle.script_compiler.specs.Meaning.{acts_as, Scene, Reading, reading, scene_of, followed, first_done, IsFineToDo, Performs}
 use Rattle.script_compiler.proofs.Scenes.{acts_as_compiled, act_scene, act_place, act_fine}
-use Rattle.script_compiler.proofs.Places.{Stand, stand_front, stand_back, after_falls, jump_length, meets_some, joins_first, joins_second}
+use Rattle.script_compiler.proofs.Continuing.{after_falls}
+use Rattle.script_compiler.proofs.Places.{Stand, stand_front, stand_back, jump_length, meets_some, joins_first, joins_second}
 
 some_same : {A : Type 0} (x y : A) → Some x ≡ Some y → x ≡ y
 some_same x y e = cc

@@ -1,9 +1,6 @@
 -- If a block is judged, each of its instructions is fine, and each path continues to a point that it fits.
 use Rattle.std.proofs.Common.{◌≡◌, ℕ, zero, suc, ◌+◌, ◌<◌, ◌≤◌, Bool, true, false, if◌then◌else◌, List, [], ◌∷◌, ◌++◌, length, Option, Some, None, is_some, refl, sym, ap, ◌∙◌, subst, arith, inl, inr, ◌⊎◌, length-append}
 use Rattle.std.specs.Prelude.{slice_get}
-use Rattle.std.proofs.Math.Seq.{get_or-append_seam}
-use Rattle.std.proofs.lemmas.Option.{slice_get-get_or}
-use Rattle.std.proofs.Common.{append_assoc}
 use Rattle.plan_code.specs.declared.flags.Counters.{Counters}
 use Rattle.plan_code.specs.declared.instr.Instr.{Instr}
 use Rattle.plan_code.specs.declared.instr.Instr.TheVariants.{End, Test, Jump, Set, Loop}
@@ -23,33 +20,7 @@ use Rattle.script_compiler.specs.Scheme.{PlacedInstr, without_label, at_label, m
 use Rattle.script_compiler.specs.Judged.{IsJudged, WaysAgree, BranchesAgree, FitsEntry, Reached}
 use Rattle.script_compiler.specs.Compiled.{first_counters, nested}
 use Rattle.script_compiler.proofs.Continuing.{after_falls}
-
--- ---- ranges of a code
-
--- these instructions are in the code from this pc on
-abbrev pub Stand : List PlacedInstr → ℕ → List PlacedInstr → Type 0
-Stand code pc [] = Unit {0}
-Stand code pc (p ∷ ps) = (slice_get code pc ≡ Some p) × Stand code (pc + 1) ps
-
-pub stand_front : (code : List PlacedInstr) (pc : ℕ) (a b : List PlacedInstr) → Stand code pc (a ++ b) → Stand code pc a
-stand_front code pc [] b h = tt
-stand_front code pc (i ∷ a) b h = (h.0, stand_front code (pc + 1) a b h.1)
-
-pub stand_back : (code : List PlacedInstr) (pc : ℕ) (a b : List PlacedInstr) → Stand code pc (a ++ b) → Stand code (pc + length a) b
-stand_back code pc [] b h = let e : pc ≡ pc + 0 = omega arith in subst (λ n. Stand code n b) e h
-stand_back code pc (i ∷ a) b h =
-    let e : pc + 1 + length a ≡ pc + length (i ∷ a) = omega arith in
-    subst (λ n. Stand code n b) e (stand_back code (pc + 1) a b h.1)
-
-pub stand_all : (ps before : List PlacedInstr) → Stand (before ++ ps) (length before) ps
-stand_all [] before = tt
-stand_all (p ∷ ps) before =
-    let within : length before < length (before ++ p ∷ ps) = omega (arith, length-append before (p ∷ ps)) in
-    let point_here = slice_get-get_or (before ++ p ∷ ps) (length before) p within ∙ ap Some (get_or-append_seam before p ps p) in
-    let n : length (before ++ p ∷ []) ≡ length before + 1 = omega (arith, length-append before (p ∷ [])) in
-    let rest = stand_all ps (before ++ p ∷ []) in
-    let rest' = subst (λ l. Stand l (length (before ++ p ∷ [])) ps) (append_assoc before (p ∷ []) ps) rest in
-    (point_here, subst (λ m. Stand (before ++ p ∷ ps) m ps) n rest')
+use Rattle.script_compiler.proofs.Places.{Stand, stand_front, stand_back, stand_all}
 
 pub falls_from : (plan : Plan) (b : Block) (s u : ProgramPoint) → point_after plan b s ≡ Some u → falls_out b ≡ true
 falls_from plan b s u e = sym (after_falls plan b s) ∙ ap (λ w. is_some w) e

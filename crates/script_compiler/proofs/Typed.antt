@@ -29,7 +29,8 @@ use Rattle.script_compiler.specs.Compiled.{beginning, opening_of, body_of, place
 use Rattle.script_compiler.specs.Longest.{longest}
 use Rattle.script_compiler.proofs.Paths.{one_least, need_most, need_onward, is_need}
 use Rattle.script_compiler.proofs.Emitted.{length_lines}
-use Rattle.script_compiler.proofs.Sound.{Stand, stand_all, counted, Lands, Meets, Holds, AllHold, all_hold, opens, fits_same}
+use Rattle.script_compiler.proofs.Places.{Stand, stand_all}
+use Rattle.script_compiler.proofs.Sound.{counted, Lands, Meets, Holds, AllHold, all_hold, opens, fits_same}
 use Rattle.script_compiler.proofs.Connected.{Connected, all_connected}
 use Rattle.script_compiler.proofs.Labelled.{Found, label_found, label_contained, found_contained, label_place}
 use Rattle.script_compiler.proofs.First.{first_of_all}

@@ -1,26 +1,22 @@
 -- Test vectors: small scripts, and what their statements, frames and events result in, and what not.
-use Rattle.std.proofs.Common.{◌≡◌, ℕ, zero, suc, true, false, List, [], ◌∷◌, Some, None, inl, inr, refl, sym, ap, ◌∙◌, replicate, arith}
+use Rattle.std.proofs.Common.{◌≡◌, ℕ, zero, suc, true, false, List, [], ◌∷◌, Some, None, inl, inr, refl, sym, ap, ◌∙◌, arith}
 use Rattle.std.proofs.lemmas.Bool.{false≢true}
 use Rattle.mux_config.specs.declared.edit.Edit.TheVariants.{DropSub}
 use Rattle.mux_config.specs.declared.fault.EditFault.TheVariants.{IdAbsent}
 use Rattle.mux_config.specs.Configuration.{nothing as no_configuration}
-use Rattle.fib_codec.specs.declared.frame_layout.FrameLayout.TheVariants.{Whole}
-use Rattle.fib_codec.specs.declared.modes.Mode.TheVariants.{I}
 use Rattle.plan_code.specs.declared.flags.Contacts.{Contacts}
 use Rattle.plan_code.specs.declared.hold.Hold.{Hold}
 use Rattle.plan_code.specs.declared.hold.Hold.TheVariants.{Running, Waits, WaitsSwap, Ended}
 use Rattle.plan_code.specs.declared.instr.Instr.{Instr}
 use Rattle.plan_code.specs.declared.instr.Instr.TheVariants.{Wait as WaitInstr, End}
 use Rattle.plan_code.specs.declared.instr.Line.{Line}
-use Rattle.plan_code.specs.declared.label.Label.{Label}
-use Rattle.plan_code.specs.declared.label.Swap.TheVariants.{Idle}
-use Rattle.plan_code.specs.declared.plan.Plan.{Plan}
 use Rattle.plan_code.specs.Program.{Program, IsProgram}
 use Rattle.plan_code.specs.Machine.{State}
+use Rattle.plan_flow.proofs.Samples.{plan, label, code as labelled, first_is}
 use Rattle.plan_verifier.proofs.OneVerdict.{typed_if}
 use Rattle.plan_runs.specs.declared.event.Event.TheVariants.{Contact, Frame}
 use Rattle.plan_runs.specs.declared.event.Start.{Start}
-use Rattle.plan_runs.specs.Runs.{StartIsInRange, IsStart}
+use Rattle.plan_runs.proofs.Samples.{all_open, start_at, in_range, first_state, it_starts}
 use Rattle.script_front.specs.declared.tree.Act.TheVariants.{Edit, Wait, Join, Settle}
 use Rattle.script_front.specs.Block.{Block, nothing, basic, when, either, repeat, forever, apply}
 use Rattle.script_front.specs.Tree.{Tree}
@@ -29,12 +25,6 @@ use Rattle.script_compiler.specs.Meaning.{Scene, Reading, reading, Performs, Per
 use Rattle.script_compiler.proofs.Playing.{performs_one, all_one, scripts_play}
 
 -- ---- values shared by these vectors
-
-abbrev plan : Plan
-plan = record { eid = 0xe1c5; layout = Whole I; period = 4; notice = 24; budget = 20 }
-
-abbrev all_open : Contacts
-all_open = record { 0 = 0 }
 
 abbrev third_closed : Contacts
 third_closed = record { 0 = 8 }
@@ -198,7 +188,7 @@ rest_comes_first todo h = let e = held_same (reading todo (after 1 third_closed 
 abbrev silent : Tree
 silent =
     record {
-      header = record { eid = 0xe1c5; layout = Whole I; period = 4; notice = 24; budget = 20 };
+      header = plan;
       items = [];
       names = [];
       blocks = [];
@@ -207,100 +197,20 @@ silent =
       last_line = 3;
     }
 
-abbrev label : Label
-label = record { pc = 0; cur = 0; next = 0; pending = Idle; counters = record { 0 = 0 }; cost = 1 }
-
 abbrev line : Instr → Line
 line i = record { number = 3; instr = i }
 
 abbrev code : List Line → Program
-code lines = record { plan = plan; configurations = no_configuration ∷ []; labels = label ∷ []; lines = lines }
+code lines = labelled (label 0 1 ∷ []) lines
 
 abbrev start : Start
-start = record { eid = 0xe1c5; count = 0; day = 0; contacts = all_open }
+start = start_at 0
 
 abbrev first : State
-first =
-    record {
-      current = no_configuration;
-      next = no_configuration;
-      left = None;
-      pc = 0;
-      hold = Running;
-      counters = replicate 8 0;
-      contacts = all_open;
-      count = 0;
-      day = 0;
-      eid = 0xe1c5;
-      page_index = 0;
-    }
-
-in_range : StartIsInRange start
-in_range = record { eid = omega arith; count = omega arith; day = omega arith; contacts = omega arith }
-
-it_starts : (lines : List Line) → IsStart (code lines) start first
-it_starts lines = record {
-  label = label;
-  first = refl;
-  current = refl;
-  next = refl;
-  left = refl;
-  pc = refl;
-  hold = refl;
-  counters = refl;
-  contacts = refl;
-  count = refl;
-  day = refl;
-  eid = refl;
-  page_index = refl;
-}
+first = first_state no_configuration 0
 
 end_is : IsProgram (code (line End ∷ []))
-end_is = record {
-  planned = record {
-    ensemble = omega arith;
-    period_from = omega arith;
-    period_to = omega arith;
-    notice_from = omega arith;
-    notice_to = omega arith;
-    budget_from = omega arith;
-    budget_to = omega arith;
-  };
-  configurations_from = omega arith;
-  configurations_to = omega arith;
-  configurations_formed = (
-    record {
-      subs_ascend = tt;
-      services_ascend = tt;
-      packets_ascend = tt;
-      subs_placed = tt;
-      services_formed = tt;
-      packets_addressed = tt;
-      subs_few = omega arith;
-      services_few = omega arith;
-      packets_few = omega arith;
-    },
-    tt,
-  );
-  labels_from = omega arith;
-  labels_to = omega arith;
-  labels_formed = (
-    record {
-      place = omega arith;
-      current = omega arith;
-      following = omega arith;
-      bounds = tt;
-      set = omega arith;
-      cost_from = omega arith;
-      cost_to = omega arith;
-    },
-    tt,
-  );
-  labels_ascend = (tt, tt);
-  lines_from = omega arith;
-  lines_to = omega arith;
-  lines_formed = (record { numbered = omega arith; formed = tt }, tt);
-}
+end_is = first_is 1 (line End ∷ []) (omega arith) (omega arith) (record { numbered = omega arith; formed = tt }, tt) (omega arith) (omega arith)
 
 its_code : IsCodeOf silent (code (line End ∷ []))
 its_code = record {
@@ -318,7 +228,7 @@ plays = scripts_play silent (code (line End ∷ [])) end_is (typed_if (code (lin
 plays_late : PlaysAsItReads silent (code (line (WaitInstr 1) ∷ line End ∷ [])) → ⊥
 plays_late h =
     let lines = line (WaitInstr 1) ∷ line End ∷ [] in
-    let along = h start first (Frame ∷ []) in_range (it_starts lines) (tt, tt) in
+    let along = h start first (Frame ∷ []) (in_range 0 (omega arith)) (it_starts no_configuration lines 0 1) (tt, tt) in
     let ended : PerformsAll plan (begins silent start) (Frame ∷ []) (reading nothing (after 1 all_open Ended)) = (
       reading nothing (after 1 all_open Ended),
       record { steps = 1; done = reading nothing (after 0 all_open Ended); statements = (refl, tt, (refl, refl)); counts = refl },

@@ -3,12 +3,7 @@ use Rattle.std.proofs.Common.{◌≡◌, ◌≢◌, ◌++◌, ◌∙◌, length-
 use Rattle.mux_config.specs.Configuration.{Configuration, nothing as no_configuration}
 use Rattle.mux_config.specs.declared.edit.Edit.TheVariants.{AddSub}
 use Rattle.mux_config.specs.declared.fault.EditFault.TheVariants.{IdUsed}
-use Rattle.mux_types.specs.declared.parts.Sub.{Sub}
 use Rattle.mux_config.proofs.Sounding.{sound_told}
-use Rattle.mux_eep.specs.declared.sizes.EepSet.TheVariants.{A}
-use Rattle.fib_codec.specs.declared.frame_layout.FrameLayout.TheVariants.{Whole}
-use Rattle.fib_codec.specs.declared.modes.Mode.TheVariants.{I}
-use Rattle.plan_code.specs.declared.plan.Plan.{Plan}
 use Rattle.plan_code.specs.declared.label.Label.{Label}
 use Rattle.plan_code.specs.declared.label.Swap.{Swap}
 use Rattle.plan_code.specs.declared.label.Swap.TheVariants.{Idle, Within, Perhaps}
@@ -16,6 +11,7 @@ use Rattle.plan_code.specs.declared.instr.Instr.{Instr}
 use Rattle.plan_code.specs.declared.instr.Instr.TheVariants.{Wait, Settle, End, Test, Jump, Set, Loop}
 use Rattle.plan_code.specs.Program.{Program}
 use Rattle.plan_code.specs.declared.limits.TheConstants.{MOST_CONFIGURATIONS}
+use Rattle.plan_flow.proofs.Samples.{plan, sub, one_sub}
 use Rattle.plan_flow.specs.Flows.{Flow, widest, FitsFlow}
 use Rattle.plan_flow.specs.Rules.{suspends}
 use Rattle.script_front.specs.declared.tree.Act.TheVariants.{Wait as Waits, Join as Joins}
@@ -30,15 +26,6 @@ use Rattle.script_compiler.specs.Need.{StepsTo, HasPath, IsWithinBudget, IsNeed}
 use Rattle.script_compiler.specs.Compiled.{AreFine, IsInTable, Added, Tabled, IsLabelOf, AreLabelsOf, IsCodeOf, CostsItsNeeds, IsAccepted, beginning, lines_of_placed, instrs_of, nested, placed_instrs}
 
 -- ---- values shared by these vectors
-
-abbrev plan : Plan
-plan = record { eid = 0xe1c5; layout = Whole I; period = 4; notice = 24; budget = 20 }
-
-abbrev sub : Sub
-sub = record { id = 1; start = 0; protection = record { set = A; level = 3 }; kbits = 128 }
-
-abbrev one_sub : Configuration
-one_sub = record { subs = sub ∷ []; services = []; packets = [] }
 
 -- what is known: the empty configuration is current, with this next one and swap
 abbrev knows : Configuration → Swap → Flow
@@ -262,7 +249,7 @@ used_twice h = let e : Some IdUsed ≡ None = h.1.0 in absurd cc
 -- a script with these items that ends at once
 abbrev ends : List Item → ℕ → Tree
 ends items budget = record {
-  header = record { eid = 0xe1c5; layout = Whole I; period = 4; notice = 24; budget = budget };
+  header = record plan { budget = budget };
   items = items;
   names = [];
   blocks = [];

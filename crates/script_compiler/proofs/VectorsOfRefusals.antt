@@ -5,10 +5,7 @@ use Rattle.mux_config.specs.declared.edit.Edit.TheVariants.{AddSub}
 use Rattle.mux_config.specs.declared.fault.EditFault.TheVariants.{IdUsed}
 use Rattle.mux_config.specs.declared.fault.ConfigFault.TheVariants.{Overlap}
 use Rattle.mux_types.specs.declared.parts.Sub.{Sub}
-use Rattle.mux_eep.specs.declared.sizes.EepSet.TheVariants.{A}
-use Rattle.fib_codec.specs.declared.frame_layout.FrameLayout.TheVariants.{Whole}
-use Rattle.fib_codec.specs.declared.modes.Mode.TheVariants.{I}
-use Rattle.plan_code.specs.declared.plan.Plan.{Plan}
+use Rattle.plan_flow.proofs.Samples.{plan, sub, one_sub}
 use Rattle.plan_flow.specs.declared.cause.Cause.{Cause}
 use Rattle.plan_flow.specs.declared.cause.Cause.TheVariants.{Table, Edit as OfEdit, Config as OfConfig, JoinIdle, Mismatch}
 use Rattle.script_front.specs.declared.tree.Act.TheVariants.{Edit as Edits, Wait as Waits, Join as Joins}
@@ -20,15 +17,6 @@ use Rattle.script_compiler.specs.Scheme.{point_after}
 use Rattle.script_compiler.specs.Judged.{FitsEntry}
 use Rattle.script_compiler.specs.Compiled.{beginning}
 use Rattle.script_compiler.specs.Refused.{IsMismatch, IsRefusedAfter, IsRefusedIn, IsItemRefused, IsOpeningRefused, IsRefused}
-
-abbrev plan : Plan
-plan = record { eid = 0xe1c5; layout = Whole I; period = 4; notice = 24; budget = 20 }
-
-abbrev sub : Sub
-sub = record { id = 1; start = 0; protection = record { set = A; level = 3 }; kbits = 128 }
-
-abbrev one_sub : Configuration
-one_sub = record { subs = sub ∷ []; services = []; packets = [] }
 
 abbrev start : ProgramPoint
 start = beginning no_configuration
@@ -93,7 +81,7 @@ an_opening_of_nothing cause (inr h) = absurd (omega (arith, h.1.0))
 
 abbrev ends : List Item → Tree
 ends items = record {
-  header = record { eid = 0xe1c5; layout = Whole I; period = 4; notice = 24; budget = 20 };
+  header = plan;
   items = items;
   names = [];
   blocks = [];

@@ -26,11 +26,11 @@ few_each P f most few (x ∷ xs) h =
     let split : most * length (x ∷ xs) ≡ most + most * length xs = omega arith in
     omega (arith, rest, first, long, split)
 
-each_any : {T : Type 0} (xs : List T) → AllByRecursion (λ x. Unit {0}) xs
+pub each_any : {T : Type 0} (xs : List T) → AllByRecursion (λ x. Unit {0}) xs
 each_any [] = tt
 each_any (x ∷ xs) = (tt, each_any xs)
 
-chosen : (b : Bool) (es fs : List Edit) (n : ℕ) → length es ≤ n → length fs ≤ n → length (cond b es fs) ≤ n
+pub chosen : (b : Bool) (es fs : List Edit) (n : ℕ) → length es ≤ n → length fs ≤ n → length (cond b es fs) ≤ n
 chosen true es fs n h k = h
 chosen false es fs n h k = k
 
@@ -40,19 +40,19 @@ behind_by : (m n : Component) (ms ns : List Component) (b : Bool) → length (af
 behind_by m n ms ns true rest = omega (arith, rest)
 behind_by m n ms ns false rest = omega arith
 
-behind_few : (ms ns : List Component) → length (after_common ms ns) ≤ length ms
+pub behind_few : (ms ns : List Component) → length (after_common ms ns) ≤ length ms
 behind_few [] ns = omega arith
 behind_few (m ∷ ms) [] = omega arith
 behind_few (m ∷ ms) (n ∷ ns) = behind_by m n ms ns (is_same_component m n) (behind_few ms ns)
 
-dropped_length : (sid : Sid) (ms : List Component) → length (components_dropped sid ms) ≡ length ms
+pub dropped_length : (sid : Sid) (ms : List Component) → length (components_dropped sid ms) ≡ length ms
 dropped_length sid [] = refl
 dropped_length sid (m ∷ ms) =
     let rest = dropped_length sid ms in
     let long = length-append (components_dropped sid ms) (DropComponent sid (carrier_of m) ∷ []) in
     omega (arith, rest, long)
 
-added_length : (sid : Sid) (ms : List Component) → length (components_added sid ms) ≡ length ms
+pub added_length : (sid : Sid) (ms : List Component) → length (components_added sid ms) ≡ length ms
 added_length sid [] = refl
 added_length sid (m ∷ ms) = let rest = added_length sid ms in omega (arith, rest)
 
@@ -60,7 +60,7 @@ limit_few : (sid : Sid) → component_limit sid ≤ 12
 limit_few (Short n) = omega arith
 limit_few (Long n) = omega arith
 
-service_few : (s : Service) → IsService s → length s.components ≤ 12
+pub service_few : (s : Service) → IsService s → length s.components ≤ 12
 service_few s h = let few = h.few in let most = limit_few s.sid in omega (arith, few, most)
 
 added_few : (s : Service) → IsService s → length (service_added s) ≤ 13

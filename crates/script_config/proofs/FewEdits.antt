@@ -1,24 +1,16 @@
 -- There are few edits between two configurations: a plan has room for them, and a wait after each.
-use Rattle.std.proofs.Common.{◌≡◌, ℕ, ◌+◌, ◌*◌, ◌≤◌, ◌==◌, nat_lt, Bool, true, false, cond, List, [], ◌∷◌, ◌++◌, length, Option, Some, None, refl, arith, length-append}
+use Rattle.std.proofs.Common.{◌≡◌, ℕ, ◌+◌, ◌*◌, ◌≤◌, ◌==◌, nat_lt, Bool, true, false, cond, List, [], ◌∷◌, ◌++◌, length, Option, Some, None, arith, length-append}
 use Rattle.std.specs.List.{AllByRecursion, flat_map}
 use Rattle.mux_config.specs.declared.edit.Edit.{Edit}
-use Rattle.mux_config.specs.declared.edit.Edit.TheVariants.{DropSub, DropComponent}
-use Rattle.mux_types.specs.declared.numbers.Sid.{Sid}
-use Rattle.mux_types.specs.declared.numbers.Sid.TheVariants.{Short, Long}
+use Rattle.mux_config.specs.declared.edit.Edit.TheVariants.{DropSub}
 use Rattle.mux_types.specs.declared.parts.Sub.{Sub}
 use Rattle.mux_types.specs.declared.parts.Service.{Service}
-use Rattle.mux_types.specs.declared.parts.Component.{Component}
 use Rattle.mux_types.specs.declared.parts.Packet.{Packet}
-use Rattle.mux_types.specs.Configuration.{Configuration, IsConfiguration, IsService, carrier_of, component_limit}
-use Rattle.mux_types.specs.Sameness.{is_same_component, is_same_packet}
+use Rattle.mux_types.specs.Configuration.{Configuration, IsConfiguration, IsService}
+use Rattle.mux_types.specs.Sameness.{is_same_packet}
 use Rattle.mux_config.specs.Edits.{sub_at, service_at, packet_at}
-use Rattle.script_config.specs.Making.{components_added}
-use Rattle.script_config.specs.Differences.{is_same_profile, after_common, components_dropped, service_gone, service_cut, packet_gone, sub_gone, start_altered, rate_altered, alterations, sub_altered, sub_new, packet_new, service_grown, edits_between}
-use Rattle.script_config.proofs.Counting.{few_each}
-
-each_any : {T : Type 0} (xs : List T) → AllByRecursion (λ x. Unit {0}) xs
-each_any [] = tt
-each_any (x ∷ xs) = (tt, each_any xs)
+use Rattle.script_config.specs.Differences.{is_same_profile, after_common, service_gone, service_cut, packet_gone, sub_gone, start_altered, rate_altered, alterations, sub_altered, sub_new, packet_new, service_grown, edits_between}
+use Rattle.script_config.proofs.Counting.{few_each, each_any, chosen, behind_few, dropped_length, added_length, service_few}
 
 -- two kinds of edits for each member
 both_few : {T : Type 0} (P : T → Type 0) (f g : T → List Edit) (most : ℕ) → ((x : T) → P x → length (f x) + length (g x) ≤ most) → (xs : List T) → AllByRecursion P xs
@@ -32,38 +24,7 @@ both_few P f g most few (x ∷ xs) h =
     let split : most * length (x ∷ xs) ≡ most + most * length xs = omega arith in
     omega (arith, rest, first, long, other, split)
 
-chosen : (b : Bool) (es fs : List Edit) (n : ℕ) → length es ≤ n → length fs ≤ n → length (cond b es fs) ≤ n
-chosen true es fs n h k = h
-chosen false es fs n h k = k
-
 -- ---- services
-
-behind_by : (m n : Component) (ms ns : List Component) (b : Bool) → length (after_common ms ns) ≤ length ms → length (cond b (after_common ms ns) (m ∷ ms)) ≤ length (m ∷ ms)
-behind_by m n ms ns true rest = omega (arith, rest)
-behind_by m n ms ns false rest = omega arith
-
-behind_few : (ms ns : List Component) → length (after_common ms ns) ≤ length ms
-behind_few [] ns = omega arith
-behind_few (m ∷ ms) [] = omega arith
-behind_few (m ∷ ms) (n ∷ ns) = behind_by m n ms ns (is_same_component m n) (behind_few ms ns)
-
-dropped_length : (sid : Sid) (ms : List Component) → length (components_dropped sid ms) ≡ length ms
-dropped_length sid [] = refl
-dropped_length sid (m ∷ ms) =
-    let rest = dropped_length sid ms in
-    let long = length-append (components_dropped sid ms) (DropComponent sid (carrier_of m) ∷ []) in
-    omega (arith, rest, long)
-
-added_length : (sid : Sid) (ms : List Component) → length (components_added sid ms) ≡ length ms
-added_length sid [] = refl
-added_length sid (m ∷ ms) = let rest = added_length sid ms in omega (arith, rest)
-
-limit_few : (sid : Sid) → component_limit sid ≤ 12
-limit_few (Short n) = omega arith
-limit_few (Long n) = omega arith
-
-service_few : (s : Service) → IsService s → length s.components ≤ 12
-service_few s h = let few = h.few in let most = limit_few s.sid in omega (arith, few, most)
 
 -- a service is dropped whole, or loses components
 less_few : (o : Option Service) (s : Service) → IsService s → length (service_gone o s) + length (service_cut o s) ≤ 12

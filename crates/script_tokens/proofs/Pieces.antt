@@ -129,7 +129,7 @@ cut_pieces limits p (atom bs ∷ ps) h f =
 -- ---- from tokens to pieces
 
 -- the tokens come before those of the rest, and are all within the limits
-record Parts (limits : Limits) (ts us : List Token) (r : Cuts) : Type 0 where
+pub record Parts (limits : Limits) (ts us : List Token) (r : Cuts) : Type 0 where
   pub later : List Token
   pub rest : r ≡ Ok later
   pub whole : us ≡ ts ++ later
@@ -143,7 +143,7 @@ after_added : (t : Token) (r : Cuts) (us : List Token) → added t r ≡ Ok us �
 after_added t (Ok vs) us e = (vs, refl, cc)
 after_added t (Err d) us e = absurd cc
 
-parts : (limits : Limits) (ts us : List Token) (r : Cuts) → tokens_before limits ts r ≡ Ok us → Parts limits ts us r
+pub parts : (limits : Limits) (ts us : List Token) (r : Cuts) → tokens_before limits ts r ≡ Ok us → Parts limits ts us r
 parts limits [] us r e = record { later = us; rest = e; whole = refl; inside = tt }
 parts limits (t ∷ ts) us r e =
     let p = test_of t (fits limits t) (added t (tokens_before limits ts r)) us e in
@@ -303,7 +303,7 @@ good_byte : (b : Bool) (p : Place) (r : Cuts) (us : List Token) → cond b (Err 
 good_byte true p r us e = absurd cc
 good_byte false p r us e = (refl, e)
 
-both_fit : (limits : Limits) (ts us : List Token) → TokensFit limits ts → TokensFit limits us → TokensFit limits (ts ++ us)
+pub both_fit : (limits : Limits) (ts us : List Token) → TokensFit limits ts → TokensFit limits us → TokensFit limits (ts ++ us)
 both_fit limits [] us h k = k
 both_fit limits (t ∷ ts) us h k = (h.0, both_fit limits ts us h.1 k)
 

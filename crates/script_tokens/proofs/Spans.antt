@@ -9,11 +9,13 @@ use Rattle.script_tokens.specs.declared.token.Kind.TheVariants.{Blank, LineEnd, 
 use Rattle.script_tokens.specs.declared.token.Inside.{Inside}
 use Rattle.script_tokens.specs.declared.token.Inside.TheVariants.{Nothing, Comment, Atom}
 use Rattle.script_tokens.specs.declared.token.Place.{Place}
-use Rattle.script_tokens.specs.declared.fault.ScriptFault.TheVariants.{Byte, Limit}
+use Rattle.script_tokens.specs.declared.fault.ScriptFault.TheVariants.{Byte}
 use Rattle.script_tokens.specs.Bytes.{kind_of, position_after, first_position}
 use Rattle.script_tokens.specs.Reading.{AreWithin, AreOnScriptLines}
-use Rattle.script_tokens.specs.Lexing.{inside_after, is_bad, atom_ended, made, fits, added, tokens_before, lexed, InOrder}
+use Rattle.script_tokens.specs.Lexing.{inside_after, is_bad, atom_ended, made, fits, tokens_before, lexed, InOrder}
+use Rattle.script_tokens.specs.Texts.{TokensFit}
 use Rattle.script_tokens.proofs.Lexing.{Cuts}
+use Rattle.script_tokens.proofs.Pieces.{parts, both_fit}
 
 abbrev begins : Inside → Place → ℕ
 begins Nothing p = p.at
@@ -78,45 +80,13 @@ at_after p Brace = refl
 at_after p Letter = refl
 at_after p Bad = refl
 
--- every token is within the limits
-abbrev pub AllIn : Limits → List Token → Type 0
-AllIn limits [] = Unit {0}
-AllIn limits (t ∷ ts) = (fits limits t ≡ true) × AllIn limits ts
-
--- the tokens come before those of the rest, and are all within the limits
-record Parts (limits : Limits) (ts us : List Token) (r : Cuts) : Type 0 where
-  pub later : List Token
-  pub rest : r ≡ Ok later
-  pub whole : us ≡ ts ++ later
-  pub inside : AllIn limits ts
-
-test_of : (t : Token) (b : Bool) (r : Cuts) (us : List Token) → cond b r (Err (Limit t.position)) ≡ Ok us → (b ≡ true) × (r ≡ Ok us)
-test_of t true r us e = (refl, e)
-test_of t false r us e = absurd cc
-
-after_added : (t : Token) (r : Cuts) (us : List Token) → added t r ≡ Ok us → (vs : List Token) × (r ≡ Ok vs) × (us ≡ t ∷ vs)
-after_added t (Ok vs) us e = (vs, refl, cc)
-after_added t (Err d) us e = absurd cc
-
-parts : (limits : Limits) (ts us : List Token) (r : Cuts) → tokens_before limits ts r ≡ Ok us → Parts limits ts us r
-parts limits [] us r e = record { later = us; rest = e; whole = refl; inside = tt }
-parts limits (t ∷ ts) us r e =
-    let p = test_of t (fits limits t) (added t (tokens_before limits ts r)) us e in
-    let q = after_added t (tokens_before limits ts r) us p.1 in
-    let h = parts limits ts q.0 r q.1 in
-    record { later = h.later; rest = h.rest; whole = q.2 ∙ ap (λ (xs : List Token). t ∷ xs) h.whole; inside = (p.0, h.inside) }
-
 not_bad : (b : Bool) (p : Place) (r : Cuts) (us : List Token) → cond b (Err (Byte p.position)) r ≡ Ok us → r ≡ Ok us
 not_bad true p r us e = absurd cc
 not_bad false p r us e = e
 
-all_both : (limits : Limits) (ts us : List Token) → AllIn limits ts → AllIn limits us → AllIn limits (ts ++ us)
-all_both limits [] us h k = k
-all_both limits (t ∷ ts) us h k = (h.0, all_both limits ts us h.1 k)
-
 pub record AreCut (limits : Limits) (from : ℕ) (ts : List Token) (to : ℕ) : Type 0 where
   pub order : InOrder from ts to
-  pub inside : AllIn limits ts
+  pub inside : TokensFit limits ts
 
 at_end : (limits : Limits) (m : Inside) (p : Place) (ts : List Token) → IsOpen m p → tokens_before limits (atom_ended m p.at Blank) (Ok []) ≡ Ok ts → AreCut limits (begins m p) ts (p.at + 0)
 at_end limits Nothing p ts o e = let is : [] ≡ ts = cc in subst (λ (us : List Token). AreCut limits p.at us (p.at + 0)) is (record { order = omega arith; inside = tt })
@@ -139,7 +109,7 @@ cut_in_order limits m p (b ∷ bs) ts o e =
     record {
       order = subst (λ (us : List Token). InOrder (begins m p) us (p.at + length (b ∷ bs))) (sym h.whole)
           (step m p k h.later (p.at + length (b ∷ bs)) o (subst (λ (n : ℕ). InOrder (begins (inside_after m p k) (position_after p k)) h.later n) to later.order));
-      inside = subst (λ (us : List Token). AllIn limits us) (sym h.whole) (all_both limits (made m p k) h.later h.inside later.inside);
+      inside = subst (λ (us : List Token). TokensFit limits us) (sym h.whole) (both_fit limits (made m p k) h.later h.inside later.inside);
     }
 
 reaches : (from : ℕ) (ts : List Token) (to : ℕ) → InOrder from ts to → from ≤ to
@@ -159,7 +129,7 @@ within limits bs ts e =
     let z : 0 + length bs ≡ length bs = omega arith in
     subst (λ (n : ℕ). AreWithin n ts) z (are_within 0 ts (0 + length bs) h.order)
 
-are_on_lines : (limits : Limits) (ts : List Token) → limits.line ≤ 65535 → AllIn limits ts → AreOnScriptLines ts
+are_on_lines : (limits : Limits) (ts : List Token) → limits.line ≤ 65535 → TokensFit limits ts → AreOnScriptLines ts
 are_on_lines limits [] small k = tt
 are_on_lines limits (t ∷ ts) small k = let line = line_of limits t k.0 in (omega (arith, line), are_on_lines limits ts small k.1)
 

@@ -80,7 +80,7 @@ turned : (t : Bool) (X : Type 0) (x y : X) → cond (not t) y x ≡ cond t x y
 turned true X x y = refl
 turned false X x y = refl
 
-heard_is : (e : EnsembleInformation) (l : Listening) (b f : Bool) → is_made l.awaited e ≡ b → has_flags e ≡ f → at_ensemble e l ≡ heard_as b f e l
+pub heard_is : (e : EnsembleInformation) (l : Listening) (b f : Bool) → is_made l.awaited e ≡ b → has_flags e ≡ f → at_ensemble e l ≡ heard_as b f e l
 heard_is e l b f made fl =
     ap (λ t. awaiting e (record (cond t (swapped l) l) { tuned = true })) made
     ∙ ap (λ t. cond t (record (cond b (swapped l) l) { tuned = true }) (record (record (cond b (swapped l) l) { tuned = true }) { awaited = e.occurrence })) (not_is (e.change == 0) f fl)

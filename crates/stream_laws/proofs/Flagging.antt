@@ -1,16 +1,12 @@
 -- At each swap of a run the pictures are whole, and the flags are those of the change.
-use Rattle.std.proofs.Common.{◌≡◌, ℕ, ◌==◌, ◌&&◌, Bool, true, false, not, List, [], ◌∷◌, ◌++◌, Option, refl, sym, ap, ◌∙◌, subst, arith, inl, inr}
-use Rattle.std.specs.Prelude.{map}
+use Rattle.std.proofs.Common.{◌≡◌, ℕ, ◌==◌, ◌&&◌, Bool, true, false, not, List, Option, refl, sym, ap, ◌∙◌, subst, arith, inl, inr}
 use Rattle.std.proofs.lemmas.Bool.{false≢true, eq-eqb}
-use Rattle.mux_config.specs.Configuration.{Configuration}
 use Rattle.mux_config.specs.Change.{ChangeIsUnique, change_of, bits_of}
 use Rattle.mux_types.specs.Entries.{EnsembleInformation}
-use Rattle.mux_types.specs.declared.entry.Entry.{Entry}
-use Rattle.mux_types.specs.Facts.{sub_entry, sub_entries, service_entry, service_entries, packet_entry}
 use Rattle.fib_codec.specs.Grammar.{OneList}
 use Rattle.fib_codec.specs.Spelling.{SpellingIdentifies}
-use Rattle.fib_reader.specs.Raw.{Raw, raw_entry}
-use Rattle.fib_reader.specs.Listening.{Pictured, Listening, is_made}
+use Rattle.fib_reader.specs.Raw.{Raw}
+use Rattle.fib_reader.specs.Listening.{Listening, is_made}
 use Rattle.fib_reader.proofs.Shown.{ShowsEach}
 use Rattle.stream_check.specs.History.{Moment, listener_after, last_flags, is_cut_off}
 use Rattle.stream_check.specs.Rules.{change_between}
@@ -25,8 +21,7 @@ use Rattle.plan_runs.specs.Runs.{happens}
 use Rattle.plan_runs.specs.Announced.{heard_of}
 use Rattle.plan_runs.proofs.Facts.{Holds, IsCode}
 use Rattle.plan_runs.proofs.Announcing.{heard_contacts}
-use Rattle.plan_runs.proofs.Pictures.{whole_of, IsPartial, HasAll}
-use Rattle.plan_runs.proofs.Parts.{In, part_whole}
+use Rattle.plan_runs.proofs.Pictures.{each_whole}
 use Rattle.plan_runs.proofs.Contents.{Laws}
 use Rattle.plan_runs.proofs.Knowing.{KnowsPending, KnowsBy}
 use Rattle.plan_runs.proofs.HeardFrames.{KnowsAt}
@@ -46,33 +41,6 @@ pub record SwapLaws : Type 0 where
   pub change : ChangeIsUnique
 
 -- ---- whole pictures
-
-pub in_first : {T : Type 0} (x : T) (xs ys : List T) → In x xs → In x (xs ++ ys)
-in_first x [] ys h = absurd h
-in_first x (z ∷ zs) ys (inl same) = inl same
-in_first x (z ∷ zs) ys (inr more) = inr (in_first x zs ys more)
-
-pub in_second : {T : Type 0} (x : T) (xs ys : List T) → In x ys → In x (xs ++ ys)
-in_second x [] ys h = h
-in_second x (z ∷ zs) ys h = inr (in_second x zs ys h)
-
-pub said_by : {T : Type 0} (f : T → Entry) (xs : List T) (raw : Raw) → In raw (map (λ x. raw_entry (f x)) xs) → (e : Entry) × (raw_entry e ≡ raw) × In e (map f xs)
-said_by f [] raw h = absurd h
-said_by f (x ∷ xs) raw (inl same) = (f x, same, inl refl)
-said_by f (x ∷ xs) raw (inr more) = let there = said_by f xs raw more in (there.0, there.1, inr there.2)
-
-pub each_whole : (c : Configuration) (C : Raw → Type 0) (p : Pictured) → IsPartial (whole_of c) C p → HasAll c C → ShowsEach p c
-each_whole c C p h all = record {
-  subs = part_whole (whole_of c).subs C p.subs h.subs (λ x inside.
-      let there = said_by sub_entry c.subs x inside in
-      subst C there.1 (all there.0 (in_first there.0 (sub_entries c) (service_entries c) there.2)));
-  services = part_whole (whole_of c).services C p.services h.services (λ x inside.
-      let there = said_by service_entry c.services x inside in
-      subst C there.1 (all there.0 (in_second there.0 (sub_entries c) (service_entries c) (in_first there.0 (map service_entry c.services) (map packet_entry c.packets) there.2))));
-  packets = part_whole (whole_of c).packets C p.packets h.packets (λ x inside.
-      let there = said_by packet_entry c.packets x inside in
-      subst C there.1 (all there.0 (in_second there.0 (sub_entries c) (service_entries c) (in_second there.0 (map service_entry c.services) (map packet_entry c.packets) there.2))));
-}
 
 -- before the frame of a swap both pictures show their configurations
 pub record AreWhole (past : List Moment) (s : State) : Type 0 where

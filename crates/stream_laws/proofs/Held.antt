@@ -17,6 +17,7 @@ use Rattle.stream_check.specs.Parts.{IsTheMost}
 use Rattle.stream_check.specs.History.{Item, Moment, Said, Ended, said, items_of, fig_items, figs_items, fib_items, fibs_items, frame_items, is_ensemble, ensemble_of, is_flagged, is_swap, listener_after, last_flags, is_cut_off, frames_ended, rows}
 use Rattle.stream_check.specs.Rules.{Known, known_of, awaited_low, notice_faults, unit_faults}
 use Rattle.stream_check.specs.Stream.{after_frame, after_frames}
+use Rattle.stream_check.proofs.Ensembles.{heard_as}
 use Rattle.stream_check.proofs.Members.{no_swap}
 use Rattle.stream_laws.specs.Notices.{AreFibBytes, read_frames, row_of, last_of}
 use Rattle.stream_laws.specs.Faultless.{IsSaidIn}
@@ -24,7 +25,7 @@ use Rattle.stream_laws.specs.Staying.{last_swap}
 use Rattle.stream_laws.specs.Held.{BeginsUnflagged, WholeNoticesAreHeld, CountsAreHeld}
 use Rattle.stream_laws.proofs.Clean.{all_left, IsClean, entry_clean, after_entry, said_twice, frames_twice}
 use Rattle.stream_laws.proofs.Kept.{no_fault, first_holds, second_holds, is_not}
-use Rattle.stream_laws.proofs.Noting.{with_member, after_member, after_heard, heard_as, ensemble_made, plain_ensemble}
+use Rattle.stream_laws.proofs.Noting.{with_member, after_member, after_heard, ensemble_made, plain_ensemble}
 use Rattle.stream_laws.proofs.Rows.{notice_rows}
 use Rattle.stream_laws.proofs.Tracking.{IsFormed, AllAnnounce, alone_first, all_tracked}
 use Rattle.stream_laws.proofs.Formed.{all_formed}

@@ -1,12 +1,10 @@
 -- Each entry of the current and the next configuration is heard in the frames of a notice.
-use Rattle.std.proofs.Common.{◌≡◌, ℕ, zero, suc, ◌+◌, ◌-◌, ◌%◌, ◌<◌, ◌≤◌, Bool, true, false, cond, List, Contains, Option, Some, None, refl, sym, ap, ◌∙◌, subst, arith}
+use Rattle.std.proofs.Common.{◌≡◌, ℕ, zero, suc, ◌+◌, ◌-◌, ◌%◌, ◌<◌, Bool, true, false, cond, List, Contains, Option, Some, None, refl, sym, ap, ◌∙◌, subst, arith}
 use Rattle.std.proofs.lemmas.Bool.{lt-ltb}
 use Rattle.std.proofs.lemmas.List.Elements.{Contains-append_left, Contains-append_right}
 use Rattle.fib_codec.specs.Layouts.{layout_mode}
 use Rattle.mux_config.specs.Configuration.{Configuration}
 use Rattle.mux_types.specs.Facts.{Marked, marked, facts_of}
-use Rattle.fib_codec.specs.declared.modes.Mode.{Mode}
-use Rattle.fib_codec.specs.declared.modes.Mode.TheVariants.{I, II, III, IV}
 use Rattle.fib_codec.specs.Modes.{count_step}
 use Rattle.fib_codec.specs.Heard.{IsHeardInRow}
 use Rattle.fib_carousel.specs.Pages.{page_set, page_after, page_entries}
@@ -18,11 +16,11 @@ use Rattle.plan_runs.specs.Frames.{is_due, shown_bytes, ensemble_sent, sent_entr
 use Rattle.plan_runs.specs.Announced.{heard_of, IsHeardInSome}
 use Rattle.plan_runs.proofs.Knowledge.{CommittedBy}
 use Rattle.plan_runs.proofs.Passing.{due_is}
-use Rattle.plan_runs.proofs.Tracked.{Airs, SwapsOn, page_of, page_of_first, page_of_next, noticed}
+use Rattle.plan_runs.proofs.Tracked.{SwapsOn, page_of, page_of_first, page_of_next, noticed}
 use Rattle.plan_runs.proofs.Facts.{Holds, IsCode}
 use Rattle.plan_runs.proofs.Right.{PageLaws, pageable}
 use Rattle.plan_runs.proofs.Notice.{frames_from, contains_frame, noticed_state, both_rounds, notice_at, notice_at_is, base_of, heard_is}
-use Rattle.plan_runs.proofs.Announcing.{IsDue}
+use Rattle.plan_runs.proofs.Announcing.{IsDue, notice_airs}
 use Rattle.plan_runs.proofs.Pictures.{HasAll, entries_of, in_contains, in_fact}
 use Rattle.plan_runs.proofs.CurrentKnown.{SomeSaid}
 
@@ -34,35 +32,6 @@ page_up pages (suc k) below =
     let test : k + 1 < pages = omega (arith, below) in
     let one : k + 1 ≡ suc k = omega arith in
     page_of_next pages k ∙ ap (page_after pages) before ∙ ap (λ (b : Bool). cond b (k + 1) 0) (lt-ltb (k + 1) pages test) ∙ one
-
-swap_base : (m : Mode) (notice count i : ℕ) → i < notice → notice ≤ 248 → count < 5000 → count % count_step m ≡ 0
-    → (((count + 0 + 5000 - notice) % 5000 + i) % 5000 + (notice - i)) % count_step m ≡ 0
-swap_base I notice count i below short low whole = omega (arith, below, short, low, whole)
-swap_base II notice count i below short low whole = omega (arith, below, short, low, whole)
-swap_base III notice count i below short low whole = omega (arith, below, short, low, whole)
-swap_base IV notice count i below short low whole = omega (arith, below, short, low, whole)
-
-frame_count : (x : ℕ) → x % 5000 < 5000
-frame_count x = omega arith
-
-notice_airs : (plan : Plan) (c n : Configuration) (eid count i : ℕ) → IsDue plan c n eid count → i < plan.notice → Airs plan (noticed_state plan c n eid (base_of plan count 0) i)
-notice_airs plan c n eid count i d below =
-    let ahead : 1 ≤ plan.notice - i = omega (arith, below) in
-    let back : plan.notice - (plan.notice - i) ≡ i = omega (arith, below) in
-    record {
-      count = frame_count (base_of plan count 0 + i);
-      eid = d.eid_low;
-      current = d.current;
-      next = d.next;
-      ahead = ahead;
-      on_air = d.on_air;
-      committed = d.committed;
-      swaps = swap_base (layout_mode plan.layout) plan.notice count i below d.notice_to d.count_low d.on_step;
-      page_index = record {
-        within = λ inside. sym (ap (page_of (both_rounds plan c n)) back);
-        before = λ past. absurd (omega (arith, past));
-      };
-    }
 
 -- an entry of the page in turn is heard
 notice_hears : PageLaws → (plan : Plan) (c n : Configuration) (eid count i : ℕ) → IsDue plan c n eid count → i < plan.notice → (m : Marked)

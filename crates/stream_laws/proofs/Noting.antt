@@ -6,13 +6,14 @@ use Rattle.std.proofs.lemmas.Bool.{false≢true, eqb-true}
 use Rattle.std.proofs.lemmas.List.{append-nil}
 use Rattle.mux_types.specs.Entries.{EnsembleInformation}
 use Rattle.fib_reader.specs.Raw.{Raw}
-use Rattle.fib_reader.specs.Listening.{Listening, untuned, is_made, swapped, awaiting, at_ensemble, into, pictured, picture_of}
+use Rattle.fib_reader.specs.Listening.{Listening, untuned, is_made, at_ensemble, into, pictured, picture_of}
 use Rattle.stream_check.specs.declared.finding.Fault.TheVariants as faults
 use Rattle.stream_check.specs.Reporting.{when}
 use Rattle.stream_check.specs.Pictures.{key_of}
 use Rattle.stream_check.specs.Lookup.{lookup_in}
 use Rattle.stream_check.specs.History.{Item, Moment, Said, Ended, is_ensemble, ensemble_of, is_flagged, is_swap, is_member, listening, listener_after, begins_notice, has_begun, flag_count, times_announced, last_flags, next_key, row_at_hand, rows}
 use Rattle.stream_check.specs.Rules.{Known, known_of, finds_no_room, has_no_room, ensemble_findings, member_findings, place_faults, is_placed, is_of_other_ensemble, has_other_count, swap_or_another, announces_another, announcement, swap_findings, occurrence_of, has_low, has_flags, makes_swap}
+use Rattle.stream_check.proofs.Ensembles.{heard_as, heard_is}
 use Rattle.stream_check.proofs.Members.{or_false, ensemble_no_member, ensemble_heard, member_heard, member_entry, after_is}
 use Rattle.stream_laws.specs.Faultless.{IsNoFault}
 use Rattle.stream_laws.proofs.Clean.{all_left, all_right, IsClean}
@@ -117,24 +118,6 @@ row_is past i b e sw =
     ap (λ t. cond t [] (row_at_hand past ++ next_key past i)) sw
     ∙ ap (λ t. cond b [] (row_at_hand past ++ cond (t && i.next) (key_of i.raw ∷ []) [])) (ensemble_no_member past i e)
     ∙ ap (λ r. cond b [] r) (append-nil (row_at_hand past))
-
-not_is : (a b : Bool) → not a ≡ b → a ≡ not b
-not_is true b e = ap not e
-not_is false b e = ap not e
-
--- what a listener knows after it
-abbrev pub heard_as : Bool → Bool → EnsembleInformation → Listening → Listening
-heard_as b f e l = cond f (record (record (cond b (swapped l) l) { tuned = true }) { awaited = e.occurrence }) (record (cond b (swapped l) l) { tuned = true })
-
-turned : (t : Bool) (X : Type 0) (x y : X) → cond (not t) y x ≡ cond t x y
-turned true X x y = refl
-turned false X x y = refl
-
-heard_is : (e : EnsembleInformation) (l : Listening) (b f : Bool) → is_made l.awaited e ≡ b → has_flags e ≡ f → at_ensemble e l ≡ heard_as b f e l
-heard_is e l b f made fl =
-    ap (λ t. awaiting e (record (cond t (swapped l) l) { tuned = true })) made
-    ∙ ap (λ t. cond t (record (cond b (swapped l) l) { tuned = true }) (record (record (cond b (swapped l) l) { tuned = true }) { awaited = e.occurrence })) (not_is (e.change == 0) f fl)
-    ∙ turned f Listening (record (record (cond b (swapped l) l) { tuned = true }) { awaited = e.occurrence }) (record (cond b (swapped l) l) { tuned = true })
 
 pub after_heard : (step period : ℕ) (past : List Moment) (i : Item) (b f : Bool) → IsClean step period (Said i ∷ past) → is_ensemble i ≡ true → is_swap past i ≡ b → is_flagged i ≡ f
     → listener_after (Said i ∷ past) ≡ heard_as b f (ensemble_of i) (listener_after past)

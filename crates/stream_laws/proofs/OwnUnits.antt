@@ -11,11 +11,12 @@ use Rattle.stream_check.specs.declared.finding.Fault.TheVariants as faults
 use Rattle.stream_check.specs.Reporting.{when, as_list}
 use Rattle.stream_check.specs.History.{Item, Moment, Said, is_ensemble, ensemble_of, is_flagged, is_swap, listener_after}
 use Rattle.stream_check.specs.Rules.{Known, known_of, awaited_low, notice_faults, is_long_form, first_unit, end_unit, share_unit, partner, overlap_or, overlap, ends_past, past_end}
+use Rattle.stream_check.proofs.Ensembles.{heard_as}
 use Rattle.stream_laws.specs.Faultless.{IsNoFault}
 use Rattle.stream_laws.specs.Units.{IsUnitOf, HaveOwnUnits, SwapsKeepUnits}
 use Rattle.stream_laws.proofs.Clean.{all_left, all_right, IsClean, entry_clean}
 use Rattle.stream_laws.proofs.Kept.{first_holds}
-use Rattle.stream_laws.proofs.Noting.{after_heard, heard_as, ensemble_made, plain_ensemble}
+use Rattle.stream_laws.proofs.Noting.{after_heard, ensemble_made, plain_ensemble}
 
 -- ---- what the rules compute
 

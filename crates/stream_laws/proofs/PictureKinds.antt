@@ -6,9 +6,10 @@ use Rattle.fib_reader.specs.Raw.{Raw}
 use Rattle.fib_reader.specs.Listening.{Pictured, Listening, blank, kept}
 use Rattle.fib_reader.proofs.Keeping.{each_kept}
 use Rattle.stream_check.specs.History.{Item, Moment, Said, Ended, is_ensemble, ensemble_of, is_flagged, is_swap, listener_after}
+use Rattle.stream_check.proofs.Ensembles.{heard_as}
 use Rattle.stream_laws.proofs.Clean.{IsClean}
 use Rattle.stream_laws.proofs.Pictures.{picture_with}
-use Rattle.stream_laws.proofs.Noting.{with_member, after_member, after_heard, heard_as}
+use Rattle.stream_laws.proofs.Noting.{with_member, after_member, after_heard}
 use Rattle.stream_laws.proofs.Tracking.{IsFormed}
 
 pub record HasKinds (p : Pictured) : Type 0 where

@@ -7,13 +7,14 @@ use Rattle.fib_reader.specs.Raw.{Raw}
 use Rattle.fib_reader.specs.Listening.{Pictured, Listening}
 use Rattle.stream_check.specs.Pictures.{key_of}
 use Rattle.stream_check.specs.History.{Item, Moment, Said, Ended, is_ensemble, ensemble_of, is_flagged, is_swap, listener_after, has_begun, row_at_hand, rows}
+use Rattle.stream_check.proofs.Ensembles.{heard_as}
 use Rattle.stream_check.proofs.PartCount.{one_of, in_none}
 use Rattle.stream_check.proofs.Members.{member_rows, member_row, no_swap}
 use Rattle.stream_laws.specs.Keeping.{entry_like}
 use Rattle.stream_laws.proofs.Clean.{IsClean}
 use Rattle.stream_laws.proofs.Kept.{first_holds, second_holds, next_kept}
 use Rattle.stream_laws.proofs.Pictures.{picture_with, found_kept, found_again}
-use Rattle.stream_laws.proofs.Noting.{with_member, after_member, after_heard, heard_as, rows_are, row_is}
+use Rattle.stream_laws.proofs.Noting.{with_member, after_member, after_heard, rows_are, row_is}
 use Rattle.stream_laws.proofs.Rows.{at_hand, notice_rows}
 use Rattle.stream_laws.proofs.Tracking.{IsFormed}
 

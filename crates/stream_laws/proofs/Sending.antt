@@ -1,5 +1,5 @@
 -- The entries of a frame of a run, as the checker hears them.
-use Rattle.std.proofs.Common.{◌≡◌, ℕ, ◌+◌, ◌-◌, ◌*◌, ◌/◌, ◌%◌, ◌≤◌, ◌==◌, Bool, true, false, cond, List, [], ◌∷◌, ◌++◌, length, drop, Option, Some, None, refl, sym, ap, ◌∙◌, subst, arith, inl, inr, replicate, zero, suc}
+use Rattle.std.proofs.Common.{◌≡◌, ℕ, ◌+◌, ◌-◌, ◌*◌, ◌%◌, ◌==◌, Bool, true, false, cond, List, [], ◌∷◌, ◌++◌, length, drop, Option, Some, None, refl, sym, ap, ◌∙◌, subst, arith, replicate, zero, suc}
 use Rattle.std.specs.Prelude.{map, IfSome}
 use Rattle.std.specs.List.{AllByRecursion}
 use Rattle.std.proofs.lemmas.List.{append_assoc, drop-drop}
@@ -8,18 +8,17 @@ use Rattle.fib_codec.specs.declared.frame_layout.FrameLayout.{FrameLayout}
 use Rattle.fib_codec.specs.declared.frame_layout.FrameLayout.TheVariants.{Whole, ReserveOne, ReserveTwo}
 use Rattle.mux_config.specs.Configuration.{Configuration}
 use Rattle.mux_types.specs.Entries.{EnsembleInformation}
-use Rattle.mux_types.specs.Facts.{Marked, marked, facts_of}
+use Rattle.mux_types.specs.Facts.{Marked, marked}
 use Rattle.mux_types.specs.declared.entry.Entry.{Entry}
-use Rattle.mux_types.specs.declared.entry.Entry.TheVariants.{Ensemble as EnsembleOf, Sub as SubOf, Short as ShortOf, Service as ServiceOf, Packet as PacketOf}
+use Rattle.mux_types.specs.declared.entry.Entry.TheVariants.{Ensemble as EnsembleOf}
 use Rattle.fib_codec.specs.declared.head.Head.{Head}
 use Rattle.fib_codec.specs.declared.modes.Mode.TheVariants.{I, II, III, IV}
 use Rattle.fib_codec.specs.Ranges.{IsEnsembleInformation}
-use Rattle.fib_codec.specs.Spelling.{Written, head_of, head_byte, bit_of, entry_bytes, ext_of, is_long_entry}
+use Rattle.fib_codec.specs.Spelling.{Written, head_of, head_byte, entry_bytes}
 use Rattle.fib_codec.specs.Grammar.{OneList, fig_of, is_next, is_long}
 use Rattle.fib_codec.specs.Heard.{fib_at}
-use Rattle.fib_carousel.specs.Packing.{same_head, entries_where}
-use Rattle.fib_carousel.specs.Greedy.{packing}
-use Rattle.fib_carousel.specs.Pages.{page_set, fib_entries, first_fib, later_fibs}
+use Rattle.fib_carousel.specs.Packing.{same_head}
+use Rattle.fib_carousel.specs.Pages.{fib_entries, first_fib, later_fibs}
 use Rattle.fib_carousel.specs.Bytes.{AreFibs, with_entry_first, figs_of, ensemble_figs}
 use Rattle.fib_carousel.proofs.Sharing.{same_head_is}
 use Rattle.fib_reader.specs.Raw.{Raw, raw_of, raw_entry, ensemble_in}
@@ -32,10 +31,9 @@ use Rattle.plan_runs.specs.Frames.{is_noticed, sent_entries, ensemble_sent, show
 use Rattle.plan_runs.specs.Listening.{fibs_from}
 use Rattle.plan_runs.proofs.Tracked.{Airs}
 use Rattle.plan_runs.proofs.Right.{pageable, sent_within}
-use Rattle.plan_runs.proofs.Parts.{In}
-use Rattle.plan_runs.proofs.Pictures.{entries_of, in_append, fact_in}
 use Rattle.plan_runs.proofs.Tuned.{IsSentOf, AreSentOf}
-use Rattle.plan_runs.proofs.Contents.{Laws}
+use Rattle.plan_runs.proofs.Hearing.{second_next, raw_is}
+use Rattle.plan_runs.proofs.Contents.{Laws, fib_sent}
 use Rattle.stream_laws.proofs.Framing.{is_read, all_append, first_of_fibs, read_frame}
 
 -- an entry that is sent of these configurations
@@ -44,49 +42,6 @@ pub record IsSentItem (noticed : Bool) (c n : Configuration) (i : Item) : Type 0
   pub next : i.next ≡ m.next
   pub raw : i.raw ≡ raw_entry m.entry
   pub sent : IsSentOf noticed c n m
-
--- ---- a FIG
-
-flag_low : (b : Bool) → bit_of b ≤ 1
-flag_low true = omega arith
-flag_low false = omega arith
-
-flag_is : (b : Bool) → (bit_of b == 1) ≡ b
-flag_is true = refl
-flag_is false = refl
-
-ext_low : (e : Entry) → ext_of e ≤ 3
-ext_low (EnsembleOf e) = omega arith
-ext_low (SubOf s) = omega arith
-ext_low (ShortOf s) = omega arith
-ext_low (ServiceOf s) = omega arith
-ext_low (PacketOf p) = omega arith
-
-second_ext : (m : Marked) → head_byte (head_of m) % 32 ≡ ext_of m.entry
-second_ext m = omega (arith, ext_low m.entry, flag_low m.next, flag_low (is_long_entry m.entry))
-
-second_next : (m : Marked) → is_next (head_byte (head_of m)) ≡ m.next
-second_next m =
-    let n : head_byte (head_of m) / 128 ≡ bit_of m.next = omega (arith, ext_low m.entry, flag_low m.next, flag_low (is_long_entry m.entry)) in
-    ap (λ (k : ℕ). k == 1) n ∙ flag_is m.next
-
-second_long : (m : Marked) → is_long (head_byte (head_of m)) ≡ is_long_entry m.entry
-second_long m =
-    let n : head_byte (head_of m) / 32 % 2 ≡ bit_of (is_long_entry m.entry) = omega (arith, ext_low m.entry, flag_low m.next, flag_low (is_long_entry m.entry)) in
-    ap (λ (k : ℕ). k == 1) n ∙ flag_is (is_long_entry m.entry)
-
-raw_said : (e : Entry) → raw_of (ext_of e) (is_long_entry e) (entry_bytes e) ≡ raw_entry e
-raw_said (EnsembleOf e) = refl
-raw_said (SubOf s) = refl
-raw_said (ShortOf s) = refl
-raw_said (ServiceOf s) = refl
-raw_said (PacketOf p) = refl
-
-raw_is : (m : Marked) → raw_of (head_byte (head_of m) % 32) (is_long (head_byte (head_of m))) (entry_bytes m.entry) ≡ raw_entry m.entry
-raw_is m =
-    ap (λ (n : ℕ). raw_of n (is_long (head_byte (head_of m))) (entry_bytes m.entry)) (second_ext m)
-    ∙ ap (λ (b : Bool). raw_of (ext_of m.entry) b (entry_bytes m.entry)) (second_long m)
-    ∙ raw_said m.entry
 
 -- ---- FIGs of entries
 
@@ -173,34 +128,6 @@ fibs_later one r on c n layout es (k ∷ ks) count place frame are sent =
     (all_append (IsSentItem on c n) (fib_items false (r.read (fib_at frame place))) _
     (subst (λ (fib : Fib). AllByRecursion (IsSentItem on c n) (fib_items false fib)) (sym read) (items_sent on c n (figs_of (fib_entries layout k es)) false (figs_sent on c n (fib_entries layout k es) sent.0)))
     (fibs_later one r on c n layout es ks count (place + 1) frame rest sent.1))
-
--- the entries that are sent
-
-each_from : {T : Type 0} (P : T → Type 0) (xs : List T) → ((x : T) → In x xs → P x) → AllByRecursion P xs
-each_from P [] f = tt
-each_from P (x ∷ xs) f = (f x (inl refl), each_from P xs (λ y h. f y (inr h)))
-
-chosen : (P : Marked → Type 0) (e : Marked) (xs : List Marked) → P e → AllByRecursion P xs → (b : Bool) → AllByRecursion P (cond b (e ∷ xs) xs)
-chosen P e xs h hs true = (h, hs)
-chosen P e xs h hs false = hs
-
-each_where : (P : Marked → Type 0) (test : ℕ → Bool) (es : List Marked) (ns : List ℕ) → AllByRecursion P es → AllByRecursion P (entries_where test es ns)
-each_where P test [] ns h = tt
-each_where P test (e ∷ es) [] h = tt
-each_where P test (e ∷ es) (n ∷ ns) h = chosen P e (entries_where test es ns) h.0 (each_where P test es ns h.1) (test n)
-
-sent_by : (c n : Configuration) (b : Bool) (m : Marked) → In m (page_set c (cond b (Some n) None)) → IsSentOf b c n m
-sent_by c n false m h = (let fact = fact_in false (entries_of c) m h in inl (sym fact.0, fact.1))
-sent_by c n true m h =
-    elim (in_append m (facts_of c false) (facts_of n true) h) [
-      | inl here ↦ (let fact = fact_in false (entries_of c) m here in inl (sym fact.0, fact.1))
-      | inr there ↦ (let fact = fact_in true (entries_of n) m there in inr (refl, sym fact.0, fact.1))
-    ]
-
-fib_sent : (plan : Plan) (u : State) (k : ℕ) → AllByRecursion (IsSentOf (is_noticed plan.notice u.left) u.current u.next) (fib_entries plan.layout k (sent_entries plan u))
-fib_sent plan u k =
-    each_where (IsSentOf (is_noticed plan.notice u.left) u.current u.next) (λ j. j == k) (sent_entries plan u) (packing plan.layout (sent_entries plan u))
-    (each_from (IsSentOf (is_noticed plan.notice u.left) u.current u.next) (sent_entries plan u) (sent_by u.current u.next (is_noticed plan.notice u.left)))
 
 fibs_sent : (plan : Plan) (u : State) (ns : List ℕ) → AreSentOf (is_noticed plan.notice u.left) u.current u.next (map (λ k. fib_entries plan.layout k (sent_entries plan u)) ns)
 fibs_sent plan u [] = tt

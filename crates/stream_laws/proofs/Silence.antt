@@ -22,12 +22,11 @@ use Rattle.plan_runs.specs.Frames.{frame_bytes, after_frame}
 use Rattle.plan_runs.specs.Runs.{happens}
 use Rattle.plan_runs.proofs.Facts.{Holds, IsCode}
 use Rattle.plan_runs.proofs.Parts.{In, partly, IsPart}
-use Rattle.plan_runs.proofs.Pictures.{whole_of, IsPartial, entries_of, in_append, in_contains, in_fact}
+use Rattle.plan_runs.proofs.Pictures.{whole_of, IsPartial, entries_of, in_append, in_contains, in_fact, in_first, in_second, said_by}
 use Rattle.plan_runs.proofs.HeardFrames.{Nothing, current_part}
 use Rattle.stream_laws.specs.Sorts.{IsLongFor}
 use Rattle.stream_laws.proofs.Framing.{read_frame}
 use Rattle.stream_laws.proofs.AgreeingFrames.{agrees_by, before_of}
-use Rattle.stream_laws.proofs.Flagging.{in_first, in_second, said_by}
 use Rattle.stream_laws.proofs.Ages.{comes_in, FrameLaws, AreAged, IsAging, ages}
 
 -- ---- the entries of a picture are those of the configuration

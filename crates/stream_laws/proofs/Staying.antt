@@ -14,6 +14,7 @@ use Rattle.stream_check.specs.Frames.{Fib, Reading}
 use Rattle.stream_check.specs.History.{Item, Moment, Said, Ended, said, frame_items, is_ensemble, ensemble_of, is_flagged, is_swap, is_member, frames_ended, listener_after, last_heard, due}
 use Rattle.stream_check.specs.Rules.{is_silent, silence, silent_findings}
 use Rattle.stream_check.specs.Stream.{findings_at_items, runs_full, frame_findings, frame_at, findings_in, after_frame, findings_of, after_frames, frames_full, last_findings}
+use Rattle.stream_check.proofs.Ensembles.{heard_as}
 use Rattle.stream_check.proofs.Members.{member_last}
 use Rattle.stream_laws.specs.Faultless.{IsNoFault, IsFaultless}
 use Rattle.stream_laws.specs.Keeping.{entry_like}
@@ -23,7 +24,7 @@ use Rattle.stream_laws.specs.Staying.{last_swap, CurrentStays, CurrentIsSent}
 use Rattle.stream_laws.proofs.Clean.{all_left, all_right, IsClean, told_alone, all_clean, clean_handed, before_said, before_frames, frames_twice}
 use Rattle.stream_laws.proofs.Kept.{current_kept, first_holds, second_holds, is_not}
 use Rattle.stream_laws.proofs.Pictures.{picture_with, found_kept, found_again}
-use Rattle.stream_laws.proofs.Noting.{with_member, after_member, after_heard, heard_as}
+use Rattle.stream_laws.proofs.Noting.{with_member, after_member, after_heard}
 use Rattle.stream_laws.proofs.Saying.{Grows, same_next}
 use Rattle.stream_laws.proofs.Formed.{both_all, all_formed}
 use Rattle.stream_laws.proofs.LastHeard.{last_at_most, said_ended, last_grows}

@@ -10,13 +10,14 @@ use Rattle.fib_reader.specs.Raw.{Raw}
 use Rattle.fib_reader.specs.Listening.{Pictured, Listening, identifier_of, is_known, kept}
 use Rattle.fib_reader.proofs.Keeping.{kept_where_found}
 use Rattle.stream_check.specs.History.{Item, Moment, Said, Ended, is_ensemble, ensemble_of, is_flagged, is_swap, is_cut_off, frames_ended, listener_after, settles_at}
+use Rattle.stream_check.proofs.Ensembles.{heard_as}
 use Rattle.stream_check.proofs.Members.{member_settles}
 use Rattle.stream_laws.specs.Keeping.{entry_like}
 use Rattle.stream_laws.specs.Units.{HaveOwnUnits, UnitsStayOwn}
 use Rattle.stream_laws.proofs.Clean.{IsClean, entry_clean}
 use Rattle.stream_laws.proofs.Kept.{current_kept, first_holds, second_holds, is_not}
 use Rattle.stream_laws.proofs.Pictures.{picture_with}
-use Rattle.stream_laws.proofs.Noting.{with_member, after_member, after_heard, heard_as}
+use Rattle.stream_laws.proofs.Noting.{with_member, after_member, after_heard}
 use Rattle.stream_laws.proofs.Staying.{no_current, a_current, after_ensemble_is}
 use Rattle.stream_laws.proofs.OwnUnits.{swap_units}
 

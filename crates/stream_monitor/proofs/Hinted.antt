@@ -1,9 +1,8 @@
 -- Hints: what standard error has taken after the next look, and as a whole.
-use Rattle.std.proofs.Common.{◌≡◌, ℕ, Bool, true, false, List, [], ◌++◌, take, Option, Some, None, refl, ◌∙◌, sym, ap, subst}
+use Rattle.std.proofs.Common.{◌≡◌, ℕ, Bool, true, false, List, ◌++◌, take, Option, Some, None, refl, ◌∙◌, sym, ap, subst}
 use Rattle.std.proofs.lemmas.Bool.{false≢true}
 use Rattle.std.proofs.lemmas.List.{append-nil}
-use Rattle.console.specs.World.{World, Becomes, Stays, HasSameFiles, IsSame}
-use Rattle.stream_monitor.specs.declared.hint.Hint.{Hint}
+use Rattle.console.specs.World.{World, Becomes, Stays, IsSame}
 use Rattle.stream_monitor.specs.declared.hint.Hint.TheVariants.{NoFibs}
 use Rattle.std.specs.Prelude.{codes}
 use Rattle.stream_monitor.specs.Hinting.{IsHinted, IsHinting, OnlyHints, hint_line}

@@ -1,7 +1,7 @@
 -- Hints: a line, and what standard error has taken.
-use Rattle.std.proofs.Common.{◌≡◌, ℕ, false, List, [], ◌++◌, Option, Some, None, refl, ap}
-use Rattle.std.specs.Prelude.{codes, take, length}
-use Rattle.console.specs.World.{World, Becomes}
+use Rattle.std.proofs.Common.{◌≡◌, ℕ, false, List, [], ◌++◌, Some, None, refl}
+use Rattle.std.specs.Prelude.{codes, take}
+use Rattle.console.specs.World.{World}
 use Rattle.stream_monitor.specs.declared.hint.Hint.TheVariants.{NoFibs, Eti}
 use Rattle.stream_monitor.specs.Hinting.{IsHinted, OnlyHints, hint_line}
 

@@ -1,7 +1,6 @@
-use Rattle.std.proofs.Common.{List, ℕ, OnOk, ◌≡◌}
 use Rattle.console.specs.Printed.{printed}
 use Rattle.cli_streams.specs.Frame.{shown_text}
-use Rattle.cli_streams.specs.Printing.{IsPrinted, printing_to}
+use Rattle.cli_streams.specs.Printing.{printing_to}
 use Rattle.cli_streams.proofs.Parts.{end_cut, end_whole, from_start, made_in}
 use Rattle.cli_streams.proofs.ShownFrames.{shown, until}
 use Rattle.cli_streams.proofs.frame.print_shown.Goals as goal

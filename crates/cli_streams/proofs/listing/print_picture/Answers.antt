@@ -1,7 +1,6 @@
 use Rattle.std.proofs.Common.{◌++◌, subst}
 use Rattle.cli_streams.specs.Listing.{AreLinesOf}
 use Rattle.cli_streams.specs.Lines.{entry_lines}
-use Rattle.cli_streams.specs.Printing.{printing_to}
 use Rattle.cli_streams.proofs.Parts.{Adds-trans}
 use Rattle.cli_streams.proofs.PictureLines.{one_more, all_of}
 use Rattle.cli_streams.proofs.listing.print_picture.Goals as goal
