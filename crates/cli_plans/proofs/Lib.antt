@@ -1,6 +1,7 @@
 mod CutShort
 mod DebugVectors
 mod EventFiles
+mod Fronts
 mod Keeping
 mod LiveRuns
 mod NamedFailures
@@ -8,11 +9,13 @@ mod PartTranscripts
 mod Played
 mod PlayedFiles
 mod SameFiles
+mod ShownMessages
 mod ShownSessions
 mod StreamedPlays
 mod StreamedRuns
 mod TakenSince
 mod Transcripts
+mod VectorsOfErrors
 mod VectorsOfLive
 mod VectorsOfPlaying
 mod VectorsOfStreams

@@ -42,10 +42,10 @@ no_object e = absurd cc
 
 -- ---- what is written
 
-unbegun : IsUnbegun (Some (1 ∷ [])) (Some (1 ∷ [])) (Playback (Start Count))
+unbegun : IsUnbegun {A = List ℕ} (Some (1 ∷ [])) (Some (1 ∷ [])) (Playback (Start Count))
 unbegun = refl
 
-a_byte_before_the_start : IsUnbegun (Some []) (Some (1 ∷ [])) (Playback (Start Count)) → ⊥
+a_byte_before_the_start : IsUnbegun {A = List ℕ} (Some []) (Some (1 ∷ [])) (Playback (Start Count)) → ⊥
 a_byte_before_the_start e = absurd cc
 
 -- it failed before a line was read

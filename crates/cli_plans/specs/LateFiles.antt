@@ -11,11 +11,6 @@ abbrev pub world_in : Option World → World
 world_in None = record { files = λ (path : List ℕ). None; errors = [] }
 world_in (Some w) = w
 
--- a known world is known still, and all files are as they were
-pub record HasKeptFiles (before after : Option World) : Type 0 where
-  pub known : is_known before ≡ true → is_known after ≡ true
-  pub files : is_known before ≡ true → (path : List ℕ) → (world_in after).files path ≡ (world_in before).files path
-
 abbrev pub is_none : {A : Type 0} → Option A → Bool
 is_none None = true
 is_none (Some x) = false

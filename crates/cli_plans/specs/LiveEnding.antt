@@ -1,7 +1,8 @@
--- What `live` leaves of standard output, and how it ends.
+-- What `live` leaves of standard output and standard error, and how it ends.
 use Rattle.std.specs.Prelude.{◌≡◌, ◌≢◌, ◌⊎◌, ℕ, List, [], codes, take, Option, None, Some, Result, Ok, Err}
 use Rattle.std.specs.Io.KnownBytes.{Keeps}
 use Rattle.console.specs.Failures.{failure_text, refused_json}
+use Rattle.console.specs.World.{World, Becomes, Stays}
 use Rattle.console.specs.declared.escaped.Form.TheVariants.{Line as InLine, Json as InJson}
 use Rattle.console.specs.declared.exit.Failure.{Failure}
 use Rattle.console.specs.declared.exit.Failure.TheVariants.{Memory as NoMemory, Read, Create, Output}
@@ -12,12 +13,14 @@ use Rattle.plan_session.specs.declared.start.StartOptions.{StartOptions}
 use Rattle.plan_session.specs.Playback.{asked_from, IsRunFault}
 use Rattle.plan_live.specs.declared.fault.LiveFault.{LiveFault}
 use Rattle.plan_live.specs.declared.fault.LiveFault.TheVariants.{Playback, Stopped}
-use Rattle.plan_live.specs.Beginning.{Begins}
+use Rattle.plan_live.specs.declared.message.Message.{Message}
+use Rattle.plan_live.specs.Beginning.{Begins, Lives}
 use Rattle.plan_live.specs.Living.{streamed, StoppedBy, Whole}
 use Rattle.plan_live.specs.Messages.{stop_text}
 use Rattle.cli_plans.specs.declared.live.LiveEnding.{LiveEnding}
 use Rattle.cli_plans.specs.declared.live.LiveEnding.TheVariants.{Failed, Live}
 use Rattle.cli_plans.specs.declared.live.LiveRequest.{LiveRequest}
+use Rattle.cli_plans.specs.LiveErrors.{HasTaken}
 
 -- ---- how it ends
 
@@ -51,11 +54,13 @@ NamesItsFile code (Live fault) = Unit {0}
 -- Nothing is written where it fails before
 abbrev pub LivesOver : LiveRequest → Playing → (input : List ℕ) → (old new : Option (List ℕ)) → Result (Unit {0}) LiveEnding → Type 0
 LivesOver r p input old new (Ok done) =
-    (left : Option (List ℕ)) × Whole r.skip r.wanted p (streamed (Some input) old None) (streamed left new None)
+    (left : Option (List ℕ)) × (told : List Message)
+    × Whole r.skip r.wanted p (streamed (Some input) old (Some [])) (streamed left new (Some told))
 LivesOver r p input old new (Err (Failed failure)) = Keeps old new
 LivesOver r p input old new (Err (Live (Playback fault))) = ⊥
 LivesOver r p input old new (Err (Live (Stopped stop))) =
-    (left : Option (List ℕ)) × StoppedBy r.skip r.wanted p (streamed (Some input) old None) (streamed left new None) stop
+    (left : Option (List ℕ)) × (told : List Message)
+    × StoppedBy r.skip r.wanted p (streamed (Some input) old (Some [])) (streamed left new (Some told)) stop
 
 -- the command, over a code file and an input, where their bytes are known: what the output has taken is the run of the
 -- code over the lines, if the code can be played from the start, and nothing if it can't
@@ -63,12 +68,48 @@ pub record WritesLive (r : LiveRequest) (code input old new : Option (List ℕ))
   pub lives : (file bytes : List ℕ) (p : Playing) → code ≡ Some file → input ≡ Some bytes → BeginsWith (take 1048577 file) r.start p → LivesOver r p bytes old new ended
   pub silent : (file : List ℕ) → code ≡ Some file → ((p : Playing) → BeginsWith (take 1048577 file) r.start p → ⊥) → Keeps old new
 
+-- ---- what standard error has taken
+
+-- the same run, with the worlds before and after it: standard error has taken the lines of its messages, those of all
+-- lines, or those up to where the run stopped, and nothing else. It has taken nothing where it fails before
+abbrev pub ReportsOver : LiveRequest → Playing → (input : List ℕ) → (old new : Option (List ℕ)) → (before after : Option World) → Result (Unit {0}) LiveEnding → Type 0
+ReportsOver r p input old new before after (Ok done) =
+    (left : Option (List ℕ)) × (told : List Message)
+    × Whole r.skip r.wanted p (streamed (Some input) old (Some [])) (streamed left new (Some told))
+    × Becomes (HasTaken r.json told) before after
+ReportsOver r p input old new before after (Err (Failed failure)) = Stays before after
+ReportsOver r p input old new before after (Err (Live (Playback fault))) = ⊥
+ReportsOver r p input old new before after (Err (Live (Stopped stop))) =
+    (left : Option (List ℕ)) × (told : List Message)
+    × StoppedBy r.skip r.wanted p (streamed (Some input) old (Some [])) (streamed left new (Some told)) stop
+    × Becomes (HasTaken r.json told) before after
+
+-- the command, over a code file and an input, where their bytes are known: what standard error has taken are the lines
+-- of the messages of the run, if the code can be played from the start, and nothing if it can't. Whatever is known, it
+-- has taken lines of messages alone
+pub record ReportsLive (r : LiveRequest) (code input old new : Option (List ℕ)) (before after : Option World) (ended : Result (Unit {0}) LiveEnding) : Type 0 where
+  pub reports : (file bytes : List ℕ) (p : Playing) → code ≡ Some file → input ≡ Some bytes → BeginsWith (take 1048577 file) r.start p → ReportsOver r p bytes old new before after ended
+  pub silent : (file : List ℕ) → code ≡ Some file → ((p : Playing) → BeginsWith (take 1048577 file) r.start p → ⊥) → Stays before after
+  pub lines : (told : List Message) × Becomes (HasTaken r.json told) before after
+
 -- ---- below it
 
--- a run that does not begin writes nothing
-abbrev pub IsUnbegun : (old new : Option (List ℕ)) → LiveFault → Type 0
+-- a run that does not begin writes and reports nothing
+abbrev pub IsUnbegun : {A : Type 0} → (old new : Option A) → LiveFault → Type 0
 IsUnbegun old new (Playback fault) = new ≡ old
 IsUnbegun old new (Stopped stop) = Unit {0}
+
+abbrev pub IsUnreported : (before after : Option World) → LiveFault → Type 0
+IsUnreported before after (Playback fault) = Stays before after
+IsUnreported before after (Stopped stop) = Unit {0}
+
+-- a run that begins with this player, over an input and an output, and the worlds before and after it: its outcome, and
+-- standard error has taken the lines of its messages
+abbrev pub LivesAloud : LiveRequest → Playing → (remaining old new : Option (List ℕ)) → (before after : Option World) → Result (Unit {0}) LiveFault → Type 0
+LivesAloud r p remaining old new before after ended =
+    (left : Option (List ℕ)) × (told : List Message)
+    × Lives r.skip r.wanted p (streamed remaining old (Some [])) (streamed left new (Some told)) ended
+    × Becomes (HasTaken r.json told) before after
 
 -- ---- the line that says why it ended
 

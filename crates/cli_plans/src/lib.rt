@@ -8,6 +8,7 @@ pub mod file_debugging;
 mod file_play;
 mod late_file;
 pub mod live;
+mod message_log;
 mod part_debugging;
 pub mod play;
 mod standard_error;

@@ -1,6 +1,6 @@
 //! `dabplan live`: plays a plan code over standard input, line by line as the lines arrive.
 
-ghost use Rattle.std.specs.Prelude.{◌≡◌, ◌≢◌, ◌↔◌, ℕ, List, Option, None, true, take, OnOk, IfErr, IfSome};
+ghost use Rattle.std.specs.Prelude.{◌≡◌, ◌≢◌, ◌↔◌, List, true, take, OnOk, IfErr, IfSome};
 ghost use Rattle.std.specs.Fmt.{WritesOnOk};
 ghost use Rattle.console.specs.Failures.{refused_json};
 ghost use Rattle.console.specs.World.{Becomes, HasSameFiles};
@@ -9,10 +9,12 @@ ghost use Rattle.plan_player.specs.Playing.{Playing};
 ghost use Rattle.plan_session.specs.declared.run_fault.RunFault.TheVariants.{Code as OfCode};
 ghost use Rattle.plan_live.specs.declared.fault.LiveFault.TheVariants.{Playback as OfPlayback};
 ghost use Rattle.plan_live.specs.Beginning.{Lives};
+ghost use Rattle.plan_live.specs.declared.message.Message.{Message};
 ghost use Rattle.plan_live.specs.Living.{streamed, IsPrompt};
 ghost use Rattle.plan_live.specs.Messages.{stop_text};
 ghost use Rattle.cli_plans.specs.declared.live.LiveEnding.TheVariants.{Live};
-ghost use Rattle.cli_plans.specs.LiveEnding.{BeginsWith, IsLiveEnding, IsUnbegun, NamesItsFile, WritesLive};
+ghost use Rattle.cli_plans.specs.LiveEnding.{BeginsWith, IsLiveEnding, IsUnbegun, IsUnreported, LivesAloud, NamesItsFile, ReportsLive, WritesLive};
+ghost use Rattle.cli_plans.specs.LiveErrors.{HasTaken};
 
 use crate::late_file::Lent;
 use crate::standard_error::{ErrorStart, StandardError};
@@ -115,6 +117,10 @@ pub fn play_live<'a, F: Files, W: Write>(
     // What standard output has taken are the frames of the run over the lines, except those skipped.
     ensures written { WritesLive request.now (F.known files.old request.now.code.now)
         (F.known_input files.old) (W.contents out.old) (W.contents out.new) result }
+    // What standard error has taken are the lines of the messages of that run.
+    ensures told { ReportsLive request.now (F.known files.old request.now.code.now)
+        (F.known_input files.old) (W.contents out.old) (W.contents out.new)
+        (F.world files.old) (F.world files.new) result }
     ensures only { OnOk result (IfSome (F.known files.old request.now.code.now)
         (λ file. (p : Playing) × BeginsWith (take 1048577 file) request.now.start p)) }
     ensures refused { IfErr result (λ ending. IfSome (F.known files.old request.now.code.now)
@@ -154,13 +160,15 @@ fn drive_out<F: Files, R: Read + Drop, W: Write>(
     out: &mut W,
 ) -> Result<(), LiveFault>
     ensures played { (p : Playing) → BeginsWith code.now request.now.start p
-        → (left : Option (List ℕ)) × Lives request.now.skip request.now.wanted p
-        (streamed (R.remaining reader) (W.contents out.old) None)
-        (streamed left (W.contents out.new) None) result }
+        → LivesAloud request.now p (R.remaining reader) (W.contents out.old) (W.contents out.new)
+        (F.world files.old) (F.world files.new) result }
+    ensures lines { (told : List Message)
+        × Becomes (HasTaken request.now.json told) (F.world files.old) (F.world files.new) }
     ensures only { OnOk result ((p : Playing) × BeginsWith code.now request.now.start p) }
     ensures refused { IfErr result (λ fault. fault ≢ OfPlayback (OfCode NoMemoryForCode)
         → IsLiveEnding code.now request.now.start (Live fault)) }
     ensures unbegun { IfErr result (IsUnbegun (W.contents out.old) (W.contents out.new)) }
+    ensures unreported { IfErr result (IsUnreported (F.world files.old) (F.world files.new)) }
     ensures files { Becomes HasSameFiles (F.world files.old) (F.world files.new) }
 {
     let mut ended = Ok(());
@@ -184,18 +192,22 @@ fn drive_named<'o, 'f, N: Named, S: ErrorStart, F: Files, R: Read + Drop, W: Wri
 ) -> (LentWriter<'o, W>, Lent<'f, F>)
     requires writer { lent.out.ghost_name ≡ N.name }
     requires errors { errors.files.ghost_name ≡ S.name }
+    requires form { request.now.json ≡ S.json }
     requires before { F.world errors.files.now ≡ S.before }
     ensures writer { result.0.out.ghost_name ≡ N.name }
     ensures errors { result.1.files.ghost_name ≡ S.name }
     ensures played { (p : Playing) → BeginsWith code.now request.now.start p
-        → (left : Option (List ℕ)) × Lives request.now.skip request.now.wanted p
-        (streamed (R.remaining reader) (W.contents lent.entry.out.now) None)
-        (streamed left (W.contents result.0.out.now) None) ended.new }
+        → LivesAloud request.now p (R.remaining reader) (W.contents lent.entry.out.now)
+        (W.contents result.0.out.now) S.before (F.world result.1.files.now) ended.new }
+    ensures lines { (told : List Message)
+        × Becomes (HasTaken request.now.json told) S.before (F.world result.1.files.now) }
     ensures only { OnOk ended.new ((p : Playing) × BeginsWith code.now request.now.start p) }
     ensures refused { IfErr ended.new (λ fault. fault ≢ OfPlayback (OfCode NoMemoryForCode)
         → IsLiveEnding code.now request.now.start (Live fault)) }
     ensures unbegun { IfErr ended.new
         (IsUnbegun (W.contents lent.entry.out.now) (W.contents result.0.out.now)) }
+    ensures unreported { IfErr ended.new
+        (IsUnreported S.before (F.world result.1.files.now)) }
     ensures files { Becomes HasSameFiles S.before (F.world result.1.files.now) }
 {
     let named: NamedWriter<'o, N, W> = NamedWriter::new(lent);
@@ -235,6 +247,7 @@ pub fn drive_code<E: Ends>(
     ensures refused { IfErr result (λ fault. fault ≢ OfPlayback (OfCode NoMemoryForCode)
         → IsLiveEnding code.now request.now.start (Live fault)) }
     ensures unbegun { IfErr result (IsUnbegun (E.written ends.old) (E.written ends.new)) }
+    ensures unreported { IfErr result (IsUnbegun (E.reported ends.old) (E.reported ends.new)) }
 {
     let options = LiveOptions {
         skip: request.skip,

@@ -1,10 +1,11 @@
 //! Standard error as the message sink of a live run.
 
-ghost use Rattle.std.specs.Prelude.{◌≡◌};
-ghost use Rattle.console.specs.World.{Becomes, HasSameFiles};
-ghost use Rattle.cli_plans.specs.LateFiles.{HasKeptFiles};
+ghost use Rattle.std.specs.Prelude.{◌≡◌, ◌≤◌, [], ◌∷◌, ◌++◌, take};
+ghost use Rattle.console.specs.World.{Becomes, HasReported, HasSameFiles};
+ghost use Rattle.cli_plans.specs.LiveErrors.{HasShown, HasTaken, line_of};
 
 use crate::late_file::Lent;
+use crate::message_log::MessageLog;
 use console::files::Files;
 use plan_live::{JsonMessage, Message, Messages};
 use std::marker::{Brand, PhantomData};
@@ -15,14 +16,18 @@ const MOST_HELD: usize = 64;
 /// A message in place of one that is not held yet.
 const NO_MESSAGE: Message = Message::Passed { frame: 0, count: 0 };
 
-/// Which files have the standard error that is reported to, of which contracts alone know. A [`StandardError`] has them
-/// as a parameter, with the fact that its files are those: so a call that is generic over sinks of messages keeps them.
+/// Which files have the standard error that is reported to, and in which form, of which contracts alone know. A
+/// [`StandardError`] has them as a parameter, with the fact that its files are those: so a call that is generic over
+/// sinks of messages keeps them.
 pub(crate) trait ErrorStart {
-    ghost use Rattle.std.specs.Prelude.{ℕ, Option};
+    ghost use Rattle.std.specs.Prelude.{ℕ, Bool, Option};
     ghost use Rattle.console.specs.World.{World};
 
     /// The name of the reference to the files.
     ghost name: { ℕ };
+
+    /// Whether messages are objects of JSON.
+    ghost json: { Bool };
 
     /// The world before the first message, if known.
     ghost before: { Option World };
@@ -30,36 +35,45 @@ pub(crate) trait ErrorStart {
 
 /// A call picks them in its proof.
 impl ErrorStart for Brand {
-    ghost use Rattle.std.specs.Prelude.{None};
+    ghost use Rattle.std.specs.Prelude.{false, None};
 
     ghost name = { 0 };
+
+    ghost json = { false };
 
     ghost before = { None };
 }
 
-/// Standard error as a message sink. Its model records no message, and one that can't be written is lost. Messages are
-/// written when they are released. Files are as they were.
+/// Standard error as a message sink. Messages are written when they are released, and where standard error fails, the
+/// rest of a message is lost. Files are as they were.
 #[derive(Drop)]
 pub(crate) struct StandardError<'f, S: ErrorStart, F: Files> {
     files: &'f mut F,
     json: bool,
+    shown: MessageLog,
     messages: [Message; 64],
     held: usize,
     start: PhantomData<S>,
     ghost same: { files.ghost_name ≡ S.name },
-    ghost kept: { HasKeptFiles S.before (F.world files.now) },
+    ghost form: { json ≡ S.json },
+    ghost room: { held ≤ 64 },
+    ghost taken: { HasShown json shown.messages S.before (F.world files.now) },
 }
 
 impl<'f, S: ErrorStart, F: Files> StandardError<'f, S, F> {
     /// Standard error, with no message held.
-    #[tactic(auto, using(crate::proofs::SameFiles::kept_first))]
+    #[tactic(auto, using(crate::proofs::ShownMessages::shown_first))]
     pub(crate) fn new(lent: Lent<'f, F>, json: bool) -> Self
         requires same { lent.files.ghost_name ≡ S.name }
+        requires form { json ≡ S.json }
         requires before { F.world lent.files.now ≡ S.before }
+        ensures shown { result.shown.messages ≡ [] }
+        ensures held { result.held ≡ 0 }
     {
         StandardError {
             files: lent.files,
             json,
+            shown: MessageLog::new(),
             messages: [NO_MESSAGE; MOST_HELD],
             held: 0,
             start: PhantomData,
@@ -67,31 +81,53 @@ impl<'f, S: ErrorStart, F: Files> StandardError<'f, S, F> {
     }
 
     /// Writes a message.
-    #[tactic(auto, using(crate::proofs::SameFiles::kept_more))]
     fn show(&mut self, message: Message)
+        ensures shown { self.new.shown.messages ≡ self.old.shown.messages ++ message ∷ [] }
+        ensures messages { self.new.messages ≡ self.old.messages }
         ensures held { self.new.held ≡ self.old.held }
     {
-        if self.json {
-            self.files.report(JsonMessage(message));
-        } else {
-            self.files.report(message);
+        report_message(self.files, self.json, message);
+        self.shown = MessageLog::with(&self.shown, &message);
+    }
+
+    /// Writes all messages held, in order.
+    fn show_held(&mut self)
+        ensures shown { self.new.shown.messages
+            ≡ self.old.shown.messages ++ take self.old.held self.old.messages }
+    {
+        let messages = self.messages;
+        for index in 0..self.held {
+            self.show(messages[index]);
         }
     }
 
     /// Gives the files back. Messages that are held still are lost.
-    #[tactic(auto, using(crate::proofs::SameFiles::kept_files))]
+    #[tactic(auto, using(crate::proofs::ShownMessages::shown_files, crate::proofs::ShownMessages::shown_taken))]
     pub(crate) fn give_back(self) -> Lent<'f, F>
         ensures same { result.files.ghost_name ≡ S.name }
+        ensures taken { Becomes (HasTaken S.json self.entry.shown.messages) S.before
+            (F.world result.files.now) }
         ensures files { Becomes HasSameFiles S.before (F.world result.files.now) }
     {
         Lent { files: self.files }
     }
 }
 
-impl<S: ErrorStart, F: Files> Messages for StandardError<'_, S, F> {
-    ghost use Rattle.std.specs.Prelude.{None};
+/// Writes the line of a message on standard error.
+fn report_message<F: Files>(files: &mut F, json: bool, message: Message)
+    ensures { Becomes (HasReported (line_of json message)) (F.world files.old) (F.world files.new) }
+{
+    if json {
+        files.report(JsonMessage(message));
+    } else {
+        files.report(message);
+    }
+}
 
-    ghost reported = { λ _. None };
+impl<S: ErrorStart, F: Files> Messages for StandardError<'_, S, F> {
+    ghost use Rattle.std.specs.Prelude.{◌++◌, take, Some};
+
+    ghost reported = { λ s. Some (s.shown.messages ++ take s.held s.messages) };
 
     ghost held = { λ s. s.held };
 
@@ -105,10 +141,7 @@ impl<S: ErrorStart, F: Files> Messages for StandardError<'_, S, F> {
     }
 
     fn release(&mut self) {
-        let messages = self.messages;
-        for message in messages.iter().take(self.held) {
-            self.show(*message);
-        }
+        self.show_held();
         self.held = 0;
     }
 }
