@@ -22,11 +22,11 @@ use Rattle.plan_explain.specs.declared.warning.Warning.{Warning}
 use Rattle.plan_explain.specs.Walking.{or_else, at_label, entered, Knows, at_flow}
 use Rattle.plan_explain.specs.ConfigurationChanges.{between, at_opening, at_instr, at_commits}
 
-some_same : {A : Type 0} (x y : A) → Some x ≡ Some y → x ≡ y
+pub some_same : {A : Type 0} (x y : A) → Some x ≡ Some y → x ≡ y
 some_same x y e = cc
 
 -- what a label declares is known there
-declared : (p : Program) (label : Label) (t : Known) (f : Flow) → Declares p label t → at_label p (Some label) f ≡ flow_of t
+pub declared : (p : Program) (label : Label) (t : Known) (f : Flow) → Declares p label t → at_label p (Some label) f ≡ flow_of t
 declared p label t f d =
     let current : or_else (slice_get p.configurations label.cur) f.current ≡ t.current = ap (λ o. or_else o f.current) d.current in
     let next : or_else (slice_get p.configurations label.next) f.next ≡ t.next = ap (λ o. or_else o f.next) d.next in
@@ -90,7 +90,7 @@ its_counter plan (Jump u) t h = tt
 its_counter plan (Set k n) t h = tt
 its_counter plan (Loop k u) t h = h
 
-leaves_flow : (plan : Plan) (i : Instr) (t : Known) → flow_of (leaves plan i t) ≡ after_instr plan i (flow_of t)
+pub leaves_flow : (plan : Plan) (i : Instr) (t : Known) → flow_of (leaves plan i t) ≡ after_instr plan i (flow_of t)
 leaves_flow plan i t = ap (λ (k : Known). flow_of k) (leaves_known plan i (flow_of t) t.counters t.allowance)
 
 pub passed : (plan : Plan) (i : Instr) (r : Result (Unit {0}) Cause) (old new : Flow) (t : Known) → ((counters : Counters) (allowance : ℕ) → HasItsCounter i counters → IsOk r ↔ IsFine plan i (known_with old counters allowance))

@@ -24,7 +24,12 @@ mod Judging
 mod Faults
 mod Differing
 mod OnWays
+mod CodeWays
+mod Reaching
+mod Arriving
+mod Fronts
 pub mod VectorsOfWays
+pub mod VectorsOfCodeWays
 mod Said
 mod VectorsOfSwaps
 pub mod VectorsOfDifferences

@@ -13,6 +13,8 @@ pub mod Paths
 pub mod Deeds
 pub mod Since
 pub mod Ways
+pub mod CodeWays
+pub mod Reaching
 pub mod Control
 pub mod Walked
 pub mod Judging

@@ -86,7 +86,7 @@ fn push_between(
 
 /// What is known at a pc of a code, given what the instruction before left: what a label there declares, if there is
 /// one.
-fn enter(code: &Code, pc: u16, flow: &mut Flow<Config>)
+pub(crate) fn enter(code: &Code, pc: u16, flow: &mut Flow<Config>)
     ensures { flow.new ≡ entered code.now pc flow.old }
 {
     let Some(label) = code.label_at(pc) else {

@@ -1,10 +1,16 @@
 //! Explains why a code is refused.
 
+ghost use Rattle.std.specs.Prelude.{◌≡◌, ℕ, true};
+ghost use Rattle.plan_code.specs.Program.{Program};
+ghost use Rattle.plan_explain.specs.Paths.{ways_of};
+ghost use Rattle.plan_explain.specs.Reaching.{Entered, ComesFromWays};
+
 use crate::cause::{Refused, advise_instr, explain_instr};
 use crate::labels::{explain_cost, explain_mismatch, target_at};
+use crate::past::Past;
 use crate::reach::Reach;
 use crate::room::{advise_opening, explain_opening};
-use plan_code::{Code, Instr};
+use plan_code::{Code, Instr, Plan};
 use plan_flow::{Cause, test_opening};
 use std::alloc::Global;
 use std::io::{self, Error, ErrorKind, Write};
@@ -51,40 +57,68 @@ fn explain_counter<W: Write>(pc: u16, instr: &Instr, out: &mut W) -> io::Result<
 }
 
 /// Explains pages that have no room: those of the opening if this is the first instruction, else those of a commit.
-fn explain_pages<W: Write>(
-    code: &Code,
-    reach: &Reach,
+fn explain_pages<'x, W: Write>(
+    plan: &'x Plan,
+    reach: &'x Reach,
     pc: u16,
     instr: &Instr,
     out: &mut W,
 ) -> io::Result<()> {
-    let plan = code.plan();
     let opening = &reach.state.flow.current;
-    if pc == 0 && test_opening(&plan, opening).is_err() {
-        explain_opening(&plan, opening, out)?;
-        return advise_opening(&plan, opening, out);
+    if pc == 0 && test_opening(plan, opening).is_err() {
+        explain_opening(plan, opening, out)?;
+        return advise_opening(plan, opening, out);
     }
-    explain_known(code, reach, instr, Cause::Round, out)
+    explain_known(plan, reach, instr, Cause::Round, false, out)
 }
 
-/// Explains a cause from what is known at the instruction.
-fn explain_known<W: Write>(
-    code: &Code,
-    reach: &Reach,
+/// Explains a cause from what is known at the instruction; `names_commit` if the commit of a swap is named, and no statement
+/// that did something to an object.
+fn explain_known<'x, W: Write>(
+    plan: &'x Plan,
+    reach: &'x Reach,
     instr: &Instr,
     cause: Cause,
+    names_commit: bool,
     out: &mut W,
 ) -> io::Result<()> {
-    let plan = code.plan();
-    let refused = Refused {
-        plan: &plan,
-        flow: &reach.state.flow,
-        past: reach.past(),
-        instr: *instr,
-        cause,
-    };
+    let refused = refused_at(plan, reach, *instr, cause, names_commit);
     explain_instr(&refused, out)?;
     advise_instr(&refused, out)
+}
+
+/// What was executed on the ways to an instruction; or its commits, if one is to be named.
+fn past_of(reach: &Reach, names_commit: bool) -> Past
+    ensures { (code : Program) (pc : ℕ) → reach.now.valid ≡ true → Entered code pc reach.now
+        → ComesFromWays code pc names_commit (ways_of result.history.now result.end) }
+{
+    if names_commit {
+        return reach.commits();
+    }
+    reach.past()
+}
+
+/// An instruction that is refused, where it has been entered. Either a commit is named, or what was done to objects.
+fn refused_at<'x>(
+    plan: &'x Plan,
+    reach: &'x Reach,
+    instr: Instr,
+    cause: Cause,
+    names_commit: bool,
+) -> Refused<'x>
+    ensures flow { result.flow.now ≡ reach.now.state.flow }
+    ensures ways { (code : Program) (pc : ℕ) → reach.now.valid ≡ true → Entered code pc reach.now
+        → ComesFromWays code pc names_commit (ways_of result.past.history.now result.past.end) }
+    ensures instr { result.instr ≡ instr }
+    ensures cause { result.cause ≡ cause }
+{
+    Refused {
+        plan,
+        flow: &reach.state.flow,
+        past: past_of(reach, names_commit),
+        instr,
+        cause,
+    }
 }
 
 /// Explains a cause at an existing instruction.
@@ -108,18 +142,20 @@ fn explain_at<W: Write>(
         ),
         Cause::Round => {
             reach.enter(code, pc)?;
-            explain_pages(code, reach, pc, instr, out)
+            explain_pages(&code.plan(), reach, pc, instr, out)
         }
         Cause::Edit(_)
         | Cause::Config(_)
-        | Cause::Pending
         | Cause::NoChange
         | Cause::Notice
         | Cause::Count
-        | Cause::JoinIdle
-        | Cause::SwapUncertain => {
+        | Cause::JoinIdle => {
             reach.enter(code, pc)?;
-            explain_known(code, reach, instr, cause, out)
+            explain_known(&code.plan(), reach, instr, cause, false, out)
+        }
+        Cause::Pending | Cause::SwapUncertain => {
+            reach.enter(code, pc)?;
+            explain_known(&code.plan(), reach, instr, cause, true, out)
         }
     }
 }

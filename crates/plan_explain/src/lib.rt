@@ -33,6 +33,7 @@ mod hint_edit;
 mod hint_loop;
 mod hint_statement;
 mod history;
+mod jumps;
 mod labels;
 pub mod laws;
 mod limit;

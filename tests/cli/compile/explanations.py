@@ -3,6 +3,7 @@
 import pathlib
 
 import rows
+from codes import AT_64, PROGRAMME, code
 from rows import NOTHING_FILE, RATES_FILE, REFUSED_FILE, hexadecimal
 
 EXAMPLES = pathlib.Path(__file__).resolve().parents[3] / "examples"
@@ -431,6 +432,29 @@ def first_mistakes(rows):
         explained(rows, script, first, *rest)
 
 
+def jumps_back():
+    """Codes that jump back before the refused instruction: what was executed before is on some paths only."""
+    there, hint = "sub 2 at 400 eep 3-A 64 is there already", "hint: 'drop' it first, or take another number"
+    add, wide = "sub 2 at 400 eep 3-A 64", f"{PROGRAMME}, sub 2 at 400 eep 3-A 64"
+    maybe = "a swap may be pending, that comes after 60 frames at most"
+    stays = "until then the next configuration stays as it is"
+    return (
+        (code(f"{add}, test 3 6, drop sub 2, {add}, wait 1, jump 1, {add}, end",
+              "0 of 0 0 cost 19, 1 of 0 1 cost 15, 6 of 0 1 cost 5", [PROGRAMME, wide]),
+         "refused at 6 line 7: Edit IdUsed", f"x.code:7: {there}; line 1 added it on one path", hint),
+        (code(f"{add}, set 0 3, wait 1, loop 0 2, {add}, end",
+              "0 of 0 0 cost 19, 2 of 0 1 counters 01 cost 15", [PROGRAMME, wide]),
+         "refused at 4 line 5: Edit IdUsed", f"x.code:5: {there}; line 1 added it on one path", hint),
+        (code(f"set 0 3, wait 1, loop 0 1, {add}, {add}, end",
+              "0 of 0 0 cost 19, 1 of 0 0 counters 01 cost 15", [PROGRAMME]),
+         "refused at 4 line 5: Edit IdUsed", f"x.code:5: {there}; line 4 added it", hint),
+        (code("rate sub 1 64, commit in 24, test 3 11, settle, rate sub 1 128, commit in 24, join, rate sub 1 64, commit in 24, "
+              "wait 1, jump 2, rate sub 1 32, end",
+              "0 of 0 0 cost 19, 2 of 0 1 perhaps 60 cost 9, 11 of 0 1 perhaps 60 cost 3", [PROGRAMME, AT_64]),
+         "refused at 11 line 12: Pending", f"x.code:12: {maybe}; {stays}", "hint: 'settle' before this line"),
+    )
+
+
 def codes(rows):
     """Codes that are refused: the line is the script's."""
     late = hexadecimal(RATES_FILE.replace("04 00 18  00 0B 06", "04 00 17  00 0B 06"))
@@ -453,6 +477,7 @@ def codes(rows):
         (hexadecimal(RATES_FILE.replace("\n00 00 00 00 00", "\n00 01 00 00 00")), "refused at 0 line 8: Table",
          "x.code:8: instruction 0, where a code begins, has no label"),
         (b"DABP", "code: Truncated"),
+        *jumps_back(),
     ):
         text = "".join(f"{line}\n" for line in rest)
         rows.answers("verify x.code --explain", 1, f"{first}\n{text}", {"x.code": code})
