@@ -1,10 +1,13 @@
 -- Lines on standard error: what it may have taken, and what not.
-use Rattle.std.proofs.Common.{◌≡◌, ◌⊎◌, ℕ, zero, suc, List, [], ◌∷◌, ◌++◌, None, Ok, Err, inl, inr, refl, subst}
+use Rattle.std.proofs.Common.{◌≡◌, ◌⊎◌, ℕ, zero, suc, List, [], ◌∷◌, ◌++◌, None, Some, Ok, Err, inl, inr, refl, subst}
 use Rattle.std.specs.Prelude.{codes, take}
 use Rattle.console.specs.World.{World}
 use Rattle.console.specs.declared.exit.Failure.TheVariants.{Output}
 use Rattle.console.specs.declared.exit.Status.TheVariants.{Done}
-use Rattle.cli.specs.Telling.{HasTold, Tells}
+use Rattle.plan_live.specs.declared.fault.LiveFault.TheVariants.{Stopped}
+use Rattle.plan_live.specs.declared.fault.Stop.TheVariants.{Read as InputFailed, TooMany}
+use Rattle.cli_plans.specs.declared.live.LiveEnding.TheVariants.{Live}
+use Rattle.cli.specs.Telling.{HasTold, Tells, TellsEnding, ending_line}
 
 -- there are no files
 abbrev taken : List ℕ → World
@@ -35,3 +38,25 @@ nothing_else t = which t.text t.taken.count t.which t.taken.errors
     which : (text : List ℕ) (count : ℕ) → (text ≡ none) ⊎ (text ≡ codes "no memory\n") → 7 ∷ [] ≡ take count text → ⊥
     which text count (inl is) e = nothing count (subst (λ (l : List ℕ). 7 ∷ [] ≡ take count l) is e)
     which text count (inr is) e = another count (subst (λ (l : List ℕ). 7 ∷ [] ≡ take count l) is e)
+
+-- ---- the end of a live run
+
+an_end : TellsEnding false (Err (Live (Stopped InputFailed))) (Some (taken [])) (Some (taken (codes "cannot read -\n")))
+an_end = record { count = 14; errors = refl; files = λ path. refl }
+
+another_end : (count : ℕ) → 7 ∷ [] ≡ take count (codes "too many frames or lines\n") → ⊥
+another_end zero e = absurd cc
+another_end (suc n) e = absurd cc
+
+no_end : TellsEnding false (Err (Live (Stopped TooMany))) (Some (taken [])) (Some (taken (7 ∷ []))) → ⊥
+no_end t = another_end t.count t.errors
+
+an_end_as_json : ending_line true (Live (Stopped InputFailed)) ≡ Some (codes "{\"kind\":\"refused\",\"cause\":\"cannot read -\"}")
+an_end_as_json = refl
+
+no_line_of_an_end : ending_line true (Live (Stopped InputFailed)) ≡ None → ⊥
+no_line_of_an_end e = absurd cc
+
+-- a run that comes to its end is silent
+silent_end : TellsEnding false (Ok tt) (Some (taken [])) (Some (taken (7 ∷ []))) → ⊥
+silent_end e = absurd cc

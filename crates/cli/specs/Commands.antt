@@ -17,7 +17,8 @@ use Rattle.cli_streams.specs.Checking.{ShowsCheck, ShowsUntil}
 use Rattle.cli_streams.specs.Failing.{IsInputFailure, IsSilentUnread}
 use Rattle.cli_streams.specs.Frame.{ShowsFrame, ShowsFrameUntil, frame_of, most_bytes}
 use Rattle.cli_streams.specs.Listing.{ShowsStream, ShowsStreamUntil}
-use Rattle.cli_streams.specs.Merged.{AreTwo, MergesFiles, known_at}
+use Rattle.cli_streams.specs.MergeReports.{IsMergeFault, ReportsMerge, last_lines}
+use Rattle.cli_streams.specs.Merged.{AreTwo, known_at}
 use Rattle.cli_streams.specs.declared.check.CheckRequest.{CheckRequest}
 use Rattle.cli_streams.specs.declared.frame.FrameRequest.{FrameRequest}
 use Rattle.cli_streams.specs.declared.listen.ListenRequest.{ListenRequest}
@@ -35,7 +36,7 @@ use Rattle.cli_scripts.specs.declared.frame_script.FrameScriptRequest.{FrameScri
 use Rattle.cli_scripts.specs.declared.listen_script.ListenScriptRequest.{ListenScriptRequest}
 use Rattle.cli_scripts.specs.declared.map.MapRequest.{MapRequest}
 use Rattle.cli_scripts.specs.declared.verify.VerifyRequest.{VerifyRequest}
-use Rattle.cli_plans.specs.LiveEnding.{BeginsWith, IsLiveEnding, NamesItsFile, WritesLive}
+use Rattle.cli_plans.specs.LiveEnding.{BeginsWith, IsLiveEnding, NamesItsFile, ReportsLive, WritesLive}
 use Rattle.cli_plans.specs.FileTranscript.{IsDebugFailure, ShowsSession}
 use Rattle.cli_plans.specs.PlayFiles.{IsPlayedInto, EndsOrIsCut, IsPlayFailure}
 use Rattle.cli_plans.specs.PlayStreams.{StreamsPlay}
@@ -44,7 +45,7 @@ use Rattle.cli_plans.specs.declared.debug.DebugRequest.{DebugRequest}
 use Rattle.cli_plans.specs.declared.live.LiveEnding.{LiveEnding}
 use Rattle.cli_plans.specs.declared.live.LiveRequest.{LiveRequest}
 use Rattle.cli_plans.specs.declared.play.PlayRequest.{PlayRequest}
-use Rattle.cli.specs.Telling.{Tells}
+use Rattle.cli.specs.Telling.{Tells, TellsEnding}
 use Rattle.cli.specs.declared.args.Request.{Request}
 use Rattle.cli.specs.declared.args.Request.TheVariants as requests
 
@@ -188,15 +189,26 @@ pub record StreamsPlayed (r : PlayRequest) (given : Inputs) (before after : Outp
   pub told : IfSome lines (λ l. Becomes (Tells l ended) before.world after.world)
   pub files : Becomes HasSameFiles before.world after.world
 
+-- standard error has taken the lines of the messages of a run, and behind them that of its end
+abbrev pub TellsLive : LiveRequest → Inputs → Outputs → Outputs → Result (Unit {0}) LiveEnding → Type 0
+TellsLive r given before after ended =
+    (mid : Option World) × ReportsLive r (given.file r.code.now) given.standard before.printed after.printed before.world mid ended
+    × TellsEnding r.json ended mid after.world
+
 abbrev pub RunsLive : LiveRequest → Inputs → Outputs → Outputs → Result (Unit {0}) LiveEnding → Type 0
 RunsLive r given before after ended =
     WritesLive r (given.file r.code.now) given.standard before.printed after.printed ended
     × OnOk ended (IfSome (given.file r.code.now) (λ file. (p : Playing) × BeginsWith (take 1048577 file) r.start p))
     × IfErr ended (λ ending. IfSome (given.file r.code.now) (λ file. IsLiveEnding (take 1048577 file) r.start ending))
     × IfErr ended (NamesItsFile r.code.now)
+    × TellsLive r given before after ended
     × Becomes HasSameFiles before.world after.world
 
+-- standard error has taken all lines of the merge, with that of the fault with which it ends
 abbrev pub RunsMerge : MergeRequest → Inputs → Outputs → Outputs → Result Status MergeFault → Type 0
-RunsMerge r given before after ended = AreTwo r.plan.now r.other.now
-    → MergesFiles r.plan.now (fib_count r.mode * 32) (known_at given.file given.standard r.plan.now)
-    (known_at given.file given.standard r.other.now) before.printed after.printed ended
+RunsMerge r given before after ended =
+    (AreTwo r.plan.now r.other.now
+    → ReportsMerge last_lines r.plan.now r.other.now (fib_count r.mode * 32) (known_at given.file given.standard r.plan.now)
+    (known_at given.file given.standard r.other.now) before.printed after.printed before.world after.world ended)
+    × IfErr ended (IsMergeFault r.plan.now r.other.now)
+    × Becomes HasSameFiles before.world after.world

@@ -1,13 +1,15 @@
 //! The answers to `live` and `merge`, whose messages and mistakes go to standard error.
 
-ghost use Rattle.std.specs.Prelude.{◌≡◌, ◌≤◌, ◌↔◌, IsTrue, map};
+ghost use Rattle.std.specs.Prelude.{◌≡◌, ◌≤◌, ◌↔◌, IsTrue, IfSome, map};
+ghost use Rattle.console.specs.World.{Becomes, HasReported, HasSameFiles};
 ghost use Rattle.cli.specs.Answers.{AnswersFrames, AnswersFramesBy, WritesFrames};
 ghost use Rattle.cli.specs.declared.args.FramesRequest.TheVariants as frames;
 ghost use Rattle.cli.specs.Commands.{inputs, outputs};
+ghost use Rattle.cli.specs.Telling.{ending_line};
 
 use crate::args::{FramesRequest, frames_request_of};
 use crate::mistakes::answer_mistake;
-use cli_plans::live::{JsonEnding, LiveRequest, play_live};
+use cli_plans::live::{JsonEnding, LiveEnding, LiveRequest, play_live};
 use cli_streams::merge::{MergeRequest, show_merged};
 use console::ending::status_number;
 use console::files::Files;
@@ -63,13 +65,22 @@ fn answer_live<F: Files, W: Write>(
     match play_live(alloc, request, files, out) {
         Ok(()) => 0,
         Err(ending) => {
-            if request.json {
-                files.report(JsonEnding(&ending));
-            } else {
-                files.report(ending);
-            }
+            report_ending(files, request.json, &ending);
             1
         }
+    }
+}
+
+/// Writes the line of the end of a live run on standard error.
+fn report_ending<F: Files>(files: &mut F, json: bool, ending: &LiveEnding<'_>)
+    ensures line { IfSome (ending_line json ending.now) (λ text.
+        Becomes (HasReported text) (F.world files.old) (F.world files.new)) }
+    ensures files { Becomes HasSameFiles (F.world files.old) (F.world files.new) }
+{
+    if json {
+        files.report(JsonEnding(ending));
+    } else {
+        files.report(ending);
     }
 }
 
