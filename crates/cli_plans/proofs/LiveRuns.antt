@@ -1,10 +1,9 @@
 -- What `live` has written and reported, by how its run ended.
-use Rattle.std.proofs.Common.{◌≡◌, ◌≢◌, ℕ, List, [], ◌++◌, take, Bool, cond, Option, None, Some, Result, Ok, Err, OnOk, IfErr, IfSome, refl, sym, ap, subst, ◌∙◌, append-nil}
+use Rattle.std.proofs.Common.{◌≡◌, ◌≢◌, ℕ, List, [], ◌++◌, take, Bool, Option, None, Some, Result, Ok, Err, OnOk, IfErr, IfSome, refl, sym, ap, subst, ◌∙◌, append-nil}
 use Rattle.std.specs.Prelude.{◌==◌, if◌then◌else◌}
 use Rattle.std.specs.Io.KnownBytes.{Keeps, prepend_known}
 use Rattle.console.specs.World.{World, Becomes, Stays}
 use Rattle.console.specs.declared.exit.Failure.{Failure}
-use Rattle.console.specs.declared.exit.Failure.TheVariants.{Memory as NoMemory}
 use Rattle.plan_code.specs.declared.fault.CodeFault.TheVariants.{Memory as NoMemoryForCode}
 use Rattle.plan_player.specs.Playing.{Playing}
 use Rattle.plan_session.specs.declared.run_fault.RunFault.{RunFault}
@@ -14,7 +13,6 @@ use Rattle.plan_live.specs.declared.fault.LiveFault.TheVariants.{Playback, Stopp
 use Rattle.plan_live.specs.declared.message.Message.{Message}
 use Rattle.plan_live.specs.Beginning.{Lives}
 use Rattle.plan_live.specs.Living.{streamed}
-use Rattle.cli_plans.specs.declared.live.LiveEnding.{LiveEnding}
 use Rattle.cli_plans.specs.declared.live.LiveEnding.TheVariants.{Failed, Live}
 use Rattle.cli_plans.specs.declared.live.LiveRequest.{LiveRequest}
 use Rattle.cli_plans.specs.LiveEnding.{BeginsWith, IsLiveEnding, IsUnbegun, IsUnreported, LivesAloud, LivesOver, ReportsLive, ReportsOver, WritesLive}

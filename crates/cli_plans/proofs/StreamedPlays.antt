@@ -1,6 +1,5 @@
 -- A playback to standard output: how it ends, and what was printed.
-use Rattle.std.proofs.Common.{◌≡◌, ◌⊎◌, inl, inr, ℕ, ◌+◌, ◌≤◌, List, [], ◌∷◌, ◌++◌, length, take, drop, Option, None, Some, Result, Ok, Err, IfOk, IfErr, IfSome, refl, sym, ap, subst, ◌∙◌, arith, length-append, append_assoc}
-use Rattle.std.specs.List.{concat}
+use Rattle.std.proofs.Common.{◌≡◌, inl, inr, ℕ, ◌≤◌, List, [], ◌∷◌, ◌++◌, length, take, drop, Option, None, Some, Result, Ok, Err, IfOk, IfErr, refl, sym, ap, subst, ◌∙◌, arith, append_assoc}
 use Rattle.std.specs.Io.KnownBytes.{Appends, Keeps}
 use Rattle.std.proofs.KnownBytes.{Keeps-refl}
 use Rattle.std.proofs.lemmas.List.{append-nil, take_all, take-append-drop}
@@ -20,7 +19,7 @@ use Rattle.plan_session.specs.declared.step.Step.{Step}
 use Rattle.plan_session.specs.Events.{events_of}
 use Rattle.plan_session.specs.FilePlayback.{DeliversAgain, IsFileSilent}
 use Rattle.plan_session.specs.Playback.{Request, IsPlayback}
-use Rattle.cli_plans.specs.PlayFiles.{CutsShort, IsEnding, PrintsCut, played_line}
+use Rattle.cli_plans.specs.PlayFiles.{IsEnding, PrintsCut, played_line}
 use Rattle.cli_plans.specs.PlayStreams.{EndsOrIsCutTo, HasNoPlayback, IsPlayedTo, RunsTo, StreamsPlay, TakesFront}
 use Rattle.cli_plans.proofs.CutShort.{cut_again}
 

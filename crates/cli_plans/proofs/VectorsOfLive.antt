@@ -1,5 +1,5 @@
 -- Vectors of how `live` ends, and of what it leaves of standard output.
-use Rattle.std.proofs.Common.{◌≡◌, inl, inr, ℕ, List, [], ◌∷◌, take, Option, None, Some, Ok, Err, refl}
+use Rattle.std.proofs.Common.{◌≡◌, ℕ, List, [], ◌∷◌, take, Option, None, Some, Ok, Err, refl}
 use Rattle.std.specs.Prelude.{codes}
 use Rattle.console.specs.declared.exit.Failure.TheVariants.{Memory, Output}
 use Rattle.plan_player.specs.Playing.{Playing}

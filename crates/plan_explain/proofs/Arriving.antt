@@ -1,13 +1,10 @@
 -- An instruction of a code is entered and passed: its ways are those from the instruction before and from the jumps.
-use Rattle.std.proofs.Common.{◌≡◌, ◌≢◌, ◌==◌, ℕ, ◌+◌, ◌<◌, ◌≤◌, Bool, true, false, if◌then◌else◌, List, [], ◌∷◌, ◌++◌, map, length, take, get_or, append-nil, slice_get, Contains, Option, Some, None, ◌⊎◌, inl, inr, refl, sym, ap, subst, ◌∙◌, arith}
+use Rattle.std.proofs.Common.{◌≡◌, ◌==◌, ℕ, ◌+◌, ◌<◌, Bool, true, false, if◌then◌else◌, List, [], ◌∷◌, ◌++◌, map, slice_get, Contains, Option, Some, None, ◌⊎◌, inl, inr, refl, sym, ap, subst, ◌∙◌, arith}
 use Rattle.std.specs.Prelude.{Result, Ok, Err, OnOk}
-use Rattle.std.specs.List.{All, AllByRecursion, flat_map}
+use Rattle.std.specs.List.{All, AllByRecursion}
 use Rattle.std.proofs.lemmas.Bool.{false≢true, eqb-true, eq-eqb, cond-true, cases_eq}
-use Rattle.std.proofs.lemmas.List.{take_more, flat_map_more}
-use Rattle.std.proofs.lemmas.List.Elements.{All-get_or, All-from_recursion, Contains-append_left, Contains-append_right, Contains-append_cases, Contains-push, Contains-push_cases}
-use Rattle.std.proofs.lemmas.Option.{slice_get_within}
+use Rattle.std.proofs.lemmas.List.Elements.{All-from_recursion, Contains-append_left, Contains-append_right, Contains-append_cases, Contains-push, Contains-push_cases}
 use Rattle.mux_types.proofs.Elements.{contains_cases, contains_first, contains_later, contains_none}
-use Rattle.plan_code.specs.declared.instr.Instr.{Instr}
 use Rattle.plan_code.specs.declared.instr.Line.{Line}
 use Rattle.plan_code.specs.Program.{Program}
 use Rattle.plan_flow.specs.Flows.{Flow}
@@ -18,11 +15,11 @@ use Rattle.plan_explain.specs.declared.history.PathEnd.{PathEnd}
 use Rattle.plan_explain.specs.declared.jumps.Jump.{Jump}
 use Rattle.plan_explain.specs.declared.reach.Reach.{Reach}
 use Rattle.plan_explain.specs.Paths.{paths_of, way_of, ways_of, steps_of, deed_of, IsEnd, Keeps}
-use Rattle.plan_explain.specs.Ways.{Executed, Way, each_with}
-use Rattle.plan_explain.specs.CodeWays.{line_of, IsExecutedAt, GoesOn, JumpsTo, IsJumpedBackTo, IsUnreached, Begins, IsWayTo, IsWayPast, IsDeclaredIdle, BeginIdle}
-use Rattle.plan_explain.specs.Reaching.{AreWays, IsStoredJump, HasJump, Stored, noted, IsEndIf, Meets, paths_if, jumped_by, jumped_to, came_from, HasBegun, Entered, ComesOn, Reached, AreWaysTo, ComesFromWays}
+use Rattle.plan_explain.specs.Ways.{Executed, Way}
+use Rattle.plan_explain.specs.CodeWays.{line_of, IsExecutedAt, GoesOn, IsJumpedBackTo, IsUnreached, Begins, IsWayTo, IsWayPast, IsDeclaredIdle, BeginIdle}
+use Rattle.plan_explain.specs.Reaching.{AreWays, IsStoredJump, HasJump, Stored, noted, IsEndIf, Meets, paths_if, jumped_by, jumped_to, came_from, HasBegun, Entered, Reached, AreWaysTo, ComesFromWays}
 use Rattle.plan_explain.proofs.Walks.{some_path}
-use Rattle.plan_explain.proofs.Walking.{ways_by, keeps_both}
+use Rattle.plan_explain.proofs.Walking.{keeps_both}
 use Rattle.plan_explain.proofs.Lists.{from_flat, to_flat, from_map, to_map}
 use Rattle.plan_explain.proofs.Reaching.{kept_stored, same_executed, passed_ways}
 

@@ -1,16 +1,15 @@
 -- The laws of the ways through a code.
-use Rattle.std.proofs.Common.{◌≡◌, ◌≢◌, ℕ, ◌+◌, ◌⊎◌, nat_lt, Bool, true, false, if◌then◌else◌, List, [], ◌∷◌, ◌++◌, Option, Some, None, inl, inr, refl, sym, ap, subst, ◌∙◌}
+use Rattle.std.proofs.Common.{◌≡◌, ◌≢◌, ℕ, ◌+◌, ◌⊎◌, nat_lt, Bool, true, false, if◌then◌else◌, [], ◌∷◌, ◌++◌, Option, Some, None, inl, inr, refl, sym, ap, subst}
 use Rattle.std.proofs.lemmas.Bool.{cases_lt}
 use Rattle.plan_code.specs.declared.instr.Instr.{Instr}
 use Rattle.plan_code.specs.declared.instr.Instr.TheVariants.{Wait, Until, WaitContact, CommitIn, CommitAt, Join, Settle, End, Edit as Edits, Test, Jump, Set, Loop}
 use Rattle.plan_code.specs.declared.plan.Plan.{Plan}
 use Rattle.plan_code.specs.Flags.{is_closed}
 use Rattle.plan_code.specs.Machine.{State, effect, effect_of, settle, counter_of}
-use Rattle.plan_code.specs.Program.{Program}
 use Rattle.plan_flow.specs.Rules.{continues, target_of}
 use Rattle.plan_explain.specs.Deeds.{last_done}
-use Rattle.plan_explain.specs.Ways.{Executed, Way}
-use Rattle.plan_explain.specs.CodeWays.{GoesOn, JumpsBack, ControlGoes, IsExecutedAt, IsWayTo, IsPathTo, EndsWithWay, PathsEndWithWays, LinesOfWaysHold}
+use Rattle.plan_explain.specs.Ways.{Way}
+use Rattle.plan_explain.specs.CodeWays.{GoesOn, JumpsBack, ControlGoes, PathsEndWithWays, LinesOfWaysHold}
 
 pub ends_with_way : PathsEndWithWays
 ends_with_way code [] pc h = record { way = []; before = []; is = refl; leads = inl h }

@@ -10,14 +10,14 @@ use Rattle.plan_code.specs.declared.plan.Plan.{Plan}
 use Rattle.plan_code.specs.declared.label.Label.{Label}
 use Rattle.plan_code.specs.Program.{Program, instr_at, label_at}
 use Rattle.plan_flow.specs.Rules.{leaves, IsFine, CanCommit, continues}
-use Rattle.plan_flow.specs.Flows.{Flow, flow_of, known_at, after_instr, HasItsCounter}
+use Rattle.plan_flow.specs.Flows.{Flow, flow_of, known_at, HasItsCounter}
 use Rattle.plan_flow.specs.Tests.{flow_cause}
 use Rattle.plan_flow.specs.declared.cause.Cause.{Cause}
-use Rattle.plan_verifier.specs.Typing.{Known, Declares, Arrives}
+use Rattle.plan_verifier.specs.Typing.{Known, Arrives}
 use Rattle.plan_verifier.specs.Refusals.{IsTypingBelow, IsRefused, IsRefusedAt}
 use Rattle.plan_verifier.proofs.Tabled.{found}
 use Rattle.plan_explain.specs.Walking.{at_label, entered, Knows}
-use Rattle.plan_explain.proofs.Known.{some_same, declared, leaves_flow}
+use Rattle.plan_explain.proofs.Known.{some_same, declared}
 
 -- with a label, it is what the label declares
 labelled : (p : Program) (end : ℕ) (typing : List Known) (pc : ℕ) (label : Label) (f : Flow) (t : Known) → IsTypingBelow p end typing → label_at p pc ≡ Some label → slice_get typing pc ≡ Some t

@@ -1,5 +1,5 @@
 -- Short codes: their ways, and what is on none.
-use Rattle.std.proofs.Common.{◌≡◌, ℕ, ◌<◌, zero, suc, false, true, [], ◌∷◌, List, Contains, Option, Some, None, inl, inr, refl, sym, ap, subst, slice_get, arith}
+use Rattle.std.proofs.Common.{◌≡◌, ℕ, ◌<◌, zero, suc, true, [], ◌∷◌, Contains, Some, None, inl, inr, refl, sym, ap, subst, slice_get, arith}
 use Rattle.std.proofs.lemmas.Bool.{false≢true}
 use Rattle.mux_types.proofs.Elements.{contains_first}
 use Rattle.plan_code.specs.declared.plan.Plan.{Plan}
@@ -11,7 +11,7 @@ use Rattle.plan_code.specs.declared.label.Swap.TheVariants.{Perhaps}
 use Rattle.plan_code.specs.Program.{Program}
 use Rattle.plan_flow.specs.Rules.{continues, target_of}
 use Rattle.plan_explain.specs.Ways.{Executed, Way}
-use Rattle.plan_explain.specs.CodeWays.{IsExecutedAt, IsJumpedBackTo, IsUnreached, Begins, IsWayTo, IsPathTo, IsDeclaredIdle, BeginIdle}
+use Rattle.plan_explain.specs.CodeWays.{IsExecutedAt, IsJumpedBackTo, IsUnreached, Begins, IsWayTo, IsPathTo, BeginIdle}
 use Rattle.plan_explain.specs.Reaching.{AreWaysTo}
 use Rattle.plan_explain.proofs.Lists.{from_one}
 use Rattle.plan_explain.proofs.Reaching.{same_executed}

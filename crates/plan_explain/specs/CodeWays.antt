@@ -1,7 +1,7 @@
 -- The ways through a code to an instruction: what is executed since the last jump back, or from the first instruction on
 -- if there is none. Control chooses freely at a test and at a loop. What was executed before a jump back is on no way, so
 -- that what is true on all ways is true however often control has jumped back: so say the laws at the end.
-use Rattle.std.specs.Prelude.{◌≡◌, ◌≢◌, ℕ, ◌+◌, ◌<◌, ◌≤◌, Bool, true, ◌⊎◌, List, [], ◌∷◌, ◌++◌, Option, Some, None, slice_get}
+use Rattle.std.specs.Prelude.{◌≡◌, ◌≢◌, ℕ, ◌+◌, ◌<◌, ◌≤◌, Bool, true, ◌⊎◌, [], ◌∷◌, ◌++◌, Some, slice_get}
 use Rattle.plan_code.specs.declared.instr.Instr.{Instr}
 use Rattle.plan_code.specs.declared.instr.Instr.TheVariants.{End}
 use Rattle.plan_code.specs.declared.instr.Line.{Line}

@@ -1,4 +1,4 @@
-use Rattle.std.proofs.Common.{◌≡◌, ℕ, List, Ok, ap, sym, subst}
+use Rattle.std.proofs.Common.{ℕ, List, Ok, ap, subst}
 use Rattle.plan_session.specs.declared.first_reading.FirstReading.{FirstReading}
 use Rattle.plan_session.specs.Playback.{asked_from}
 use Rattle.cli_plans.specs.PlayStreams.{StreamsPlay}

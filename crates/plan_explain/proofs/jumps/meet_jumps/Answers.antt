@@ -1,4 +1,4 @@
-use Rattle.std.proofs.Common.{take, None, subst}
+use Rattle.std.proofs.Common.{None, subst}
 use Rattle.std.proofs.lemmas.List.{take_all}
 use Rattle.plan_explain.specs.declared.jumps.Jump.{Jump}
 use Rattle.plan_explain.specs.Reaching.{Meets, jumped_to}

@@ -1,4 +1,4 @@
-use Rattle.std.proofs.Common.{◌≡◌, ℕ, ◌<◌, sym, subst, ◌∙◌, arith}
+use Rattle.std.proofs.Common.{◌≡◌, ℕ, sym, subst, ◌∙◌, arith}
 use Rattle.plan_explain.specs.Reaching.{Reached}
 use Rattle.plan_explain.proofs.Fronts.{at_first, passed_on, is_there, within, typing_below}
 use Rattle.plan_explain.proofs.reach.Reach.at.Goals as goal

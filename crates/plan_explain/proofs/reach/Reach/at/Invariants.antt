@@ -1,4 +1,4 @@
-use Rattle.std.proofs.Common.{◌≡◌, ◌≤◌, true, List, length}
+use Rattle.std.proofs.Common.{◌≡◌, true, List}
 use Rattle.plan_verifier.specs.Typing.{Known}
 use Rattle.plan_verifier.specs.Refusals.{IsTypingBelow}
 use Rattle.plan_explain.specs.Reaching.{Reached}
