@@ -1,5 +1,5 @@
 -- How `frame --script` ends, from what its steps leave.
-use Rattle.std.proofs.Common.{◌≡◌, ℕ, List, ◌++◌, codes, Option, None, Some, IfSome, IsSome, Result, Ok, Err, IfOk, IfErr, OnOk, IsUtf8, refl, sym, subst}
+use Rattle.std.proofs.Common.{◌≡◌, ℕ, List, ◌++◌, codes, Option, None, Some, IfSome, IsSome, Result, Ok, Err, IfOk, IfErr, OnOk, IsUtf8, inl, inr, refl, sym, subst}
 use Rattle.std.proofs.lemmas.Bool.{false≢true}
 use Rattle.std.specs.Io.KnownBytes.{Appends}
 use Rattle.std.proofs.KnownBytes.{Appends-nil}
@@ -15,6 +15,7 @@ use Rattle.cli_scripts.specs.declared.frame_script.ScriptFrameFault.TheVariants.
 use Rattle.cli_scripts.specs.FileTexts.{IsReadOf, IsUnreadable}
 use Rattle.cli_scripts.specs.FramingScripts.{frame_fault_text, count_of, IsFrameReason, HasFrame, LacksFrame, ShowsScriptFrame}
 use Rattle.cli_scripts.specs.ScriptFrame.{GivesFrame}
+use Rattle.cli_scripts.specs.Unprinted.{IsUnprinted}
 use Rattle.cli_scripts.proofs.ReadTexts.{whole_of, none_in_whole}
 
 pub not_text : (bytes : List ℕ) (request : FrameScriptRequest) (printed : Option (List ℕ)) (failure : Failure) → IsUnreadable request.script.now failure
@@ -46,7 +47,7 @@ has_frame bytes text request frame r h =
     let e : text ≡ bytes = whole_of bytes text r h.2.short in
     record { utf8 = subst (λ (t : List ℕ). IsUtf8 t) e r.utf8; gives = subst (λ (t : List ℕ). GivesFrame t (count_of request) request.page (Ok frame)) e h }
 
-pub framed : (bytes text : List ℕ) (request : FrameScriptRequest) (count : ℕ) (frame : List ℕ) (a b : Option (List ℕ)) → IsReadOf bytes text → count ≡ count_of request
+framed : (bytes text : List ℕ) (request : FrameScriptRequest) (count : ℕ) (frame : List ℕ) (a b : Option (List ℕ)) → IsReadOf bytes text → count ≡ count_of request
     → GivesFrame text count request.page (Ok frame) → Appends a b (frame_text request.raw frame) → ShowsScriptFrame bytes request (Appends a b) (Ok Done)
 framed bytes text request count frame a b r same h printed =
     (frame, has_frame bytes text request frame r (subst (λ (n : ℕ). GivesFrame text n request.page (Ok frame)) same h), printed)
@@ -78,18 +79,49 @@ unframed bytes text request fault a b status r h reason some printed same =
     } in
     subst (λ (s : Status). ShowsScriptFrame bytes request (Appends a b) (Ok s)) (sym same) (found.0, lacks, found.2)
 
--- the line is printed, or printing fails
+-- the frame is printed, or not to its end
+pub framed_or_cut : (bytes text : List ℕ) (request : FrameScriptRequest) (count : ℕ) (frame : List ℕ) (a b : Option (List ℕ)) (result : Result Status Failure) → IsReadOf bytes text
+    → count ≡ count_of request → GivesFrame text count request.page (Ok frame) → OnOk result (Appends a b (frame_text request.raw frame)) → IfOk result (λ status. status ≡ Done)
+    → IfErr result (IsUnprinted (Appends a b) (frame_text request.raw frame)) → ShowsScriptFrame bytes request (Appends a b) result
+framed_or_cut bytes text request count frame a b (Ok status) r same h printed done failed =
+    subst (λ (s : Status). ShowsScriptFrame bytes request (Appends a b) (Ok s)) (sym done) (framed bytes text request count frame a b r same h printed)
+framed_or_cut bytes text request count frame a b (Err NoMemory) r same h printed done none = none
+framed_or_cut bytes text request count frame a b (Err (Read path)) r same h printed done wrong = absurd wrong
+framed_or_cut bytes text request count frame a b (Err (Create path)) r same h printed done wrong = absurd wrong
+framed_or_cut bytes text request count frame a b (Err Output) r same h printed done part =
+    (frame_text request.raw frame, inl (frame, has_frame bytes text request frame r (subst (λ (n : ℕ). GivesFrame text n request.page (Ok frame)) same h), refl), part)
+
+-- the line is printed, or not to its end
+cut_line : (bytes text : List ℕ) (request : FrameScriptRequest) (fault : ScriptFrameFault) (a b : Option (List ℕ)) (failure : Failure) → IsReadOf bytes text
+    → GivesFrame text (count_of request) request.page (Err fault) → IsFrameReason fault → IsSome (frame_fault_text fault)
+    → IfSome (frame_fault_text fault) (λ line. IsUnprinted (Appends a b) (line ++ codes "\n") failure) → ShowsScriptFrame bytes request (Appends a b) (Err failure)
+cut_line bytes text request fault a b failure r h reason some failed =
+    let found = printed_line (frame_fault_text fault) (λ line. IsUnprinted (Appends a b) (line ++ codes "\n") failure) some failed in
+    let lacks : LacksFrame bytes request found.0 = record {
+      fault = fault;
+      text = (text, r);
+      gives = in_whole bytes text (count_of request) request.page fault r h reason;
+      reason = reason;
+      line_is = found.1;
+    } in
+    of_failure failure found.0 lacks found.2
+  where
+    of_failure : (failure : Failure) (line : List ℕ) → LacksFrame bytes request line → IsUnprinted (Appends a b) (line ++ codes "\n") failure → ShowsScriptFrame bytes request (Appends a b) (Err failure)
+    of_failure NoMemory line lacks none = none
+    of_failure (Read path) line lacks wrong = absurd wrong
+    of_failure (Create path) line lacks wrong = absurd wrong
+    of_failure Output line lacks part = (line ++ codes "\n", inr (line, lacks, refl), part)
+
 ended : (bytes text : List ℕ) (request : FrameScriptRequest) (fault : ScriptFrameFault) (a b : Option (List ℕ)) (result : Result Status Failure) → IsReadOf bytes text
     → GivesFrame text (count_of request) request.page (Err fault) → IsFrameReason fault → IsSome (frame_fault_text fault)
-    → OnOk result (IfSome (frame_fault_text fault) (λ line. Appends a b (line ++ codes "\n"))) → IfOk result (λ status. status ≡ Refused) → IfErr result (λ failure. failure ≡ Output)
-    → ShowsScriptFrame bytes request (Appends a b) result
+    → OnOk result (IfSome (frame_fault_text fault) (λ line. Appends a b (line ++ codes "\n"))) → IfOk result (λ status. status ≡ Refused)
+    → IfErr result (λ failure. IfSome (frame_fault_text fault) (λ line. IsUnprinted (Appends a b) (line ++ codes "\n") failure)) → ShowsScriptFrame bytes request (Appends a b) result
 ended bytes text request fault a b (Ok status) r h reason some printed same failed = unframed bytes text request fault a b status r h reason some printed same
-ended bytes text request fault a b (Err failure) r h reason some printed same failed =
-    subst (λ (f : Failure). ShowsScriptFrame bytes request (Appends a b) (Err f)) (sym failed) tt
+ended bytes text request fault a b (Err failure) r h reason some printed same failed = cut_line bytes text request fault a b failure r h reason some failed
 
 pub refused : (bytes text : List ℕ) (request : FrameScriptRequest) (count : ℕ) (fault : ScriptFrameFault) (a b : Option (List ℕ)) (result : Result Status Failure) → IsReadOf bytes text
     → count ≡ count_of request → GivesFrame text count request.page (Err fault) → IsFrameReason fault → IsSome (frame_fault_text fault)
-    → OnOk result (IfSome (frame_fault_text fault) (λ line. Appends a b (line ++ codes "\n"))) → IfOk result (λ status. status ≡ Refused) → IfErr result (λ failure. failure ≡ Output)
-    → ShowsScriptFrame bytes request (Appends a b) result
+    → OnOk result (IfSome (frame_fault_text fault) (λ line. Appends a b (line ++ codes "\n"))) → IfOk result (λ status. status ≡ Refused)
+    → IfErr result (λ failure. IfSome (frame_fault_text fault) (λ line. IsUnprinted (Appends a b) (line ++ codes "\n") failure)) → ShowsScriptFrame bytes request (Appends a b) result
 refused bytes text request count fault a b result r same h reason some printed is failed =
     ended bytes text request fault a b result r (subst (λ (n : ℕ). GivesFrame text n request.page (Err fault)) same h) reason some printed is failed

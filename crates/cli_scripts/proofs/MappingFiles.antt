@@ -8,8 +8,7 @@ use Rattle.console.specs.declared.exit.Failure.{Failure}
 use Rattle.console.specs.declared.exit.Failure.TheVariants.{Memory, Read, Create, Output}
 use Rattle.console.specs.declared.exit.Status.{Status}
 use Rattle.console.specs.declared.exit.Status.TheVariants.{Done, Refused}
-use Rattle.console.proofs.Writing.{written_whole}
-use Rattle.console.proofs.Worlds.{stays_then_stays, stays_then_but, but_then_written}
+use Rattle.console.proofs.Worlds.{stays_then_stays, stays_then_but}
 use Rattle.plan_explain.specs.declared.warning.Warning.{Warning}
 use Rattle.plan_map.specs.declared.layout.Layout.{Layout}
 use Rattle.plan_map.specs.declared.layout.Layout.TheVariants.{One, Apart}

@@ -1,5 +1,5 @@
 -- What `frame --script` prints of a script file with known bytes, and how it ends.
-use Rattle.std.specs.Prelude.{◌≡◌, ◌≢◌, ℕ, ◌-◌, nat_lt, if◌then◌else◌, List, [], ◌++◌, codes, Option, Some, None, Result, Ok, Err, IsUtf8}
+use Rattle.std.specs.Prelude.{◌≡◌, ◌≢◌, ◌⊎◌, ℕ, ◌-◌, nat_lt, if◌then◌else◌, List, [], ◌++◌, codes, Option, Some, None, Result, Ok, Err, IsUtf8}
 use Rattle.console.specs.declared.exit.Failure.{Failure}
 use Rattle.console.specs.declared.exit.Failure.TheVariants.{Memory as NoMemory, Read, Create, Output}
 use Rattle.console.specs.declared.exit.Status.{Status}
@@ -16,6 +16,7 @@ use Rattle.cli_scripts.specs.declared.frame_script.ScriptFrameFault.TheVariants.
 use Rattle.cli_scripts.specs.FileTexts.{IsText}
 use Rattle.cli_scripts.specs.RefusalTexts.{refused_line, config_text, script_text}
 use Rattle.cli_scripts.specs.ScriptFrame.{GivesFrame}
+use Rattle.cli_scripts.specs.Unprinted.{PrintsPart}
 
 -- ---- lines of refusals
 
@@ -58,7 +59,14 @@ pub record LacksFrame (bytes : List ℕ) (request : FrameScriptRequest) (line : 
   pub reason : IsFrameReason fault
   pub line_is : frame_fault_text fault ≡ Some line
 
--- the frame is printed, or why there is none; nothing is claimed of what was printed where printing failed
+-- what is printed: the frame, or the line of why there is none
+abbrev pub IsFrameAnswer : List ℕ → FrameScriptRequest → List ℕ → Type 0
+IsFrameAnswer bytes request text =
+    ((frame : List ℕ) × HasFrame bytes request frame × (text ≡ frame_text request.raw frame))
+    ⊎ ((line : List ℕ) × LacksFrame bytes request line × (text ≡ line ++ codes "\n"))
+
+-- the frame is printed, or why there is none; a part of this, from the first byte on, where the output failed; nothing
+-- where the file could not be read, or there was no memory
 abbrev pub ShowsScriptFrame : List ℕ → FrameScriptRequest → (List ℕ → Type 0) → Result Status Failure → Type 0
 ShowsScriptFrame bytes request Prints (Ok Done) = (frame : List ℕ) × HasFrame bytes request frame × Prints (frame_text request.raw frame)
 ShowsScriptFrame bytes request Prints (Ok Refused) = (line : List ℕ) × LacksFrame bytes request line × Prints (line ++ codes "\n")
@@ -67,4 +75,4 @@ ShowsScriptFrame bytes request Prints (Ok Faulty) = ⊥
 ShowsScriptFrame bytes request Prints (Err NoMemory) = Prints []
 ShowsScriptFrame bytes request Prints (Err (Read path)) = (path.now ≡ request.script.now) × Prints []
 ShowsScriptFrame bytes request Prints (Err (Create path)) = ⊥
-ShowsScriptFrame bytes request Prints (Err Output) = Unit {0}
+ShowsScriptFrame bytes request Prints (Err Output) = (text : List ℕ) × IsFrameAnswer bytes request text × PrintsPart Prints text

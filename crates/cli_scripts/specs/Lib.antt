@@ -12,4 +12,5 @@ pub mod Planned
 pub mod RefusalTexts
 pub mod Refusing
 pub mod ScriptFrame
+pub mod Unprinted
 pub mod Verdict

@@ -1,5 +1,5 @@
 -- What `listen --script` prints of a stream of FIBs with known bytes, and how it ends.
-use Rattle.std.specs.Prelude.{◌≡◌, ℕ, nat_lt, if◌then◌else◌, List, [], ◌++◌, codes, Option, Some, None, Result, Ok, Err}
+use Rattle.std.specs.Prelude.{◌≡◌, ◌⊎◌, ℕ, nat_lt, if◌then◌else◌, List, [], ◌++◌, codes, Option, Some, None, Result, Ok, Err}
 use Rattle.console.specs.declared.exit.Failure.{Failure}
 use Rattle.console.specs.declared.exit.Failure.TheVariants.{Memory, Read, Create, Output}
 use Rattle.console.specs.declared.exit.Status.{Status}
@@ -20,6 +20,7 @@ use Rattle.cli_streams.specs.declared.listen.StreamFault.{StreamFault}
 use Rattle.cli_scripts.specs.declared.listen_script.ListenScriptRequest.{ListenScriptRequest}
 use Rattle.cli_scripts.specs.declared.listen_script.Named.{Named}
 use Rattle.cli_scripts.specs.Naming.{HearsNamed}
+use Rattle.cli_scripts.specs.Unprinted.{PrintsPart}
 
 -- ---- the header
 
@@ -73,8 +74,13 @@ pub record IsScriptText (request : ListenScriptRequest) (named : Named) (text : 
   pub shown : Shows named.heard.listener.current configuration
   pub text_of : IsTextOf (header_of request eid configuration) configuration text
 
--- the script of what is decoded is printed, or why there is none; nothing is claimed of what was printed where
--- printing failed
+-- what is printed of what is decoded: the script, or the line of why there is none
+abbrev pub IsAnswer : ListenScriptRequest → Result Named StreamFault → List ℕ → Type 0
+IsAnswer request (Ok named) text = IsScriptText request named text ⊎ IsNotNamed named.eid named.heard.listener.current text
+IsAnswer request (Err fault) text = text ≡ refusal_line fault
+
+-- the script of what is decoded is printed, or why there is none; a part of this, from the first byte on, where the
+-- output failed; nothing where there was no memory
 abbrev pub ShowsNamed : ListenScriptRequest → Result Named StreamFault → (List ℕ → Type 0) → Result Status Failure → Type 0
 ShowsNamed request (Ok named) Prints (Ok Done) = (text : List ℕ) × IsScriptText request named text × Prints text
 ShowsNamed request (Err fault) Prints (Ok Done) = ⊥
@@ -84,7 +90,7 @@ ShowsNamed request heard Prints (Ok Faulty) = ⊥
 ShowsNamed request heard Prints (Err Memory) = Prints []
 ShowsNamed request heard Prints (Err (Read path)) = ⊥
 ShowsNamed request heard Prints (Err (Create path)) = ⊥
-ShowsNamed request heard Prints (Err Output) = Unit {0}
+ShowsNamed request heard Prints (Err Output) = (text : List ℕ) × IsAnswer request heard text × PrintsPart Prints text
 
 -- the stream is decoded, and the result is printed; or it can't be read, or there is no memory to read it
 abbrev pub ShowsScript : ListenScriptRequest → List ℕ → (List ℕ → Type 0) → Result Status Failure → Type 0
@@ -92,4 +98,4 @@ ShowsScript request stream Prints (Ok status) = (heard : Result Named StreamFaul
 ShowsScript request stream Prints (Err Memory) = Prints []
 ShowsScript request stream Prints (Err (Read path)) = (path.now ≡ request.file.now) × Prints []
 ShowsScript request stream Prints (Err (Create path)) = ⊥
-ShowsScript request stream Prints (Err Output) = (heard : Result Named StreamFault) × HearsNamed stream heard
+ShowsScript request stream Prints (Err Output) = (heard : Result Named StreamFault) × HearsNamed stream heard × ShowsNamed request heard Prints (Err Output)

@@ -1,16 +1,21 @@
 //! `dabplan frame --script`: prints one frame of the initial configuration of a script.
 
-ghost use Rattle.std.specs.Prelude.{◌≡◌, ◌≢◌, ◌<◌, ℕ, List, codes, take, IfErr, IfSome, IsSome};
+ghost use Rattle.std.specs.Prelude.{◌≡◌, ◌≢◌, ◌<◌, ◌++◌, ℕ, List, codes, take, IfErr, IfOk, IfSome, IsSome, OnOk};
 ghost use Rattle.std.specs.Io.KnownBytes.{Appends};
 ghost use Rattle.console.specs.World.{Stays};
 ghost use Rattle.mux_types.specs.declared.limits.TheConstants.{COUNTS};
+ghost use Rattle.console.specs.declared.exit.Status.TheVariants.{Done, Refused};
+ghost use Rattle.cli_streams.specs.Failing.{IsInputFailure, IsSilentUnread};
+ghost use Rattle.cli_streams.specs.Frame.{frame_text};
 ghost use Rattle.cli_scripts.specs.FramingScripts.{ShowsScriptFrame, IsFrameReason, count_of, frame_fault_text};
 ghost use Rattle.cli_scripts.specs.ScriptFrame.{GivesFrame};
+ghost use Rattle.cli_scripts.specs.Unprinted.{IsPrintFailure, IsUnprinted};
 ghost use Rattle.cli_scripts.specs.declared.frame_script.ScriptFrameFault.TheVariants.{Memory as Unavailable};
 
 use crate::diff::print_refused;
 use crate::frame_text::FrameText;
 use crate::script_file::{read_script_input, script_text};
+use crate::whole_text::print_text;
 use cli_streams::frame::{FrameFault, page_of, print_frame};
 use console::exit::{Failure, Status};
 use console::files::Files;
@@ -52,7 +57,8 @@ pub enum ScriptFrameFault {
 
 /// Runs `frame --script`: prints the FIBs of the frame, or why there is none.
 ///
-/// `Read` if the script can't be read, or is not UTF-8; `Output` if `out` fails; `Memory` if out of memory.
+/// `Read` if the script can't be read, or is not UTF-8, or `Memory` if out of memory: nothing is printed
+/// then. `Output` if `out` fails: it has taken a part, from the first byte on.
 pub fn show_script_frame<'a, F: Files, W: Write>(
     alloc: Global,
     request: &FrameScriptRequest<'a>,
@@ -65,6 +71,8 @@ pub fn show_script_frame<'a, F: Files, W: Write>(
     ensures file { request.now.script.now ≢ codes "-"
         → IfSome (F.known files.old request.now.script.now) (λ bytes. ShowsScriptFrame bytes
         request.now (Appends (W.contents out.old) (W.contents out.new)) result) }
+    ensures failed { IfErr result (IsInputFailure request.now.script.now) }
+    ensures unread { IfErr result (IsSilentUnread (W.contents out.old) (W.contents out.new)) }
     ensures files { Stays (F.world files.old) (F.world files.new) }
 {
     match read_script_input(alloc, files, request.script) {
@@ -80,22 +88,64 @@ fn show_frame_of<'a, W: Write>(
     bytes: &[u8],
     out: &mut W,
 ) -> Result<Status, Failure<'a>>
-    ensures { (file : List ℕ) → bytes.now ≡ take 1048581 file → ShowsScriptFrame file request.now
+    ensures shows { (file : List ℕ) → bytes.now ≡ take 1048581 file → ShowsScriptFrame file request.now
         (Appends (W.contents out.old) (W.contents out.new)) result }
+    ensures failed { IfErr result (IsInputFailure request.now.script.now) }
+    ensures unread { IfErr result (IsSilentUnread (W.contents out.old) (W.contents out.new)) }
 {
     let text = match script_text(bytes, request.script) {
         Ok(text) => text,
         Err(failure) => return Err(failure),
     };
     match frame_of_script(alloc, text, count_of(request), request.page) {
-        Ok(frame) => match print_frame(&frame, request.raw, out) {
-            Ok(()) => Ok(Status::Done),
-            Err(_) => Err(Failure::Output),
-        },
+        Ok(frame) => print_fibs(alloc, &frame, request.raw, out),
         Err(fault) => match fault {
             ScriptFrameFault::Memory => Err(Failure::Memory),
-            _ => print_refused(&FrameText(fault), out),
+            _ => print_fault(alloc, fault, out),
         },
+    }
+}
+
+/// Prints the FIBs of a frame as bytes or as digits.
+fn print_fibs<'a, W: Write>(
+    alloc: Global,
+    frame: &FibFrame,
+    raw: bool,
+    out: &mut W,
+) -> Result<Status, Failure<'a>>
+    ensures printed { OnOk result (Appends (W.contents out.old) (W.contents out.new)
+        (frame_text raw frame.now)) }
+    ensures done { IfOk result (λ status. status ≡ Done) }
+    ensures failed { IfErr result
+        (IsUnprinted (Appends (W.contents out.old) (W.contents out.new))
+        (frame_text raw frame.now)) }
+    ensures why { IfErr result IsPrintFailure }
+{
+    let mut text: Vec<u8> = Vec::new(alloc);
+    match print_frame(frame, raw, &mut text) {
+        Ok(()) => print_text(text.as_slice(), Status::Done, out),
+        Err(_) => Err(Failure::Memory),
+    }
+}
+
+/// Prints why a script gives no frame.
+fn print_fault<'a, W: Write>(
+    alloc: Global,
+    fault: ScriptFrameFault,
+    out: &mut W,
+) -> Result<Status, Failure<'a>>
+    ensures printed { OnOk result (IfSome (frame_fault_text fault) (λ line.
+        Appends (W.contents out.old) (W.contents out.new) (line ++ codes "\n"))) }
+    ensures refused { IfOk result (λ status. status ≡ Refused) }
+    ensures failed { IfErr result (λ failure. IfSome (frame_fault_text fault) (λ line.
+        IsUnprinted (Appends (W.contents out.old) (W.contents out.new))
+        (line ++ codes "\n") failure)) }
+    ensures why { IfErr result IsPrintFailure }
+{
+    let mut line: Vec<u8> = Vec::new(alloc);
+    match print_refused(&FrameText(fault), &mut line) {
+        Ok(_) => print_text(line.as_slice(), Status::Refused, out),
+        Err(_) => Err(Failure::Memory),
     }
 }
 

@@ -15,3 +15,4 @@ mod refusal_text;
 pub mod script_file;
 pub mod script_map;
 pub mod verify;
+mod whole_text;

@@ -1,19 +1,22 @@
 //! `dabplan listen --script`: prints the current configuration of a stream of FIBs as a script.
 
-ghost use Rattle.std.specs.Prelude.{◌≡◌, ◌≢◌, ◌⊎◌, ℕ, ◌≤◌, ◌++◌, [], List, Option, codes, Ok, IfOk, IfErr, OnOk, IfSome};
+ghost use Rattle.std.specs.Prelude.{◌≡◌, ◌≢◌, ℕ, ◌≤◌, ◌++◌, List, Option, codes, Ok, IfOk, IfErr, OnOk, IfSome};
 ghost use Rattle.std.specs.Io.KnownBytes.{Appends, Consumes, IsAtEnd};
 ghost use Rattle.console.specs.World.{World, Becomes};
-ghost use Rattle.console.specs.declared.exit.Failure.TheVariants.{Memory, Output};
 ghost use Rattle.console.specs.declared.exit.Status.TheVariants.{Done, Refused};
 ghost use Rattle.mux_types.specs.declared.entry.Entry.{Entry as EntryOf};
 ghost use Rattle.fib_reader.specs.Raw.{IsValue};
 ghost use Rattle.plan_code.specs.Program.{IsPlan};
 ghost use Rattle.script_config.specs.Texts.{IsTextOf};
 ghost use Rattle.stream_monitor.specs.Hinting.{IsHinted, OnlyHints};
+ghost use Rattle.cli_streams.specs.Failing.{IsInputFailure, IsSilentUnread};
 ghost use Rattle.cli_streams.specs.Lines.{head_line};
+ghost use Rattle.cli_streams.specs.Listing.{refusal_line};
 ghost use Rattle.cli_scripts.specs.ListenScript.{ShowsScript, ShowsNamed, clamped, header_of};
 ghost use Rattle.cli_scripts.specs.Naming.{HearsNamed, ended_named};
+ghost use Rattle.cli_scripts.specs.Unprinted.{IsUnprintedOf};
 
+use crate::whole_text::print_text;
 use cli_streams::entries::print_head;
 use cli_streams::listen::{Heard, MOST_PIECES, StreamFault};
 use console::exit::{Failure, Status, pieces_of};
@@ -56,8 +59,9 @@ pub struct Named {
 /// Runs `listen --script`: prints the script of the current configuration at the end of the file, or of
 /// standard input if the path is `-`.
 ///
-/// `Read` if the file can't be read; `Output` if `out` fails; `Memory` if out of memory.
-#[tactic(auto, using(crate::proofs::ListeningScripts::unread, crate::proofs::ListeningScripts::shown, stream_monitor::proofs::Hinted::not_hinted))]
+/// `Read` if the file can't be read, or `Memory` if out of memory: nothing is printed then. `Output` if
+/// `out` fails: it has taken a part, from the first byte on.
+#[tactic(auto, using(crate::proofs::CutTexts::unread_silent, crate::proofs::CutTexts::unread_why, crate::proofs::ListeningScripts::unread, crate::proofs::ListeningScripts::shown, crate::proofs::ListeningScripts::shown_input, crate::proofs::ListeningScripts::shown_read, stream_monitor::proofs::Hinted::not_hinted))]
 pub fn show_script<'a, F: Files, W: Write>(
     alloc: Global,
     request: &ListenScriptRequest<'a>,
@@ -69,6 +73,8 @@ pub fn show_script<'a, F: Files, W: Write>(
     ensures file { request.now.file.now ≢ codes "-"
         → IfSome (F.known files.old request.now.file.now) (λ stream. ShowsScript request.now stream
         (Appends (W.contents out.old) (W.contents out.new)) result) }
+    ensures failed { IfErr result (IsInputFailure request.now.file.now) }
+    ensures unread { IfErr result (IsSilentUnread (W.contents out.old) (W.contents out.new)) }
     ensures hinted { Becomes (IsHinted request.now.file.now)
         (F.world files.old) (F.world files.new) }
 {
@@ -145,20 +151,17 @@ fn print_heard<'a, W: Write>(
 {
     match heard {
         Ok(named) => print_named(alloc, request, named, out),
-        Err(StreamFault::NotWhole) => print_line(b"refused: not whole FIBs\n", out),
-        Err(StreamFault::Full) => print_line(b"refused: Full\n", out),
+        Err(fault) => print_text(line_of(*fault), Status::Refused, out),
     }
 }
 
-/// Prints the line of a refusal.
-fn print_line<'a, W: Write>(line: &[u8], out: &mut W) -> Result<Status, Failure<'a>>
-    ensures printed { OnOk result (Appends (W.contents out.old) (W.contents out.new) line.now) }
-    ensures refused { IfOk result (λ status. status ≡ Refused) }
-    ensures failed { IfErr result (λ failure. failure ≡ Output) }
+/// The line of a refusal.
+fn line_of(fault: StreamFault) -> &'static [u8]
+    ensures { result.now ≡ refusal_line fault }
 {
-    match out.write_all(line) {
-        Ok(()) => Ok(Status::Refused),
-        Err(_) => Err(Failure::Output),
+    match fault {
+        StreamFault::NotWhole => b"refused: not whole FIBs\n",
+        StreamFault::Full => b"refused: Full\n",
     }
 }
 
@@ -173,11 +176,11 @@ fn print_named<'a, W: Write>(
         (Appends (W.contents out.old) (W.contents out.new)) result }
 {
     let Some(eid) = named.eid else {
-        return print_line(b"refused: no ensemble\n", out);
+        return print_text(b"refused: no ensemble\n", Status::Refused, out);
     };
     match config_heard(named.heard.listener.current()) {
         Ok(config) => print_config(alloc, request, eid, &config, out),
-        Err(entry) => print_unscriptable(&entry, out),
+        Err(entry) => print_unscriptable(alloc, &entry, out),
     }
 }
 
@@ -193,18 +196,16 @@ fn print_config<'a, W: Write>(
         × IsTextOf (header_of request.now eid config.now) config.now text
         × Appends (W.contents out.old) (W.contents out.new) text) }
     ensures done { IfOk result (λ status. status ≡ Done) }
-    ensures failed { IfErr result (λ failure. (failure ≡ Output) ⊎ ((failure ≡ Memory)
-        × Appends (W.contents out.old) (W.contents out.new) [])) }
+    ensures failed { IfErr result
+        (IsUnprintedOf (Appends (W.contents out.old) (W.contents out.new))
+        (IsTextOf (header_of request.now eid config.now) config.now)) }
 {
     let header = header_for(request, eid, config);
     let text = match config_text(alloc, header, config) {
         Ok(text) => text,
         Err(_) => return Err(Failure::Memory),
     };
-    match out.write_all(text.as_str().as_bytes()) {
-        Ok(()) => Ok(Status::Done),
-        Err(_) => Err(Failure::Output),
-    }
+    print_text(text.as_str().as_bytes(), Status::Done, out)
 }
 
 /// A number within bounds, or the nearest one.
@@ -242,17 +243,25 @@ fn header_for(request: &ListenScriptRequest<'_>, eid: u16, config: &Config) -> P
 }
 
 /// Prints that an entry is part of no configuration.
-fn print_unscriptable<'a, W: Write>(entry: &OwnedEntry, out: &mut W) -> Result<Status, Failure<'a>>
+fn print_unscriptable<'a, W: Write>(
+    alloc: Global,
+    entry: &OwnedEntry,
+    out: &mut W,
+) -> Result<Status, Failure<'a>>
     ensures printed { OnOk result ((value : EntryOf) × IsValue entry.now value
         × Appends (W.contents out.old) (W.contents out.new)
         (codes "refused: cannot be written: " ++ head_line value)) }
     ensures refused { IfOk result (λ status. status ≡ Refused) }
-    ensures failed { IfErr result (λ failure. failure ≡ Output) }
+    ensures failed { IfErr result
+        (IsUnprintedOf (Appends (W.contents out.old) (W.contents out.new))
+        (λ text. (value : EntryOf) × IsValue entry.now value
+        × (text ≡ codes "refused: cannot be written: " ++ head_line value))) }
 {
     let value = entry.as_raw_entry().value();
-    match print_unsaid(&value, out) {
-        Ok(()) => Ok(Status::Refused),
-        Err(_) => Err(Failure::Output),
+    let mut line: Vec<u8> = Vec::new(alloc);
+    match print_unsaid(&value, &mut line) {
+        Ok(()) => print_text(line.as_slice(), Status::Refused, out),
+        Err(_) => Err(Failure::Memory),
     }
 }
 
