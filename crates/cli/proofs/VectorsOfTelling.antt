@@ -1,5 +1,5 @@
 -- Lines on standard error: what it may have taken, and what not.
-use Rattle.std.proofs.Common.{◌≡◌, ◌⊎◌, ℕ, zero, suc, List, [], ◌∷◌, ◌++◌, None, Some, Ok, Err, inl, inr, refl, subst}
+use Rattle.std.proofs.Common.{◌≡◌, ◌⊎◌, ℕ, zero, suc, true, false, List, [], ◌∷◌, ◌++◌, length, Option, None, Some, Ok, Err, inl, inr, refl, ap, subst, arith}
 use Rattle.std.specs.Prelude.{codes, take}
 use Rattle.console.specs.World.{World}
 use Rattle.console.specs.declared.exit.Failure.TheVariants.{Output}
@@ -57,6 +57,10 @@ an_end_as_json = refl
 no_line_of_an_end : ending_line true (Live (Stopped InputFailed)) ≡ None → ⊥
 no_line_of_an_end e = absurd cc
 
+abbrev errors_of : Option World → List ℕ
+errors_of None = []
+errors_of (Some w) = w.errors
+
 -- a run that comes to its end is silent
 silent_end : TellsEnding false (Ok tt) (Some (taken [])) (Some (taken (7 ∷ []))) → ⊥
-silent_end e = absurd cc
+silent_end e = let count : 1 ≡ 0 = ap (λ (o : Option World). length (errors_of o)) e in absurd (omega (arith, count))

@@ -98,7 +98,10 @@ RunsFrame r given before after ended =
 
 abbrev pub RunsFrameScript : FrameScriptRequest → Inputs → Outputs → Outputs → Result Status Failure → Type 0
 RunsFrameScript r given before after ended =
-    OfInput given r.script.now (λ bytes. ShowsScriptFrame bytes r (Prints before after) ended) × KeepsWorld before after
+    OfInput given r.script.now (λ bytes. ShowsScriptFrame bytes r (Prints before after) ended)
+    × IfErr ended (IsInputFailure r.script.now)
+    × IfErr ended (IsSilentUnread before.printed after.printed)
+    × KeepsWorld before after
 
 abbrev pub RunsListen : ListenRequest → Inputs → Outputs → Outputs → Result Status Failure → Type 0
 RunsListen r given before after ended =
@@ -111,6 +114,8 @@ RunsListen r given before after ended =
 abbrev pub RunsListenScript : ListenScriptRequest → Inputs → Outputs → Outputs → Result Status Failure → Type 0
 RunsListenScript r given before after ended =
     OfInput given r.file.now (λ stream. ShowsScript r stream (Prints before after) ended)
+    × IfErr ended (IsInputFailure r.file.now)
+    × IfErr ended (IsSilentUnread before.printed after.printed)
     × OnlyHints r.file.now before after
 
 abbrev pub RunsDiff : DiffRequest → Inputs → Outputs → Outputs → Result Status Failure → Type 0

@@ -1,6 +1,5 @@
-use Rattle.std.proofs.Common.{◌≡◌, ℕ, List, Some, IfSome, subst}
+use Rattle.std.proofs.Common.{ℕ, List, Some, IfSome, subst}
 use Rattle.std.specs.Prelude.{take}
-use Rattle.plan_session.specs.PartReading.{Fits}
 use Rattle.plan_session.specs.Playback.{asked_from}
 use Rattle.cli_plans.specs.PlayStreams.{StreamsPlay}
 use Rattle.cli_scripts.specs.Compiling.{CompilesStream}
