@@ -3,10 +3,10 @@
 //!
 //! [`explain_fault`] explains why a text is not a script, [`explain_script`] why a script is not compiled, and
 //! [`explain_code`] why a code is refused. Most facts come from the functions that refuse: `parse` decides what is valid
-//! at a position, `Flow::apply` is called up to the refused statement, and the longest path is found with `compile`.
-//! Which statements did something last is found over all paths (`past`), which are the ways through the script: what these
-//! are is defined in `specs/Ways.antt`, and [`laws::ways`] says how control takes them. Counters and allowances of a code,
-//! pages and limits are looked up here.
+//! at a position, `Flow::apply` is called up to the refused statement, and the costs are those that `frame_cost` finds.
+//! Which statements did something last is found over all paths (`past`), which are the ways through the script or the
+//! code: what these are is defined in `specs/Ways.antt` and `specs/CodeWays.antt`, and [`laws`] says how control takes
+//! them. Counters and allowances of a code, pages and limits are looked up here.
 //!
 //! [`warnings_of`] returns the warnings that are true of a script and its code: all of them, and no other ones. When a
 //! [`Warning`] is true is defined in `specs/Warnings.antt`; [`put_warning`] writes its line.
