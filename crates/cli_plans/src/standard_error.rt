@@ -95,9 +95,9 @@ impl<'f, S: ErrorStart, F: Files> StandardError<'f, S, F> {
         ensures shown { self.new.shown.messages
             ≡ self.old.shown.messages ++ take self.old.held self.old.messages }
     {
-        let messages = self.messages;
         for index in 0..self.held {
-            self.show(messages[index]);
+            let message = self.messages[index];
+            self.show(message);
         }
     }
 
