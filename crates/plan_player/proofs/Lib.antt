@@ -20,3 +20,4 @@ mod CountTables
 mod Recounting
 mod Alike
 mod Cycles
+mod UnderAnyPlan

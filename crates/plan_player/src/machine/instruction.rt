@@ -1,7 +1,8 @@
 //! Executing one instruction that doesn't trap.
 
 ghost use Rattle.std.specs.Prelude.{◌≡◌, ◌<◌};
-ghost use Rattle.plan_code.specs.Machine.{IsAllowed, effect, suspend};
+ghost use Rattle.plan_code.specs.Machine.{HasNoFault, IsAllowed, IsCounterSet, effect, suspend};
+ghost use Rattle.plan_code.specs.declared.plan.Plan.{Plan as AnyPlan};
 ghost use Rattle.plan_code.specs.declared.instr.Instr.TheVariants.{CommitIn, CommitAt, Settle, Edit as Edits, Test, Jump, Set, Loop, End};
 ghost use Rattle.plan_player.specs.Positions.{state_of};
 
@@ -42,13 +43,11 @@ fn commit_at<S: Store>(plan: &Plan, count: u16, machine: &mut Machine<S>)
 }
 
 /// Waits for the swap if one is pending, and otherwise continues.
-fn settle<S: Store>(plan: &Plan, machine: &mut Machine<S>)
+fn settle<S: Store>(machine: &mut Machine<S>)
     requires { machine.old.pc < 65535 }
-    ensures { state_of S.content machine.new ≡ effect plan.now Settle
+    ensures { (plan : AnyPlan) → state_of S.content machine.new ≡ effect plan Settle
         (state_of S.content machine.old) }
 {
-    // Read for the proof: a value's invariant is known where the value is read.
-    let _notice = plan.notice;
     match machine.left {
         None => machine.pc += 1,
         Some(_) => suspend(Hold::WaitsSwap, machine),
@@ -56,36 +55,30 @@ fn settle<S: Store>(plan: &Plan, machine: &mut Machine<S>)
 }
 
 /// Ends the code: the machine never resumes.
-fn end<S: Store>(plan: &Plan, machine: &mut Machine<S>)
-    ensures { state_of S.content machine.new ≡ effect plan.now End
+fn end<S: Store>(machine: &mut Machine<S>)
+    ensures { (plan : AnyPlan) → state_of S.content machine.new ≡ effect plan End
         (state_of S.content machine.old) }
 {
-    // Read for the proof: a value's invariant is known where the value is read.
-    let _notice = plan.notice;
     machine.hold = Hold::Ended;
 }
 
 /// Edits the next configuration.
-fn edit<S: Store>(plan: &Plan, edit: Edit, machine: &mut Machine<S>)
+fn edit<S: Store>(edit: Edit, machine: &mut Machine<S>)
     requires within { machine.old.pc < 65535 }
-    requires allowed { IsAllowed plan.now (Edits edit) (state_of S.content machine.old) }
-    ensures { state_of S.content machine.new ≡ effect plan.now (Edits edit)
+    requires fine { HasNoFault edit (S.content machine.old.next) }
+    ensures { (plan : AnyPlan) → state_of S.content machine.new ≡ effect plan (Edits edit)
         (state_of S.content machine.old) }
 {
-    // Read for the proof: a value's invariant is known where the value is read.
-    let _notice = plan.notice;
     edit.apply_known(&mut machine.next);
     machine.pc += 1;
 }
 
 /// Continues if the contact is closed, and otherwise jumps to the target.
-fn test<S: Store>(plan: &Plan, contact: ContactId, target: u16, machine: &mut Machine<S>)
+fn test<S: Store>(contact: ContactId, target: u16, machine: &mut Machine<S>)
     requires { machine.old.pc < 65535 }
-    ensures { state_of S.content machine.new ≡ effect plan.now (Test contact target)
+    ensures { (plan : AnyPlan) → state_of S.content machine.new ≡ effect plan (Test contact target)
         (state_of S.content machine.old) }
 {
-    // Read for the proof: a value's invariant is known where the value is read.
-    let _notice = plan.notice;
     if machine.contacts.is_closed(contact) {
         machine.pc += 1;
     } else {
@@ -94,36 +87,30 @@ fn test<S: Store>(plan: &Plan, contact: ContactId, target: u16, machine: &mut Ma
 }
 
 /// Jumps to the target.
-fn jump<S: Store>(plan: &Plan, target: u16, machine: &mut Machine<S>)
-    ensures { state_of S.content machine.new ≡ effect plan.now (Jump target)
+fn jump<S: Store>(target: u16, machine: &mut Machine<S>)
+    ensures { (plan : AnyPlan) → state_of S.content machine.new ≡ effect plan (Jump target)
         (state_of S.content machine.old) }
 {
-    // Read for the proof: a value's invariant is known where the value is read.
-    let _notice = plan.notice;
     machine.pc = target;
 }
 
 /// Sets a counter.
-fn set<S: Store>(plan: &Plan, counter: CounterId, times: Times, machine: &mut Machine<S>)
+fn set<S: Store>(counter: CounterId, times: Times, machine: &mut Machine<S>)
     requires { machine.old.pc < 65535 }
-    ensures { state_of S.content machine.new ≡ effect plan.now (Set counter times)
+    ensures { (plan : AnyPlan) → state_of S.content machine.new ≡ effect plan (Set counter times)
         (state_of S.content machine.old) }
 {
-    // Read for the proof: a value's invariant is known where the value is read.
-    let _notice = plan.notice;
     machine.counters[usize::from(counter.get())] = times.get();
     machine.pc += 1;
 }
 
 /// Decrements a counter, and jumps to the target if the result is not 0.
-fn repeat<S: Store>(plan: &Plan, counter: CounterId, target: u16, machine: &mut Machine<S>)
+fn repeat<S: Store>(counter: CounterId, target: u16, machine: &mut Machine<S>)
     requires within { machine.old.pc < 65535 }
-    requires allowed { IsAllowed plan.now (Loop counter target) (state_of S.content machine.old) }
-    ensures { state_of S.content machine.new ≡ effect plan.now (Loop counter target)
-        (state_of S.content machine.old) }
+    requires set { IsCounterSet (state_of S.content machine.old) counter }
+    ensures { (plan : AnyPlan) → state_of S.content machine.new
+        ≡ effect plan (Loop counter target) (state_of S.content machine.old) }
 {
-    // Read for the proof: a value's invariant is known where the value is read.
-    let _notice = plan.notice;
     let place = usize::from(counter.get());
     let times = machine.counters[place];
     machine.counters[place] = times - 1;
@@ -151,12 +138,12 @@ pub(crate) fn carry_out<S: Store>(plan: &Plan, instr: Instr, machine: &mut Machi
         Instr::CommitIn(delay) => commit_in(plan, delay, machine),
         Instr::CommitAt(count) => commit_at(plan, count, machine),
         Instr::Join => suspend(Hold::WaitsSwap, machine),
-        Instr::Settle => settle(plan, machine),
-        Instr::End => end(plan, machine),
-        Instr::Edit(change) => edit(plan, change, machine),
-        Instr::Test { contact, target } => test(plan, contact, target, machine),
-        Instr::Jump(target) => jump(plan, target, machine),
-        Instr::Set { counter, times } => set(plan, counter, times, machine),
-        Instr::Loop { counter, target } => repeat(plan, counter, target, machine),
+        Instr::Settle => settle(machine),
+        Instr::End => end(machine),
+        Instr::Edit(change) => edit(change, machine),
+        Instr::Test { contact, target } => test(contact, target, machine),
+        Instr::Jump(target) => jump(target, machine),
+        Instr::Set { counter, times } => set(counter, times, machine),
+        Instr::Loop { counter, target } => repeat(counter, target, machine),
     }
 }
