@@ -1,6 +1,6 @@
 -- What standard error takes of a live run: the lines of its messages.
 use Rattle.std.specs.Prelude.{◌≡◌, ℕ, ◌==◌, Bool, true, false, if◌then◌else◌, List, [], ◌∷◌, ◌++◌, length, drop, map, codes, Option}
-use Rattle.console.specs.World.{World, IsSame, HasReported}
+use Rattle.console.specs.World.{World, HasReportedAll}
 use Rattle.plan_live.specs.declared.message.Message.{Message}
 use Rattle.plan_live.specs.Messages.{json_of, message_text}
 use Rattle.cli_plans.specs.LateFiles.{is_known, world_in}
@@ -10,12 +10,9 @@ abbrev pub line_of : (json : Bool) → Message → List ℕ
 line_of true message = json_of message
 line_of false message = message_text message
 
--- standard error has taken the lines of these messages, one after another, of each line the whole or the front of it
--- where standard error failed, and nothing else; the files are as they were
+-- standard error has taken the lines of these messages, and nothing else; the files are as they were
 abbrev pub HasTaken : (json : Bool) → List Message → World → World → Type 0
-HasTaken json [] old new = IsSame old new
-HasTaken json (message ∷ messages) old new =
-    (mid : World) × HasReported (line_of json message) old mid × HasTaken json messages mid new
+HasTaken json messages old new = HasReportedAll (map (line_of json) messages) old new
 
 -- ---- below it
 

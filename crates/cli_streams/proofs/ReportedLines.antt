@@ -4,14 +4,14 @@ use Rattle.std.specs.Prelude.{Option, None, Some, Result, Ok, Err}
 use Rattle.std.specs.List.{concat}
 use Rattle.std.specs.Io.KnownBytes.{Consumes, Keeps}
 use Rattle.std.proofs.KnownBytes.{Consumes-trans, Keeps-trans}
-use Rattle.console.specs.World.{World, Becomes, HasReported, HasSameFiles, IsSame, Stays}
+use Rattle.console.specs.World.{World, Becomes, HasReported, HasReportedAll, HasSameFiles, IsSame, Stays}
 use Rattle.console.specs.Failures.{IsReadFailure}
 use Rattle.console.specs.declared.exit.Failure.{Failure}
 use Rattle.console.specs.declared.exit.Failure.TheVariants.{Memory, Read, Create, Output}
 use Rattle.console.specs.declared.exit.Status.{Status}
 use Rattle.console.specs.declared.exit.Status.TheVariants.{Done, Refused, Misused, Faulty}
 use Rattle.cli_streams.specs.Merged.{CutsHeld, IsUnread, Merges, ReadsFrame, Returns, TakesFrames}
-use Rattle.cli_streams.specs.MergeReports.{CantBeRead, HasReportedAll, IsMergeFault, IsStoppedBy, NamesOneOf, ReportsMerge, ReportsNext, ReportsStop, fault_text, stop_lines, summary_lines, last_lines}
+use Rattle.cli_streams.specs.MergeReports.{CantBeRead, IsMergeFault, IsStoppedBy, NamesOneOf, ReportsMerge, ReportsNext, ReportsStop, fault_text, stop_lines, summary_lines, last_lines}
 use Rattle.cli_streams.specs.declared.merge.MergeFault.{MergeFault}
 use Rattle.cli_streams.specs.declared.merge.MergeFault.TheVariants.{Failed, NotWhole, Write}
 use Rattle.cli_streams.specs.declared.merge.MergeSummary.{MergeSummary}

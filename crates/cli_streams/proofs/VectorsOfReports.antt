@@ -5,12 +5,12 @@ use Rattle.std.specs.List.{concat}
 use Rattle.std.specs.Fmt.{digits}
 use Rattle.std.specs.Io.KnownBytes.{Consumes}
 use Rattle.std.specs.Prelude.{Option, Some, None, Result, Ok, Err}
-use Rattle.console.specs.World.{World}
+use Rattle.console.specs.World.{World, HasReportedAll}
 use Rattle.console.specs.declared.exit.Failure.TheVariants.{Memory, Read, Create, Output}
 use Rattle.console.specs.declared.exit.Status.{Status}
 use Rattle.console.specs.declared.exit.Status.TheVariants.{Done, Refused}
 use Rattle.cli_streams.specs.Merged.{Returns}
-use Rattle.cli_streams.specs.MergeReports.{summary_text, fault_text, write_failed_text, EndsWithinFrame, CantBeRead, IsStoppedBy, NamesOneOf, IsMergeFault, HasReportedAll, stop_lines, summary_lines, last_lines, ReportsNext, ReportsStop, ReportsMerge}
+use Rattle.cli_streams.specs.MergeReports.{summary_text, fault_text, write_failed_text, EndsWithinFrame, CantBeRead, IsStoppedBy, NamesOneOf, IsMergeFault, stop_lines, summary_lines, last_lines, ReportsNext, ReportsStop, ReportsMerge}
 use Rattle.cli_streams.specs.declared.merge.MergeFault.{MergeFault}
 use Rattle.cli_streams.specs.declared.merge.MergeFault.TheVariants.{Failed, NotWhole, Write}
 use Rattle.cli_streams.specs.declared.merge.MergeSummary.{MergeSummary}

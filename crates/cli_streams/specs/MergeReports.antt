@@ -5,7 +5,7 @@ use Rattle.std.specs.List.{AllByRecursion, concat}
 use Rattle.std.specs.Io.KnownBytes.{Consumes, IsAtEnd}
 use Rattle.console.specs.Escapes.{escaped}
 use Rattle.console.specs.Failures.{failure_text}
-use Rattle.console.specs.World.{World, Becomes, Stays, IsSame, HasReported}
+use Rattle.console.specs.World.{World, Becomes, Stays, HasReported, HasReportedAll}
 use Rattle.console.specs.declared.escaped.Form.TheVariants.{Line as InLine}
 use Rattle.console.specs.declared.exit.Failure.{Failure}
 use Rattle.console.specs.declared.exit.Failure.TheVariants.{Memory, Read, Create, Output}
@@ -73,11 +73,6 @@ IsMergeFault path other_path (NotWhole p) = p.now ≡ path
 IsMergeFault path other_path (Write frames bytes) = Unit {0}
 
 -- ---- standard error
-
--- it has taken these lines in order, each whole, or the front of it where it failed; the files are as they were
-abbrev pub HasReportedAll : List (List ℕ) → World → World → Type 0
-HasReportedAll [] old new = IsSame old new
-HasReportedAll (line ∷ lines) old new = (then : World) × HasReported line old then × HasReportedAll lines then new
 
 -- why the frames of the multiplexer can't be read on, where they can't
 abbrev pub stop_lines : Option MergeFault → List (List ℕ)

@@ -1,7 +1,7 @@
 -- The relations of worlds in small cases, computed by the checker from the definitions: examples that hold and that fail.
 use Rattle.std.proofs.Common.{◌≡◌, ℕ, List, [], ◌∷◌, Option, None, Some, codes, take, zero, suc, refl}
 use Rattle.console.specs.Failures.{IsReadFailure, IsWriteFailure}
-use Rattle.console.specs.World.{World, Exists, HasSameOthers, IsSame, HasWritten, HasTouched, HasReported, Stays}
+use Rattle.console.specs.World.{World, Exists, HasSameOthers, IsSame, HasWritten, HasTouched, HasReported, HasReportedAll, Stays}
 use Rattle.console.specs.declared.exit.Failure.TheVariants.{Memory, Output}
 
 -- no file, or one of the empty path
@@ -69,6 +69,12 @@ front_of_three (suc n) e = absurd (let same : noted.errors ≡ 3 ∷ take n (cod
 
 not_its_front : HasReported (3 ∷ []) before noted → ⊥
 not_its_front h = front_of_three h.count h.errors
+
+both_lines_cut : HasReportedAll ((2 ∷ 3 ∷ []) ∷ (4 ∷ []) ∷ []) before noted
+both_lines_cut = (noted, cut_line, (noted, record { count = 0; errors = refl; files = λ path. refl }, record { files = λ path. refl; errors = refl }))
+
+nothing_of_no_line : HasReportedAll [] before noted → ⊥
+nothing_of_no_line h = absurd (let none : noted.errors ≡ [] = h.errors in cc)
 
 -- ---- unknown worlds
 

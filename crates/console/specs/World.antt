@@ -1,5 +1,5 @@
 -- The files of a world and its standard error, and what calls leave of them.
-use Rattle.std.specs.Prelude.{◌≡◌, ◌≢◌, ℕ, List, [], ◌++◌, codes, take, Option, Some, None}
+use Rattle.std.specs.Prelude.{◌≡◌, ◌≢◌, ℕ, List, [], ◌∷◌, ◌++◌, codes, take, Option, Some, None}
 
 pub record World : Type 0 where
   -- the bytes of the file of each path; `None` if there is no file
@@ -55,6 +55,12 @@ pub record HasReported (text : List ℕ) (old new : World) : Type 0 where
   pub count : ℕ
   pub errors : new.errors ≡ old.errors ++ take count (text ++ codes "\n")
   pub files : HasSameFiles old new
+
+-- it has taken lines with these texts, one after another, of each the whole or the front where it failed, and nothing else;
+-- the files are as they were
+abbrev pub HasReportedAll : List (List ℕ) → World → World → Type 0
+HasReportedAll [] old new = IsSame old new
+HasReportedAll (text ∷ texts) old new = (then : World) × HasReported text old then × HasReportedAll texts then new
 
 abbrev pub Stays : Option World → Option World → Type 0
 Stays old new = Becomes IsSame old new
