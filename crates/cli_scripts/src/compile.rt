@@ -3,7 +3,7 @@
 ghost use Rattle.std.specs.Prelude.{◌≡◌, ◌++◌, ℕ, List, take, IfOk, IfErr, IfSome, OnOk};
 ghost use Rattle.std.specs.Io.KnownBytes.{Appends};
 ghost use Rattle.console.specs.World.{Stays};
-ghost use Rattle.cli_scripts.specs.Compiled.{IsCompiled, IsFileOf, IsMadeOf, IsUncompiled, counts_line};
+ghost use Rattle.cli_scripts.specs.Compiled.{IsFileOf, IsMadeOf, IsUncompiled, counts_line};
 ghost use Rattle.cli_scripts.specs.Compiling.{CompilesFile, CompilesStream, FindsCompiled, IsFoundIn, IsReasonOrMemory, KeepsFiles};
 ghost use Rattle.cli_scripts.specs.Noting.{lines_of};
 
@@ -198,9 +198,9 @@ fn compile_bytes<'a, W: Write>(
     }
 }
 
-/// Compiles the text of the script of the request, with the notes on it.
+/// Compiles the text of the script of the request into a code file, with the notes on it.
 ///
-/// The refusals are those of [`compile_text`].
+/// The refusals are those of [`made_of`].
 fn compile_noted(
     alloc: Global,
     request: &CompileRequest<'_>,
@@ -222,24 +222,6 @@ fn compile_noted(
     Ok(Found { compiled, notes })
 }
 
-/// Compiles the text of a script into a code file.
-///
-/// `Script` if the text is not a script, with its first fault; `Plan` if the plan is refused.
-pub fn compile_text(alloc: Global, text: &str) -> Result<Compiled, ScriptRefusal>
-    ensures compiled { IfOk result (IsCompiled text.now) }
-    ensures refused { IfErr result (IsUncompiled text.now) }
-    ensures reason { IfErr result IsReasonOrMemory }
-{
-    let (_script, code) = match made_of(alloc, text) {
-        Ok(made) => made,
-        Err(refusal) => return Err(refusal),
-    };
-    match compiled_of(alloc, &code) {
-        Ok(compiled) => Ok(compiled),
-        Err(_) => Err(ScriptRefusal::Memory),
-    }
-}
-
 /// The code file of a code, with its numbers. The error is out of memory.
 fn compiled_of(alloc: Global, code: &Code) -> Result<Compiled, AllocError>
     ensures { IfOk result (IsFileOf code.now) }
@@ -258,7 +240,8 @@ fn compiled_of(alloc: Global, code: &Code) -> Result<Compiled, AllocError>
 
 /// Parses and compiles the text of a script.
 ///
-/// The refusals are those of [`compile_text`].
+/// `Script` if the text is not a script, with its first fault; `Plan` if the plan is refused; `Memory` if there is not
+/// enough.
 pub(crate) fn made_of(alloc: Global, text: &str) -> Result<(Script, Code), ScriptRefusal>
     ensures made { IfOk result (λ made. IsMadeOf text.now made.0 made.1) }
     ensures refused { IfErr result (IsUncompiled text.now) }
