@@ -88,7 +88,8 @@ fn show_frame_of<'a, W: Write>(
     bytes: &[u8],
     out: &mut W,
 ) -> Result<Status, Failure<'a>>
-    ensures shows { (file : List ℕ) → bytes.now ≡ take 1048581 file → ShowsScriptFrame file request.now
+    ensures shows { (file : List ℕ) → bytes.now ≡ take 1048581 file
+        → ShowsScriptFrame file request.now
         (Appends (W.contents out.old) (W.contents out.new)) result }
     ensures failed { IfErr result (IsInputFailure request.now.script.now) }
     ensures unread { IfErr result (IsSilentUnread (W.contents out.old) (W.contents out.new)) }

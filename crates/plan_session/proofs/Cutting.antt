@@ -175,8 +175,8 @@ cut_out : (p : Playing) (events : List Event) (size : ℕ) (x held rest : List �
 cut_out p events size x held rest frames bytes is right all some count part =
     let split : played_bytes p events ≡ x ++ (held ++ rest) = all ∙ append_assoc x held rest in
     let lengths : length (played_bytes p events) ≡ length x + length (held ++ rest) = ap (λ (l : List ℕ). length l) split ∙ length-append x (held ++ rest) in
-    let preceded_by : length (held ++ rest) ≡ length held + length rest = length-append held rest in
-    let stopped = stopped_at p events size (length x) frames bytes is right (sym count) part (omega (arith, lengths, preceded_by, some)) in
+    let both : length (held ++ rest) ≡ length held + length rest = length-append held rest in
+    let stopped = stopped_at p events size (length x) frames bytes is right (sym count) part (omega (arith, lengths, both, some)) in
     let text : take (length x) (played_bytes p events) ≡ x = ap (λ (l : List ℕ). take (length x) l) split ∙ take-append_seam x (held ++ rest) in
     (stopped.0, subst (λ (l : List ℕ). Stopped p stopped.0 events (Some []) (Some l) frames bytes) text stopped.1)
 
@@ -218,14 +218,14 @@ cut_before p new events size total more frames bytes before begun taken after he
     let sum = back (omega (arith, counted, done, front, lengths)) in
     let seam : take more next ++ drop more next ≡ next = take-append-drop more next in
     let halves : length next ≡ length (take more next) + length (drop more next) = ap (λ (l : List ℕ). length l) (sym seam) ∙ length-append (take more next) (drop more next) in
-    let preceded_by : length (drop more next ++ others) ≡ length (drop more next) + length others = length-append (drop more next) others in
+    let both : length (drop more next ++ others) ≡ length (drop more next) + length others = length-append (drop more next) others in
     let all : played_bytes p events ≡ (x.0 ++ held) ++ (drop more next ++ others) =
     ap (λ (l : List Event). played_bytes p l) s.cut ∙ bytes_join p s.done (Frame ∷ s.rest)
     ∙ ap (λ (l : List ℕ). played_bytes p s.done ++ (l ++ others)) (sym seam)
     ∙ ap (λ (l : List ℕ). played_bytes p s.done ++ l) (append_assoc (take more next) (drop more next) others)
     ∙ sym (append_assoc (played_bytes p s.done) (take more next) (drop more next ++ others))
     ∙ ap (λ (l : List ℕ). l ++ (drop more next ++ others)) (sym x.2) in
-    let stopped = cut_out p events size x.0 held (drop more next ++ others) frames bytes is right all (omega (arith, s.part, halves, front, preceded_by))
+    let stopped = cut_out p events size x.0 held (drop more next ++ others) frames bytes is right all (omega (arith, s.part, halves, front, both))
     (omega (arith, sum, counted, done, front, lengths)) (part (omega (arith, s.part, long))) in
     (stopped.0, stopped_in p stopped.0 events frames bytes before after x.0 e x.1 stopped.1)
 

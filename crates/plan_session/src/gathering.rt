@@ -78,8 +78,8 @@ impl Gathering {
         let mut rest = bytes;
         while !rest.is_empty() {
             let count = self.take_some(rest)?;
-            let (_, preceded_by) = rest.split_at(count);
-            rest = preceded_by;
+            let (_, left) = rest.split_at(count);
+            rest = left;
         }
         Ok(())
     }

@@ -193,7 +193,8 @@ impl<'a> Hints<'a> {
     /// Gives a hint, if there is one.
     fn give<F: Files>(&self, hint: Option<Hint>, files: &mut F)
         ensures none { hint ≡ None → Stays (F.world files.old) (F.world files.new) }
-        ensures given { Becomes (IsHinted self.now.path.now) (F.world files.old) (F.world files.new) }
+        ensures given { Becomes (IsHinted self.now.path.now)
+            (F.world files.old) (F.world files.new) }
     {
         if let Some(hint) = hint {
             files.report(HintLine {
