@@ -10,8 +10,8 @@ use Rattle.console.specs.Reading.{Reading as ReadingOf}
 use Rattle.console.specs.declared.exit.Failure.{Failure}
 use Rattle.console.specs.declared.exit.Failure.TheVariants.{Memory, Read, Create, Output}
 use Rattle.stream_check.specs.Frames.{Reading}
-use Rattle.stream_monitor.specs.declared.monitor.Stop.{Stop}
-use Rattle.stream_monitor.specs.declared.monitor.Stop.TheVariants as stops
+use Rattle.stream_monitor.specs.declared.monitor.CheckFailure.{CheckFailure}
+use Rattle.stream_monitor.specs.declared.monitor.CheckFailure.TheVariants as stops
 use Rattle.stream_monitor.specs.declared.options.CheckOptions.{CheckOptions}
 use Rattle.stream_monitor.specs.Outcome.{GoesOn}
 use Rattle.stream_monitor.specs.Unfinished.{Failures, FindsTooMuch, GivesUp, IsWithinFrame, PrintsFront, StopsBetween, StopsInside}
@@ -84,7 +84,7 @@ full_known r o stream (Some xs) (Some ys) before after kept h =
     let whole = sym kept ∙ h.4 ∙ append_assoc (concat h.0) (h.1 ++ h.2) ys in
     (h.3, h.6, inl (inl (h.0, (h.1 ++ h.2) ++ ys, whole, subst (λ (l : List ℕ). GoesOn r o h.0 l) (sym h.5.5) h.5.3.before)))
 
-gives_up_known : (r : Reading) (o : CheckOptions) (path stream : List ℕ) (left now before after : Option (List ℕ)) (f : Failures) (stop : Stop) (failure : Failure) → Keeps (Some stream) left
+gives_up_known : (r : Reading) (o : CheckOptions) (path stream : List ℕ) (left now before after : Option (List ℕ)) (f : Failures) (stop : CheckFailure) (failure : Failure) → Keeps (Some stream) left
     → IsFailureOf path stop failure → GivesUp r o left now before after f stop → ShowsUntil r o stream before after failure
 gives_up_known r o path stream left now before after f (stops.Read fault) Memory kept is (inl h) = some_is_front r o stream before after (between_known r o stream left h.1.0 before after kept h.1.1)
 gives_up_known r o path stream left now before after f (stops.Read fault) Memory kept is (inr h) = some_is_front r o stream before after (between_known r o stream left now before after kept h.2)
@@ -125,7 +125,7 @@ fails_known o path (Some stream) left now before after f failure kept h = λ r. 
         unended_known r o stream before after f.output f.line failure x.4 (x.3.0, x.3.2, inr (x.0, x.1, all, x.3.1))
 
 -- why it fails
-gives_up_why : (r : Reading) (o : CheckOptions) (path : List ℕ) (left now before after : Option (List ℕ)) (f : Failures) (stop : Stop) (failure : Failure) → IsFailureOf path stop failure
+gives_up_why : (r : Reading) (o : CheckOptions) (path : List ℕ) (left now before after : Option (List ℕ)) (f : Failures) (stop : CheckFailure) (failure : Failure) → IsFailureOf path stop failure
     → GivesUp r o left now before after f stop → IsCommandFailure path f.output failure
 gives_up_why r o path left now before after f (stops.Read fault) Memory is h = tt
 gives_up_why r o path left now before after f (stops.Read Failed) (Read named) is h = is

@@ -13,8 +13,8 @@ use Rattle.stream_check.proofs.Fronts.{no_flat}
 use Rattle.stream_monitor.specs.declared.ending.Ending.{Ending}
 use Rattle.stream_monitor.specs.declared.ending.Ending.TheVariants as endings
 use Rattle.stream_monitor.specs.declared.line.Cause.TheVariants as causes
-use Rattle.stream_monitor.specs.declared.monitor.Stop.{Stop}
-use Rattle.stream_monitor.specs.declared.monitor.Stop.TheVariants as stops
+use Rattle.stream_monitor.specs.declared.monitor.CheckFailure.{CheckFailure}
+use Rattle.stream_monitor.specs.declared.monitor.CheckFailure.TheVariants as stops
 use Rattle.stream_monitor.specs.Frames.{frames_text}
 use Rattle.stream_monitor.specs.Lines.{line_of}
 use Rattle.stream_monitor.specs.Outcome.{GoesOn}
@@ -105,7 +105,7 @@ fails_at_once r stream =
 does_not_fail : (r : Reading) (left now before after : Option (List ℕ)) → FailsInput r options (codes "-") left now before after (failures (Some Failed) false true) Output → ⊥
 does_not_fail r left now before after (inl (stop, is, up)) = chosen stop is up
   where
-    chosen : (stop : Stop) → IsFailureOf (codes "-") stop Output → GivesUp r options left now before after (failures (Some Failed) false true) stop → ⊥
+    chosen : (stop : CheckFailure) → IsFailureOf (codes "-") stop Output → GivesUp r options left now before after (failures (Some Failed) false true) stop → ⊥
     chosen (stops.Read Failed) is up = is
     chosen (stops.Read NoMemory) is up = absurd cc
     chosen stops.Write is up = false≢true up.0

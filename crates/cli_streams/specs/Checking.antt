@@ -15,8 +15,8 @@ use Rattle.stream_monitor.specs.Outcome.{Checks, ChecksInput, GoesOn}
 use Rattle.stream_monitor.specs.Unfinished.{Failures, GivesUp, IsFront, PrintsFront}
 use Rattle.stream_monitor.specs.declared.ending.Ending.{Ending}
 use Rattle.stream_monitor.specs.declared.ending.Ending.TheVariants as endings
-use Rattle.stream_monitor.specs.declared.monitor.Stop.{Stop}
-use Rattle.stream_monitor.specs.declared.monitor.Stop.TheVariants as stops
+use Rattle.stream_monitor.specs.declared.monitor.CheckFailure.{CheckFailure}
+use Rattle.stream_monitor.specs.declared.monitor.CheckFailure.TheVariants as stops
 use Rattle.stream_monitor.specs.declared.line.Line.{Line}
 use Rattle.stream_monitor.specs.declared.line.Line.TheVariants as lines
 use Rattle.stream_monitor.specs.declared.options.CheckOptions.{CheckOptions}
@@ -70,7 +70,7 @@ ShowsUntil r o stream before after Output = ShowsFront r o stream before after
 -- ---- once its file is open
 
 -- the failure for a check that gives up
-abbrev pub IsFailureOf : (path : List ℕ) → Stop → Failure → Type 0
+abbrev pub IsFailureOf : (path : List ℕ) → CheckFailure → Failure → Type 0
 IsFailureOf path (stops.Read Failed) failure = IsUnread path failure
 IsFailureOf path (stops.Read NoMemory) failure = failure ≡ Memory
 IsFailureOf path stops.Write failure = failure ≡ Output
@@ -87,7 +87,7 @@ IsUnended output line Output = output ≡ true
 abbrev pub FailsInput : Reading → CheckOptions → (path : List ℕ) → (left now before after : Option (List ℕ))
     → Failures → Failure → Type 0
 FailsInput r o path left now before after f failure =
-    ((stop : Stop) × IsFailureOf path stop failure × GivesUp r o left now before after f stop)
+    ((stop : CheckFailure) × IsFailureOf path stop failure × GivesUp r o left now before after f stop)
     ⊎ ((ending : Ending) × (text : List ℕ) × ChecksInput r o left now text ending
     × PrintsFront before after (text ++ line_of o.form (last_line ending)) × IsUnended f.output f.line failure)
 

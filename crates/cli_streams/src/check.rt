@@ -17,7 +17,7 @@ use console::output::Output;
 use std::alloc::Global;
 use std::io::{Read, Write};
 use stream_monitor::{
-    CheckOptions, Ending, FileFibs, Form, Hints, Line, LinePrinter, Stop, check_stream,
+    CheckFailure, CheckOptions, Ending, FileFibs, Form, Hints, Line, LinePrinter, check_stream,
 };
 
 /// The arguments of `check`.
@@ -110,13 +110,13 @@ fn check_input<'a, F: Files, R: Read + Drop, W: Write>(
 }
 
 /// The failure for a check that gives up.
-fn failure_of<'a>(stop: Stop, path: &'a str) -> Failure<'a>
+fn failure_of<'a>(stop: CheckFailure, path: &'a str) -> Failure<'a>
     ensures { IsFailureOf path.now stop result }
 {
     match stop {
-        Stop::Read(FileFault::Failed) => Failure::Read(path),
-        Stop::Read(FileFault::Memory) | Stop::Memory => Failure::Memory,
-        Stop::Write => Failure::Output,
+        CheckFailure::Read(FileFault::Failed) => Failure::Read(path),
+        CheckFailure::Read(FileFault::Memory) | CheckFailure::Memory => Failure::Memory,
+        CheckFailure::Write => Failure::Output,
     }
 }
 

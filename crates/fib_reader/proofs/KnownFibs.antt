@@ -1,9 +1,9 @@
--- Hearing a remembered FIB, and what a memory still has after a FIB was heard.
+-- Hearing a known FIB, and what is still known after a FIB was heard.
 use Rattle.std.proofs.Common.{◌≡◌, ◌⊎◌, List, ℕ, Some, Ok, inl, inr, refl, sym, ap, ◌∙◌, subst}
 use Rattle.fib_codec.specs.Grammar.{Fig, IsFib}
 use Rattle.fib_reader.specs.declared.basis.Basis.{Basis}
 use Rattle.fib_reader.specs.declared.basis.Basis.TheVariants.{Current, Pictures, All}
-use Rattle.fib_reader.specs.declared.memory.Memory.{Memory}
+use Rattle.fib_reader.specs.declared.known_fibs.KnownFibs.{KnownFibs}
 use Rattle.fib_reader.specs.Listening.{Listening, hear_figs, Hears, Heard}
 use Rattle.fib_reader.specs.Remembering.{Agrees, AddsNothing, Remembers, AreRemembered}
 
@@ -22,7 +22,7 @@ nothing_at_all bytes basis l (those, is, only, known) figs also =
     subst (λ o. Heard o l l (Ok tt)) (sym heard) (refl, refl)
 
 -- one more FIB is remembered
-pub one_is_kept : (old new : Memory) (bytes : List ℕ) (basis : Basis) (l : Listening) → AreRemembered old l → AddsNothing basis l bytes
+pub one_is_kept : (old new : KnownFibs) (bytes : List ℕ) (basis : Basis) (l : Listening) → AreRemembered old l → AddsNothing basis l bytes
     → ((other : List ℕ) (of : Basis) → Remembers new other of → Remembers old other of ⊎ ((other ≡ bytes) × (of ≡ basis))) → AreRemembered new l
 one_is_kept old new bytes basis l before tells kept other of has =
     elim (kept other of has) [
@@ -37,7 +37,7 @@ none_such e = absurd (cc)
 still_tells : (bytes : List ℕ) (l after : Listening) → AddsNothing Current l bytes → (after.tuned ≡ l.tuned) × (after.current ≡ l.current) → AddsNothing Current after bytes
 still_tells bytes l after (figs, is, only, known) (tuned, current) = (figs, is, only, λ x agrees. known x (agrees.0 ∙ tuned, agrees.1 ∙ current))
 
-pub current_stays : (old new : Memory) (l after : Listening) → AreRemembered old l → (after.tuned ≡ l.tuned) × (after.current ≡ l.current)
+pub current_stays : (old new : KnownFibs) (l after : Listening) → AreRemembered old l → (after.tuned ≡ l.tuned) × (after.current ≡ l.current)
     → ((bytes : List ℕ) (basis : Basis) → Remembers new bytes basis → Remembers old bytes basis × (basis ≡ Current)) → AreRemembered new after
 current_stays old new l after before stays forgot bytes Current has =
     still_tells bytes l after (before bytes Current (forgot bytes Current has).0) stays
@@ -45,5 +45,5 @@ current_stays old new l after before stays forgot bytes Pictures has = absurd (n
 current_stays old new l after before stays forgot bytes All none = absurd none
 
 -- after all is forgotten, nothing is remembered
-pub nothing_stays : (new : Memory) (l : Listening) → ((bytes : List ℕ) (basis : Basis) → Remembers new bytes basis → ⊥) → AreRemembered new l
+pub nothing_stays : (new : KnownFibs) (l : Listening) → ((bytes : List ℕ) (basis : Basis) → Remembers new bytes basis → ⊥) → AreRemembered new l
 nothing_stays new l forgot bytes basis has = absurd (forgot bytes basis has)

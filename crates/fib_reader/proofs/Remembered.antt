@@ -1,11 +1,11 @@
--- The contents of a memory after a FIB was put into it, and after some were forgotten.
+-- Which FIBs are known after one more was put into its slot, and after some were forgotten.
 use Rattle.std.proofs.Common.{◌≡◌, ◌≢◌, ℕ, ◌<◌, ◌==◌, ◌⊎◌, Bool, true, false, List, [], length, get_or, inl, inr, refl, sym, ap, ◌∙◌, subst}
 use Rattle.std.proofs.lemmas.Bool.{eqb-true, eq-eqb}
 use Rattle.std.proofs.lemmas.List.{get_or-replicate, get_or-set_same, get_or-set_other}
 use Rattle.std.proofs.Math.ListN.{replicate, set}
 use Rattle.fib_reader.specs.declared.basis.Basis.{Basis}
 use Rattle.fib_reader.specs.declared.basis.Basis.TheVariants.{Current, Pictures, All}
-use Rattle.fib_reader.specs.declared.memory.Memory.{Memory}
+use Rattle.fib_reader.specs.declared.known_fibs.KnownFibs.{KnownFibs}
 use Rattle.fib_reader.specs.Remembering.{Remembers}
 
 unset : (n place : ℕ) (flags : List Bool) → flags ≡ replicate n false → place < n → get_or flags place false ≡ true → ⊥
@@ -14,13 +14,13 @@ unset n place flags e lt h =
     absurd (cc)
 
 -- after all were forgotten
-pub nothing : (m : Memory) → m.of_current ≡ replicate 1024 false → m.of_pictures ≡ replicate 1024 false → (bytes : List ℕ) (basis : Basis) → Remembers m bytes basis → ⊥
+pub nothing : (m : KnownFibs) → m.of_current ≡ replicate 1024 false → m.of_pictures ≡ replicate 1024 false → (bytes : List ℕ) (basis : Basis) → Remembers m bytes basis → ⊥
 nothing m c p bytes Current (place, lt, is, set) = unset 1024 place m.of_current c lt set
 nothing m c p bytes Pictures (place, lt, is, set) = unset 1024 place m.of_pictures p lt set
 nothing m c p bytes All none = none
 
 -- FIBs whose basis is the current picture alone
-pub of_current : (old new : Memory) → new.fibs ≡ old.fibs → new.of_current ≡ old.of_current → new.of_pictures ≡ replicate 1024 false
+pub of_current : (old new : KnownFibs) → new.fibs ≡ old.fibs → new.of_current ≡ old.of_current → new.of_pictures ≡ replicate 1024 false
     → (bytes : List ℕ) (basis : Basis) → Remembers new bytes basis → Remembers old bytes basis × (basis ≡ Current)
 of_current old new f c p bytes Current (place, lt, is, set) = ((place, lt, rw (sym f) is, rw (sym c) set), refl)
 of_current old new f c p bytes Pictures (place, lt, is, set) = absurd (unset 1024 place new.of_pictures p lt set)
@@ -52,8 +52,8 @@ two : (xs : List (List ℕ)) (flags : List Bool) (place at : ℕ) (x d y : List 
     → ((x ≡ y) × (flag ≡ true)) ⊎ ((get_or xs place d ≡ y) × (get_or flags place false ≡ true))
 two xs flags place at x d y flag lt within h k = at_place (place == at) xs flags place at x d y flag refl lt within h k
 
--- the contents of a memory after this FIB was put into this slot, with this basis
-pub one_more : (at : ℕ) (bytes : List ℕ) (basis : Basis) (current pictures : Bool) (old new : Memory) → at < length old.fibs → at < length old.of_current → at < length old.of_pictures
+-- which FIBs are known after this one was put into this slot, with this basis
+pub one_more : (at : ℕ) (bytes : List ℕ) (basis : Basis) (current pictures : Bool) (old new : KnownFibs) → at < length old.fibs → at < length old.of_current → at < length old.of_pictures
     → new.fibs ≡ set old.fibs at bytes → new.of_current ≡ set old.of_current at current → new.of_pictures ≡ set old.of_pictures at pictures
     → (current ≡ true → basis ≡ Current) → (pictures ≡ true → basis ≡ Pictures)
     → (other : List ℕ) (of : Basis) → Remembers new other of → Remembers old other of ⊎ ((other ≡ bytes) × (of ≡ basis))

@@ -1,9 +1,9 @@
--- When FIBs contain nothing new to a listener, and when that stays so for the FIBs in a memory.
+-- When FIBs contain nothing new to a listener, and when that stays so for the FIBs that are known.
 use Rattle.std.specs.Prelude.{◌≡◌, ℕ, ◌<◌, ◌==◌, Bool, true, false, if◌then◌else◌, List, [], get_or, Option, Some}
 use Rattle.fib_codec.specs.Grammar.{Fig, IsFib}
 use Rattle.fib_reader.specs.declared.basis.Basis.{Basis}
 use Rattle.fib_reader.specs.declared.basis.Basis.TheVariants.{Current, Pictures, All}
-use Rattle.fib_reader.specs.declared.memory.Memory.{Memory}
+use Rattle.fib_reader.specs.declared.known_fibs.KnownFibs.{KnownFibs}
 use Rattle.fib_reader.specs.Listening.{Listening, hear_figs}
 
 -- a listener that agrees with an earlier one in this basis
@@ -29,8 +29,8 @@ abbrev pub AddsNothing : Basis → Listening → List ℕ → Type 0
 AddsNothing basis l bytes =
     (figs : List Fig) × IsFib bytes figs × ((others : List Fig) → IsFib bytes others → others ≡ figs) × IsKnownBy basis l (hear_figs figs)
 
--- a memory has these bytes in one of its slots, with this basis
-abbrev pub Remembers : Memory → List ℕ → Basis → Type 0
+-- these bytes are in one of the slots, with this basis
+abbrev pub Remembers : KnownFibs → List ℕ → Basis → Type 0
 Remembers m bytes Current =
     (place : ℕ) × (place < 1024) × (get_or m.fibs place [] ≡ bytes) × (get_or m.of_current place false ≡ true)
 Remembers m bytes Pictures =
@@ -38,5 +38,5 @@ Remembers m bytes Pictures =
 Remembers m bytes All = ⊥
 
 -- nothing that is remembered is new
-abbrev pub AreRemembered : Memory → Listening → Type 0
+abbrev pub AreRemembered : KnownFibs → Listening → Type 0
 AreRemembered m l = (bytes : List ℕ) (basis : Basis) → Remembers m bytes basis → AddsNothing basis l bytes

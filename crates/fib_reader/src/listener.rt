@@ -3,7 +3,7 @@
 use crate::basis::are_of_next;
 use crate::checking::check;
 use crate::fault::ListenFault;
-use crate::memory::Memory;
+use crate::known_fibs::KnownFibs;
 use crate::picture::Picture;
 use crate::receiver::Receiver;
 use std::marker::Model;
@@ -14,7 +14,7 @@ use std::marker::Model;
 pub struct Listener {
     receiver: Receiver,
     /// FIBs with nothing new to it. Most FIBs of a multiplex are repeated many times.
-    memory: Memory,
+    known: KnownFibs,
 }
 
 impl Model for Listener {
@@ -25,7 +25,7 @@ impl Model for Listener {
 
     ghost view = { λ l. l.receiver };
 
-    ghost invariant = { λ l. AreRemembered l.memory l.receiver };
+    ghost invariant = { λ l. AreRemembered l.known l.receiver };
 }
 
 impl Listener {
@@ -39,7 +39,7 @@ impl Listener {
     {
         Listener {
             receiver: Receiver::new(),
-            memory: Memory::new(),
+            known: KnownFibs::new(),
         }
     }
 
@@ -85,7 +85,7 @@ impl Listener {
         ensures every { (figs : List Fig) → IsFib bytes.now figs
             → Heard (hear_figs figs self.old) self.old self.new result }
     {
-        if self.memory.has(bytes) {
+        if self.known.has(bytes) {
             return Ok(());
         }
         self.hear_anew(bytes)
@@ -103,7 +103,7 @@ impl Listener {
             Err(fault) => return Err(ListenFault::Fib(fault)),
         };
         if let Some(basis) = self.receiver.knows(figs.again()) {
-            self.memory.keep(bytes, basis);
+            self.known.keep(bytes, basis);
             return Ok(());
         }
         let of_next = are_of_next(figs.again());
@@ -111,9 +111,9 @@ impl Listener {
             return Err(ListenFault::Full);
         }
         if of_next {
-            self.memory.forget_next();
+            self.known.forget_next();
         } else {
-            self.memory.forget();
+            self.known.forget();
         }
         Ok(())
     }

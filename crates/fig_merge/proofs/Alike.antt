@@ -8,7 +8,7 @@ use Rattle.stream_check.specs.Listening.{Listening, hear_fig, hear_figs, where_h
 use Rattle.stream_check.specs.Raw.{entries_in}
 use Rattle.stream_check.specs.declared.finding.Finding.{Finding}
 use Rattle.stream_check.specs.declared.finding.Fault.TheVariants as faults
-use Rattle.stream_check.specs.declared.finding.Event.TheVariants as events
+use Rattle.stream_check.specs.declared.finding.StreamEvent.TheVariants as events
 use Rattle.stream_check.specs.declared.finding.What.{What}
 use Rattle.stream_check.specs.declared.finding.What.TheVariants as whats
 use Rattle.stream_check.specs.Reporting.{when, in_frame}

@@ -19,7 +19,7 @@ use Rattle.script_compiler.specs.declared.flow.ProgramPoint.{ProgramPoint}
 use Rattle.script_compiler.specs.Judged.{IsJudged}
 use Rattle.script_compiler.specs.Compiled.{AreFine, with_items, opening_of, body_of, beginning}
 use Rattle.script_compiler.specs.Refused.{IsItemRefused, IsOpeningRefused}
-use Rattle.plan_explain.specs.declared.walk.Stop.{Stop}
+use Rattle.plan_explain.specs.declared.walk.WalkEnd.{WalkEnd}
 use Rattle.plan_explain.specs.Judging.{IsTheRefusal, IfStopped, IsTheFault}
 use Rattle.plan_explain.proofs.Judging.{stopped_map}
 
@@ -67,7 +67,7 @@ fault_of s fine sound pages starts line cause h =
       ];
     }
 
-pub stop_is_fault : (s : Tree) (stop : Stop) → AreFine s.items nothing → IsSound (opening_of s) → pages_alone s.header (opening_of s) ≤ s.header.period → start_cause s.header (opening_of s) ≡ None
+pub stop_is_fault : (s : Tree) (stop : WalkEnd) → AreFine s.items nothing → IsSound (opening_of s) → pages_alone s.header (opening_of s) ≤ s.header.period → start_cause s.header (opening_of s) ≡ None
     → IfStopped stop (λ line cause. IsTheRefusal s.header (body_of s) (beginning (opening_of s)) line cause) → IfStopped stop (IsTheFault s)
 stop_is_fault s stop fine sound pages starts h = stopped_map stop _ _ (λ line cause k. fault_of s fine sound pages starts line cause k) h
 
@@ -77,7 +77,7 @@ stop_is_fault s stop fine sound pages starts h = stopped_map stop _ _ (λ line c
 abbrev pub opening_flow : Configuration → Flow
 opening_flow c = record { current = c; next = c; pending = Idle }
 
-pub path_fault : (s : Tree) (plan : Plan) (items : List Item) (config : Configuration) (known : Flow) (o : Option Stop) → plan ≡ s.header → items ≡ s.items → config ≡ with_items items nothing → AreFine items nothing
+pub path_fault : (s : Tree) (plan : Plan) (items : List Item) (config : Configuration) (known : Flow) (o : Option WalkEnd) → plan ≡ s.header → items ≡ s.items → config ≡ with_items items nothing → AreFine items nothing
     → IsSound config × (pages_alone plan config ≤ plan.period) → start_cause plan config ≡ None → known ≡ opening_flow config
     → IfSome o (λ stop. (t : ProgramPoint) → t.flow ≡ known → IfStopped stop (λ line cause. IsTheRefusal plan (body_of s) t line cause)) → IfSome o (λ stop. IfStopped stop (IsTheFault s))
 path_fault s plan items config known None pl it made fine f starts is h = tt

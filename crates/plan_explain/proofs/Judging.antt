@@ -21,8 +21,8 @@ use Rattle.script_compiler.specs.Judged.{IsDone, FitsEntry}
 use Rattle.script_compiler.specs.Refused.{IsUnreached}
 use Rattle.script_compiler.proofs.Reasons.{unreached_at}
 use Rattle.plan_explain.specs.declared.state.PathState.{PathState}
-use Rattle.plan_explain.specs.declared.walk.Stop.{Stop}
-use Rattle.plan_explain.specs.declared.walk.Stop.TheVariants.{Act as StopsAtAct, Loop, Ways, Unreached, Long, Memory}
+use Rattle.plan_explain.specs.declared.walk.WalkEnd.{WalkEnd}
+use Rattle.plan_explain.specs.declared.walk.WalkEnd.TheVariants.{Act as StopsAtAct, Loop, Ways, Unreached, Long, Memory}
 use Rattle.plan_explain.specs.declared.walk.Walk.{Walk}
 use Rattle.script_compiler.specs.Refused.{IsLine}
 use Rattle.plan_explain.specs.Judging.{point_if, flow_at, IsTheRefusal, IfStopped, JudgesBlock, Passes, Judges, JoinsFlows}
@@ -31,7 +31,7 @@ use Rattle.plan_explain.proofs.Passages.{Whole, whole_at, passes_on, passes_act,
 
 -- ---- stops
 
-pub stopped_map : (s : Stop) (P Q : ℕ → Cause → Type 0) → ((line : ℕ) (cause : Cause) → P line cause → Q line cause) → IfStopped s P → IfStopped s Q
+pub stopped_map : (s : WalkEnd) (P Q : ℕ → Cause → Type 0) → ((line : ℕ) (cause : Cause) → P line cause → Q line cause) → IfStopped s P → IfStopped s Q
 stopped_map (StopsAtAct line act cause) P Q m h = m line cause h
 stopped_map (Loop line) P Q m h = m line Mismatch h
 stopped_map (Ways line) P Q m h = m line Mismatch h
@@ -81,7 +81,7 @@ pub judged_on : (plan : Plan) (a b c : Block) (t : Flow) (w1 w2 : Walk) (f r : B
 judged_on plan a b c t w1 w2 f r e p h =
     passes_on plan a b c (without_label t) (without_label w1.state.flow) (point_if r w2) (subst (λ x. Passes plan a b (without_label t) (point_if x w1)) e p) h
 
-pub stopped_on : (plan : Plan) (a b c : Block) (t : Flow) (w1 w2 : Walk) (f : Bool) (s : Stop) → f ≡ true → Passes plan a b (without_label t) (point_if f w1) → Judges plan b c w1.state.flow w2 (Err s) → IfStopped s (λ line cause. IsTheRefusal plan a (without_label t) line cause)
+pub stopped_on : (plan : Plan) (a b c : Block) (t : Flow) (w1 w2 : Walk) (f : Bool) (s : WalkEnd) → f ≡ true → Passes plan a b (without_label t) (point_if f w1) → Judges plan b c w1.state.flow w2 (Err s) → IfStopped s (λ line cause. IsTheRefusal plan a (without_label t) line cause)
 stopped_on plan a b c t w1 w2 f s e p h =
     stopped_map s _ _ (λ line cause k. refused_after plan a b (without_label t) (without_label w1.state.flow) line cause (subst (λ x. Passes plan a b (without_label t) (point_if x w1)) e p) k) h
 
@@ -114,18 +114,18 @@ unreached_refused plan a b s w f line e p is =
       invalid = λ h. not_done b line is (q.valid.1 h);
     }
 
-pub judges_as : (plan : Plan) (a b rest : Block) (t : Flow) (w : Walk) (r : Result Bool Stop) → a ≡ b → Judges plan b rest t w r → Judges plan a rest t w r
+pub judges_as : (plan : Plan) (a b rest : Block) (t : Flow) (w : Walk) (r : Result Bool WalkEnd) → a ≡ b → Judges plan b rest t w r → Judges plan a rest t w r
 judges_as plan a b rest t w r e h = subst (λ x. Judges plan x rest t w r) (sym e) h
 
 -- ---- the whole
 
-pub judges_block : (plan : Plan) (b : Block) (t : Flow) (w : Walk) (r : Result Bool Stop) → Judges plan b nothing t w r → JudgesBlock plan b t w r
+pub judges_block : (plan : Plan) (b : Block) (t : Flow) (w : Walk) (r : Result Bool WalkEnd) → Judges plan b nothing t w r → JudgesBlock plan b t w r
 judges_block plan b t w (Ok f) h = λ s e. let k = whole_at plan b (without_label t) s (point_if f w) (sym e) h in (k.judged, sym k.leads)
 judges_block plan b t w (Err s) h = λ u e. stopped_map s _ _ (λ line cause k. refused_alike_at plan b (without_label t) u line cause (sym e) k) h
 
 -- ---- `apply`
 
-pub apply_judges : (plan : Plan) (line number : ℕ) (named rest : Block) (t : Flow) (w : Walk) (r : Result Bool Stop) → Judges plan named nothing t w r → Judges plan (apply line number named rest) rest t w r
+pub apply_judges : (plan : Plan) (line number : ℕ) (named rest : Block) (t : Flow) (w : Walk) (r : Result Bool WalkEnd) → Judges plan named nothing t w r → Judges plan (apply line number named rest) rest t w r
 apply_judges plan line number named rest t w (Ok f) h = passes_apply plan line number named rest (without_label t) (point_if f w) (whole_at plan named (without_label t) (without_label t) (point_if f w) refl h)
 apply_judges plan line number named rest t w (Err s) h = stopped_map s _ _ (λ at given k. refused_in_apply plan line number named rest (without_label t) at given k) h
 
@@ -134,12 +134,12 @@ apply_judges plan line number named rest t w (Err s) h = stopped_map s _ _ (λ a
 flow_of_state : (a b : PathState) → a ≡ b → a.flow ≡ b.flow
 flow_of_state a b e = ap (λ (x : PathState). x.flow) e
 
-pub stops_in_when : (plan : Plan) (line contact : ℕ) (first rest : Block) (w0 w1 w2 : Walk) (s : Stop) → w1.state ≡ w0.state → Judges plan first nothing w1.state.flow w2 (Err s) → Judges plan (when line contact first rest) rest w0.state.flow w2 (Err s)
+pub stops_in_when : (plan : Plan) (line contact : ℕ) (first rest : Block) (w0 w1 w2 : Walk) (s : WalkEnd) → w1.state ≡ w0.state → Judges plan first nothing w1.state.flow w2 (Err s) → Judges plan (when line contact first rest) rest w0.state.flow w2 (Err s)
 stops_in_when plan line contact first rest w0 w1 w2 s e h =
     stopped_map s _ _ (λ at given k. refused_in_when plan line contact first rest (without_label w0.state.flow) at given
     (refused_alike_at plan first (without_label w1.state.flow) (without_label w0.state.flow) at given (flow_of_state w1.state w0.state e) k)) h
 
-pub when_judges : (plan : Plan) (line contact : ℕ) (first rest : Block) (w0 w1 w2 w3 : Walk) (f : Bool) (r : Result Bool Stop) → w1.state ≡ w0.state → Judges plan first nothing w1.state.flow w2 (Ok f)
+pub when_judges : (plan : Plan) (line contact : ℕ) (first rest : Block) (w0 w1 w2 w3 : Walk) (f : Bool) (r : Result Bool WalkEnd) → w1.state ≡ w0.state → Judges plan first nothing w1.state.flow w2 (Ok f)
     → JoinsFlows line (point_if f w2) (Some (without_label w0.state.flow)) w3 r → Judges plan (when line contact first rest) rest w0.state.flow w3 r
 when_judges plan line contact first rest w0 w1 w2 w3 f r e h k =
     joined r k
@@ -150,7 +150,7 @@ when_judges plan line contact first rest w0 w1 w2 w3 f r e h k =
     w : Whole plan first (without_label t) (flow_at (point_if f w2))
     w = whole_at plan first (without_label w1.state.flow) (without_label t) (point_if f w2) (flow_of_state w1.state w0.state e) h
 
-    joined : (r : Result Bool Stop) → JoinsFlows line (point_if f w2) (Some (without_label t)) w3 r → Judges plan (when line contact first rest) rest t w3 r
+    joined : (r : Result Bool WalkEnd) → JoinsFlows line (point_if f w2) (Some (without_label t)) w3 r → Judges plan (when line contact first rest) rest t w3 r
     joined (Ok x) j = passes_when plan line contact first rest t (point_if f w2) (point_if x w3) w j.0 j.1
     joined (Err (Ways at)) j = subst (λ n. IsTheRefusal plan (when line contact first rest) (without_label t) n Mismatch) j.0 (when_mismatch plan line contact first rest t (point_if f w2) w j.1)
     joined (Err (StopsAtAct at act cause)) j = absurd j
@@ -161,20 +161,20 @@ when_judges plan line contact first rest w0 w1 w2 w3 f r e h k =
 
 -- ---- `if` with `else`
 
-pub stops_in_first : (plan : Plan) (line contact : ℕ) (first second rest : Block) (w0 w1 w2 : Walk) (s : Stop) → w1.state ≡ w0.state → Judges plan first nothing w1.state.flow w2 (Err s)
+pub stops_in_first : (plan : Plan) (line contact : ℕ) (first second rest : Block) (w0 w1 w2 : Walk) (s : WalkEnd) → w1.state ≡ w0.state → Judges plan first nothing w1.state.flow w2 (Err s)
     → Judges plan (either line contact first second rest) rest w0.state.flow w2 (Err s)
 stops_in_first plan line contact first second rest w0 w1 w2 s e h =
     stopped_map s _ _ (λ at given k. refused_in_first plan line contact first second rest (without_label w0.state.flow) at given
     (refused_alike_at plan first (without_label w1.state.flow) (without_label w0.state.flow) at given (flow_of_state w1.state w0.state e) k)) h
 
-pub stops_in_second : (plan : Plan) (line contact : ℕ) (first second rest : Block) (w0 w1 w2 w3 w4 : Walk) (f : Bool) (s : Stop) → w1.state ≡ w0.state → Judges plan first nothing w1.state.flow w2 (Ok f) → w3.state ≡ w0.state
+pub stops_in_second : (plan : Plan) (line contact : ℕ) (first second rest : Block) (w0 w1 w2 w3 w4 : Walk) (f : Bool) (s : WalkEnd) → w1.state ≡ w0.state → Judges plan first nothing w1.state.flow w2 (Ok f) → w3.state ≡ w0.state
     → Judges plan second nothing w3.state.flow w4 (Err s) → Judges plan (either line contact first second rest) rest w0.state.flow w4 (Err s)
 stops_in_second plan line contact first second rest w0 w1 w2 w3 w4 f s e h g k =
     stopped_map s _ _ (λ at given x. refused_in_second plan line contact first second rest (without_label w0.state.flow) (flow_at (point_if f w2)) at given
     (whole_at plan first (without_label w1.state.flow) (without_label w0.state.flow) (point_if f w2) (flow_of_state w1.state w0.state e) h)
     (refused_alike_at plan second (without_label w3.state.flow) (at_label w0.state.flow) at given (flow_of_state w3.state w0.state g) x)) k
 
-pub either_judges : (plan : Plan) (line contact : ℕ) (first second rest : Block) (w0 w1 w2 w3 w4 w5 : Walk) (f g : Bool) (r : Result Bool Stop) → w1.state ≡ w0.state → Judges plan first nothing w1.state.flow w2 (Ok f) → w3.state ≡ w0.state
+pub either_judges : (plan : Plan) (line contact : ℕ) (first second rest : Block) (w0 w1 w2 w3 w4 w5 : Walk) (f g : Bool) (r : Result Bool WalkEnd) → w1.state ≡ w0.state → Judges plan first nothing w1.state.flow w2 (Ok f) → w3.state ≡ w0.state
     → Judges plan second nothing w3.state.flow w4 (Ok g) → JoinsFlows line (point_if g w4) (point_if f w2) w5 r → Judges plan (either line contact first second rest) rest w0.state.flow w5 r
 either_judges plan line contact first second rest w0 w1 w2 w3 w4 w5 f g r e h e3 h3 k =
     joined r k
@@ -188,7 +188,7 @@ either_judges plan line contact first second rest w0 w1 w2 w3 w4 w5 f g r e h e3
     w : Whole plan second (at_label t) (flow_at (point_if g w4))
     w = whole_at plan second (without_label w3.state.flow) (at_label t) (point_if g w4) (flow_of_state w3.state w0.state e3) h3
 
-    joined : (r : Result Bool Stop) → JoinsFlows line (point_if g w4) (point_if f w2) w5 r → Judges plan (either line contact first second rest) rest t w5 r
+    joined : (r : Result Bool WalkEnd) → JoinsFlows line (point_if g w4) (point_if f w2) w5 r → Judges plan (either line contact first second rest) rest t w5 r
     joined (Ok x) j =
         passes_either plan line contact first second rest t (point_if f w2) (point_if g w4) (point_if x w5) v w j.0
         (j.1 ∙ flow_meet (point_if g w4) (point_if f w2) ∙ sym (flow_join (point_if f w2) (point_if g w4)))
@@ -233,24 +233,24 @@ module _ (plan : Plan) (line : ℕ) (body rest : Block) (w0 w1 w2 : Walk) (e : w
       subst (λ x. Passes plan (forever line body rest) rest (without_label w0.state.flow) (point_if x w3)) (sym is)
       (passes_forever plan line body rest w0.state.flow (point_if f w2) (body_whole f h) (fits_start f fits))
 
-  pub stops_in_repeat : (times : ℕ) (s : Stop) → Judges plan body nothing w1.state.flow w2 (Err s) → Judges plan (repeat line times body rest) rest w0.state.flow w2 (Err s)
+  pub stops_in_repeat : (times : ℕ) (s : WalkEnd) → Judges plan body nothing w1.state.flow w2 (Err s) → Judges plan (repeat line times body rest) rest w0.state.flow w2 (Err s)
   stops_in_repeat times s h =
       stopped_map s _ _ (λ at given k. refused_in_repeat plan line times body rest (without_label w0.state.flow) at given
       (refused_alike_at plan body (without_label w1.state.flow) start at given (flow_of_state w1.state w0.state e) k)) h
 
-  pub stops_in_forever : (s : Stop) → Judges plan body nothing w1.state.flow w2 (Err s) → Judges plan (forever line body rest) rest w0.state.flow w2 (Err s)
+  pub stops_in_forever : (s : WalkEnd) → Judges plan body nothing w1.state.flow w2 (Err s) → Judges plan (forever line body rest) rest w0.state.flow w2 (Err s)
   stops_in_forever s h =
       stopped_map s _ _ (λ at given k. refused_in_forever plan line body rest (without_label w0.state.flow) at given
       (refused_alike_at plan body (without_label w1.state.flow) start at given (flow_of_state w1.state w0.state e) k)) h
 
-  pub stops_at_repeat : (times : ℕ) (w3 : Walk) (f : Bool) (s : Stop) → Judges plan body nothing w1.state.flow w2 (Ok f) → s ≡ Loop line → f ≡ true → (FitsFlow w2.state.flow w0.state.flow → ⊥)
+  pub stops_at_repeat : (times : ℕ) (w3 : Walk) (f : Bool) (s : WalkEnd) → Judges plan body nothing w1.state.flow w2 (Ok f) → s ≡ Loop line → f ≡ true → (FitsFlow w2.state.flow w0.state.flow → ⊥)
       → Judges plan (repeat line times body rest) rest w0.state.flow w3 (Err s)
   stops_at_repeat times w3 f s h is falls apart =
-      subst (λ (x : Stop). IfStopped x (λ at cause. IsTheRefusal plan (repeat line times body rest) (without_label w0.state.flow) at cause)) (sym is)
+      subst (λ (x : WalkEnd). IfStopped x (λ at cause. IsTheRefusal plan (repeat line times body rest) (without_label w0.state.flow) at cause)) (sym is)
       (repeat_mismatch plan line body rest w0.state.flow (point_if f w2) times (body_whole f h) (apart_at_start f falls apart))
 
-  pub stops_at_forever : (w3 : Walk) (f : Bool) (s : Stop) → Judges plan body nothing w1.state.flow w2 (Ok f) → s ≡ Loop line → f ≡ true → (FitsFlow w2.state.flow w0.state.flow → ⊥)
+  pub stops_at_forever : (w3 : Walk) (f : Bool) (s : WalkEnd) → Judges plan body nothing w1.state.flow w2 (Ok f) → s ≡ Loop line → f ≡ true → (FitsFlow w2.state.flow w0.state.flow → ⊥)
       → Judges plan (forever line body rest) rest w0.state.flow w3 (Err s)
   stops_at_forever w3 f s h is falls apart =
-      subst (λ (x : Stop). IfStopped x (λ at cause. IsTheRefusal plan (forever line body rest) (without_label w0.state.flow) at cause)) (sym is)
+      subst (λ (x : WalkEnd). IfStopped x (λ at cause. IsTheRefusal plan (forever line body rest) (without_label w0.state.flow) at cause)) (sym is)
       (forever_mismatch plan line body rest w0.state.flow (point_if f w2) (body_whole f h) (apart_at_start f falls apart))

@@ -16,7 +16,7 @@ use Rattle.script_front.specs.Tree.{Tree}
 use Rattle.script_compiler.specs.declared.flow.ProgramPoint.{ProgramPoint}
 use Rattle.script_compiler.specs.Scheme.{without_label}
 use Rattle.script_compiler.specs.Refused.{IsItemRefused, IsRefused}
-use Rattle.plan_explain.specs.declared.walk.Stop.TheVariants.{Loop, Ways, Long}
+use Rattle.plan_explain.specs.declared.walk.WalkEnd.TheVariants.{Loop, Ways, Long}
 use Rattle.plan_explain.specs.declared.walk.Walk.{Walk}
 use Rattle.plan_explain.specs.Judging.{IsTheRefusal, IfStopped, JudgesBlock, Passes, Judges, JoinsFlows, IsTheFault}
 use Rattle.plan_explain.proofs.Passages.{passes_act, passes_end, act_refused, refused_after}

@@ -13,7 +13,7 @@ use Rattle.script_front.specs.Block.{Block, nothing, basic, stop, when, either, 
 use Rattle.plan_explain.specs.declared.history.Deed.{Deed}
 use Rattle.plan_explain.specs.declared.sought.Member.TheVariants.{Carried}
 use Rattle.plan_explain.specs.declared.sought.Sought.TheVariants.{Changing}
-use Rattle.plan_explain.specs.declared.walk.Stop.TheVariants.{Act as StopsAtAct, Loop, Ways, Unreached, Long}
+use Rattle.plan_explain.specs.declared.walk.WalkEnd.TheVariants.{Act as StopsAtAct, Loop, Ways, Unreached, Long}
 use Rattle.plan_explain.specs.declared.walk.Walk.{Walk}
 use Rattle.plan_explain.specs.Deeds.{last_line, last_added, last_dropped, last_changed}
 use Rattle.plan_explain.specs.Ways.{Executed, Way, ways_through, ways_past, here, later, inside, in_else, from_place, ways_to}

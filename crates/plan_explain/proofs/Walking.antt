@@ -9,8 +9,8 @@ use Rattle.plan_explain.specs.declared.history.Deed.{Deed}
 use Rattle.plan_explain.specs.declared.history.History.{History}
 use Rattle.plan_explain.specs.declared.history.PathEnd.{PathEnd}
 use Rattle.plan_explain.specs.declared.state.PathState.{PathState}
-use Rattle.plan_explain.specs.declared.walk.Stop.{Stop}
-use Rattle.plan_explain.specs.declared.walk.Stop.TheVariants.{Act as StopsAtAct, Loop, Ways, Unreached, Long, Memory}
+use Rattle.plan_explain.specs.declared.walk.WalkEnd.{WalkEnd}
+use Rattle.plan_explain.specs.declared.walk.WalkEnd.TheVariants.{Act as StopsAtAct, Loop, Ways, Unreached, Long, Memory}
 use Rattle.plan_explain.specs.declared.walk.Walk.{Walk}
 use Rattle.plan_explain.specs.Paths.{paths_of, way_of, ways_of, IsEnd, Keeps}
 use Rattle.plan_explain.specs.Ways.{Executed, Way, executed, each_with, ways_through, ways_past, rest_of, inner_of, ways_into, Place, here, later, inside, in_else, from_place, ways_to}
@@ -66,11 +66,11 @@ ended line rest old new end kept saved = passed (stop line rest) rest old new fa
 -- ---- parts
 
 -- the walk from a beginning whose count alone differs
-pub recounted : (plan : Plan) (b rest : Block) (w : Walk) (n : ℕ) (new : Walk) (r : Result Bool Stop) → Walks plan b rest (record w { left = n }) new r → Walks plan b rest w new r
+pub recounted : (plan : Plan) (b rest : Block) (w : Walk) (n : ℕ) (new : Walk) (r : Result Bool WalkEnd) → Walks plan b rest (record w { left = n }) new r → Walks plan b rest w new r
 recounted plan b rest w n new (Ok f) h = record { end = h.end; kept = h.kept; saved = h.saved; through = h.through; places = h.places }
 recounted plan b rest w n new (Err s) h = h
 
-pub walks_as : (plan : Plan) (a b rest : Block) (old new : Walk) (r : Result Bool Stop) → a ≡ b → Walks plan b rest old new r → Walks plan a rest old new r
+pub walks_as : (plan : Plan) (a b rest : Block) (old new : Walk) (r : Result Bool WalkEnd) → a ≡ b → Walks plan b rest old new r → Walks plan a rest old new r
 walks_as plan a b rest old new r e h = subst (λ x. Walks plan x rest old new r) (sym e) h
 
 -- nothing is walked
@@ -92,10 +92,10 @@ onward a b c w0 w1 w2 f r e h k =
           (x.0, x.1 ∙ y.1, x.2 ∙ y.2);
     }
 
-stop_as : (plan : Plan) (a b : Block) (us vs : List Way) (s : Stop) (w : Walk) → a ≡ b → us ≡ vs → IsStop plan b vs s w → IsStop plan a us s w
+stop_as : (plan : Plan) (a b : Block) (us vs : List Way) (s : WalkEnd) (w : Walk) → a ≡ b → us ≡ vs → IsStop plan b vs s w → IsStop plan a us s w
 stop_as plan a b us vs s w e f h = subst (λ x. IsStop plan x us s w) (sym e) (subst (λ ws. IsStop plan b ws s w) (sym f) h)
 
-pub stops_after : (plan : Plan) (a b : Block) (w0 w1 : Walk) (f : Bool) (s : Stop) (w : Walk) → f ≡ true → Walked a b w0 w1 f → StopsIn plan b (ways_at w1) s w → StopsIn plan a (ways_at w0) s w
+pub stops_after : (plan : Plan) (a b : Block) (w0 w1 : Walk) (f : Bool) (s : WalkEnd) (w : Walk) → f ≡ true → Walked a b w0 w1 f → StopsIn plan b (ways_at w1) s w → StopsIn plan a (ways_at w0) s w
 stops_after plan a b w0 w1 f s w e h k =
     let h1 : Walked a b w0 w1 true = subst (λ x. Walked a b w0 w1 x) e h in
     let x = h1.places k.0 in
@@ -108,14 +108,14 @@ unreached a b w0 w1 f line e h is =
     (x.0, subst (λ c. IsLine c line) (sym x.1) is, x.2)
 
 -- a stop in the block of a statement, whose beginning is where the statement begins
-pub stops_inside : (plan : Plan) (b : Block) (w0 w1 : Walk) (s : Stop) (w : Walk) → ways_into b (ways_at w0) ≡ ways_at w0 → w1.state ≡ w0.state → w1.history ≡ w0.history
+pub stops_inside : (plan : Plan) (b : Block) (w0 w1 : Walk) (s : WalkEnd) (w : Walk) → ways_into b (ways_at w0) ≡ ways_at w0 → w1.state ≡ w0.state → w1.history ≡ w0.history
     → StopsIn plan (inner_of b) (ways_at w1) s w → StopsIn plan b (ways_at w0) s w
 stops_inside plan b w0 w1 s w e state history k =
     (inside k.0, subst (λ ws. IsStop plan (from_place k.0 (inner_of b)) (ways_to k.0 (inner_of b) ws) s w) (same_ways w1 w0 state history ∙ sym e) k.1)
 
 -- ---- `apply`
 
-pub applied : (plan : Plan) (line number : ℕ) (inner rest : Block) (old new : Walk) (r : Result Bool Stop) → Walks plan inner nothing old new r → Walks plan (apply line number inner rest) rest old new r
+pub applied : (plan : Plan) (line number : ℕ) (inner rest : Block) (old new : Walk) (r : Result Bool WalkEnd) → Walks plan inner nothing old new r → Walks plan (apply line number inner rest) rest old new r
 applied plan line number inner rest old new (Ok f) h = passed (apply line number inner rest) rest old new f refl (λ ws. refl) h.through h.end h.kept h.saved
 applied plan line number inner rest old new (Err s) h = (inside h.0, h.1)
 
@@ -144,7 +144,7 @@ other_as : (o : Option PathState) (h : History) (us vs : List Way) → us ≡ vs
 other_as None h us vs e is = absurd is
 other_as (Some p) h us vs e is = is ∙ e
 
-when_unmerged : (plan : Plan) (line contact : ℕ) (first rest : Block) (ways heres theres : List Way) (s : Stop) (w : Walk) → heres ≡ ways_through first ways → theres ≡ ways → IsUnmerged line heres theres s w
+when_unmerged : (plan : Plan) (line contact : ℕ) (first rest : Block) (ways heres theres : List Way) (s : WalkEnd) (w : Walk) → heres ≡ ways_through first ways → theres ≡ ways → IsUnmerged line heres theres s w
     → StopsIn plan (when line contact first rest) ways s w
 when_unmerged plan line contact first rest ways heres theres (StopsAtAct at act cause) w e f h = absurd h
 when_unmerged plan line contact first rest ways heres theres (Loop at) w e f h = absurd h
@@ -153,7 +153,7 @@ when_unmerged plan line contact first rest ways heres theres (Unreached at act a
 when_unmerged plan line contact first rest ways heres theres Long w e f h = absurd h
 when_unmerged plan line contact first rest ways heres theres Memory w e f h = (here, tt)
 
-pub when_walks : (plan : Plan) (line contact : ℕ) (first rest : Block) (w0 w1 w2 w3 : Walk) (f : Bool) (r : Result Bool Stop) → Saves w0 w1 → Walked first nothing w1 w2 f
+pub when_walks : (plan : Plan) (line contact : ℕ) (first rest : Block) (w0 w1 w2 w3 : Walk) (f : Bool) (r : Result Bool WalkEnd) → Saves w0 w1 → Walked first nothing w1 w2 f
     → ((front : List PathState) (entry : PathState) → w2.saved.items ≡ front ++ entry ∷ [] → IsEnd w2.history entry.end → Merges line (ways_if f w2) (ways_of w2.history entry.end) front w2 w3 r)
     → Walks plan (when line contact first rest) rest w0 w3 r
 when_walks plan line contact first rest w0 w1 w2 w3 f r s h k =
@@ -165,7 +165,7 @@ when_walks plan line contact first rest w0 w1 w2 w3 f r s h k =
     past : ways_of w2.history w0.state.end ≡ ways_at w0
     past = saves_ways w0 w1 w2 first f s h
 
-    when_result : (r : Result Bool Stop) → Merges line (ways_if f w2) (ways_of w2.history w0.state.end) w0.saved.items w2 w3 r → Walks plan (when line contact first rest) rest w0 w3 r
+    when_result : (r : Result Bool WalkEnd) → Merges line (ways_if f w2) (ways_of w2.history w0.state.end) w0.saved.items w2 w3 r → Walks plan (when line contact first rest) rest w0 w3 r
     when_result (Ok x) m =
         passed (when line contact first rest) rest w0 w3 x refl (λ ws. refl) (ap (λ us. us ++ ways_at w0) by ∙ ap (λ us. ways_if f w2 ++ us) (sym past) ∙ sym m.ways) m.end
         (keeps_both w0.history w2.history w3.history (saves_keep w0 w1 w2 first f s h) m.kept) m.saved
@@ -173,7 +173,7 @@ when_walks plan line contact first rest w0 w1 w2 w3 f r s h k =
 
 -- ---- `if` with `else`
 
-either_unmerged : (plan : Plan) (line contact : ℕ) (first second rest : Block) (ways heres theres : List Way) (s : Stop) (w : Walk) → heres ≡ ways_through second ways → theres ≡ ways_through first ways
+either_unmerged : (plan : Plan) (line contact : ℕ) (first second rest : Block) (ways heres theres : List Way) (s : WalkEnd) (w : Walk) → heres ≡ ways_through second ways → theres ≡ ways_through first ways
     → IsUnmerged line heres theres s w → StopsIn plan (either line contact first second rest) ways s w
 either_unmerged plan line contact first second rest ways heres theres (StopsAtAct at act cause) w e f h = absurd h
 either_unmerged plan line contact first second rest ways heres theres (Loop at) w e f h = absurd h
@@ -202,12 +202,12 @@ pub else_end : (w0 w1 w2 w3 : Walk) (first : Block) (f : Bool) → Saves w0 w1 �
 else_end w0 w1 w2 w3 first f s h k =
     subst (λ (x : PathState). IsEnd w3.history x.end) (sym k.state) (subst (λ (x : History). IsEnd x w0.state.end) (sym k.history) ((saves_keep w0 w1 w2 first f s h) w0.state.end s.end).0)
 
-pub stops_in_else : (plan : Plan) (line contact : ℕ) (first second rest : Block) (w0 w1 w2 w3 : Walk) (f : Bool) (s : Stop) (w : Walk) → Saves w0 w1 → Walked first nothing w1 w2 f → BeginsElse w0 w2 w3
+pub stops_in_else : (plan : Plan) (line contact : ℕ) (first second rest : Block) (w0 w1 w2 w3 : Walk) (f : Bool) (s : WalkEnd) (w : Walk) → Saves w0 w1 → Walked first nothing w1 w2 f → BeginsElse w0 w2 w3
     → StopsIn plan second (ways_at w3) s w → StopsIn plan (either line contact first second rest) (ways_at w0) s w
 stops_in_else plan line contact first second rest w0 w1 w2 w3 f s w a h k x =
     (in_else x.0, subst (λ ws. IsStop plan (from_place x.0 second) (ways_to x.0 second ws) s w) (else_ways w0 w1 w2 w3 first f a h k) x.1)
 
-pub either_walks : (plan : Plan) (line contact : ℕ) (first second rest : Block) (w0 w1 w2 w3 w4 w5 : Walk) (f g : Bool) (r : Result Bool Stop) → Saves w0 w1 → Walked first nothing w1 w2 f → BeginsElse w0 w2 w3
+pub either_walks : (plan : Plan) (line contact : ℕ) (first second rest : Block) (w0 w1 w2 w3 w4 w5 : Walk) (f g : Bool) (r : Result Bool WalkEnd) → Saves w0 w1 → Walked first nothing w1 w2 f → BeginsElse w0 w2 w3
     → Walked second nothing w3 w4 g
     → ((front : List PathState) (exit : PathState) → w4.saved.items ≡ front ++ exit ∷ [] → IsEnd w4.history exit.end
     → Merges line (ways_if g w4) (if f then ways_of w4.history exit.end else []) front w4 w5 r)
@@ -224,7 +224,7 @@ either_walks plan line contact first second rest w0 w1 w2 w3 w4 w5 f g r s h k m
     others : (if f then ways_of w4.history w2.state.end else []) ≡ ways_through first (ways_at w0)
     others = ap (λ ws. if f then ws else []) (ways_kept w2.history w4.history w2.state.end kept h.end) ∙ sym (saves_through w0 w1 w2 first f s h)
 
-    either_result : (r : Result Bool Stop) → Merges line (ways_if g w4) (if f then ways_of w4.history w2.state.end else []) w0.saved.items w4 w5 r → Walks plan (either line contact first second rest) rest w0 w5 r
+    either_result : (r : Result Bool WalkEnd) → Merges line (ways_if g w4) (if f then ways_of w4.history w2.state.end else []) w0.saved.items w4 w5 r → Walks plan (either line contact first second rest) rest w0 w5 r
     either_result (Ok x) z =
         passed (either line contact first second rest) rest w0 w5 x refl (λ ws. refl) (ap (λ us. us ++ ways_through first (ways_at w0)) by ∙ ap (λ us. ways_if g w4 ++ us) (sym others) ∙ sym z.ways) z.end
         (keeps_both w0.history w2.history w5.history (saves_keep w0 w1 w2 first f s h) (keeps_both w2.history w4.history w5.history kept z.kept)) z.saved

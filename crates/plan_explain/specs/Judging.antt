@@ -11,8 +11,8 @@ use Rattle.script_compiler.specs.declared.flow.ProgramPoint.{ProgramPoint}
 use Rattle.script_compiler.specs.Scheme.{without_label, onward, meet, point_after}
 use Rattle.script_compiler.specs.Judged.{IsJudged, Reached, WaysAgree}
 use Rattle.script_compiler.specs.Refused.{IsRefusedIn, IsRefusedAfter, IsRefused}
-use Rattle.plan_explain.specs.declared.walk.Stop.{Stop}
-use Rattle.plan_explain.specs.declared.walk.Stop.TheVariants.{Act as StopsAtAct, Loop, Ways, Unreached, Long, Memory}
+use Rattle.plan_explain.specs.declared.walk.WalkEnd.{WalkEnd}
+use Rattle.plan_explain.specs.declared.walk.WalkEnd.TheVariants.{Act as StopsAtAct, Loop, Ways, Unreached, Long, Memory}
 use Rattle.plan_explain.specs.declared.walk.Walk.{Walk}
 
 -- ---- where a walk is
@@ -35,7 +35,7 @@ pub record IsTheRefusal (plan : Plan) (b : Block) (s : ProgramPoint) (line : ℕ
   pub invalid : IsJudged plan b s → ⊥
 
 -- the line and the cause of a stop, if it is a refusal
-abbrev pub IfStopped : Stop → (ℕ → Cause → Type 0) → Type 0
+abbrev pub IfStopped : WalkEnd → (ℕ → Cause → Type 0) → Type 0
 IfStopped (StopsAtAct line act cause) holds = holds line cause
 IfStopped (Loop line) holds = holds line Mismatch
 IfStopped (Ways line) holds = holds line Mismatch
@@ -47,7 +47,7 @@ IfStopped Memory holds = Unit {0}
 
 -- a walk from the beginning of a block, where this is known: if it comes to the end, the block is valid, and what is
 -- known there, if control comes there, is what is known after the block; else it stops where the block is refused
-abbrev pub JudgesBlock : Plan → Block → Flow → Walk → Result Bool Stop → Type 0
+abbrev pub JudgesBlock : Plan → Block → Flow → Walk → Result Bool WalkEnd → Type 0
 JudgesBlock plan b known w (Ok is_reached) =
     (s : ProgramPoint) → s.flow ≡ known
     → IsJudged plan b s × (flow_at (point_if is_reached w) ≡ flow_at (point_after plan b s))
@@ -65,7 +65,7 @@ pub record Passes (plan : Plan) (b rest : Block) (s : ProgramPoint) (reached : O
   pub leads : flow_at (point_after plan b s) ≡ flow_at (onward reached None (λ u. point_after plan rest u))
 
 -- a walk from the beginning of a block comes to the rest of it, or stops where the block is refused
-abbrev pub Judges : Plan → Block → Block → Flow → Walk → Result Bool Stop → Type 0
+abbrev pub Judges : Plan → Block → Block → Flow → Walk → Result Bool WalkEnd → Type 0
 Judges plan b rest known w (Ok is_reached) = Passes plan b rest (without_label known) (point_if is_reached w)
 Judges plan b rest known w (Err stop) =
     IfStopped stop (λ line cause. IsTheRefusal plan b (without_label known) line cause)
@@ -73,7 +73,7 @@ Judges plan b rest known w (Err stop) =
 -- ---- the end of a branch
 
 -- paths to these points agree and are merged, or do not agree
-abbrev pub JoinsFlows : ℕ → Option ProgramPoint → Option ProgramPoint → Walk → Result Bool Stop → Type 0
+abbrev pub JoinsFlows : ℕ → Option ProgramPoint → Option ProgramPoint → Walk → Result Bool WalkEnd → Type 0
 JoinsFlows line here there w (Ok is_reached) =
     WaysAgree here there × (flow_at (point_if is_reached w) ≡ flow_at (meet here there))
 JoinsFlows line here there w (Err (Ways at)) = (line ≡ at) × (WaysAgree here there → ⊥)

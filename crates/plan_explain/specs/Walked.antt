@@ -10,8 +10,8 @@ use Rattle.script_compiler.specs.Scheme.{instr_of_act}
 use Rattle.script_compiler.specs.Refused.{IsLine}
 use Rattle.plan_explain.specs.declared.history.History.{History}
 use Rattle.plan_explain.specs.declared.state.PathState.{PathState}
-use Rattle.plan_explain.specs.declared.walk.Stop.{Stop}
-use Rattle.plan_explain.specs.declared.walk.Stop.TheVariants.{Act as StopsAtAct, Loop, Ways, Unreached, Long, Memory}
+use Rattle.plan_explain.specs.declared.walk.WalkEnd.{WalkEnd}
+use Rattle.plan_explain.specs.declared.walk.WalkEnd.TheVariants.{Act as StopsAtAct, Loop, Ways, Unreached, Long, Memory}
 use Rattle.plan_explain.specs.declared.walk.Walk.{Walk}
 use Rattle.plan_explain.specs.Paths.{ways_of, IsEnd, Keeps}
 use Rattle.plan_explain.specs.Ways.{Way, ways_through, Place, from_place, ways_to}
@@ -75,7 +75,7 @@ AreRefusedWays (either at contact first second rest) ways line w =
     × DoNotAgree w.other w.state
 AreRefusedWays _ ways line w = ⊥
 
-abbrev pub IsStop : Plan → Block → List Way → Stop → Walk → Type 0
+abbrev pub IsStop : Plan → Block → List Way → WalkEnd → Walk → Type 0
 IsStop plan b ways (StopsAtAct line act cause) w = IsRefusedAct plan b ways line act cause w
 IsStop plan b ways (Loop line) w = IsRefusedLoop b ways line w
 IsStop plan b ways (Ways line) w = AreRefusedWays b ways line w
@@ -84,11 +84,11 @@ IsStop plan b ways Long w = Unit {0}
 IsStop plan b ways Memory w = Unit {0}
 
 -- the walk stops at a place of the block, where these ways lead to its beginning
-abbrev pub StopsIn : Plan → Block → List Way → Stop → Walk → Type 0
+abbrev pub StopsIn : Plan → Block → List Way → WalkEnd → Walk → Type 0
 StopsIn plan b ways s w = (p : Place) × IsStop plan (from_place p b) (ways_to p b ways) s w
 
 -- a walk from the beginning of the block comes to the rest of it, or stops in it
-abbrev pub Walks : Plan → Block → Block → Walk → Walk → Result Bool Stop → Type 0
+abbrev pub Walks : Plan → Block → Block → Walk → Walk → Result Bool WalkEnd → Type 0
 Walks plan b rest old new (Ok is_reached) = Walked b rest old new is_reached
 Walks plan b rest old new (Err s) = StopsIn plan b (ways_at old) s new
 
@@ -102,7 +102,7 @@ pub record Merged (here there : List Way) (front : List PathState) (old new : Wa
   pub saved : new.saved.items ≡ front
 
 -- or can't be
-abbrev pub IsUnmerged : ℕ → List Way → List Way → Stop → Walk → Type 0
+abbrev pub IsUnmerged : ℕ → List Way → List Way → WalkEnd → Walk → Type 0
 IsUnmerged line here there (StopsAtAct at act cause) w = ⊥
 IsUnmerged line here there (Loop at) w = ⊥
 IsUnmerged line here there (Ways at) w =
@@ -111,6 +111,6 @@ IsUnmerged line here there (Unreached at act after) w = ⊥
 IsUnmerged line here there Long w = ⊥
 IsUnmerged line here there Memory w = Unit {0}
 
-abbrev pub Merges : ℕ → List Way → List Way → List PathState → Walk → Walk → Result Bool Stop → Type 0
+abbrev pub Merges : ℕ → List Way → List Way → List PathState → Walk → Walk → Result Bool WalkEnd → Type 0
 Merges line here there front old new (Ok is_reached) = Merged here there front old new is_reached
 Merges line here there front old new (Err s) = IsUnmerged line here there s new

@@ -5,16 +5,16 @@ ghost use Rattle.script_compiler.specs.Scheme.{without_label};
 ghost use Rattle.plan_flow.specs.Flows.{FitsFlow};
 ghost use Rattle.plan_explain.specs.Paths.{ways_of, IsEnd};
 ghost use Rattle.plan_explain.specs.declared.state.PathState.{PathState};
-ghost use Rattle.plan_explain.specs.declared.walk.Stop.TheVariants.{Loop, Memory};
+ghost use Rattle.plan_explain.specs.declared.walk.WalkEnd.TheVariants.{Loop, Memory};
 ghost use Rattle.plan_explain.specs.Judging.{point_if, JoinsFlows};
 ghost use Rattle.plan_explain.specs.Walked.{ways_if, Merges};
 
 use crate::state::PathState;
-use crate::walk::{Stop, Walk};
+use crate::walk::{Walk, WalkEnd};
 
 impl Walk {
     /// Saves what is known here.
-    pub(crate) fn save(&mut self) -> Result<(), Stop>
+    pub(crate) fn save(&mut self) -> Result<(), WalkEnd>
         ensures saved { OnOk result (self.new.saved.items ≡ self.old.saved.items
             ++ self.old.state ∷ []) }
         ensures state { self.new.state ≡ self.old.state }
@@ -24,12 +24,12 @@ impl Walk {
         let kept = self.state.copied();
         match self.saved.push(kept) {
             Ok(()) => Ok(()),
-            Err(_full) => Err(Stop::Memory),
+            Err(_full) => Err(WalkEnd::Memory),
         }
     }
 
     /// Removes and returns what was saved last.
-    fn restore(&mut self) -> Result<PathState, Stop>
+    fn restore(&mut self) -> Result<PathState, WalkEnd>
         ensures last { (front : List PathState) (entry : PathState) → self.old.saved.items
             ≡ front ++ entry ∷ [] → (result ≡ Ok entry) × (self.new.saved.items ≡ front) }
         ensures state { self.new.state ≡ self.old.state }
@@ -37,12 +37,12 @@ impl Walk {
     {
         match self.saved.pop() {
             Some(saved) => Ok(saved),
-            None => Err(Stop::Long),
+            None => Err(WalkEnd::Long),
         }
     }
 
     /// Merges this path with another one; this one may be unreachable.
-    fn join(&mut self, falls: bool, line: u16, other: PathState) -> Result<bool, Stop>
+    fn join(&mut self, falls: bool, line: u16, other: PathState) -> Result<bool, WalkEnd>
         ensures ways { IsEnd self.old.history other.end → Merges line (ways_if falls self.old)
             (ways_of self.old.history other.end) self.old.saved.items self.old self.new result }
         ensures flows { JoinsFlows line (point_if falls self.old) (Some (without_label other.flow))
@@ -56,14 +56,14 @@ impl Walk {
             Ok(true) => Ok(true),
             Ok(false) => {
                 self.other = Some(other);
-                Err(Stop::Ways { line })
+                Err(WalkEnd::Ways { line })
             }
-            Err(_full) => Err(Stop::Memory),
+            Err(_full) => Err(WalkEnd::Memory),
         }
     }
 
     /// Ends a loop, whose entry was saved.
-    pub(crate) fn close_loop(&mut self, falls: bool, line: u16) -> Result<(), Stop>
+    pub(crate) fn close_loop(&mut self, falls: bool, line: u16) -> Result<(), WalkEnd>
         ensures saved { (front : List PathState) (entry : PathState) → self.old.saved.items
             ≡ front ++ entry ∷ [] → self.new.saved.items ≡ front }
         ensures state { self.new.state ≡ self.old.state }
@@ -91,11 +91,11 @@ impl Walk {
             return Ok(());
         }
         self.other = Some(entry);
-        Err(Stop::Loop { line })
+        Err(WalkEnd::Loop { line })
     }
 
     /// Ends an `if` without `else`: merges the path through its block, if reachable, with the path past it.
-    pub(crate) fn close_if(&mut self, falls: bool, line: u16) -> Result<bool, Stop>
+    pub(crate) fn close_if(&mut self, falls: bool, line: u16) -> Result<bool, WalkEnd>
         ensures ways { (front : List PathState) (entry : PathState) → self.old.saved.items
             ≡ front ++ entry ∷ [] → IsEnd self.old.history entry.end → Merges line
             (ways_if falls self.old) (ways_of self.old.history entry.end) front
@@ -111,7 +111,7 @@ impl Walk {
     }
 
     /// Ends a first branch: saves what is known there, and begins the second with what was known before both.
-    pub(crate) fn begin_else(&mut self) -> Result<(), Stop>
+    pub(crate) fn begin_else(&mut self) -> Result<(), WalkEnd>
         ensures begun { OnOk result ((front : List PathState) (entry : PathState)
             → self.old.saved.items ≡ front ++ entry ∷ [] → (self.new.state ≡ entry)
             × (self.new.saved.items ≡ front ++ self.old.state ∷ [])) }
@@ -133,7 +133,12 @@ impl Walk {
     }
 
     /// Ends a second branch: merges it with the first, if that is reachable.
-    pub(crate) fn close_else(&mut self, first: bool, second: bool, line: u16) -> Result<bool, Stop>
+    pub(crate) fn close_else(
+        &mut self,
+        first: bool,
+        second: bool,
+        line: u16,
+    ) -> Result<bool, WalkEnd>
         requires end { IsEnd self.old.history self.old.state.end }
         ensures ways { (front : List PathState) (exit : PathState) → self.old.saved.items
             ≡ front ++ exit ∷ [] → IsEnd self.old.history exit.end → Merges line

@@ -2,8 +2,8 @@
 
 use crate::config::{missing_of, put_orphan, put_orphan_packet, put_overlap};
 use crate::edit::{explain_edit, is_there};
+use crate::item_faults::ItemFault;
 use crate::names::put_sid;
-use crate::opening::ItemFault;
 use crate::overlap::overlap_of;
 use crate::past::{Past, Since};
 use crate::script::PlanPath;

@@ -16,15 +16,15 @@ use std::io::{self, Write};
 
 /// The lines of a loop or an `if`: of its first token, and of its last brace.
 #[derive(Clone, Copy)]
-pub(crate) struct Lines {
+pub(crate) struct LineRange {
     pub(crate) first: u16,
     pub(crate) last: u16,
 }
 
-impl Lines {
+impl LineRange {
     /// The lines of braces; the last line of a script for later ones.
-    pub(crate) fn of(braces: Braces) -> Lines {
-        Lines {
+    pub(crate) fn of(braces: Braces) -> LineRange {
+        LineRange {
             first: u16::try_from(braces.first.line).unwrap_or(u16::MAX),
             last: u16::try_from(braces.last.line).unwrap_or(u16::MAX),
         }
@@ -79,11 +79,11 @@ fn put_swaps<W: Write>(here: Swap, there: Swap, sides: Sides, out: &mut W) -> io
 fn put_loop_hint<W: Write>(
     end: Swap,
     beginning: Swap,
-    lines: Lines,
+    lines: LineRange,
     has_same_commit: bool,
     out: &mut W,
 ) -> io::Result<()> {
-    let Lines { first, last } = lines;
+    let LineRange { first, last } = lines;
     let word = match beginning {
         Swap::Idle => {
             return writeln!(
@@ -131,14 +131,14 @@ pub(crate) fn explain_loop<W: Write>(
 pub(crate) fn advise_loop<W: Write>(
     end: &Flow<Config>,
     beginning: &Flow<Config>,
-    lines: Lines,
+    lines: LineRange,
     has_same_commit: bool,
     out: &mut W,
 ) -> io::Result<()> {
     if has_other_swap(end.pending, beginning.pending) {
         return put_loop_hint(end.pending, beginning.pending, lines, has_same_commit, out);
     }
-    let Lines { first, last } = lines;
+    let LineRange { first, last } = lines;
     writeln!(
         out,
         "hint: undo before line {last} what the loop did, then 'commit' and 'join'; or do it before line {first}"
@@ -164,8 +164,8 @@ pub(crate) fn explain_paths<W: Write>(
 }
 
 /// Advises on paths that can't be merged after an `if` of these lines.
-pub(crate) fn advise_paths<W: Write>(lines: Lines, out: &mut W) -> io::Result<()> {
-    let Lines { first, last } = lines;
+pub(crate) fn advise_paths<W: Write>(lines: LineRange, out: &mut W) -> io::Result<()> {
+    let LineRange { first, last } = lines;
     writeln!(
         out,
         "hint: leave both ways through lines {first} to {last} with the same configurations, 'commit' and 'join' included"

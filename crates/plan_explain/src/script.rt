@@ -15,15 +15,15 @@ use crate::cost::{advise_costs, costs_of, explain_costs, try_costs};
 use crate::hint_loop::try_loop;
 use crate::hint_statement::{Place, try_statement};
 use crate::history::{History, PathEnd};
+use crate::item_faults::{ItemFaults, advise_first, explain_first, try_first};
 use crate::limit::explain_code_limit;
-use crate::opening::{ItemFaults, advise_first, explain_first, try_first};
 use crate::others::put_others;
 use crate::past::Past;
-use crate::paths::{Lines, advise_loop, advise_paths, explain_loop, explain_paths};
+use crate::paths::{LineRange, advise_loop, advise_paths, explain_loop, explain_paths};
 use crate::state::PathState;
 use crate::trial::Refusal;
 use crate::trier::Trier;
-use crate::walk::{Stop, Walk};
+use crate::walk::{Walk, WalkEnd};
 use plan_code::Plan;
 use plan_flow::Cause;
 use script_compiler::{CompileFault, instr_of};
@@ -42,7 +42,7 @@ pub(crate) struct PlanPath {
     /// Why the opening is refused, if it is.
     pub(crate) opening: Option<Cause>,
     /// The refused statement, if there is one.
-    stop: Option<Stop>,
+    stop: Option<WalkEnd>,
 }
 
 /// Walks through a script up to the first refusal. A statement at which it stops is at a place of the script to which
@@ -98,7 +98,7 @@ fn extend(plan: &Plan, script: &Script, path_taken: &mut PlanPath) -> Result<(),
         .whole(plan, script.blocks(), script.statements())
     {
         Ok(_falls) => Ok(()),
-        Err(Stop::Memory) => Err(AllocError),
+        Err(WalkEnd::Memory) => Err(AllocError),
         Err(stop) => {
             path_taken.stop = Some(stop);
             Ok(())
@@ -162,12 +162,12 @@ fn explain_loop_at<W: Write>(
     };
     let end = &walk.state.flow;
     explain_loop(end, &other.flow, out)?;
-    let mut lines = Lines {
+    let mut lines = LineRange {
         first: line,
         last: line,
     };
     if let Some(braces) = trier.braces_of(line, "repeat", "forever") {
-        lines = Lines::of(braces);
+        lines = LineRange::of(braces);
         try_loop(trier, plan, braces, end, &other.flow)?;
     }
     if trier.is_at_loss() {
@@ -190,8 +190,8 @@ fn explain_paths_at<W: Write>(
     };
     explain_paths(&walk.state.flow, &other.flow, out)?;
     let lines = match trier.braces_of(line, "if", "if") {
-        Some(braces) => Lines::of(braces),
-        None => Lines {
+        Some(braces) => LineRange::of(braces),
+        None => LineRange {
             first: line,
             last: line,
         },
@@ -226,31 +226,33 @@ fn explain_stop<'x, W: Write>(
     trier: &mut Trier,
     plan: &'x Plan,
     walk: &'x Walk,
-    stop: &Stop,
+    stop: &WalkEnd,
     out: &mut W,
 ) -> io::Result<()> {
     match stop {
-        Stop::Act { line, act, cause } => {
+        WalkEnd::Act { line, act, cause } => {
             let refused = refused_by(plan, walk, *act, *cause);
             explain_act(trier, &refused, *line, act, out)
         }
-        Stop::Loop { line } => explain_loop_at(trier, plan, walk, *line, out),
-        Stop::Ways { line } => explain_paths_at(trier, walk, *line, out),
-        Stop::Unreached { line, act, after } => explain_unreached(trier, *line, act, *after, out),
-        Stop::Long => writeln!(out, "the plan is too long to be explained"),
-        Stop::Memory => Ok(()),
+        WalkEnd::Loop { line } => explain_loop_at(trier, plan, walk, *line, out),
+        WalkEnd::Ways { line } => explain_paths_at(trier, walk, *line, out),
+        WalkEnd::Unreached { line, act, after } => explain_unreached(
+            trier, *line, act, *after, out,
+        ),
+        WalkEnd::Long => writeln!(out, "the plan is too long to be explained"),
+        WalkEnd::Memory => Ok(()),
     }
 }
 
 /// Whether the walk stops in this line.
-fn stops_in(stop: &Stop, wanted: u16) -> bool {
+fn stops_in(stop: &WalkEnd, wanted: u16) -> bool {
     match stop {
-        Stop::Act { line, .. } => *line == wanted,
-        Stop::Loop { line } => *line == wanted,
-        Stop::Ways { line } => *line == wanted,
-        Stop::Unreached { line, .. } => *line == wanted,
-        Stop::Long => true,
-        Stop::Memory => false,
+        WalkEnd::Act { line, .. } => *line == wanted,
+        WalkEnd::Loop { line } => *line == wanted,
+        WalkEnd::Ways { line } => *line == wanted,
+        WalkEnd::Unreached { line, .. } => *line == wanted,
+        WalkEnd::Long => true,
+        WalkEnd::Memory => false,
     }
 }
 

@@ -25,7 +25,7 @@ const DEEPEST: u16 = 2000;
 
 /// Why a walk ends before the script does.
 #[derive(Clone, Copy)]
-pub(crate) enum Stop {
+pub(crate) enum WalkEnd {
     /// A statement without a block is refused.
     Act {
         line: u16,
@@ -53,9 +53,9 @@ pub(crate) enum Stop {
     Memory,
 }
 
-impl From<AllocError> for Stop {
+impl From<AllocError> for WalkEnd {
     fn from(_error: AllocError) -> Self {
-        Stop::Memory
+        WalkEnd::Memory
     }
 }
 
@@ -108,7 +108,7 @@ impl Walk {
     }
 
     /// Executes one instruction; if refused, nothing changes. Returns true: control reaches what follows.
-    fn step(&mut self, plan: &Plan, line: u16, act: &Act) -> Result<bool, Stop>
+    fn step(&mut self, plan: &Plan, line: u16, act: &Act) -> Result<bool, WalkEnd>
         requires end { IsEnd self.old.history self.old.state.end }
         ensures ways { (rest : Block) → Walks plan.now (basic line act.now rest) rest
             self.old self.new result }
@@ -118,12 +118,12 @@ impl Walk {
         let instr = instr_of(*act);
         match self.state.pass(plan, &mut self.history, line, &instr) {
             Ok(None) => Ok(true),
-            Ok(Some(cause)) => Err(Stop::Act {
+            Ok(Some(cause)) => Err(WalkEnd::Act {
                 line,
                 act: *act,
                 cause,
             }),
-            Err(_full) => Err(Stop::Memory),
+            Err(_full) => Err(WalkEnd::Memory),
         }
     }
 
@@ -133,7 +133,7 @@ impl Walk {
         plan: &Plan,
         blocks: &[Vec<Statement>],
         statements: &[Statement],
-    ) -> Result<bool, Stop>
+    ) -> Result<bool, WalkEnd>
         requires end { IsEnd self.old.history self.old.state.end }
         ensures ways { Walks plan.now (block_of (tables blocks.now) statements.now) nothing
             self.old self.new result }
@@ -151,7 +151,7 @@ impl Walk {
         blocks: &[Vec<Statement>],
         depth: u16,
         statements: &[Statement],
-    ) -> Result<bool, Stop>
+    ) -> Result<bool, WalkEnd>
         requires end { IsEnd self.old.history self.old.state.end }
         ensures ways { Walks plan.now (block_of (tables blocks.now) statements.now) nothing
             self.old self.new result }
@@ -163,7 +163,7 @@ impl Walk {
         for statement in statements {
             let line = line_of(statement);
             if !falls {
-                return Err(Stop::Unreached {
+                return Err(WalkEnd::Unreached {
                     line,
                     act: act_of(statement),
                     after,
@@ -186,7 +186,7 @@ impl Walk {
         blocks: &[Vec<Statement>],
         depth: u16,
         statement: &Statement,
-    ) -> Result<bool, Stop>
+    ) -> Result<bool, WalkEnd>
         requires end { IsEnd self.old.history self.old.state.end }
         ensures ways { (rest : Block) → Walks plan.now (before (tables blocks.now) statement.now
             rest) rest self.old self.new result }
@@ -194,10 +194,10 @@ impl Walk {
             statement.now rest) rest self.old.state.flow self.new result }
     {
         if depth == 0 {
-            return Err(Stop::Long);
+            return Err(WalkEnd::Long);
         }
         if self.left == 0 {
-            return Err(Stop::Long);
+            return Err(WalkEnd::Long);
         }
         self.left -= 1;
         match statement {
@@ -245,7 +245,7 @@ impl Walk {
         depth: u16,
         line: u16,
         first: &[Statement],
-    ) -> Result<bool, Stop>
+    ) -> Result<bool, WalkEnd>
         requires end { IsEnd self.old.history self.old.state.end }
         ensures ways { (contact : ℕ) (rest : Block) → Walks plan.now
             (when line contact (block_of (tables blocks.now) first.now) rest)
@@ -274,7 +274,7 @@ impl Walk {
         line: u16,
         first: &[Statement],
         second: &[Statement],
-    ) -> Result<bool, Stop>
+    ) -> Result<bool, WalkEnd>
         requires end { IsEnd self.old.history self.old.state.end }
         ensures ways { (contact : ℕ) (rest : Block) → Walks plan.now
             (either line contact (block_of (tables blocks.now) first.now)
@@ -311,7 +311,7 @@ impl Walk {
         line: u16,
         body: &[Statement],
         ends: bool,
-    ) -> Result<bool, Stop>
+    ) -> Result<bool, WalkEnd>
         requires end { IsEnd self.old.history self.old.state.end }
         ensures repeats { (times : ℕ) (rest : Block) → ends ≡ true → Walks plan.now
             (repeat line times (block_of (tables blocks.now) body.now) rest)

@@ -18,14 +18,14 @@ mod fitting;
 pub mod flow;
 pub mod indices;
 mod meeting;
-pub mod opening;
 mod pages;
 pub mod properties;
+pub mod start;
 mod swaps;
 pub mod tracked;
 
 pub use cause::Cause;
 pub use flow::Flow;
 pub use indices::{IndexedFlow, Indices};
-pub use opening::test_opening;
+pub use start::test_opening;
 pub use tracked::TrackedFlow;

@@ -12,7 +12,7 @@ use Rattle.plan_runs.specs.declared.event.Event.TheVariants.{Frame}
 use Rattle.plan_runs.specs.Frames.{is_due, is_first_noticed, left_after_frame, shown_bytes, sent_entries, sent_rounds, with_next_counts, frame_bytes, after_frame}
 use Rattle.plan_runs.specs.Runs.{run, run_frames}
 use Rattle.plan_runs.specs.Announced.{notice_frames}
-use Rattle.plan_player.specs.declared.fault.Cut.{Cut}
+use Rattle.plan_player.specs.declared.fault.Accepted.{Accepted}
 use Rattle.plan_player.specs.declared.phase_pages.PhasePages.{PhasePages}
 use Rattle.plan_player.specs.Phase.{IsGoing}
 use Rattle.plan_player.specs.Playing.{Playing, last_steps, played}
@@ -147,7 +147,7 @@ stretch_stopped p n s t steps x y frames bytes quiet cut =
 
 -- ---- results
 
-pub quiet_done : (p : Program) (plan : Plan) (n : ℕ) (s t : State) (steps : ℕ) (x y : Option (List ℕ)) (r : Result ℕ Cut) → plan ≡ p.plan → 1 ≤ n → AreQuiet p n s
+pub quiet_done : (p : Program) (plan : Plan) (n : ℕ) (s t : State) (steps : ℕ) (x y : Option (List ℕ)) (r : Result ℕ Accepted) → plan ≡ p.plan → 1 ≤ n → AreQuiet p n s
     → IfOk r (λ k. k ≡ n) → OnOk r (t ≡ counted_on plan n s) → OnOk r (Appends x y (concat (notice_frames plan n s)))
     → (let old : Playing = record { code = p; state = s; steps = steps } in
     let new : Playing = record { code = p; state = t; steps = 0 } in
@@ -159,7 +159,7 @@ quiet_done p plan n s t steps x y (Ok m) e some quiet all state out =
     let whole = stretch_delivered p n s t steps x y some quiet (subst (λ (q : Plan). t ≡ counted_on q n s) e state) (subst (λ (q : Plan). Appends x y (concat (notice_frames q n s))) e out) in
     subst (λ (k : ℕ). Delivered old new (replicate k Frame) x y k) (sym all) whole
 
-pub quiet_stopped : (p : Program) (plan : Plan) (m n : ℕ) (s t : State) (steps : ℕ) (x y : Option (List ℕ)) (r : Result ℕ Cut) → plan ≡ p.plan → n ≤ m → AreQuiet p n s
+pub quiet_stopped : (p : Program) (plan : Plan) (m n : ℕ) (s t : State) (steps : ℕ) (x y : Option (List ℕ)) (r : Result ℕ Accepted) → plan ≡ p.plan → n ≤ m → AreQuiet p n s
     → IfErr r (λ cut. IsCut plan n s t x y cut.frames cut.bytes)
     → (let old : Playing = record { code = p; state = s; steps = steps } in
     let new : Playing = record { code = p; state = t; steps = 0 } in
@@ -173,7 +173,7 @@ quiet_stopped p plan m n s t steps x y (Err c) e le quiet cut =
     let more : replicate n Frame ++ replicate (m - n) Frame ≡ replicate m Frame = sym (replicate_more n (m - n)) ∙ ap (λ (k : ℕ). replicate k Frame) all in
     subst (λ (l : List Event). Stopped old new l x y c.frames c.bytes) more (stopped_before old new (replicate n Frame) (replicate (m - n) Frame) x y c.frames c.bytes here)
 
-pub some_quiet : (m n : ℕ) (r : Result ℕ Cut) → 1 ≤ n → n ≤ m → IfOk r (λ k. k ≡ n) → IfOk r (λ k. (1 ≤ k) × (k ≤ m))
+pub some_quiet : (m n : ℕ) (r : Result ℕ Accepted) → 1 ≤ n → n ≤ m → IfOk r (λ k. k ≡ n) → IfOk r (λ k. (1 ≤ k) × (k ≤ m))
 some_quiet m n (Err cut) some le all = tt
 some_quiet m n (Ok k) some le all = (omega (arith, some, all), omega (arith, le, all))
 

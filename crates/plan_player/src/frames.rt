@@ -9,7 +9,7 @@ ghost use Rattle.plan_player.specs.Playing.{played};
 ghost use Rattle.plan_player.specs.Delivery.{frames_of, played_bytes, Delivered, Stopped, StoppedBy};
 ghost use Rattle.plan_player.specs.Quiet.{AreQuiet};
 
-use crate::fault::{Cut, PlayFault};
+use crate::fault::{Accepted, PlayFault};
 use crate::player::Player;
 use crate::sink::Sink;
 use mux_config::Store;
@@ -30,7 +30,7 @@ fn play_quiet<'a, S: Store, K: Sink>(
     player: &mut Player<'a, S>,
     count: u32,
     sink: &mut K,
-) -> Result<(), Cut>
+) -> Result<(), Accepted>
     requires working { K.has_failed sink.old ≡ false }
     requires quiet { AreQuiet player.old.code count player.old.state }
     ensures done { OnOk result (Delivered player.old player.new (replicate count Frame)
@@ -46,7 +46,7 @@ fn play_quiet<'a, S: Store, K: Sink>(
         match player.put_quiet(&plan, count - done, sink) {
             Ok(made) => done += made,
             Err(cut) => {
-                return Err(Cut {
+                return Err(Accepted {
                     frames: done + cut.frames,
                     bytes: cut.bytes,
                 });
@@ -58,7 +58,7 @@ fn play_quiet<'a, S: Store, K: Sink>(
 
 /// Plays the next frame.
 #[inline(never)]
-fn play_one<'a, S: Store, K: Sink>(player: &mut Player<'a, S>, sink: &mut K) -> Result<(), Cut>
+fn play_one<'a, S: Store, K: Sink>(player: &mut Player<'a, S>, sink: &mut K) -> Result<(), Accepted>
     requires working { K.has_failed sink.old ≡ false }
     ensures done { OnOk result (Delivered player.old player.new (replicate 1 Frame)
         (K.taken sink.old) (K.taken sink.new) 1) }
@@ -69,7 +69,7 @@ fn play_one<'a, S: Store, K: Sink>(player: &mut Player<'a, S>, sink: &mut K) -> 
 {
     match player.put_frame(sink) {
         Ok(()) => Ok(()),
-        Err(bytes) => Err(Cut { frames: 0, bytes }),
+        Err(bytes) => Err(Accepted { frames: 0, bytes }),
     }
 }
 
@@ -79,7 +79,7 @@ fn play_some<'a, S: Store, K: Sink>(
     player: &mut Player<'a, S>,
     most: u32,
     sink: &mut K,
-) -> Result<u32, Cut>
+) -> Result<u32, Accepted>
     requires working { K.has_failed sink.old ≡ false }
     requires one { 1 ≤ most }
     ensures done { IfOk result (λ n. Delivered player.old player.new (replicate n Frame)

@@ -3,8 +3,8 @@
 mod burst;
 mod commit;
 mod counts;
+mod frame_start;
 mod instruction;
-mod opening;
 mod quiet;
 mod sending;
 
@@ -16,8 +16,8 @@ ghost use Rattle.plan_player.specs.Positions.{state_of};
 
 pub(crate) use burst::run;
 pub(crate) use counts::{count_after, count_later, page_after, pass, pass_many};
+pub(crate) use frame_start::begin;
 use mux_config::Store;
-pub(crate) use opening::begin;
 use plan_code::{ContactId, Contacts, Hold};
 use plan_runs::Start;
 use plan_verifier::Verified;

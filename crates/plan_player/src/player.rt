@@ -19,7 +19,7 @@ ghost use Rattle.plan_player.specs.Delivery.{next_frame, Delivered, Stopped};
 ghost use Rattle.plan_player.specs.Quiet.{IsQuiet, AreQuiet};
 
 use crate::batch::{Batch, MOST_FRAMES};
-use crate::fault::{Cut, StartFault};
+use crate::fault::{Accepted, StartFault};
 use crate::frame_step::{make_frame, send};
 use crate::machine::{Machine, quiet_frames};
 use crate::phase_pages::PhasePages;
@@ -212,7 +212,7 @@ impl<'a, S: Store> Player<'a, S> {
         plan: &Plan,
         most: u32,
         sink: &mut K,
-    ) -> Result<u32, Cut>
+    ) -> Result<u32, Accepted>
         requires working { K.has_failed sink.old ≡ false }
         requires plan { plan.now ≡ self.old.code.plan }
         requires one { 1 ≤ most }
@@ -229,7 +229,7 @@ impl<'a, S: Store> Player<'a, S> {
         if !self.pages.is_whole {
             return match self.put_quiet_frame(plan, sink) {
                 Ok(()) => Ok(1),
-                Err(bytes) => Err(Cut { frames: 0, bytes }),
+                Err(bytes) => Err(Accepted { frames: 0, bytes }),
             };
         }
         let count = most.min(u32::from(MOST_FRAMES)) as u16;

@@ -15,7 +15,7 @@ ghost use Rattle.plan_player.specs.Quiet.{counted_on};
 ghost use Rattle.plan_player.specs.Stretch.{header_of, ensemble_at, headed_at, IsStretch, IsCut};
 
 use crate::batch::Batch;
-use crate::fault::Cut;
+use crate::fault::Accepted;
 use crate::machine::{
     Header, Machine, count_after, count_later, is_on_step, make_header, page_after, pass_many,
 };
@@ -166,7 +166,7 @@ pub(crate) fn put_stretch<S: Store, K: Sink>(
     batch: &mut Batch,
     count: u16,
     sink: &mut K,
-) -> Result<u32, Cut>
+) -> Result<u32, Accepted>
     requires working { K.has_failed sink.old ≡ false }
     requires one { 1 ≤ count }
     requires few { count ≤ 128 }
@@ -194,7 +194,7 @@ pub(crate) fn put_stretch<S: Store, K: Sink>(
             let size = 32 * plan.layout.fibs();
             let frames = (taken / size) as u16;
             pass_many(pages.made, frames + 1, machine);
-            Err(Cut {
+            Err(Accepted {
                 frames: u32::from(frames),
                 bytes: taken % size,
             })

@@ -15,7 +15,7 @@ use crate::item_fault::{NO_ITEM, Wrong};
 use crate::items::{Item, change, number};
 use crate::reading::read_items;
 use plan_code::limits::FRAMES_A_DAY;
-use script_tokens::Reader;
+use script_tokens::TokenReader;
 use std::alloc::Global;
 
 /// The keywords of commands.
@@ -57,7 +57,7 @@ fn tokens_after(keyword: Keyword) -> usize
 }
 
 /// The rest of a command, after its keyword.
-fn command_after(keyword: Keyword, reader: &mut Reader) -> Result<Command, Wrong>
+fn command_after(keyword: Keyword, reader: &mut TokenReader) -> Result<Command, Wrong>
     ensures read { IfOk result (λ s. keyword_text keyword ∷ reader.old.lexemes
         ≡ command_lexemes s ++ reader.new.lexemes) }
     ensures range { IfOk result IsCommand }
@@ -99,7 +99,7 @@ impl Item for Command {
         }
     }
 
-    fn read(reader: &mut Reader) -> Result<Command, Wrong> {
+    fn read(reader: &mut TokenReader) -> Result<Command, Wrong> {
         let Some(word) = reader.peek() else {
             return Err(NO_ITEM);
         };

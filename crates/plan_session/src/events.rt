@@ -13,11 +13,11 @@ use crate::items::{Item, change, number};
 use crate::reading::read_items;
 use crate::step::Step;
 use plan_code::limits::FRAMES_A_DAY;
-use script_tokens::Reader;
+use script_tokens::TokenReader;
 use std::alloc::Global;
 
 /// The rest of a step, after the token `frames`, or otherwise `contact`.
-fn step_after(of_frames: bool, reader: &mut Reader) -> Result<Step, Wrong>
+fn step_after(of_frames: bool, reader: &mut TokenReader) -> Result<Step, Wrong>
     ensures read { IfOk result (λ s. first_lexeme of_frames ∷ reader.old.lexemes
         ≡ step_lexemes s ++ reader.new.lexemes) }
     ensures range { IfOk result IsStep }
@@ -66,7 +66,7 @@ impl Item for Step {
         }
     }
 
-    fn read(reader: &mut Reader) -> Result<Step, Wrong> {
+    fn read(reader: &mut TokenReader) -> Result<Step, Wrong> {
         let Some(word) = reader.peek() else {
             return Err(NO_ITEM);
         };

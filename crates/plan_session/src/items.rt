@@ -8,7 +8,7 @@ ghost use Rattle.plan_session.specs.ItemFaults.{IsAtomNext, IsNoNumber, IsNoChan
 
 use crate::item_fault::Wrong;
 use plan_code::ContactId;
-use script_tokens::Reader;
+use script_tokens::TokenReader;
 use script_tokens::values::{contact, decimal, level};
 
 /// An item that a text lists, spelled by tokens.
@@ -38,7 +38,7 @@ pub(crate) trait Item: Copy {
             → length rest ≡ result };
 
     /// Reads the next item; the token at which it can't be read, if it can't.
-    fn read(reader: &mut Reader) -> Result<Self, Wrong>
+    fn read(reader: &mut TokenReader) -> Result<Self, Wrong>
         ensures read { IfOk result (λ s. reader.old.lexemes ≡ spelled s ++ reader.new.lexemes) }
         ensures range { IfOk result is_item }
         ensures none { IfErr result (λ e. (s : Self) (rest : List (List ℕ)) → is_item s
@@ -47,7 +47,7 @@ pub(crate) trait Item: Copy {
 }
 
 /// Whether the next token is an atom: no brace, and not the end of the text.
-fn is_atom_next(reader: &Reader) -> bool
+fn is_atom_next(reader: &TokenReader) -> bool
     ensures { IsAtomNext reader.now.lexemes result }
 {
     match reader.peek() {
@@ -59,7 +59,7 @@ fn is_atom_next(reader: &Reader) -> bool
 }
 
 /// A number from `low` to `high`, the second token of an item.
-pub(crate) fn number(reader: &mut Reader, low: u32, high: u32) -> Result<u32, Wrong>
+pub(crate) fn number(reader: &mut TokenReader, low: u32, high: u32) -> Result<u32, Wrong>
     ensures read { IfOk result (λ n. Passes (decimal n ∷ []) reader.old reader.new) }
     ensures range { IfOk result (λ n. (low ≤ n) × (n ≤ high)) }
     ensures wrong { IfErr result (λ e. IsNoNumber low high reader.old.lexemes e) }
@@ -75,7 +75,7 @@ pub(crate) fn number(reader: &mut Reader, low: u32, high: u32) -> Result<u32, Wr
 }
 
 /// A contact, the second token of an item.
-fn contact_number(reader: &mut Reader) -> Result<ContactId, Wrong>
+fn contact_number(reader: &mut TokenReader) -> Result<ContactId, Wrong>
     ensures read { IfOk result (λ c. Passes (decimal c ∷ []) reader.old reader.new) }
     ensures range { IfOk result (λ c. c < 16) }
     ensures wrong { IfErr result (λ e. IsNoNumber 0 15 reader.old.lexemes e) }
@@ -91,7 +91,7 @@ fn contact_number(reader: &mut Reader) -> Result<ContactId, Wrong>
 }
 
 /// A contact and its level, after `contact`.
-pub(crate) fn change(reader: &mut Reader) -> Result<(ContactId, bool), Wrong>
+pub(crate) fn change(reader: &mut TokenReader) -> Result<(ContactId, bool), Wrong>
     ensures read { IfOk result (λ c. Passes (decimal c.0 ∷ level_text c.1 ∷ []) reader.old
         reader.new) }
     ensures range { IfOk result (λ c. c.0 < 16) }

@@ -16,7 +16,7 @@ use crate::item_fault::fault_at;
 use crate::items::Item;
 use arrayvec::ArrayVec;
 use script_tokens::token::NO_LIMITS;
-use script_tokens::{Reader, Scanner, ScriptFault, Token};
+use script_tokens::{Scanner, ScriptFault, Token, TokenReader};
 
 /// Takes up to `count` tokens; fewer only at the end of the text.
 fn take_tokens(
@@ -42,7 +42,7 @@ fn item_of<T: Item>(text: &[u8], tokens: &[Token]) -> Result<T, ScriptFault>
     requires { AreWithin (length text.now) tokens.now }
     ensures { ReadsItem T.spelled T.is_item text.now tokens.now result }
 {
-    let mut reader = Reader::new(text, tokens);
+    let mut reader = TokenReader::new(text, tokens);
     match T::read(&mut reader) {
         Ok(item) => Ok(item),
         Err(wrong) => Err(fault_at(text, tokens, wrong)),

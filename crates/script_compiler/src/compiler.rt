@@ -27,7 +27,7 @@ use crate::falls::{all_fall, all_silent};
 use crate::fault::CompileFault;
 use crate::laws;
 use crate::needs::{first_over, needs};
-use crate::opening::{built, test};
+use crate::opening_items::{built, test};
 use crate::refusal::refused;
 use crate::work::{Emitted, Work};
 use mux_config::Config;

@@ -10,7 +10,7 @@ use crate::cost::first_round;
 use crate::fault::CompileFault;
 use crate::longest_path::{LongestPath, longest_in};
 use crate::needs::{first_over, needs};
-use crate::opening::{built, test};
+use crate::opening_items::{built, test};
 use plan_code::Line;
 use script_front::Script;
 use std::alloc::{AllocError, Global};

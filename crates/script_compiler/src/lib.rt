@@ -32,7 +32,7 @@ pub mod laws;
 mod longest_path;
 mod needs;
 mod numbers;
-mod opening;
+mod opening_items;
 mod pool;
 mod refusal;
 mod short;

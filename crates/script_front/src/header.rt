@@ -12,11 +12,16 @@ use plan_code::Plan;
 use plan_code::limits::{LONGEST_NOTICE, LONGEST_PERIOD, SHORTEST_NOTICE};
 use script_tokens::fault::ScriptFault;
 use script_tokens::keyword::Keyword;
-use script_tokens::reader::Reader;
+use script_tokens::token_reader::TokenReader;
 use script_tokens::values::{decimal, eid};
 
 /// This keyword, then a number from `low` to `high`.
-fn declared(reader: &mut Reader, keyword: Keyword, low: u8, high: u8) -> Result<u8, ScriptFault>
+fn declared(
+    reader: &mut TokenReader,
+    keyword: Keyword,
+    low: u8,
+    high: u8,
+) -> Result<u8, ScriptFault>
     ensures { Takes (keyed keyword (number_at low high) reader.old.lexemes) result reader.old
         reader.new }
 {
@@ -27,7 +32,7 @@ fn declared(reader: &mut Reader, keyword: Keyword, low: u8, high: u8) -> Result<
 
 /// `mode MODE`, or mode I if there is no `mode`.
 #[tactic(auto, unfolding(crate::specs::Readers::mode_at))]
-fn mode(reader: &mut Reader) -> Result<Mode, ScriptFault>
+fn mode(reader: &mut TokenReader) -> Result<Mode, ScriptFault>
     ensures { Takes (mode_at reader.old.lexemes) result reader.old reader.new }
 {
     if !reader.is_next(Keyword::Mode) {
@@ -39,7 +44,7 @@ fn mode(reader: &mut Reader) -> Result<Mode, ScriptFault>
 }
 
 /// A mode from II to IV, written 2, 3 or 4.
-fn later_mode(reader: &mut Reader) -> Result<Mode, ScriptFault>
+fn later_mode(reader: &mut TokenReader) -> Result<Mode, ScriptFault>
     ensures { Takes (built mode_of (number_at 2 4) reader.old.lexemes) result
         reader.old reader.new }
 {
@@ -53,7 +58,7 @@ fn later_mode(reader: &mut Reader) -> Result<Mode, ScriptFault>
 
 /// `reserve R`, or no reserved FIB if there is no `reserve`.
 #[tactic(auto, unfolding(crate::specs::Readers::layout_at))]
-fn layout(reader: &mut Reader, mode: Mode) -> Result<FrameLayout, ScriptFault>
+fn layout(reader: &mut TokenReader, mode: Mode) -> Result<FrameLayout, ScriptFault>
     ensures { Takes (layout_at mode reader.old.lexemes) result reader.old reader.new }
 {
     if !reader.is_next(Keyword::Reserve) {
@@ -65,7 +70,7 @@ fn layout(reader: &mut Reader, mode: Mode) -> Result<FrameLayout, ScriptFault>
 }
 
 /// The layout with the number of reserved FIBs that is next: 1, or 1 or 2 in mode III.
-fn reserving(reader: &mut Reader, mode: Mode) -> Result<FrameLayout, ScriptFault>
+fn reserving(reader: &mut TokenReader, mode: Mode) -> Result<FrameLayout, ScriptFault>
     ensures { Takes (built (reserving mode) (number_at 1 (fib_count mode - 2)) reader.old.lexemes)
         result reader.old reader.new }
 {
@@ -79,7 +84,7 @@ fn reserving(reader: &mut Reader, mode: Mode) -> Result<FrameLayout, ScriptFault
 
 /// `ensemble EID [mode MODE] period P notice W budget B [reserve R]`
 #[tactic(auto, unfolding(crate::specs::Readers::header_at))]
-pub fn header(reader: &mut Reader) -> Result<Plan, ScriptFault>
+pub fn header(reader: &mut TokenReader) -> Result<Plan, ScriptFault>
     ensures { Takes (header_at reader.old.lexemes) result reader.old reader.new }
 {
     reader.expect(Keyword::Ensemble)?;

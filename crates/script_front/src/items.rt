@@ -12,7 +12,7 @@ use mux_config::{Carrier, Component, Edit, NewSub, Packet, ScTy, Sid, SubId};
 use script_tokens::fault::ScriptFault;
 use script_tokens::first_keyword::{ActKeyword, ComponentKeyword, EditKeyword, ItemKeyword};
 use script_tokens::keyword::Keyword;
-use script_tokens::reader::Reader;
+use script_tokens::token_reader::TokenReader;
 use script_tokens::values::{
     any_u16, contact, delay, frames, level, profile, sc_id, sc_ty, sid, start, sub_id, time,
 };
@@ -20,7 +20,7 @@ use std::alloc::Global;
 
 /// `sub ID`
 #[tactic(auto, unfolding(crate::specs::Readers::sub_at))]
-fn sub(reader: &mut Reader) -> Result<SubId, ScriptFault>
+fn sub(reader: &mut TokenReader) -> Result<SubId, ScriptFault>
     ensures { Takes (sub_at reader.old.lexemes) result reader.old reader.new }
 {
     reader.expect(Keyword::Sub)?;
@@ -29,7 +29,7 @@ fn sub(reader: &mut Reader) -> Result<SubId, ScriptFault>
 
 /// `in SID`
 #[tactic(auto, unfolding(crate::specs::Readers::service_at))]
-fn in_service(reader: &mut Reader) -> Result<Sid, ScriptFault>
+fn in_service(reader: &mut TokenReader) -> Result<Sid, ScriptFault>
     ensures { Takes (service_at reader.old.lexemes) result reader.old reader.new }
 {
     reader.expect(Keyword::In)?;
@@ -38,7 +38,7 @@ fn in_service(reader: &mut Reader) -> Result<Sid, ScriptFault>
 
 /// `ID at START eep PROFILE RATE`
 #[tactic(auto, unfolding(crate::specs::Readers::new_sub_at))]
-fn new_sub(reader: &mut Reader) -> Result<NewSub, ScriptFault>
+fn new_sub(reader: &mut TokenReader) -> Result<NewSub, ScriptFault>
     ensures { Takes (new_sub_at reader.old.lexemes) result reader.old reader.new }
 {
     let id = sub_id(reader)?;
@@ -52,7 +52,7 @@ fn new_sub(reader: &mut Reader) -> Result<NewSub, ScriptFault>
 
 /// `SCID groups type TYPE sub ID address ADDR`, or with `raw` in place of `groups`
 #[tactic(auto, unfolding(crate::specs::Readers::new_packet_at))]
-fn new_packet(reader: &mut Reader) -> Result<Packet, ScriptFault>
+fn new_packet(reader: &mut TokenReader) -> Result<Packet, ScriptFault>
     ensures { Takes (new_packet_at reader.old.lexemes) result reader.old reader.new }
 {
     let scid = sc_id(reader)?;
@@ -73,7 +73,7 @@ fn new_packet(reader: &mut Reader) -> Result<Packet, ScriptFault>
 
 /// `groups` for DG flag 0, or `raw` for 1
 #[tactic(auto, unfolding(crate::specs::Readers::groups_at))]
-fn data_groups(reader: &mut Reader) -> Result<bool, ScriptFault>
+fn data_groups(reader: &mut TokenReader) -> Result<bool, ScriptFault>
     ensures { Takes (groups_at reader.old.lexemes) result reader.old reader.new }
 {
     if reader.is_next(Keyword::Groups) {
@@ -86,7 +86,7 @@ fn data_groups(reader: &mut Reader) -> Result<bool, ScriptFault>
 
 /// `TYPE sub ID`
 #[tactic(auto, unfolding(crate::specs::Readers::typed_sub_at))]
-fn typed_sub(reader: &mut Reader) -> Result<(ScTy, SubId), ScriptFault>
+fn typed_sub(reader: &mut TokenReader) -> Result<(ScTy, SubId), ScriptFault>
     ensures { Takes (typed_sub_at reader.old.lexemes) result reader.old reader.new }
 {
     let ty = sc_ty(reader)?;
@@ -96,7 +96,7 @@ fn typed_sub(reader: &mut Reader) -> Result<(ScTy, SubId), ScriptFault>
 
 /// `audio`, `data` or `carry`, then the rest of the component
 #[tactic(auto, unfolding(crate::specs::Readers::item_from))]
-fn component(reader: &mut Reader, first: ComponentKeyword) -> Result<Edit, ScriptFault>
+fn component(reader: &mut TokenReader, first: ComponentKeyword) -> Result<Edit, ScriptFault>
     ensures { Takes (item_from (the.Component first) reader.old.lexemes) result
         reader.old reader.new }
 {
@@ -107,7 +107,7 @@ fn component(reader: &mut Reader, first: ComponentKeyword) -> Result<Edit, Scrip
 
 /// What is carried: `audio`, `data` or `carry` with its arguments, up to `in`
 #[tactic(auto, unfolding(crate::specs::Readers::component_from))]
-fn carried(reader: &mut Reader, first: ComponentKeyword) -> Result<Component, ScriptFault>
+fn carried(reader: &mut TokenReader, first: ComponentKeyword) -> Result<Component, ScriptFault>
     ensures { Takes (component_from first reader.old.lexemes) result reader.old reader.new }
 {
     match first {
@@ -128,7 +128,7 @@ fn carried(reader: &mut Reader, first: ComponentKeyword) -> Result<Component, Sc
 
 /// An item, after its first keyword.
 #[tactic(auto, unfolding(crate::specs::Readers::item_from))]
-fn item(reader: &mut Reader, first: ItemKeyword) -> Result<Edit, ScriptFault>
+fn item(reader: &mut TokenReader, first: ItemKeyword) -> Result<Edit, ScriptFault>
     ensures { Takes (item_from first reader.old.lexemes) result reader.old reader.new }
 {
     match first {
@@ -150,7 +150,7 @@ fn item(reader: &mut Reader, first: ItemKeyword) -> Result<Edit, ScriptFault>
 
 /// `sub ID` or `packet SCID`
 #[tactic(auto, unfolding(crate::specs::Readers::carrier_at))]
-fn carrier(reader: &mut Reader) -> Result<Carrier, ScriptFault>
+fn carrier(reader: &mut TokenReader) -> Result<Carrier, ScriptFault>
     ensures { Takes (carrier_at reader.old.lexemes) result reader.old reader.new }
 {
     if reader.is_next(Keyword::Sub) {
@@ -165,7 +165,7 @@ fn carrier(reader: &mut Reader) -> Result<Carrier, ScriptFault>
 
 /// The rest of an edit after `drop`
 #[tactic(auto, unfolding(crate::specs::Readers::dropped_at))]
-fn dropped(reader: &mut Reader) -> Result<Edit, ScriptFault>
+fn dropped(reader: &mut TokenReader) -> Result<Edit, ScriptFault>
     ensures { Takes (dropped_at reader.old.lexemes) result reader.old reader.new }
 {
     if reader.is_next(Keyword::Service) {
@@ -195,7 +195,7 @@ fn dropping(carrier: Carrier) -> Edit
 
 /// `sub ID at START` after `move`
 #[tactic(auto, unfolding(crate::specs::Readers::moved_at))]
-fn moved(reader: &mut Reader) -> Result<Edit, ScriptFault>
+fn moved(reader: &mut TokenReader) -> Result<Edit, ScriptFault>
     ensures { Takes (moved_at reader.old.lexemes) result reader.old reader.new }
 {
     let id = sub(reader)?;
@@ -206,7 +206,7 @@ fn moved(reader: &mut Reader) -> Result<Edit, ScriptFault>
 
 /// `sub ID RATE` after `rate`
 #[tactic(auto, unfolding(crate::specs::Readers::rated_at))]
-fn rated(reader: &mut Reader) -> Result<Edit, ScriptFault>
+fn rated(reader: &mut TokenReader) -> Result<Edit, ScriptFault>
     ensures { Takes (rated_at reader.old.lexemes) result reader.old reader.new }
 {
     let id = sub(reader)?;
@@ -216,7 +216,7 @@ fn rated(reader: &mut Reader) -> Result<Edit, ScriptFault>
 
 /// An edit, after its first keyword.
 #[tactic(auto, unfolding(crate::specs::Readers::edit_from))]
-fn edit(reader: &mut Reader, first: EditKeyword) -> Result<Edit, ScriptFault>
+fn edit(reader: &mut TokenReader, first: EditKeyword) -> Result<Edit, ScriptFault>
     ensures { Takes (edit_from first reader.old.lexemes) result reader.old reader.new }
 {
     match first {
@@ -229,7 +229,7 @@ fn edit(reader: &mut Reader, first: EditKeyword) -> Result<Edit, ScriptFault>
 
 /// The rest of a statement after `wait`
 #[tactic(auto, unfolding(crate::specs::Readers::waiting_at))]
-fn waiting(reader: &mut Reader) -> Result<Act, ScriptFault>
+fn waiting(reader: &mut TokenReader) -> Result<Act, ScriptFault>
     ensures { Takes (waiting_at reader.old.lexemes) result reader.old reader.new }
 {
     if reader.is_next(Keyword::Contact) {
@@ -244,7 +244,7 @@ fn waiting(reader: &mut Reader) -> Result<Act, ScriptFault>
 
 /// `in K` or `at COUNT`, after `commit`
 #[tactic(auto, unfolding(crate::specs::Readers::committing_at))]
-fn committing(reader: &mut Reader) -> Result<Act, ScriptFault>
+fn committing(reader: &mut TokenReader) -> Result<Act, ScriptFault>
     ensures { Takes (committing_at reader.old.lexemes) result reader.old reader.new }
 {
     if reader.is_next(Keyword::In) {
@@ -259,7 +259,7 @@ fn committing(reader: &mut Reader) -> Result<Act, ScriptFault>
 
 /// A statement without a block, after its first keyword.
 #[tactic(auto, unfolding(crate::specs::Readers::act_from))]
-pub fn act(reader: &mut Reader, first: ActKeyword) -> Result<Act, ScriptFault>
+pub fn act(reader: &mut TokenReader, first: ActKeyword) -> Result<Act, ScriptFault>
     ensures { Takes (act_from first reader.old.lexemes) result reader.old reader.new }
 {
     match first {
@@ -279,7 +279,7 @@ pub fn act(reader: &mut Reader, first: ActKeyword) -> Result<Act, ScriptFault>
 }
 
 /// Whether the next token begins an item.
-pub fn begins_item(reader: &Reader) -> bool
+pub fn begins_item(reader: &TokenReader) -> bool
     ensures begins { result ≡ true → first_item reader.now.lexemes ≢ None }
     ensures none { result ≡ false → first_item reader.now.lexemes ≡ None }
 {
@@ -288,7 +288,11 @@ pub fn begins_item(reader: &Reader) -> bool
 
 /// Items, as long as one begins; `left` is how many more items and statements the script may have.
 #[tactic(auto, using(crate::proofs::ReadingItems::goes_on, crate::proofs::ReadingItems::all_read, crate::proofs::ReadingItems::none_left, crate::proofs::ReadingItems::none_next))]
-pub fn items(alloc: Global, reader: &mut Reader, left: &mut u16) -> Result<Vec<Item>, ScriptFault>
+pub fn items(
+    alloc: Global,
+    reader: &mut TokenReader,
+    left: &mut u16,
+) -> Result<Vec<Item>, ScriptFault>
     ensures read { IfOk result (λ v. ReadsItems v.items left.old left.new reader.old reader.new) }
     ensures none { IfErr result (λ e. e ≢ Memory → items_at left.old reader.old.lines
         reader.old.lexemes ≡ None) }
@@ -306,7 +310,7 @@ pub fn items(alloc: Global, reader: &mut Reader, left: &mut u16) -> Result<Vec<I
 
 /// Reads an item and appends it to a list.
 #[tactic(auto, unfolding(crate::specs::Readers::items_at))]
-fn one_more(reader: &mut Reader, list: &mut Vec<Item>) -> Result<(), ScriptFault>
+fn one_more(reader: &mut TokenReader, list: &mut Vec<Item>) -> Result<(), ScriptFault>
     requires { first_item reader.old.lexemes ≢ None }
     ensures more { OnOk result (HasMore list.old.items list.new.items reader.old reader.new) }
     ensures none { IfErr result (λ e. e ≢ Memory → (left : ℕ) → items_at (suc left) reader.old.lines

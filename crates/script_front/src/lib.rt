@@ -25,6 +25,6 @@ pub use printer::print;
 pub use script::Script;
 pub use script_tokens::{
     Keyword, Limits, Position, ScriptFault, TimeOfDay, Token, cut, fault, keyword, lex, lexer,
-    number, reader, time, token, values,
+    number, time, token, token_reader, values,
 };
 pub use tree::{Act, BlockId, Item, Statement};

@@ -18,7 +18,7 @@ use crate::tree::Statement;
 use script_tokens::fault::ScriptFault;
 use script_tokens::keyword::Keyword;
 use script_tokens::lexer::lex;
-use script_tokens::reader::Reader;
+use script_tokens::token_reader::TokenReader;
 use script_tokens::values::name;
 use std::alloc::Global;
 
@@ -35,7 +35,7 @@ const DEEPEST: u8 = 16;
 #[tactic(auto, using(crate::proofs::ReadingDefinitions::begins_on, crate::proofs::ReadingDefinitions::goes_on))]
 fn definitions(
     alloc: Global,
-    reader: &mut Reader,
+    reader: &mut TokenReader,
     names: &mut Names,
     left: &mut u16,
 ) -> Result<Vec<Vec<Statement>>, ScriptFault>
@@ -62,7 +62,7 @@ fn definitions(
 #[tactic(auto, unfolding(crate::specs::BlockReader::definition_at))]
 fn definition(
     alloc: Global,
-    reader: &mut Reader,
+    reader: &mut TokenReader,
     names: &mut Names,
     left: &mut u16,
 ) -> Result<Vec<Statement>, ScriptFault>
@@ -83,7 +83,7 @@ fn definition(
 
 /// A name that is not defined yet; the reader does not advance
 #[tactic(auto, unfolding(crate::specs::BlockReader::new_name_at))]
-fn new_name<'a>(reader: &Reader<'a>, names: &Names) -> Result<&'a str, ScriptFault>
+fn new_name<'a>(reader: &TokenReader<'a>, names: &Names) -> Result<&'a str, ScriptFault>
     ensures read { IfOk result (λ s. new_name_at names.now reader.now.lexemes ≡ Some (
       s.now,
       drop 1
@@ -100,7 +100,7 @@ fn new_name<'a>(reader: &Reader<'a>, names: &Names) -> Result<&'a str, ScriptFau
 }
 
 /// Checks that no token is left.
-fn end(reader: &Reader) -> Result<(), ScriptFault>
+fn end(reader: &TokenReader) -> Result<(), ScriptFault>
     ensures all { OnOk result (reader.now.lexemes ≡ []) }
     ensures none { OnErr result (reader.now.lexemes ≢ []) }
 {
@@ -112,7 +112,7 @@ fn end(reader: &Reader) -> Result<(), ScriptFault>
 
 /// Parses the tokens of a whole script.
 #[tactic(auto, unfolding(crate::specs::BlockReader::script_at))]
-fn script(alloc: Global, reader: &mut Reader) -> Result<Script, ScriptFault>
+fn script(alloc: Global, reader: &mut TokenReader) -> Result<Script, ScriptFault>
     ensures read { IfOk result (λ s. script_at reader.old ≡ Some (content_of s)) }
     ensures none { IfErr result (λ e. e ≢ Memory → script_at reader.old ≡ None) }
 {
@@ -148,7 +148,7 @@ pub fn parse(alloc: Global, text: &str) -> Result<Script, ScriptFault>
     ensures none { IfErr result (λ e. e ≢ Memory → IsNoScript text.now) }
 {
     let tokens = lex(alloc, text)?;
-    let mut reader = Reader::new(text.as_bytes(), &tokens);
+    let mut reader = TokenReader::new(text.as_bytes(), &tokens);
     let found = script(alloc, &mut reader)?;
     Ok(found)
 }

@@ -15,7 +15,7 @@ use crate::tree::{BlockId, Statement};
 use script_tokens::fault::ScriptFault;
 use script_tokens::first_keyword::StatementKeyword;
 use script_tokens::keyword::Keyword;
-use script_tokens::reader::Reader;
+use script_tokens::token_reader::TokenReader;
 use script_tokens::values::{contact, name, times};
 use std::alloc::Global;
 
@@ -25,7 +25,7 @@ use std::alloc::Global;
 #[tactic(auto, unfolding(crate::specs::BlockReader::block_at, crate::specs::BlockReader::begun_at))]
 fn statement(
     alloc: Global,
-    reader: &mut Reader,
+    reader: &mut TokenReader,
     names: &Names,
     left: &mut u16,
     depth: u8,
@@ -54,7 +54,7 @@ fn statement(
 #[tactic(auto, unfolding(crate::specs::BlockReader::statement_from, crate::specs::BlockReader::branch_at))]
 fn after_keyword(
     alloc: Global,
-    reader: &mut Reader,
+    reader: &mut TokenReader,
     names: &Names,
     left: &mut u16,
     depth: u8,
@@ -89,7 +89,7 @@ fn after_keyword(
 #[tactic(auto, using(crate::proofs::ReadingOn::none_next))]
 pub fn statements(
     alloc: Global,
-    reader: &mut Reader,
+    reader: &mut TokenReader,
     names: &Names,
     left: &mut u16,
     depth: u8,
@@ -111,7 +111,7 @@ pub fn statements(
 
 /// Whether no token is left, or a closing brace is next.
 #[tactic(auto, unfolding(crate::specs::BlockReader::stops))]
-fn ends(reader: &Reader) -> bool
+fn ends(reader: &TokenReader) -> bool
     ensures { result ≡ stops reader.now.lexemes }
 {
     if reader.is_empty() {
@@ -125,7 +125,7 @@ fn ends(reader: &Reader) -> bool
 #[tactic(auto, unfolding(crate::specs::BlockReader::body_at))]
 pub fn block(
     alloc: Global,
-    reader: &mut Reader,
+    reader: &mut TokenReader,
     names: &Names,
     left: &mut u16,
     depth: u8,
@@ -144,7 +144,7 @@ pub fn block(
 
 /// An opening brace, if `depth` allows one more.
 #[tactic(auto, unfolding(crate::specs::BlockReader::open_at, script_tokens::specs::Reading::after))]
-fn open(reader: &mut Reader, depth: u8) -> Result<(), ScriptFault>
+fn open(reader: &mut TokenReader, depth: u8) -> Result<(), ScriptFault>
     ensures room { OnOk result (1 ≤ depth) }
     ensures leaves { Leaves (open_at depth reader.old.lexemes) result reader.old reader.new }
 {
@@ -163,7 +163,7 @@ fn open(reader: &mut Reader, depth: u8) -> Result<(), ScriptFault>
 #[tactic(auto, unfolding(crate::specs::BlockReader::statement_from, crate::specs::BlockReader::branch_at))]
 fn choice(
     alloc: Global,
-    reader: &mut Reader,
+    reader: &mut TokenReader,
     names: &Names,
     left: &mut u16,
     depth: u8,
@@ -191,7 +191,7 @@ fn choice(
 #[tactic(auto, unfolding(crate::specs::BlockReader::statement_from, crate::specs::BlockReader::branch_at))]
 fn repetition(
     alloc: Global,
-    reader: &mut Reader,
+    reader: &mut TokenReader,
     names: &Names,
     left: &mut u16,
     depth: u8,
@@ -213,7 +213,7 @@ fn repetition(
 #[tactic(auto, unfolding(crate::specs::BlockReader::statement_from, crate::specs::BlockReader::branch_at))]
 fn endless(
     alloc: Global,
-    reader: &mut Reader,
+    reader: &mut TokenReader,
     names: &Names,
     left: &mut u16,
     depth: u8,
@@ -231,7 +231,7 @@ fn endless(
 
 /// The name after `apply`.
 #[tactic(auto, unfolding(crate::specs::BlockReader::applied_at))]
-fn application(reader: &mut Reader, names: &Names, line: u16) -> Result<Statement, ScriptFault>
+fn application(reader: &mut TokenReader, names: &Names, line: u16) -> Result<Statement, ScriptFault>
     requires { length names.now ≤ 64 }
     ensures read { IfOk result (λ s. IsApplied names.now line reader.old reader.new (before [] s)) }
     ensures none { OnErr result (applied_at names.now reader.old.lexemes ≡ None) }

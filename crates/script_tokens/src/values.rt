@@ -17,15 +17,15 @@ ghost use Rattle.script_tokens.specs.Keywords.{IsName, has_name_letters, is_name
 use crate::fault::ScriptFault;
 use crate::keyword::Keyword;
 use crate::number;
-use crate::reader::Reader;
 use crate::time::TimeOfDay;
+use crate::token_reader::TokenReader;
 use mux_config::{ScId, ScTy, Sid, StartAddress, SubId};
 use mux_eep::Protection;
 use plan_code::{ContactId, Delay, Frames, Times};
 
 /// A decimal from `low` to `high`.
 #[tactic(auto, using(crate::proofs::Wording::decimal_letters, crate::proofs::Atoms::decimal_below, crate::proofs::Atoms::decimal_above, crate::proofs::Taking::number_next, crate::proofs::Taking::number_other, crate::proofs::Taking::number_out, crate::proofs::Taking::number_no_atom))]
-pub fn decimal(reader: &mut Reader, low: u32, high: u32) -> Result<u32, ScriptFault>
+pub fn decimal(reader: &mut TokenReader, low: u32, high: u32) -> Result<u32, ScriptFault>
     ensures read { Takes (number_at low high reader.old.lexemes) result reader.old reader.new }
     ensures spells { IfOk result (λ n. Passes (decimal n ∷ []) reader.old reader.new) }
     ensures none { OnErr result ((n : ℕ) (rest : List (List ℕ)) → low ≤ n → n ≤ high → n <
@@ -50,7 +50,7 @@ pub fn decimal(reader: &mut Reader, low: u32, high: u32) -> Result<u32, ScriptFa
 }
 
 /// A decimal from 0 to 65,535.
-pub fn any_u16(reader: &mut Reader) -> Result<u16, ScriptFault>
+pub fn any_u16(reader: &mut TokenReader) -> Result<u16, ScriptFault>
     ensures { Takes (number_at 0 65535 reader.old.lexemes) result reader.old reader.new }
 {
     let value = decimal(reader, 0, 65_535)?;
@@ -58,7 +58,7 @@ pub fn any_u16(reader: &mut Reader) -> Result<u16, ScriptFault>
 }
 
 /// A SubChId, 0 to 63.
-pub fn sub_id(reader: &mut Reader) -> Result<SubId, ScriptFault>
+pub fn sub_id(reader: &mut TokenReader) -> Result<SubId, ScriptFault>
     ensures { Takes (number_at 0 63 reader.old.lexemes) result reader.old reader.new }
 {
     let value = decimal(reader, 0, 63)?;
@@ -69,7 +69,7 @@ pub fn sub_id(reader: &mut Reader) -> Result<SubId, ScriptFault>
 }
 
 /// An SCId, 0 to 4095.
-pub fn sc_id(reader: &mut Reader) -> Result<ScId, ScriptFault>
+pub fn sc_id(reader: &mut TokenReader) -> Result<ScId, ScriptFault>
     ensures { Takes (number_at 0 4095 reader.old.lexemes) result reader.old reader.new }
 {
     let value = decimal(reader, 0, 4095)?;
@@ -80,7 +80,7 @@ pub fn sc_id(reader: &mut Reader) -> Result<ScId, ScriptFault>
 }
 
 /// A component type (ASCTy or DSCTy), 0 to 63.
-pub fn sc_ty(reader: &mut Reader) -> Result<ScTy, ScriptFault>
+pub fn sc_ty(reader: &mut TokenReader) -> Result<ScTy, ScriptFault>
     ensures { Takes (number_at 0 63 reader.old.lexemes) result reader.old reader.new }
 {
     let value = decimal(reader, 0, 63)?;
@@ -91,7 +91,7 @@ pub fn sc_ty(reader: &mut Reader) -> Result<ScTy, ScriptFault>
 }
 
 /// A start address, 0 to 1023.
-pub fn start(reader: &mut Reader) -> Result<StartAddress, ScriptFault>
+pub fn start(reader: &mut TokenReader) -> Result<StartAddress, ScriptFault>
     ensures { Takes (number_at 0 1023 reader.old.lexemes) result reader.old reader.new }
 {
     let value = decimal(reader, 0, 1023)?;
@@ -102,7 +102,7 @@ pub fn start(reader: &mut Reader) -> Result<StartAddress, ScriptFault>
 }
 
 /// A contact, 0 to 15.
-pub fn contact(reader: &mut Reader) -> Result<ContactId, ScriptFault>
+pub fn contact(reader: &mut TokenReader) -> Result<ContactId, ScriptFault>
     ensures read { Takes (number_at 0 15 reader.old.lexemes) result reader.old reader.new }
     ensures spells { IfOk result (λ n. Passes (decimal n ∷ []) reader.old reader.new) }
     ensures none { OnErr result ((n : ℕ) (rest : List (List ℕ)) → n < 16
@@ -124,7 +124,7 @@ pub fn contact(reader: &mut Reader) -> Result<ContactId, ScriptFault>
 ///
 /// `Expected` where the next token is neither.
 #[tactic(auto, unfolding(crate::specs::Taking::level_at))]
-pub fn level(reader: &mut Reader) -> Result<bool, ScriptFault>
+pub fn level(reader: &mut TokenReader) -> Result<bool, ScriptFault>
     ensures read { Takes (level_at reader.old.lexemes) result reader.old reader.new }
     ensures spells { IfOk result (λ closed. Passes (level_text closed ∷ []) reader.old reader.new) }
     ensures none { OnErr result ((closed : Bool) (rest : List (List ℕ))
@@ -141,7 +141,7 @@ pub fn level(reader: &mut Reader) -> Result<bool, ScriptFault>
 }
 
 /// A number of frames to wait, 1 to 65,535.
-pub fn frames(reader: &mut Reader) -> Result<Frames, ScriptFault>
+pub fn frames(reader: &mut TokenReader) -> Result<Frames, ScriptFault>
     ensures { Takes (number_at 1 65535 reader.old.lexemes) result reader.old reader.new }
 {
     let value = decimal(reader, 1, 65_535)?;
@@ -152,7 +152,7 @@ pub fn frames(reader: &mut Reader) -> Result<Frames, ScriptFault>
 }
 
 /// The number of times that a loop repeats, 1 to 65,535.
-pub fn times(reader: &mut Reader) -> Result<Times, ScriptFault>
+pub fn times(reader: &mut TokenReader) -> Result<Times, ScriptFault>
     ensures { Takes (number_at 1 65535 reader.old.lexemes) result reader.old reader.new }
 {
     let value = decimal(reader, 1, 65_535)?;
@@ -163,7 +163,7 @@ pub fn times(reader: &mut Reader) -> Result<Times, ScriptFault>
 }
 
 /// The delay of a swap in frames, 1 to 60,000.
-pub fn delay(reader: &mut Reader) -> Result<Delay, ScriptFault>
+pub fn delay(reader: &mut TokenReader) -> Result<Delay, ScriptFault>
     ensures { Takes (number_at 1 60000 reader.old.lexemes) result reader.old reader.new }
 {
     let value = decimal(reader, 1, 60_000)?;
@@ -175,7 +175,7 @@ pub fn delay(reader: &mut Reader) -> Result<Delay, ScriptFault>
 
 /// An EId: four digits 0-9 or A-F.
 #[tactic(auto, using(crate::proofs::Taking::eid_next, crate::proofs::Taking::eid_other, crate::proofs::Taking::eid_no_atom))]
-pub fn eid(reader: &mut Reader) -> Result<u16, ScriptFault>
+pub fn eid(reader: &mut TokenReader) -> Result<u16, ScriptFault>
     ensures { Takes (eid_at reader.old.lexemes) result reader.old reader.new }
 {
     let atom = reader.atom()?;
@@ -190,7 +190,7 @@ pub fn eid(reader: &mut Reader) -> Result<u16, ScriptFault>
 
 /// An SId: four digits 0-9 or A-F for a short one, eight for a long one.
 #[tactic(auto, using(crate::proofs::Taking::sid_next, crate::proofs::Taking::sid_other, crate::proofs::Taking::sid_no_atom))]
-pub fn sid(reader: &mut Reader) -> Result<Sid, ScriptFault>
+pub fn sid(reader: &mut TokenReader) -> Result<Sid, ScriptFault>
     ensures { Takes (sid_at reader.old.lexemes) result reader.old reader.new }
 {
     let atom = reader.atom()?;
@@ -205,7 +205,7 @@ pub fn sid(reader: &mut Reader) -> Result<Sid, ScriptFault>
 
 /// A protection profile, `1-A` to `4-A` or `1-B` to `4-B`.
 #[tactic(auto, using(crate::proofs::Taking::profile_next, crate::proofs::Taking::profile_other, crate::proofs::Taking::profile_no_atom))]
-pub fn profile(reader: &mut Reader) -> Result<Protection, ScriptFault>
+pub fn profile(reader: &mut TokenReader) -> Result<Protection, ScriptFault>
     ensures { Takes (profile_at reader.old.lexemes) result reader.old reader.new }
 {
     let atom = reader.atom()?;
@@ -220,7 +220,7 @@ pub fn profile(reader: &mut Reader) -> Result<Protection, ScriptFault>
 
 /// A time of day, 00:00:00 to 23:59:59.
 #[tactic(auto, using(crate::proofs::Taking::time_next, crate::proofs::Taking::time_other, crate::proofs::Taking::time_no_atom))]
-pub fn time(reader: &mut Reader) -> Result<TimeOfDay, ScriptFault>
+pub fn time(reader: &mut TokenReader) -> Result<TimeOfDay, ScriptFault>
     ensures { Takes (time_at reader.old.lexemes) result reader.old reader.new }
 {
     let atom = reader.atom()?;
@@ -240,7 +240,7 @@ pub fn time(reader: &mut Reader) -> Result<TimeOfDay, ScriptFault>
 /// `Expected` where the next token is not a name: a brace, an ill-formed atom or a keyword; or where the text has
 /// ended.
 #[tactic(auto, using(crate::proofs::Taking::name_shown))]
-pub fn name<'a>(reader: &Reader<'a>) -> Result<&'a str, ScriptFault>
+pub fn name<'a>(reader: &TokenReader<'a>) -> Result<&'a str, ScriptFault>
     ensures next { IfOk result (λ s. name_next reader.now.lexemes ≡ Some (
       s.now,
       drop 1

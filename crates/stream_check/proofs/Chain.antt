@@ -5,12 +5,12 @@ use Rattle.std.proofs.lemmas.List.{append_assoc, append-nil, map-append, length-
 use Rattle.stream_check.specs.declared.finding.Finding.{Finding}
 use Rattle.stream_check.specs.declared.finding.What.{What}
 use Rattle.stream_check.specs.declared.reporting.FrameAt.{FrameAt}
-use Rattle.stream_check.specs.declared.memory.Memory.{Memory}
+use Rattle.stream_check.specs.declared.checker_state.CheckerState.{CheckerState}
 use Rattle.stream_check.specs.Reporting.{in_frame}
 use Rattle.stream_check.specs.History.{Item, Moment, Said, said}
 use Rattle.stream_check.specs.Rules.{known_of, findings_at, has_no_room}
 use Rattle.stream_check.specs.Stream.{findings_at_items, runs_full}
-use Rattle.stream_check.specs.Memory.{Knows}
+use Rattle.stream_check.specs.CheckerState.{Knows}
 use Rattle.stream_check.specs.Hearing.{Hears}
 use Rattle.stream_check.specs.Reported.{Reported, Unknown, All, AtMost, kept, with_more}
 
@@ -100,7 +100,7 @@ findings_stay step period (x ∷ xs) ys past e = elim (has_no_room (known_of ste
     ] e
 
 -- no entries
-pub hears_nothing : (at : FrameAt) (m : Memory) (reported : Reported) → Hears at [] m reported m reported false
+pub hears_nothing : (at : FrameAt) (m : CheckerState) (reported : Reported) → Hears at [] m reported m reported false
 hears_nothing at m reported past k = record {
   findings = more_none reported;
   room = refl;
@@ -108,7 +108,7 @@ hears_nothing at m reported past k = record {
 }
 
 -- some entries, and then others
-pub hears_more : (at : FrameAt) (xs ys : List Item) (old mid new : Memory) (before reported after : Reported) (full : Bool)
+pub hears_more : (at : FrameAt) (xs ys : List Item) (old mid new : CheckerState) (before reported after : Reported) (full : Bool)
     → mid.step ≡ old.step → mid.period ≡ old.period → Hears at xs old before mid reported false → Hears at ys mid reported new after full → Hears at (xs ++ ys) old before new after full
 hears_more at xs ys old mid new before reported after full same page_index h g past k =
     let one = h past k in
@@ -127,7 +127,7 @@ hears_more at xs ys old mid new before reported after full same page_index h g p
     }
 
 -- entries after one for which there was no room
-pub hears_full : (at : FrameAt) (xs ys : List Item) (old new : Memory) (before after : Reported) → Hears at xs old before new after true → Hears at (xs ++ ys) old before new after true
+pub hears_full : (at : FrameAt) (xs ys : List Item) (old new : CheckerState) (before after : Reported) → Hears at xs old before new after true → Hears at (xs ++ ys) old before new after true
 hears_full at xs ys old new before after h past k =
     let one = h past k in
     record {

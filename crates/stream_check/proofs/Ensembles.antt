@@ -4,11 +4,11 @@ use Rattle.std.proofs.lemmas.Bool.{cases_lt, false≢true}
 use Rattle.std.proofs.lemmas.List.{append-nil}
 use Rattle.mux_types.specs.Entries.{EnsembleInformation}
 use Rattle.fib_reader.specs.Listening.{Listening, is_made, swapped, awaiting, at_ensemble}
-use Rattle.stream_check.specs.declared.memory.Memory.{Memory}
+use Rattle.stream_check.specs.declared.checker_state.CheckerState.{CheckerState}
 use Rattle.stream_check.specs.Pictures.{empty_picture, Each, key_of}
 use Rattle.stream_check.specs.Rules.{at_most, has_flags, makes_swap}
 use Rattle.stream_check.specs.History.{Item, Moment, Said, is_ensemble, ensemble_of, is_flagged, is_swap, is_member, frames_ended, listening, listener_after, eid_of, last_eid, has_ensemble, begins_notice, has_begun, began_early, flag_count, times_announced, last_flags, is_cut_off, next_key, settles_at, row_at_hand, rows, last_heard}
-use Rattle.stream_check.specs.Memory.{listener_in, known_in, with_swap, with_ensemble, eid_after, IsLastHeard, IsStamped, HasNotice, Knows}
+use Rattle.stream_check.specs.CheckerState.{listener_in, known_in, with_swap, with_ensemble, eid_after, IsLastHeard, IsStamped, HasNotice, Knows}
 use Rattle.stream_check.proofs.Notice.{notice_none, notice_begins, each_in}
 use Rattle.stream_check.proofs.Members.{or_false, or_true, ensemble_swap, ensemble_flagged, ensemble_placed, ensemble_no_member, ensemble_heard, after_is}
 use Rattle.stream_check.proofs.Knowing.{later_second}
@@ -99,7 +99,7 @@ none_more n = omega arith
 
 -- ---- each case
 
-abbrev pub noted : Bool → Bool → Bool → EnsembleInformation → Memory → Memory
+abbrev pub noted : Bool → Bool → Bool → EnsembleInformation → CheckerState → CheckerState
 noted b f first e m =
     record (cond f (record (cond b (with_swap m) m) { is_cut_off = (cond b (with_swap m) m).is_cut_off || not (cond b (with_swap m) m).tuned; awaited = e.occurrence; flags = e.change; times = at_most 3 ((cond b (with_swap m) m).times + 1); has_begun = true }) (cond b (with_swap m) m)) {
       eid = eid_after (first && (e.count % (cond b (with_swap m) m).step == 0)) e (cond b (with_swap m) m).eid;
@@ -108,7 +108,7 @@ noted b f first e m =
       tuned = true;
     }
 
-made_tuned : (b : Bool) (m : Memory) (e : EnsembleInformation) → (m.tuned ≡ false → m.awaited ≡ None) → is_made m.awaited e ≡ true → b ≡ m.tuned → m.tuned ≡ true
+made_tuned : (b : Bool) (m : CheckerState) (e : EnsembleInformation) → (m.tuned ≡ false → m.awaited ≡ None) → is_made m.awaited e ≡ true → b ≡ m.tuned → m.tuned ≡ true
 made_tuned true m e un made is = sym is
 made_tuned false m e un made is = absurd (false≢true (sym (ap (λ o. is_made o e) (un (sym is))) ∙ made))
 
@@ -119,7 +119,7 @@ cut_kept false true c h = or_true c
 cut_kept false false c h = h refl
 
 -- what all cases have in common
-record Same (step period : ℕ) (past : List Moment) (i : Item) (m : Memory) (b f : Bool) : Type 0 where
+record Same (step period : ℕ) (past : List Moment) (i : Item) (m : CheckerState) (b f : Bool) : Type 0 where
   ens : is_ensemble i ≡ true
   sw : is_swap past i ≡ b
   fl : is_flagged i ≡ f
@@ -129,7 +129,7 @@ record Same (step period : ℕ) (past : List Moment) (i : Item) (m : Memory) (b 
   heard : listening (Said i ∷ past) ≡ Some (heard_as b f (ensemble_of i) (listener_in m))
   tuned : (listener_after past).tuned ≡ m.tuned
 
-swapped_last : (past : List Moment) (i : Item) (m : Memory) (step period : ℕ) → is_ensemble i ≡ true → is_swap past i ≡ true → Knows step period past m → Each (IsLastHeard (Said i ∷ past) (m.frames + 1)) m.next
+swapped_last : (past : List Moment) (i : Item) (m : CheckerState) (step period : ℕ) → is_ensemble i ≡ true → is_swap past i ≡ true → Knows step period past m → Each (IsLastHeard (Said i ∷ past) (m.frames + 1)) m.next
 swapped_last past i m step period e sw k =
     each_in (IsStamped (rows past) (row_at_hand past)) (IsLastHeard (Said i ∷ past) (m.frames + 1)) m.next
     (λ h s.
@@ -138,7 +138,7 @@ swapped_last past i m step period e sw k =
     k.notice.stamps
 
 -- with a swap
-case_swap : (f : Bool) (step period : ℕ) (past : List Moment) (i : Item) (m : Memory) → Same step period past i m true f → Knows step period past m → Knows step period (Said i ∷ past) (noted true f i.first (ensemble_of i) m)
+case_swap : (f : Bool) (step period : ℕ) (past : List Moment) (i : Item) (m : CheckerState) → Same step period past i m true f → Knows step period past m → Knows step period (Said i ∷ past) (noted true f i.first (ensemble_of i) m)
 case_swap true step period past i m s k =
     record {
       mode = k.mode;
@@ -189,7 +189,7 @@ case_swap false step period past i m s k =
     }
 
 -- without a swap
-case_stay : (f : Bool) (step period : ℕ) (past : List Moment) (i : Item) (m : Memory) → Same step period past i m false f → Knows step period past m → Knows step period (Said i ∷ past) (noted false f i.first (ensemble_of i) m)
+case_stay : (f : Bool) (step period : ℕ) (past : List Moment) (i : Item) (m : CheckerState) → Same step period past i m false f → Knows step period past m → Knows step period (Said i ∷ past) (noted false f i.first (ensemble_of i) m)
 case_stay true step period past i m s k =
     record {
       mode = k.mode;
@@ -240,7 +240,7 @@ case_stay false step period past i m s k =
           (subst (λ (r : List ℕ). HasNotice (rows past) r m.rows m.since m.parts m.next m.has_begun) (sym (row_is past i false s.ens s.sw)) k.notice);
     }
 
-pub knows_ensemble : (step period : ℕ) (past : List Moment) (m : Memory) (i : Item) → is_ensemble i ≡ true → Knows step period past m
+pub knows_ensemble : (step period : ℕ) (past : List Moment) (m : CheckerState) (i : Item) → is_ensemble i ≡ true → Knows step period past m
     → Knows step period (Said i ∷ past) (with_ensemble i.first (ensemble_of i) (cond (makes_swap (known_in m) (ensemble_of i)) (with_swap m) m))
 knows_ensemble step period past m i e k = cases (makes_swap (known_in m) (ensemble_of i)) (has_flags (ensemble_of i)) refl refl
   where

@@ -6,11 +6,11 @@ use Rattle.std.proofs.lemmas.List.Concat.{flat_map-append}
 use Rattle.fib_codec.specs.Modes.{fib_count, count_step}
 use Rattle.fib_codec.specs.declared.modes.Mode.{Mode}
 use Rattle.fib_codec.specs.declared.modes.Mode.TheVariants.{I, II, III, IV}
-use Rattle.stream_check.specs.declared.memory.Memory.{Memory}
+use Rattle.stream_check.specs.declared.checker_state.CheckerState.{CheckerState}
 use Rattle.stream_check.specs.Frames.{Fib, Reading, first_in, opening, is_there, begins_with_ensemble, holds_ensemble, IsOneFrame, AreFrames, HoldsFirst, IsFramed, damaged_in}
 use Rattle.stream_check.specs.History.{Item, Moment, Said, said, frame_items, frames_ended}
 use Rattle.stream_check.specs.Stream.{findings_in, after_frame, findings_of, after_frames}
-use Rattle.stream_check.specs.Memory.{Knows}
+use Rattle.stream_check.specs.CheckerState.{Knows}
 use Rattle.stream_check.specs.Hearing.{IsFrameHeard, HearsFrame}
 use Rattle.mux_types.specs.Entries.{EnsembleInformation}
 use Rattle.stream_check.specs.declared.checker.Summary.{Summary}
@@ -32,7 +32,7 @@ ended_frames step (f ∷ fs) past =
     let one = said_frames (frame_items f) past in
     omega (arith, rest, one)
 
-pub frame_count : (step period : ℕ) (frames : List (List Fib)) (m : Memory) → Knows step period (after_frames step [] frames) m → m.frames ≡ length frames
+pub frame_count : (step period : ℕ) (frames : List (List Fib)) (m : CheckerState) → Knows step period (after_frames step [] frames) m → m.frames ≡ length frames
 frame_count step period frames m k = let all = ended_frames step frames [] in omega (arith, all, k.frames)
 
 no_frames : (frames : List (List Fib)) → 0 ≡ length frames → frames ≡ []
@@ -41,11 +41,11 @@ no_frames (f ∷ fs) e = absurd (omega (arith, e))
 
 -- ---- a skipped FIB
 
-pub follows_skip : (r : Reading) (mode : Mode) (period : ℕ) (stream : List Fib) (start reported : Reported) (c : Checking) (fib : List ℕ) → c.memory.frames ≡ 0 → c.held ≡ [] → holds_ensemble (r.read fib) ≡ false
+pub follows_skip : (r : Reading) (mode : Mode) (period : ℕ) (stream : List Fib) (start reported : Reported) (c : Checking) (fib : List ℕ) → c.state.frames ≡ 0 → c.held ≡ [] → holds_ensemble (r.read fib) ≡ false
     → (f : Follows r mode period stream start reported c)
     → (g : Follows r mode period (stream ++ r.read fib ∷ []) start reported (record c { skipped = c.skipped + 1 })) × ((g.frames ≡ f.frames) × (f.frames ≡ []))
 follows_skip r mode period stream start reported c fib none empty silent f =
-    let count = frame_count (count_step mode) period f.frames c.memory f.knows in
+    let count = frame_count (count_step mode) period f.frames c.state f.knows in
     let nothing : f.frames ≡ [] = no_frames f.frames (sym none ∙ count) in
     let held : map r.read c.held ≡ [] = ap (map r.read) empty in
     let longer = length-append f.skipped (r.read fib ∷ []) in
@@ -88,12 +88,12 @@ held_some r (x ∷ xs) some e = absurd cc
 
 -- a FIB that is buffered: the first of all contains a FIG 0/0, and only the first of a frame may begin with one
 pub record IsNext (r : Reading) (c : Checking) (fib : List ℕ) : Type 0 where
-  pub holds : c.memory.frames ≡ 0 → c.held ≡ [] → holds_ensemble (r.read fib) ≡ true
+  pub holds : c.state.frames ≡ 0 → c.held ≡ [] → holds_ensemble (r.read fib) ≡ true
 
-holds_next : (r : Reading) (mode : Mode) (period : ℕ) (c : Checking) (fib : List ℕ) (frames : List (List Fib)) → Knows (count_step mode) period (after_frames (count_step mode) [] frames) c.memory → IsNext r c fib
+holds_next : (r : Reading) (mode : Mode) (period : ℕ) (c : Checking) (fib : List ℕ) (frames : List (List Fib)) → Knows (count_step mode) period (after_frames (count_step mode) [] frames) c.state → IsNext r c fib
     → frames ≡ [] → map r.read c.held ≡ [] → holds_ensemble (r.read fib) ≡ true
 holds_next r mode period c fib frames k next none empty =
-    let count = frame_count (count_step mode) period frames c.memory k in
+    let count = frame_count (count_step mode) period frames c.state k in
     let zero_frames : length frames ≡ 0 = ap length none in
     next.holds (omega (arith, count, zero_frames)) (empties c.held empty)
   where
@@ -140,21 +140,21 @@ record Ends (r : Reading) (mode : Mode) (stream : List Fib) (c : Checking) (fib 
 flat_one : (frames : List (List Fib)) (frame : List Fib) → flat (frames ++ frame ∷ []) ≡ flat frames ++ frame
 flat_one frames frame = flat_map-append (λ g. g) frames (frame ∷ []) ∙ ap (λ l. flat frames ++ l) (append-nil frame)
 
-heard_same : (mode : Mode) (c : Checking) (frame : List Fib) (reported after : Reported) (new : Memory) (full : Bool) (period : ℕ) (past : List Moment) → c.size ≡ fib_count mode → Knows (count_step mode) period past c.memory
-    → HearsFrame c.size frame c.memory reported new after full → IsFrameHeard (fib_count mode) (count_step mode) period past frame reported after new full
+heard_same : (mode : Mode) (c : Checking) (frame : List Fib) (reported after : Reported) (new : CheckerState) (full : Bool) (period : ℕ) (past : List Moment) → c.size ≡ fib_count mode → Knows (count_step mode) period past c.state
+    → HearsFrame c.size frame c.state reported new after full → IsFrameHeard (fib_count mode) (count_step mode) period past frame reported after new full
 heard_same mode c frame reported after new full period past size k h =
     subst (λ (n : ℕ). IsFrameHeard n (count_step mode) period past frame reported after new full) size
     (subst (λ (s : ℕ). IsFrameHeard c.size s period past frame reported after new full) k.mode
-    (subst (λ (p : ℕ). IsFrameHeard c.size c.memory.step p past frame reported after new full) k.page_index
-    (h past (subst (λ (s : ℕ). Knows s c.memory.period past c.memory) (sym k.mode) (subst (λ (p : ℕ). Knows (count_step mode) p past c.memory) (sym k.page_index) k)))))
+    (subst (λ (p : ℕ). IsFrameHeard c.size c.state.step p past frame reported after new full) k.page_index
+    (h past (subst (λ (s : ℕ). Knows s c.state.period past c.state) (sym k.mode) (subst (λ (p : ℕ). Knows (count_step mode) p past c.state) (sym k.page_index) k)))))
 
 pub follows_frame : (r : Reading) (mode : Mode) (period : ℕ) (stream : List Fib) (start reported after : Reported) (c new : Checking) (frame : List Fib) (fib : List ℕ) → (f : Follows r mode period stream start reported c)
-    → IsFramed (fib_count mode) (stream ++ r.read fib ∷ []) f.skipped (f.frames ++ frame ∷ []) (map r.read new.held) → HearsFrame c.size frame c.memory reported new.memory after false
+    → IsFramed (fib_count mode) (stream ++ r.read fib ∷ []) f.skipped (f.frames ++ frame ∷ []) (map r.read new.held) → HearsFrame c.size frame c.state reported new.state after false
     → new.size ≡ c.size → new.skipped ≡ c.skipped → new.damaged ≡ c.damaged + damaged_in frame
     → (g : Follows r mode period (stream ++ r.read fib ∷ []) start after new) × ((g.frames ≡ f.frames ++ frame ∷ []) × (g.skipped ≡ f.skipped))
 follows_frame r mode period stream start reported after c new frame fib f framed h size skips damages =
     let past = after_frames (count_step mode) [] f.frames in
-    let all = heard_same mode c frame reported after new.memory false period past f.size f.knows h in
+    let all = heard_same mode c frame reported after new.state false period past f.size f.knows h in
     let more = damaged_append (flat f.frames) frame in
     let g : Follows r mode period (stream ++ r.read fib ∷ []) start after new = record {
       skipped = f.skipped;
@@ -164,15 +164,15 @@ follows_frame r mode period stream start reported after c new frame fib f framed
       skips = skips ∙ f.skips;
       damages = damages ∙ ap (λ n. n + damaged_in frame) f.damages ∙ sym more ∙ ap damaged_in (sym (flat_one f.frames frame));
       room = full_more (count_step mode) period [] f.frames frame f.room ∙ all.room;
-      knows = subst (λ (p : List Moment). Knows (count_step mode) period p new.memory) (sym (after_more (count_step mode) [] f.frames frame)) (all.knows refl);
+      knows = subst (λ (p : List Moment). Knows (count_step mode) period p new.state) (sym (after_more (count_step mode) [] f.frames frame)) (all.knows refl);
       findings = all.findings ∙ ap (λ t. with_more t (findings_in (fib_count mode) (count_step mode) period past frame)) f.findings
           ∙ more_twice start (findings_of (fib_count mode) (count_step mode) period [] f.frames) (findings_in (fib_count mode) (count_step mode) period past frame)
           ∙ ap (with_more start) (sym (findings_more (fib_count mode) (count_step mode) period [] f.frames frame f.room));
     } in
     (g, (refl, refl))
 
-pub ends_frame : (r : Reading) (mode : Mode) (period : ℕ) (stream : List Fib) (start reported after : Reported) (c : Checking) (new : Memory) (frame rest : List Fib) (fib : List ℕ) → (f : Follows r mode period stream start reported c)
-    → IsFramed (fib_count mode) (stream ++ r.read fib ∷ []) f.skipped (f.frames ++ frame ∷ []) rest → HearsFrame c.size frame c.memory reported new after true
+pub ends_frame : (r : Reading) (mode : Mode) (period : ℕ) (stream : List Fib) (start reported after : Reported) (c : Checking) (new : CheckerState) (frame rest : List Fib) (fib : List ℕ) → (f : Follows r mode period stream start reported c)
+    → IsFramed (fib_count mode) (stream ++ r.read fib ∷ []) f.skipped (f.frames ++ frame ∷ []) rest → HearsFrame c.size frame c.state reported new after true
     → (g : EndsFull r mode period (stream ++ r.read fib ∷ []) start after) × ((g.frames ≡ f.frames ++ frame ∷ []) × (g.skipped ≡ f.skipped))
 ends_frame r mode period stream start reported after c new frame rest fib f framed h =
     let past = after_frames (count_step mode) [] f.frames in
@@ -191,7 +191,7 @@ ends_frame r mode period stream start reported after c new frame rest fib f fram
 
 -- ---- what one more FIB adds, from a state that follows a stream
 
-pub adds_skip : (r : Reading) (mode : Mode) (period : ℕ) (stream : List Fib) (reported : Reported) (c : Checking) (fib : List ℕ) → c.memory.frames ≡ 0 → c.held ≡ [] → holds_ensemble (r.read fib) ≡ false
+pub adds_skip : (r : Reading) (mode : Mode) (period : ℕ) (stream : List Fib) (reported : Reported) (c : Checking) (fib : List ℕ) → c.state.frames ≡ 0 → c.held ≡ [] → holds_ensemble (r.read fib) ≡ false
     → FollowsFib r mode period stream (r.read fib) false reported reported c (record c { skipped = c.skipped + 1 })
 adds_skip r mode period stream reported c fib none empty silent f =
     let t = follows_skip r mode period stream Unknown Unknown c fib none empty silent f in
@@ -204,27 +204,27 @@ adds_hold r mode period stream reported c fib next later short f =
     (t.0, (t.1.0, inl t.1.1, refl))
 
 -- the same frame, heard by a receiver that keeps nothing
-unkept : (size : ℕ) (frame : List Fib) (old new : Memory) (reported after : Reported) (full : Bool) → HearsFrame size frame old reported new after full → HearsFrame size frame old Unknown new Unknown full
+unkept : (size : ℕ) (frame : List Fib) (old new : CheckerState) (reported after : Reported) (full : Bool) → HearsFrame size frame old reported new after full → HearsFrame size frame old Unknown new Unknown full
 unkept size frame old new reported after full h past k =
     let all = h past k in
     record { findings = refl; room = all.room; knows = all.knows }
 
 pub adds_frame : (r : Reading) (mode : Mode) (period : ℕ) (stream : List Fib) (reported after : Reported) (c new : Checking) (frame : List Fib) (fib : List ℕ) (f : Follows r mode period stream Unknown Unknown c)
-    → IsFramed (fib_count mode) (stream ++ r.read fib ∷ []) f.skipped (f.frames ++ frame ∷ []) (map r.read new.held) → HearsFrame c.size frame c.memory reported new.memory after false
+    → IsFramed (fib_count mode) (stream ++ r.read fib ∷ []) f.skipped (f.frames ++ frame ∷ []) (map r.read new.held) → HearsFrame c.size frame c.state reported new.state after false
     → new.size ≡ c.size → new.skipped ≡ c.skipped → new.damaged ≡ c.damaged + damaged_in frame
     → (g : Follows r mode period (stream ++ r.read fib ∷ []) Unknown Unknown new)
     × Adds (fib_count mode) (count_step mode) period true f.skipped g.skipped f.frames g.frames reported after
 adds_frame r mode period stream reported after c new frame fib f framed h size skips damages =
-    let t = follows_frame r mode period stream Unknown Unknown Unknown c new frame fib f framed (unkept c.size frame c.memory new.memory reported after false h) size skips damages in
-    let all = heard_same mode c frame reported after new.memory false period (after_frames (count_step mode) [] f.frames) f.size f.knows h in
+    let t = follows_frame r mode period stream Unknown Unknown Unknown c new frame fib f framed (unkept c.size frame c.state new.state reported after false h) size skips damages in
+    let all = heard_same mode c frame reported after new.state false period (after_frames (count_step mode) [] f.frames) f.size f.knows h in
     (t.0, (frame, t.1.0, t.1.1, all.findings))
 
-pub ends_at : (r : Reading) (mode : Mode) (period : ℕ) (stream : List Fib) (reported after : Reported) (c : Checking) (new : Memory) (frame rest : List Fib) (fib : List ℕ) (f : Follows r mode period stream Unknown Unknown c)
-    → IsFramed (fib_count mode) (stream ++ r.read fib ∷ []) f.skipped (f.frames ++ frame ∷ []) rest → HearsFrame c.size frame c.memory reported new after true
+pub ends_at : (r : Reading) (mode : Mode) (period : ℕ) (stream : List Fib) (reported after : Reported) (c : Checking) (new : CheckerState) (frame rest : List Fib) (fib : List ℕ) (f : Follows r mode period stream Unknown Unknown c)
+    → IsFramed (fib_count mode) (stream ++ r.read fib ∷ []) f.skipped (f.frames ++ frame ∷ []) rest → HearsFrame c.size frame c.state reported new after true
     → (g : EndsFull r mode period (stream ++ r.read fib ∷ []) Unknown Unknown)
     × Adds (fib_count mode) (count_step mode) period true f.skipped g.skipped f.frames g.frames reported after
 ends_at r mode period stream reported after c new frame rest fib f framed h =
-    let t = ends_frame r mode period stream Unknown Unknown Unknown c new frame rest fib f framed (unkept c.size frame c.memory new reported after true h) in
+    let t = ends_frame r mode period stream Unknown Unknown Unknown c new frame rest fib f framed (unkept c.size frame c.state new reported after true h) in
     let all = heard_same mode c frame reported after new true period (after_frames (count_step mode) [] f.frames) f.size f.knows h in
     (t.0, (frame, t.1.0, t.1.1, all.findings))
 
@@ -281,18 +281,18 @@ empty_is [] e = refl
 empty_is (x ∷ xs) e = absurd (false≢true (sym e))
 
 pub record Unbegun (c : Checking) : Type 0 where
-  pub none : c.memory.frames ≡ 0
+  pub none : c.state.frames ≡ 0
   pub empty : c.held ≡ []
 
 pub unbegun : (c : Checking) → is_begun c ≡ false → Unbegun c
-unbegun c e = let parts = neither (nat_lt 0 c.memory.frames) (not (is_empty c.held)) e in record { none = no_count c.memory.frames parts.0; empty = empty_is c.held parts.1 }
+unbegun c e = let parts = neither (nat_lt 0 c.state.frames) (not (is_empty c.held)) e in record { none = no_count c.state.frames parts.0; empty = empty_is c.held parts.1 }
 
 pub skipped_where : (r : Reading) (c : Checking) (fib : List ℕ) (first : Option EnsembleInformation) → first ≡ first_in (r.read fib) → (not (is_begun c) && not (is_there first)) ≡ true → Unbegun c × (holds_ensemble (r.read fib) ≡ false)
 skipped_where r c fib first is e =
     let parts = both (not (is_begun c)) (not (is_there first)) e in
     (unbegun c (not_true (is_begun c) parts.0), ap is_there (sym is) ∙ not_true (is_there first) parts.1)
 
-begun_not : (c : Checking) → c.memory.frames ≡ 0 → c.held ≡ [] → is_begun c ≡ false
+begun_not : (c : Checking) → c.state.frames ≡ 0 → c.held ≡ [] → is_begun c ≡ false
 begun_not c none empty = ap (λ n. nat_lt 0 n || not (is_empty c.held)) none ∙ ap (λ h. nat_lt 0 0 || not (is_empty h)) empty
 
 pub next_where : (r : Reading) (c : Checking) (fib : List ℕ) (first : Option EnsembleInformation) → first ≡ first_in (r.read fib) → (not (is_begun c) && not (is_there first)) ≡ false → IsNext r c fib
@@ -317,7 +317,7 @@ later_where r c fib o is e some = ap is_there (sym is) ∙ chosen (is_there o) c
 
 -- ---- before the first FIB, and after the last
 
-pub follows_nothing : (r : Reading) (mode : Mode) (period : ℕ) (start : Reported) (c : Checking) → c.size ≡ fib_count mode → c.held ≡ [] → c.skipped ≡ 0 → c.damaged ≡ 0 → Knows (count_step mode) period [] c.memory
+pub follows_nothing : (r : Reading) (mode : Mode) (period : ℕ) (start : Reported) (c : Checking) → c.size ≡ fib_count mode → c.held ≡ [] → c.skipped ≡ 0 → c.damaged ≡ 0 → Knows (count_step mode) period [] c.state
     → 0 < fib_count mode → Follows r mode period [] start start c
 follows_nothing r mode period start c size held skips damages k some = record {
   skipped = [];
@@ -332,9 +332,9 @@ follows_nothing r mode period start c size held skips damages k some = record {
 }
 
 pub summed : (r : Reading) (mode : Mode) (period : ℕ) (stream : List Fib) (start reported : Reported) (c : Checking) (s : Summary) → (f : Follows r mode period stream start reported c)
-    → s.frames ≡ c.memory.frames → s.skipped ≡ c.skipped → s.left_over ≡ length c.held → s.damaged ≡ c.damaged → IsSummary f.skipped f.frames (map r.read c.held) s
+    → s.frames ≡ c.state.frames → s.skipped ≡ c.skipped → s.left_over ≡ length c.held → s.damaged ≡ c.damaged → IsSummary f.skipped f.frames (map r.read c.held) s
 summed r mode period stream start reported c s f frames skips left damages = record {
-  frame_count = frames ∙ frame_count (count_step mode) period f.frames c.memory f.knows;
+  frame_count = frames ∙ frame_count (count_step mode) period f.frames c.state f.knows;
   skips = skips ∙ f.skips;
   left = left ∙ sym (length-map c.held r.read);
   damages = damages ∙ f.damages;
@@ -342,9 +342,9 @@ summed r mode period stream start reported c s f frames skips left damages = rec
 
 -- the totals of the frames so far
 pub summed_so_far : (r : Reading) (mode : Mode) (period : ℕ) (stream : List Fib) (start reported : Reported) (c : Checking) (s : Summary) → (f : Follows r mode period stream start reported c)
-    → s.frames ≡ c.memory.frames → s.skipped ≡ c.skipped → s.left_over ≡ 0 → s.damaged ≡ c.damaged → IsSummary f.skipped f.frames [] s
+    → s.frames ≡ c.state.frames → s.skipped ≡ c.skipped → s.left_over ≡ 0 → s.damaged ≡ c.damaged → IsSummary f.skipped f.frames [] s
 summed_so_far r mode period stream start reported c s f frames skips left damages = record {
-  frame_count = frames ∙ frame_count (count_step mode) period f.frames c.memory f.knows;
+  frame_count = frames ∙ frame_count (count_step mode) period f.frames c.state f.knows;
   skips = skips ∙ f.skips;
   left = left;
   damages = damages ∙ f.damages;

@@ -8,14 +8,14 @@ use Rattle.fib_reader.specs.Listening.{Listening, all_entries}
 use Rattle.stream_check.specs.declared.finding.What.{What}
 use Rattle.stream_check.specs.declared.finding.Fault.TheVariants as faults
 use Rattle.stream_check.specs.declared.reporting.FrameAt.{FrameAt}
-use Rattle.stream_check.specs.declared.memory.Memory.{Memory}
+use Rattle.stream_check.specs.declared.checker_state.CheckerState.{CheckerState}
 use Rattle.stream_check.specs.Reporting.{in_frame, when}
 use Rattle.stream_check.specs.Pictures.{Heard, heard_since, raws, key_of}
 use Rattle.stream_check.specs.Frames.{Fib, Reading}
 use Rattle.stream_check.specs.History.{Moment, Ended, said, frame_items, frames_ended, due, has_begun, row_at_hand, rows, last_heard}
 use Rattle.stream_check.specs.Rules.{name_of, is_silent, silence, silent_findings}
 use Rattle.stream_check.specs.Stream.{frame_findings, findings_at_items, frame_at, last_findings, count_of_frame}
-use Rattle.stream_check.specs.Memory.{listener_in, with_row, with_frame, IsLastHeard, HasNotice, Knows, IsSane, is_quiet, quiet_findings, silent_in}
+use Rattle.stream_check.specs.CheckerState.{listener_in, with_row, with_frame, IsLastHeard, HasNotice, Knows, IsSane, is_quiet, quiet_findings, silent_in}
 use Rattle.stream_check.specs.Hearing.{IsLater, Hears, HearsFrame}
 use Rattle.stream_check.proofs.Notice.{notice_closed, notice_open}
 use Rattle.stream_check.proofs.Members.{after_is}
@@ -35,14 +35,14 @@ few_more past count true e few =
 few_more past count false e few = subst (λ (rs : List (List ℕ)). length rs ≤ frames_ended past + 1) (sym (rows_are past count false e)) (omega arith)
 
 -- the parts after a frame
-abbrev row_memory : Bool → Bool → Memory → Memory
-row_memory begun whole m = cond begun (cond whole (record m { rows = m.rows + 1; parts = m.parts + 1; since = m.rows + 1 }) (record m { rows = m.rows + 1 })) m
+abbrev row_state : Bool → Bool → CheckerState → CheckerState
+row_state begun whole m = cond begun (cond whole (record m { rows = m.rows + 1; parts = m.parts + 1; since = m.rows + 1 }) (record m { rows = m.rows + 1 })) m
 
-abbrev framed : ℕ → Memory → Memory → Memory
+abbrev framed : ℕ → CheckerState → CheckerState → CheckerState
 framed count m n = record n { has_ensemble = false; frames = m.frames + 1; due = Some ((count + 1) % 5000) }
 
-noticed : (step period : ℕ) (past : List Moment) (m : Memory) (count : ℕ) (begun whole : Bool) → m.has_begun ≡ begun → heard_since m.since m.next ≡ whole → Knows step period past m
-    → HasNotice (rows (Ended count ∷ past)) [] (row_memory begun whole m).rows (row_memory begun whole m).since (row_memory begun whole m).parts m.next m.has_begun
+noticed : (step period : ℕ) (past : List Moment) (m : CheckerState) (count : ℕ) (begun whole : Bool) → m.has_begun ≡ begun → heard_since m.since m.next ≡ whole → Knows step period past m
+    → HasNotice (rows (Ended count ∷ past)) [] (row_state begun whole m).rows (row_state begun whole m).since (row_state begun whole m).parts m.next m.has_begun
 noticed step period past m count true true b w k =
     subst (λ (t : Bool). HasNotice (rows (Ended count ∷ past)) [] (m.rows + 1) (m.rows + 1) (m.parts + 1) m.next t) (sym b)
     (subst (λ (rs : List (List ℕ)). HasNotice rs [] (m.rows + 1) (m.rows + 1) (m.parts + 1) m.next true) (sym (rows_are past count true (sym k.has_begun ∙ b)))
@@ -56,8 +56,8 @@ noticed step period past m count false whole b w k =
     subst (λ (rs : List (List ℕ)). HasNotice rs [] m.rows m.since m.parts m.next m.has_begun) (idle.0 ∙ sym (rows_are past count false (sym k.has_begun ∙ b)))
     (subst (λ (r : List ℕ). HasNotice (rows past) r m.rows m.since m.parts m.next m.has_begun) idle.1 k.notice)
 
-case_frame : (begun whole : Bool) (step period : ℕ) (past : List Moment) (m : Memory) (count : ℕ) → m.has_begun ≡ begun → heard_since m.since m.next ≡ whole → Knows step period past m
-    → Knows step period (Ended count ∷ past) (framed count m (row_memory begun whole m))
+case_frame : (begun whole : Bool) (step period : ℕ) (past : List Moment) (m : CheckerState) (count : ℕ) → m.has_begun ≡ begun → heard_since m.since m.next ≡ whole → Knows step period past m
+    → Knows step period (Ended count ∷ past) (framed count m (row_state begun whole m))
 case_frame true true step period past m count b w k = record {
   mode = k.mode;
   page_index = k.page_index;
@@ -122,7 +122,7 @@ case_frame false whole step period past m count b w k = record {
   notice = noticed step period past m count false whole b w k;
 }
 
-pub knows_frame : (step period : ℕ) (past : List Moment) (m : Memory) (count : ℕ) → Knows step period past m → Knows step period (Ended count ∷ past) (with_frame count m)
+pub knows_frame : (step period : ℕ) (past : List Moment) (m : CheckerState) (count : ℕ) → Knows step period past m → Knows step period (Ended count ∷ past) (with_frame count m)
 knows_frame step period past m count k = cases m.has_begun (heard_since m.since m.next) refl refl
   where
     cases : (b w : Bool) → m.has_begun ≡ b → heard_since m.since m.next ≡ w → Knows step period (Ended count ∷ past) (with_frame count m)
@@ -132,7 +132,7 @@ knows_frame step period past m count k = cases m.has_begun (heard_since m.since 
         (case_frame b w step period past m count e f k))
 
 -- the numbers stay far from their limits
-case_sane : (begun whole : Bool) (m : Memory) (count : ℕ) → IsSane m → IsSane (framed count m (row_memory begun whole m))
+case_sane : (begun whole : Bool) (m : CheckerState) (count : ℕ) → IsSane m → IsSane (framed count m (row_state begun whole m))
 case_sane true true m count s = record { mode = s.mode; page_index = s.page_index; due = below count; times = s.times; rows = omega (arith, s.rows); parts = omega (arith, s.parts) }
   where
     below : (n : ℕ) → (n + 1) % 5000 < 5000
@@ -146,7 +146,7 @@ case_sane false whole m count s = record { mode = s.mode; page_index = s.page_in
     below : (n : ℕ) → (n + 1) % 5000 < 5000
     below n = omega arith
 
-pub sane_frame : (m : Memory) (count : ℕ) → IsSane m → IsSane (with_frame count m)
+pub sane_frame : (m : CheckerState) (count : ℕ) → IsSane m → IsSane (with_frame count m)
 sane_frame m count s = case_sane m.has_begun (heard_since m.since m.next) m count s
 
 -- ---- silent entries
@@ -184,7 +184,7 @@ filter_append p (x ∷ xs) ys = elim (p x) as (λ t. cond t (x ∷ filter p (xs 
 spread : (period : ℕ) (past : List Moment) (xs ys : List Raw) → map silence (filter (is_silent period past) (xs ++ ys)) ≡ map silence (filter (is_silent period past) xs) ++ map silence (filter (is_silent period past) ys)
 spread period past xs ys = ap (map silence) (filter_append (is_silent period past) xs ys) ∙ map-append silence (filter (is_silent period past) xs) (filter (is_silent period past) ys)
 
-pub silent_is : (step period : ℕ) (past : List Moment) (m : Memory) → Knows step period past m → silent_in m ≡ silent_findings period past
+pub silent_is : (step period : ℕ) (past : List Moment) (m : CheckerState) → Knows step period past m → silent_in m ≡ silent_findings period past
 silent_is step period past m k =
     ap (λ p. quiet_findings m.swapped p m.frames m.current.subs ++ (quiet_findings m.swapped p m.frames m.current.services ++ quiet_findings m.swapped p m.frames m.current.packets)) k.page_index
     ∙ ap (λ fs. fs ++ (quiet_findings m.swapped period m.frames m.current.services ++ quiet_findings m.swapped period m.frames m.current.packets)) (quiet_raws period past m.swapped m.frames m.current.subs k.frames k.last.0)
@@ -201,7 +201,7 @@ pub frame_len : (r : Reading) (fibs : List (List ℕ)) → length (map r.read fi
 frame_len r fibs = length-map fibs r.read
 
 -- all entries of the frame were heard, and the silent ones were reported
-pub frame_done : (size : ℕ) (frame : List Fib) (at : FrameAt) (old mid : Memory) (before reported one two : Reported)
+pub frame_done : (size : ℕ) (frame : List Fib) (at : FrameAt) (old mid : CheckerState) (before reported one two : Reported)
     → at ≡ record { frame = old.frames; count = count_of_frame old.step old.due frame }
     → one ≡ with_more before (map (in_frame at) (frame_findings size old.step old.due frame)) → Hears at (frame_items frame) old one mid two false → IsLater old mid
     → reported ≡ with_more two (map (in_frame at) (silent_in mid)) → HearsFrame size frame old before (with_frame (count_of_frame old.step old.due frame) mid) reported false
@@ -234,7 +234,7 @@ frame_done size frame at old mid before reported one two place first h l last pa
         ∙ ap (with_more reported) (sym (map-append (in_frame at) xs (ys ++ zs) ∙ ap (λ fs. map (in_frame at) xs ++ fs) (map-append (in_frame at) ys zs)))
 
 -- there was no room for one of its entries
-pub frame_full : (size : ℕ) (frame : List Fib) (at : FrameAt) (old mid : Memory) (before reported one : Reported)
+pub frame_full : (size : ℕ) (frame : List Fib) (at : FrameAt) (old mid : CheckerState) (before reported one : Reported)
     → at ≡ record { frame = old.frames; count = count_of_frame old.step old.due frame }
     → one ≡ with_more before (map (in_frame at) (frame_findings size old.step old.due frame)) → Hears at (frame_items frame) old one mid reported true → HearsFrame size frame old before mid reported true
 frame_full size frame at old mid before reported one place first h past k =

@@ -3,12 +3,12 @@ use Rattle.std.proofs.Common.{◌≡◌, ℕ, ◌+◌, ◌<◌, ◌≤◌, ◌==
 use Rattle.std.proofs.lemmas.Bool.{cases_lt, false≢true, eq-eqb, ne_eqb}
 use Rattle.std.proofs.lemmas.List.{append-nil}
 use Rattle.fib_reader.specs.Listening.{Listening, into, pictured, picture_of}
-use Rattle.stream_check.specs.declared.memory.Memory.{Memory}
+use Rattle.stream_check.specs.declared.checker_state.CheckerState.{CheckerState}
 use Rattle.stream_check.specs.Pictures.{Heard, picture_kept, key_of, shown}
 use Rattle.stream_check.specs.Lookup.{lookup_in}
 use Rattle.stream_check.specs.Rules.{finds_no_room, is_absent, at_most}
 use Rattle.stream_check.specs.History.{Item, Moment, Said, is_ensemble, frames_ended, listener_after, has_ensemble, has_begun, began_early, row_at_hand, rows, last_heard}
-use Rattle.stream_check.specs.Memory.{listener_in, with_current, with_next, later, IsLastHeard, HasNotice, Knows}
+use Rattle.stream_check.specs.CheckerState.{listener_in, with_current, with_next, later, IsLastHeard, HasNotice, Knows}
 use Rattle.stream_check.proofs.Tables.{pictured_kept}
 use Rattle.stream_check.proofs.Keys.{picture_each, kinds_kept, known_has}
 use Rattle.stream_check.proofs.Notice.{notice_known, notice_new, each_in}
@@ -23,11 +23,11 @@ later_second a b le = elim (cases_lt a b) [
 pub later_first : (a b : ℕ) → b ≤ a → later a b ≡ a
 later_first a b le = ap (λ t. cond t b a) (le-ltb a b le)
 
-tuned_is : (step period : ℕ) (past : List Moment) (m : Memory) → Knows step period past m → (listener_after past).tuned ≡ m.tuned
+tuned_is : (step period : ℕ) (past : List Moment) (m : CheckerState) → Knows step period past m → (listener_after past).tuned ≡ m.tuned
 tuned_is step period past m k = ap (λ (l : Listening). l.tuned) (after_is past (listener_in m) k.heard)
 
 -- before the first FIG 0/0 it is ignored
-pub knows_passed : (step period : ℕ) (past : List Moment) (m : Memory) (i : Item) → is_ensemble i ≡ false → m.tuned ≡ false → Knows step period past m → Knows step period (Said i ∷ past) m
+pub knows_passed : (step period : ℕ) (past : List Moment) (m : CheckerState) (i : Item) → is_ensemble i ≡ false → m.tuned ≡ false → Knows step period past m → Knows step period (Said i ∷ past) m
 knows_passed step period past m i e untuned k =
     let l : Listening = listener_in m in
     let t : (listener_after past).tuned ≡ false = tuned_is step period past m k ∙ untuned in
@@ -60,7 +60,7 @@ knows_passed step period past m i e untuned k =
     }
 
 -- an entry of the current configuration
-pub knows_current : (step period : ℕ) (past : List Moment) (m : Memory) (i : Item) → is_ensemble i ≡ false → i.raw.ext < 4 → 0 < i.raw.ext → m.tuned ≡ true → i.next ≡ false
+pub knows_current : (step period : ℕ) (past : List Moment) (m : CheckerState) (i : Item) → is_ensemble i ≡ false → i.raw.ext < 4 → 0 < i.raw.ext → m.tuned ≡ true → i.next ≡ false
     → finds_no_room (lookup_in i.raw (shown m.current)) ≡ false → Knows step period past m → Knows step period (Said i ∷ past) (with_current i.raw m)
 knows_current step period past m i e few some tuned nx room k =
     let t : (listener_after past).tuned ≡ true = tuned_is step period past m k ∙ tuned in
@@ -107,7 +107,7 @@ early true x y = refl
 early false x y = refl
 
 -- an entry of the next configuration
-pub knows_next : (step period : ℕ) (past : List Moment) (m : Memory) (i : Item) → is_ensemble i ≡ false → i.raw.ext < 4 → 0 < i.raw.ext → m.tuned ≡ true → i.next ≡ true
+pub knows_next : (step period : ℕ) (past : List Moment) (m : CheckerState) (i : Item) → is_ensemble i ≡ false → i.raw.ext < 4 → 0 < i.raw.ext → m.tuned ≡ true → i.next ≡ true
     → finds_no_room (lookup_in i.raw (shown m.next)) ≡ false → Knows step period past m → Knows step period (Said i ∷ past) (with_next i.raw m)
 knows_next step period past m i e few some tuned nx room k =
     let h : Heard = record { raw = i.raw; at = m.rows + 1 } in

@@ -9,7 +9,7 @@ use Rattle.stream_check.specs.Cutting.{HasAll, IsGreedy}
 use Rattle.stream_check.specs.Pictures.{Heard, HeardPicture, empty_picture, picture_kept, heard_since, Each, HasKinds, key_of, keys, keys_of, shown}
 use Rattle.stream_check.specs.Lookup.{lookup_in}
 use Rattle.stream_check.specs.Rules.{finds_no_room, is_absent}
-use Rattle.stream_check.specs.Memory.{IsStamped, HasNotice}
+use Rattle.stream_check.specs.CheckerState.{IsStamped, HasNotice}
 use Rattle.stream_check.proofs.Rows.{concat-more}
 use Rattle.stream_check.proofs.Greedily.{greedy_closes, greedy_stays, new_begins_anew}
 use Rattle.stream_check.proofs.PartCount.{here, there, one_of, in_none, greedy_at_first}

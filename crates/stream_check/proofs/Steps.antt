@@ -7,14 +7,14 @@ use Rattle.fib_reader.specs.Raw.{Raw, ensemble_in}
 use Rattle.fib_reader.specs.Listening.{Listening, all_entries}
 use Rattle.stream_check.specs.declared.finding.What.{What}
 use Rattle.stream_check.specs.declared.reporting.FrameAt.{FrameAt}
-use Rattle.stream_check.specs.declared.memory.Memory.{Memory}
+use Rattle.stream_check.specs.declared.checker_state.CheckerState.{CheckerState}
 use Rattle.stream_check.specs.Reporting.{in_frame}
 use Rattle.stream_check.specs.Pictures.{Heard, HeardPicture, key_of, keys, keys_of, raws, shown}
 use Rattle.stream_check.specs.Lookup.{lookup_in}
 use Rattle.stream_check.specs.Parts.{most_parts}
 use Rattle.stream_check.specs.History.{Item, Moment, Said, items_of, frames_ended, listener_after, due, last_eid, has_ensemble, has_begun, began_early, times_announced, last_flags, is_cut_off, rows}
 use Rattle.stream_check.specs.Rules.{Known, known_of, times_heard, at_most, has_flags, makes_swap, findings_at, ensemble_findings, member_findings, current_findings, next_findings, has_no_room, finds_no_room, is_absent}
-use Rattle.stream_check.specs.Memory.{listener_in, known_in, with_swap, with_flags, with_ensemble, with_current, with_next, Knows, IsSane}
+use Rattle.stream_check.specs.CheckerState.{listener_in, known_in, with_swap, with_flags, with_ensemble, with_current, with_next, Knows, IsSane}
 use Rattle.stream_check.specs.Hearing.{IsLater, Hears}
 use Rattle.stream_check.proofs.PartCount.{parts_counted}
 use Rattle.stream_check.proofs.Members.{after_is}
@@ -38,7 +38,7 @@ entry_keys p =
     ∙ ap (λ ks. (keys p.subs ++ keys p.services) ++ ks) (raw_keys p.packets)
     ∙ append_assoc (keys p.subs) (keys p.services) (keys p.packets)
 
-pub parts_are : (step period : ℕ) (past : List Moment) (m : Memory) → Knows step period past m → m.parts ≡ times_heard past
+pub parts_are : (step period : ℕ) (past : List Moment) (m : CheckerState) → Knows step period past m → m.parts ≡ times_heard past
 parts_are step period past m k =
     parts_counted (keys_of m.next) m.parts (take m.since (rows past)) (drop m.since (rows past)) k.notice.greedy
     ∙ ap (most_parts (keys_of m.next)) (take-append-drop m.since (rows past))
@@ -61,7 +61,7 @@ known_with step listener frames due eid has begun early cut flags times heard se
   settles_at = settles;
 }
 
-pub known_same : (step period : ℕ) (past : List Moment) (m : Memory) → Knows step period past m → known_in m ≡ known_of step period past
+pub known_same : (step period : ℕ) (past : List Moment) (m : CheckerState) → Knows step period past m → known_in m ≡ known_of step period past
 known_same step period past m k =
     ap (λ x. known_with x (listener_in m) m.frames m.due m.eid m.has_ensemble m.has_begun m.began_early m.is_cut_off m.flags m.times m.parts m.settles_at) k.mode
     ∙ ap (λ x. known_with step x m.frames m.due m.eid m.has_ensemble m.has_begun m.began_early m.is_cut_off m.flags m.times m.parts m.settles_at) (sym (after_is past (listener_in m) k.heard))
@@ -83,7 +83,7 @@ one_found : (k : Known) (i : Item) (found : List What) → has_no_room k i ≡ f
 one_found k i found room is = ap (λ t. cond t [] (findings_at k i ++ [])) room ∙ append-nil (findings_at k i) ∙ is
 
 -- an entry for which there is room
-pub heard_one : (at : FrameAt) (i : Item) (old new : Memory) (before after : Reported) → has_no_room (known_in old) i ≡ false → after ≡ with_more before (map (in_frame at) (findings_at (known_in old) i))
+pub heard_one : (at : FrameAt) (i : Item) (old new : CheckerState) (before after : Reported) → has_no_room (known_in old) i ≡ false → after ≡ with_more before (map (in_frame at) (findings_at (known_in old) i))
     → ((past : List Moment) → Knows old.step old.period past old → Knows old.step old.period (Said i ∷ past) new) → Hears at (i ∷ []) old before new after false
 heard_one at i old new before after room reported next past k =
     let same = known_same old.step old.period past old k in
@@ -95,7 +95,7 @@ heard_one at i old new before after room reported next past k =
     }
 
 -- an entry for which there is no room
-pub heard_none : (at : FrameAt) (i : Item) (old new : Memory) (before after : Reported) → has_no_room (known_in old) i ≡ true → after ≡ before → Hears at (i ∷ []) old before new after true
+pub heard_none : (at : FrameAt) (i : Item) (old new : CheckerState) (before after : Reported) → has_no_room (known_in old) i ≡ true → after ≡ before → Hears at (i ∷ []) old before new after true
 heard_none at i old new before after room reported past k =
     let same = known_same old.step old.period past old k in
     let full : has_no_room (known_of old.step old.period past) i ≡ true = ap (λ t. has_no_room t i) (sym same) ∙ room in
@@ -106,7 +106,7 @@ heard_none at i old new before after room reported past k =
     }
 
 -- a FIG 0/0
-pub hears_ensemble : (at : FrameAt) (first next : Bool) (raw : Raw) (old new : Memory) (before after : Reported) → raw.ext ≡ 0
+pub hears_ensemble : (at : FrameAt) (first next : Bool) (raw : Raw) (old new : CheckerState) (before after : Reported) → raw.ext ≡ 0
     → after ≡ with_more before (map (in_frame at) (ensemble_findings (known_in old) first (ensemble_in raw)))
     → new ≡ with_ensemble first (ensemble_in raw) (cond (makes_swap (known_in old) (ensemble_in raw)) (with_swap old) old)
     → Hears at (items_of first next (raw ∷ [])) old before new after false
@@ -115,7 +115,7 @@ hears_ensemble at first next raw old new before after zero reported is =
     heard_one at (record { first = first; next = next; raw = raw }) old new before after
     (ap (λ t. cond t false (old.tuned && finds_no_room (lookup_in raw (cond next (shown old.next) (shown old.current))))) e)
     (reported ∙ ap (λ fs. with_more before (map (in_frame at) fs)) (sym (ap (λ t. cond t (ensemble_findings (known_in old) first (ensemble_in raw)) (member_findings (known_in old) next raw)) e)))
-    (λ past k. subst (λ (m : Memory). Knows old.step old.period (Said (record { first = first; next = next; raw = raw }) ∷ past) m) (sym is)
+    (λ past k. subst (λ (m : CheckerState). Knows old.step old.period (Said (record { first = first; next = next; raw = raw }) ∷ past) m) (sym is)
     (knows_ensemble old.step old.period past old (record { first = first; next = next; raw = raw }) e k))
 
 not_zero : (n : ℕ) → n ≢ 0 → (n == 0) ≡ false
@@ -124,15 +124,15 @@ not_zero n other = ne_eqb n 0 other
 some_more : (n : ℕ) → n ≢ 0 → 0 < n
 some_more n other = elim (cases_lt 0 n) [ inl lt ↦ lt | inr le ↦ absurd (other (omega (arith, le))) ]
 
-room_of : (old : Memory) (first next : Bool) (raw : Raw) (b : Bool) → (raw.ext == 0) ≡ false → (old.tuned && finds_no_room (lookup_in raw (cond next (shown old.next) (shown old.current)))) ≡ b
+room_of : (old : CheckerState) (first next : Bool) (raw : Raw) (b : Bool) → (raw.ext == 0) ≡ false → (old.tuned && finds_no_room (lookup_in raw (cond next (shown old.next) (shown old.current)))) ≡ b
     → has_no_room (known_in old) (record { first = first; next = next; raw = raw }) ≡ b
 room_of old first next raw b e is = ap (λ t. cond t false (old.tuned && finds_no_room (lookup_in raw (cond next (shown old.next) (shown old.current))))) e ∙ is
 
-found_of : (old : Memory) (first next : Bool) (raw : Raw) → (raw.ext == 0) ≡ false → findings_at (known_in old) (record { first = first; next = next; raw = raw }) ≡ member_findings (known_in old) next raw
+found_of : (old : CheckerState) (first next : Bool) (raw : Raw) → (raw.ext == 0) ≡ false → findings_at (known_in old) (record { first = first; next = next; raw = raw }) ≡ member_findings (known_in old) next raw
 found_of old first next raw e = ap (λ t. cond t (ensemble_findings (known_in old) first (ensemble_in raw)) (member_findings (known_in old) next raw)) e
 
 -- an entry before the first FIG 0/0
-pub hears_passed : (at : FrameAt) (first next : Bool) (raw : Raw) (old : Memory) (before : Reported) → raw.ext ≢ 0 → old.tuned ≡ false → Hears at (items_of first next (raw ∷ [])) old before old before false
+pub hears_passed : (at : FrameAt) (first next : Bool) (raw : Raw) (old : CheckerState) (before : Reported) → raw.ext ≢ 0 → old.tuned ≡ false → Hears at (items_of first next (raw ∷ [])) old before old before false
 hears_passed at first next raw old before other untuned =
     let e = not_zero raw.ext other in
     heard_one at (record { first = first; next = next; raw = raw }) old old before before
@@ -141,7 +141,7 @@ hears_passed at first next raw old before other untuned =
     (λ past k. knows_passed old.step old.period past old (record { first = first; next = next; raw = raw }) e untuned k)
 
 -- an entry of the current configuration; below, of the next one
-pub hears_current : (at : FrameAt) (first : Bool) (raw : Raw) (old new : Memory) (before after : Reported) → raw.ext ≢ 0 → raw.ext < 4 → old.tuned ≡ true
+pub hears_current : (at : FrameAt) (first : Bool) (raw : Raw) (old new : CheckerState) (before after : Reported) → raw.ext ≢ 0 → raw.ext < 4 → old.tuned ≡ true
     → finds_no_room (lookup_in raw (shown old.current)) ≡ false → after ≡ with_more before (map (in_frame at) (current_findings (known_in old) raw)) → new ≡ with_current raw old
     → Hears at (items_of first false (raw ∷ [])) old before new after false
 hears_current at first raw old new before after other few tuned room reported is =
@@ -149,10 +149,10 @@ hears_current at first raw old new before after other few tuned room reported is
     heard_one at (record { first = first; next = false; raw = raw }) old new before after
     (room_of old first false raw false e (ap (λ t. t && finds_no_room (lookup_in raw (shown old.current))) tuned ∙ room))
     (reported ∙ ap (λ fs. with_more before (map (in_frame at) fs)) (sym (found_of old first false raw e ∙ ap (λ t. cond t (current_findings (known_in old) raw) []) tuned)))
-    (λ past k. subst (λ (m : Memory). Knows old.step old.period (Said (record { first = first; next = false; raw = raw }) ∷ past) m) (sym is)
+    (λ past k. subst (λ (m : CheckerState). Knows old.step old.period (Said (record { first = first; next = false; raw = raw }) ∷ past) m) (sym is)
     (knows_current old.step old.period past old (record { first = first; next = false; raw = raw }) e few (some_more raw.ext other) tuned refl room k))
 
-pub hears_next : (at : FrameAt) (first : Bool) (raw : Raw) (old new : Memory) (before after : Reported) → raw.ext ≢ 0 → raw.ext < 4 → old.tuned ≡ true
+pub hears_next : (at : FrameAt) (first : Bool) (raw : Raw) (old new : CheckerState) (before after : Reported) → raw.ext ≢ 0 → raw.ext < 4 → old.tuned ≡ true
     → finds_no_room (lookup_in raw (shown old.next)) ≡ false → after ≡ with_more before (map (in_frame at) (next_findings (known_in old) raw)) → new ≡ with_next raw old
     → Hears at (items_of first true (raw ∷ [])) old before new after false
 hears_next at first raw old new before after other few tuned room reported is =
@@ -160,17 +160,17 @@ hears_next at first raw old new before after other few tuned room reported is =
     heard_one at (record { first = first; next = true; raw = raw }) old new before after
     (room_of old first true raw false e (ap (λ t. t && finds_no_room (lookup_in raw (shown old.next))) tuned ∙ room))
     (reported ∙ ap (λ fs. with_more before (map (in_frame at) fs)) (sym (found_of old first true raw e ∙ ap (λ t. cond t (next_findings (known_in old) raw) []) tuned)))
-    (λ past k. subst (λ (m : Memory). Knows old.step old.period (Said (record { first = first; next = true; raw = raw }) ∷ past) m) (sym is)
+    (λ past k. subst (λ (m : CheckerState). Knows old.step old.period (Said (record { first = first; next = true; raw = raw }) ∷ past) m) (sym is)
     (knows_next old.step old.period past old (record { first = first; next = true; raw = raw }) e few (some_more raw.ext other) tuned refl room k))
 
 -- the same without room
-pub full_current : (at : FrameAt) (first : Bool) (raw : Raw) (old new : Memory) (before after : Reported) → raw.ext ≢ 0 → old.tuned ≡ true
+pub full_current : (at : FrameAt) (first : Bool) (raw : Raw) (old new : CheckerState) (before after : Reported) → raw.ext ≢ 0 → old.tuned ≡ true
     → finds_no_room (lookup_in raw (shown old.current)) ≡ true → after ≡ before → Hears at (items_of first false (raw ∷ [])) old before new after true
 full_current at first raw old new before after other tuned room reported =
     heard_none at (record { first = first; next = false; raw = raw }) old new before after
     (room_of old first false raw true (not_zero raw.ext other) (ap (λ t. t && finds_no_room (lookup_in raw (shown old.current))) tuned ∙ room)) reported
 
-pub full_next : (at : FrameAt) (first : Bool) (raw : Raw) (old new : Memory) (before after : Reported) → raw.ext ≢ 0 → old.tuned ≡ true
+pub full_next : (at : FrameAt) (first : Bool) (raw : Raw) (old new : CheckerState) (before after : Reported) → raw.ext ≢ 0 → old.tuned ≡ true
     → finds_no_room (lookup_in raw (shown old.next)) ≡ true → after ≡ before → Hears at (items_of first true (raw ∷ [])) old before new after true
 full_next at first raw old new before after other tuned room reported =
     heard_none at (record { first = first; next = true; raw = raw }) old new before after
@@ -184,13 +184,13 @@ below_three n = elim (cases_lt n 3) [
   | inr ge ↦ subst (λ (t : Bool). cond t n 3 ≤ 3) (sym (le-ltb n 3 ge)) (omega arith)
 ]
 
-pub later_itself : (m : Memory) → IsSane m → IsLater m m
+pub later_itself : (m : CheckerState) → IsSane m → IsLater m m
 later_itself m s = record { step = refl; period = refl; frames = refl; sane = s }
 
-pub later_twice : (a b c : Memory) → IsLater a b → IsLater b c → IsLater a c
+pub later_twice : (a b c : CheckerState) → IsLater a b → IsLater b c → IsLater a c
 later_twice a b c x y = record { step = y.step ∙ x.step; period = y.period ∙ x.period; frames = y.frames ∙ x.frames; sane = y.sane }
 
-later_swap : (m : Memory) → IsSane m → IsLater m (with_swap m)
+later_swap : (m : CheckerState) → IsSane m → IsLater m (with_swap m)
 later_swap m s = record {
   step = refl;
   period = refl;
@@ -198,7 +198,7 @@ later_swap m s = record {
   sane = record { mode = s.mode; page_index = s.page_index; due = s.due; times = omega arith; rows = omega arith; parts = omega arith };
 }
 
-later_flags : (e : EnsembleInformation) (m : Memory) → IsSane m → IsLater m (with_flags e m)
+later_flags : (e : EnsembleInformation) (m : CheckerState) → IsSane m → IsLater m (with_flags e m)
 later_flags e m s = elim (has_flags e) as (λ t. IsLater m (cond t (record m { is_cut_off = m.is_cut_off || not m.tuned; awaited = e.occurrence; flags = e.change; times = at_most 3 (m.times + 1); has_begun = true }) m)) [
   | true ↦ record {
     step = refl;
@@ -209,7 +209,7 @@ later_flags e m s = elim (has_flags e) as (λ t. IsLater m (cond t (record m { i
   | false ↦ later_itself m s
 ]
 
-later_noted : (first : Bool) (e : EnsembleInformation) (m : Memory) → IsSane m → IsLater m (with_ensemble first e m)
+later_noted : (first : Bool) (e : EnsembleInformation) (m : CheckerState) → IsSane m → IsLater m (with_ensemble first e m)
 later_noted first e m s =
     let f = later_flags e m s in
     record {
@@ -219,11 +219,11 @@ later_noted first e m s =
       sane = record { mode = f.sane.mode; page_index = f.sane.page_index; due = f.sane.due; times = f.sane.times; rows = f.sane.rows; parts = f.sane.parts };
     }
 
-pub later_ensemble : (first : Bool) (e : EnsembleInformation) (m : Memory) (b : Bool) → IsSane m → IsLater m (with_ensemble first e (cond b (with_swap m) m))
+pub later_ensemble : (first : Bool) (e : EnsembleInformation) (m : CheckerState) (b : Bool) → IsSane m → IsLater m (with_ensemble first e (cond b (with_swap m) m))
 later_ensemble first e m true s = later_twice m (with_swap m) (with_ensemble first e (with_swap m)) (later_swap m s) (later_noted first e (with_swap m) (later_swap m s).sane)
 later_ensemble first e m false s = later_noted first e m s
 
-pub later_current : (raw : Raw) (m : Memory) → IsSane m → IsLater m (with_current raw m)
+pub later_current : (raw : Raw) (m : CheckerState) → IsSane m → IsLater m (with_current raw m)
 later_current raw m s = record {
   step = refl;
   period = refl;
@@ -231,7 +231,7 @@ later_current raw m s = record {
   sane = record { mode = s.mode; page_index = s.page_index; due = s.due; times = s.times; rows = s.rows; parts = s.parts };
 }
 
-pub later_next : (raw : Raw) (m : Memory) → IsSane m → IsLater m (with_next raw m)
+pub later_next : (raw : Raw) (m : CheckerState) → IsSane m → IsLater m (with_next raw m)
 later_next raw m s = elim (is_absent (lookup_in raw (shown m.next))) as (λ t. IsLater m (record (with_next raw m) { since = cond t 0 m.since; parts = cond t 0 m.parts })) [
   | true ↦ record {
     step = refl;
@@ -249,13 +249,13 @@ later_next raw m s = elim (is_absent (lookup_in raw (shown m.next))) as (λ t. I
 
 -- ---- by the result of a call
 
-pub answered_current : (b : Bool) (at : FrameAt) (first : Bool) (raw : Raw) (old new : Memory) (before after : Reported) → raw.ext ≢ 0 → raw.ext < 4 → old.tuned ≡ true
+pub answered_current : (b : Bool) (at : FrameAt) (first : Bool) (raw : Raw) (old new : CheckerState) (before after : Reported) → raw.ext ≢ 0 → raw.ext < 4 → old.tuned ≡ true
     → (b ≡ true → finds_no_room (lookup_in raw (shown old.current)) ≡ false) → (b ≡ true → after ≡ with_more before (map (in_frame at) (current_findings (known_in old) raw))) → (b ≡ true → new ≡ with_current raw old)
     → (b ≡ false → finds_no_room (lookup_in raw (shown old.current)) ≡ true) → (b ≡ false → after ≡ before) → Hears at (items_of first false (raw ∷ [])) old before new after (not b)
 answered_current true at first raw old new before after other few tuned room reported is full same = hears_current at first raw old new before after other few tuned (room refl) (reported refl) (is refl)
 answered_current false at first raw old new before after other few tuned room reported is full same = full_current at first raw old new before after other tuned (full refl) (same refl)
 
-pub answered_next : (b : Bool) (at : FrameAt) (first : Bool) (raw : Raw) (old new : Memory) (before after : Reported) → raw.ext ≢ 0 → raw.ext < 4 → old.tuned ≡ true
+pub answered_next : (b : Bool) (at : FrameAt) (first : Bool) (raw : Raw) (old new : CheckerState) (before after : Reported) → raw.ext ≢ 0 → raw.ext < 4 → old.tuned ≡ true
     → (b ≡ true → finds_no_room (lookup_in raw (shown old.next)) ≡ false) → (b ≡ true → after ≡ with_more before (map (in_frame at) (next_findings (known_in old) raw))) → (b ≡ true → new ≡ with_next raw old)
     → (b ≡ false → finds_no_room (lookup_in raw (shown old.next)) ≡ true) → (b ≡ false → after ≡ before) → Hears at (items_of first true (raw ∷ [])) old before new after (not b)
 answered_next true at first raw old new before after other few tuned room reported is full same = hears_next at first raw old new before after other few tuned (room refl) (reported refl) (is refl)

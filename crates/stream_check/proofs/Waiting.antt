@@ -6,7 +6,7 @@ use Rattle.stream_check.specs.declared.finding.Fault.TheVariants as faults
 use Rattle.stream_check.specs.Reporting.{when}
 use Rattle.stream_check.specs.Pictures.{Heard, heard_kept}
 use Rattle.stream_check.specs.Rules.{name_of}
-use Rattle.stream_check.specs.Memory.{later, is_quiet, quiet_findings}
+use Rattle.stream_check.specs.CheckerState.{later, is_quiet, quiet_findings}
 use Rattle.stream_check.proofs.Tables.{each_kept}
 use Rattle.stream_check.proofs.Knowing.{later_first, later_second}
 

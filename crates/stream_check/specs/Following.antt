@@ -2,24 +2,24 @@
 use Rattle.std.specs.Prelude.{◌≡◌, ℕ, ◌+◌, ◌<◌, ◌≤◌, ◌⊎◌, ◌||◌, Bool, true, false, not, nat_lt, List, [], ◌∷◌, ◌++◌, length, map, flat_map}
 use Rattle.fib_codec.specs.Modes.{fib_count, count_step}
 use Rattle.fib_codec.specs.declared.modes.Mode.{Mode}
-use Rattle.stream_check.specs.declared.memory.Memory.{Memory}
+use Rattle.stream_check.specs.declared.checker_state.CheckerState.{CheckerState}
 use Rattle.stream_check.specs.declared.checker.Summary.{Summary}
 use Rattle.stream_check.specs.Frames.{Fib, Reading, IsFramed, damaged_in}
 use Rattle.stream_check.specs.Stream.{findings_in, findings_of, after_frames, frames_full}
-use Rattle.stream_check.specs.Memory.{IsSane, Knows, most}
+use Rattle.stream_check.specs.CheckerState.{IsSane, Knows, most}
 use Rattle.stream_check.specs.Reported.{Reported, Unknown, with_more}
 
 -- the checker between FIBs; the buffered FIBs are those of the current frame
 pub record Checking : Type 0 where
   pub size : ℕ
-  pub memory : Memory
+  pub state : CheckerState
   pub held : List (List ℕ)
   pub skipped : ℕ
   pub damaged : ℕ
 
 pub record IsChecking (c : Checking) : Type 0 where
-  pub sane : IsSane c.memory
-  pub frames : c.memory.frames ≤ most
+  pub sane : IsSane c.state
+  pub frames : c.state.frames ≤ most
   pub size : (3 ≤ c.size) × (c.size ≤ 4)
   pub room : length c.held < c.size
   pub skipped : c.skipped ≤ most
@@ -27,7 +27,7 @@ pub record IsChecking (c : Checking) : Type 0 where
 
 -- nothing more is counted: there were 2^62 frames, skipped FIBs or damaged FIBs
 abbrev pub IsAtLimit : Checking → Type 0
-IsAtLimit c = (most ≤ c.memory.frames) ⊎ (most ≤ c.skipped) ⊎ (most ≤ c.damaged)
+IsAtLimit c = (most ≤ c.state.frames) ⊎ (most ≤ c.skipped) ⊎ (most ≤ c.damaged)
 
 -- whether a FIG 0/0 has been heard
 abbrev pub is_empty : List (List ℕ) → Bool
@@ -35,7 +35,7 @@ is_empty [] = true
 is_empty (x ∷ xs) = false
 
 abbrev pub is_begun : Checking → Bool
-is_begun c = nat_lt 0 c.memory.frames || not (is_empty c.held)
+is_begun c = nat_lt 0 c.state.frames || not (is_empty c.held)
 
 -- with a FIB that is skipped; below, with one that is buffered
 abbrev pub with_skip : Checking → Checking
@@ -53,7 +53,7 @@ pub record Follows (r : Reading) (mode : Mode) (period : ℕ) (stream : List Fib
   pub skips : c.skipped ≡ length skipped
   pub damages : c.damaged ≡ damaged_in (flat_map (λ f. f) frames)
   pub room : frames_full (count_step mode) period [] frames ≡ false
-  pub knows : Knows (count_step mode) period (after_frames (count_step mode) [] frames) c.memory
+  pub knows : Knows (count_step mode) period (after_frames (count_step mode) [] frames) c.state
   pub findings : reported ≡ with_more start (findings_of (fib_count mode) (count_step mode) period [] frames)
 
 -- or up to an entry for which there was no room: all findings before it were reported

@@ -1,37 +1,37 @@
 -- Hearing entries: what is reported, and what is known afterwards.
 use Rattle.std.specs.Prelude.{◌≡◌, ℕ, Bool, false, List, map}
 use Rattle.stream_check.specs.declared.reporting.FrameAt.{FrameAt}
-use Rattle.stream_check.specs.declared.memory.Memory.{Memory}
+use Rattle.stream_check.specs.declared.checker_state.CheckerState.{CheckerState}
 use Rattle.stream_check.specs.Reporting.{in_frame}
 use Rattle.stream_check.specs.Frames.{Fib}
 use Rattle.stream_check.specs.History.{Item, Moment, said, frame_items}
 use Rattle.stream_check.specs.Stream.{findings_at_items, runs_full, findings_in, after_frame}
-use Rattle.stream_check.specs.Memory.{IsSane, Knows}
+use Rattle.stream_check.specs.CheckerState.{IsSane, Knows}
 use Rattle.stream_check.specs.Reported.{Reported, with_more}
 
 -- what does not change within a frame
-pub record IsLater (old new : Memory) : Type 0 where
+pub record IsLater (old new : CheckerState) : Type 0 where
   pub step : new.step ≡ old.step
   pub period : new.period ≡ old.period
   pub frames : new.frames ≡ old.frames
   pub sane : IsSane new
 
 -- after these entries, or up to one for which there is no room
-pub record IsHeard (at : FrameAt) (step period : ℕ) (past : List Moment) (items : List Item) (reported after : Reported) (new : Memory) (full : Bool) : Type 0 where
+pub record IsHeard (at : FrameAt) (step period : ℕ) (past : List Moment) (items : List Item) (reported after : Reported) (new : CheckerState) (full : Bool) : Type 0 where
   pub findings : after ≡ with_more reported (map (in_frame at) (findings_at_items step period past items))
   pub room : runs_full step period past items ≡ full
   pub knows : full ≡ false → Knows step period (said items past) new
 
-abbrev pub Hears : FrameAt → List Item → Memory → Reported → Memory → Reported → Bool → Type 0
+abbrev pub Hears : FrameAt → List Item → CheckerState → Reported → CheckerState → Reported → Bool → Type 0
 Hears at items old reported new after full =
     (past : List Moment) → Knows old.step old.period past old → IsHeard at old.step old.period past items reported after new full
 
 -- after a frame
-pub record IsFrameHeard (size step period : ℕ) (past : List Moment) (frame : List Fib) (reported after : Reported) (new : Memory) (full : Bool) : Type 0 where
+pub record IsFrameHeard (size step period : ℕ) (past : List Moment) (frame : List Fib) (reported after : Reported) (new : CheckerState) (full : Bool) : Type 0 where
   pub findings : after ≡ with_more reported (findings_in size step period past frame)
   pub room : runs_full step period past (frame_items frame) ≡ full
   pub knows : full ≡ false → Knows step period (after_frame step past frame) new
 
-abbrev pub HearsFrame : ℕ → List Fib → Memory → Reported → Memory → Reported → Bool → Type 0
+abbrev pub HearsFrame : ℕ → List Fib → CheckerState → Reported → CheckerState → Reported → Bool → Type 0
 HearsFrame size frame old reported new after full =
     (past : List Moment) → Knows old.step old.period past old → IsFrameHeard size old.step old.period past frame reported after new full

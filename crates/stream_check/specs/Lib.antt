@@ -8,7 +8,7 @@ pub mod Frames
 pub mod History
 pub mod Rules
 pub mod Stream
-pub mod Memory
+pub mod CheckerState
 pub mod Hearing
 pub mod Following
 pub use Rattle.fib_reader.specs.Listening

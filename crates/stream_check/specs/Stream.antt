@@ -3,7 +3,7 @@ use Rattle.std.specs.Prelude.{ℕ, ◌%◌, ◌==◌, ◌&&◌, Bool, true, fals
 use Rattle.mux_types.specs.Entries.{EnsembleInformation}
 use Rattle.stream_check.specs.declared.finding.Finding.{Finding}
 use Rattle.stream_check.specs.declared.finding.Fault.TheVariants as faults
-use Rattle.stream_check.specs.declared.finding.Event.TheVariants as events
+use Rattle.stream_check.specs.declared.finding.StreamEvent.TheVariants as events
 use Rattle.stream_check.specs.declared.finding.What.{What}
 use Rattle.stream_check.specs.declared.finding.What.TheVariants as whats
 use Rattle.stream_check.specs.declared.reporting.FrameAt.{FrameAt}

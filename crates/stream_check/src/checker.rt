@@ -2,8 +2,8 @@
 
 ghost use Rattle.fib_codec.specs.Modes.{fib_count};
 
+use crate::checker_state::CheckerState;
 use crate::frame::{FrameFibs, Sight, first_of, sight_of};
-use crate::memory::Memory;
 use crate::reporting::Report;
 use fib_codec::Mode;
 use std::marker::Model;
@@ -40,7 +40,7 @@ pub struct Summary {
 #[derive(Drop)]
 pub struct Checker {
     size: usize,
-    memory: Memory,
+    state: CheckerState,
     held: FrameFibs,
     skipped: u64,
     damaged: u64,
@@ -53,7 +53,7 @@ impl Model for Checker {
 
     ghost view = { λ c. record {
       size = c.size;
-      memory = c.memory;
+      state = c.state;
       held = c.held;
       skipped = c.skipped;
       damaged = c.damaged;
@@ -61,7 +61,7 @@ impl Model for Checker {
 
     ghost invariant = { λ c. IsChecking (record {
       size = c.size;
-      memory = c.memory;
+      state = c.state;
       held = c.held;
       skipped = c.skipped;
       damaged = c.damaged;
@@ -75,7 +75,7 @@ impl Checker {
     ghost use Rattle.stream_check.specs.Reported.{Reported};
     ghost use Rattle.stream_check.specs.declared.checker.CheckFault.TheVariants as faults;
     ghost use Rattle.stream_check.specs.Frames.{Fib, Reading, IsSeen, damaged_in, holds_ensemble, is_there};
-    ghost use Rattle.stream_check.specs.Memory.{most};
+    ghost use Rattle.stream_check.specs.CheckerState.{most};
     ghost use Rattle.stream_check.specs.Hearing.{HearsFrame};
     ghost use Rattle.stream_check.specs.Following.{Follows, EndsFull, FollowsFib, EndsAtFib, IsAtLimit, IsSummary, is_begun, is_empty, with_skip, with_fib};
 
@@ -87,7 +87,7 @@ impl Checker {
     {
         Checker {
             size: mode.fibs(),
-            memory: Memory::new(mode, period),
+            state: CheckerState::new(mode, period),
             held: FrameFibs::new(),
             skipped: 0,
             damaged: 0,
@@ -98,7 +98,7 @@ impl Checker {
     fn has_begun(&self) -> bool
         ensures { result ≡ is_begun self.now }
     {
-        self.memory.frames() > 0 || !self.held.is_empty()
+        self.state.frames() > 0 || !self.held.is_empty()
     }
 
     /// Whether a FIB is skipped: no FIG 0/0 was heard before, and it contains none.
@@ -119,11 +119,11 @@ impl Checker {
 
     /// Whether one of the counters is at its limit.
     fn is_at_limit(&self) -> bool
-        ensures room { result ≡ false → (self.now.memory.frames < most)
+        ensures room { result ≡ false → (self.now.state.frames < most)
             × (self.now.skipped < most) × (self.now.damaged < most) }
         ensures limit { result ≡ true → IsAtLimit self.now }
     {
-        self.memory.is_full() || (self.skipped >= LIMIT || self.damaged >= LIMIT)
+        self.state.is_full() || (self.skipped >= LIMIT || self.damaged >= LIMIT)
     }
 
     /// Whether the current frame is still incomplete with one more FIB.
@@ -155,18 +155,18 @@ impl Checker {
     /// no room for an entry.
     fn hear_cut<R: Report>(&mut self, fib: &[u8; 32], sight: &Sight, report: &mut R) -> bool
         requires seen { (r : Reading) → IsSeen sight.now (r.read fib.now) }
-        requires frames { self.old.memory.frames < most }
+        requires frames { self.old.state.frames < most }
         requires damaged { self.old.damaged < most }
         ensures heard { (r : Reading) → HearsFrame self.old.size (map r.read self.old.held)
-            self.old.memory (R.reported report.old)
-            self.new.memory (R.reported report.new) (not result) }
+            self.old.state (R.reported report.old)
+            self.new.state (R.reported report.new) (not result) }
         ensures damaged { (r : Reading)
             → self.new.damaged ≡ self.old.damaged + damaged_in (map r.read self.old.held) }
         ensures held { self.new.held ≡ fib.now ∷ [] }
         ensures size { self.new.size ≡ self.old.size }
         ensures skipped { self.new.skipped ≡ self.old.skipped }
     {
-        let is_heard = self.memory.hear_frame(self.size, &self.held, report);
+        let is_heard = self.state.hear_frame(self.size, &self.held, report);
         self.damaged += self.held.damaged();
         self.held = FrameFibs::new();
         self.held.push(fib, sight);
@@ -177,12 +177,12 @@ impl Checker {
     /// room for an entry.
     fn hear_last<R: Report>(&mut self, fib: &[u8; 32], sight: &Sight, report: &mut R) -> bool
         requires seen { (r : Reading) → IsSeen sight.now (r.read fib.now) }
-        requires frames { self.old.memory.frames < most }
+        requires frames { self.old.state.frames < most }
         requires damaged { self.old.damaged < most }
         ensures heard { (r : Reading)
             → HearsFrame self.old.size (map r.read (self.old.held ++ fib.now ∷ []))
-            self.old.memory (R.reported report.old)
-            self.new.memory (R.reported report.new) (not result) }
+            self.old.state (R.reported report.old)
+            self.new.state (R.reported report.new) (not result) }
         ensures damaged { (r : Reading) → self.new.damaged
             ≡ self.old.damaged + damaged_in (map r.read (self.old.held ++ fib.now ∷ [])) }
         ensures held { self.new.held ≡ [] }
@@ -190,7 +190,7 @@ impl Checker {
         ensures skipped { self.new.skipped ≡ self.old.skipped }
     {
         self.held.push(fib, sight);
-        let is_heard = self.memory.hear_frame(self.size, &self.held, report);
+        let is_heard = self.state.hear_frame(self.size, &self.held, report);
         self.damaged += self.held.damaged();
         self.held = FrameFibs::new();
         is_heard
@@ -259,7 +259,7 @@ impl Checker {
             → IsSummary follows.skipped follows.frames [] result }
     {
         Summary {
-            frames: self.memory.frames(),
+            frames: self.state.frames(),
             skipped: self.skipped,
             left_over: 0,
             damaged: self.damaged,
@@ -279,7 +279,7 @@ impl Checker {
             return None;
         }
         Some(Summary {
-            frames: self.memory.frames(),
+            frames: self.state.frames(),
             skipped: self.skipped,
             left_over: self.held.len() as u64,
             damaged: self.damaged,

@@ -3,8 +3,8 @@
 ghost use Rattle.std.specs.Prelude.{◌≡◌};
 ghost use Rattle.stream_check.specs.Rules.{can_fall_at};
 
-use crate::finding::{Event, Fault, What};
-use crate::memory::Memory;
+use crate::checker_state::CheckerState;
+use crate::finding::{Fault, StreamEvent, What};
 use crate::reporting::{FrameAt, Report, note, note_if};
 use mux_config::Ensemble;
 
@@ -15,12 +15,12 @@ fn can_fall_at(step: u16, low: u8) -> bool
     low < 250 && (low % 2 == 0 || step % 2 != 0)
 }
 
-impl Memory {
+impl CheckerState {
     ghost use Rattle.std.specs.Prelude.{◌≡◌, ◌<◌, ◌≤◌, map, if◌then◌else◌};
     ghost use Rattle.stream_check.specs.Reported.{with_more};
     ghost use Rattle.stream_check.specs.Reporting.{in_frame};
     ghost use Rattle.stream_check.specs.Rules.{is_placed, makes_swap, announces_another, is_other, place_faults, swap_or_another, announcement, announces_first, ensemble_findings, unannounced_findings};
-    ghost use Rattle.stream_check.specs.Memory.{IsSane, known_in, most, with_swap, with_flags, with_ensemble};
+    ghost use Rattle.stream_check.specs.CheckerState.{IsSane, known_in, most, with_swap, with_flags, with_ensemble};
 
     /// Whether a FIG 0/0 is in place: the first FIG of its frame, at a count that is a multiple of the mode's step.
     pub(crate) fn is_in_place(&self, first: bool, ensemble: &Ensemble) -> bool
@@ -125,7 +125,7 @@ impl Memory {
             let low = ensemble.occurrence().unwrap_or(0);
             note(
                 at,
-                What::Event(Event::Announced(ensemble.change(), low)),
+                What::Event(StreamEvent::Announced(ensemble.change(), low)),
                 report,
             );
             note_if(
@@ -208,7 +208,7 @@ impl Memory {
         requires period { self.old.period < 65536 }
         ensures reported { R.reported report.new ≡ with_more (R.reported report.old)
             (map (in_frame at) (ensemble_findings (known_in self.old) first ensemble.now)) }
-        ensures memory { self.new ≡ with_ensemble first ensemble.now
+        ensures state { self.new ≡ with_ensemble first ensemble.now
             (if makes_swap (known_in self.old) ensemble.now then with_swap self.old else self.old) }
     {
         self.report_ensemble(at, first, ensemble, report);

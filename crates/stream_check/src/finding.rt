@@ -15,7 +15,7 @@ pub enum EntryName {
 
 /// What happens in a valid stream.
 #[derive(Clone, Copy, Debug, PartialEq, Eq)]
-pub enum Event {
+pub enum StreamEvent {
     /// The ensemble of the stream, by its EId.
     Ensemble(u16),
     /// A reconfiguration is announced: its change flags, 1 to 3, and the low part of the CIF count of its swap.
@@ -71,7 +71,7 @@ pub enum Fault {
 #[derive(Clone, Copy, Debug, PartialEq, Eq)]
 pub enum What {
     /// An event.
-    Event(Event),
+    Event(StreamEvent),
     /// A fault.
     Fault(Fault),
 }
@@ -93,7 +93,7 @@ impl Default for Finding {
         Finding {
             frame: 0,
             count: 0,
-            what: What::Event(Event::Swap),
+            what: What::Event(StreamEvent::Swap),
         }
     }
 }

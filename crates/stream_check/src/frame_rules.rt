@@ -1,14 +1,14 @@
 //! The findings in a frame (EN 300 401 clauses 5.1, 6.4 and 6.5).
 
 ghost use Rattle.std.specs.Prelude.{◌≡◌};
-ghost use Rattle.stream_check.specs.Memory.{later};
+ghost use Rattle.stream_check.specs.CheckerState.{later};
 
-use crate::finding::{Event, Fault, What};
+use crate::checker_state::CheckerState;
+use crate::finding::{Fault, StreamEvent, What};
 use crate::frame::FrameFibs;
 use crate::heard_entry::HeardEntry;
 use crate::heard_table::HeardTable;
 use crate::member_rules::name_of;
-use crate::memory::Memory;
 use crate::reporting::{FrameAt, Report, note, note_if};
 
 /// The maximum of two numbers.
@@ -18,7 +18,7 @@ fn later(one: u64, other: u64) -> u64
     if one < other { other } else { one }
 }
 
-impl Memory {
+impl CheckerState {
     ghost use Rattle.std.specs.Prelude.{◌≡◌, ◌≢◌, ◌<◌, ◌≤◌, ◌+◌, ◌==◌, ◌&&◌, map, not, true, false};
     ghost use Rattle.std.specs.List.{AllByRecursion};
     ghost use Rattle.stream_check.specs.Pictures.{Heard};
@@ -27,7 +27,7 @@ impl Memory {
     ghost use Rattle.stream_check.specs.Frames.{Reading};
     ghost use Rattle.stream_check.specs.History.{frame_items};
     ghost use Rattle.stream_check.specs.Stream.{count_due, count_of_frame, first_line, size_findings, damaged_findings, missing_findings, frame_findings};
-    ghost use Rattle.stream_check.specs.Memory.{IsSane, most, later, is_quiet, quiet_findings, silent_in};
+    ghost use Rattle.stream_check.specs.CheckerState.{IsSane, most, later, is_quiet, quiet_findings, silent_in};
     ghost use Rattle.stream_check.specs.Hearing.{IsLater, HearsFrame};
 
     /// The count that is due in a frame; in the first frame that of its first FIG 0/0.
@@ -77,7 +77,7 @@ impl Memory {
             Some(ensemble) => ensemble.eid(),
             None => 0,
         };
-        note(at, What::Event(Event::Ensemble(eid)), report);
+        note(at, What::Event(StreamEvent::Ensemble(eid)), report);
     }
 
     /// Reports a frame with fewer FIBs than the mode requires.

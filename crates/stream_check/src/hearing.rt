@@ -1,15 +1,15 @@
 //! Hearing a frame, entry by entry.
 
+use crate::checker_state::CheckerState;
 use crate::frame::read;
-use crate::memory::Memory;
 use crate::reporting::{FrameAt, Report};
 use fib_reader::{Entries, Fig, Figs, RawEntry};
 
-impl Memory {
+impl CheckerState {
     ghost use Rattle.std.specs.Prelude.{◌≢◌, ◌<◌, [], ◌∷◌, map, not, Bool};
     ghost use Rattle.stream_check.specs.Frames.{Reading};
     ghost use Rattle.stream_check.specs.History.{items_of, fig_items, figs_items, fib_items, frame_items};
-    ghost use Rattle.stream_check.specs.Memory.{IsSane, most};
+    ghost use Rattle.stream_check.specs.CheckerState.{IsSane, most};
     ghost use Rattle.stream_check.specs.Hearing.{IsLater, Hears};
 
     /// Applies an entry of FIG 0/1 to 0/3, and reports the findings at it. Before the first FIG 0/0 it is

@@ -3,6 +3,7 @@
 #![tactic(auto)]
 
 pub mod checker;
+mod checker_state;
 mod ensemble_rules;
 pub mod finding;
 mod frame;
@@ -12,12 +13,11 @@ mod heard_table;
 mod hearing;
 pub mod laws;
 mod member_rules;
-mod memory;
-mod picture;
 pub mod reporting;
 mod subs;
 mod swap_rules;
+mod timed_picture;
 
 pub use checker::{CheckFault, Checker, Summary};
-pub use finding::{EntryName, Event, Fault, Finding, What};
+pub use finding::{EntryName, Fault, Finding, StreamEvent, What};
 pub use reporting::Report;

@@ -3,9 +3,9 @@
 ghost use Rattle.std.specs.Prelude.{◌≡◌, ◌≢◌};
 ghost use Rattle.stream_check.specs.Rules.{name_of};
 
+use crate::checker_state::CheckerState;
 use crate::finding::{EntryName, Fault, What};
 use crate::heard_table::Lookup;
-use crate::memory::Memory;
 use crate::reporting::{FrameAt, Report, note, note_if};
 use fib_codec::Extension;
 use fib_reader::RawEntry;
@@ -30,7 +30,7 @@ pub(crate) fn name_of(entry: &RawEntry<'_>) -> EntryName
     }
 }
 
-impl Memory {
+impl CheckerState {
     ghost use Rattle.std.specs.Prelude.{◌≡◌, ◌≢◌, ◌<◌, ◌+◌, map, true, false};
     ghost use Rattle.stream_check.specs.declared.heard_table.Lookup.TheVariants as standings;
     ghost use Rattle.stream_check.specs.Reported.{with_more};
@@ -38,7 +38,7 @@ impl Memory {
     ghost use Rattle.stream_check.specs.Pictures.{shown};
     ghost use Rattle.stream_check.specs.Lookup.{lookup_in};
     ghost use Rattle.stream_check.specs.Rules.{finds_no_room, current_findings, next_findings};
-    ghost use Rattle.stream_check.specs.Memory.{known_in, most, with_current, with_begun, with_next};
+    ghost use Rattle.stream_check.specs.CheckerState.{known_in, most, with_current, with_begun, with_next};
 
     /// Hears an entry of the current configuration, and reports the findings at it. False if there
     /// was no room for it; then nothing changes.
@@ -54,7 +54,7 @@ impl Memory {
             finds_no_room (lookup_in entry.now (shown self.old.current)) ≡ false }
         ensures reported { result ≡ true → R.reported report.new ≡ with_more (R.reported report.old)
             (map (in_frame at) (current_findings (known_in self.old) entry.now)) }
-        ensures memory { result ≡ true → self.new ≡ with_current entry.now self.old }
+        ensures state { result ≡ true → self.new ≡ with_current entry.now self.old }
         ensures full { result ≡ false →
             finds_no_room (lookup_in entry.now (shown self.old.current)) ≡ true }
         ensures nothing { result ≡ false → R.reported report.new ≡ R.reported report.old }
@@ -103,7 +103,7 @@ impl Memory {
             finds_no_room (lookup_in entry.now (shown self.old.next)) ≡ false }
         ensures reported { result ≡ true → R.reported report.new ≡ with_more (R.reported report.old)
             (map (in_frame at) (next_findings (known_in self.old) entry.now)) }
-        ensures memory { result ≡ true → self.new ≡ with_next entry.now self.old }
+        ensures state { result ≡ true → self.new ≡ with_next entry.now self.old }
         ensures full { result ≡ false →
             finds_no_room (lookup_in entry.now (shown self.old.next)) ≡ true }
         ensures nothing { result ≡ false → R.reported report.new ≡ R.reported report.old }

@@ -1,17 +1,17 @@
 //! The findings at a swap (EN 300 401 clause 6.5).
 
-use crate::finding::{Event, Fault, What};
-use crate::memory::Memory;
+use crate::checker_state::CheckerState;
+use crate::finding::{Fault, StreamEvent, What};
 use crate::reporting::{FrameAt, Report, note, note_if, note_some};
 use crate::subs::{overlap, past_end};
 use mux_config::Ensemble;
 
-impl Memory {
+impl CheckerState {
     ghost use Rattle.std.specs.Prelude.{◌≡◌, ◌&&◌, not, map};
     ghost use Rattle.stream_check.specs.Reported.{with_more};
     ghost use Rattle.stream_check.specs.Reporting.{in_frame};
     ghost use Rattle.stream_check.specs.Rules.{times_faults, heard_faults, flags_faults, notice_faults, unit_faults, count_findings, swap_findings};
-    ghost use Rattle.stream_check.specs.Memory.{known_in};
+    ghost use Rattle.stream_check.specs.CheckerState.{known_in};
 
     /// Whether a fault of the notice is reported: only if the beginning of the notice was heard.
     fn is_fault(&self, holds: bool) -> bool
@@ -73,7 +73,7 @@ impl Memory {
             (map (in_frame at) (count_findings (known_in self.now) ensemble.now)) }
     {
         let low = self.awaited.unwrap_or(0);
-        note(at, What::Event(Event::Swap), report);
+        note(at, What::Event(StreamEvent::Swap), report);
         let is_moved = ensemble.count() % 250 != u16::from(low);
         note_if(is_moved, at, Fault::AnnouncedFor(low), report);
     }

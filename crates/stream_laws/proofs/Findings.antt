@@ -8,7 +8,7 @@ use Rattle.fib_reader.specs.Raw.{Raw}
 use Rattle.fib_reader.specs.Listening.{all_entries}
 use Rattle.stream_check.specs.declared.finding.Fault.{Fault}
 use Rattle.stream_check.specs.declared.finding.Fault.TheVariants as faults
-use Rattle.stream_check.specs.declared.finding.Event.TheVariants as events
+use Rattle.stream_check.specs.declared.finding.StreamEvent.TheVariants as events
 use Rattle.stream_check.specs.declared.finding.What.{What}
 use Rattle.stream_check.specs.declared.finding.What.TheVariants as whats
 use Rattle.stream_check.specs.declared.finding.Finding.{Finding}

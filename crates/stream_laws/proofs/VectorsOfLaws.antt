@@ -12,7 +12,7 @@ use Rattle.fib_reader.specs.Raw.{Raw}
 use Rattle.fib_reader.specs.Listening.{blank, identifier_of}
 use Rattle.stream_check.specs.declared.finding.EntryName.TheVariants as names
 use Rattle.stream_check.specs.declared.finding.Fault.TheVariants as faults
-use Rattle.stream_check.specs.declared.finding.Event.TheVariants as named_events
+use Rattle.stream_check.specs.declared.finding.StreamEvent.TheVariants as named_events
 use Rattle.stream_check.specs.declared.finding.What.TheVariants as whats
 use Rattle.stream_check.specs.declared.finding.Finding.{Finding}
 use Rattle.stream_check.specs.Frames.{Fib, Reading}

@@ -3,10 +3,10 @@ use Rattle.std.specs.Prelude.{◌≡◌, ℕ, ◌+◌, ◌%◌, Bool, true, fals
 use Rattle.fib_codec.specs.Layouts.{layout_mode, frame_fibs}
 use Rattle.fib_codec.specs.Modes.{count_step}
 use Rattle.stream_check.specs.declared.finding.Finding.{Finding}
-use Rattle.stream_check.specs.declared.finding.Event.TheVariants as named_events
+use Rattle.stream_check.specs.declared.finding.StreamEvent.TheVariants as named_events
 use Rattle.stream_check.specs.declared.finding.What.{What}
 use Rattle.stream_check.specs.declared.finding.What.TheVariants as whats
-use Rattle.stream_check.specs.declared.finding.Event.{Event as NamedEvent}
+use Rattle.stream_check.specs.declared.finding.StreamEvent.{StreamEvent}
 use Rattle.stream_check.specs.Frames.{Reading}
 use Rattle.stream_check.specs.Stream.{findings_of}
 use Rattle.plan_code.specs.Program.{Program}
@@ -19,7 +19,7 @@ use Rattle.plan_runs.specs.TypedRuns.{IsPlayed}
 use Rattle.stream_laws.specs.Notices.{read_frames}
 use Rattle.stream_laws.specs.Framing.{frames_of}
 
-abbrev pub is_swap_event : NamedEvent → Bool
+abbrev pub is_swap_event : StreamEvent → Bool
 is_swap_event (named_events.Ensemble eid) = false
 is_swap_event (named_events.Announced flags low) = false
 is_swap_event named_events.Swap = true

@@ -4,7 +4,7 @@ use Rattle.std.proofs.lemmas.List.{append_assoc, append-nil, length-append, map-
 use Rattle.std.specs.List.{concat}
 use Rattle.fib_codec.specs.Modes.{fib_count}
 use Rattle.stream_check.specs.Frames.{Fib, Reading, IsFramed, HoldsFirst}
-use Rattle.stream_check.specs.Memory.{most}
+use Rattle.stream_check.specs.CheckerState.{most}
 use Rattle.stream_check.proofs.Framing.{flat}
 use Rattle.stream_check.proofs.Fronts.{front_framing, no_flat, same_skipped}
 use Rattle.stream_monitor.specs.declared.ending.Ending.{Ending}

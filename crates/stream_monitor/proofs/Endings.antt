@@ -87,7 +87,7 @@ ends_counted r o fibs text s sum t h begun summary is =
         let later = flat_map (λ g. g) f.frames ++ map r.read s.checker.held in
         let whole = subst HasNoEnsemble (sym h.read ∙ f.framed.whole) none in
         let empty = none_framed (fib_count o.mode) f.frames (map r.read s.checker.held) f.framed.cut (none_held f.skipped later whole f.framed.begun) in
-        let count : s.checker.memory.frames ≡ 0 = frame_count (count_step o.mode) o.period f.frames s.checker.memory f.knows ∙ ap length empty.0 in
+        let count : s.checker.state.frames ≡ 0 = frame_count (count_step o.mode) o.period f.frames s.checker.state f.knows ∙ ap length empty.0 in
         let held : s.checker.held ≡ [] = none_mapped r s.checker.held empty.1 in
         false≢true (sym (ap (λ n. nat_lt 0 n || not (is_empty s.checker.held)) count ∙ ap (λ l. nat_lt 0 0 || not (is_empty l)) held) ∙ begun)
 
@@ -96,7 +96,7 @@ pub ends_without : (r : Reading) (o : CheckOptions) (fibs : List (List ℕ)) (te
 ends_without r o fibs text s h begun =
     let f = h.follows in
     let un = unbegun s.checker begun in
-    let none : f.frames ≡ [] = no_frames f.frames (sym un.none ∙ frame_count (count_step o.mode) o.period f.frames s.checker.memory f.knows) in
+    let none : f.frames ≡ [] = no_frames f.frames (sym un.none ∙ frame_count (count_step o.mode) o.period f.frames s.checker.state f.knows) in
     let all : map r.read fibs ≡ f.skipped =
     sym h.read ∙ f.framed.whole ∙ ap (λ l. f.skipped ++ (flat_map (λ g. g) l ++ map r.read s.checker.held)) none ∙ ap (λ l. f.skipped ++ map r.read l) un.empty ∙ append-nil f.skipped in
     (goes_on r o fibs text s h, refl, subst HasNoEnsemble (sym all) f.framed.before)

@@ -5,7 +5,7 @@ use Rattle.std.proofs.lemmas.List.{length-append}
 use Rattle.fib_codec.specs.Modes.{fib_count, count_step}
 use Rattle.stream_check.specs.Frames.{Fib, AreFrames, IsFramed, is_damaged, damaged_in}
 use Rattle.stream_check.specs.History.{Moment, frame_items}
-use Rattle.stream_check.specs.Memory.{most}
+use Rattle.stream_check.specs.CheckerState.{most}
 use Rattle.stream_check.specs.Stream.{runs_full, findings_in, findings_of, after_frame}
 use Rattle.stream_monitor.specs.declared.options.CheckOptions.{CheckOptions}
 use Rattle.stream_monitor.specs.Findings.{faults_in}

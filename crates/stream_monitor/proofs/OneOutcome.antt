@@ -5,7 +5,7 @@ use Rattle.std.proofs.lemmas.List.{append_assoc, length-append, length-map, map-
 use Rattle.std.specs.List.{AllByRecursion, concat}
 use Rattle.fib_codec.specs.Modes.{fib_count}
 use Rattle.stream_check.specs.Frames.{Fib, Reading, IsFramed}
-use Rattle.stream_check.specs.Memory.{most}
+use Rattle.stream_check.specs.CheckerState.{most}
 use Rattle.stream_monitor.specs.declared.ending.Ending.{Ending}
 use Rattle.stream_monitor.specs.declared.ending.Ending.TheVariants as endings
 use Rattle.stream_monitor.specs.declared.line.Cause.TheVariants as causes

@@ -10,7 +10,7 @@ use Rattle.stream_check.specs.declared.checker.Summary.{Summary}
 use Rattle.stream_check.specs.declared.finding.Finding.{Finding}
 use Rattle.stream_check.specs.Following.{IsAtLimit, Follows, FollowsFib, EndsAtFib, IsSummary}
 use Rattle.stream_check.specs.Frames.{Fib, Reading, IsFramed}
-use Rattle.stream_check.specs.Memory.{most}
+use Rattle.stream_check.specs.CheckerState.{most}
 use Rattle.stream_check.specs.Reported.{Reported, AtMost, Unknown, with_more}
 use Rattle.stream_check.proofs.Framing.{all_append}
 use Rattle.stream_check.proofs.Followed.{frame_count}
@@ -236,7 +236,7 @@ step_long r o fibs fib text old found h size before after empty given limit same
     (goes_on r o fibs text old h, size, at_limit limit)
   where
     at_limit : IsAtLimit old.checker → IsTooLong h.follows.skipped h.follows.frames
-    at_limit (inl many) = inl (subst (λ (n : ℕ). most ≤ n) (frame_count (count_step o.mode) o.period h.follows.frames old.checker.memory h.follows.knows) many)
+    at_limit (inl many) = inl (subst (λ (n : ℕ). most ≤ n) (frame_count (count_step o.mode) o.period h.follows.frames old.checker.state h.follows.knows) many)
     at_limit (inr (inl many)) = inr (inl (subst (λ (n : ℕ). most ≤ n) h.follows.skips many))
     at_limit (inr (inr many)) = inr (inr (subst (λ (n : ℕ). most ≤ n) h.follows.damages many))
 

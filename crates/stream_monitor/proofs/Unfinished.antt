@@ -19,8 +19,8 @@ use Rattle.stream_check.specs.Frames.{Fib, Reading, IsFramed}
 use Rattle.stream_check.specs.Reported.{Reported, AtMost, Unknown, with_more}
 use Rattle.stream_monitor.specs.declared.line.Totals.{Totals}
 use Rattle.stream_monitor.specs.declared.monitor.State.{State}
-use Rattle.stream_monitor.specs.declared.monitor.Stop.{Stop}
-use Rattle.stream_monitor.specs.declared.monitor.Stop.TheVariants as stops
+use Rattle.stream_monitor.specs.declared.monitor.CheckFailure.{CheckFailure}
+use Rattle.stream_monitor.specs.declared.monitor.CheckFailure.TheVariants as stops
 use Rattle.stream_monitor.specs.declared.options.CheckOptions.{CheckOptions}
 use Rattle.stream_monitor.specs.Decided.{finding_lines}
 use Rattle.stream_monitor.specs.Frames.{found_next, alive_text, frames_text}
@@ -150,7 +150,7 @@ within_findings r o fibs fib text old new h size before after (Err faults.TooLon
 
 -- ---- the exits of the check of a FIB
 
-unprinted : (r : Reading) (o : CheckOptions) (fibs : List (List ℕ)) (fib part : List ℕ) (output line : Bool) (stop : Stop) → IsUnprinted output line stop → IsWithinFrame r o fibs fib part
+unprinted : (r : Reading) (o : CheckOptions) (fibs : List (List ℕ)) (fib part : List ℕ) (output line : Bool) (stop : CheckFailure) → IsUnprinted output line stop → IsWithinFrame r o fibs fib part
     → GivesUpAtFib r o fibs fib part output line stop
 unprinted r o fibs fib part output line (stops.Read fault) why h = absurd why
 unprinted r o fibs fib part output line stops.Write why h = (why, h)
@@ -176,7 +176,7 @@ gives_up_full o fib old new before after heard shown output line size empty x is
     ([], Appends-nil shown, inl (subst (λ (l : List ℕ). FindsTooMuch r o fibs fib l) (sym (append-nil text)) much))
 
 pub gives_up_printing : (o : CheckOptions) (fib : List ℕ) (old : State) (new : Checking) (before after : Reported) (heard : Result Bool CheckFault) (found : List Finding) (shown now : Option (List ℕ)) (output line : Bool)
-    (stop : Stop) → HasFibSize fib → before ≡ AtMost 1024 [] → HeardAs fib old.checker new before after heard → after ≡ AtMost 1024 found → 0 < length found
+    (stop : CheckFailure) → HasFibSize fib → before ≡ AtMost 1024 [] → HeardAs fib old.checker new before after heard → after ≡ AtMost 1024 found → 0 < length found
     → PrintsFront shown now (finding_lines o.form found) → IsUnprinted output line stop → GivesUpFib o fib old shown now output line stop
 gives_up_printing o fib old new before after heard found shown now output line stop size empty x is some front why = λ r fibs text h.
     let given = heard_as r o h.stream fib old.checker new before after heard empty x in
@@ -192,7 +192,7 @@ frame_breaks o s sum t before after is decided front = λ r stream f tally.
     subst (λ (l : List ℕ). PrintsFront before after l) (due_is r o s t stream f totals) front
 
 -- the findings of the frame are printed, and a part of its totals
-pub fib_breaks : (r : Reading) (o : CheckOptions) (fibs : List (List ℕ)) (fib text : List ℕ) (s : State) (found : List Finding) (before now after : Option (List ℕ)) (output line : Bool) (stop : Stop)
+pub fib_breaks : (r : Reading) (o : CheckOptions) (fibs : List (List ℕ)) (fib text : List ℕ) (s : State) (found : List Finding) (before now after : Option (List ℕ)) (output line : Bool) (stop : CheckFailure)
     → IsEnded r o fibs fib (text ++ finding_lines o.form found) s → Appends before now (finding_lines o.form found) → BreaksFrameFrom o s now after → IsUnprinted output line stop
     → (part : List ℕ) × Appends before after part × GivesUpAtFib r o fibs fib (text ++ part) output line stop
 fib_breaks r o fibs fib text s found before now after output line stop h printed breaks why =
@@ -216,7 +216,7 @@ fib_breaks r o fibs fib text s found before now after output line stop h printed
 
 -- ---- in a piece, and in the input
 
-pub piece_gives_up : (o : CheckOptions) (front fib rest piece : List ℕ) (old mid : State) (before now after : Option (List ℕ)) (output line : Bool) (stop : Stop) → ChecksPiece o front old mid before now None
+pub piece_gives_up : (o : CheckOptions) (front fib rest piece : List ℕ) (old mid : State) (before now after : Option (List ℕ)) (output line : Bool) (stop : CheckFailure) → ChecksPiece o front old mid before now None
     → GivesUpFib o fib mid now after output line stop → piece ≡ front ++ (fib ++ rest) → GivesUpPiece o piece old before after output line stop
 piece_gives_up o front fib rest piece old mid before now after output line stop so_far step is = λ r fibs text h.
     let one = so_far r fibs text h in
@@ -230,7 +230,7 @@ piece_gives_up o front fib rest piece old mid before now after output line stop 
       subst (λ (l : List ℕ). GivesUpAtFib r o (fibs ++ one.2.0) fib l output line stop) (append_assoc text one.0 two.0) two.2,
     )
 
-pub input_gives_up : (o : CheckOptions) (left printed : Option (List ℕ)) (s : State) (now later so_far after : Option (List ℕ)) (piece : List ℕ) (f : Failures) (stop : Stop) → ChecksSoFar o left printed s now so_far
+pub input_gives_up : (o : CheckOptions) (left printed : Option (List ℕ)) (s : State) (now later so_far after : Option (List ℕ)) (piece : List ℕ) (f : Failures) (stop : CheckFailure) → ChecksSoFar o left printed s now so_far
     → Consumes now later piece → GivesUpPiece o piece s so_far after f.output f.line stop → (r : Reading) → GivesUp r o left later printed after f stop
 input_gives_up o left printed s now later so_far after piece f stop before read step r =
     let one = before r in
@@ -241,7 +241,7 @@ input_gives_up o left printed s now later so_far after piece f stop before read 
     (Consumes-trans left now later (concat one.0) piece one.2 read) in
     here stop (one.0 ++ two.2) two.3 two.4 (one.1 ++ two.0) bytes (Appends-trans printed so_far after one.1 two.0 one.3 two.1) two.6
   where
-    here : (stop : Stop) (fibs : List (List ℕ)) (fib more part : List ℕ) → Consumes left later (concat fibs ++ (fib ++ more)) → Appends printed after part → GivesUpAtFib r o fibs fib part f.output f.line stop
+    here : (stop : CheckFailure) (fibs : List (List ℕ)) (fib more part : List ℕ) → Consumes left later (concat fibs ++ (fib ++ more)) → Appends printed after part → GivesUpAtFib r o fibs fib part f.output f.line stop
         → GivesUp r o left later printed after f stop
     here (stops.Read fault) fibs fib more part bytes shown h = absurd h
     here stops.Write fibs fib more part bytes shown h = (h.0, inr (fibs, fib, more, part, bytes, h.1, shown))
@@ -256,10 +256,10 @@ between r o left printed s now so_far after before kept =
     record { fibs = one.0; text = one.1; read = one.2; goes_on = goes_on r o one.0 one.1 s one.4; taken = Appends-kept printed so_far after one.1 one.3 kept }
 
 -- the output fails, a read fails, or there are too many pieces
-pub write_gives_up : (o : CheckOptions) (left printed : Option (List ℕ)) (s : State) (now so_far after : Option (List ℕ)) (f : Failures) (stop : Stop) → ChecksSoFar o left printed s now so_far → Keeps so_far after
+pub write_gives_up : (o : CheckOptions) (left printed : Option (List ℕ)) (s : State) (now so_far after : Option (List ℕ)) (f : Failures) (stop : CheckFailure) → ChecksSoFar o left printed s now so_far → Keeps so_far after
     → (stop ≡ stops.Write) × (f.output ≡ true) → (r : Reading) → GivesUp r o left now printed after f stop
 write_gives_up o left printed s now so_far after f stop before kept why r =
-    subst (λ (x : Stop). GivesUp r o left now printed after f x) (sym why.0) (why.1, inl (between r o left printed s now so_far after before kept))
+    subst (λ (x : CheckFailure). GivesUp r o left now printed after f x) (sym why.0) (why.1, inl (between r o left printed s now so_far after before kept))
 
 pub read_gives_up : (o : CheckOptions) (left printed : Option (List ℕ)) (s : State) (now later so_far after : Option (List ℕ)) (f : Failures) (fault : FileFault) → ChecksSoFar o left printed s now so_far → Keeps so_far after
     → f.input ≡ Some fault → (r : Reading) → GivesUp r o left later printed after f (stops.Read fault)

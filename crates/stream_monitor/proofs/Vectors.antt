@@ -1,7 +1,7 @@
 -- Examples of lines: for each definition one that it gives, and one that it does not.
 use Rattle.std.proofs.Common.{◌≡◌, ◌≢◌, [], ◌∷◌, get_or, codes, refl, ap, arith, true, false}
 use Rattle.stream_check.specs.declared.finding.EntryName.TheVariants as names
-use Rattle.stream_check.specs.declared.finding.Event.TheVariants as events
+use Rattle.stream_check.specs.declared.finding.StreamEvent.TheVariants as events
 use Rattle.stream_check.specs.declared.finding.Fault.TheVariants as faults
 use Rattle.stream_check.specs.declared.finding.What.TheVariants as whats
 use Rattle.stream_monitor.specs.declared.line.Cause.TheVariants as causes

@@ -6,7 +6,7 @@ use Rattle.std.proofs.lemmas.List.{append-nil, length-append}
 use Rattle.console.specs.declared.files.FileFault.{FileFault}
 use Rattle.console.specs.declared.files.FileFault.TheVariants.{Failed, Memory as NoMemory}
 use Rattle.stream_check.specs.Frames.{Fib, Reading}
-use Rattle.stream_monitor.specs.declared.monitor.Stop.TheVariants as stops
+use Rattle.stream_monitor.specs.declared.monitor.CheckFailure.TheVariants as stops
 use Rattle.stream_monitor.specs.Beginnings.{Begins}
 use Rattle.stream_monitor.specs.Frames.{found_next}
 use Rattle.stream_monitor.specs.Outcome.{EndsFrame, GoesOn}

@@ -14,7 +14,7 @@ use Rattle.stream_monitor.specs.declared.line.Cause.TheVariants as causes
 use Rattle.stream_monitor.specs.declared.line.Line.TheVariants as lines
 use Rattle.stream_monitor.specs.declared.line.Totals.{Totals}
 use Rattle.stream_monitor.specs.declared.monitor.State.{State}
-use Rattle.stream_monitor.specs.declared.monitor.Stop.{Stop}
+use Rattle.stream_monitor.specs.declared.monitor.CheckFailure.{CheckFailure}
 use Rattle.stream_monitor.specs.declared.options.CheckOptions.{CheckOptions}
 use Rattle.stream_monitor.specs.Decided.{is_due}
 use Rattle.stream_monitor.specs.Lines.{line_of}
@@ -96,13 +96,13 @@ BreaksFrameFrom o s old new =
     → PrintsFront old new (alive_text o f.skipped f.frames)
 
 -- with this FIB
-abbrev pub GivesUpFib : CheckOptions → (fib : List ℕ) → State → (before after : Option (List ℕ)) (output line : Bool) → Stop → Type 0
+abbrev pub GivesUpFib : CheckOptions → (fib : List ℕ) → State → (before after : Option (List ℕ)) (output line : Bool) → CheckFailure → Type 0
 GivesUpFib o fib old before after output line stop =
     (r : Reading) (fibs : List (List ℕ)) (text : List ℕ) → IsAfter r o fibs text old
     → (part : List ℕ) × Appends before after part × GivesUpAtFib r o fibs fib (text ++ part) output line stop
 
 -- with a FIB of this piece
-abbrev pub GivesUpPiece : CheckOptions → (piece : List ℕ) → State → (before after : Option (List ℕ)) (output line : Bool) → Stop → Type 0
+abbrev pub GivesUpPiece : CheckOptions → (piece : List ℕ) → State → (before after : Option (List ℕ)) (output line : Bool) → CheckFailure → Type 0
 GivesUpPiece o piece old before after output line stop =
     (r : Reading) (fibs : List (List ℕ)) (text : List ℕ) → IsAfter r o fibs text old
     → (part : List ℕ) × Appends before after part × (more : List (List ℕ)) × (fib rest : List ℕ) × (piece ≡ concat more ++ (fib ++ rest))

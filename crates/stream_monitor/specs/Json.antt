@@ -4,8 +4,8 @@ use Rattle.std.specs.Fmt.{decimal}
 use Rattle.console.specs.Digits.{hex_of_u16}
 use Rattle.stream_check.specs.declared.finding.EntryName.{EntryName}
 use Rattle.stream_check.specs.declared.finding.EntryName.TheVariants as names
-use Rattle.stream_check.specs.declared.finding.Event.{Event}
-use Rattle.stream_check.specs.declared.finding.Event.TheVariants as events
+use Rattle.stream_check.specs.declared.finding.StreamEvent.{StreamEvent}
+use Rattle.stream_check.specs.declared.finding.StreamEvent.TheVariants as events
 use Rattle.stream_check.specs.declared.finding.Fault.{Fault}
 use Rattle.stream_check.specs.declared.finding.Fault.TheVariants as faults
 use Rattle.stream_check.specs.declared.finding.Finding.{Finding}
@@ -53,7 +53,7 @@ kind_json (whats.Event events.Swap) = codes "swap"
 kind_json (whats.Fault fault) = codes "fault"
 
 -- the fields behind `count`
-abbrev pub event_json : Event → List ℕ
+abbrev pub event_json : StreamEvent → List ℕ
 event_json (events.Ensemble eid) = codes ",\"eid\":\"" ++ hex_of_u16 eid ++ codes "\""
 event_json (events.Announced change low) = codes ",\"change\":" ++ decimal change ++ codes ",\"low\":" ++ decimal low
 event_json events.Swap = []

@@ -4,7 +4,7 @@ use Rattle.std.specs.List.{AllByRecursion, concat}
 use Rattle.std.specs.Io.KnownBytes.{Consumes, IsAtEnd}
 use Rattle.fib_codec.specs.Modes.{fib_count}
 use Rattle.stream_check.specs.Frames.{Fib, Reading, IsFramed, holds_ensemble, damaged_in}
-use Rattle.stream_check.specs.Memory.{most}
+use Rattle.stream_check.specs.CheckerState.{most}
 use Rattle.stream_monitor.specs.declared.ending.Ending.{Ending}
 use Rattle.stream_monitor.specs.declared.ending.Ending.TheVariants as endings
 use Rattle.stream_monitor.specs.declared.line.Cause.TheVariants as causes

@@ -4,8 +4,8 @@ use Rattle.std.specs.Fmt.{decimal}
 use Rattle.console.specs.Digits.{hex_of_u16}
 use Rattle.stream_check.specs.declared.finding.EntryName.{EntryName}
 use Rattle.stream_check.specs.declared.finding.EntryName.TheVariants as names
-use Rattle.stream_check.specs.declared.finding.Event.{Event}
-use Rattle.stream_check.specs.declared.finding.Event.TheVariants as events
+use Rattle.stream_check.specs.declared.finding.StreamEvent.{StreamEvent}
+use Rattle.stream_check.specs.declared.finding.StreamEvent.TheVariants as events
 use Rattle.stream_check.specs.declared.finding.Fault.{Fault}
 use Rattle.stream_check.specs.declared.finding.Fault.TheVariants as faults
 use Rattle.stream_check.specs.declared.finding.Finding.{Finding}
@@ -30,7 +30,7 @@ entry_text (names.Service sid) = codes "service " ++ short_digits sid
 entry_text (names.LongService sid) = codes "service " ++ long_digits sid
 entry_text (names.Packet scid) = codes "packet " ++ decimal scid
 
-abbrev pub event_text : Event → List ℕ
+abbrev pub event_text : StreamEvent → List ℕ
 event_text (events.Ensemble eid) = codes "ensemble " ++ hex_of_u16 eid
 event_text (events.Announced change low) = codes "announced " ++ decimal change ++ codes " swap at low " ++ decimal low
 event_text events.Swap = codes "swap"

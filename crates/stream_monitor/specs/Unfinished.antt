@@ -5,8 +5,8 @@ use Rattle.std.specs.Io.KnownBytes.{Appends, Consumes}
 use Rattle.console.specs.declared.files.FileFault.{FileFault}
 use Rattle.console.specs.declared.files.FileFault.TheVariants.{Failed}
 use Rattle.stream_check.specs.Frames.{Fib, Reading}
-use Rattle.stream_monitor.specs.declared.monitor.Stop.{Stop}
-use Rattle.stream_monitor.specs.declared.monitor.Stop.TheVariants as stops
+use Rattle.stream_monitor.specs.declared.monitor.CheckFailure.{CheckFailure}
+use Rattle.stream_monitor.specs.declared.monitor.CheckFailure.TheVariants as stops
 use Rattle.stream_monitor.specs.declared.options.CheckOptions.{CheckOptions}
 use Rattle.stream_monitor.specs.Frames.{found_next}
 use Rattle.stream_monitor.specs.Outcome.{EndsFrame}
@@ -39,14 +39,14 @@ FindsTooMuch r o fibs fib part =
     × (1024 < length (found_next o e.before.frames e.frame)) × (part ≡ e.text_before)
 
 -- why a line is not printed: the output has failed; or the line is lost, though it has not
-abbrev pub IsUnprinted : (output line : Bool) → Stop → Type 0
+abbrev pub IsUnprinted : (output line : Bool) → CheckFailure → Type 0
 IsUnprinted output line (stops.Read fault) = ⊥
 IsUnprinted output line stops.Write = output ≡ true
 IsUnprinted output line stops.Memory = line ≡ true
 
 -- why a check gives up with the FIB after these, and the part that it has printed
 abbrev pub GivesUpAtFib : Reading → CheckOptions → (fibs : List (List ℕ)) (fib part : List ℕ)
-    (output line : Bool) → Stop → Type 0
+    (output line : Bool) → CheckFailure → Type 0
 GivesUpAtFib r o fibs fib part output line (stops.Read fault) = ⊥
 GivesUpAtFib r o fibs fib part output line stops.Write = (output ≡ true) × IsWithinFrame r o fibs fib part
 GivesUpAtFib r o fibs fib part output line stops.Memory =
@@ -86,7 +86,7 @@ StopsInside Stops left now before after =
 -- that was read is checked, or 2^50 bytes were read; the output has failed; a frame has more than
 -- 1,024 findings, or a line is lost
 abbrev pub GivesUp : Reading → CheckOptions → (left now before after : Option (List ℕ))
-    → Failures → Stop → Type 0
+    → Failures → CheckFailure → Type 0
 GivesUp r o left now before after f (stops.Read fault) =
     ((f.input ≡ Some fault) × ((asked : Option (List ℕ)) × StopsBetween r o left asked before after))
     ⊎ ((fault ≡ Failed) × IsHuge left now × StopsBetween r o left now before after)

@@ -13,7 +13,7 @@ ghost use Rattle.stream_monitor.specs.Text.{cause_text};
 use crate::line::{Cause, Totals};
 use crate::text::{cause_text, print_clock, print_digits, print_long, print_short};
 use std::io::{self, Write};
-use stream_check::{EntryName, Event, Fault, Finding, What};
+use stream_check::{EntryName, Fault, Finding, StreamEvent, What};
 
 /// Prints a finding: its kind, frame and count, and what was found.
 pub(crate) fn print_json_finding<W: Write>(
@@ -40,9 +40,9 @@ fn kind_of(what: What) -> &'static str
     ensures { result.now ≡ kind_json what }
 {
     match what {
-        What::Event(Event::Ensemble(_)) => "ensemble",
-        What::Event(Event::Announced(_, _)) => "announced",
-        What::Event(Event::Swap) => "swap",
+        What::Event(StreamEvent::Ensemble(_)) => "ensemble",
+        What::Event(StreamEvent::Announced(_, _)) => "announced",
+        What::Event(StreamEvent::Swap) => "swap",
         What::Fault(_) => "fault",
     }
 }
@@ -76,13 +76,13 @@ fn print_what<W: Write>(what: What, out: &mut W) -> io::Result<()>
 }
 
 /// Prints the fields of an event.
-fn print_event<W: Write>(event: Event, out: &mut W) -> io::Result<()>
+fn print_event<W: Write>(event: StreamEvent, out: &mut W) -> io::Result<()>
     ensures { OnOk result (Appends (W.contents out.old) (W.contents out.new) (event_json event)) }
 {
     match event {
-        Event::Ensemble(eid) => print_eid(b",\"eid\":\"", eid, out),
-        Event::Announced(change, low) => write!(out, ",\"change\":{change},\"low\":{low}"),
-        Event::Swap => Ok(()),
+        StreamEvent::Ensemble(eid) => print_eid(b",\"eid\":\"", eid, out),
+        StreamEvent::Announced(change, low) => write!(out, ",\"change\":{change},\"low\":{low}"),
+        StreamEvent::Swap => Ok(()),
     }
 }
 

@@ -24,7 +24,7 @@ pub use ending::Ending;
 pub use file_fibs::FileFibs;
 pub use hint::{Hint, HintLine, Hints};
 pub use line::{Cause, Form, Line, Totals, print_line};
-pub use monitor::{Stop, check_stream};
+pub use monitor::{CheckFailure, check_stream};
 pub use options::CheckOptions;
 pub use printer::LinePrinter;
 pub use source::{CheckStart, FibSource};

@@ -14,7 +14,7 @@ ghost use Rattle.stream_monitor.specs.Hinting.{OnlyHints};
 ghost use Rattle.stream_monitor.specs.Outcome.{ChecksInput, StopsAtEnd};
 ghost use Rattle.stream_monitor.specs.Requests.{IsEmptied, beginning};
 ghost use Rattle.stream_monitor.specs.Unfinished.{GivesUp, IsUnprinted, PrintsFront, failures};
-ghost use Rattle.stream_monitor.specs.declared.monitor.Stop.TheVariants.{Write as NotWritten};
+ghost use Rattle.stream_monitor.specs.declared.monitor.CheckFailure.TheVariants.{Write as NotWritten};
 
 use crate::ending::Ending;
 use crate::file_fibs::FileFibs;
@@ -36,7 +36,7 @@ const MOST_PIECES: u64 = 1 << 50;
 
 /// Why a check does not come to its end.
 #[derive(Clone, Copy, Debug, PartialEq, Eq)]
-pub enum Stop {
+pub enum CheckFailure {
     /// The input failed, or has more than 2^50 pieces.
     Read(FileFault),
     /// The output failed. Nothing more is printed.
@@ -93,7 +93,7 @@ pub fn check_stream<F: Files, R: Read + Drop, W: Write>(
     files: &mut F,
     lines: &mut LinePrinter,
     out: &mut Output<W>,
-) -> Result<Ending, Stop>
+) -> Result<Ending, CheckFailure>
     // What is printed, and how the check ends.
     ensures checked { IfOk result (λ ending. (r : Reading) → (text : List ℕ)
         × ChecksInput r options input.old.pieces.left input.new.pieces.left text ending
@@ -121,7 +121,7 @@ fn check_fibs<S: CheckStart, F: Files, R: Read + Drop, W: Write>(
     files: &mut F,
     lines: &mut LinePrinter,
     out: &mut Output<W>,
-) -> Result<Ending, Stop>
+) -> Result<Ending, CheckFailure>
     requires start { S.start
         ≡ beginning options input.old.pieces.left (printed W.contents out.old) }
     ensures checked { IfOk result (λ ending. (r : Reading) → (text : List ℕ)
@@ -150,7 +150,7 @@ fn check_source<S: CheckStart, W: Write, I: FibSource<S, W>, F: Files>(
     files: &mut F,
     lines: &mut LinePrinter,
     out: &mut Output<W>,
-) -> Result<Ending, Stop>
+) -> Result<Ending, CheckFailure>
     // `next` speaks of the start of this check.
     requires start { S.start ≡ beginning options (I.left input.old) (printed W.contents out.old) }
     ensures checked { IfOk result (λ ending. (r : Reading) → (text : List ℕ)
@@ -179,7 +179,7 @@ fn check_source<S: CheckStart, W: Write, I: FibSource<S, W>, F: Files>(
                 hints.end(files);
                 return Ok(finish(options, &state));
             }
-            Err(fault) => return Err(Stop::Read(fault)),
+            Err(fault) => return Err(CheckFailure::Read(fault)),
         }
         match check_piece(options, &mut state, &mut stash, input.piece(), lines, out) {
             Ok(None) => hints.look(input.piece(), files),
@@ -191,11 +191,11 @@ fn check_source<S: CheckStart, W: Write, I: FibSource<S, W>, F: Files>(
             Err(stop) => return Err(stop),
         }
     }
-    Err(Stop::Read(FileFault::Failed))
+    Err(CheckFailure::Read(FileFault::Failed))
 }
 
 /// Hands all lines so far to the writer of the output.
-fn flush<W: Write>(out: &mut Output<W>) -> Result<(), Stop>
+fn flush<W: Write>(out: &mut Output<W>) -> Result<(), CheckFailure>
     ensures emptied { OnOk result (IsEmptied out.new) }
     ensures taken { OnOk result
         (Keeps (printed W.contents out.old) (W.contents (writer_of out.new))) }
@@ -204,7 +204,7 @@ fn flush<W: Write>(out: &mut Output<W>) -> Result<(), Stop>
 {
     match out.flush() {
         Ok(()) => Ok(()),
-        Err(_) => Err(Stop::Write),
+        Err(_) => Err(CheckFailure::Write),
     }
 }
 
@@ -217,7 +217,7 @@ fn check_piece<W: Write>(
     piece: &[u8],
     lines: &mut LinePrinter,
     out: &mut Output<W>,
-) -> Result<Option<Ending>, Stop>
+) -> Result<Option<Ending>, CheckFailure>
     ensures checked { IfOk result (λ e. ChecksPiece options piece.now state.old state.new
         (printed W.contents out.old) (printed W.contents out.new) e) }
     ensures ended { IfOk result (λ e. IfSome e (StopsAtPiece options piece.now)) }
@@ -259,7 +259,7 @@ fn check_fib<W: Write>(
     fib: &[u8; 32],
     lines: &mut LinePrinter,
     out: &mut Output<W>,
-) -> Result<Option<Ending>, Stop>
+) -> Result<Option<Ending>, CheckFailure>
     ensures checked { IfOk result (λ e. ChecksFib options fib.now state.old state.new
         (printed W.contents out.old) (printed W.contents out.new) e) }
     ensures ended { IfOk result (λ e. IfSome e (StopsAtFib options)) }
@@ -274,7 +274,7 @@ fn check_fib<W: Write>(
             Ok(()) => state.tally = counted(state.tally, findings),
             Err(stop) => return Err(stop),
         },
-        None => return Err(Stop::Memory),
+        None => return Err(CheckFailure::Memory),
     }
     match heard {
         Ok(false) => Ok(None),
@@ -303,7 +303,7 @@ fn print_findings<W: Write>(
     findings: &[Finding],
     lines: &mut LinePrinter,
     out: &mut Output<W>,
-) -> Result<(), Stop>
+) -> Result<(), CheckFailure>
     ensures printed { OnOk result (Appends (printed W.contents out.old)
         (printed W.contents out.new) (finding_lines form findings.now)) }
     ensures begun { OnErr result (PrintsFront (printed W.contents out.old)
@@ -340,7 +340,7 @@ fn print_due<W: Write>(
     totals: Totals,
     lines: &mut LinePrinter,
     out: &mut Output<W>,
-) -> Result<(), Stop>
+) -> Result<(), CheckFailure>
     ensures printed { OnOk result (Appends (printed W.contents out.old)
         (printed W.contents out.new) (due_text options totals)) }
     ensures begun { OnErr result (PrintsFront (printed W.contents out.old)
@@ -372,7 +372,7 @@ fn end_frame<W: Write>(
     state: &State,
     lines: &mut LinePrinter,
     out: &mut Output<W>,
-) -> Result<Option<Ending>, Stop>
+) -> Result<Option<Ending>, CheckFailure>
     ensures ends { IfOk result (EndsFrameFrom options state.now
         (printed W.contents out.old) (printed W.contents out.new)) }
     ensures ended { IfOk result (λ e. IfSome e (StopsAtFib options)) }

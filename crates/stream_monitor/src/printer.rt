@@ -5,10 +5,10 @@ ghost use Rattle.std.specs.Io.KnownBytes.{Appends, Keeps};
 ghost use Rattle.console.specs.Printed.{printed};
 ghost use Rattle.stream_monitor.specs.Lines.{line_of};
 ghost use Rattle.stream_monitor.specs.Unfinished.{IsUnprinted, PrintsFront};
-ghost use Rattle.stream_monitor.specs.declared.monitor.Stop.TheVariants.{Memory as NoRoom};
+ghost use Rattle.stream_monitor.specs.declared.monitor.CheckFailure.TheVariants.{Memory as NoRoom};
 
 use crate::line::{Form, Line, print_line};
-use crate::monitor::Stop;
+use crate::monitor::CheckFailure;
 use arrayvec::ArrayVec;
 use console::output::{Output, write_out};
 use std::io::Write;
@@ -42,7 +42,7 @@ impl LinePrinter {
         form: Form,
         line: &Line,
         out: &mut Output<W>,
-    ) -> Result<(), Stop>
+    ) -> Result<(), CheckFailure>
         ensures printed { OnOk result (Appends (printed W.contents out.old)
             (printed W.contents out.new) (line_of form line.now)) }
         ensures begun { PrintsFront (printed W.contents out.old) (printed W.contents out.new)
@@ -63,21 +63,21 @@ impl LinePrinter {
     }
 
     /// Why an output did not take a line: it has failed, or else the line is lost.
-    fn refused<W: Write>(&mut self, out: &mut Output<W>) -> Stop
+    fn refused<W: Write>(&mut self, out: &mut Output<W>) -> CheckFailure
         ensures kept { Keeps (printed W.contents out.old) (printed W.contents out.new) }
         ensures failed { IsUnprinted out.new.has_failed self.new.has_lost result }
     {
         match out.flush() {
             Ok(()) => self.lose(),
-            Err(_) => Stop::Write,
+            Err(_) => CheckFailure::Write,
         }
     }
 
     /// A line is lost.
-    fn lose(&mut self) -> Stop
+    fn lose(&mut self) -> CheckFailure
         ensures { (result ≡ NoRoom) × (self.new.has_lost ≡ true) }
     {
         self.has_lost = true;
-        Stop::Memory
+        CheckFailure::Memory
     }
 }

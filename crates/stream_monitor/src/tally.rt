@@ -4,7 +4,7 @@ ghost use Rattle.std.specs.Prelude.{◌≡◌, ◌+◌, [], if◌then◌else◌}
 ghost use Rattle.std.specs.Io.Iter.{u64_saturate};
 ghost use Rattle.stream_monitor.specs.Findings.{counted, is_swap, is_fault};
 
-use stream_check::{Event, Finding, What};
+use stream_check::{Finding, StreamEvent, What};
 
 /// The numbers of swaps and of faults found, each at most 2^64 - 1.
 #[derive(Clone, Copy, Debug, PartialEq, Eq)]
@@ -64,8 +64,8 @@ fn is_swap(what: What) -> bool
     ensures { result ≡ is_swap what }
 {
     match what {
-        What::Event(Event::Swap) => true,
-        What::Event(Event::Ensemble(_) | Event::Announced(_, _)) => false,
+        What::Event(StreamEvent::Swap) => true,
+        What::Event(StreamEvent::Ensemble(_) | StreamEvent::Announced(_, _)) => false,
         What::Fault(_) => false,
     }
 }

@@ -13,7 +13,7 @@ use crate::clock::clock_at;
 use crate::line::{Cause, Totals};
 use console::hexadecimal::hex_of_u16;
 use std::io::{self, Write};
-use stream_check::{EntryName, Event, Fault, Finding, What};
+use stream_check::{EntryName, Fault, Finding, StreamEvent, What};
 
 /// Prints a finding: its frame and count, and what was found.
 pub(crate) fn print_finding<W: Write>(
@@ -111,13 +111,13 @@ fn print_what<W: Write>(what: What, out: &mut W) -> io::Result<()>
 }
 
 /// Prints an event.
-fn print_event<W: Write>(event: Event, out: &mut W) -> io::Result<()>
+fn print_event<W: Write>(event: StreamEvent, out: &mut W) -> io::Result<()>
     ensures { OnOk result (Appends (W.contents out.old) (W.contents out.new) (event_text event)) }
 {
     match event {
-        Event::Ensemble(eid) => print_ensemble(eid, out),
-        Event::Announced(change, low) => write!(out, "announced {change} swap at low {low}"),
-        Event::Swap => out.write_all(b"swap"),
+        StreamEvent::Ensemble(eid) => print_ensemble(eid, out),
+        StreamEvent::Announced(change, low) => write!(out, "announced {change} swap at low {low}"),
+        StreamEvent::Swap => out.write_all(b"swap"),
     }
 }
 

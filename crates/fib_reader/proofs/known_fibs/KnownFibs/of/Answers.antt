@@ -1,0 +1,6 @@
+use Rattle.std.proofs.Common.{refl}
+use Rattle.fib_reader.proofs.Remembered.{nothing}
+use Rattle.fib_reader.proofs.known_fibs.KnownFibs.of.Goals as goal
+
+pub returns : goal.returns
+returns c = nothing _ refl refl

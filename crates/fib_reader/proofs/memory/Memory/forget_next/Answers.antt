@@ -1,6 +1,0 @@
-use Rattle.std.proofs.Common.{refl}
-use Rattle.fib_reader.proofs.Remembered.{of_current}
-use Rattle.fib_reader.proofs.memory.Memory.forget_next.Goals as goal
-
-pub returns : goal.returns
-returns c = of_current _ _ refl refl refl

@@ -1,6 +1,0 @@
-use Rattle.std.proofs.Common.{refl}
-use Rattle.fib_reader.proofs.Remembered.{nothing}
-use Rattle.fib_reader.proofs.memory.Memory.of.Goals as goal
-
-pub returns : goal.returns
-returns c = nothing _ refl refl
