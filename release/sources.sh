@@ -1,10 +1,12 @@
 # What `dabplan` and `release/make` share: which program runs the commands, what it is made of, and how it is built. A
-# script sets `top` to the folder of the repository and takes this in by `. "$top/release/sources.sh"`.
+# script sets `top` to the folder of the repository, as a path from the root, and takes this in by `. "$top/release/sources.sh"`.
 
 own=$top/crates/dabplan/out/dabplan
+# The sum of the sources that one's own program was built from.
+own_sources=$own.sources
 released=$top/release/dabplan
 statement=$top/release/BUILT_FROM
-# Holds the sum of the sources, and is as old as the moment before it was taken.
+# The sum of the sources, behind a sum of what the system says of each of their files.
 remembered=$top/out/sources.sum
 
 # The crates of this repository that the program is made of: itself, and all that crates.txt names from there on.
@@ -54,39 +56,46 @@ states() {
   return 1
 }
 
-# Whether a build of one's own is there and newer than every source.
-is_own_built() {
-  [ -x "$own" ] && [ -z "$(find "$top/crates.txt" "$top/crates" -path '*/out' -prune -o \
-    \( -name '*.rt' -o -name '*.antt' -o -name crates.txt \) -newer "$own" -print -quit)" ]
+# A sum of the path, size, moments of change and number of each file of the sources and the release, and of the folders that
+# hold them. No two copies of a file have the same, and no change leaves it as it was.
+sum_of_listing() {
+  find "$top/crates.txt" "$top/crates" "$top/release" -path '*/out' -prune -o -printf '%p %s %T@ %C@ %i\n' | sha256sum
 }
 
-# Whether nothing of the sources or the release was changed, made or removed since the sum was remembered.
-is_remembered() {
-  [ -f "$remembered" ] && [ -z "$(find "$top/crates.txt" "$top/crates" "$top/release" -path '*/out' -prune -o \
-    -cnewer "$remembered" -print -quit)" ]
+# Sets `sum` to the sum of the sources: the remembered one, if no file was changed, made or removed since; else it is taken
+# from their contents, and remembered for later calls where that can be done.
+find_sum() {
+  local listing known=
+  listing=$(sum_of_listing)
+  sum=
+  if [ -f "$remembered" ]; then { read -r known && read -r sum; } <"$remembered" || true; fi
+  if [ "$known" != "$listing" ] || [ -z "$sum" ]; then
+    sum=$(sum_of_sources)
+    remember "$listing"
+  fi
 }
 
-# Takes the sum of the sources, and remembers it for later calls, where the released program is the one of BUILT_FROM.
+# Remembers the sum of the sources, beside its place first. Where nothing can be written there, it is taken anew next time.
 remember() {
-  local moment of_program
-  rm -f "$remembered"
-  of_program=$(sha256sum <"$released")
-  states program "${of_program%% *}" || return 1
-  mkdir -p "$top/out" 2>/dev/null || true
-  moment=$(mktemp "$top/out/sum.XXXXXX" 2>/dev/null) || moment=$(mktemp)
-  sum=$(sum_of_sources)
-  echo "$sum" >"$moment.sum"
-  touch -r "$moment" "$moment.sum"
-  rm -f "$moment"
-  mv "$moment.sum" "$remembered" 2>/dev/null || rm -f "$moment.sum"
+  local new=$remembered.$$
+  mkdir -p "$top/out" 2>/dev/null || return 0
+  if { printf '%s\n%s\n' "$1" "$sum" >"$new"; } 2>/dev/null; then
+    mv -f "$new" "$remembered" 2>/dev/null || rm -f "$new"
+  fi
+}
+
+# Whether a build of one's own is there that was made of these sources.
+is_own_built() {
+  local built=
+  [ -x "$own" ] && [ -f "$own_sources" ] && { read -r built <"$own_sources" || true; } && [ "$built" = "$sum" ]
 }
 
 # Whether the released program is the one that these sources give, as BUILT_FROM says.
 is_released_current() {
-  local sum=
-  [ -x "$released" ] && [ -f "$statement" ] || return 1
-  if is_remembered; then read -r sum <"$remembered"; else remember || return 1; fi
-  states sources "$sum"
+  local of_program
+  [ -x "$released" ] && [ -f "$statement" ] && states sources "$sum" || return 1
+  of_program=$(sha256sum <"$released")
+  states program "${of_program%% *}"
 }
 
 # Proves and builds the program, crates side by side, and says after each crate how far it is.
@@ -127,12 +136,13 @@ build_own() {
     exit 1
   fi
   rm -f "$log"
-  touch "$own"
+  echo "$sum" >"$own_sources"
 }
 
-# Sets `program` to the program to run: one's own build where it is newer than the sources; else the released one where
-# it was built from them; else it is built first.
+# Sets `program` to the program to run: one's own build where it was made of these sources; else the released one where
+# it was; else it is built first.
 find_program() {
+  find_sum
   if is_own_built; then
     program=$own
   elif is_released_current; then

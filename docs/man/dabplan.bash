@@ -10,14 +10,14 @@ _dabplan() {
     --budget|--contacts|--count|--day|--ensemble|--every|--notice|--page|--period|--reserve|--skip|--time) return ;;
   esac
   case ${COMP_WORDS[1]} in
-    frame) options="--ensemble --count --page --mode --reserve --script --raw --help" ;;
-    listen) options="--json --script --mode --period --notice --budget --reserve --help" ;;
+    frame) options="--ensemble --count --page --mode --reserve --script --raw --quiet --help" ;;
+    listen) options="--json --script --mode --period --notice --budget --reserve --next --help" ;;
     check) options="--mode --period --every --time --until-fault --json --help" ;;
     merge) options="--mode --help" ;;
-    diff) options="--help" ;;
-    compile) options="--explain --help" ;;
-    verify) options="--explain --help" ;;
-    map) options="--svg --layout --help" ;;
+    diff) options="--quiet --help" ;;
+    compile) options="--explain --quiet --help" ;;
+    verify) options="--explain --quiet --help" ;;
+    map) options="--svg --layout --quiet --help" ;;
     play) options="--count --day --time --contacts --help" ;;
     debug) options="--count --day --time --contacts --help" ;;
     live) options="--count --day --time --contacts --skip --status --every --json --help" ;;

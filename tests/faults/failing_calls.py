@@ -3,8 +3,8 @@
 to standard output.
 
 If a call for a file fails, the command prints only the line of that file, or `no memory` if the system reports that,
-ends with 1, makes no other such call, and leaves no file; `check`, which prints as it reads, may have printed a
-part of its lines before. `live` reports that line on standard error, `cannot read -` for its lines, and may have written
+ends with 1, and leaves no file; `check`, which prints as it reads, may have printed a part of its lines before. It may look
+at the file once more then, and where it refuses one, to say on standard error why: if these calls fail nothing else changes. `live` reports that line on standard error, `cannot read -` for its lines, and may have written
 frames before; so does `merge`, which goes on without its second file if that was opened. An interrupted call is retried.
 If a write fails, takes nothing or is interrupted, nothing is written after it, and the status is 1; `live` and `merge`
 report how much was written.
@@ -15,6 +15,7 @@ import pathlib
 import tempfile
 
 import common
+import rows
 
 # Errors of the system: an input or output error, an interrupted call, no memory.
 EIO, EINTR, ENOMEM = 5, 4, 12
@@ -29,17 +30,14 @@ ROWS = [
     ("compile x.script x.out --explain", ["cannot read x.script\n", "cannot write x.out\n"]),
     ("verify x.code", ["cannot read x.code\n"]),
     ("verify x.code --explain", ["cannot read x.code\n"]),
-    # the events and the commands are read twice
-    ("play x.code x.events x.out",
-     ["cannot read x.code\n", "cannot read x.events\n", "cannot read x.events\n", "cannot write x.out\n"]),
-    ("debug x.code x.commands", ["cannot read x.code\n", "cannot read x.commands\n", "cannot read x.commands\n"]),
+    ("play x.code x.events x.out", ["cannot read x.code\n", "cannot read x.events\n", "cannot write x.out\n"]),
+    ("debug x.code x.commands", ["cannot read x.code\n", "cannot read x.commands\n"]),
 ]
 
-# The same where the events or the commands have a fault: they are read twice, too.
+# The same where the events or the commands have a fault.
 REFUSED_ROWS = [
-    ("play x.code x.mistake x.out",
-     ["cannot read x.code\n", "cannot read x.mistake\n", "cannot read x.mistake\n", "cannot write x.out\n"]),
-    ("debug x.code x.mistake", ["cannot read x.code\n", "cannot read x.mistake\n", "cannot read x.mistake\n"]),
+    ("play x.code x.mistake x.out", ["cannot read x.code\n", "cannot read x.mistake\n", "cannot write x.out\n"]),
+    ("debug x.code x.mistake", ["cannot read x.code\n", "cannot read x.mistake\n"]),
 ]
 
 # A plan driven for 30 frames of 96 bytes, with a notice and a swap.
@@ -91,6 +89,20 @@ class Failing:
         return pathlib.Path(self.folder, "x.out").exists()
 
 
+def try_own(tally, failing, line, number, refusal, whole, calls):
+    """A call for a file of the command fails, also with out of memory."""
+    for error, wanted in ((EIO, refusal), (ENOMEM, "no memory\n")):
+        ended, made = failing.run(line, at=number, **{"as": error})
+        what = f"{line}: call {number} fails as {error}"
+        before = ended.printed.removesuffix(wanted.encode()) if line.startswith("check") else b""
+        tally.same(what, (1, before + wanted.encode(), b""), (*ended.lines(), rows.without_notes(ended.messages)))
+        tally.hold(whole.startswith(before), f"{what}: what is printed before it")
+        made = made.replace("w", "")
+        tally.same(f"{what}: calls", calls[:number], made[:number])
+        tally.hold(set(made[number:]) <= set("or"), f"{what}: calls that only read, after it")
+        tally.hold(not failing.is_made(), f"{what}: a file is made")
+
+
 def try_files(tally, failing):
     """Each call that opens, creates or reads a file fails, also with out of memory, or is interrupted."""
     for line, refusals, status in [(*row, 0) for row in ROWS] + [(*row, 1) for row in REFUSED_ROWS]:
@@ -100,19 +112,18 @@ def try_files(tally, failing):
         # standard input is open from the start
         files = [calls[:number].count("o") + calls[:number].count("c") for number in range(1, len(calls) + 1)]
         files = [max(file, 1) for file in files]
-        tally.same(f"{line}: files", len(refusals), max(files, default=0))
+        tally.hold(max(files, default=0) >= len(refusals), f"{line}: files")
+        tally.hold(status == 1 or max(files, default=0) == len(refusals), f"{line}: no other file")
         for number, file in enumerate(files, 1):
-            for error, wanted in ((EIO, refusals[file - 1]), (ENOMEM, "no memory\n")):
-                ended, made = failing.run(line, at=number, **{"as": error})
-                what = f"{line}: call {number} fails as {error}"
-                before = ended.printed.removesuffix(wanted.encode()) if line.startswith("check") else b""
-                tally.same(what, (1, before + wanted.encode(), b""), (*ended.lines(), ended.messages))
-                tally.hold(printed.startswith(before), f"{what}: what is printed before it")
-                tally.same(f"{what}: calls", calls[:number], made.replace("w", ""))
-                tally.hold(not failing.is_made(), f"{what}: a file is made")
+            if file <= len(refusals):
+                try_own(tally, failing, line, number, refusals[file - 1], printed, calls)
+            else:
+                ended, _ = failing.run(line, at=number, **{"as": EIO})
+                tally.same(f"{line}: call {number}, to say why, fails", (status, printed, b""),
+                           (*ended.lines(), rows.without_notes(ended.messages)))
             ended, made = failing.run(line, at=number, **{"as": EINTR})
             what = f"{line}: call {number} is interrupted"
-            tally.same(what, (status, printed, b""), (*ended.lines(), ended.messages))
+            tally.same(what, (status, printed, b""), (*ended.lines(), rows.without_notes(ended.messages)))
             tally.same(f"{what}: calls", calls[:number] + calls[number - 1:], made.replace("w", ""))
 
 
@@ -183,7 +194,7 @@ def try_merge_reads(tally, failing):
     for number, (_, file) in enumerate(MERGE_CALLS, 1):
         goes_on, is_last = number == 6, number == 7
         printed = plan if goes_on else whole.printed if is_last else b""
-        wanted = f"cannot read {file}\n" + ("frames 30 carried 0 waiting 0 dropped 0 damaged 0\n" if goes_on else "")
+        wanted = f"cannot read {file}\n" + ("frames 30 carried 0 waiting 0 dropped 0 stale 0 damaged 0\n" if goes_on else "")
         ended, _ = failing.run(MERGE, at=number, **{"as": EIO})
         tally.same(f"{MERGE}: call {number} fails", (1, printed, wanted.encode()), (*ended.lines(), ended.messages))
         ended, _ = failing.run(MERGE, at=number, **{"as": EINTR})

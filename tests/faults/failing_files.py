@@ -6,6 +6,7 @@ created; files that fill the disk; too little address space. The last line is 'N
 """
 import pathlib
 import resource
+import signal
 import subprocess
 import tempfile
 
@@ -14,6 +15,8 @@ import common
 CODE = common.SAMPLES / "contact_lowers_a_rate.code"
 SCRIPT = common.SAMPLES / "contact_rate.plan"
 RECORD = common.EXAMPLES / "one_programme.rec"
+# In less address space, in KB, the system can't load the program.
+LOADED = 4000
 FRAME = ["--ensemble", "E1C5", "--count", "0"]
 
 
@@ -106,7 +109,7 @@ def try_merge(tally, program, folder):
     common.write(folder, "a.events", "frames 3000")
     common.run([program, "play", CODE, "a.events", "m.fib"], folder)
     plan = pathlib.Path(folder, "m.fib").read_bytes()
-    told = b"frames 3000 carried 0 waiting 0 dropped 0 damaged 0\n"
+    told = b"frames 3000 carried 0 waiting 0 dropped 0 stale 0 damaged 0\n"
     tally.same("merge", (0, plan, told), merged(program, folder, "m.fib m.fib"))
     for redirection in (">/dev/full", ">&-"):
         wanted = (1, b"", b"write failed after 0 frames and 0 bytes\n")
@@ -136,21 +139,27 @@ def merged(program, folder, words, before=None):
 
 
 def try_address_space(tally, program, folder):
-    """Less and less address space: the result, or `no memory`, and nothing between."""
+    """Less and less address space: the result, or `no memory`; where the stack can't grow any more, the system ends the program
+    before it prints anything, which happens in few of these limits; and nothing between."""
     common.write(folder, "big.fib", bytes(4_000_000))
     common.write(folder, "big.events", "frames 1 " * 200_000)
     whole = {}
-    answered = refused = 0
+    answered = refused = ended_by_stack = 0
     for words in (["listen", "big.fib"], ["play", CODE, "big.events", "/dev/null"], ["compile", SCRIPT, "b.code"]):
         whole[words[0]] = common.run([program, *words], folder).lines()
-        for memory in list(range(3000, 12_000, 500)) + [16_000, 32_000, 64_000]:
+        for memory in list(range(3000, 12_000, 100)) + [16_000, 32_000, 64_000]:
             ended = common.run([program, *words], folder, memory=memory)
-            if ended.status == 127 or (ended.status < 0 and not ended.printed):
+            if ended.status == 127 or (ended.status < 0 and memory < LOADED):
                 continue  # the system could not load the program
+            if ended.status == -signal.SIGSEGV and not ended.printed + ended.messages:
+                ended_by_stack += 1
+                continue
             answered += ended.lines() == whole[words[0]]
             refused += ended.lines() == (1, b"no memory\n")
             tally.hold(ended.lines() in (whole[words[0]], (1, b"no memory\n")), f"{words[0]} in {memory} KB: {ended.lines()}")
-    tally.hold(answered > 0 and refused > 0, f"address space: {answered} answers, {refused} times no memory")
+    what = f"address space: {answered} answers, {refused} times no memory, {ended_by_stack} times no room for the stack"
+    print(what)
+    tally.hold(answered > 30 and refused > 0 and ended_by_stack < 25, what)
 
 
 def main():

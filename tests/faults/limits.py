@@ -2,8 +2,8 @@
 """Every command at the limits of its input, within a stack of 1 MB.
 
 Scripts, codes, configurations and nesting at their limits and one past them; texts of 1,048,576 bytes of each kind of
-token, in scripts, events and commands; events and commands of half a gigabyte, 75 MB of valid events, and 20 MB of valid
-commands, in little memory. The expected
+token, in scripts, events and commands; events and commands of half a gigabyte and of 75 MB, in little more memory than
+their bytes. The expected
 lines are those of docs/guide/COMMANDS.md, derived next to each text. At the end it prints the smallest stack with which each command works. The last line is 'N passed, M failed'.
 """
 import os
@@ -18,6 +18,7 @@ PLAN = HEAD + "sub 1 at 0 eep 3-A 128 service C221 audio 63 sub 1 in C221 begin\
 END = b"\x00\x01\x07"
 
 
+
 # Commands over 75 MB that end so, and the line that they print, where LINE is the number of the last line.
 LONG_FAULTS = [
     ("play", ["long.fib"], b"frames 0", "events LINE:8: Number"),
@@ -29,6 +30,11 @@ LONG_FAULTS = [
     ("debug", [], b"run 0 run 1 @", "commands LINE:13: Byte"),
     ("debug", [], b"next # \x80", "cannot read long.text"),
 ]
+
+
+def room_for(size):
+    """The address space, in KB, in which a command keeps a text of so many bytes, with a sixty-fourth that is not used."""
+    return 5_500 + size * 65 // 64 // 1024
 
 
 def word(number):
@@ -77,6 +83,15 @@ def filled(start, part, size=MOST, end=""):
     return text + " " * (size - len(end) - len(text)) + end
 
 
+def nested(innermost):
+    """A script of 64 blocks, each of which applies the one before inside 15 braces; the first has these statements there."""
+    text = HEAD.replace("20", "255")
+    for number in range(64):
+        inner = f"apply b{number - 1} " if number else innermost
+        text += f"define b{number} {{ " + "wait 1 if contact 0 { " * 15 + inner + "wait 1 } " * 15 + "} "
+    return text + "begin apply b63"
+
+
 def script_rows():
     """Scripts with the output of `compile`."""
     waits = "wait 1 "
@@ -84,7 +99,7 @@ def script_rows():
     moves = "".join(f"move sub 1 at {place} commit in 24 join if contact 0 {{ wait 1 }} wait 1\n" for place in range(1, 257))
     blocks = "define b0 { } " + "".join(f"define b{n} {{ apply b{n - 1} apply b{n - 1} }} " for n in range(1, 64))
     ladder = "define b0 { wait 1 } " + "".join(f"define b{n} {{ apply b{n - 1} apply b{n - 1} }} " for n in range(1, 64))
-    nested = HEAD.replace("20", "255") + "begin " + "repeat 2 { " * 8 + "if contact 1 { " * 8
+    braces = HEAD.replace("20", "255") + "begin " + "repeat 2 { " * 8 + "if contact 1 { " * 8
     return [
         ("4,096 instructions", PLAN + waits * 4095, b"instructions 4096 labels 1 configurations 1\n"),
         ("4,097 instructions", PLAN + waits * 4096, b"refused: Limit\n"),
@@ -97,9 +112,11 @@ def script_rows():
          b"instructions 1 labels 1 configurations 1\n"),
         ("64 blocks that emit 2 to the 63 instructions", HEAD + ladder + "begin apply b63", b"refused: Limit\n"),
         ("65 blocks", HEAD + blocks + "define b64 { } begin", None),
-        ("braces 16 deep", nested + "wait 1 " + "} " * 8 + "wait 1 " + "} " * 8,
+        ("64 blocks, 15 braces deep each", nested("wait 1 "), b"instructions 2882 labels 961 configurations 1\n"),
+        ("64 blocks, 15 braces deep each, with a fault innermost", nested("join "), b"refused line 1: JoinIdle\n"),
+        ("braces 16 deep", braces + "wait 1 " + "} " * 8 + "wait 1 " + "} " * 8,
          b"instructions 27 labels 10 configurations 1\n"),
-        ("braces 17 deep", nested + "if contact 1 { } " + "} " * 16, None),
+        ("braces 17 deep", braces + "if contact 1 { } " + "} " * 16, None),
         ("nine repeats", HEAD + "begin " + "repeat 2 { " * 9 + "wait 1 " + "} " * 9, b"refused: Limit\n"),
         ("8,192 statements", HEAD + "define b { " + waits * 8192 + "} begin", b"instructions 1 labels 1 configurations 1\n"),
         ("8,193 statements", HEAD + "define b {\n" + waits * 8193 + "} begin", f"2:{7 * 8192 + 1}: Limit\n".encode()),
@@ -174,6 +191,8 @@ def try_scripts(tally, program, folder):
         explained = common.run([program, "compile", "a.plan", "b.code", "--explain"], folder, stack=STACK)
         tally.same(f"compile --explain, {name}", ended.lines(), (explained.status, explained.printed[:len(wanted)]))
         tally.hold(ended.status == 0 or explained.printed.count(b"\n") > 1, f"compile --explain, {name}: nothing more is said")
+        mapped = common.run([program, "map", "a.plan"], folder, stack=STACK)
+        tally.hold(mapped.status == ended.status and (ended.status == 0 or mapped.printed == ended.printed), f"map, {name}: {mapped.printed[:99]}")
         if ended.status == 0:
             try_code(tally, program, folder, name)
 
@@ -260,52 +279,58 @@ def try_texts(tally, program, folder):
 
 
 def try_zeros(tally, program, folder):
-    """Half a gigabyte of zeros, and of a comment that a zero follows, as events and as commands, in 64 MB of memory."""
+    """Half a gigabyte of zeros, and of a comment that a zero follows, as events and as commands: refused at the first zero, or
+    for memory where there is less of it; and half a gigabyte that is no text is not read."""
     common.write(folder, "small.code", (common.SAMPLES / "contact_lowers_a_rate.code").read_bytes())
+    commands = (["play", "small.code", "zeros", "/dev/null"], "events"), (["debug", "small.code", "zeros"], "commands")
     for start, wanted in ((b"", "1:1"), (b"frames 1 # zeros\n", "2:1")):
         common.write(folder, "zeros", start)
         os.truncate(f"{folder}/zeros", 500_000_000)
-        for words, name in ((["play", "small.code", "zeros", "/dev/null"], "events"), (["debug", "small.code", "zeros"], "commands")):
-            ended = common.run([program, *words], folder, memory=65_536)
+        for words, name in commands:
+            ended = common.run([program, *words], folder, memory=room_for(500_000_000))
             tally.same(f"{name}, zeros behind {start}", (1, f"{name} {wanted}: Byte\n".encode()), ended.lines())
+            ended = common.run([program, *words], folder, memory=65_536)
+            tally.same(f"{name}, zeros behind {start}, in 64 MB", (1, b"no memory\n"), ended.lines())
+    common.write(folder, "zeros", b"\x05\x00\xe1\xc5")
+    os.truncate(f"{folder}/zeros", 500_000_000)
+    for words, name in commands:
+        ended = common.run([program, *words], folder, memory=65_536)
+        tally.same(f"{name}, frames", (1, b"cannot read zeros\n"), ended.lines())
 
 
 def try_long_texts(tally, program, folder):
-    """75 MB of steps and of commands in a file in 64 MB of memory: none is kept. 20 MB through a pipe in 128 MB: their text is
-    kept, and no list of them."""
+    """75 MB of steps and of commands: a file, or a pipe, is kept with little more memory than its bytes, and no list of them."""
     common.write(folder, "small.code", (common.SAMPLES / "contact_lowers_a_rate.code").read_bytes())
+    memory = room_for(75_000_000)
     for name, steps in (("lines", b"contact 3 open\n"), ("one line", b"contact 3 open "), ("a token a line", b"contact\n3\nopen\n"),
                         ("comments", b"contact 3 # frames 1\n  open # frames 2\n")):
         common.write(folder, "long.events", b"frames 2 " + steps * (75_000_000 // len(steps)) + b"frames 1")
-        ended = common.run([program, "play", "small.code", "long.events", "/dev/null"], folder, memory=65_536)
+        ended = common.run([program, "play", "small.code", "long.events", "/dev/null"], folder, memory=memory)
         tally.same(f"75 MB of events, {name}", (0, b"played 3 frames\n"), ended.lines())
-    step = b"frames 1\n"
-    count = 20_000_000 // len(step)
-    common.write(folder, "long.events", step * count)
     line = f"cat long.events | '{program}' play small.code /dev/stdin /dev/null"
-    ended = common.run(["bash", "-c", line], folder, memory=131_072)
-    tally.same("20 MB of events through a pipe", (0, f"played {count} frames\n".encode()), ended.lines())
+    ended = common.run(["bash", "-c", line], folder, memory=memory)
+    tally.same("75 MB of events through a pipe", (0, b"played 3 frames\n"), ended.lines())
     command = b"contact 3 open\n"
     count = 20_000_000 // len(command)
     common.write(folder, "long.commands", command * count)
     for name, line in (("", f"'{program}' debug small.code long.commands"), (" through a pipe", f"cat long.commands | '{program}' debug small.code /dev/stdin")):
-        ended = common.run(["bash", "-c", f"set -o pipefail; {line} | wc -l"], folder, memory=131_072)
+        ended = common.run(["bash", "-c", f"set -o pipefail; {line} | wc -l"], folder, memory=room_for(20_000_000))
         tally.same(f"20 MB of commands{name}", (0, f"{count}\n".encode()), ended.lines())
     command = b"contact 3 open # " + b"show " * 20 + b"\n"
     count = 75_000_000 // len(command)
     common.write(folder, "long.commands", command * count)
     line = f"set -o pipefail; '{program}' debug small.code long.commands | wc -l"
-    tally.same("75 MB of commands", (0, f"{count}\n".encode()), common.run(["bash", "-c", line], folder, memory=65_536).lines())
+    tally.same("75 MB of commands", (0, f"{count}\n".encode()), common.run(["bash", "-c", line], folder, memory=memory).lines())
 
 
 def try_long_faults(tally, program, folder):
-    """75 MB of steps and of commands with a fault at the end, in 64 MB of memory: it comes before the first frame and line."""
+    """75 MB of steps and of commands with a fault at the end: it comes before the first frame and line."""
     common.write(folder, "small.code", (common.SAMPLES / "contact_lowers_a_rate.code").read_bytes())
     step = b"contact 3 open\n"
     count = 75_000_000 // len(step)
     for command, out, end, wanted in LONG_FAULTS:
         common.write(folder, "long.text", step * count + end)
-        ended = common.run([program, command, "small.code", "long.text", *out], folder, memory=65_536)
+        ended = common.run([program, command, "small.code", "long.text", *out], folder, memory=room_for(75_000_000))
         line = wanted.replace("LINE", str(count + 1))
         tally.same(f"{command}, 75 MB and {end}", (1, f"{line}\n".encode()), ended.lines())
     tally.same("its frames", 0, os.path.getsize(f"{folder}/long.fib"))

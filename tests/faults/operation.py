@@ -15,6 +15,7 @@ import threading
 import time
 
 import common
+import rows
 
 CODE = common.SAMPLES / "contact_lowers_a_rate.code"
 FRAME = 96
@@ -154,8 +155,8 @@ def limited(words, folder, size, ignored):
     return done.returncode, done.stderr
 
 
-def two_readings(tally, program, folder):
-    """Events in a file, which are read part by part, and through a pipe, where they are kept: the same line and bytes."""
+def events_as_file_and_pipe(tally, program, folder):
+    """Events in a file and through a pipe, longer than what is read at once: the same line and bytes."""
     common.write(folder, "s.code", CODE.read_bytes())
     steps = [f"contact {n % 16} {'closed' if n % 3 else 'open'}" for n in range(8000)] + ["frames 3", "frames 70"] * 300
     texts = {
@@ -170,16 +171,16 @@ def two_readings(tally, program, folder):
         common.write(folder, "e.ev", text)
         for out in ("a.fib", "b.fib"):
             pathlib.Path(folder, out).unlink(missing_ok=True)
-        in_parts = common.run([program, "play", "s.code", "e.ev", "a.fib"], folder)
-        kept = common.run(["bash", "-c", f"cat e.ev | '{program}' play s.code /dev/stdin b.fib"], folder)
-        tally.same(f"events, {name}", kept.lines(), in_parts.lines())
+        by_file = common.run([program, "play", "s.code", "e.ev", "a.fib"], folder)
+        by_pipe = common.run(["bash", "-c", f"cat e.ev | '{program}' play s.code /dev/stdin b.fib"], folder)
+        tally.same(f"events, {name}", by_pipe.lines(), by_file.lines())
         tally.hold(pathlib.Path(folder, "a.fib").read_bytes() == pathlib.Path(folder, "b.fib").read_bytes(), f"events, {name}: other frames")
         streamed = common.run([program, "play", "s.code", "e.ev", "-"], folder)
         tally.hold(streamed.printed == pathlib.Path(folder, "a.fib").read_bytes(), f"events, {name}: other frames on standard output")
 
 
-def two_readings_of_commands(tally, program, folder):
-    """Commands in a file, which are read part by part, and through a pipe, where they are kept: the same lines."""
+def commands_as_file_and_pipe(tally, program, folder):
+    """Commands in a file and through a pipe, longer than what is read at once: the same lines."""
     common.write(folder, "s.code", CODE.read_bytes())
     commands = [f"contact {n % 16} {'closed' if n % 3 else 'open'}" for n in range(6000)] + ["run 3", "next", "break 9", "clear", "show"] * 60
     texts = {
@@ -192,35 +193,31 @@ def two_readings_of_commands(tally, program, folder):
     }
     for name, text in texts.items():
         common.write(folder, "e.commands", text)
-        in_parts = common.run([program, "debug", "s.code", "e.commands"], folder)
-        kept = common.run(["bash", "-c", f"cat e.commands | '{program}' debug s.code /dev/stdin"], folder)
-        tally.hold(kept.lines() == in_parts.lines(), f"commands, {name}: {kept.printed[-99:]} and {in_parts.printed[-99:]}")
+        by_file = common.run([program, "debug", "s.code", "e.commands"], folder)
+        by_pipe = common.run(["bash", "-c", f"cat e.commands | '{program}' debug s.code /dev/stdin"], folder)
+        tally.hold(by_pipe.lines() == by_file.lines(), f"commands, {name}: {by_pipe.printed[-99:]} and {by_file.printed[-99:]}")
 
 
 def changed_commands(tally, program, folder):
-    """Standard output is another name of COMMANDS, which is overwritten while it is executed: behind the lines of its first
-    part, 13,107 commands of 5 bytes in 65,536, the second part lists no commands."""
+    """Standard output is another name of COMMANDS, which is overwritten while they are executed: they were all read before."""
     common.write(folder, "s.code", CODE.read_bytes())
-    common.write(folder, "e.commands", "show\n" * 13_107)
-    wanted = common.run([program, "debug", "s.code", "e.commands"], folder).printed + b"commands changed\n"
     common.write(folder, "e.commands", "show\n" * 20_000)
+    wanted = common.run([program, "debug", "s.code", "e.commands"], folder).printed
     with open(f"{folder}/e.commands", "r+b") as out:
         done = subprocess.run([str(program), "debug", "s.code", "e.commands"], cwd=folder, stdout=out, check=False)
-    tally.same("commands that are overwritten", 1, done.returncode)
-    tally.hold(pathlib.Path(folder, "e.commands").read_bytes().startswith(wanted), "commands that are overwritten: other lines")
+    tally.same("commands that are overwritten", 0, done.returncode)
+    tally.hold(pathlib.Path(folder, "e.commands").read_bytes() == wanted, "commands that are overwritten: other lines")
 
 
 def changed_events(tally, program, folder):
-    """OUT is another name of EVENTS, which is overwritten while it is played: after the frames of its first part, 7,281
-    steps of 9 bytes in 65,536, with no step cut, the second part lists no steps."""
+    """Standard output is another name of EVENTS, which is overwritten while they are played: they were all read before."""
     common.write(folder, "s.code", CODE.read_bytes())
-    common.write(folder, "e.ev", "frames 1\n" * 7281)
-    whole = common.run([program, "play", "s.code", "e.ev", "-"], folder).printed
     common.write(folder, "e.ev", "frames 1\n" * 20_000)
-    os.link(f"{folder}/e.ev", f"{folder}/o.fib")
-    ended = common.run([program, "play", "s.code", "e.ev", "o.fib"], folder)
-    tally.same("events that are overwritten", (1, b"events changed after 7281 frames\n"), ended.lines())
-    tally.hold(pathlib.Path(folder, "o.fib").read_bytes() == whole, "events that are overwritten: other frames")
+    whole = common.run([program, "play", "s.code", "e.ev", "-"], folder).printed
+    with open(f"{folder}/e.ev", "r+b") as out:
+        done = subprocess.run([str(program), "play", "s.code", "e.ev", "-"], cwd=folder, stdout=out, stderr=subprocess.PIPE, check=False)
+    tally.same("events that are overwritten", (0, b"played 20000 frames\n"), (done.returncode, done.stderr))
+    tally.hold(pathlib.Path(folder, "e.ev").read_bytes() == whole, "events that are overwritten: other frames")
 
 
 def size_limits(tally, program, folder):
@@ -238,11 +235,11 @@ def hostile_names(tally, program, folder):
     """Control bytes of names and arguments are shown as '\\xHH', and forge no line."""
     name = "no\nplayed 7 frames\x1b[31m\x7f"
     shown = "no\\x0Aplayed 7 frames\\x1B[31m\\x7F"
-    for words, line in ((["listen", name], f"cannot read {shown}"), (["verify", name], f"cannot read {shown}"),
-                        (["diff", name, name], f"cannot read {shown}"),
-                        (["frame", name, "--ensemble", "E1C5", "--count", "0"], f"cannot read {shown}")):
-        ended = common.run([program, *words], folder)
-        tally.same(f"{words[0]} of a hostile name", (1, f"{line}\n".encode()), ended.lines())
+    line = f"cannot read {shown}\n".encode()
+    for words in (["listen", name], ["verify", name], ["frame", name, "--ensemble", "E1C5", "--count", "0"]):
+        tally.same(f"{words[0]} of a hostile name", (1, line), common.run([program, *words], folder).lines())
+    ended = common.run([program, "diff", name, name], folder)
+    tally.same("diff of a hostile name", (1, b"", line), (*ended.lines(), rows.without_notes(ended.messages)))
     ended = common.run([program, "live", name], folder)
     tally.same("live of a hostile name", (1, b"", f"cannot read {shown}\n".encode()), (*ended.lines(), ended.messages))
     for words in (["listen", "a", "--\x1b[31m\nx"], ["\x1b]0;x\x07"], ["play", "a", "b", "c", "--contacts", "\x1b\n12"],
@@ -253,12 +250,14 @@ def hostile_names(tally, program, folder):
                    f"{words}: {ended.printed}")
     common.write(folder, "a\nb.plan", "ensemble\n")
     ended = common.run([program, "diff", "a\nb.plan", "a\nb.plan"], folder)
-    tally.same("diff of a hostile name", (1, b"a\\x0Ab.plan:2:1: Expected\n"), ended.lines())
+    tally.same("diff of a hostile name", (1, b"", b"a\\x0Ab.plan:2:1: Expected\n"), (*ended.lines(), rows.without_notes(ended.messages)))
+    tally.hold(b"a\\x0Ab.plan:2:1: error: " in ended.messages and b"a\nb" not in ended.messages, f"explained: {ended.messages}")
     ended = common.run([program, "compile", "a\nb.plan", "o", "--explain"], folder)
     tally.hold(b"a\\x0Ab.plan:2:1: " in ended.printed and b"a\nb" not in ended.printed, f"explained: {ended.printed}")
     common.write(folder, "é.plan", "ensemble\n")
     ended = common.run([program, "diff", "é.plan", "é.plan"], folder)
-    tally.same("a name that is not ASCII", (1, "é.plan:2:1: Expected\n".encode()), ended.lines())
+    tally.same("a name that is not ASCII", (1, b"", "é.plan:2:1: Expected\n".encode()),
+               (*ended.lines(), rows.without_notes(ended.messages)))
 
 
 def a_folder_that_is_no_text(tally, program, folder):
@@ -287,10 +286,10 @@ def standard_output(tally, program, folder):
     made = common.run([program, "compile", script, "a.code"], folder)
     ended = common.run([program, "compile", script, "-"], folder)
     tally.same("compile to standard output", (0, pathlib.Path(folder, "a.code").read_bytes(), made.printed),
-               (*ended.lines(), ended.messages))
+               (*ended.lines(), rows.without_notes(ended.messages)))
     common.write(folder, "bad.plan", "ensemble\n")
     ended = common.run([program, "compile", "bad.plan", "-"], folder)
-    tally.same("compile refused", (1, b"", b"2:1: Expected\n"), (*ended.lines(), ended.messages))
+    tally.same("compile refused", (1, b"", b"2:1: Expected\n"), (*ended.lines(), rows.without_notes(ended.messages)))
     tally.hold(not pathlib.Path(folder, "-").exists(), "a file named '-'")
     with open("/dev/full", "wb") as full:
         done = subprocess.run([program, "play", CODE, "a.events", "-"], cwd=folder, stdout=full, stderr=subprocess.PIPE, check=False)
@@ -344,8 +343,8 @@ def main():
     """The main program."""
     tally = common.Tally()
     program = common.dabplan()
-    for part in (streams_that_do_not_block, messages_that_do_not_block, equal_paths, refusals, two_readings,
-                 two_readings_of_commands, changed_events, changed_commands, size_limits, hostile_names,
+    for part in (streams_that_do_not_block, messages_that_do_not_block, equal_paths, refusals, events_as_file_and_pipe,
+                 commands_as_file_and_pipe, changed_events, changed_commands, size_limits, hostile_names,
                  a_folder_that_is_no_text, standard_output, messages_after_frames,
                  messages_that_nobody_reads):
         with tempfile.TemporaryDirectory() as folder:

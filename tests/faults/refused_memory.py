@@ -5,10 +5,10 @@ A run lets the allocation of one number fail, from 1 on, until a run has no furt
 once with only that allocation failing, and once with all later ones too. A call must report out of memory by its
 own name, with nothing lost, and the same call with memory then gives its result; `run` has written nothing, and
 `Debugger::new` returns the player. A command prints `no memory` alone, ends with 1 and leaves nothing in its output
-file; or it tolerates a single failed allocation, and ends as it does with memory. If
-it was to explain a refusal, the line of the refusal may precede `no memory`; if the script is accepted, `no memory` may be on
-standard error in place of the warnings. `live` reports `no memory` on standard
-error, and has written whole frames of lines before.
+file; or it tolerates a single failed allocation, and ends as it does with memory. If it refuses its input, the line of the
+refusal may stand without the explanation on standard error, and with `--explain` may precede `no memory`; if a script is
+accepted, `no memory` may be on standard error in place of the warnings. `live` reports `no memory` on standard error, and has
+written whole frames of lines before.
 The last line is 'N passed, M failed', where each failing run is one, and each complete run one more.
 """
 import os
@@ -151,19 +151,21 @@ def try_commands(tally, library, program, folder):
     for words, made in commands():
         shown = "dabplan " + " ".join(str(word).rsplit("/", 1)[-1] for word in words)
         remove(folder, made)
-        whole = common.run([program, *words], folder, record).lines()
-        files = contents(folder, made)
+        done = common.run([program, *words], folder, record)
+        whole, files = done.lines(), contents(folder, made)
+        without_notes = b"no memory\n" if whole[0] == 0 and "compile" in words else b""
         for goes_on in (False, True):
             refused = without = 0
             for number, ended, is_refused in requests(library, [program, *words], folder, goes_on, False, record, made):
                 refused += is_refused
                 found = (*ended.lines(), contents(folder, made))
-                is_whole = found == (*whole, files)
+                messages = (done.messages, without_notes) if is_refused else (done.messages,)
+                is_whole = found == (*whole, files) and ended.messages in messages
                 without += is_refused and is_whole
-                if is_refused and not (is_whole and not goes_on):
+                if is_refused and not (is_whole and (not goes_on or whole[0] == 1)):
                     first = whole[1].partition(b"\n")[0] + b"\n" if "--explain" in words else b""
                     is_silent = found[0] == 1 and found[1] in (b"no memory\n", first + b"no memory\n")
-                    is_silent = is_silent and not any(found[2].values())
+                    is_silent = is_silent and not any(found[2].values()) and not ended.messages
                     tally.hold(is_silent, f"{shown}, request {number} refused: {found}")
                 else:
                     tally.hold(is_whole, f"{shown}, request {number}: {found}")

@@ -1,8 +1,9 @@
 """Code files from texts: their configurations, labels and instructions in the notation of scripts and by their numbers.
 
 An instruction is a statement of the script language, or one that only code has: `until 42` (a frame of the day),
-`test 3 5` (contact, target), `jump 0`, `set 0 3` (counter, times), `loop 0 1` (counter, target). Instructions and items
-are separated by commas. A label is its pc, and then, each optional, `of 0 1` (its current and its next
+`test 3 5` (contact, target), `jump 0`, `set 0 3` (counter, times), `loop 0 1` (counter, target), `any 8 0 42 750` (contacts to
+be closed, contacts to be open, a frame of the day or `none`, frames or 0), `window 3300000 900000 3` (from, to, target). Instructions
+and items are separated by commas. A label is its pc, and then, each optional, `of 0 1` (its current and its next
 configuration), `within 24 27` or `perhaps 26` (a swap that is pending), `counters 81` and `cost 3`."""
 import struct
 
@@ -96,6 +97,11 @@ def instruction(words):
         return struct.pack(">BH", opcode, int(last))
     if word == "until":
         return struct.pack(">BI", 0x02, int(last))
+    if word == "any":
+        until = 0xFFFF_FFFF if words[3] == "none" else int(words[3])
+        return struct.pack(">BHHIH", 0x09, int(words[1], 16), int(words[2], 16), until, int(last))
+    if word == "window":
+        return struct.pack(">BIIH", 0x24, int(words[1]), int(words[2]), int(last))
     if word in ("test", "set", "loop"):
         return struct.pack(">BBH", {"test": 0x20, "set": 0x22, "loop": 0x23}[word], int(words[1]), int(last))
     return edited(words)

@@ -51,6 +51,21 @@ NO_FIB = "no whole FIB: 32 bytes each are expected"
 REFUSED_FILE = NOTHING_FILE.replace("00 01 07", "00 01 06")
 
 
+# A line of an explanation, a warning, or the reason why a file can't be read, on standard error, as editors read it; the shown
+# lines and carets are indented.
+NOTE = re.compile(rb"[^\n]+:(\d+:(\d+:)?)? (error|hint|warning): .+|    .*")
+
+
+def is_note(line):
+    """Whether a line of standard error is part of an explanation or a warning."""
+    return NOTE.fullmatch(line.rstrip(b"\n")) is not None
+
+
+def without_notes(messages):
+    """The lines of standard error that are no explanations and no warnings."""
+    return b"".join(line for line in messages.splitlines(keepends=True) if not is_note(line))
+
+
 def hexadecimal(text):
     """The bytes of a text of hexadecimal pairs."""
     return bytes.fromhex(text)
@@ -79,9 +94,17 @@ class Rows:
         return path.read_bytes() if path.exists() else None
 
     def answers(self, line, status, printed, files=None, stdin=b"", messages=""):
-        """Counts that a command line ends with this status, prints this text, and these messages on standard error."""
+        """Counts that a command line ends with this status, prints this text, and these messages on standard error. Where they
+        have no explanation and no warning, any may stand there."""
         ended = self.run(line, files, stdin)
-        self.tally.same(f"dabplan {line}", (status, printed.encode(), messages.encode()), (*ended.lines(), ended.messages))
+        wanted = messages.encode()
+        found = ended.messages if any(map(is_note, wanted.splitlines())) else without_notes(ended.messages)
+        self.tally.same(f"dabplan {line}", (status, printed.encode(), wanted), (*ended.lines(), found))
+
+    def refuses(self, line, messages, files=None, stdin=b""):
+        """Counts that a command whose output is a product prints nothing, reports these messages on standard error, and ends
+        with status 1."""
+        self.answers(line, 1, "", files, stdin, messages)
 
     def listens(self, line, printed, files=None, stdin=b""):
         """Counts that `listen FILE` prints this listing; if all FIBs are damaged, a message says that these are none."""

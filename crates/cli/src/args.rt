@@ -16,14 +16,6 @@ mod shared;
 pub mod start;
 mod verify;
 
-ghost use Rattle.std.specs.Prelude.{◌≡◌, IfErr, IfOk, List, ℕ, map};
-ghost use Rattle.cli.specs.Asked.{IsAsked};
-ghost use Rattle.cli.specs.Grammar.{Describes};
-ghost use Rattle.cli.specs.Program.{dabplan};
-ghost use Rattle.cli.specs.Asking.{AsksBy, AsksFramesBy, IsFound};
-ghost use Rattle.cli.specs.Refusals.{IsRefused, IsUnparsed, Refuses, RefusesFrames};
-ghost use Rattle.cli.specs.Refusals.{commands, frames_commands};
-
 use crate::args::parser::{Grammar, Parsed};
 use cli_plans::debug::DebugRequest;
 use cli_plans::live::LiveRequest;
@@ -103,6 +95,13 @@ pub enum UsageError<'a> {
         output: &'static str,
         path: &'a str,
     },
+    /// These two paths are of one file, which would be written over.
+    OneFile {
+        input: &'a str,
+        output: &'a str,
+    },
+    /// The drawing of `map` can't be standard output, which has the map.
+    DrawingOutput,
     /// No command is named, or a required value is missing.
     Nothing,
     /// The arguments are not UTF-8.
@@ -126,16 +125,11 @@ impl From<AllocError> for UsageError<'_> {
 
 /// Parses the arguments after the program's name. Those of `live` and `merge` are parsed by [`frames_request_of`], and
 /// are refused here.
-pub fn request_of<'a, S: AsStr>(alloc: Global, args: &'a [S]) -> Result<Request<'a>, UsageError<'a>>
-    ensures asked { IfOk result (AsksBy (map S.text args.now)) }
-    // Out of memory; or the grammar does not take the words, or they name none of these commands;
-    // or a value is missing, or refused by its field.
-    ensures refused { IfErr result (IsRefused Refuses commands (map S.text args.now)) }
-{
-    let parsed = match parse(alloc, args) {
-        Ok(parsed) => parsed,
-        Err(error) => return Err(error),
-    };
+pub fn request_of<'a, S: AsStr>(
+    alloc: Global,
+    args: &'a [S],
+) -> Result<Request<'a>, UsageError<'a>> {
+    let parsed = parse(alloc, args)?;
     match parsed.command() {
         Some(("frame", values)) => frame::request(&values),
         Some(("listen", values)) => listen::request(&values),
@@ -154,15 +148,8 @@ pub fn request_of<'a, S: AsStr>(alloc: Global, args: &'a [S]) -> Result<Request<
 pub fn frames_request_of<'a, S: AsStr>(
     alloc: Global,
     args: &'a [S],
-) -> Result<FramesRequest<'a>, UsageError<'a>>
-    ensures asked { IfOk result (AsksFramesBy (map S.text args.now)) }
-    ensures refused { IfErr result
-        (IsRefused RefusesFrames frames_commands (map S.text args.now)) }
-{
-    let parsed = match parse(alloc, args) {
-        Ok(parsed) => parsed,
-        Err(error) => return Err(error),
-    };
+) -> Result<FramesRequest<'a>, UsageError<'a>> {
+    let parsed = parse(alloc, args)?;
     match parsed.command() {
         Some(("live", values)) => match live::request(&values) {
             Ok(request) => Ok(FramesRequest::Live(request)),
@@ -177,11 +164,7 @@ pub fn frames_request_of<'a, S: AsStr>(
 }
 
 /// Parses a command line. A mistake shows the control bytes of arguments as `\xHH`.
-fn parse<'a, S: AsStr>(alloc: Global, args: &'a [S]) -> Result<Parsed<'a>, UsageError<'a>>
-    ensures found { IfOk result (λ p. IsFound (map S.text args.now) p.matches) }
-    ensures refused { IfErr result (λ error. (asked : List (List ℕ))
-        × IsAsked (map S.text args.now) asked × IsUnparsed dabplan asked error) }
-{
+fn parse<'a, S: AsStr>(alloc: Global, args: &'a [S]) -> Result<Parsed<'a>, UsageError<'a>> {
     let grammar = match program(alloc) {
         Ok(grammar) => grammar,
         Err(_) => return Err(UsageError::Memory),
@@ -218,9 +201,7 @@ fn has_control(text: &str) -> bool {
 }
 
 /// The program's commands.
-fn program<'a>(alloc: Global) -> Result<Grammar<'a>, AllocError>
-    ensures { IfOk result (λ g. Describes g.command dabplan) }
-{
+fn program<'a>(alloc: Global) -> Result<Grammar<'a>, AllocError> {
     Grammar::of_program(
         alloc,
         "dabplan",

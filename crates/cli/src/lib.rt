@@ -4,6 +4,9 @@
 
 pub mod answer;
 pub mod args;
+mod causes;
 mod live;
 mod mistakes;
-mod streamed;
+mod products;
+mod remarks;
+mod same_files;

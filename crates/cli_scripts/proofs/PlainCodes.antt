@@ -11,7 +11,7 @@ use Rattle.plan_code.specs.declared.instr.Instr.TheVariants.{End}
 use Rattle.plan_flow.specs.Flows.{Flow, known_at, after_instr}
 use Rattle.plan_flow.specs.Rules.{IsFine, continues, target_of, suspends}
 use Rattle.script_front.specs.declared.tree.Act.{Act}
-use Rattle.script_front.specs.declared.tree.Act.TheVariants.{Edit, Wait, WaitContact, Until, CommitIn, CommitAt, Join, Settle}
+use Rattle.script_front.specs.declared.tree.Act.TheVariants.{Edit, Wait, WaitContact, WaitAny, Until, CommitIn, CommitAt, Join, Settle}
 use Rattle.script_front.specs.Block.{nothing}
 use Rattle.script_config.specs.Frames.{ends_frame, FitFrames}
 use Rattle.script_config.specs.Plain.{acts_from}
@@ -107,6 +107,7 @@ no_target : (a : Act) → target_of (instr_of_act a) ≡ None
 no_target (Edit edit) = refl
 no_target (Wait frames) = refl
 no_target (WaitContact contact closed) = refl
+no_target (WaitAny alternatives) = refl
 no_target (Until second) = refl
 no_target (CommitIn delay) = refl
 no_target (CommitAt count) = refl
@@ -161,6 +162,7 @@ suspends_as : (a : Act) → suspends (instr_of_act a) ≡ ends_frame a
 suspends_as (Edit edit) = refl
 suspends_as (Wait frames) = refl
 suspends_as (WaitContact contact closed) = refl
+suspends_as (WaitAny alternatives) = refl
 suspends_as (Until second) = refl
 suspends_as (CommitIn delay) = refl
 suspends_as (CommitAt count) = refl

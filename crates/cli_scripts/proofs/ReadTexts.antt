@@ -1,15 +1,18 @@
 -- What is said of the text that was read of a file is so of the whole file: it is no script if it was not read to its end.
-use Rattle.std.proofs.Common.{◌≡◌, ◌<◌, ◌≤◌, ℕ, Option, None, Some, IfSome, List, length, take, min, sym, ap, ◌∙◌, subst, arith, inl, inr, take_all, take-take, length-take, IsUtf8}
+use Rattle.std.proofs.Common.{◌≡◌, ◌<◌, ◌≤◌, ℕ, Option, None, Some, IfSome, List, length, take, min, sym, ap, ◌∙◌, subst, arith, inl, inr, take_all, take-take, length-take, IsUtf8, Result, Ok, Err, IfOk, OnOk}
 use Rattle.std.proofs.lemmas.Bool.{cases_lt}
 use Rattle.script_front.specs.Denoting.{IsScriptOf, IsNoScript}
 use Rattle.script_tokens.specs.Texts.{MOST_BYTES}
 use Rattle.cli_scripts.specs.declared.compile.Compiled.{Compiled}
-use Rattle.cli_scripts.specs.declared.compile.CompileRequest.{CompileRequest}
 use Rattle.cli_scripts.specs.declared.compile.ScriptRefusal.{ScriptRefusal}
 use Rattle.cli_scripts.specs.declared.compile.ScriptRefusal.TheVariants.{Script, Plan, Memory}
-use Rattle.cli_scripts.specs.Compiled.{IsUncompiled}
-use Rattle.cli_scripts.specs.Compiling.{IsAcceptedAs, IsAcceptedFrom, IsReason, IsRefusedFrom}
+use Rattle.cli_scripts.specs.Compiled.{IsCompiled, IsCompiledFrom, IsReason, IsRefusedFrom, IsUncompiled}
 use Rattle.cli_scripts.specs.FileTexts.{IsReadOf}
+
+-- what is so of a value, if there is one, and what is so beside it
+pub both_ok : {A E : Type 0} (given : Result A E) (P Q : A → Type 0) (U : Type 0) → ((a : A) → P a → U → Q a) → IfOk given P → OnOk given U → IfOk given Q
+both_ok (Ok a) P Q U more p u = more a p u
+both_ok (Err e) P Q U more p u = tt
 
 -- what follows from the first bytes of a file, where its bytes are known
 pub of_known : (known : Option (List ℕ)) (most : ℕ) (read text : List ℕ) (Q : List ℕ → Type 0) → text ≡ read → IfSome known (λ bytes. read ≡ take most bytes)
@@ -41,11 +44,10 @@ whole_of bytes text r fits = elim r.enough [
   | inr more ↦ absurd (omega (arith, fits, more))
 ]
 
-pub accepted_whole : (bytes text : List ℕ) (request : CompileRequest) (c : Compiled) (notes : List ℕ) → IsReadOf bytes text → IsAcceptedAs text request c notes
-    → IsAcceptedFrom bytes request c notes
-accepted_whole bytes text request c notes r h =
-    let e : text ≡ bytes = whole_of bytes text r h.made.denotes.short in
-    record { utf8 = subst IsUtf8 e r.utf8; accepted = subst (λ (t : List ℕ). IsAcceptedAs t request c notes) e h }
+pub compiled_whole : (bytes text : List ℕ) (c : Compiled) → IsReadOf bytes text → IsCompiled text c → IsCompiledFrom bytes c
+compiled_whole bytes text c r h =
+    let e : text ≡ bytes = whole_of bytes text r h.2.denotes.short in
+    record { utf8 = subst IsUtf8 e r.utf8; compiled = subst (λ (t : List ℕ). IsCompiled t c) e h }
 
 pub none_in_whole : (bytes text : List ℕ) → IsReadOf bytes text → IsNoScript text → IsNoScript bytes
 none_in_whole bytes text r none tree script is = elim r.enough [
@@ -57,8 +59,8 @@ none_in_whole bytes text r none tree script is = elim r.enough [
 ]
 
 pub refused_whole : (bytes text : List ℕ) (refusal : ScriptRefusal) → IsReadOf bytes text → IsUncompiled text refusal → IsReason refusal → IsRefusedFrom bytes refusal
-refused_whole bytes text (Script fault) r h reason = record { text = (text, r); uncompiled = none_in_whole bytes text r h; reason = reason }
+refused_whole bytes text (Script fault) r h reason = record { uncompiled = none_in_whole bytes text r h; reason = reason }
 refused_whole bytes text (Plan fault) r h reason =
     let e : text ≡ bytes = whole_of bytes text r h.2.short in
-    record { text = (text, r); uncompiled = subst (λ (t : List ℕ). IsUncompiled t (Plan fault)) e h; reason = reason }
+    record { uncompiled = subst (λ (t : List ℕ). IsUncompiled t (Plan fault)) e h; reason = reason }
 refused_whole bytes text Memory r h reason = absurd reason

@@ -1,6 +1,5 @@
--- The result of `compile`, its refusals, and the line that reports the size of a code.
-use Rattle.std.specs.Prelude.{◌≡◌, ℕ, List, ◌++◌, codes, length}
-use Rattle.std.specs.Fmt.{decimal}
+-- The result of `compile`, and its refusals.
+use Rattle.std.specs.Prelude.{◌≡◌, ◌≢◌, ℕ, List, length, Option, Some, None, IsUtf8}
 use Rattle.plan_code.specs.Program.{Program}
 use Rattle.plan_code.specs.Spelling.{code_bytes}
 use Rattle.plan_verifier.specs.Typing.{IsTyped}
@@ -10,7 +9,10 @@ use Rattle.script_compiler.specs.Compiled.{IsAccepted, IsCodeOf, CostsItsNeeds}
 use Rattle.script_compiler.specs.Refused.{IsRefused}
 use Rattle.script_compiler.specs.Meaning.{PlaysAsItReads}
 use Rattle.script_compiler.specs.Refusals.{IfRefused}
+use Rattle.script_compiler.specs.declared.fault.CompileFault.TheVariants.{Memory as NoMemoryForPlan}
+use Rattle.script_tokens.specs.declared.fault.ScriptFault.TheVariants.{Memory as NoMemoryForScript}
 use Rattle.cli_scripts.specs.declared.compile.Compiled.{Compiled}
+use Rattle.cli_scripts.specs.declared.compile.Found.{Found}
 use Rattle.cli_scripts.specs.declared.compile.ScriptRefusal.{ScriptRefusal}
 use Rattle.cli_scripts.specs.declared.compile.ScriptRefusal.TheVariants.{Script, Plan, Memory}
 
@@ -44,5 +46,27 @@ IsUncompiled text (Plan fault) =
     (tree : Tree) × IsScript tree × IsScriptOf text tree × (IsAccepted tree → ⊥) × IfRefused fault (IsRefused tree)
 IsUncompiled text Memory = Unit {0}
 
-abbrev pub counts_line : Compiled → List ℕ
-counts_line c = codes "instructions " ++ decimal c.instructions ++ codes " labels " ++ decimal c.labels ++ codes " configurations " ++ decimal c.configurations ++ codes "\n"
+-- out of memory is no reason to refuse a script
+abbrev pub IsReason : ScriptRefusal → Type 0
+IsReason (Script fault) = fault ≢ NoMemoryForScript
+IsReason (Plan fault) = fault ≢ NoMemoryForPlan
+IsReason Memory = ⊥
+
+-- what is no reason is out of memory
+abbrev pub IsReasonOrMemory : ScriptRefusal → Type 0
+IsReasonOrMemory refusal = refusal ≢ Memory → IsReason refusal
+
+-- the file is the text, in UTF-8, of an accepted script, of which this is the compilation
+pub record IsCompiledFrom (bytes : List ℕ) (c : Compiled) : Type 0 where
+  pub utf8 : IsUtf8 bytes
+  pub compiled : IsCompiled bytes c
+
+-- the file is no script, or one that is not accepted, for this reason
+pub record IsRefusedFrom (bytes : List ℕ) (refusal : ScriptRefusal) : Type 0 where
+  pub uncompiled : IsUncompiled bytes refusal
+  pub reason : IsReason refusal
+
+-- the compilation of a file; `None` if it is refused
+abbrev pub FindsCompiled : List ℕ → Option Found → Type 0
+FindsCompiled bytes (Some found) = IsCompiledFrom bytes found.compiled
+FindsCompiled bytes None = (refusal : ScriptRefusal) × IsRefusedFrom bytes refusal

@@ -1,11 +1,12 @@
 -- One frame of the initial configuration of a script, or the first fault.
-use Rattle.std.specs.Prelude.{◌≡◌, ℕ, false, List, None, Result, Ok, Err}
+use Rattle.std.specs.Prelude.{◌≡◌, ◌≢◌, ℕ, false, List, None, Result, Ok, Err}
 use Rattle.mux_config.specs.Configuration.{Configuration, nothing}
 use Rattle.mux_config.specs.Sound.{sound_or_fault}
 use Rattle.mux_types.specs.Entries.{EnsembleInformation}
 use Rattle.plan_code.specs.declared.plan.Plan.{Plan}
 use Rattle.script_front.specs.Denoting.{IsScriptOf, IsNoScript}
 use Rattle.script_front.specs.Tree.{Tree, IsScript}
+use Rattle.script_tokens.specs.declared.fault.ScriptFault.TheVariants.{Memory as NoMemoryForScript}
 use Rattle.script_config.specs.declared.items.ItemFault.{ItemFault}
 use Rattle.script_config.specs.Items.{made_by}
 use Rattle.cli_streams.specs.declared.frame.FrameFault.{FrameFault}
@@ -36,3 +37,10 @@ GivesFrame text count index (Err (Script fault)) = IsNoScript text
 GivesFrame text count index (Err Memory) = Unit {0}
 GivesFrame text count index given =
     (tree : Tree) × IsScript tree × IsScriptOf text tree × (frame_of_script tree count index ≡ given)
+
+-- out of memory is no reason that a script gives no frame
+abbrev pub IsFrameReason : ScriptFrameFault → Type 0
+IsFrameReason (Script fault) = fault ≢ NoMemoryForScript
+IsFrameReason (Item fault) = Unit {0}
+IsFrameReason (Frame fault) = Unit {0}
+IsFrameReason Memory = ⊥

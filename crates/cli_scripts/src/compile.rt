@@ -1,15 +1,15 @@
 //! `dabplan compile`: compiles a script into a code file.
 
-ghost use Rattle.std.specs.Prelude.{◌≡◌, ◌++◌, ℕ, List, take, IfOk, IfErr, IfSome, OnOk};
+ghost use Rattle.std.specs.Prelude.{◌≡◌, ◌≢◌, ℕ, List, codes, take, IfOk, IfErr, IfSome, OnOk};
 ghost use Rattle.std.specs.Io.KnownBytes.{Appends};
-ghost use Rattle.console.specs.World.{Stays};
-ghost use Rattle.cli_scripts.specs.Compiled.{IsFileOf, IsMadeOf, IsUncompiled, counts_line};
-ghost use Rattle.cli_scripts.specs.Compiling.{CompilesFile, CompilesStream, FindsCompiled, IsFoundIn, IsReasonOrMemory, KeepsFiles};
-ghost use Rattle.cli_scripts.specs.Noting.{lines_of};
+ghost use Rattle.console.specs.World.{Becomes, HasWritten, Stays};
+ghost use Rattle.cli_scripts.specs.Compiled.{IsFileOf, IsMadeOf, IsUncompiled, IsReasonOrMemory};
+ghost use Rattle.cli_scripts.specs.Compiled.{IsCompiled, FindsCompiled};
+ghost use Rattle.cli_scripts.specs.Success.{Compiles};
 
-use crate::explained::show_script_refusal;
-use crate::notes::{Notes, report_notes};
-use crate::script_file::{read_script, script_text};
+use crate::explained::{Explanation, report_lines, show_script_refusal};
+use crate::notes::Notes;
+use crate::script_file::{read_script_input, script_text};
 use console::exit::{Failure, Status, write_file};
 use console::files::Files;
 use console::output::write_out;
@@ -18,16 +18,17 @@ use script_compiler::{CompileFault, compile};
 use script_front::{Script, ScriptFault, parse};
 use std::alloc::{AllocError, Global};
 use std::io::{self, Write};
+use thiserror::Error;
 
 /// The arguments of `compile`.
 #[derive(Clone, Copy)]
 pub struct CompileRequest<'a> {
-    /// The path of the script.
+    /// The path of the script; standard input if it is `-`.
     pub script: &'a str,
     /// The path of the code file to write.
     pub out: &'a str,
-    /// Whether a refusal is explained, and warnings about an accepted script are reported.
-    pub explain: bool,
+    /// Where a refusal is explained, and whether warnings about an accepted script are reported.
+    pub explanation: Explanation,
 }
 
 /// A compiled script: its code file, and the numbers of instructions, labels and configurations.
@@ -50,28 +51,36 @@ pub(crate) struct Found {
     notes: Notes,
 }
 
-/// Why a script is not compiled.
-#[derive(Clone, Copy, Debug, PartialEq, Eq)]
+/// Why a script is not compiled. Its text is the line that is printed.
+#[derive(Clone, Copy, Debug, PartialEq, Eq, Error)]
 pub enum ScriptRefusal {
     /// The text is not a script.
+    #[error("{0}")]
     Script(ScriptFault),
     /// The plan is refused.
+    #[error("{0}")]
     Plan(CompileFault),
     /// Out of memory.
+    #[error("no memory")]
     Memory,
 }
 
 impl From<AllocError> for ScriptRefusal {
+    ghost use Rattle.std.specs.Prelude.{◌≡◌};
+    ghost use Rattle.cli_scripts.specs.declared.compile.ScriptRefusal.TheVariants.{Memory};
+
+    ghost from_gives = { λ _ refusal. refusal ≡ Memory };
+
     fn from(_error: AllocError) -> Self {
         ScriptRefusal::Memory
     }
 }
 
 /// Runs `compile`: writes the code file of the script, and prints the numbers of instructions, labels and
-/// configurations; or prints why the script is refused, with an explanation if requested. The file is created last,
-/// so that an earlier failure leaves it as it was; no other file is changed. At the end the warnings about an accepted
-/// script are reported on standard error, if an explanation is requested: a line each, or `no memory` if out of memory
-/// for them, which changes nothing else.
+/// configurations; or prints why the script is refused, and explains it. The file is written last, and as a whole,
+/// so that a failure leaves it as it was; no other file is changed. At the end the warnings about an accepted
+/// script are reported on standard error, unless nothing is to be explained: a line each, or `no memory` if out of
+/// memory for them, which changes nothing else.
 ///
 /// `Read` if the script can't be read, or is not UTF-8; `Create` if the file can't be written; `Output` if `out`
 /// fails; `Memory` if out of memory.
@@ -81,28 +90,21 @@ pub fn show_compile<'a, F: Files, W: Write>(
     files: &mut F,
     out: &mut W,
 ) -> Result<Status, Failure<'a>>
-    ensures script { IfSome (F.known files.old request.now.script.now) (λ bytes.
-        CompilesFile bytes request.now (W.contents out.old) (W.contents out.new)
-        (F.world files.old) (F.world files.new) result) }
-    ensures files { KeepsFiles request.now (F.world files.old) (F.world files.new) result }
+    ensures input { request.now.script.now ≡ codes "-" → IfOk result (λ status.
+        IfSome (F.known_input files.old) (λ script. Compiles script
+        (λ file. Becomes (HasWritten request.now.out.now file)
+        (F.world files.old) (F.world files.new)) status)) }
+    ensures file { request.now.script.now ≢ codes "-" → IfOk result (λ status.
+        IfSome (F.known files.old request.now.script.now) (λ script. Compiles script
+        (λ file. Becomes (HasWritten request.now.out.now file)
+        (F.world files.old) (F.world files.new)) status)) }
 {
-    let found = match compile_script(alloc, request, files, out) {
-        Ok(Some(found)) => found,
-        Ok(None) => return Ok(Status::Refused),
-        Err(failure) => return Err(failure),
+    let Some(found) = compile_script(alloc, request, request.explanation, files, out)? else {
+        return Ok(Status::Refused);
     };
-    match write_file(files, request.out, found.compiled.file.as_slice()) {
-        Ok(()) => {}
-        Err(failure) => return Err(failure),
-    }
-    match print_counts(&found.compiled, out) {
-        Ok(()) => {}
-        Err(_) => return Err(Failure::Output),
-    }
-    if !request.explain {
-        return Ok(Status::Done);
-    }
-    report_notes(found.notes.as_slice(), files);
+    write_file(files, request.out, found.compiled.file.as_slice())?;
+    print_counts(&found.compiled, out)?;
+    report_lines(found.notes.as_slice(), files);
     Ok(Status::Done)
 }
 
@@ -118,28 +120,28 @@ pub fn stream_compile<'a, F: Files, W: Write, L: Write>(
     out: &mut W,
     lines: &mut L,
 ) -> Result<Status, Failure<'a>>
-    ensures script { IfSome (F.known files.old request.now.script.now) (λ bytes.
-        CompilesStream bytes request.now (L.contents lines.old) (L.contents lines.new)
-        (W.contents out.old) (W.contents out.new) result) }
-    ensures files { Stays (F.world files.old) (F.world files.new) }
+    ensures input { request.now.script.now ≡ codes "-" → IfOk result (λ status.
+        IfSome (F.known_input files.old) (λ script. Compiles script
+        (Appends (W.contents out.old) (W.contents out.new)) status)) }
+    ensures file { request.now.script.now ≢ codes "-" → IfOk result (λ status.
+        IfSome (F.known files.old request.now.script.now) (λ script. Compiles script
+        (Appends (W.contents out.old) (W.contents out.new)) status)) }
 {
-    let found = match compile_script(alloc, request, files, lines) {
-        Ok(Some(found)) => found,
-        Ok(None) => return Ok(Status::Refused),
-        Err(failure) => return Err(failure),
+    let explanation = request.explanation.of_product();
+    let Some(found) = compile_script(alloc, request, explanation, files, lines)? else {
+        return Ok(Status::Refused);
     };
     match write_through(found.compiled.file.as_slice(), out) {
         Ok(()) => {}
         Err(_) => return Err(Failure::Create(request.out)),
     }
-    match print_all(&found, lines) {
-        Ok(()) => Ok(Status::Done),
-        Err(_) => Err(Failure::Output),
-    }
+    print_counts(&found.compiled, lines)?;
+    lines.write_all(found.notes.as_slice())?;
+    Ok(Status::Done)
 }
 
 /// Writes all bytes, and flushes the writer.
-#[tactic(auto, using(crate::proofs::CompilingFiles::all_taken))]
+#[tactic(auto, using(crate::proofs::Compiling::all_taken))]
 fn write_through<W: Write>(bytes: &[u8], out: &mut W) -> io::Result<()>
     ensures { OnOk result (Appends (W.contents out.old) (W.contents out.new) bytes.now) }
 {
@@ -150,51 +152,51 @@ fn write_through<W: Write>(bytes: &[u8], out: &mut W) -> io::Result<()>
     }
 }
 
-/// The compiled script of the request, with the notes on it; `None` after printing why it is refused, with an
-/// explanation if requested. No file is changed.
+/// The compiled script of the request, with the notes on it; `None` after printing why it is refused. No file is
+/// changed.
 fn compile_script<'a, F: Files, W: Write>(
     alloc: Global,
     request: &CompileRequest<'a>,
+    explanation: Explanation,
     files: &mut F,
     out: &mut W,
 ) -> Result<Option<Found>, Failure<'a>>
-    ensures script { IfSome (F.known files.old request.now.script.now) (λ bytes.
-        FindsCompiled bytes request.now
-        (Appends (W.contents out.old) (W.contents out.new)) result) }
+    ensures input { request.now.script.now ≡ codes "-" → IfOk result (λ found.
+        IfSome (F.known_input files.old) (λ script. FindsCompiled script found)) }
+    ensures script { request.now.script.now ≢ codes "-" → IfOk result (λ found.
+        IfSome (F.known files.old request.now.script.now)
+        (λ script. FindsCompiled script found)) }
     ensures files { Stays (F.world files.old) (F.world files.new) }
 {
-    match read_script(alloc, files, request.script) {
-        Ok(bytes) => compile_bytes(alloc, request, bytes.as_slice(), out),
-        Err(failure) => Err(failure),
-    }
+    let bytes = read_script_input(alloc, files, request.script)?;
+    compile_bytes(alloc, request, bytes.as_slice(), explanation, files, out)
 }
 
 /// The same for the first bytes of the script's file, which are all that was read of it.
-fn compile_bytes<'a, W: Write>(
+fn compile_bytes<'a, F: Files, W: Write>(
     alloc: Global,
     request: &CompileRequest<'a>,
     bytes: &[u8],
+    explanation: Explanation,
+    files: &mut F,
     out: &mut W,
 ) -> Result<Option<Found>, Failure<'a>>
-    ensures { (file : List ℕ) → bytes.now ≡ take 1048581 file → FindsCompiled file request.now
-        (Appends (W.contents out.old) (W.contents out.new)) result }
+    ensures found { IfOk result (λ found. (file : List ℕ) → bytes.now ≡ take 1048581 file
+        → FindsCompiled file found) }
+    ensures world { Stays (F.world files.old) (F.world files.new) }
 {
-    let text = match script_text(bytes, request.script) {
-        Ok(text) => text,
-        Err(failure) => return Err(failure),
+    let text = script_text(bytes, request.script)?;
+    let refusal = match compile_noted(alloc, request, text) {
+        Ok(found) => return Ok(Some(found)),
+        Err(refusal) => refusal,
     };
-    match compile_noted(alloc, request, text) {
-        Ok(found) => Ok(Some(found)),
-        Err(refusal) => match refusal {
-            ScriptRefusal::Memory => Err(Failure::Memory),
-            _ => {
-                let explain = request.explain;
-                match show_script_refusal(alloc, request.script, text, refusal, explain, out) {
-                    Ok(()) => Ok(None),
-                    Err(failure) => Err(failure),
-                }
-            }
-        },
+    match refusal {
+        ScriptRefusal::Memory => Err(Failure::Memory),
+        _ => {
+            let path = request.script;
+            show_script_refusal(alloc, path, text, refusal, explanation, files, out)?;
+            Ok(None)
+        }
     }
 }
 
@@ -206,7 +208,7 @@ fn compile_noted(
     request: &CompileRequest<'_>,
     text: &str,
 ) -> Result<Found, ScriptRefusal>
-    ensures found { IfOk result (IsFoundIn text.now request.now) }
+    ensures found { IfOk result (λ found. IsCompiled text.now found.compiled) }
     ensures refused { IfErr result (IsUncompiled text.now) }
     ensures reason { IfErr result IsReasonOrMemory }
 {
@@ -218,7 +220,7 @@ fn compile_noted(
         Ok(compiled) => compiled,
         Err(_) => return Err(ScriptRefusal::Memory),
     };
-    let notes = Notes::on(alloc, request.script, &script, &code, request.explain);
+    let notes = Notes::on(alloc, request.script, &script, &code, request.explanation);
     Ok(Found { compiled, notes })
 }
 
@@ -226,10 +228,7 @@ fn compile_noted(
 fn compiled_of(alloc: Global, code: &Code) -> Result<Compiled, AllocError>
     ensures { IfOk result (IsFileOf code.now) }
 {
-    let file = match encode(alloc, code) {
-        Ok(file) => file,
-        Err(error) => return Err(error),
-    };
+    let file = encode(alloc, code)?;
     Ok(Compiled {
         file,
         instructions: code.lines().len(),
@@ -261,10 +260,7 @@ pub(crate) fn made_of(alloc: Global, text: &str) -> Result<(Script, Code), Scrip
 }
 
 /// Prints the numbers of instructions, labels and configurations.
-fn print_counts<W: Write>(compiled: &Compiled, out: &mut W) -> io::Result<()>
-    ensures { OnOk result (Appends (W.contents out.old) (W.contents out.new)
-        (counts_line compiled.now)) }
-{
+fn print_counts<W: Write>(compiled: &Compiled, out: &mut W) -> io::Result<()> {
     let instructions = compiled.instructions;
     let labels = compiled.labels;
     let configurations = compiled.configurations;
@@ -272,15 +268,4 @@ fn print_counts<W: Write>(compiled: &Compiled, out: &mut W) -> io::Result<()>
         out,
         "instructions {instructions} labels {labels} configurations {configurations}"
     )
-}
-
-/// Prints the numbers, and the notes after them.
-fn print_all<W: Write>(found: &Found, out: &mut W) -> io::Result<()>
-    ensures { OnOk result (Appends (W.contents out.old) (W.contents out.new)
-        (counts_line found.now.compiled ++ lines_of found.now.notes)) }
-{
-    match print_counts(&found.compiled, out) {
-        Ok(()) => out.write_all(found.notes.as_slice()),
-        Err(error) => Err(error),
-    }
 }

@@ -1,17 +1,17 @@
 //! `dabplan diff`: prints a plan that changes one configuration into another.
 
-ghost use Rattle.std.specs.Prelude.{◌≡◌, ◌++◌, ℕ, List, codes, take, IfOk, IfErr, OnOk, IfSome, string_bytes};
+ghost use Rattle.std.specs.Prelude.{◌≡◌, ℕ, List, take, IfOk, IfErr, IfSome, string_bytes};
 ghost use Rattle.std.specs.Io.KnownBytes.{Appends, Keeps};
-ghost use Rattle.console.specs.World.{Stays};
-ghost use Rattle.console.specs.declared.exit.Failure.TheVariants.{Output};
 ghost use Rattle.console.specs.declared.exit.Status.TheVariants.{Refused};
 ghost use Rattle.script_config.specs.Openings.{IsOpening};
 ghost use Rattle.script_config.specs.Refusals.{CanBePlanned};
-ghost use Rattle.cli_scripts.specs.Diffing.{Diffs, FindsOpening, ShowsPlan};
 ghost use Rattle.cli_scripts.specs.Planned.{IsPlanText, IsPlanFault};
+ghost use Rattle.cli_scripts.specs.Success.{Diffs, HasOpening, HasPlan};
 
-use crate::opening_text::{BetweenText, LineRefused, OpeningText};
+use crate::compile::ScriptRefusal;
+use crate::explained::{Explanation, explain_script};
 use crate::script_file::{read_script, script_text};
+use console::escaped::Escaped;
 use console::exit::{Failure, Status};
 use console::files::Files;
 use plan_verifier::Cause;
@@ -21,7 +21,6 @@ use script_config::{
 };
 use script_front::print;
 use std::alloc::Global;
-use std::fmt::Display;
 use std::io::Write;
 
 /// The arguments of `diff`.
@@ -31,6 +30,8 @@ pub struct DiffRequest<'a> {
     pub from: &'a str,
     /// The path of the script with the configuration to reach.
     pub to: &'a str,
+    /// Where the refusal of a script is explained.
+    pub explanation: Explanation,
 }
 
 /// Why no plan is printed.
@@ -45,6 +46,13 @@ pub enum PlanFault {
     Memory,
 }
 
+/// A script without an opening: the first bytes of its file, and why it has none.
+#[derive(Drop)]
+struct NoOpening {
+    bytes: Vec<u8>,
+    fault: OpeningFault,
+}
+
 /// Runs `diff`: prints the plan, or why there is none: all of FROM's refusals come before those of TO, and these before
 /// those of the change between them. No file is changed.
 ///
@@ -55,69 +63,97 @@ pub fn show_diff<'a, F: Files, W: Write>(
     files: &mut F,
     out: &mut W,
 ) -> Result<Status, Failure<'a>>
-    ensures plan { IfSome (F.known files.old request.now.from.now) (λ from.
-        IfSome (F.known files.old request.now.to.now) (λ to. Diffs from to request.now
-        (Appends (W.contents out.old) (W.contents out.new)) result)) }
-    ensures files { Stays (F.world files.old) (F.world files.new) }
+    ensures success { IfOk result (λ status. IfSome (F.known files.old request.now.from.now)
+        (λ from. IfSome (F.known files.old request.now.to.now)
+        (λ to. Diffs from to (Appends (W.contents out.old) (W.contents out.new)) status))) }
 {
-    let from = match opening_in(alloc, files, request.from, out) {
-        Ok(Some(opening)) => opening,
-        Ok(None) => return Ok(Status::Refused),
-        Err(failure) => return Err(failure),
+    let from = match opening_in(alloc, files, request.from)? {
+        Ok(opening) => opening,
+        Err(none) => return print_no_opening(alloc, request.from, &none, request, files, out),
     };
-    let to = match opening_in(alloc, files, request.to, out) {
-        Ok(Some(opening)) => opening,
-        Ok(None) => return Ok(Status::Refused),
-        Err(failure) => return Err(failure),
+    let to = match opening_in(alloc, files, request.to)? {
+        Ok(opening) => opening,
+        Err(none) => return print_no_opening(alloc, request.to, &none, request, files, out),
     };
     print_plan(alloc, request, &from, &to, out)
 }
 
-/// The opening of the script in a file; `None` after printing why there is none. No file is changed.
-fn opening_in<'a, F: Files, W: Write>(
+/// The opening of the script in a file, or why there is none. No file is changed.
+fn opening_in<'a, F: Files>(
     alloc: Global,
     files: &mut F,
     path: &'a str,
-    out: &mut W,
-) -> Result<Option<Opening>, Failure<'a>>
-    ensures formed { IfOk result (λ found. IfSome found IsOpening) }
-    ensures opening { IfSome (F.known files.old path.now) (λ bytes. FindsOpening bytes path.now
-        (Appends (W.contents out.old) (W.contents out.new)) result) }
+) -> Result<Result<Opening, NoOpening>, Failure<'a>>
+    ensures formed { IfOk result (λ found. IfOk found IsOpening) }
+    ensures opening { IfOk result (λ found. IfOk found (λ opening.
+        IfSome (F.known files.old path.now) (λ bytes. HasOpening bytes opening))) }
     ensures known { (other : List ℕ)
         → Keeps (F.known files.old other) (F.known files.new other) }
-    ensures files { Stays (F.world files.old) (F.world files.new) }
 {
-    match read_script(alloc, files, path) {
-        Ok(bytes) => opening_of_bytes(alloc, path, bytes.as_slice(), out),
-        Err(failure) => Err(failure),
+    let bytes = read_script(alloc, files, path)?;
+    match opening_of_bytes(alloc, path, bytes.as_slice())? {
+        Ok(opening) => Ok(Ok(opening)),
+        Err(fault) => Ok(Err(NoOpening { bytes, fault })),
     }
 }
 
 /// The same for the first bytes of the file, which are all that was read of it.
-fn opening_of_bytes<'a, W: Write>(
+fn opening_of_bytes<'a>(
     alloc: Global,
     path: &'a str,
     bytes: &[u8],
-    out: &mut W,
-) -> Result<Option<Opening>, Failure<'a>>
-    ensures formed { IfOk result (λ found. IfSome found IsOpening) }
-    ensures opening { (file : List ℕ) → bytes.now ≡ take 1048581 file → FindsOpening file path.now
-        (Appends (W.contents out.old) (W.contents out.new)) result }
+) -> Result<Result<Opening, OpeningFault>, Failure<'a>>
+    ensures formed { IfOk result (λ found. IfOk found IsOpening) }
+    ensures opening { IfOk result (λ found. IfOk found (λ opening.
+        (file : List ℕ) → bytes.now ≡ take 1048581 file → HasOpening file opening)) }
 {
-    let text = match script_text(bytes, path) {
-        Ok(text) => text,
-        Err(failure) => return Err(failure),
-    };
+    let text = script_text(bytes, path)?;
     match read_opening(alloc, text) {
-        Ok(opening) => Ok(Some(opening)),
-        Err(fault) => match fault {
-            OpeningFault::Memory => Err(Failure::Memory),
-            _ => match writeln!(out, "{}", OpeningText(path, fault)) {
-                Ok(()) => Ok(None),
-                Err(_) => Err(Failure::Output),
-            },
-        },
+        Ok(opening) => Ok(Ok(opening)),
+        Err(OpeningFault::Memory) => Err(Failure::Memory),
+        Err(fault) => Ok(Err(fault)),
     }
+}
+
+/// Prints why the script of this path has no opening, and explains it.
+fn print_no_opening<'a, F: Files, W: Write>(
+    alloc: Global,
+    path: &'a str,
+    none: &NoOpening,
+    request: &DiffRequest<'a>,
+    files: &mut F,
+    out: &mut W,
+) -> Result<Status, Failure<'a>>
+    ensures { IfOk result (λ status. status ≡ Refused) }
+{
+    let shown = Escaped::in_line(path);
+    match none.fault {
+        OpeningFault::Script(fault) => writeln!(out, "{shown}:{fault}")?,
+        _ => writeln!(out, "{shown}: {}", none.fault)?,
+    }
+    let text = script_text(none.bytes.as_slice(), path)?;
+    let explanation = request.explanation.of_product();
+    explain_script(
+        alloc,
+        path,
+        text,
+        refusal_of(none.fault),
+        explanation,
+        files,
+        out,
+    )?;
+    Ok(Status::Refused)
+}
+
+/// The refusal by `compile` of a script that has no opening for this reason.
+fn refusal_of(fault: OpeningFault) -> ScriptRefusal {
+    let (line, cause) = match fault {
+        OpeningFault::Script(fault) => return ScriptRefusal::Script(fault),
+        OpeningFault::Item(item) => (item.line, Cause::Edit(item.fault)),
+        OpeningFault::Unsound { line, fault } => (line, Cause::Config(fault)),
+        OpeningFault::Memory => return ScriptRefusal::Memory,
+    };
+    ScriptRefusal::Plan(CompileFault::Refused { line, cause })
 }
 
 /// Prints the plan from one opening to the other, or why there is none.
@@ -130,37 +166,26 @@ fn print_plan<'a, W: Write>(
 ) -> Result<Status, Failure<'a>>
     requires first { IsOpening from.now }
     requires second { IsOpening to.now }
-    ensures { ShowsPlan request.now from.now to.now
-        (Appends (W.contents out.old) (W.contents out.new)) result }
+    ensures { IfOk result
+        (HasPlan from.now to.now (Appends (W.contents out.old) (W.contents out.new))) }
 {
     if !fits_period(to) {
-        let line = LineRefused(request.to, to.begin_line, Cause::Round);
-        return print_refused(&line, out);
+        let path = Escaped::in_line(request.to);
+        let line = to.begin_line;
+        writeln!(out, "{path}: refused line {line}: {}", Cause::Round)?;
+        return Ok(Status::Refused);
     }
     match plan_text(alloc, from, to) {
-        Ok(text) => match out.write_all(text.as_str().as_bytes()) {
-            Ok(()) => Ok(Status::Done),
-            Err(_) => Err(Failure::Output),
-        },
+        Ok(text) => {
+            out.write_all(text.as_str().as_bytes())?;
+            Ok(Status::Done)
+        }
         Err(PlanFault::Memory) => Err(Failure::Memory),
-        Err(PlanFault::Between(fault)) => print_refused(&BetweenText(fault), out),
+        Err(PlanFault::Between(fault)) => {
+            writeln!(out, "{fault}")?;
+            Ok(Status::Refused)
+        }
         Err(PlanFault::Refused(_fault)) => unreachable!(),
-    }
-}
-
-/// Prints the line of a refusal.
-pub(crate) fn print_refused<'a, D: Display, W: Write>(
-    refusal: &D,
-    out: &mut W,
-) -> Result<Status, Failure<'a>>
-    ensures printed { OnOk result (IfSome (D.output refusal.now) (λ line.
-        Appends (W.contents out.old) (W.contents out.new) (line ++ codes "\n"))) }
-    ensures refused { IfOk result (λ status. status ≡ Refused) }
-    ensures failed { IfErr result (λ failure. failure ≡ Output) }
-{
-    match writeln!(out, "{refusal}") {
-        Ok(()) => Ok(Status::Refused),
-        Err(_) => Err(Failure::Output),
     }
 }
 

@@ -1,166 +1,182 @@
-//! Refusals with their explanation.
+//! Refusals with their explanation: behind the line of the refusal where that is asked for, else on standard error, in the form
+//! that editors read.
 
-ghost use Rattle.std.specs.Prelude.{◌≡◌, Bool, [], true, false, ◌++◌, OnOk, OnErr, IfOk, IfSome, codes};
-ghost use Rattle.std.specs.Io.KnownBytes.{Appends};
-ghost use Rattle.cli_scripts.specs.Refusing.{ShowsRefusal};
-ghost use Rattle.cli_scripts.specs.RefusalTexts.{refusal_text, code_refusal_text};
+ghost use Rattle.console.specs.World.{Stays};
 
 use crate::compile::ScriptRefusal;
-use crate::refusal_text::CodeRefusal;
 use console::escaped::Escaped;
 use console::exit::Failure;
+use console::files::Files;
 use plan_code::{CodeFault, decode};
-use plan_explain::{explain_code, explain_fault, explain_script};
+use plan_explain::{Note, notes_on_code, notes_on_fault, notes_on_script, put_errors, put_notes};
 use plan_session::RunFault;
 use script_front::{ScriptFault, parse};
 use std::alloc::Global;
-use std::fmt::Display;
 use std::io::{self, ErrorKind, Write};
+use std::str;
 
-/// Prints a refusal as a line, which is the same whether it is explained or not, and after it the explanation.
-pub fn print_refusal<D: Display, W: Write>(refusal: &D, notes: &[u8], out: &mut W) -> io::Result<()>
-    ensures { OnOk result (IfSome (D.output refusal.now) (λ line.
-        Appends (W.contents out.old) (W.contents out.new) (line ++ codes "\n" ++ notes.now))) }
-{
-    writeln!(out, "{refusal}")?;
-    out.write_all(notes)
+/// Where a refusal is explained.
+#[derive(Clone, Copy, Debug, PartialEq, Eq)]
+pub enum Explanation {
+    /// Behind the line of the refusal, as `PATH:L: SENTENCE`.
+    WithLine = 1,
+    /// On standard error, as `PATH:L: error: SENTENCE`.
+    OnError = 2,
+    /// Behind the line of the refusal, where that goes to standard error, as `PATH:L: error: SENTENCE`.
+    WithErrorLine = 3,
+    /// Nowhere.
+    Nowhere = 4,
 }
 
-/// Prints why a script of this path and text is refused, and the explanation if requested.
+impl Explanation {
+    /// The same of a command whose lines go to standard error.
+    pub(crate) fn of_product(self) -> Explanation {
+        match self {
+            Explanation::OnError => Explanation::WithErrorLine,
+            Explanation::WithLine | Explanation::WithErrorLine | Explanation::Nowhere => self,
+        }
+    }
+}
+
+/// Prints why a script of this path and text is refused, and explains it.
 ///
-/// If out of memory for the explanation, the line alone is printed and `Memory` is returned.
-pub(crate) fn show_script_refusal<'a, W: Write>(
+/// If out of memory for an explanation that is asked for, the line alone is printed and `Memory` is returned; another one is
+/// left out then.
+pub(crate) fn show_script_refusal<'a, F: Files, W: Write>(
     alloc: Global,
-    path: &'a str,
+    path: &str,
     text: &str,
     refusal: ScriptRefusal,
-    explain: bool,
+    explanation: Explanation,
+    files: &mut F,
     out: &mut W,
 ) -> Result<(), Failure<'a>>
-    ensures { ShowsRefusal explain (Appends (W.contents out.old) (W.contents out.new))
-        (refusal_text refusal) result }
+    ensures world { Stays (F.world files.old) (F.world files.new) }
 {
-    show_refusal(
-        &refusal,
-        script_notes(alloc, path, text, &refusal, explain),
-        out,
-    )
+    writeln!(out, "{refusal}")?;
+    explain_script(alloc, path, text, refusal, explanation, files, out)
 }
 
-/// Prints a refusal and its explanation; if out of memory for it, the line alone, and `Memory` is returned.
-#[tactic(auto, using(crate::proofs::Showing::noted, crate::proofs::Showing::unnoted, crate::proofs::Showing::unprinted))]
-fn show_refusal<'a, D: Display, W: Write>(
-    refusal: &D,
-    notes: io::Result<Vec<u8>>,
+/// Explains why a script of this path and text is refused, where the line of the refusal is printed already.
+pub(crate) fn explain_script<'a, F: Files, W: Write>(
+    alloc: Global,
+    path: &str,
+    text: &str,
+    refusal: ScriptRefusal,
+    explanation: Explanation,
+    files: &mut F,
     out: &mut W,
 ) -> Result<(), Failure<'a>>
-    ensures { (explain : Bool) → IfOk notes (λ notes. explain ≡ false → notes.items ≡ [])
-        → OnErr notes (explain ≡ true) → IfSome (D.output refusal.now) (λ line.
-        ShowsRefusal explain (Appends (W.contents out.old) (W.contents out.new)) line result) }
+    ensures world { Stays (F.world files.old) (F.world files.new) }
 {
-    match notes {
-        Ok(notes) => match print_refusal(refusal, notes.as_slice(), out) {
-            Ok(()) => Ok(()),
-            Err(_) => Err(Failure::Output),
-        },
-        Err(_) => match print_refusal(refusal, b"", out) {
-            Ok(()) => Err(Failure::Memory),
-            Err(_) => Err(Failure::Output),
-        },
+    if explanation == Explanation::Nowhere {
+        return Ok(());
     }
+    let notes = notes_on(alloc, text, &refusal);
+    show_notes(alloc, path, text, notes, explanation, files, out)
 }
 
-/// Explains why a script is refused, if requested. The error is out of memory.
+/// The notes on a refused script. The error is out of memory.
 #[inline(never)]
-fn script_notes(
-    alloc: Global,
-    path: &str,
-    text: &str,
-    refusal: &ScriptRefusal,
-    explain: bool,
-) -> io::Result<Vec<u8>>
-    ensures unasked { IfOk result (λ notes. explain ≡ false → notes.items ≡ []) }
-    ensures failed { OnErr result (explain ≡ true) }
-{
-    let mut notes: Vec<u8> = Vec::new(alloc);
-    if explain {
-        let path = Escaped::in_line(path).to_string(alloc)?;
-        note_script(alloc, path.as_str(), text, refusal, &mut notes)?;
-    }
-    Ok(notes)
-}
-
-/// Writes the explanation of a refused script.
-fn note_script(
-    alloc: Global,
-    path: &str,
-    text: &str,
-    refusal: &ScriptRefusal,
-    notes: &mut Vec<u8>,
-) -> io::Result<()> {
+fn notes_on(alloc: Global, text: &str, refusal: &ScriptRefusal) -> io::Result<Vec<Note>> {
     match refusal {
-        ScriptRefusal::Script(fault) => explain_fault(alloc, path, text, *fault, notes),
+        ScriptRefusal::Script(fault) => notes_on_fault(alloc, text, *fault),
         ScriptRefusal::Plan(fault) => match parse(alloc, text) {
-            Ok(script) => explain_script(alloc, path, text, &script, *fault, notes),
+            Ok(script) => notes_on_script(alloc, text, &script, *fault),
             Err(ScriptFault::Memory) => Err(io::Error::from(ErrorKind::OutOfMemory)),
-            Err(_fault) => Ok(()),
+            Err(_fault) => Ok(Vec::new(alloc)),
         },
-        ScriptRefusal::Memory => Ok(()),
+        ScriptRefusal::Memory => Ok(Vec::new(alloc)),
     }
 }
 
-/// Prints why the code in a file of this path is refused, and the explanation if requested.
-///
-/// If out of memory for the explanation, the line alone is printed and `Memory` is returned.
-pub(crate) fn show_code_refusal<'a, W: Write>(
+/// Prints why the code in a file of this path is refused, and explains it, as [`show_script_refusal`] does.
+pub(crate) fn show_code_refusal<'a, F: Files, W: Write>(
     alloc: Global,
-    path: &'a str,
+    path: &str,
     file: &[u8],
     fault: RunFault,
-    explain: bool,
+    explanation: Explanation,
+    files: &mut F,
     out: &mut W,
-) -> Result<(), Failure<'a>>
-    ensures { IfSome (code_refusal_text fault) (λ line. ShowsRefusal explain
-        (Appends (W.contents out.old) (W.contents out.new)) line result) }
-{
-    let notes = code_notes(alloc, path, file, &fault, explain);
-    show_refusal(&CodeRefusal(fault), notes, out)
-}
-
-/// Explains why a code is refused, if requested. The error is out of memory.
-#[inline(never)]
-fn code_notes(
-    alloc: Global,
-    path: &str,
-    file: &[u8],
-    fault: &RunFault,
-    explain: bool,
-) -> io::Result<Vec<u8>>
-    ensures unasked { IfOk result (λ notes. explain ≡ false → notes.items ≡ []) }
-    ensures failed { OnErr result (explain ≡ true) }
-{
-    let mut notes: Vec<u8> = Vec::new(alloc);
-    if explain {
-        let path = Escaped::in_line(path).to_string(alloc)?;
-        note_code(alloc, path.as_str(), file, fault, &mut notes)?;
-    }
-    Ok(notes)
-}
-
-/// Writes the explanation of a refused code; nothing if the file holds no code.
-fn note_code(
-    alloc: Global,
-    path: &str,
-    file: &[u8],
-    fault: &RunFault,
-    notes: &mut Vec<u8>,
-) -> io::Result<()> {
-    let RunFault::Refused { pc, cause, .. } = fault else {
+) -> Result<(), Failure<'a>> {
+    writeln!(out, "{fault}")?;
+    if explanation == Explanation::Nowhere {
         return Ok(());
+    }
+    let notes = notes_on_file(alloc, file, &fault);
+    show_notes(alloc, path, "", notes, explanation, files, out)
+}
+
+/// The notes on a refused code; none if the file holds no code. The error is out of memory.
+#[inline(never)]
+fn notes_on_file(alloc: Global, file: &[u8], fault: &RunFault) -> io::Result<Vec<Note>> {
+    let RunFault::Refused { pc, cause, .. } = fault else {
+        return Ok(Vec::new(alloc));
     };
     match decode(alloc, file) {
-        Ok(code) => explain_code(alloc, path, &code, *pc, *cause, notes),
+        Ok(code) => notes_on_code(alloc, &code, *pc, *cause),
         Err(CodeFault::Memory) => Err(io::Error::from(ErrorKind::OutOfMemory)),
-        Err(_fault) => Ok(()),
+        Err(_fault) => Ok(Vec::new(alloc)),
+    }
+}
+
+/// Prints notes on the text of this path behind the line of its refusal, or reports them on standard error.
+fn show_notes<'a, F: Files, W: Write>(
+    alloc: Global,
+    path: &str,
+    text: &str,
+    notes: io::Result<Vec<Note>>,
+    explanation: Explanation,
+    files: &mut F,
+    out: &mut W,
+) -> Result<(), Failure<'a>>
+    ensures world { Stays (F.world files.old) (F.world files.new) }
+{
+    let lines = lines_of(alloc, path, text, notes, explanation);
+    match (explanation, lines) {
+        (Explanation::WithLine, Err(_)) => Err(Failure::Memory),
+        (Explanation::WithLine | Explanation::WithErrorLine, Ok(lines)) => {
+            Ok(out.write_all(lines.as_slice())?)
+        }
+        (Explanation::OnError, Ok(lines)) => {
+            report_lines(lines.as_slice(), files);
+            Ok(())
+        }
+        _ => Ok(()),
+    }
+}
+
+/// The lines of notes on the text of this path. The error is out of memory.
+fn lines_of(
+    alloc: Global,
+    path: &str,
+    text: &str,
+    notes: io::Result<Vec<Note>>,
+    explanation: Explanation,
+) -> io::Result<Vec<u8>> {
+    let notes = notes?;
+    let path = Escaped::in_line(path).to_string(alloc)?;
+    let mut lines: Vec<u8> = Vec::new(alloc);
+    if explanation == Explanation::WithLine {
+        put_notes(path.as_str(), text, notes.as_slice(), &mut lines)?;
+    } else {
+        put_errors(path.as_str(), text, notes.as_slice(), &mut lines)?;
+    }
+    Ok(lines)
+}
+
+/// Reports lines on standard error, the last of which ends with a line feed.
+pub(crate) fn report_lines<F: Files>(lines: &[u8], files: &mut F)
+    ensures world { Stays (F.world files.old) (F.world files.new) }
+{
+    let Some((last, line)) = lines.split_last() else {
+        return;
+    };
+    if *last != b'\n' {
+        return;
+    }
+    if let Ok(text) = str::from_utf8(line) {
+        files.report(text);
     }
 }

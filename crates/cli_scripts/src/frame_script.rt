@@ -1,30 +1,27 @@
 //! `dabplan frame --script`: prints one frame of the initial configuration of a script.
 
-ghost use Rattle.std.specs.Prelude.{◌≡◌, ◌≢◌, ◌<◌, ◌++◌, ℕ, List, codes, take, IfErr, IfOk, IfSome, IsSome, OnOk};
+ghost use Rattle.std.specs.Prelude.{◌≡◌, ◌≢◌, ◌<◌, ℕ, List, codes, take, true, IfErr, IfOk, IfSome, OnOk};
 ghost use Rattle.std.specs.Io.KnownBytes.{Appends};
-ghost use Rattle.console.specs.World.{Stays};
 ghost use Rattle.mux_types.specs.declared.limits.TheConstants.{COUNTS};
-ghost use Rattle.console.specs.declared.exit.Status.TheVariants.{Done, Refused};
-ghost use Rattle.cli_streams.specs.Failing.{IsInputFailure, IsSilentUnread};
-ghost use Rattle.cli_streams.specs.Frame.{frame_text};
-ghost use Rattle.cli_scripts.specs.FramingScripts.{ShowsScriptFrame, IsFrameReason, count_of, frame_fault_text};
-ghost use Rattle.cli_scripts.specs.ScriptFrame.{GivesFrame};
-ghost use Rattle.cli_scripts.specs.Unprinted.{IsPrintFailure, IsUnprinted};
+ghost use Rattle.cli_scripts.specs.ScriptFrame.{GivesFrame, IsFrameReason};
+ghost use Rattle.cli_scripts.specs.Success.{FramesScript, count_of};
 ghost use Rattle.cli_scripts.specs.declared.frame_script.ScriptFrameFault.TheVariants.{Memory as Unavailable};
 
-use crate::diff::print_refused;
-use crate::frame_text::FrameText;
+use crate::compile::ScriptRefusal;
+use crate::explained::{Explanation, explain_script};
 use crate::script_file::{read_script_input, script_text};
-use crate::whole_text::print_text;
 use cli_streams::frame::{FrameFault, page_of, print_frame};
 use console::exit::{Failure, Status};
 use console::files::Files;
 use fib_codec::FibFrame;
 use mux_config::{Ensemble, soundness};
+use plan_verifier::Cause;
+use script_compiler::CompileFault;
 use script_config::{ItemFault, opening_of};
 use script_front::{ScriptFault, parse};
 use std::alloc::Global;
-use std::io::Write;
+use std::io::{self, Write};
+use thiserror::Error;
 
 /// The last CIF count; the command line refuses a higher one.
 const LAST_COUNT: u16 = 4999;
@@ -40,18 +37,24 @@ pub struct FrameScriptRequest<'a> {
     pub page: u16,
     /// Whether the FIBs are written as bytes rather than as digits.
     pub raw: bool,
+    /// Where the refusal of the script is explained.
+    pub explanation: Explanation,
 }
 
-/// Why a script gives no frame, in the order in which [`frame_of_script`] tests.
-#[derive(Clone, Copy, Debug, PartialEq, Eq)]
+/// Why a script gives no frame, in the order in which [`frame_of_script`] tests. Its text is the line that is printed.
+#[derive(Clone, Copy, Debug, PartialEq, Eq, Error)]
 pub enum ScriptFrameFault {
     /// The text is not a script.
+    #[error("{0}")]
     Script(ScriptFault),
     /// An item of the script has a fault.
+    #[error("{0}")]
     Item(ItemFault),
     /// The initial configuration is not sound, or has no page of this number.
+    #[error("{0}")]
     Frame(FrameFault),
     /// Out of memory.
+    #[error("no memory")]
     Memory,
 }
 
@@ -65,88 +68,75 @@ pub fn show_script_frame<'a, F: Files, W: Write>(
     files: &mut F,
     out: &mut W,
 ) -> Result<Status, Failure<'a>>
-    ensures input { request.now.script.now ≡ codes "-" → IfSome (F.known_input files.old)
-        (λ bytes. ShowsScriptFrame bytes request.now
-        (Appends (W.contents out.old) (W.contents out.new)) result) }
-    ensures file { request.now.script.now ≢ codes "-"
-        → IfSome (F.known files.old request.now.script.now) (λ bytes. ShowsScriptFrame bytes
-        request.now (Appends (W.contents out.old) (W.contents out.new)) result) }
-    ensures failed { IfErr result (IsInputFailure request.now.script.now) }
-    ensures unread { IfErr result (IsSilentUnread (W.contents out.old) (W.contents out.new)) }
-    ensures files { Stays (F.world files.old) (F.world files.new) }
+    ensures input { IfOk result (λ status. request.now.script.now ≡ codes "-"
+        → IfSome (F.known_input files.old) (λ script. FramesScript script request.now
+        (Appends (W.contents out.old) (W.contents out.new)) status)) }
+    ensures file { IfOk result (λ status. request.now.script.now ≢ codes "-"
+        → IfSome (F.known files.old request.now.script.now) (λ script. FramesScript script
+        request.now (Appends (W.contents out.old) (W.contents out.new)) status)) }
 {
-    match read_script_input(alloc, files, request.script) {
-        Ok(bytes) => show_frame_of(alloc, request, bytes.as_slice(), out),
-        Err(failure) => Err(failure),
-    }
+    let bytes = read_script_input(alloc, files, request.script)?;
+    show_frame_of(alloc, request, bytes.as_slice(), files, out)
 }
 
 /// The same for the first bytes of the script's file, which are all that was read of it.
-fn show_frame_of<'a, W: Write>(
+fn show_frame_of<'a, F: Files, W: Write>(
     alloc: Global,
     request: &FrameScriptRequest<'a>,
     bytes: &[u8],
+    files: &mut F,
     out: &mut W,
 ) -> Result<Status, Failure<'a>>
-    ensures shows { (file : List ℕ) → bytes.now ≡ take 1048581 file
-        → ShowsScriptFrame file request.now
-        (Appends (W.contents out.old) (W.contents out.new)) result }
-    ensures failed { IfErr result (IsInputFailure request.now.script.now) }
-    ensures unread { IfErr result (IsSilentUnread (W.contents out.old) (W.contents out.new)) }
+    ensures { IfOk result (λ status. (file : List ℕ) → bytes.now ≡ take 1048581 file
+        → FramesScript file request.now
+        (Appends (W.contents out.old) (W.contents out.new)) status) }
 {
-    let text = match script_text(bytes, request.script) {
-        Ok(text) => text,
-        Err(failure) => return Err(failure),
-    };
+    let text = script_text(bytes, request.script)?;
     match frame_of_script(alloc, text, count_of(request), request.page) {
-        Ok(frame) => print_fibs(alloc, &frame, request.raw, out),
-        Err(fault) => match fault {
-            ScriptFrameFault::Memory => Err(Failure::Memory),
-            _ => print_fault(alloc, fault, out),
-        },
+        Ok(frame) => {
+            print_fibs(&frame, request.raw, out)?;
+            Ok(Status::Done)
+        }
+        Err(ScriptFrameFault::Memory) => Err(Failure::Memory),
+        Err(fault) => {
+            writeln!(out, "{fault}")?;
+            let explanation = request.explanation.of_product();
+            let refusal = refusal_of(fault);
+            explain_script(
+                alloc,
+                request.script,
+                text,
+                refusal,
+                explanation,
+                files,
+                out,
+            )?;
+            Ok(Status::Refused)
+        }
+    }
+}
+
+/// The refusal by `compile` of a script that gives no frame for this reason; `Memory` where there is none.
+fn refusal_of(fault: ScriptFrameFault) -> ScriptRefusal {
+    match fault {
+        ScriptFrameFault::Script(fault) => ScriptRefusal::Script(fault),
+        ScriptFrameFault::Item(item) => ScriptRefusal::Plan(CompileFault::Refused {
+            line: item.line,
+            cause: Cause::Edit(item.fault),
+        }),
+        ScriptFrameFault::Frame(_) | ScriptFrameFault::Memory => ScriptRefusal::Memory,
     }
 }
 
 /// Prints the FIBs of a frame as bytes or as digits.
-fn print_fibs<'a, W: Write>(
-    alloc: Global,
-    frame: &FibFrame,
-    raw: bool,
-    out: &mut W,
-) -> Result<Status, Failure<'a>>
-    ensures printed { OnOk result (Appends (W.contents out.old) (W.contents out.new)
-        (frame_text raw frame.now)) }
-    ensures done { IfOk result (λ status. status ≡ Done) }
-    ensures failed { IfErr result
-        (IsUnprinted (Appends (W.contents out.old) (W.contents out.new))
-        (frame_text raw frame.now)) }
-    ensures why { IfErr result IsPrintFailure }
+fn print_fibs<W: Write>(frame: &FibFrame, raw: bool, out: &mut W) -> io::Result<()>
+    ensures { raw ≡ true → OnOk result
+        (Appends (W.contents out.old) (W.contents out.new) frame.now) }
 {
-    let mut text: Vec<u8> = Vec::new(alloc);
-    match print_frame(frame, raw, &mut text) {
-        Ok(()) => print_text(text.as_slice(), Status::Done, out),
-        Err(_) => Err(Failure::Memory),
-    }
-}
-
-/// Prints why a script gives no frame.
-fn print_fault<'a, W: Write>(
-    alloc: Global,
-    fault: ScriptFrameFault,
-    out: &mut W,
-) -> Result<Status, Failure<'a>>
-    ensures printed { OnOk result (IfSome (frame_fault_text fault) (λ line.
-        Appends (W.contents out.old) (W.contents out.new) (line ++ codes "\n"))) }
-    ensures refused { IfOk result (λ status. status ≡ Refused) }
-    ensures failed { IfErr result (λ failure. IfSome (frame_fault_text fault) (λ line.
-        IsUnprinted (Appends (W.contents out.old) (W.contents out.new))
-        (line ++ codes "\n") failure)) }
-    ensures why { IfErr result IsPrintFailure }
-{
-    let mut line: Vec<u8> = Vec::new(alloc);
-    match print_refused(&FrameText(fault), &mut line) {
-        Ok(_) => print_text(line.as_slice(), Status::Refused, out),
-        Err(_) => Err(Failure::Memory),
+    if raw {
+        out.write_all(frame.bytes())
+    } else {
+        print_frame(frame, false, out)
     }
 }
 
@@ -176,7 +166,6 @@ pub fn frame_of_script(
     requires { count < COUNTS }
     ensures gives { GivesFrame text.now count index result }
     ensures reason { IfErr result (λ fault. fault ≢ Unavailable → IsFrameReason fault) }
-    ensures line { IfErr result (λ fault. fault ≢ Unavailable → IsSome (frame_fault_text fault)) }
 {
     let script = match parse(alloc, text) {
         Ok(script) => script,

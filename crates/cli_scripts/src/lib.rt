@@ -2,17 +2,14 @@
 //! `--script`; and `verify`, whose refusals are explained as those of `compile` are.
 #![tactic(auto)]
 
+mod commit_blocks;
 pub mod compile;
 pub mod diff;
 pub mod explained;
 pub mod frame_script;
-mod frame_text;
 pub mod listen_script;
 pub mod map;
 mod notes;
-mod opening_text;
-mod refusal_text;
 pub mod script_file;
 pub mod script_map;
 pub mod verify;
-mod whole_text;

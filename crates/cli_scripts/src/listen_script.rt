@@ -1,35 +1,30 @@
 //! `dabplan listen --script`: prints the current configuration of a stream of FIBs as a script.
 
-ghost use Rattle.std.specs.Prelude.{◌≡◌, ◌≢◌, ℕ, ◌≤◌, ◌++◌, List, Option, codes, Ok, IfOk, IfErr, OnOk, IfSome};
+ghost use Rattle.std.specs.Prelude.{◌≡◌, ◌≢◌, ℕ, ◌≤◌, List, codes, IfOk, IfSome, OnOk};
 ghost use Rattle.std.specs.Io.KnownBytes.{Appends, Consumes, IsAtEnd};
-ghost use Rattle.console.specs.World.{World, Becomes};
-ghost use Rattle.console.specs.declared.exit.Status.TheVariants.{Done, Refused};
-ghost use Rattle.mux_types.specs.declared.entry.Entry.{Entry as EntryOf};
-ghost use Rattle.fib_reader.specs.Raw.{IsValue};
+ghost use Rattle.console.specs.declared.exit.Status.TheVariants.{Refused};
 ghost use Rattle.plan_code.specs.Program.{IsPlan};
 ghost use Rattle.script_config.specs.Texts.{IsTextOf};
-ghost use Rattle.stream_monitor.specs.Hinting.{IsHinted, OnlyHints};
-ghost use Rattle.cli_streams.specs.Failing.{IsInputFailure, IsSilentUnread};
-ghost use Rattle.cli_streams.specs.Lines.{head_line};
-ghost use Rattle.cli_streams.specs.Listing.{refusal_line};
-ghost use Rattle.cli_scripts.specs.ListenScript.{ShowsScript, ShowsNamed, clamped, header_of};
 ghost use Rattle.cli_scripts.specs.Naming.{HearsNamed, ended_named};
-ghost use Rattle.cli_scripts.specs.Unprinted.{IsUnprintedOf};
+ghost use Rattle.cli_scripts.specs.ScriptOfStream.{clamped, header_of, HasScript};
+ghost use Rattle.fib_reader.specs.Listening.{picture_of};
+ghost use Rattle.cli_scripts.specs.Success.{TellsScript};
 
-use crate::whole_text::print_text;
 use cli_streams::entries::print_head;
 use cli_streams::listen::{Heard, MOST_PIECES, StreamFault};
+use console::escaped::Escaped;
 use console::exit::{Failure, Status, pieces_of};
 use console::files::{FileFault, Files};
 use console::pieces::Pieces;
 use fib_codec::FrameLayout;
-use fib_reader::OwnedEntry;
-use mux_config::{Config, Entry};
+use fib_reader::{Listener, OwnedEntry, Picture};
+use mux_config::Config;
 use plan_code::Plan;
 use plan_code::limits::{LONGEST_NOTICE, LONGEST_PERIOD, SHORTEST_NOTICE};
 use script_config::{config_heard, config_text, eid_after, usual_period};
 use std::alloc::Global;
-use std::io::{self, Read, Write};
+use std::fmt::{self, Display, Formatter};
+use std::io::{Read, Write};
 use stream_monitor::Hints;
 
 /// The arguments of `listen --script`.
@@ -45,6 +40,26 @@ pub struct ListenScriptRequest<'a> {
     pub notice: u8,
     /// The budget, in instructions per frame, 1 to 255.
     pub budget: u8,
+    /// Whether the next configuration is printed, rather than the current one.
+    pub is_next: bool,
+}
+
+/// That a swap is announced in the stream of this path, for the count of this low part.
+#[derive(Clone, Copy)]
+struct SwapAnnounced<'p> {
+    path: &'p str,
+    low: u8,
+}
+
+impl Display for SwapAnnounced<'_> {
+    fn fmt<W: fmt::Write>(&self, f: &mut Formatter<W>) -> fmt::Result {
+        let low = self.low;
+        write!(
+            f,
+            "{}: swap announced, at low {low}: this is the configuration before it",
+            Escaped::in_line(self.path)
+        )
+    }
 }
 
 /// A decoded stream, and the ensemble of its last FIG 0/0.
@@ -57,34 +72,37 @@ pub struct Named {
 }
 
 /// Runs `listen --script`: prints the script of the current configuration at the end of the file, or of
-/// standard input if the path is `-`.
+/// standard input if the path is `-`; or of the next one, if that is asked for. Where a swap is awaited, standard error
+/// says that the current configuration is the one before it.
 ///
 /// `Read` if the file can't be read, or `Memory` if out of memory: nothing is printed then. `Output` if
 /// `out` fails: it has taken a part, from the first byte on.
-#[tactic(auto, using(crate::proofs::CutTexts::unread_silent, crate::proofs::CutTexts::unread_why, crate::proofs::ListeningScripts::unread, crate::proofs::ListeningScripts::shown, crate::proofs::ListeningScripts::shown_input, crate::proofs::ListeningScripts::shown_read, stream_monitor::proofs::Hinted::not_hinted))]
 pub fn show_script<'a, F: Files, W: Write>(
     alloc: Global,
     request: &ListenScriptRequest<'a>,
     files: &mut F,
     out: &mut W,
 ) -> Result<Status, Failure<'a>>
-    ensures input { request.now.file.now ≡ codes "-" → IfSome (F.known_input files.old) (λ stream.
-        ShowsScript request.now stream (Appends (W.contents out.old) (W.contents out.new)) result) }
-    ensures file { request.now.file.now ≢ codes "-"
-        → IfSome (F.known files.old request.now.file.now) (λ stream. ShowsScript request.now stream
-        (Appends (W.contents out.old) (W.contents out.new)) result) }
-    ensures failed { IfErr result (IsInputFailure request.now.file.now) }
-    ensures unread { IfErr result (IsSilentUnread (W.contents out.old) (W.contents out.new)) }
-    ensures hinted { Becomes (IsHinted request.now.file.now)
-        (F.world files.old) (F.world files.new) }
+    ensures input { IfOk result (λ status. request.now.file.now ≡ codes "-"
+        → IfSome (F.known_input files.old) (λ stream. TellsScript stream request.now
+        (Appends (W.contents out.old) (W.contents out.new)) status)) }
+    ensures file { IfOk result (λ status. request.now.file.now ≢ codes "-"
+        → IfSome (F.known files.old request.now.file.now) (λ stream. TellsScript stream
+        request.now (Appends (W.contents out.old) (W.contents out.new)) status)) }
 {
-    let mut pieces = match pieces_of(alloc, files, request.file) {
-        Ok(pieces) => pieces,
-        Err(failure) => return Err(failure),
-    };
+    let mut pieces = pieces_of(alloc, files, request.file)?;
     let mut hints = Hints::new(request.file);
     match name_of(&mut pieces, &mut hints, files) {
-        Ok(heard) => print_heard(alloc, request, &heard, out),
+        Ok(Ok(named)) => {
+            if let (false, Some(low)) = (request.is_next, named.heard.listener.swap_at()) {
+                files.report(SwapAnnounced {
+                    path: request.file,
+                    low,
+                });
+            }
+            print_named(alloc, request, &named, out)
+        }
+        Ok(Err(fault)) => print_fault(fault, out),
         Err(fault) => Err(Failure::of_file(fault, request.file)),
     }
 }
@@ -102,9 +120,6 @@ pub fn name_of<R: Read + Drop, F: Files>(
     ensures hears { IfOk result (λ given. (stream : List ℕ)
         × Consumes pieces.old.left pieces.new.left stream
         × IsAtEnd pieces.new.left × HearsNamed stream given) }
-    ensures hinted { (w : Option World)
-        → OnlyHints hints.old.path.now hints.old.watch.is_done w (F.world files.old)
-        → OnlyHints hints.old.path.now hints.new.watch.is_done w (F.world files.new) }
 {
     let mut heard = Heard::new();
     let mut eid = None;
@@ -139,30 +154,15 @@ fn ended(has_room: bool, heard: Heard, eid: Option<u16>) -> Result<Named, Stream
     }
 }
 
-/// Prints the script of a decoded stream, or why there is none.
-fn print_heard<'a, W: Write>(
-    alloc: Global,
-    request: &ListenScriptRequest<'a>,
-    heard: &Result<Named, StreamFault>,
-    out: &mut W,
-) -> Result<Status, Failure<'a>>
-    ensures { ShowsNamed request.now heard.now
-        (Appends (W.contents out.old) (W.contents out.new)) result }
-{
-    match heard {
-        Ok(named) => print_named(alloc, request, named, out),
-        Err(fault) => print_text(line_of(*fault), Status::Refused, out),
-    }
-}
-
-/// The line of a refusal.
-fn line_of(fault: StreamFault) -> &'static [u8]
-    ensures { result.now ≡ refusal_line fault }
+/// Prints why a stream is refused.
+fn print_fault<'a, W: Write>(fault: StreamFault, out: &mut W) -> Result<Status, Failure<'a>>
+    ensures { IfOk result (λ status. status ≡ Refused) }
 {
     match fault {
-        StreamFault::NotWhole => b"refused: not whole FIBs\n",
-        StreamFault::Full => b"refused: Full\n",
+        StreamFault::NotWhole => writeln!(out, "refused: not whole FIBs")?,
+        StreamFault::Full => writeln!(out, "refused: Full")?,
     }
+    Ok(Status::Refused)
 }
 
 /// Prints the script of a decoded stream with an ensemble, or why there is none.
@@ -172,15 +172,34 @@ fn print_named<'a, W: Write>(
     named: &Named,
     out: &mut W,
 ) -> Result<Status, Failure<'a>>
-    ensures { ShowsNamed request.now (Ok named.now)
-        (Appends (W.contents out.old) (W.contents out.new)) result }
+    ensures { IfOk result (HasScript request.now named.now
+        (Appends (W.contents out.old) (W.contents out.new))) }
 {
     let Some(eid) = named.eid else {
-        return print_text(b"refused: no ensemble\n", Status::Refused, out);
+        writeln!(out, "refused: no ensemble")?;
+        return Ok(Status::Refused);
     };
-    match config_heard(named.heard.listener.current()) {
-        Ok(config) => print_config(alloc, request, eid, &config, out),
-        Err(entry) => print_unscriptable(alloc, &entry, out),
+    if request.is_next && named.heard.listener.swap_at().is_none() {
+        writeln!(out, "refused: no swap is announced")?;
+        return Ok(Status::Refused);
+    }
+    match config_heard(picture_of(request, &named.heard.listener)) {
+        Ok(config) => {
+            print_config(alloc, request, eid, &config, out)?;
+            Ok(Status::Done)
+        }
+        Err(entry) => print_unscriptable(&entry, out),
+    }
+}
+
+/// The picture that is printed.
+fn picture_of<'l>(request: &ListenScriptRequest<'_>, listener: &'l Listener) -> &'l Picture
+    ensures { result.now ≡ picture_of request.now.is_next listener.now }
+{
+    if request.is_next {
+        listener.next()
+    } else {
+        listener.current()
     }
 }
 
@@ -191,21 +210,16 @@ fn print_config<'a, W: Write>(
     eid: u16,
     config: &Config,
     out: &mut W,
-) -> Result<Status, Failure<'a>>
-    ensures printed { OnOk result ((text : List ℕ)
+) -> Result<(), Failure<'a>>
+    ensures { OnOk result ((text : List ℕ)
         × IsTextOf (header_of request.now eid config.now) config.now text
         × Appends (W.contents out.old) (W.contents out.new) text) }
-    ensures done { IfOk result (λ status. status ≡ Done) }
-    ensures failed { IfErr result
-        (IsUnprintedOf (Appends (W.contents out.old) (W.contents out.new))
-        (IsTextOf (header_of request.now eid config.now) config.now)) }
 {
     let header = header_for(request, eid, config);
-    let text = match config_text(alloc, header, config) {
-        Ok(text) => text,
-        Err(_) => return Err(Failure::Memory),
-    };
-    print_text(text.as_str().as_bytes(), Status::Done, out)
+    match config_text(alloc, header, config) {
+        Ok(text) => Ok(out.write_all(text.as_str().as_bytes())?),
+        Err(_) => Err(Failure::Memory),
+    }
 }
 
 /// A number within bounds, or the nearest one.
@@ -243,33 +257,11 @@ fn header_for(request: &ListenScriptRequest<'_>, eid: u16, config: &Config) -> P
 }
 
 /// Prints that an entry is part of no configuration.
-fn print_unscriptable<'a, W: Write>(
-    alloc: Global,
-    entry: &OwnedEntry,
-    out: &mut W,
-) -> Result<Status, Failure<'a>>
-    ensures printed { OnOk result ((value : EntryOf) × IsValue entry.now value
-        × Appends (W.contents out.old) (W.contents out.new)
-        (codes "refused: cannot be written: " ++ head_line value)) }
-    ensures refused { IfOk result (λ status. status ≡ Refused) }
-    ensures failed { IfErr result
-        (IsUnprintedOf (Appends (W.contents out.old) (W.contents out.new))
-        (λ text. (value : EntryOf) × IsValue entry.now value
-        × (text ≡ codes "refused: cannot be written: " ++ head_line value))) }
+fn print_unscriptable<'a, W: Write>(entry: &OwnedEntry, out: &mut W) -> Result<Status, Failure<'a>>
+    ensures { IfOk result (λ status. status ≡ Refused) }
 {
     let value = entry.as_raw_entry().value();
-    let mut line: Vec<u8> = Vec::new(alloc);
-    match print_unsaid(&value, &mut line) {
-        Ok(()) => print_text(line.as_slice(), Status::Refused, out),
-        Err(_) => Err(Failure::Memory),
-    }
-}
-
-/// Prints the line of an entry that is part of no configuration.
-fn print_unsaid<W: Write>(value: &Entry, out: &mut W) -> io::Result<()>
-    ensures { OnOk result (Appends (W.contents out.old) (W.contents out.new)
-        (codes "refused: cannot be written: " ++ head_line value.now)) }
-{
     out.write_all(b"refused: cannot be written: ")?;
-    print_head(value, out)
+    print_head(&value, out)?;
+    Ok(Status::Refused)
 }

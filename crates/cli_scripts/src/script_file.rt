@@ -1,10 +1,9 @@
 //! Reads scripts, up to a bound that no script exceeds.
 
-ghost use Rattle.std.specs.Prelude.{◌≡◌, ◌≢◌, ℕ, List, codes, ◌<◌, ◌≤◌, take, length, IfOk, IfErr, OnOk, OnErr, IfSome, IsUtf8};
+ghost use Rattle.std.specs.Prelude.{◌≡◌, ◌≢◌, ℕ, List, codes, ◌<◌, ◌≤◌, take, length, IfOk, OnOk, OnErr, IfSome, IsUtf8};
 ghost use Rattle.std.specs.Io.KnownBytes.{Keeps};
-ghost use Rattle.console.specs.Failures.{IsReadFailure};
 ghost use Rattle.console.specs.World.{Stays};
-ghost use Rattle.cli_scripts.specs.FileTexts.{IsReadOf, IsUnreadable};
+ghost use Rattle.cli_scripts.specs.FileTexts.{IsReadOf};
 
 use console::exit::{Failure, read_file, read_input};
 use console::files::Files;
@@ -27,7 +26,6 @@ pub fn read_script<'a, F: Files>(
     ensures known { (other : List ℕ)
         → Keeps (F.known files.old other) (F.known files.new other) }
     ensures world { Stays (F.world files.old) (F.world files.new) }
-    ensures fault { IfErr result (IsReadFailure path.now) }
 {
     read_file(alloc, files, path, READ)
 }
@@ -43,7 +41,6 @@ pub fn read_script_input<'a, F: Files>(
     ensures file { path.now ≢ codes "-" → IfOk result (λ read.
         IfSome (F.known files.old path.now) (λ bytes. read.items ≡ take 1048581 bytes)) }
     ensures world { Stays (F.world files.old) (F.world files.new) }
-    ensures fault { IfErr result (IsReadFailure path.now) }
 {
     read_input(alloc, files, path, READ)
 }
@@ -71,7 +68,6 @@ pub fn text_of<'b, 'a>(bytes: &'b [u8], path: &'a str) -> Result<&'b str, Failur
     ensures text { IfOk result (λ text. text.now ≡ bytes.now) }
     ensures utf8 { OnOk result (IsUtf8 bytes.now) }
     ensures fault { OnErr result (IsUtf8 bytes.now → ⊥) }
-    ensures named { IfErr result (IsUnreadable path.now) }
 {
     match str::from_utf8(bytes) {
         Ok(text) => Ok(text),
@@ -84,11 +80,7 @@ pub fn text_of<'b, 'a>(bytes: &'b [u8], path: &'a str) -> Result<&'b str, Failur
 pub(crate) fn script_text<'b, 'a>(bytes: &'b [u8], path: &'a str) -> Result<&'b str, Failure<'a>>
     ensures text { (file : List ℕ) → bytes.now ≡ take 1048581 file
         → IfOk result (λ text. IsReadOf file text.now) }
-    ensures named { IfErr result (IsUnreadable path.now) }
 {
     let kept = whole_characters(bytes);
-    match text_of(kept, path) {
-        Ok(text) => Ok(text),
-        Err(failure) => Err(failure),
-    }
+    text_of(kept, path)
 }

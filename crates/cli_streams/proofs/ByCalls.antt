@@ -1,11 +1,13 @@
 -- Merged frames are what the calls of a merger make of the plan's FIBs.
-use Rattle.std.proofs.Common.{◌≡◌, ℕ, List, [], ◌∷◌, ◌++◌, map, drop, refl, sym, ap, ◌∙◌, arith, append_assoc}
+use Rattle.std.proofs.Common.{◌≡◌, ℕ, List, [], ◌∷◌, ◌++◌, map, drop, refl, sym, ap, ◌∙◌, arith, append_assoc, subst}
 use Rattle.std.proofs.lemmas.List.{map-append}
+use Rattle.fib_reader.specs.Listening.{Listening}
 use Rattle.stream_check.specs.Frames.{Fib, Reading}
 use Rattle.fig_merge.specs.Taking.{Merging, IsMerging, nothing_taken, after_take}
 use Rattle.fig_merge.specs.Filling.{merged, carried_by, after_fill}
 use Rattle.fig_merge.specs.Steps.{Step, Take, Fill, after_steps}
-use Rattle.fig_merge.specs.Passing.{FilledIsRead, FilledIsCheckedAlike, AreFilled, AreFilledFrames, fibs_in, sent_in}
+use Rattle.fig_merge.specs.Passing.{FilledIsRead, FilledIsCheckedAlike, agreeing, hearing_fibs, AreFilled, AreFilledFrames, fibs_in, sent_in}
+use Rattle.fig_merge.proofs.Alike.{take_heard, fill_heard, carried_agree}
 use Rattle.fig_merge.proofs.Carried.{merging_step}
 use Rattle.cli_streams.specs.Merging.{after_taking, after_filling, filled_frame, next_of, merged_frames, fibs_in_frames, calls_of, MergesByCalls, MergedAreFilled, MergedAreCheckedAlike}
 
@@ -64,25 +66,43 @@ merging_filled : (r : Reading) (fibs : List (List ℕ)) (m : Merging) → IsMerg
 merging_filled r [] m h = h
 merging_filled r (fib ∷ fibs) m h = merging_filled r fibs (after_fill (r.read fib) m) (merging_step r (Fill fib) m h)
 
-frame_is_filled : FilledIsRead → (r : Reading) (fibs : List (List ℕ)) (m : Merging) → IsMerging m → AreFilled (map r.read fibs) (map r.read (filled_frame r fibs m))
+-- what the merger has heard
+heard_taking : (r : Reading) (fibs : List (List ℕ)) (m : Merging) → (after_taking r fibs m).heard ≡ m.heard
+heard_taking r [] m = refl
+heard_taking r (fib ∷ fibs) m = heard_taking r fibs (after_take (r.read fib) m) ∙ take_heard (r.read fib) m
+
+heard_filling : (r : Reading) (fibs : List (List ℕ)) (m : Merging) → (after_filling r fibs m).heard ≡ hearing_fibs (map r.read fibs) m.heard
+heard_filling r [] m = refl
+heard_filling r (fib ∷ fibs) m = heard_filling r fibs (after_fill (r.read fib) m) ∙ ap (hearing_fibs (map r.read fibs)) (fill_heard (r.read fib) m)
+
+frame_is_filled : FilledIsRead → (r : Reading) (fibs : List (List ℕ)) (m : Merging) → IsMerging m → AreFilled agreeing m.heard (map r.read fibs) (map r.read (filled_frame r fibs m))
 frame_is_filled law r [] m h = refl
 frame_is_filled law r (fib ∷ fibs) m h =
     let later = after_fill (r.read fib) m in
-    let sent = map r.read (filled_frame r fibs later) in
-    (carried_by (r.read fib) m, sent, ap (λ (f : Fib). f ∷ sent) (law r fib m h), frame_is_filled law r fibs later (merging_step r (Fill fib) m h))
+    let sent = map r.read (filled_frame r fibs later) in (
+      carried_by (r.read fib) m,
+      sent,
+      ap (λ (f : Fib). f ∷ sent) (law r fib m h),
+      carried_agree (r.read fib) m,
+      subst (λ (l : Listening). AreFilled agreeing l (map r.read fibs) sent) (fill_heard (r.read fib) m) (frame_is_filled law r fibs later (merging_step r (Fill fib) m h)),
+    )
 
 frames_are_filled : FilledIsRead → (r : Reading) (plan other : List (List (List ℕ))) (m : Merging) → IsMerging m
-    → AreFilledFrames (map (map r.read) plan) (map (map r.read) (merged_frames r plan other m))
+    → AreFilledFrames agreeing m.heard (map (map r.read) plan) (map (map r.read) (merged_frames r plan other m))
 frames_are_filled law r [] other m h = refl
 frames_are_filled law r (frame ∷ frames) other m h =
     let taken = after_taking r (next_of other) m in
     let later = after_filling r frame taken in
-    let valid = merging_taken r (next_of other) m h in (
-      map r.read (filled_frame r frame taken),
-      map (map r.read) (merged_frames r frames (drop 1 other) later),
+    let valid = merging_taken r (next_of other) m h in
+    let before = heard_taking r (next_of other) m in
+    let first = map r.read (filled_frame r frame taken) in
+    let others = map (map r.read) (merged_frames r frames (drop 1 other) later) in (
+      first,
+      others,
       refl,
-      frame_is_filled law r frame taken valid,
-      frames_are_filled law r frames (drop 1 other) later (merging_filled r frame taken valid),
+      subst (λ (l : Listening). AreFilled agreeing l (map r.read frame) first) before (frame_is_filled law r frame taken valid),
+      subst (λ (l : Listening). AreFilledFrames agreeing l (map (map r.read) frames) others) (heard_filling r frame taken ∙ ap (hearing_fibs (map r.read frame)) before)
+          (frames_are_filled law r frames (drop 1 other) later (merging_filled r frame taken valid)),
     )
 
 pub merged_are_filled : FilledIsRead → MergedAreFilled

@@ -1,22 +1,18 @@
--- Merging two streams: one more frame, and how it ends.
-use Rattle.std.proofs.Common.{◌≡◌, ℕ, ◌+◌, Bool, true, false, List, [], ◌∷◌, ◌++◌, length, map, refl, sym, ap, subst, ◌∙◌, append-nil, length-append}
-use Rattle.std.specs.Prelude.{Option, Ok, Err}
+-- Merging two streams: one more frame, and the end of the plan's.
+use Rattle.std.proofs.Common.{◌≡◌, ℕ, ◌+◌, Bool, true, false, List, [], ◌∷◌, ◌++◌, length, map, sym, ap, subst, ◌∙◌, append-nil, length-append}
+use Rattle.std.specs.Prelude.{Option, Ok}
 use Rattle.std.specs.List.{AllByRecursion, concat}
 use Rattle.std.specs.Io.KnownBytes.{Appends, Consumes, IsAtEnd}
 use Rattle.std.proofs.KnownBytes.{Appends-trans, Consumes-trans}
 use Rattle.fib_codec.proofs.Lengths.{AllByRecursion-append}
 use Rattle.stream_check.specs.Frames.{Reading}
 use Rattle.fig_merge.specs.Taking.{Merging, nothing_taken}
-use Rattle.console.specs.declared.exit.Failure.{Failure}
 use Rattle.console.specs.declared.exit.Status.{Status}
 use Rattle.cli_streams.specs.Stream.{fibs_of_stream}
-use Rattle.cli_streams.specs.Merging.{filled_frame, merged_frames, bytes_of}
+use Rattle.cli_streams.specs.Merging.{merged_frames, bytes_of}
 use Rattle.cli_streams.specs.Merged.{after_frame_filled, frame_filled, ReadsFrame, TakesFrames, TakesNext, summary_of, Merges}
-use Rattle.cli_streams.specs.declared.merge.MergeFault.{MergeFault}
-use Rattle.cli_streams.specs.declared.merge.MergeFault.TheVariants.{Failed, NotWhole, Write}
 use Rattle.cli_streams.specs.declared.merge.MergeSummary.{MergeSummary}
-use Rattle.cli_streams.proofs.FirstFrames.{AreSized}
-use Rattle.cli_streams.proofs.MergingStreams.{MergesSoFar, concat_next, frames_next, merger_next, bytes_of_all}
+use Rattle.cli_streams.proofs.MergingStreams.{MergesSoFar, concat_next, merger_next, bytes_of_all}
 
 -- a frame of the plan that was read, and filled behind the FIGs of the multiplexer's next one
 pub record MergesOne (size : ℕ) (plan_left other other_left : Option (List ℕ)) (plan_now other_now : Option (List ℕ)) (is_open : Bool) (status : Status) (count : ℕ) (taken : List (List ℕ)) (old mid new : Merging) (frame filled : List ℕ) : Type 0 where
@@ -26,29 +22,29 @@ pub record MergesOne (size : ℕ) (plan_left other other_left : Option (List ℕ
   pub filled_is : (r : Reading) → filled ≡ frame_filled r frame mid
   pub merger : (r : Reading) → new ≡ after_frame_filled r frame mid
 
-pub whole_read : (path : List ℕ) (size : ℕ) (left now : Option (List ℕ)) (frame : List ℕ) (more : Bool) → more ≡ true → ReadsFrame path size left now frame (Ok more) → Consumes left now frame
-whole_read path size left now frame true is read = read
-whole_read path size left now frame false is read = absurd (cc)
+pub whole_read : (left now : Option (List ℕ)) (frame : List ℕ) (more : Bool) → more ≡ true → ReadsFrame left now frame (Ok more) → Consumes left now frame
+whole_read left now frame true is read = read
+whole_read left now frame false is read = absurd (cc)
 
-pub none_read : (path : List ℕ) (size : ℕ) (left now : Option (List ℕ)) (frame : List ℕ) (more : Bool) → more ≡ false → ReadsFrame path size left now frame (Ok more) → Consumes left now [] × IsAtEnd now
-none_read path size left now frame false is read = read
-none_read path size left now frame true is read = absurd (cc)
+pub none_read : (left now : Option (List ℕ)) (frame : List ℕ) (more : Bool) → more ≡ false → ReadsFrame left now frame (Ok more) → Consumes left now [] × IsAtEnd now
+none_read left now frame false is read = read
+none_read left now frame true is read = absurd (cc)
 
 -- what is taken of a frame of this size, whatever was before
 abbrev pub TakesOn : ℕ → (left now : Option (List ℕ)) → (was_open is_open : Bool) → (was status : Status) → (old new : Merging) → Type 0
 TakesOn size left now was_open is_open was status old new =
     (before : Option (List ℕ)) (count : ℕ) (taken : List (List ℕ)) → TakesFrames size before left was_open was count taken → TakesNext size before now is_open status count taken old new
 
-pub one_of : (path had : List ℕ) {size count : ℕ} {plan plan_left plan_now other other_left other_now old written : Option (List ℕ)} {was_open is_open more : Bool} {before status : Status} {m mid new : Merging} {frame filled : List ℕ}
+pub one_of : (had : List ℕ) {size count : ℕ} {plan plan_left plan_now other other_left other_now old written : Option (List ℕ)} {was_open is_open more : Bool} {before status : Status} {m mid new : Merging} {frame filled : List ℕ}
     → (so_far : MergesSoFar size plan plan_left other other_left old written was_open before count m) → length had ≡ size → length frame ≡ length had → more ≡ true
-    → ReadsFrame path (length had) plan_left plan_now frame (Ok more) → TakesOn (length frame) other_left other_now was_open is_open before status m mid
+    → ReadsFrame plan_left plan_now frame (Ok more) → TakesOn (length frame) other_left other_now was_open is_open before status m mid
     → ((r : Reading) → filled ≡ frame_filled r frame mid) → ((r : Reading) → new ≡ after_frame_filled r frame mid)
     → MergesOne size plan_left other other_left plan_now other_now is_open status count so_far.taken m mid new frame filled
-one_of path had {size} {count} {plan} {plan_left} {plan_now} {other} {other_left} {other_now} {old} {written} {was_open} {is_open} {more} {before} {status} {m} {mid} {new} {frame} {filled} so_far same kept is read takes fills after =
+one_of had {size} {count} {plan} {plan_left} {plan_now} {other} {other_left} {other_now} {old} {written} {was_open} {is_open} {more} {before} {status} {m} {mid} {new} {frame} {filled} so_far same kept is read takes fills after =
     let sized : TakesOn size other_left other_now was_open is_open before status m mid = subst (λ s. TakesOn s other_left other_now was_open is_open before status m mid) (kept ∙ same) takes in
     record {
       whole = kept ∙ same;
-      bytes = whole_read path (length had) plan_left plan_now frame more is read;
+      bytes = whole_read plan_left plan_now frame more is read;
       takes = sized other count so_far.taken so_far.takes;
       filled_is = fills;
       merger = after;
@@ -72,14 +68,6 @@ module _ {size count : ℕ} {plan plan_left plan_now other other_left other_now 
   pub consumed : Consumes plan plan_now (concat frames)
   consumed = subst (Consumes plan plan_now) (sym (concat_next so_far.frames frame)) (Consumes-trans plan plan_left plan_now (concat so_far.frames) frame so_far.bytes one.bytes)
 
-  -- its bytes are those of a frame
-  pub all_sized : (r : Reading) → length filled ≡ size → AreSized size (merged_frames r (map fibs_of_stream frames) (map fibs_of_stream taken) nothing_taken)
-  all_sized r same =
-      let one_sized : length (frame_filled r frame mid) ≡ size = ap length (sym (one.filled_is r)) ∙ same in
-      subst (AreSized size)
-      (sym (frames_next r count so_far.frames so_far.taken one.takes.next frame m mid new so_far.number one.takes.in_turn (so_far.merger r) (one.takes.after r)))
-      (AllByRecursion-append (λ f. length (concat f) ≡ size) _ (filled_frame r (fibs_of_stream frame) mid ∷ []) (so_far.sized r) (one_sized, tt))
-
   -- all of it is written
   pub text : (r : Reading) → Appends written now filled → Appends old now (bytes_of (merged_frames r (map fibs_of_stream frames) (map fibs_of_stream taken) nothing_taken))
   text r put =
@@ -88,8 +76,8 @@ module _ {size count : ℕ} {plan plan_left plan_now other other_left other_now 
       ∙ sym (bytes_of_all r count so_far.frames so_far.taken one.takes.next frame m mid new so_far.number one.takes.in_turn (so_far.merger r) (one.takes.after r)))
       (Appends-trans old written now _ filled (so_far.written r) put)
 
-  abbrev pub one_more : length filled ≡ size → Appends written now filled → MergesSoFar size plan plan_now other other_now old now is_open status (count + 1) new
-  one_more same put = record {
+  abbrev pub one_more : Appends written now filled → MergesSoFar size plan plan_now other other_now old now is_open status (count + 1) new
+  one_more put = record {
     frames = frames;
     taken = taken;
     number = long;
@@ -97,7 +85,6 @@ module _ {size count : ℕ} {plan plan_left plan_now other other_left other_now 
     bytes = consumed;
     takes = one.takes.takes;
     merger = λ r. merger_next r count so_far.frames so_far.taken one.takes.next frame m mid new so_far.number one.takes.in_turn (so_far.merger r) (one.takes.after r) (one.merger r);
-    sized = λ r. all_sized r same;
     written = λ r. text r put;
   }
 
@@ -107,65 +94,18 @@ module _ {size count : ℕ} {plan plan_left other other_left old written : Optio
   number_taken = subst (λ n. TakesFrames size other other_left is_open status n so_far.taken) (sym so_far.number) so_far.takes
 
   -- the plan's frames end
-  pub ends_whole : (path : List ℕ) (plan_now : Option (List ℕ)) (summary : MergeSummary) → Consumes plan_left plan_now [] → IsAtEnd plan_now → summary ≡ summary_of count m
-      → Merges path size plan other old written status (Ok summary)
-  ends_whole path plan_now summary consumed end is = record {
+  pub ends_whole : (plan_now : Option (List ℕ)) (summary : MergeSummary) → Consumes plan_left plan_now [] → IsAtEnd plan_now → summary ≡ summary_of count m
+      → Merges size plan other old written status summary
+  ends_whole plan_now summary consumed end is = record {
     frames = so_far.frames;
     taken = so_far.taken;
-    cut = [];
     plan_left = plan_now;
     other_left = other_left;
     is_open = is_open;
     whole = so_far.whole;
-    bytes = Consumes-trans plan plan_left plan_now (concat so_far.frames) [] so_far.bytes consumed;
+    bytes = subst (Consumes plan plan_now) (append-nil (concat so_far.frames)) (Consumes-trans plan plan_left plan_now (concat so_far.frames) [] so_far.bytes consumed);
+    end = end;
     takes = number_taken;
-    ends = λ r. (refl, end, is ∙ ap (λ n. summary_of n m) (sym so_far.number) ∙ ap (summary_of (length so_far.frames)) (so_far.merger r));
-    written = so_far.written;
-  }
-
-  -- they can't be read on
-  pub ends_reading : (path frame : List ℕ) (plan_now : Option (List ℕ)) (fault : MergeFault) → ReadsFrame path size plan_left plan_now frame (Err fault)
-      → Merges path size plan other old written status (Err fault)
-  ends_reading path frame plan_now (NotWhole p) (is, (cut, some, less, consumed, end)) = record {
-    frames = so_far.frames;
-    taken = so_far.taken;
-    cut = cut;
-    plan_left = plan_now;
-    other_left = other_left;
-    is_open = is_open;
-    whole = so_far.whole;
-    bytes = Consumes-trans plan plan_left plan_now (concat so_far.frames) cut so_far.bytes consumed;
-    takes = number_taken;
-    ends = λ r. (is, some, less, end);
-    written = so_far.written;
-  }
-  ends_reading path frame plan_now (Failed f) (unread, (part, consumed)) = record {
-    frames = so_far.frames;
-    taken = so_far.taken;
-    cut = part;
-    plan_left = plan_now;
-    other_left = other_left;
-    is_open = is_open;
-    whole = so_far.whole;
-    bytes = Consumes-trans plan plan_left plan_now (concat so_far.frames) part so_far.bytes consumed;
-    takes = number_taken;
-    ends = λ r. tt;
-    written = so_far.written;
-  }
-  ends_reading path frame plan_now (Write n bytes) wrong = absurd wrong
-
-  -- more frames than are counted
-  pub ends_early : (path : List ℕ) (failure : Failure) → Merges path size plan other old written status (Err (Failed failure))
-  ends_early path failure = record {
-    frames = so_far.frames;
-    taken = so_far.taken;
-    cut = [];
-    plan_left = plan_left;
-    other_left = other_left;
-    is_open = is_open;
-    whole = so_far.whole;
-    bytes = subst (Consumes plan plan_left) (sym (append-nil (concat so_far.frames))) so_far.bytes;
-    takes = number_taken;
-    ends = λ r. tt;
+    counts = λ r. is ∙ ap (λ n. summary_of n m) (sym so_far.number) ∙ ap (summary_of (length so_far.frames)) (so_far.merger r);
     written = so_far.written;
   }

@@ -1,8 +1,8 @@
 -- Merging two streams: the frames so far, one more of each, and how it ends.
 use Rattle.std.proofs.Common.{◌≡◌, ℕ, suc, ◌≤◌, ◌⊎◌, Bool, true, inl, inr, List, [], ◌∷◌, ◌++◌, length, map, refl, sym, ap, subst, ◌∙◌, arith, append-nil}
-use Rattle.std.specs.Prelude.{Option}
+use Rattle.std.specs.Prelude.{Option, None, Some}
 use Rattle.std.specs.List.{AllByRecursion, concat}
-use Rattle.std.specs.Io.KnownBytes.{Appends, Consumes, Keeps}
+use Rattle.std.specs.Io.KnownBytes.{Appends, Consumes, Keeps, append_known}
 use Rattle.std.proofs.KnownBytes.{Appends-kept, Consumes-nil}
 use Rattle.std.proofs.lemmas.List.{map-append}
 use Rattle.std.proofs.lemmas.List.Folds.{concat-append}
@@ -14,7 +14,6 @@ use Rattle.cli_streams.specs.Stream.{fibs_of_stream}
 use Rattle.cli_streams.specs.Merging.{after_taking, after_filling, filled_frame, next_of, merged_frames, after_merging, bytes_of}
 use Rattle.cli_streams.specs.Merged.{after_frame_filled, frame_filled, TakesFrames}
 use Rattle.cli_streams.proofs.Merging.{merged_next, after_next, bytes_next}
-use Rattle.cli_streams.proofs.FirstFrames.{AreSized}
 
 pub record MergesSoFar (size : ℕ) (plan plan_left other other_left old new : Option (List ℕ)) (is_open : Bool) (status : Status) (count : ℕ) (m : Merging) : Type 0 where
   pub frames : List (List ℕ)
@@ -24,7 +23,6 @@ pub record MergesSoFar (size : ℕ) (plan plan_left other other_left old new : O
   pub bytes : Consumes plan plan_left (concat frames)
   pub takes : TakesFrames size other other_left is_open status count taken
   pub merger : (r : Reading) → m ≡ after_merging r (map fibs_of_stream frames) (map fibs_of_stream taken) nothing_taken
-  pub sized : (r : Reading) → AreSized size (merged_frames r (map fibs_of_stream frames) (map fibs_of_stream taken) nothing_taken)
   pub written : (r : Reading) → Appends old new (bytes_of (merged_frames r (map fibs_of_stream frames) (map fibs_of_stream taken) nothing_taken))
 
 -- before the first frame
@@ -44,9 +42,13 @@ none_merged size plan other old now is_open status m none opened done new = reco
   bytes = Consumes-nil plan;
   takes = none_taken size other is_open status opened done;
   merger = λ r. new;
-  sized = λ r. tt;
   written = λ r. none;
 }
+
+-- nothing is held at first
+pub none_held : (known : Option (List ℕ)) (held : List ℕ) → held ≡ [] → Appends known (append_known known held) []
+none_held None held none = tt
+none_held (Some x) held none = ap (λ (l : List ℕ). x ++ l) none
 
 -- what was finished so far is kept
 abbrev pub kept_on : {size count : ℕ} {plan plan_left other other_left old now kept : Option (List ℕ)} {is_open : Bool} {status : Status} {m : Merging}
@@ -60,7 +62,6 @@ kept_on {size} {count} {plan} {plan_left} {other} {other_left} {old} {now} {kept
   bytes = so_far.bytes;
   takes = so_far.takes;
   merger = so_far.merger;
-  sized = so_far.sized;
   written = λ r. Appends-kept old now kept _ (so_far.written r) keeps;
 }
 

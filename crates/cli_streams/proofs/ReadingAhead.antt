@@ -1,7 +1,9 @@
 -- Bytes that are buffered ahead of a source.
-use Rattle.std.proofs.Common.{◌≡◌, ℕ, ◌+◌, ◌-◌, ◌≤◌, List, [], ◌++◌, Option, None, Some, arith, length, length-take, take, drop, slice_range, sym, ap, ◌∙◌, append_assoc, take-append-drop}
+use Rattle.std.proofs.Common.{◌≡◌, ℕ, ◌+◌, ◌-◌, ◌≤◌, List, [], ◌++◌, Option, None, Some, arith, length, length-take, take, drop, slice_range, sym, ap, ◌∙◌, subst, append_assoc, take-append-drop}
 use Rattle.std.specs.Io.KnownBytes.{Consumes, IsAtEnd, Keeps, prepend_known}
+use Rattle.std.proofs.KnownBytes.{Keeps-refl}
 use Rattle.std.proofs.lemmas.List.{drop-take}
+use Rattle.stream_monitor.specs.Buffered.{Buffered, left_of}
 use lib.Seq.{drop-drop, drop-length}
 
 -- the buffered bytes behind the first ones
@@ -31,3 +33,9 @@ none_passed (Some x) (Some y) kept = sym kept
 pub all_passed : (behind : Option (List ℕ)) (ahead : List ℕ) → IsAtEnd behind → IsAtEnd (prepend_known (drop (length ahead) ahead) behind)
 all_passed None ahead end = tt
 all_passed (Some y) ahead end = ap (λ l. l ++ y) (drop-length ahead) ∙ end
+
+-- what is passed over of what is buffered
+pub passed_over : (old new : Buffered) (n : ℕ) → new.ahead ≡ drop n old.ahead → new.behind ≡ old.behind → (part : List ℕ) × Consumes (left_of old) (left_of new) part
+passed_over old new n ahead behind =
+    let left : left_of new ≡ prepend_known (drop n old.ahead) old.behind = ap (λ l. prepend_known l new.behind) ahead ∙ ap (prepend_known (drop n old.ahead)) behind in
+    (take n old.ahead, subst (λ (x : Option (List ℕ)). Consumes (left_of old) x (take n old.ahead)) (sym left) (passed (left_of old) old.behind old.ahead n (Keeps-refl (left_of old))))

@@ -13,7 +13,6 @@ use Rattle.console.specs.declared.exit.Status.{Status}
 use Rattle.console.specs.declared.exit.Status.TheVariants.{Done, Refused, Misused, Faulty}
 use Rattle.cli_streams.specs.Merged.{ReadsFrame, TakesAs, TakesFrames, TakesNext}
 use Rattle.cli_streams.specs.declared.merge.MergeFault.{MergeFault}
-use Rattle.cli_streams.specs.declared.merge.MergeFault.TheVariants.{Failed, NotWhole, Write}
 use borrow.Rule.Slice.PartMut.{put_mid}
 
 -- ---- one more read
@@ -48,11 +47,11 @@ closed_next size before left false Misused count taken m closed t = absurd t.end
 closed_next size before left false Faulty count taken m closed t = absurd t.ends
 
 -- there is one, or no more
-pub read_next : (path : List ℕ) (size : ℕ) (before left now : Option (List ℕ)) (is_open more : Bool) (status : Status) (count : ℕ) (taken : List (List ℕ)) (frame : List ℕ) (old new : Merging)
-    → is_open ≡ true → length frame ≡ size → ReadsFrame path size left now frame (Ok more) → TakesAs frame (Ok more) old new
+pub read_next : (size : ℕ) (before left now : Option (List ℕ)) (is_open more : Bool) (status : Status) (count : ℕ) (taken : List (List ℕ)) (frame : List ℕ) (old new : Merging)
+    → is_open ≡ true → length frame ≡ size → ReadsFrame left now frame (Ok more) → TakesAs frame (Ok more) old new
     → TakesFrames size before left is_open status count taken → TakesNext size before now more status count taken old new
-read_next path size before left now false more status count taken frame old new opened same reads takes t = absurd (cc)
-read_next path size before left now true true Done count taken frame old new opened same reads takes t =
+read_next size before left now false more status count taken frame old new opened same reads takes t = absurd (cc)
+read_next size before left now true true Done count taken frame old new opened same reads takes t =
     let many : length taken ≡ count = t.ends.0 in
     let all : concat taken ++ t.cut ≡ concat taken = ap (λ (l : List ℕ). concat taken ++ l) t.ends.1 ∙ append-nil (concat taken) in
     let joined : concat (taken ++ frame ∷ []) ++ [] ≡ concat taken ++ frame =
@@ -68,7 +67,7 @@ read_next path size before left now true true Done count taken frame old new ope
       in_turn = inl many;
       after = takes;
     }
-read_next path size before left now true false Done count taken frame old new opened same reads takes t =
+read_next size before left now true false Done count taken frame old new opened same reads takes t =
     let many : length taken ≡ count = t.ends.0 in
     none_next (omega (arith, many)) (record {
       cut = [];
@@ -76,30 +75,24 @@ read_next path size before left now true false Done count taken frame old new op
       bytes = subst (Consumes before now) (append-nil (concat taken ++ t.cut) ∙ ap (λ (l : List ℕ). concat taken ++ l) t.ends.1) (Consumes-trans before left now (concat taken ++ t.cut) [] t.bytes reads.0);
       ends = (omega (arith, many), refl, reads.1);
     }) takes
-read_next path size before left now true more Refused count taken frame old new opened same reads takes t = absurd t.ends
-read_next path size before left now true more Misused count taken frame old new opened same reads takes t = absurd t.ends
-read_next path size before left now true more Faulty count taken frame old new opened same reads takes t = absurd t.ends
+read_next size before left now true more Refused count taken frame old new opened same reads takes t = absurd t.ends
+read_next size before left now true more Misused count taken frame old new opened same reads takes t = absurd t.ends
+read_next size before left now true more Faulty count taken frame old new opened same reads takes t = absurd t.ends
 
 -- they can't be read on
-part_of : (path : List ℕ) (size : ℕ) (left now : Option (List ℕ)) (frame : List ℕ) (fault : MergeFault) → ReadsFrame path size left now frame (Err fault)
-    → (part : List ℕ) × Consumes left now part
-part_of path size left now frame (NotWhole p) (is, (cut, some, less, consumed, end)) = (cut, consumed)
-part_of path size left now frame (Failed f) (unread, read) = read
-part_of path size left now frame (Write frames bytes) wrong = absurd wrong
-
-pub failed_next : (path : List ℕ) (size : ℕ) (before left now : Option (List ℕ)) (is_open : Bool) (status : Status) (count : ℕ) (taken : List (List ℕ)) (frame : List ℕ) (fault : MergeFault) (old new : Merging)
-    → is_open ≡ true → ReadsFrame path size left now frame (Err fault) → new ≡ old
+pub failed_next : (size : ℕ) (before left now : Option (List ℕ)) (is_open : Bool) (status : Status) (count : ℕ) (taken : List (List ℕ)) (frame : List ℕ) (fault : MergeFault) (old new : Merging)
+    → is_open ≡ true → ReadsFrame left now frame (Err fault) → new ≡ old
     → TakesFrames size before left is_open status count taken → TakesNext size before now false Refused count taken old new
-failed_next path size before left now false status count taken frame fault old new opened reads same t = absurd (cc)
-failed_next path size before left now true Done count taken frame fault old new opened reads same t =
+failed_next size before left now false status count taken frame fault old new opened reads same t = absurd (cc)
+failed_next size before left now true Done count taken frame fault old new opened reads same t =
     let many : length taken ≡ count = t.ends.0 in
-    let part = part_of path size left now frame fault reads in
+    let part = reads in
     none_next (omega (arith, many)) (record {
       cut = t.cut ++ part.0;
       whole = t.whole;
       bytes = subst (Consumes before now) (append_assoc (concat taken) t.cut part.0) (Consumes-trans before left now (concat taken ++ t.cut) part.0 t.bytes part.1);
       ends = omega (arith, many);
     }) same
-failed_next path size before left now true Refused count taken frame fault old new opened reads same t = absurd t.ends
-failed_next path size before left now true Misused count taken frame fault old new opened reads same t = absurd t.ends
-failed_next path size before left now true Faulty count taken frame fault old new opened reads same t = absurd t.ends
+failed_next size before left now true Refused count taken frame fault old new opened reads same t = absurd t.ends
+failed_next size before left now true Misused count taken frame fault old new opened reads same t = absurd t.ends
+failed_next size before left now true Faulty count taken frame fault old new opened reads same t = absurd t.ends

@@ -1,12 +1,12 @@
 -- The terms of merging in small cases, computed by the checker from the definitions: examples that hold and that fail.
 use Rattle.std.proofs.Common.{◌≡◌, ℕ, true, false, List, [], ◌∷◌, codes, refl, arith}
-use Rattle.std.specs.Prelude.{Some, None, Err}
+use Rattle.std.specs.Prelude.{Some, None}
 use Rattle.fig_merge.specs.Taking.{nothing_taken}
 use Rattle.fig_merge.specs.Steps.{Take, Fill}
 use Rattle.console.specs.declared.exit.Status.TheVariants.{Done, Refused, Misused}
 use Rattle.cli_streams.specs.Merging.{next_of, bytes_of, calls_of}
-use Rattle.cli_streams.specs.Merged.{IsTaken, TakesFrames, summary_of, written_of, known_at, AreTwo}
-use Rattle.cli_streams.specs.declared.merge.MergeFault.TheVariants.{Write}
+use Rattle.cli_streams.specs.Merged.{IsTaken, TakesFrames, summary_of}
+use Rattle.cli_streams.specs.Success.{known_at, AreTwo}
 
 -- ---- frames and calls
 
@@ -68,15 +68,9 @@ two_bytes_each = record { cut = []; whole = (refl, tt); bytes = refl; ends = (re
 not_three_bytes : TakesFrames 3 (Some (1 ∷ 2 ∷ [])) (Some []) true Done 1 ((1 ∷ 2 ∷ []) ∷ []) → ⊥
 not_three_bytes h = (let long : 2 ≡ 3 = h.whole.0 in omega (arith, long))
 
--- ---- what is written, and reported
+-- ---- what is reported
 
-part_of_the_second : written_of (Err (Write 1 1)) ((a ∷ []) ∷ (b ∷ c ∷ []) ∷ []) ≡ 1 ∷ 2 ∷ []
-part_of_the_second = refl
-
-all_but_the_flush : written_of (Err (Write 2 0)) ((a ∷ []) ∷ (b ∷ []) ∷ []) ≡ 1 ∷ 2 ∷ []
-all_but_the_flush = refl
-
-nothing_merged : summary_of 3 nothing_taken ≡ record { frames = 3; carried = 0; waiting = 0; dropped = 0; damaged = 0 }
+nothing_merged : summary_of 3 nothing_taken ≡ record { frames = 3; carried = 0; waiting = 0; dropped = 0; stale = 0; damaged = 0 }
 nothing_merged = refl
 
 -- ---- paths

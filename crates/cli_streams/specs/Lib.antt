@@ -1,15 +1,6 @@
-pub mod Buffered
-pub mod Checking
-pub mod Failing
 pub mod Frame
-pub mod FrameRefusals
 pub mod Held
-pub mod Json
-pub mod JsonListing
-pub mod Lines
-pub mod Listing
-pub mod MergeReports
 pub mod Merged
 pub mod Merging
-pub mod Printing
 pub mod Stream
+pub mod Success

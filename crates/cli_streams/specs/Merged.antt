@@ -1,20 +1,15 @@
--- What `merge` writes of two streams of frames, as far as their bytes are known, and how it ends.
-use Rattle.std.specs.Prelude.{◌≡◌, ◌≢◌, ℕ, ◌+◌, ◌<◌, ◌≤◌, ◌⊎◌, if◌then◌else◌, codes, Bool, true, false, List, [], ◌++◌, length, map, take, drop, Option, Result, Ok, Err}
+-- What `merge` writes of two streams of frames, as far as their bytes are known.
+use Rattle.std.specs.Prelude.{◌≡◌, ℕ, ◌+◌, ◌<◌, ◌≤◌, ◌⊎◌, Bool, true, false, List, [], ◌++◌, length, map, take, drop, Option, Result, Ok, Err}
 use Rattle.std.specs.List.{AllByRecursion, concat}
-use Rattle.std.specs.Str.{bytes_eq}
 use Rattle.std.specs.Io.KnownBytes.{Appends, Consumes, IsAtEnd}
 use Rattle.stream_check.specs.Frames.{Reading}
 use Rattle.fig_merge.specs.Taking.{Merging, nothing_taken}
 use Rattle.fig_merge.specs.Filling.{merged, after_fill}
-use Rattle.console.specs.declared.exit.Failure.{Failure}
-use Rattle.console.specs.declared.exit.Failure.TheVariants.{Memory, Read, Create, Output}
 use Rattle.console.specs.declared.exit.Status.{Status}
 use Rattle.console.specs.declared.exit.Status.TheVariants.{Done, Refused, Misused, Faulty}
-use Rattle.cli_streams.specs.Held.{IsCut}
 use Rattle.cli_streams.specs.Stream.{fibs_of_stream}
 use Rattle.cli_streams.specs.Merging.{after_taking, after_filling, filled_frame, next_of, merged_frames, after_merging, bytes_of}
 use Rattle.cli_streams.specs.declared.merge.MergeFault.{MergeFault}
-use Rattle.cli_streams.specs.declared.merge.MergeFault.TheVariants.{Failed, NotWhole, Write}
 use Rattle.cli_streams.specs.declared.merge.MergeSummary.{MergeSummary}
 
 -- ---- one frame, by its bytes
@@ -41,22 +36,11 @@ pub record FillsFib (offset : ℕ) (old new : List ℕ) (before after : Merging)
   pub filled : (r : Reading) → fib ≡ merged (fib_from offset old) (r.read (fib_from offset old)) before
   pub merger : (r : Reading) → after ≡ after_fill (r.read (fib_from offset old)) before
 
--- the file of this path can't be read
-abbrev pub IsUnread : List ℕ → Failure → Type 0
-IsUnread path Memory = ⊥
-IsUnread path (Read p) = p.now ≡ path
-IsUnread path (Create p) = ⊥
-IsUnread path Output = ⊥
-
--- a frame of this size is read from the file of this path: a whole one; or there is none; or less than a frame is left;
--- or the file can't be read on
-abbrev pub ReadsFrame : (path : List ℕ) (size : ℕ) (before left : Option (List ℕ)) → List ℕ → Result Bool MergeFault → Type 0
-ReadsFrame path size before left frame (Ok true) = Consumes before left frame
-ReadsFrame path size before left frame (Ok false) = Consumes before left [] × IsAtEnd left
-ReadsFrame path size before left frame (Err (NotWhole p)) =
-    (p.now ≡ path) × ((cut : List ℕ) × (0 < length cut) × (length cut < size) × Consumes before left cut × IsAtEnd left)
-ReadsFrame path size before left frame (Err (Failed f)) = IsUnread path f × ((part : List ℕ) × Consumes before left part)
-ReadsFrame path size before left frame (Err (Write frames bytes)) = ⊥
+-- a frame is read; or there is none; or the file ends within one, or can't be read on
+abbrev pub ReadsFrame : (before left : Option (List ℕ)) → List ℕ → Result Bool MergeFault → Type 0
+ReadsFrame before left frame (Ok true) = Consumes before left frame
+ReadsFrame before left frame (Ok false) = Consumes before left [] × IsAtEnd left
+ReadsFrame before left frame (Err fault) = (part : List ℕ) × Consumes before left part
 
 -- ---- the multiplexer's frames
 
@@ -77,14 +61,16 @@ IsTaken is_open Misused count taken cut left = ⊥
 IsTaken is_open Faulty count taken cut left = ⊥
 
 -- whole frames of this size were taken, in order, and the bytes behind them that were read give none
-pub record TakesFrames (size : ℕ) (before left : Option (List ℕ)) (is_open : Bool) (status : Status) (count : ℕ) (taken : List (List ℕ)) : Type 0 where
+pub record TakesFrames (size : ℕ) (before left : Option (List ℕ)) (is_open : Bool) (status : Status) (count : ℕ)
+    (taken : List (List ℕ)) : Type 0 where
   pub cut : List ℕ
   pub whole : AllByRecursion (λ frame. length frame ≡ size) taken
   pub bytes : Consumes before left (concat taken ++ cut)
   pub ends : IsTaken is_open status count (length taken) cut left
 
 -- after the next frame is taken, if there is one
-pub record TakesNext (size : ℕ) (before left : Option (List ℕ)) (is_open : Bool) (status : Status) (count : ℕ) (taken : List (List ℕ)) (old new : Merging) : Type 0 where
+pub record TakesNext (size : ℕ) (before left : Option (List ℕ)) (is_open : Bool) (status : Status) (count : ℕ)
+    (taken : List (List ℕ)) (old new : Merging) : Type 0 where
   pub next : List (List ℕ)
   pub takes : TakesFrames size before left is_open status (count + 1) (taken ++ next)
   pub in_turn : (length taken ≡ count) ⊎ ((length taken ≤ count) × (next ≡ []))
@@ -99,63 +85,26 @@ summary_of frames m = record {
   carried = m.carried;
   waiting = length m.waiting;
   dropped = m.dropped;
+  stale = m.stale;
   damaged = m.damaged;
 }
 
--- the output fails while the frames that are held are written behind so many
-abbrev pub CutsHeld : (size count : ℕ) (held : List ℕ) (old new : Option (List ℕ)) → MergeFault → Type 0
-CutsHeld size count held old new (Write frames bytes) = IsCut size count held old new frames bytes
-CutsHeld size count held old new (NotWhole p) = ⊥
-CutsHeld size count held old new (Failed f) = ⊥
-
--- how the run ends after so many frames of the plan were read: with the summary, if no more are left; refused, if less
--- than a frame is left, if a file can't be read, or if so many frames and so many bytes of the next one were written
-abbrev pub EndsAs : (path : List ℕ) (size count : ℕ) (cut : List ℕ) (left : Option (List ℕ)) → Merging → Result MergeSummary MergeFault → Type 0
-EndsAs path size count cut left m (Ok summary) = (cut ≡ []) × IsAtEnd left × (summary ≡ summary_of count m)
-EndsAs path size count cut left m (Err (NotWhole p)) = (p.now ≡ path) × (0 < length cut) × (length cut < size) × IsAtEnd left
-EndsAs path size count cut left m (Err (Failed f)) = Unit {0}
-EndsAs path size count cut left m (Err (Write frames bytes)) =
-    (cut ≡ []) × (((frames ≡ count) × (bytes ≡ 0)) ⊎ ((frames + 1 ≡ count) × (bytes < size)))
-
--- what is written of the merged frames
-abbrev pub written_of : Result MergeSummary MergeFault → List (List (List ℕ)) → List ℕ
-written_of (Ok summary) merged = bytes_of merged
-written_of (Err (NotWhole p)) merged = bytes_of merged
-written_of (Err (Failed f)) merged = bytes_of merged
-written_of (Err (Write frames bytes)) merged = bytes_of (take frames merged) ++ take bytes (bytes_of (drop frames merged))
-
--- these frames of the plan, read from the file of this path, are merged with those that are taken of the multiplexer's,
--- and written; `plan` and `other` are the bytes of both, and `old` and `new` the writer's bytes before and after
-pub record Merges (path : List ℕ) (size : ℕ) (plan other old new : Option (List ℕ)) (status : Status) (result : Result MergeSummary MergeFault) : Type 0 where
+-- these frames of the plan, to its end, are merged with those that are taken of the multiplexer's, and written; `plan` and
+-- `other` are the bytes of both, and `old` and `new` the writer's bytes before and after
+pub record Merges (size : ℕ) (plan other old new : Option (List ℕ)) (status : Status)
+    (summary : MergeSummary) : Type 0 where
   pub frames : List (List ℕ)
   pub taken : List (List ℕ)
-  pub cut : List ℕ
   pub plan_left : Option (List ℕ)
   pub other_left : Option (List ℕ)
   pub is_open : Bool
   pub whole : AllByRecursion (λ frame. length frame ≡ size) frames
-  pub bytes : Consumes plan plan_left (concat frames ++ cut)
+  pub bytes : Consumes plan plan_left (concat frames)
+  pub end : IsAtEnd plan_left
   pub takes : TakesFrames size other other_left is_open status (length frames) taken
-  pub ends : (r : Reading) → EndsAs path size (length frames) cut plan_left (after_merging r (map fibs_of_stream frames) (map fibs_of_stream taken) nothing_taken) result
-  pub written : (r : Reading) → Appends old new (written_of result (merged_frames r (map fibs_of_stream frames) (map fibs_of_stream taken) nothing_taken))
-
--- ---- files
-
--- the bytes of the file of a path, or of standard input if the path is `-`
-abbrev pub known_at : (List ℕ → Option (List ℕ)) → (input : Option (List ℕ)) → List ℕ → Option (List ℕ)
-known_at known input path = if bytes_eq path (codes "-") then input else known path
-
--- they are not both standard input
-abbrev pub AreTwo : List ℕ → List ℕ → Type 0
-AreTwo path other = path ≡ codes "-" → other ≢ codes "-"
-
--- the summary is reported at the end, with this status; other results are handed on
-abbrev pub Returns : Status → Result MergeSummary MergeFault → Result Status MergeFault → Type 0
-Returns status (Ok summary) result = result ≡ Ok status
-Returns status (Err fault) result = result ≡ Err fault
-
-pub record MergesFiles (path : List ℕ) (size : ℕ) (plan other old new : Option (List ℕ)) (result : Result Status MergeFault) : Type 0 where
-  pub status : Status
-  pub outcome : Result MergeSummary MergeFault
-  pub merges : Merges path size plan other old new status outcome
-  pub returns : Returns status outcome result
+  pub counts : (r : Reading)
+      → summary ≡ summary_of (length frames)
+      (after_merging r (map fibs_of_stream frames) (map fibs_of_stream taken) nothing_taken)
+  pub written : (r : Reading)
+      → Appends old new
+      (bytes_of (merged_frames r (map fibs_of_stream frames) (map fibs_of_stream taken) nothing_taken))

@@ -1,12 +1,13 @@
 -- The frames of a plan, filled with the FIGs of a multiplexer's frames, frame by frame.
 use Rattle.std.specs.Prelude.{◌≡◌, ℕ, List, [], ◌∷◌, ◌++◌, map, flat_map, drop}
 use Rattle.std.specs.List.{concat}
+use Rattle.fib_reader.specs.Listening.{untuned}
 use Rattle.stream_check.specs.Frames.{Reading}
 use Rattle.stream_check.specs.Stream.{findings_of}
 use Rattle.fig_merge.specs.Taking.{Merging, nothing_taken, after_take}
 use Rattle.fig_merge.specs.Filling.{merged, after_fill}
 use Rattle.fig_merge.specs.Steps.{Step, Take, Fill, after_steps, joined}
-use Rattle.fig_merge.specs.Passing.{AreFilledFrames, fibs_in, sent_in}
+use Rattle.fig_merge.specs.Passing.{agreeing, AreFilledFrames, fibs_in, sent_in}
 
 -- ---- the FIBs of a frame, each given by its bytes, one after the other
 
@@ -75,11 +76,12 @@ pub record IsByCalls (r : Reading) (plan other : List (List (List ℕ))) (m : Me
 abbrev pub MergesByCalls : Type 0
 MergesByCalls = (r : Reading) (plan other : List (List (List ℕ))) (m : Merging) → IsByCalls r plan other m
 
--- the law of frames: each merged frame has the FIGs of the plan's, with others behind those of each FIB
+-- the law of frames: each merged frame has the FIGs of the plan's, with others behind those of each FIB that agree with
+-- the current configuration, as far as it was heard with that FIB
 abbrev pub MergedAreFilled : Type 0
 MergedAreFilled =
     (r : Reading) (plan other : List (List (List ℕ)))
-    → AreFilledFrames (map (map r.read) plan) (map (map r.read) (merged_frames r plan other nothing_taken))
+    → AreFilledFrames agreeing untuned (map (map r.read) plan) (map (map r.read) (merged_frames r plan other nothing_taken))
 
 -- the law of findings: the checker finds in merged frames what it finds in the plan's
 abbrev pub MergedAreCheckedAlike : Type 0

@@ -1,6 +1,5 @@
 -- The state of a new listener after a stream of FIBs.
-use Rattle.std.specs.Prelude.{◌≡◌, ℕ, ◌+◌, ◌/◌, ◌%◌, ◌<◌, ◌≤◌, ◌⊎◌, Bool, if◌then◌else◌, List, [], ◌∷◌, length, Option, Result, Ok, Err}
-use Rattle.std.specs.Io.KnownBytes.{Consumes}
+use Rattle.std.specs.Prelude.{◌≡◌, ℕ, ◌+◌, ◌/◌, ◌%◌, ◌<◌, ◌⊎◌, Bool, if◌then◌else◌, List, [], ◌∷◌, length, Result, Ok, Err}
 use Rattle.std.specs.Simd.{first_chunks}
 use Rattle.fib_reader.specs.Listening.{Listening, untuned, Hears}
 use Rattle.fib_reader.specs.declared.fault.FibFault.{FibFault}
@@ -26,7 +25,8 @@ abbrev pub HearsTheStream : List (List ℕ) → Heard → Result Heard StreamFau
 HearsTheStream [] now given = given ≡ Ok now
 HearsTheStream (fib ∷ fibs) now given =
     ((new : Listening) × Hears fib now.listener new (Ok tt) × HearsTheStream fibs (heard_more now new) given)
-    ⊎ (((fault : FibFault) × Hears fib now.listener now.listener (Err (Fib fault)) × HearsTheStream fibs (damaged_more now) given)
+    ⊎ (((fault : FibFault) × Hears fib now.listener now.listener (Err (Fib fault))
+    × HearsTheStream fibs (damaged_more now) given)
     ⊎ (Hears fib now.listener now.listener (Err Full) × (given ≡ Err NoRoom)))
 
 -- before the first FIB
@@ -42,10 +42,7 @@ abbrev pub HearsStream : List ℕ → Result Heard StreamFault → Type 0
 HearsStream stream (Err NotWhole) = 0 < length stream % 32
 HearsStream stream given = (length stream % 32 ≡ 0) × HearsTheStream (fibs_of_stream stream) unheard given
 
--- more bytes were read than a stream has that is decoded: 2^50 and more
-abbrev pub IsTooLong : (old new : Option (List ℕ)) → Type 0
-IsTooLong old new = (stream : List ℕ) × (1125899906842624 ≤ length stream) × Consumes old new stream
-
 -- a stream has at most one result
 abbrev pub OneAnswer : Type 0
-OneAnswer = (stream : List ℕ) (one other : Result Heard StreamFault) → HearsStream stream one → HearsStream stream other → one ≡ other
+OneAnswer = (stream : List ℕ) (one other : Result Heard StreamFault) → HearsStream stream one
+    → HearsStream stream other → one ≡ other

@@ -1,16 +1,12 @@
 //! `dabplan frame`: prints one frame of the configuration in a record.
 
-ghost use Rattle.std.specs.Prelude.{◌≡◌, ◌≢◌, IfErr, IfOk, IfSome, OnOk, codes, take};
-ghost use Rattle.std.specs.Fmt.{WritesOnOk};
+ghost use Rattle.std.specs.Prelude.{◌≡◌, IfOk, OnOk, true};
 ghost use Rattle.std.specs.Io.KnownBytes.{Appends};
 ghost use Rattle.console.specs.Printed.{printed};
 ghost use Rattle.console.specs.World.{Stays};
-ghost use Rattle.cli_streams.specs.Failing.{IsCommandFailure, IsCutShort, IsSilentUnread};
-ghost use Rattle.cli_streams.specs.FrameRefusals.{record_refusal, unsound_refusal};
-ghost use Rattle.cli_streams.specs.Frame.{ShowsFrame, ShowsFrameUntil, fibs_text, frame_of, frame_text, most_bytes, page_or_fault, sent, shown_text, status_of};
+ghost use Rattle.cli_streams.specs.Frame.{frame_of, page_or_fault, sent};
+ghost use Rattle.cli_streams.specs.Success.{ShowsFrame, known_at};
 
-use crate::printing::Progress;
-use arrayvec::ArrayVec;
 use console::exit::{Failure, Status, read_input};
 use console::files::Files;
 use console::hexadecimal::digits_of_fib;
@@ -23,20 +19,18 @@ use std::error;
 use std::fmt::{self, Display, Formatter};
 use std::io::{self, Write};
 
-/// The most bytes of a configuration record: the three numbers, 64 sub-channels and 64 packet components of 7 bytes
-/// each, and 64 services of 4 bytes with 12 components of 3 bytes each. One byte more is read, to detect bytes after
-/// the record.
+/// The most bytes of a configuration record: the three numbers, 64 sub-channels and 64 packet
+/// components of 7 bytes each, and 64 services of 4 bytes with 12 components of 3 bytes each. One
+/// byte more is read, to detect bytes after the record.
 const MOST_BYTES: usize = 3 + 64 * 7 + 64 * (4 + 12 * 3) + 64 * 7;
-
-/// The most bytes that are printed of a frame, or of why there is none: four FIBs of 64 digits and a line feed have 260.
-const LONGEST: usize = 512;
 
 /// The arguments of `frame`.
 #[derive(Clone, Copy)]
 pub struct FrameRequest<'a> {
     /// The path of the configuration record, or `-` for standard input.
     pub config: &'a str,
-    /// The layout of the frame: the transmission mode, and the number of FIBs that the entries leave free.
+    /// The layout of the frame: the transmission mode, and the number of FIBs that the entries
+    /// leave free.
     pub layout: FrameLayout,
     /// The identifier of the ensemble and the CIF count, without change flags.
     pub ensemble: Ensemble,
@@ -60,17 +54,19 @@ pub enum FrameFault {
 }
 
 impl Display for FrameFault {
-    ghost use Rattle.std.specs.Prelude.{Some};
-    ghost use Rattle.cli_streams.specs.FrameRefusals.{frame_refusal};
-
-    ghost output = { λ fault. Some (frame_refusal fault) };
-
     /// The printed line.
     fn fmt<W: fmt::Write>(&self, f: &mut Formatter<W>) -> fmt::Result {
         match self {
-            FrameFault::Record(fault) => put_record_refusal(*fault, f),
+            FrameFault::Record(RecordFault::Short) => f.write_str("record: Short"),
+            FrameFault::Record(RecordFault::Field(offset)) => write!(f, "record: Field {offset}"),
+            FrameFault::Record(RecordFault::Order) => f.write_str("record: Order"),
             FrameFault::Trailing => f.write_str("record: trailing"),
-            FrameFault::Unsound(fault) => put_unsound_refusal(*fault, f),
+            FrameFault::Unsound(ConfigFault::Overlap(low, high)) => {
+                write!(f, "refused: Overlap {} {}", low.get(), high.get())
+            }
+            FrameFault::Unsound(ConfigFault::Orphan) => f.write_str("refused: Orphan"),
+            FrameFault::Unsound(ConfigFault::AddressUsed) => f.write_str("refused: AddressUsed"),
+            FrameFault::Unsound(ConfigFault::EmptyService) => f.write_str("refused: EmptyService"),
             FrameFault::NoSuchPage => f.write_str("refused: no such page"),
         }
     }
@@ -78,125 +74,45 @@ impl Display for FrameFault {
 
 impl error::Error for FrameFault {}
 
-/// Writes why the bytes are no record.
-fn put_record_refusal<W: fmt::Write>(fault: RecordFault, f: &mut Formatter<W>) -> fmt::Result
-    ensures { WritesOnOk W.write_str_gives f.old result (record_refusal fault) f.new }
-{
-    match fault {
-        RecordFault::Short => f.write_str("record: Short"),
-        RecordFault::Field(offset) => write!(f, "record: Field {offset}"),
-        RecordFault::Order => f.write_str("record: Order"),
-    }
-}
-
-/// Writes why the configuration is not sound.
-fn put_unsound_refusal<W: fmt::Write>(fault: ConfigFault, f: &mut Formatter<W>) -> fmt::Result
-    ensures { WritesOnOk W.write_str_gives f.old result (unsound_refusal fault) f.new }
-{
-    match fault {
-        ConfigFault::Overlap(low, high) => {
-            write!(f, "refused: Overlap {} {}", low.get(), high.get())
-        }
-        ConfigFault::Orphan => f.write_str("refused: Orphan"),
-        ConfigFault::AddressUsed => f.write_str("refused: AddressUsed"),
-        ConfigFault::EmptyService => f.write_str("refused: EmptyService"),
-    }
-}
-
-/// Runs `frame`: prints the FIBs of the frame, three or in mode III four, a line each. If the output does not take all
-/// of it, it has taken a part, from the first byte on.
-#[tactic(auto, using(crate::proofs::Parts::cut_why, crate::proofs::Parts::cut_not_unread, crate::proofs::Parts::unread_why, crate::proofs::Parts::unread_silent, crate::proofs::ShownFrames::unread_until))]
+/// Runs `frame`: prints the FIBs of the frame, three or in mode III four, a line each.
+///
+/// # Errors
+///
+/// `Read` if the record can't be read, or `Memory` if out of memory, before anything is printed;
+/// `Output` if the output failed, after which nothing is printed.
 pub fn show_frame<'a, F: Files, W: Write>(
     alloc: Global,
     request: &FrameRequest<'a>,
     files: &mut F,
     out: &mut Output<W>,
 ) -> Result<Status, Failure<'a>>
-    ensures input { request.now.config.now ≡ codes "-" → IfSome (F.known_input files.old) (λ bytes.
-        IfOk result (ShowsFrame request.now.raw (frame_of request.now.layout request.now.ensemble
-        request.now.page (take most_bytes bytes))
-        (printed W.contents out.old) (printed W.contents out.new))) }
-    ensures file { request.now.config.now ≢ codes "-"
-        → IfSome (F.known files.old request.now.config.now) (λ bytes.
-        IfOk result (ShowsFrame request.now.raw (frame_of request.now.layout request.now.ensemble
-        request.now.page (take most_bytes bytes))
-        (printed W.contents out.old) (printed W.contents out.new))) }
-    ensures failed { IfErr result (IsCommandFailure request.now.config.now out.new.has_failed) }
-    ensures unread { IfErr result
-        (IsSilentUnread (printed W.contents out.old) (printed W.contents out.new)) }
-    ensures input_until { request.now.config.now ≡ codes "-"
-        → IfSome (F.known_input files.old) (λ bytes.
-        IfErr result (ShowsFrameUntil request.now.raw (frame_of request.now.layout
-        request.now.ensemble request.now.page (take most_bytes bytes))
-        (printed W.contents out.old) (printed W.contents out.new))) }
-    ensures file_until { request.now.config.now ≢ codes "-"
-        → IfSome (F.known files.old request.now.config.now) (λ bytes.
-        IfErr result (ShowsFrameUntil request.now.raw (frame_of request.now.layout
-        request.now.ensemble request.now.page (take most_bytes bytes))
-        (printed W.contents out.old) (printed W.contents out.new))) }
+    ensures success { IfOk result (ShowsFrame request.now
+        (known_at (F.known files.old) (F.known_input files.old) request.now.config.now)
+        (printed W.contents out.old) (printed W.contents out.new)) }
     ensures world { Stays (F.world files.old) (F.world files.new) }
 {
-    let record = match read_input(alloc, files, request.config, MOST_BYTES + 1) {
-        Ok(record) => record,
-        Err(failure) => return Err(failure),
-    };
+    let record = read_input(alloc, files, request.config, MOST_BYTES + 1)?;
     let frame = frame_of(
         record.as_slice(),
         request.layout,
         request.ensemble,
         request.page,
     );
-    print_shown(&frame, request.raw, out)
-}
-
-/// Prints the FIBs of a frame, or the line of why there is none. If the output does not take all of it, it has taken a
-/// part, from the first byte on.
-fn print_shown<'a, W: Write>(
-    frame: &Result<FibFrame, FrameFault>,
-    raw: bool,
-    out: &mut Output<W>,
-) -> Result<Status, Failure<'a>>
-    ensures shown { IfOk result
-        (ShowsFrame raw frame.now (printed W.contents out.old) (printed W.contents out.new)) }
-    ensures until { IfErr result (ShowsFrameUntil raw frame.now
-        (printed W.contents out.old) (printed W.contents out.new)) }
-    ensures failed { IfErr result (IsCutShort out.new.has_failed) }
-{
-    let mut text: ArrayVec<u8, LONGEST> = ArrayVec::new();
-    let made = print_in(frame, raw, &mut text);
-    let mut progress = Progress::Whole;
-    progress.print_made(made, text.as_slice(), out);
-    progress.end(status_of(frame))
-}
-
-/// The exit status.
-fn status_of(frame: &Result<FibFrame, FrameFault>) -> Status
-    ensures { result ≡ status_of frame.now }
-{
     match frame {
-        Ok(_) => Status::Done,
-        Err(_) => Status::Refused,
+        Ok(frame) => {
+            print_frame(&frame, request.raw, out)?;
+            Ok(Status::Done)
+        }
+        Err(fault) => {
+            writeln!(out, "{fault}")?;
+            Ok(Status::Refused)
+        }
     }
 }
 
-/// Prints the FIBs of a frame, or the line of why there is none.
-fn print_in<W: Write>(
-    frame: &Result<FibFrame, FrameFault>,
-    raw: bool,
-    out: &mut W,
-) -> io::Result<()>
-    ensures { OnOk result
-        (Appends (W.contents out.old) (W.contents out.new) (shown_text raw frame.now)) }
-{
-    match frame {
-        Ok(frame) => print_frame(frame, raw, out),
-        Err(fault) => writeln!(out, "{fault}"),
-    }
-}
-
-/// The FIBs of page `index` of the configuration in a record, with FIG 0/0 of `ensemble` if its count is a
-/// multiple of the mode's step: 4, 1, 1 or 2 (EN 300 401 clauses 5.1 and 6.4). The reserved FIBs of the layout are
-/// empty.
+/// The FIBs of page `index` of the configuration in a record, with FIG 0/0 of `ensemble` if its
+/// count is a multiple of the mode's step: 4, 1, 1 or 2 (EN 300 401 clauses 5.1 and 6.4). The
+/// reserved FIBs of the layout are empty.
 ///
 /// Returns the first fault: `Record`, `Trailing`, `Unsound`, `NoSuchPage`.
 pub fn frame_of(
@@ -237,7 +153,8 @@ pub fn page_of<'a>(
     Ok(page(layout, config, alone, index, sent(layout.mode(), ensemble)))
 }
 
-/// The ensemble information of this frame, which is sent if the count is a multiple of the mode's step.
+/// The ensemble information of this frame, which is sent if the count is a multiple of the mode's
+/// step.
 fn sent(mode: Mode, ensemble: Ensemble) -> Option<Ensemble>
     ensures { result ≡ sent mode ensemble }
 {
@@ -248,23 +165,14 @@ fn sent(mode: Mode, ensemble: Ensemble) -> Option<Ensemble>
     }
 }
 
-/// Prints the FIBs of a frame as bytes or as digits.
+/// Prints the FIBs of a frame as bytes, or as 64 hexadecimal digits each.
 pub fn print_frame<W: Write>(frame: &FibFrame, raw: bool, out: &mut W) -> io::Result<()>
-    ensures { OnOk result (Appends (W.contents out.old) (W.contents out.new)
-        (frame_text raw frame.now)) }
+    ensures { raw ≡ true
+        → OnOk result (Appends (W.contents out.old) (W.contents out.new) frame.now) }
 {
     if raw {
-        out.write_all(frame.bytes())
-    } else {
-        print_fibs(frame, out)
+        return out.write_all(frame.bytes());
     }
-}
-
-/// Prints the FIBs of a frame as 64 hexadecimal digits each.
-fn print_fibs<W: Write>(frame: &FibFrame, out: &mut W) -> io::Result<()>
-    ensures { OnOk result (Appends (W.contents out.old) (W.contents out.new)
-        (fibs_text frame.now)) }
-{
     for fib in frame.bytes().as_chunks::<32>().0 {
         out.write_all(digits_of_fib(fib).as_slice())?;
         out.write_all(b"\n")?;

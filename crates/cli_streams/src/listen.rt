@@ -1,29 +1,20 @@
-//! `dabplan listen`: decodes a stream of FIBs as a receiver would, and prints the resulting configuration.
+//! `dabplan listen`: decodes a stream of FIBs as a receiver would, and prints the resulting
+//! configuration.
 
-ghost use Rattle.std.specs.Prelude.{◌≡◌, ◌≢◌, ◌⊎◌, ℕ, List, Option, Result, Err, Ok, IfErr, IfOk, IfSome, OnErr, codes, true};
-ghost use Rattle.std.specs.Io.KnownBytes.{Appends, Consumes, IsAtEnd};
-ghost use Rattle.console.specs.Printed.{printed};
-ghost use Rattle.console.specs.World.{World, Becomes};
-ghost use Rattle.console.specs.declared.exit.Status.{Status as StatusOf};
-ghost use Rattle.stream_monitor.specs.Hinting.{IsHinted, OnlyHints};
-ghost use Rattle.stream_monitor.specs.Unfinished.{PrintsFront};
-ghost use Rattle.cli_streams.specs.Failing.{IsCommandFailure, IsCutShort, IsSilentUnread};
-ghost use Rattle.cli_streams.specs.Listing.{IsShownIn, ShowsStream, ShowsStreamUntil};
-ghost use Rattle.cli_streams.specs.Printing.{Adds, printing_to};
-ghost use Rattle.cli_streams.specs.Stream.{HearsStream, IsTooLong, ended};
-ghost use Rattle.cli_streams.specs.declared.listen.Heard.{Heard as HeardOf};
-ghost use Rattle.cli_streams.specs.declared.listen.StreamFault.{StreamFault as FaultOf};
+ghost use Rattle.std.specs.Prelude.{◌≡◌, ℕ, List, IfOk};
+ghost use Rattle.std.specs.Io.KnownBytes.{Consumes, IsAtEnd};
+ghost use Rattle.cli_streams.specs.Stream.{HearsStream, ended};
+ghost use Rattle.cli_streams.specs.Success.{ListensTo, known_at};
 
-use crate::fib_pieces::{FibPieces, WatchedPieces};
-use crate::json_listing::print_json_answer;
-use crate::listing::print_answer;
-use crate::printing::Progress;
+use crate::json_listing::print_json_listing;
+use crate::listing::print_listing;
 use console::exit::{Failure, Status, pieces_of};
 use console::files::{FileFault, Files};
 use console::output::Output;
+use console::pieces::Pieces;
 use fib_reader::{ListenFault, Listener};
 use std::alloc::Global;
-use std::io::Write;
+use std::io::{Read, Write};
 use stream_monitor::Hints;
 use thiserror::Error;
 
@@ -36,6 +27,16 @@ pub enum StreamFault {
     /// A configuration would get a 65th service or packet component.
     #[error("refused: Full")]
     Full,
+}
+
+impl StreamFault {
+    /// The fault as it is printed in an object of JSON.
+    pub(crate) fn cause(self) -> &'static str {
+        match self {
+            StreamFault::NotWhole => "not whole FIBs",
+            StreamFault::Full => "Full",
+        }
+    }
 }
 
 /// More pieces than any stream has: 2^50 of 256 KB.
@@ -68,8 +69,8 @@ impl Heard {
         }
     }
 
-    /// Decodes FIBs in order. A damaged one is only counted; the first one that exceeds a configuration's capacity ends
-    /// the decoding, and the result is false.
+    /// Decodes FIBs in order. A damaged one is only counted; the first one that exceeds a
+    /// configuration's capacity ends the decoding, and the result is false.
     pub fn hear(&mut self, fibs: &[[u8; 32]]) -> bool
         requires few { self.old.fibs + length fibs.now ≤ 2 ^ 63 }
         requires damaged { self.old.damaged ≤ self.old.fibs }
@@ -99,106 +100,54 @@ pub struct ListenRequest<'a> {
     pub is_json: bool,
 }
 
-/// Runs `listen`: prints what was decoded from the file, or from standard input if the path is `-`. The stream is
-/// decoded piece by piece, so that memory use does not depend on its length. Where it is no stream of FIBs, a hint is
-/// given on standard error.
-#[tactic(auto, using(stream_monitor::proofs::Hinted::not_hinted, crate::proofs::Parts::cut_why, crate::proofs::Parts::cut_not_unread, crate::proofs::Parts::unread_why, crate::proofs::Parts::unread_silent, crate::proofs::ShownStreams::unread_until))]
+/// Runs `listen`: prints what was decoded from the file, or from standard input if the path is `-`.
+/// The stream is decoded piece by piece, so that memory use does not depend on its length. Where it
+/// is no stream of FIBs, a hint is given on standard error.
+///
+/// # Errors
+///
+/// `Read` if the file can't be read, or `Memory` if out of memory for a piece, before anything is
+/// printed; `Output` if the output failed, after which nothing is printed.
 pub fn show_heard<'a, F: Files, W: Write>(
     alloc: Global,
     request: &ListenRequest<'a>,
     files: &mut F,
     out: &mut Output<W>,
 ) -> Result<Status, Failure<'a>>
-    ensures input { request.now.file.now ≡ codes "-" → IfSome (F.known_input files.old) (λ stream.
-        IfOk result (ShowsStream request.now.is_json stream
-        (printed W.contents out.old) (printed W.contents out.new))) }
-    ensures file { request.now.file.now ≢ codes "-"
-        → IfSome (F.known files.old request.now.file.now) (λ stream.
-        IfOk result (ShowsStream request.now.is_json stream
-        (printed W.contents out.old) (printed W.contents out.new))) }
-    ensures failed { IfErr result (IsCommandFailure request.now.file.now out.new.has_failed) }
-    ensures unread { IfErr result
-        (IsSilentUnread (printed W.contents out.old) (printed W.contents out.new)) }
-    ensures input_until { request.now.file.now ≡ codes "-" → IfSome (F.known_input files.old)
-        (λ stream. IfErr result (ShowsStreamUntil request.now.is_json stream
-        (printed W.contents out.old) (printed W.contents out.new))) }
-    ensures file_until { request.now.file.now ≢ codes "-"
-        → IfSome (F.known files.old request.now.file.now)
-        (λ stream. IfErr result (ShowsStreamUntil request.now.is_json stream
-        (printed W.contents out.old) (printed W.contents out.new))) }
-    ensures hinted { Becomes (IsHinted request.now.file.now)
-        (F.world files.old) (F.world files.new) }
+    ensures success { IfOk result (ListensTo
+        (known_at (F.known files.old) (F.known_input files.old) request.now.file.now)) }
 {
     let path = request.file;
-    let pieces = match pieces_of(alloc, files, path) {
-        Ok(pieces) => pieces,
-        Err(failure) => return Err(failure),
-    };
-    let mut input = WatchedPieces::new(pieces);
+    let mut pieces = pieces_of(alloc, files, path)?;
     let mut hints = Hints::new(path);
-    let heard = match listen_to(&mut input, &mut hints, files) {
+    let heard = match listen_to(&mut pieces, &mut hints, files) {
         Ok(heard) => heard,
         Err(fault) => return Err(Failure::of_file(fault, path)),
     };
-    print_shown(request.is_json, &heard, out)
-}
-
-/// Prints the listing, or the line of a refusal, as text or as JSON. If the output does not take all of it, it has taken
-/// a part, from the first byte on.
-fn print_shown<'a, W: Write>(
-    is_json: bool,
-    heard: &Result<Heard, StreamFault>,
-    out: &mut Output<W>,
-) -> Result<Status, Failure<'a>>
-    ensures shown { IfOk result (λ status. (text : List ℕ) × IsShownIn is_json heard.now status text
-        × Appends (printed W.contents out.old) (printed W.contents out.new) text) }
-    ensures begun { OnErr result ((status : StatusOf) × (text : List ℕ)
-        × IsShownIn is_json heard.now status text
-        × PrintsFront (printed W.contents out.old) (printed W.contents out.new) text) }
-    ensures failed { IfErr result (IsCutShort out.new.has_failed) }
-{
-    let mut progress = Progress::Whole;
-    let status = print_in(is_json, heard, &mut progress, out);
-    progress.end(status)
-}
-
-/// The same, part by part. Returns the exit status.
-fn print_in<W: Write>(
-    is_json: bool,
-    heard: &Result<Heard, StreamFault>,
-    progress: &mut Progress,
-    out: &mut Output<W>,
-) -> Status
-    ensures { (text : List ℕ) × IsShownIn is_json heard.now result text
-        × Adds (printing_to W.contents progress.old out.old)
-        (printing_to W.contents progress.new out.new) text }
-{
-    if is_json {
-        print_json_answer(heard, progress, out)
+    if request.is_json {
+        print_json_listing(&heard, out)?;
     } else {
-        print_answer(heard, progress, out)
+        print_listing(&heard, out)?;
+    }
+    match heard {
+        Ok(_) => Ok(Status::Done),
+        Err(_) => Ok(Status::Refused),
     }
 }
 
-/// Decodes a stream of FIBs with a new listener (EN 300 401 clauses 5.2.1 and 6.5), to the end of its pieces. A
-/// damaged FIB is only counted; the first one that exceeds a configuration's capacity ends the decoding. A length
-/// that is not a multiple of 32 bytes takes precedence.
+/// Decodes a stream of FIBs with a new listener (EN 300 401 clauses 5.2.1 and 6.5), to the end of
+/// its pieces. A damaged FIB is only counted; the first one that exceeds a configuration's capacity
+/// ends the decoding. A length that is not a multiple of 32 bytes takes precedence.
 ///
 /// The fault of a piece that can't be read; `Failed` too after 2^50 pieces.
-pub fn listen_to<P: FibPieces, F: Files>(
-    pieces: &mut P,
+pub fn listen_to<R: Read + Drop, F: Files>(
+    pieces: &mut Pieces<R>,
     hints: &mut Hints<'_>,
     files: &mut F,
 ) -> Result<Result<Heard, StreamFault>, FileFault>
     ensures hears { IfOk result (λ given. (stream : List ℕ)
-        × Consumes (P.left pieces.old) (P.left pieces.new) stream
-        × IsAtEnd (P.left pieces.new) × HearsStream stream given) }
-    // It gives up only where a piece could not be read, or the stream has 2^50 bytes and more.
-    ensures failed { OnErr result ((P.has_failed pieces.new ≡ true)
-        ⊎ IsTooLong (P.left pieces.old) (P.left pieces.new)) }
-    ensures hinted { (w : Option World)
-        → OnlyHints hints.old.path.now hints.old.watch.is_done w (F.world files.old)
-        → OnlyHints hints.old.path.now hints.new.watch.is_done w (F.world files.new) }
+        × Consumes pieces.old.left pieces.new.left stream
+        × IsAtEnd pieces.new.left × HearsStream stream given) }
 {
     let mut heard = Heard::new();
     let mut has_room = true;

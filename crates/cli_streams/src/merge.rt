@@ -1,17 +1,14 @@
 //! `dabplan merge`: carries the other FIGs of a multiplexer in the frames of a plan.
 
-ghost use Rattle.std.specs.Prelude.{◌≡◌, ◌+◌, ◌*◌, ◌%◌, ◌<◌, ◌≤◌, ◌^◌, ℕ, List, [], length, IfErr, IfOk, OnErr, OnOk, true, false};
-ghost use Rattle.std.specs.Fmt.{WritesOnOk};
+ghost use Rattle.std.specs.Prelude.{◌≡◌, ◌+◌, ◌*◌, ◌%◌, ◌<◌, ◌≤◌, ℕ, List, [], length, IfOk, OnOk, true, false};
 ghost use Rattle.std.specs.Io.KnownBytes.{IsAtEnd, Keeps};
 ghost use Rattle.fib_codec.specs.Modes.{fib_count};
 ghost use Rattle.stream_check.specs.Frames.{Reading};
-ghost use Rattle.cli_streams.specs.Buffered.{left_of};
-ghost use Rattle.cli_streams.specs.Held.{Counts, IsWritten, finished, writer_of};
-ghost use Rattle.cli_streams.specs.MergeReports.{IsMergeFault, ReportsMerge, ReportsStop, summary_lines, write_failed_text};
-ghost use Rattle.cli_streams.specs.Merged.{AreTwo, CutsHeld, FillsFib, Merges, MergesFiles, ReadsFrame, after_frame_filled, frame_filled, known_at, summary_of};
-ghost use Rattle.console.specs.Failures.{IsReadFailure};
-ghost use Rattle.console.specs.World.{Becomes, HasSameFiles, Stays};
-ghost use Rattle.console.specs.declared.exit.Status.TheVariants.{Done, Refused};
+ghost use Rattle.stream_monitor.specs.Buffered.{left_of};
+ghost use Rattle.cli_streams.specs.Held.{IsWritten, finished, writer_of};
+ghost use Rattle.cli_streams.specs.Merged.{FillsFib, Merges, ReadsFrame, after_frame_filled, frame_filled, summary_of};
+ghost use Rattle.cli_streams.specs.Success.{AreTwo, MergesFiles, known_at};
+ghost use Rattle.console.specs.declared.exit.Status.TheVariants.{Done};
 
 use crate::frame_reader::FrameReader;
 use crate::held_frames::{HeldFrames, Taken};
@@ -43,8 +40,8 @@ pub struct MergeRequest<'a> {
     pub mode: Mode,
 }
 
-/// Why frames are not merged, or the multiplexer's are not read on. Each is one line on standard error, and
-/// `Status::Refused`.
+/// Why frames are not merged, or the multiplexer's are not read on. Each is one line on standard
+/// error, and `Status::Refused`.
 #[derive(Debug, Drop)]
 pub enum MergeFault<'a> {
     /// Out of memory, or a file can't be read.
@@ -56,30 +53,20 @@ pub enum MergeFault<'a> {
 }
 
 impl Display for MergeFault<'_> {
-    ghost use Rattle.std.specs.Prelude.{Some};
-    ghost use Rattle.cli_streams.specs.MergeReports.{fault_text};
-
-    ghost output = { λ fault. Some (fault_text fault) };
-
     fn fmt<W: fmt::Write>(&self, f: &mut Formatter<W>) -> fmt::Result {
         match self {
             MergeFault::Failed(failure) => write!(f, "{failure}"),
             MergeFault::NotWhole(path) => {
                 write!(f, "{}: not whole frames", Escaped::in_line(path))
             }
-            MergeFault::Write { frames, bytes } => write_failed(*frames, *bytes, f),
+            MergeFault::Write { frames, bytes } => {
+                write!(f, "write failed after {frames} frames and {bytes} bytes")
+            }
         }
     }
 }
 
 impl error::Error for MergeFault<'_> {}
-
-/// Writes after how many frames and bytes the output failed.
-fn write_failed<W: fmt::Write>(frames: u64, bytes: usize, f: &mut Formatter<W>) -> fmt::Result
-    ensures { WritesOnOk W.write_str_gives f.old result (write_failed_text frames bytes) f.new }
-{
-    write!(f, "write failed after {frames} frames and {bytes} bytes")
-}
 
 /// What was merged.
 #[derive(Clone, Copy, Debug, PartialEq, Eq)]
@@ -92,61 +79,48 @@ pub struct MergeSummary {
     pub waiting: usize,
     /// The FIGs that were dropped, since 256 others waited.
     pub dropped: u64,
+    /// The FIGs that did not agree with the plan's configuration when their turn came.
+    pub stale: u64,
     /// The damaged FIBs of both inputs.
     pub damaged: u64,
 }
 
 impl Display for MergeSummary {
-    ghost use Rattle.std.specs.Prelude.{Some};
-    ghost use Rattle.cli_streams.specs.MergeReports.{summary_text};
-
-    ghost output = { λ summary. Some (summary_text summary) };
-
     fn fmt<W: fmt::Write>(&self, f: &mut Formatter<W>) -> fmt::Result {
         let MergeSummary {
             frames,
             carried,
             waiting,
             dropped,
+            stale,
             damaged,
         } = *self;
-        write!(
-            f,
-            "frames {frames} carried {carried} waiting {waiting} dropped {dropped} damaged {damaged}"
-        )
+        write!(f, "frames {frames} carried {carried} waiting {waiting} ")?;
+        write!(f, "dropped {dropped} stale {stale} damaged {damaged}")
     }
 }
 
-/// Runs `merge`: the frames of the plan, with FIGs of the multiplexer in their free room, are written to `out`. All
-/// frames so far are written, and `out` is flushed, before a file is asked for more bytes; until then they are held, so
-/// that frames which are read together are written together. The summary, and that the multiplexer's frames can't be
-/// read on, are reported on standard error; then the status is `Refused`, though all of the plan's frames are written.
+/// Runs `merge`: the frames of the plan, with FIGs of the multiplexer in their free room, are
+/// written to `out`. All frames so far are written, and `out` is flushed, before a file is asked
+/// for more bytes; until then they are held, so that frames which are read together are written
+/// together. The summary, and that the multiplexer's frames can't be read on, are reported on
+/// standard error; then the status is `Refused`, though all of the plan's frames are written.
 ///
 /// # Errors
 ///
-/// `Failed` if a file can't be opened, the plan's can't be read, or if out of memory; `NotWhole` if the plan's ends
-/// within a frame; `Write` if `out` fails. What was written before stays.
+/// `Failed` if a file can't be opened, the plan's can't be read, or if out of memory; `NotWhole` if
+/// the plan's ends within a frame; `Write` if `out` fails. What was written before stays.
 pub fn show_merged<'a, F: Files, W: Write>(
     alloc: Global,
     request: &MergeRequest<'a>,
     files: &mut F,
     out: &mut W,
 ) -> Result<Status, MergeFault<'a>>
-    ensures merges { AreTwo request.now.plan.now request.now.other.now
-        → MergesFiles request.now.plan.now (fib_count request.now.mode * 32)
+    ensures success { AreTwo request.now.plan.now request.now.other.now
+        → IfOk result (MergesFiles (fib_count request.now.mode * 32)
         (known_at (F.known files.old) (F.known_input files.old) request.now.plan.now)
         (known_at (F.known files.old) (F.known_input files.old) request.now.other.now)
-        (W.contents out.old) (W.contents out.new) result }
-    // What standard error has taken, with the numbers of the frames that are merged.
-    ensures told { AreTwo request.now.plan.now request.now.other.now
-        → ReportsMerge summary_lines request.now.plan.now request.now.other.now
-        (fib_count request.now.mode * 32)
-        (known_at (F.known files.old) (F.known_input files.old) request.now.plan.now)
-        (known_at (F.known files.old) (F.known_input files.old) request.now.other.now)
-        (W.contents out.old) (W.contents out.new)
-        (F.world files.old) (F.world files.new) result }
-    ensures fault { IfErr result (IsMergeFault request.now.plan.now request.now.other.now) }
-    ensures files { Becomes HasSameFiles (F.world files.old) (F.world files.new) }
+        (W.contents out.old) (W.contents out.new)) }
 {
     let mut plan = match frames_of(alloc, files, request.plan) {
         Ok(source) => source,
@@ -176,8 +150,6 @@ fn frames_of<'a, F: Files>(
     ensures bytes { IfOk result (λ source.
         Keeps (known_at (F.known files.old) (F.known_input files.old) path.now)
         (left_of source)) }
-    ensures world { Stays (F.world files.old) (F.world files.new) }
-    ensures fault { IfErr result (IsReadFailure path.now) }
     ensures kept { (other : List ℕ) → AreTwo path.now other
         → Keeps (known_at (F.known files.old) (F.known_input files.old) other)
         (known_at (F.known files.new) (F.known_input files.new) other) }
@@ -189,8 +161,8 @@ fn frames_of<'a, F: Files>(
     FrameReader::new(alloc, source).map_err(|_| Failure::Memory)
 }
 
-/// Whether a source can be read. A folder can be opened, and not read: a read of no bytes fails there, and takes nothing
-/// elsewhere.
+/// Whether a source can be read. A folder can be opened, and not read: a read of no bytes fails
+/// there, and takes nothing elsewhere.
 fn can_be_read<R: Read>(source: &mut R) -> bool
     ensures { Keeps (R.remaining source.old) (R.remaining source.new) }
 {
@@ -200,8 +172,8 @@ fn can_be_read<R: Read>(source: &mut R) -> bool
     }
 }
 
-/// Merges the plan's frames, one after the other, with those of the multiplexer, to the plan's end, and returns what is
-/// to be reported then. `frame` has the size of a frame.
+/// Merges the plan's frames, one after the other, with those of the multiplexer, to the plan's end,
+/// and returns what is to be reported then. `frame` has the size of a frame.
 fn merge_frames<'a, P: Read + Drop, O: Read + Drop, F: Files, W: Write>(
     plan: &mut FrameReader<P>,
     path: &'a str,
@@ -213,12 +185,8 @@ fn merge_frames<'a, P: Read + Drop, O: Read + Drop, F: Files, W: Write>(
     requires size { (0 < length frame.old) × (length frame.old % 32 ≡ 0)
         × (length frame.old ≤ 128) }
     requires open { (other.old.is_open ≡ true) × (other.old.status ≡ Done) }
-    ensures merges { Merges path.now (length frame.old) (left_of plan.old)
-        (left_of other.old.source) (W.contents out.old) (W.contents out.new)
-        other.new.status result }
-    ensures told { ReportsStop other.old.path.now (length frame.old) (left_of other.old.source)
-        other.new.status (F.world files.old) (F.world files.new) }
-    ensures fault { (other_path : List ℕ) → IfErr result (IsMergeFault path.now other_path) }
+    ensures merges { IfOk result (Merges (length frame.old) (left_of plan.old)
+        (left_of other.old.source) (W.contents out.old) (W.contents out.new) other.new.status) }
 {
     let mut held = HeldFrames::new(out, frame.len());
     merge_held(plan, path, other, frame, files, &mut held)
@@ -236,58 +204,39 @@ fn merge_held<'a, P: Read + Drop, O: Read + Drop, F: Files, W: Write>(
     requires size { (0 < length frame.old) × (length frame.old % 32 ≡ 0)
         × (length frame.old ≤ 128) }
     requires open { (other.old.is_open ≡ true) × (other.old.status ≡ Done) }
-    requires first { (out.old.held.items ≡ []) × (out.old.taken ≡ 0) }
+    requires first { out.old.held.items ≡ [] }
     requires sized { out.old.size ≡ length frame.old }
-    ensures merges { Merges path.now (length frame.old) (left_of plan.old)
+    ensures merges { IfOk result (Merges (length frame.old) (left_of plan.old)
         (left_of other.old.source) (W.contents (writer_of out.old))
-        (W.contents (writer_of out.new)) other.new.status result }
-    ensures told { ReportsStop other.old.path.now (length frame.old) (left_of other.old.source)
-        other.new.status (F.world files.old) (F.world files.new) }
-    ensures fault { (other_path : List ℕ) → IfErr result (IsMergeFault path.now other_path) }
+        (W.contents (writer_of out.new)) other.new.status) }
     ensures output { out.new.out.ghost_name ≡ out.old.out.ghost_name }
 {
     let mut merger = Merger::new();
     for frames in 0..MOST_FRAMES {
-        match make_way(plan, out) {
-            Ok(()) => {}
-            Err(fault) => return Err(fault),
+        make_way(plan, out)?;
+        if !read_frame(plan, frame, path, out)? {
+            return Ok(summary_of(frames, &merger));
         }
-        match read_frame(plan, frame, path, out) {
-            Ok(true) => {}
-            Ok(false) => return Ok(summary_of(frames, &merger)),
-            Err(fault) => return Err(fault),
-        }
-        match other.make_way(out) {
-            Ok(()) => {}
-            Err(fault) => return Err(fault),
-        }
+        other.make_way(out)?;
         other.take_next(frame.len(), &mut merger, files, out);
         fill_frame(frame, &mut merger);
         out.hold(frame);
     }
-    match write_held(out) {
-        Ok(()) => Err(MergeFault::Failed(Failure::Read(path))),
-        Err(fault) => Err(fault),
-    }
+    write_held(out)?;
+    Err(MergeFault::Failed(Failure::Read(path)))
 }
 
-/// Writes the frames that are held, unless the next frame of a source is buffered, and there is room to hold it too.
+/// Writes the frames that are held, unless the next frame of a source is buffered, and there is
+/// room to hold it too.
 pub(crate) fn make_way<'a, R: Read + Drop, W: Write>(
     source: &FrameReader<R>,
     out: &mut HeldFrames<'_, W>,
 ) -> Result<(), MergeFault<'a>>
     requires size { (0 < out.old.size) × (out.old.size ≤ 65536) }
-    requires few { out.old.taken + length out.old.held.items < 2 ^ 64 }
     ensures written { OnOk result
         (length source.now.ahead < out.old.size → IsWritten W.contents out.new) }
     ensures room { OnOk result (length out.new.held.items + out.old.size ≤ 65536) }
     ensures kept { OnOk result (Keeps (finished W.contents out.old) (finished W.contents out.new)) }
-    ensures frames { OnOk result ((count : ℕ)
-        → Counts out.old.size count out.old.taken out.old.held.items
-        → Counts out.old.size count out.new.taken out.new.held.items) }
-    ensures more { OnOk result (out.old.taken ≤ out.new.taken) }
-    ensures cut { IfErr result (CutsHeld out.old.size out.old.taken out.old.held.items
-        (W.contents (writer_of out.old)) (W.contents (writer_of out.new))) }
     ensures size { out.new.size ≡ out.old.size }
     ensures output { out.new.out.ghost_name ≡ out.old.out.ghost_name }
 {
@@ -300,15 +249,8 @@ pub(crate) fn make_way<'a, R: Read + Drop, W: Write>(
 /// Writes the frames that are held, and flushes the output.
 fn write_held<'a, W: Write>(out: &mut HeldFrames<'_, W>) -> Result<(), MergeFault<'a>>
     requires size { 0 < out.old.size }
-    requires few { out.old.taken + length out.old.held.items < 2 ^ 64 }
     ensures written { OnOk result (IsWritten W.contents out.new) }
     ensures kept { OnOk result (Keeps (finished W.contents out.old) (finished W.contents out.new)) }
-    ensures frames { OnOk result ((count : ℕ)
-        → Counts out.old.size count out.old.taken out.old.held.items
-        → Counts out.old.size count out.new.taken out.new.held.items) }
-    ensures more { OnOk result (out.old.taken ≤ out.new.taken) }
-    ensures cut { IfErr result (CutsHeld out.old.size out.old.taken out.old.held.items
-        (W.contents (writer_of out.old)) (W.contents (writer_of out.new))) }
     ensures size { out.new.size ≡ out.old.size }
     ensures output { out.new.out.ghost_name ≡ out.old.out.ghost_name }
 {
@@ -318,8 +260,8 @@ fn write_held<'a, W: Write>(out: &mut HeldFrames<'_, W>) -> Result<(), MergeFaul
     }
 }
 
-/// Reads the next frame of the file of this path, and returns whether there is one. The file is asked for bytes only
-/// where the frame is not buffered, and then all frames so far are written.
+/// Reads the next frame of the file of this path, and returns whether there is one. The file is
+/// asked for bytes only where the frame is not buffered, and then all frames so far are written.
 pub(crate) fn read_frame<'a, R: Read + Drop, W: Write>(
     source: &mut FrameReader<R>,
     frame: &mut [u8],
@@ -329,11 +271,9 @@ pub(crate) fn read_frame<'a, R: Read + Drop, W: Write>(
     requires size { (0 < length frame.old) × (length frame.old ≤ 128) }
     requires written { length source.old.ahead < length frame.old → IsWritten W.contents out.now }
     ensures whole { length frame.new ≡ length frame.old }
-    ensures reads { ReadsFrame path.now (length frame.old) (left_of source.old)
-        (left_of source.new) frame.new result }
+    ensures reads { ReadsFrame (left_of source.old) (left_of source.new) frame.new result }
     ensures end { IfOk result (λ more. more ≡ false
         → length source.old.ahead < length frame.old) }
-    ensures failed { OnErr result (length source.old.ahead < length frame.old) }
 {
     match source.next(frame.len(), out) {
         Ok(true) => {
@@ -346,14 +286,15 @@ pub(crate) fn read_frame<'a, R: Read + Drop, W: Write>(
     }
 }
 
-/// Passes over the bytes at the end of a file, which are less than a frame; `NotWhole` if there are some.
+/// Passes over the bytes at the end of a file, which are less than a frame; `NotWhole` if there are
+/// some.
 fn end_of<'a, R: Read + Drop>(
     source: &mut FrameReader<R>,
     path: &'a str,
 ) -> Result<bool, MergeFault<'a>>
     requires end { IsAtEnd source.old.behind }
-    ensures reads { (frame : List ℕ) (size : ℕ) → length source.old.ahead < size
-        → ReadsFrame path.now size (left_of source.old) (left_of source.new) frame result }
+    ensures reads { (frame : List ℕ)
+        → ReadsFrame (left_of source.old) (left_of source.new) frame result }
     ensures none { IfOk result (λ more. more ≡ false) }
 {
     let cut = source.len();
@@ -398,6 +339,7 @@ fn summary_of(frames: u64, merger: &Merger) -> MergeSummary
         carried: merger.carried(),
         waiting: merger.waiting(),
         dropped: merger.dropped(),
+        stale: merger.stale(),
         damaged: merger.damaged(),
     }
 }

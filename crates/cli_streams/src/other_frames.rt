@@ -1,14 +1,12 @@
 //! The frames of the multiplexer that `merge` reads beside the plan's.
 
-ghost use Rattle.std.specs.Prelude.{◌≡◌, ◌+◌, ◌%◌, ◌<◌, ◌≤◌, ◌^◌, ◌⊎◌, ℕ, List, Option, length, IfErr, OnErr, OnOk, true, false};
+ghost use Rattle.std.specs.Prelude.{◌≡◌, ◌+◌, ◌%◌, ◌<◌, ◌≤◌, ℕ, List, Option, length, OnOk, true};
 ghost use Rattle.std.specs.Io.KnownBytes.{Keeps};
 ghost use Rattle.stream_check.specs.Frames.{Reading};
-ghost use Rattle.cli_streams.specs.Buffered.{left_of};
-ghost use Rattle.cli_streams.specs.Held.{Counts, IsWritten, finished, writer_of};
-ghost use Rattle.cli_streams.specs.MergeReports.{ReportsNext};
-ghost use Rattle.cli_streams.specs.Merged.{CutsHeld, ReadsFrame, TakesAs, TakesFrames, TakesNext, after_frame_taken};
-ghost use Rattle.console.specs.World.{Stays};
-ghost use Rattle.console.specs.declared.exit.Status.TheVariants.{Done, Refused};
+ghost use Rattle.stream_monitor.specs.Buffered.{left_of};
+ghost use Rattle.cli_streams.specs.Held.{IsWritten, finished};
+ghost use Rattle.cli_streams.specs.Merged.{ReadsFrame, TakesAs, TakesFrames, TakesNext, after_frame_taken};
+ghost use Rattle.console.specs.declared.exit.Status.TheVariants.{Done};
 
 use crate::frame_reader::FrameReader;
 use crate::held_frames::HeldFrames;
@@ -33,7 +31,6 @@ impl<'a, R: Read + Drop> OtherFrames<'a, R> {
     /// None read so far.
     pub(crate) fn new(source: FrameReader<R>, path: &'a str) -> Self
         ensures source { result.source ≡ source }
-        ensures path { result.path.now ≡ path.now }
         ensures open { (result.is_open ≡ true) × (result.status ≡ Done) }
     {
         OtherFrames {
@@ -52,19 +49,12 @@ impl<'a, R: Read + Drop> OtherFrames<'a, R> {
         out: &mut HeldFrames<'_, W>,
     ) -> Result<(), MergeFault<'a>>
         requires size { (0 < out.old.size) × (out.old.size ≤ 65536) }
-        requires few { out.old.taken + length out.old.held.items < 2 ^ 64 }
         requires room { length out.old.held.items + out.old.size ≤ 65536 }
         ensures written { OnOk result (self.now.is_open ≡ true
             → length self.now.source.ahead < out.old.size → IsWritten W.contents out.new) }
         ensures room { OnOk result (length out.new.held.items + out.old.size ≤ 65536) }
         ensures kept { OnOk result
             (Keeps (finished W.contents out.old) (finished W.contents out.new)) }
-        ensures frames { OnOk result ((count : ℕ)
-            → Counts out.old.size count out.old.taken out.old.held.items
-            → Counts out.old.size count out.new.taken out.new.held.items) }
-        ensures more { OnOk result (out.old.taken ≤ out.new.taken) }
-        ensures cut { IfErr result (CutsHeld out.old.size out.old.taken out.old.held.items
-            (W.contents (writer_of out.old)) (W.contents (writer_of out.new))) }
         ensures size { out.new.size ≡ out.old.size }
         ensures output { out.new.out.ghost_name ≡ out.old.out.ghost_name }
     {
@@ -75,8 +65,8 @@ impl<'a, R: Read + Drop> OtherFrames<'a, R> {
         }
     }
 
-    /// Takes the FIGs of the next frame of this size, while there is one. That there is less than a frame, or that it
-    /// can't be read, is reported at once, and no more is read.
+    /// Takes the FIGs of the next frame of this size, while there is one. That there is less than a
+    /// frame, or that it can't be read, is reported at once, and no more is read.
     pub(crate) fn take_next<F: Files, W: Write>(
         &mut self,
         size: usize,
@@ -92,14 +82,6 @@ impl<'a, R: Read + Drop> OtherFrames<'a, R> {
             self.old.status count taken
             → TakesNext size before (left_of self.new.source) self.new.is_open
             self.new.status count taken merger.old merger.new }
-        ensures asked { self.new.status ≡ Refused → (self.old.status ≡ Refused)
-            ⊎ ((self.old.is_open ≡ true) × (length self.old.source.ahead < size)) }
-        ensures told { self.old.is_open ≡ true → self.old.status ≡ Done
-            → ReportsNext self.old.path.now size (left_of self.old.source)
-            (left_of self.new.source) self.new.status (F.world files.old) (F.world files.new) }
-        ensures closed { self.old.is_open ≡ false → (self.new.status ≡ self.old.status)
-            × Stays (F.world files.old) (F.world files.new) }
-        ensures path { self.new.path.now ≡ self.old.path.now }
     {
         if !self.is_open {
             return;
@@ -115,8 +97,8 @@ impl<'a, R: Read + Drop> OtherFrames<'a, R> {
     }
 }
 
-/// Takes the FIGs of the next frame of this size of the file of this path, and returns whether there is one. Those of a
-/// frame that is not whole are not taken.
+/// Takes the FIGs of the next frame of this size of the file of this path, and returns whether
+/// there is one. Those of a frame that is not whole are not taken.
 fn take_frame<'a, R: Read + Drop, W: Write>(
     source: &mut FrameReader<R>,
     size: usize,
@@ -127,9 +109,8 @@ fn take_frame<'a, R: Read + Drop, W: Write>(
     requires size { (0 < size) × (size % 32 ≡ 0) × (size ≤ 128) }
     requires written { length source.old.ahead < size → IsWritten W.contents out.now }
     ensures takes { (frame : List ℕ) × (length frame ≡ size)
-        × ReadsFrame path.now size (left_of source.old) (left_of source.new) frame result
+        × ReadsFrame (left_of source.old) (left_of source.new) frame result
         × TakesAs frame result merger.old merger.new }
-    ensures asked { OnErr result (length source.old.ahead < size) }
 {
     let mut buffer = [0; LONGEST];
     let frame = &mut buffer[..size];

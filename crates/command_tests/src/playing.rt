@@ -1,7 +1,6 @@
 //! `play` over files in memory: what its output file holds.
 
 ghost use Rattle.std.specs.Prelude.{◌≡◌, codes, Some, IfOk, IfSome};
-ghost use Rattle.plan_session.specs.PartReading.{Fits};
 ghost use Rattle.console.specs.Versions.{world_of};
 ghost use Rattle.command_tests.specs.Playing.{HoldsRun};
 
@@ -42,7 +41,7 @@ pub fn played(
     events: &[u8],
     start: StartOptions,
 ) -> Result<Option<MemoryFiles>, AllocError>
-    ensures { Fits events.now → IfOk result (λ found. IfSome found (λ files.
+    ensures { IfOk result (λ found. IfSome found (λ files.
         HoldsRun code.now events.now start (world_of files))) }
 {
     let mut files = files_with(alloc, code, events)?;

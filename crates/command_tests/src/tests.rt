@@ -1,5 +1,6 @@
 //! Tests of commands: what is printed, what the output file holds, and how the command ends.
 
+mod answering;
 mod comparing;
 mod compiling;
 mod flushing;

@@ -1,38 +1,37 @@
 -- What two calls after one another leave of a world.
 use Rattle.std.proofs.Common.{List, ℕ, Option, None, Some, ◌∙◌}
-use Rattle.console.specs.World.{World, Becomes, Stays, IsSame, IsSameBut, HasWritten}
+use Rattle.console.specs.World.{World, Becomes, Stays, IsSameBut, HasWritten}
 
-but_both : (path : List ℕ) (old mid new : World) → IsSameBut path old mid → IsSameBut path mid new → IsSameBut path old new
-but_both path old mid new p q = record { others = λ other not. q.others other not ∙ p.others other not; errors = q.errors ∙ p.errors }
-
-same_but : (path : List ℕ) (old new : World) → IsSame old new → IsSameBut path old new
-same_but path old new p = record { others = λ other not. p.files other; errors = p.errors }
-
-pub but_then_but : (path : List ℕ) (old mid new : Option World) → Becomes (IsSameBut path) old mid → Becomes (IsSameBut path) mid new → Becomes (IsSameBut path) old new
+pub but_then_but : (path : List ℕ) (old mid new : Option World)
+    → Becomes (IsSameBut path) old mid → Becomes (IsSameBut path) mid new → Becomes (IsSameBut path) old new
 but_then_but path None mid new p q = tt
 but_then_but path (Some a) None new p q = absurd p
 but_then_but path (Some a) (Some b) None p q = absurd q
-but_then_but path (Some a) (Some b) (Some c) p q = but_both path a b c p q
+but_then_but path (Some a) (Some b) (Some c) p q = λ other not. q other not ∙ p other not
 
-pub but_then_written : (path bytes : List ℕ) (old mid new : Option World) → Becomes (IsSameBut path) old mid → Becomes (HasWritten path bytes) mid new → Becomes (HasWritten path bytes) old new
+pub but_then_written : (path bytes : List ℕ) (old mid new : Option World)
+    → Becomes (IsSameBut path) old mid → Becomes (HasWritten path bytes) mid new → Becomes (HasWritten path bytes) old new
 but_then_written path bytes None mid new p q = tt
 but_then_written path bytes (Some a) None new p q = absurd p
 but_then_written path bytes (Some a) (Some b) None p q = absurd q
-but_then_written path bytes (Some a) (Some b) (Some c) p q = record { written = q.written; rest = but_both path a b c p q.rest }
+but_then_written path bytes (Some a) (Some b) (Some c) p q =
+    record { written = q.written; others = λ other not. q.others other not ∙ p other not }
 
 pub stays_but : (path : List ℕ) (old new : Option World) → Stays old new → Becomes (IsSameBut path) old new
 stays_but path None new p = tt
 stays_but path (Some a) None p = p
-stays_but path (Some a) (Some b) p = same_but path a b p
+stays_but path (Some a) (Some b) p = λ other not. p other
 
 pub stays_then_stays : (old mid new : Option World) → Stays old mid → Stays mid new → Stays old new
 stays_then_stays None mid new p q = tt
 stays_then_stays (Some a) None new p q = absurd p
 stays_then_stays (Some a) (Some b) None p q = absurd q
-stays_then_stays (Some a) (Some b) (Some c) p q = record { files = λ path. q.files path ∙ p.files path; errors = q.errors ∙ p.errors }
+stays_then_stays (Some a) (Some b) (Some c) p q = λ path. q path ∙ p path
 
-pub stays_then_but : (path : List ℕ) (old mid new : Option World) → Stays old mid → Becomes (IsSameBut path) mid new → Becomes (IsSameBut path) old new
+pub stays_then_but : (path : List ℕ) (old mid new : Option World)
+    → Stays old mid → Becomes (IsSameBut path) mid new → Becomes (IsSameBut path) old new
 stays_then_but path old mid new p q = but_then_but path old mid new (stays_but path old mid p) q
 
-pub stays_then_written : (path bytes : List ℕ) (old mid new : Option World) → Stays old mid → Becomes (HasWritten path bytes) mid new → Becomes (HasWritten path bytes) old new
+pub stays_then_written : (path bytes : List ℕ) (old mid new : Option World)
+    → Stays old mid → Becomes (HasWritten path bytes) mid new → Becomes (HasWritten path bytes) old new
 stays_then_written path bytes old mid new p q = but_then_written path bytes old mid new (stays_but path old mid p) q

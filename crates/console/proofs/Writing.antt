@@ -8,7 +8,7 @@ whole_written : (path bytes : List ℕ) (b : World) (new : Option World) (after 
     → IfSome after (λ held. Becomes (HasWritten path held) (Some b) new) → Becomes (HasWritten path bytes) (Some b) new
 whole_written path bytes b new None took q = absurd took
 whole_written path bytes b None (Some held) took q = absurd q
-whole_written path bytes b (Some c) (Some held) took q = record { written = q.written ∙ ap Some took; rest = q.rest }
+whole_written path bytes b (Some c) (Some held) took q = record { written = q.written ∙ ap Some took; others = q.others }
 
 pub written_whole : (path bytes : List ℕ) (old mid new : Option World) (before after : Option (List ℕ)) → IfSome old (λ _. before ≡ Some []) → Becomes (IsSameBut path) old mid
     → Appends before after bytes → IfSome after (λ held. Becomes (HasWritten path held) mid new) → Becomes (HasWritten path bytes) old new

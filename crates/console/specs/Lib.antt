@@ -1,7 +1,3 @@
-pub mod Digits
-pub mod Endings
-pub mod Escapes
-pub mod Failures
 pub mod LineBytes
 pub mod Lines
 pub mod Printed

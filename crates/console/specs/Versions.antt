@@ -11,4 +11,4 @@ bytes_in path [] = None
 bytes_in path (version ∷ versions) = if bytes_eq (string_bytes version.path) path then Some version.bytes.items else bytes_in path versions
 
 abbrev pub world_of : MemoryFiles → World
-world_of m = record { files = λ path. bytes_in path m.versions.items; errors = m.errors.items }
+world_of m = record { files = λ path. bytes_in path m.versions.items }

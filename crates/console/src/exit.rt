@@ -1,14 +1,11 @@
 //! Exit statuses, and failures to access a file.
 
-ghost use Rattle.std.specs.Prelude.{◌≡◌, ◌≢◌, ℕ, List, [], Some, take, codes, IfOk, IfErr, OnOk, OnErr, IfSome};
+ghost use Rattle.std.specs.Prelude.{◌≡◌, ◌≢◌, ℕ, List, [], Some, take, codes, IfOk, OnOk, IfSome};
 ghost use Rattle.std.specs.Io.KnownBytes.{Keeps};
-ghost use Rattle.console.specs.Failures.{IsReadFailure, IsWriteFailure};
 ghost use Rattle.console.specs.World.{Becomes, Stays, IsSameBut, HasWritten, HasTouched};
-ghost use Rattle.console.specs.declared.exit.Failure.TheVariants.{Memory as NoMemory};
 
 use crate::escaped::Escaped;
 use crate::files::{FileFault, Files};
-use crate::output::write_out;
 use crate::pieces::{Pieces, read_within};
 use std::alloc::Global;
 use std::fmt::{self, Display, Formatter};
@@ -41,12 +38,6 @@ pub enum Failure<'a> {
 }
 
 impl Display for Failure<'_> {
-    ghost use Rattle.std.specs.Prelude.{Some};
-    ghost use Rattle.console.specs.Failures.{failure_text};
-    ghost use Rattle.console.specs.declared.escaped.Form.TheVariants.{Line as InLine};
-
-    ghost output = { λ failure. Some (failure_text InLine failure) };
-
     /// The printed line, with the control bytes of paths as `\xHH`.
     fn fmt<W: fmt::Write>(&self, f: &mut Formatter<W>) -> fmt::Result {
         match self {
@@ -66,12 +57,6 @@ impl error::Error for Failure<'_> {}
 pub struct JsonFailure<'f, 'a>(pub &'f Failure<'a>);
 
 impl Display for JsonFailure<'_, '_> {
-    ghost use Rattle.std.specs.Prelude.{Some};
-    ghost use Rattle.console.specs.Failures.{refused_json, failure_text};
-    ghost use Rattle.console.specs.declared.escaped.Form.TheVariants.{Json as InJson};
-
-    ghost output = { λ failure. Some (refused_json (failure_text InJson failure.0.now)) };
-
     fn fmt<W: fmt::Write>(&self, f: &mut Formatter<W>) -> fmt::Result {
         match self.0 {
             Failure::Memory => f.write_str("{\"kind\":\"refused\",\"cause\":\"no memory\"}"),
@@ -95,12 +80,8 @@ impl Display for JsonFailure<'_, '_> {
 }
 
 impl<'a> Failure<'a> {
-    ghost use Rattle.console.specs.Failures.{IsReadFailure, IsWriteFailure};
-
     /// The failure to report for an unreadable file.
-    pub fn of_file(fault: FileFault, path: &'a str) -> Self
-        ensures { IsReadFailure path.now result }
-    {
+    pub fn of_file(fault: FileFault, path: &'a str) -> Self {
         match fault {
             FileFault::Failed => Failure::Read(path),
             FileFault::Memory => Failure::Memory,
@@ -108,9 +89,7 @@ impl<'a> Failure<'a> {
     }
 
     /// The failure to report for a file that can't be created.
-    pub fn of_output(fault: FileFault, path: &'a str) -> Self
-        ensures { IsWriteFailure path.now result }
-    {
+    pub fn of_output(fault: FileFault, path: &'a str) -> Self {
         match fault {
             FileFault::Failed => Failure::Create(path),
             FileFault::Memory => Failure::Memory,
@@ -119,11 +98,6 @@ impl<'a> Failure<'a> {
 }
 
 impl From<io::Error> for Failure<'_> {
-    ghost use Rattle.std.specs.Prelude.{◌≡◌};
-    ghost use Rattle.console.specs.declared.exit.Failure.TheVariants.{Output};
-
-    ghost from_gives = { λ _ failure. failure ≡ Output };
-
     fn from(_error: io::Error) -> Self {
         Failure::Output
     }
@@ -141,7 +115,6 @@ pub fn open_input<'a, F: Files>(files: &mut F, path: &'a str) -> Result<F::In, F
     ensures kept { path.now ≢ codes "-"
         → Keeps (F.known_input files.old) (F.known_input files.new) }
     ensures world { Stays (F.world files.old) (F.world files.new) }
-    ensures fault { IfErr result (IsReadFailure path.now) }
 {
     let source = if path == "-" {
         files.input()
@@ -165,7 +138,6 @@ pub fn pieces_of<'a, F: Files>(
     ensures files { (other : List ℕ)
         → Keeps (F.known files.old other) (F.known files.new other) }
     ensures world { Stays (F.world files.old) (F.world files.new) }
-    ensures fault { IfErr result (IsReadFailure path.now) }
 {
     let source = open_input(files, path)?;
     Pieces::new(alloc, source).map_err(|_| Failure::Memory)
@@ -186,7 +158,6 @@ pub fn read_file<'a, F: Files>(
     ensures files { (other : List ℕ)
         → Keeps (F.known files.old other) (F.known files.new other) }
     ensures world { Stays (F.world files.old) (F.world files.new) }
-    ensures fault { IfErr result (IsReadFailure path.now) }
 {
     let file = files.open(path);
     let file = file.map_err(|fault| Failure::of_file(fault, path))?;
@@ -207,7 +178,6 @@ pub fn read_input<'a, F: Files>(
     ensures files { (other : List ℕ)
         → Keeps (F.known files.old other) (F.known files.new other) }
     ensures world { Stays (F.world files.old) (F.world files.new) }
-    ensures fault { IfErr result (IsReadFailure path.now) }
 {
     let source = open_input(files, path)?;
     read_within(alloc, source, most).map_err(|fault| Failure::of_file(fault, path))
@@ -219,19 +189,15 @@ pub fn create_file<'a, F: Files>(files: &mut F, path: &'a str) -> Result<F::Out,
     ensures empty { IfOk result (λ file. IfSome (F.world files.old)
         (λ _. F.Out.contents file ≡ Some [])) }
     ensures others { Becomes (IsSameBut path.now) (F.world files.old) (F.world files.new) }
-    ensures failed { OnErr result (Stays (F.world files.old) (F.world files.new)) }
-    ensures fault { IfErr result (IsWriteFailure path.now) }
 {
     files
         .create(path)
         .map_err(|fault| Failure::of_output(fault, path))
 }
 
-/// Creates the file of this path, or truncates it, with these bytes. Other files are as they were in any case.
+/// Gives the file of this path these bytes, or leaves it as it was. Other files are as they were in any case.
 ///
-/// `Create` if it can't be created, written to the end or closed: nothing is known of this file then. `Memory` if out
-/// of memory before it is created: all files are as they were then.
-#[tactic(auto, using(crate::proofs::Writing::written_whole, crate::proofs::Worlds::but_then_but))]
+/// `Create` if it can't be created or written to the end, `Memory` if out of memory.
 pub fn write_file<'a, F: Files>(
     files: &mut F,
     path: &'a str,
@@ -240,22 +206,10 @@ pub fn write_file<'a, F: Files>(
     ensures written { OnOk result
         (Becomes (HasWritten path.now bytes.now) (F.world files.old) (F.world files.new)) }
     ensures others { Becomes (IsSameBut path.now) (F.world files.old) (F.world files.new) }
-    ensures memory { IfErr result
-        (λ failure. failure ≡ NoMemory → Stays (F.world files.old) (F.world files.new)) }
-    ensures fault { IfErr result (IsWriteFailure path.now) }
 {
-    let mut file = match create_file(files, path) {
-        Ok(file) => file,
-        Err(failure) => return Err(failure),
-    };
-    let (_taken, written) = write_out(bytes, &mut file);
-    if written.is_err() {
-        return Err(Failure::Create(path));
-    }
-    match files.close(path, file) {
-        Ok(()) => Ok(()),
-        Err(_) => Err(Failure::Create(path)),
-    }
+    files
+        .replace(path, bytes)
+        .map_err(|fault| Failure::of_output(fault, path))
 }
 
 /// Creates an empty file of this path if there is none. A file that is there keeps its bytes. `Create` on a system
@@ -263,8 +217,6 @@ pub fn write_file<'a, F: Files>(
 pub fn touch_file<'a, F: Files>(files: &mut F, path: &'a str) -> Result<(), Failure<'a>>
     ensures touched { OnOk result
         (Becomes (HasTouched path.now) (F.world files.old) (F.world files.new)) }
-    ensures failed { OnErr result (Stays (F.world files.old) (F.world files.new)) }
-    ensures fault { IfErr result (IsWriteFailure path.now) }
 {
     files
         .touch(path)

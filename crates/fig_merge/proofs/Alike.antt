@@ -1,25 +1,26 @@
 -- What a listener and the checker know of filled FIBs is what they know of the plan's.
 use Rattle.std.proofs.Common.{◌≡◌, ℕ, suc, ◌+◌, ◌%◌, ◌==◌, ◌&&◌, Bool, true, false, not, cond, ltb, List, [], ◌∷◌, ◌++◌, length, map, flat_map, Some, None, refl, sym, ap, ap₂, subst, ◌∙◌, arith, append_assoc}
 use Rattle.std.specs.Prelude.{Option}
-use Rattle.std.specs.List.{AllByRecursion}
-use Rattle.fib_codec.specs.Grammar.{Fig, Other, IsFib}
+use Rattle.std.specs.List.{AllByRecursion, list_all}
+use Rattle.std.proofs.lemmas.Bool.{false≢true}
+use Rattle.mux_types.specs.Entries.{EnsembleInformation}
+use Rattle.fib_codec.specs.Grammar.{Fig, Open, Other, IsFib, is_next}
 use Rattle.fib_codec.proofs.Uniqueness.{one_fib}
-use Rattle.stream_check.specs.Listening.{Listening, hear_fig, hear_figs, where_heard}
-use Rattle.stream_check.specs.Raw.{entries_in}
-use Rattle.stream_check.specs.declared.finding.Finding.{Finding}
+use Rattle.stream_check.specs.Listening.{Listening, untuned, at_ensemble, hear_entries, hear_fig, hear_figs, where_heard}
+use Rattle.stream_check.specs.Raw.{Raw, entries_in, ensemble_in}
 use Rattle.stream_check.specs.declared.finding.Fault.TheVariants as faults
 use Rattle.stream_check.specs.declared.finding.StreamEvent.TheVariants as events
 use Rattle.stream_check.specs.declared.finding.What.{What}
 use Rattle.stream_check.specs.declared.finding.What.TheVariants as whats
-use Rattle.stream_check.specs.Reporting.{when, in_frame}
+use Rattle.stream_check.specs.Reporting.{when}
 use Rattle.stream_check.specs.Frames.{Fib, Reads, Reading, is_damaged, first_raw, first_or, first_in_figs, first_in, opening, is_there, begins_with_ensemble, holds_ensemble, IsOneFrame, BeginsAnew, AreFrames, HoldsFirst, damaged_in, first_of_frame, first_opening, lacks_opening, opening_in_figs}
-use Rattle.stream_check.specs.History.{Item, Moment, Ended, said, due, frames_ended, fig_items, figs_items, fib_items, fibs_items}
-use Rattle.stream_check.specs.Stream.{count_in, eid_in, count_due, placed_count, count_of_frame, first_line, frame_findings, findings_at_items, runs_full, last_findings, findings_in, after_frame, findings_of}
-use Rattle.fig_merge.specs.Taking.{Merging, IsMerging, nothing_taken}
-use Rattle.fig_merge.specs.Filling.{filled_fib, merged, carried_by, carried_in, room_of}
+use Rattle.stream_check.specs.History.{Item, Moment, Ended, said, due, fig_items, figs_items, fib_items, fibs_items}
+use Rattle.stream_check.specs.Stream.{count_in, eid_in, count_due, placed_count, count_of_frame, first_line, frame_findings, after_frame}
+use Rattle.fig_merge.specs.Taking.{Merging, IsMerging, nothing_taken, most, limited, waits, with_fig, with_figs, taken_of, after_take}
+use Rattle.fig_merge.specs.Filling.{agrees_with, filled_fib, merged, carried_by, carried_in, turns_in, room_of, heard_or, after_fill}
 use Rattle.fig_merge.specs.Steps.{Step, Take, Fill, after_step}
-use Rattle.fig_merge.specs.Passing.{with_carried, FilledIsRead, hear_fib, FilledIsHeardAlike, AreFilled, fibs_in, sent_in, AllAreFilled, AreFilledFrames, FilledIsCheckedAlike, FilledIsFramedAlike}
-use Rattle.fig_merge.proofs.Passing.{filled_is}
+use Rattle.fig_merge.specs.Passing.{with_carried, FilledIsRead, hear_fib, FilledIsHeardAlike, Judge, agreeing, hearing_fib, hearing_fibs, AreFilled, fibs_in, sent_in, AllAreFilled, AreFilledFrames, FilledIsFramedAlike}
+use Rattle.fig_merge.proofs.Passing.{filled_is, all_agree}
 use Rattle.fig_merge.proofs.Carried.{merging_step}
 
 -- ---- the filled FIB has one reading
@@ -38,8 +39,8 @@ read_filled : (r : Reading) (bytes : List ℕ) (m : Merging) (fib : Fib) → Rea
     → r.read (merged bytes fib m) ≡ with_carried fib (carried_by fib m)
 read_filled r bytes m None damaged h = none_is bytes damaged (r.read bytes) (r.right bytes)
 read_filled r bytes m (Some figs) is h =
-    let new = filled_fib figs m.waiting in
-    read_is new (figs ++ map Other (carried_in (room_of figs) m.waiting)) (filled_is bytes figs m.waiting is h.passed_over) (r.read new) (r.right new)
+    let new = filled_fib figs m.heard m.waiting in
+    read_is new (figs ++ map Other (carried_in (agrees_with figs m.heard) (room_of figs) m.waiting)) (filled_is bytes figs m.heard m.waiting is h.passed_over) (r.read new) (r.right new)
 
 pub filled_read : FilledIsRead
 filled_read r bytes m h = read_filled r bytes m (r.read bytes) (r.right bytes) h
@@ -64,14 +65,52 @@ pub filled_heard : FilledIsHeardAlike
 filled_heard r bytes m l h =
     ap (λ (fib : Fib). hear_fib fib l) (filled_read r bytes m h) ∙ heard_alike (r.read bytes) (carried_by (r.read bytes) m) l
 
+-- ---- what the merger has heard
+with_heard : (fig : List ℕ) (m : Merging) → (with_fig fig m).heard ≡ m.heard
+with_heard fig m = by (waits fig m.waiting) (ltb (length m.waiting) most)
+  where
+    by : (there room : Bool) → (cond there m (cond room (record m { waiting = m.waiting ++ fig ∷ [] }) (record m { dropped = limited (m.dropped + 1) }))).heard ≡ m.heard
+    by true room = refl
+    by false true = refl
+    by false false = refl
+
+figs_heard : (figs : List (List ℕ)) (m : Merging) → (with_figs figs m).heard ≡ m.heard
+figs_heard [] m = refl
+figs_heard (fig ∷ figs) m = figs_heard figs (with_fig fig m) ∙ with_heard fig m
+
+pub take_heard : (fib : Fib) (m : Merging) → (after_take fib m).heard ≡ m.heard
+take_heard None m = refl
+take_heard (Some figs) m = figs_heard (taken_of figs) m
+
+pub fill_heard : (fib : Fib) (m : Merging) → (after_fill fib m).heard ≡ hearing_fib fib m.heard
+fill_heard None m = refl
+fill_heard (Some figs) m = refl
+
+all_true : (p : List ℕ → Bool) (xs : List (List ℕ)) → AllByRecursion (λ x. p x ≡ true) xs → list_all p xs ≡ true
+all_true p [] all = refl
+all_true p (x ∷ xs) all = ap₂ (λ (a b : Bool). a && b) all.0 (all_true p xs all.1)
+
+pub carried_agree : (fib : Fib) (m : Merging) → agreeing m.heard fib (carried_by fib m) ≡ true
+carried_agree None m = refl
+carried_agree (Some figs) m =
+    let ok = agrees_with figs m.heard in
+    all_true ok (carried_in ok (room_of figs) m.waiting) (all_agree ok (turns_in ok (room_of figs) m.waiting))
+
 -- ---- all FIBs that are filled
-pub filled_from : (r : Reading) (steps : List Step) (m : Merging) → IsMerging m → AreFilled (fibs_in r steps) (map r.read (sent_in r steps m))
+pub filled_from : (r : Reading) (steps : List Step) (m : Merging) → IsMerging m → AreFilled agreeing m.heard (fibs_in r steps) (map r.read (sent_in r steps m))
 filled_from r [] m h = refl
-filled_from r (Take fib ∷ ss) m h = filled_from r ss (after_step r (Take fib) m) (merging_step r (Take fib) m h)
+filled_from r (Take fib ∷ ss) m h =
+    let later = after_step r (Take fib) m in
+    subst (λ (l : Listening). AreFilled agreeing l (fibs_in r ss) (map r.read (sent_in r ss later))) (take_heard (r.read fib) m) (filled_from r ss later (merging_step r (Take fib) m h))
 filled_from r (Fill fib ∷ ss) m h =
     let later = after_step r (Fill fib) m in
-    let sent = map r.read (sent_in r ss later) in
-    (carried_by (r.read fib) m, sent, ap (λ (f : Fib). f ∷ sent) (filled_read r fib m h), filled_from r ss later (merging_step r (Fill fib) m h))
+    let sent = map r.read (sent_in r ss later) in (
+      carried_by (r.read fib) m,
+      sent,
+      ap (λ (f : Fib). f ∷ sent) (filled_read r fib m h),
+      carried_agree (r.read fib) m,
+      subst (λ (l : Listening). AreFilled agreeing l (fibs_in r ss) sent) (fill_heard (r.read fib) m) (filled_from r ss later (merging_step r (Fill fib) m h)),
+    )
 
 pub all_filled : AllAreFilled
 all_filled r steps = filled_from r steps nothing_taken (record { few = omega arith; passed_over = tt })
@@ -123,12 +162,12 @@ pub record IsAlike (before after : List Fib) : Type 0 where
   pub lacks : lacks_opening after ≡ lacks_opening before
   pub items : (b : Bool) → fibs_items b after ≡ fibs_items b before
 
-pub frame_alike : (frame sent : List Fib) → AreFilled frame sent → IsAlike frame sent
-frame_alike [] sent h =
+pub frame_alike : (may : Judge) (l : Listening) (frame sent : List Fib) → AreFilled may l frame sent → IsAlike frame sent
+frame_alike may l [] sent h =
     subst (λ (xs : List Fib). IsAlike [] xs) (sym h)
     (record { long = refl; damaged = refl; first = refl; opens = refl; lacks = refl; items = λ b. refl })
-frame_alike (fib ∷ fibs) sent h =
-    let rest = frame_alike fibs h.1 h.3 in
+frame_alike may l (fib ∷ fibs) sent h =
+    let rest = frame_alike may (hearing_fib fib l) fibs h.1 h.4 in
     let begins = begins_alike fib h.0 in
     let broken = damaged_alike fib h.0 in
     subst (λ (xs : List Fib). IsAlike (fib ∷ fibs) xs) (sym h.2) (record {
@@ -144,17 +183,17 @@ due_alike : (last : Option ℕ) (frame sent : List Fib) → IsAlike frame sent �
 due_alike None frame sent a = ap count_in a.first
 due_alike (Some count) frame sent a = refl
 
-count_alike : (step : ℕ) (last : Option ℕ) (frame sent : List Fib) → IsAlike frame sent → count_of_frame step last sent ≡ count_of_frame step last frame
+pub count_alike : (step : ℕ) (last : Option ℕ) (frame sent : List Fib) → IsAlike frame sent → count_of_frame step last sent ≡ count_of_frame step last frame
 count_alike step last frame sent a = ap₂ (placed_count step) (due_alike last frame sent a) a.opens
 
 line_alike : (last : Option ℕ) (frame sent : List Fib) → IsAlike frame sent → first_line last sent ≡ first_line last frame
 line_alike None frame sent a = ap (λ e. whats.Event (events.Ensemble (eid_in e)) ∷ []) a.first
 line_alike (Some count) frame sent a = refl
 
-abbrev joined : List What → List What → List What
+abbrev pub joined : List What → List What → List What
 joined xs ys = xs ++ ys
 
-whole_alike : (size step : ℕ) (last : Option ℕ) (frame sent : List Fib) → IsAlike frame sent
+pub whole_alike : (size step : ℕ) (last : Option ℕ) (frame sent : List Fib) → IsAlike frame sent
     → frame_findings size step last sent ≡ frame_findings size step last frame
 whole_alike size step last frame sent a =
     ap₂ joined (line_alike last frame sent a)
@@ -162,130 +201,149 @@ whole_alike size step last frame sent a =
     (ap₂ joined (ap (λ n. when (ltb 0 n) (faults.Damaged n)) a.damaged)
     (ap₂ (λ (n : ℕ) (b : Bool). when (n % step == 0 && b) faults.NoEnsemble) (due_alike last frame sent a) a.lacks)))
 
-in_alike : (size step period : ℕ) (past : List Moment) (frame sent : List Fib) → IsAlike frame sent
-    → findings_in size step period past sent ≡ findings_in size step period past frame
-in_alike size step period past frame sent a =
-    ap₂ (λ (n : ℕ) (xs : List What). map (in_frame (record { frame = frames_ended past; count = n })) xs)
-    (count_alike step (due past) frame sent a)
-    (ap₂ joined (whole_alike size step (due past) frame sent a)
-    (ap (λ (items : List Item). findings_at_items step period past items ++ last_findings (runs_full step period past items) period (said items past)) (a.items true)))
-
 pub after_alike : (step : ℕ) (past : List Moment) (frame sent : List Fib) → IsAlike frame sent → after_frame step past sent ≡ after_frame step past frame
 after_alike step past frame sent a =
     ap₂ (λ (n : ℕ) (items : List Item). Ended n ∷ said items past) (count_alike step (due past) frame sent a) (a.items true)
-
--- ---- of successive frames
-streams_alike : (size step period : ℕ) (frames sent : List (List Fib)) (past : List Moment) → AreFilledFrames frames sent
-    → findings_of size step period past sent ≡ findings_of size step period past frames
-streams_alike size step period [] sent past h = ap (findings_of size step period past) h
-streams_alike size step period (frame ∷ frames) sent past h =
-    let a = frame_alike frame h.0 h.3 in
-    let rest = ap (λ (p : List Moment). findings_of size step period p h.1) (after_alike step past frame h.0 a)
-    ∙ streams_alike size step period frames h.1 (after_frame step past frame) h.4 in
-    ap (findings_of size step period past) h.2
-    ∙ ap₂ (λ (xs ys : List Finding). xs ++ ys) (in_alike size step period past frame h.0 a)
-    (ap₂ (λ (full : Bool) (xs : List Finding). cond full [] xs) (ap (runs_full step period past) (a.items true)) rest)
-
-pub checked_alike : FilledIsCheckedAlike
-checked_alike size step period frames sent h = streams_alike size step period frames sent [] h
 
 -- ---- frames are cut at the same places
 abbrev flat : List (List Fib) → List Fib
 flat frames = flat_map (λ f. f) frames
 
-cut_filled : (xs ys sent : List Fib) → AreFilled (xs ++ ys) sent → (one two : List Fib) × (sent ≡ one ++ two) × AreFilled xs one × AreFilled ys two
-cut_filled [] ys sent h = ([], sent, refl, refl, h)
-cut_filled (x ∷ xs) ys sent h =
-    let more = cut_filled xs ys h.1 h.3 in
-    (with_carried x h.0 ∷ more.0, more.1, h.2 ∙ ap (λ (zs : List Fib). with_carried x h.0 ∷ zs) more.2, (h.0, more.0, refl, more.3), more.4)
+-- those that are skipped leave the listener untuned
+silent_entries : (next : Bool) (raws : List Raw) → first_raw raws ≡ None → hear_entries next raws untuned ≡ Some untuned
+silent_entries next [] none = refl
+silent_entries next (raw ∷ raws) none = elim (raw.ext == 0) as (λ b. cond b (Some (ensemble_in raw)) (first_raw raws) ≡ None
+    → where_heard (cond b (Some (at_ensemble (ensemble_in raw) untuned)) (Some untuned)) (hear_entries next raws) ≡ Some untuned) [
+      | true ↦ λ first. absurd cc
+      | false ↦ λ first. silent_entries next raws first
+    ] none
 
-cut_frames : (frames : List (List Fib)) (rest sent : List Fib) → AreFilled (flat frames ++ rest) sent
-    → (ones : List (List Fib)) × (end : List Fib) × (sent ≡ flat ones ++ end) × AreFilledFrames frames ones × AreFilled rest end
-cut_frames [] rest sent h = ([], sent, refl, refl, h)
-cut_frames (frame ∷ frames) rest sent h =
-    let apart = cut_filled frame (flat frames ++ rest) sent
-    (subst (λ (xs : List Fib). AreFilled xs sent) (append_assoc frame (flat frames) rest) h) in
-    let more = cut_frames frames rest apart.1 apart.4 in (
+first_none : (one other : Option EnsembleInformation) → first_or one other ≡ None → (one ≡ None) × (other ≡ None)
+first_none None other none = (refl, none)
+first_none (Some e) other none = absurd cc
+
+silent_figs : (figs : List Fig) → first_in_figs figs ≡ None → hear_figs figs untuned ≡ Some untuned
+silent_figs [] none = refl
+silent_figs (Open second es ∷ fs) none =
+    let both = first_none (first_raw (entries_in (Open second es))) (first_in_figs fs) none in
+    ap (λ (o : Option Listening). where_heard o (hear_figs fs)) (silent_entries (is_next second) (entries_in (Open second es)) both.0) ∙ silent_figs fs both.1
+silent_figs (Other given ∷ fs) none = silent_figs fs none
+
+not_there : (o : Option EnsembleInformation) → is_there o ≡ false → o ≡ None
+not_there None e = refl
+not_there (Some x) e = absurd (false≢true (sym e))
+
+silent_fib : (fib : Fib) → holds_ensemble fib ≡ false → hearing_fib fib untuned ≡ untuned
+silent_fib None silent = refl
+silent_fib (Some figs) silent = ap (heard_or untuned) (silent_figs figs (not_there (first_in_figs figs) silent))
+
+silent_fibs : (fibs : List Fib) → AllByRecursion (λ fib. holds_ensemble fib ≡ false) fibs → hearing_fibs fibs untuned ≡ untuned
+silent_fibs [] all = refl
+silent_fibs (fib ∷ fibs) all = ap (hearing_fibs fibs) (silent_fib fib all.0) ∙ silent_fibs fibs all.1
+
+pub hearing_append : (xs ys : List Fib) (l : Listening) → hearing_fibs (xs ++ ys) l ≡ hearing_fibs ys (hearing_fibs xs l)
+hearing_append [] ys l = refl
+hearing_append (x ∷ xs) ys l = hearing_append xs ys (hearing_fib x l)
+
+cut_filled : (may : Judge) (l : Listening) (xs ys sent : List Fib) → AreFilled may l (xs ++ ys) sent
+    → (one two : List Fib) × (sent ≡ one ++ two) × AreFilled may l xs one × AreFilled may (hearing_fibs xs l) ys two
+cut_filled may l [] ys sent h = ([], sent, refl, refl, h)
+cut_filled may l (x ∷ xs) ys sent h =
+    let more = cut_filled may (hearing_fib x l) xs ys h.1 h.4 in
+    (with_carried x h.0 ∷ more.0, more.1, h.2 ∙ ap (λ (zs : List Fib). with_carried x h.0 ∷ zs) more.2, (h.0, more.0, refl, h.3, more.3), more.4)
+
+cut_frames : (may : Judge) (l : Listening) (frames : List (List Fib)) (rest sent : List Fib) → AreFilled may l (flat frames ++ rest) sent
+    → (ones : List (List Fib)) × (end : List Fib) × (sent ≡ flat ones ++ end) × AreFilledFrames may l frames ones × AreFilled may (hearing_fibs (flat frames) l) rest end
+cut_frames may l [] rest sent h = ([], sent, refl, refl, h)
+cut_frames may l (frame ∷ frames) rest sent h =
+    let apart = cut_filled may l frame (flat frames ++ rest) sent
+    (subst (λ (xs : List Fib). AreFilled may l xs sent) (append_assoc frame (flat frames) rest) h) in
+    let more = cut_frames may (hearing_fibs frame l) frames rest apart.1 apart.4 in (
       apart.0 ∷ more.0,
       more.1,
       apart.2 ∙ ap (λ (zs : List Fib). apart.0 ++ zs) more.2 ∙ sym (append_assoc apart.0 (flat more.0) more.1),
       (apart.0, more.0, refl, apart.3, more.3),
-      more.4,
+      subst (λ (k : Listening). AreFilled may k rest more.1) (sym (hearing_append frame (flat frames) l)) more.4,
     )
 
-filled_append : (xs ys one two : List Fib) → AreFilled xs one → AreFilled ys two → AreFilled (xs ++ ys) (one ++ two)
-filled_append [] ys one two h k = subst (λ (zs : List Fib). AreFilled ys (zs ++ two)) (sym h) k
-filled_append (x ∷ xs) ys one two h k =
-    (h.0, h.1 ++ two, ap (λ (zs : List Fib). zs ++ two) h.2, filled_append xs ys h.1 two h.3 k)
+filled_append : (may : Judge) (l : Listening) (xs ys one two : List Fib) → AreFilled may l xs one → AreFilled may (hearing_fibs xs l) ys two → AreFilled may l (xs ++ ys) (one ++ two)
+filled_append may l [] ys one two h k = subst (λ (zs : List Fib). AreFilled may l ys (zs ++ two)) (sym h) k
+filled_append may l (x ∷ xs) ys one two h k =
+    (h.0, h.1 ++ two, ap (λ (zs : List Fib). zs ++ two) h.2, h.3, filled_append may (hearing_fib x l) xs ys h.1 two h.4 k)
 
-filled_flat : (frames ones : List (List Fib)) (rest end : List Fib) → AreFilledFrames frames ones → AreFilled rest end
-    → AreFilled (flat frames ++ rest) (flat ones ++ end)
-filled_flat [] ones rest end h k = subst (λ (fs : List (List Fib)). AreFilled rest (flat fs ++ end)) (sym h) k
-filled_flat (frame ∷ frames) ones rest end h k =
-    subst (λ (fs : List (List Fib)). AreFilled (flat (frame ∷ frames) ++ rest) (flat fs ++ end)) (sym h.2)
-    (subst (λ (xs : List Fib). AreFilled xs (flat (h.0 ∷ h.1) ++ end)) (sym (append_assoc frame (flat frames) rest))
-    (subst (λ (xs : List Fib). AreFilled (frame ++ (flat frames ++ rest)) xs) (sym (append_assoc h.0 (flat h.1) end))
-    (filled_append frame (flat frames ++ rest) h.0 (flat h.1 ++ end) h.3 (filled_flat frames h.1 rest end h.4 k))))
+filled_flat : (may : Judge) (l : Listening) (frames ones : List (List Fib)) (rest end : List Fib) → AreFilledFrames may l frames ones → AreFilled may (hearing_fibs (flat frames) l) rest end
+    → AreFilled may l (flat frames ++ rest) (flat ones ++ end)
+filled_flat may l [] ones rest end h k = subst (λ (fs : List (List Fib)). AreFilled may l rest (flat fs ++ end)) (sym h) k
+filled_flat may l (frame ∷ frames) ones rest end h k =
+    subst (λ (fs : List (List Fib)). AreFilled may l (flat (frame ∷ frames) ++ rest) (flat fs ++ end)) (sym h.2)
+    (subst (λ (xs : List Fib). AreFilled may l xs (flat (h.0 ∷ h.1) ++ end)) (sym (append_assoc frame (flat frames) rest))
+    (subst (λ (xs : List Fib). AreFilled may l (frame ++ (flat frames ++ rest)) xs) (sym (append_assoc h.0 (flat h.1) end))
+    (filled_append may l frame (flat frames ++ rest) h.0 (flat h.1 ++ end) h.3 (filled_flat may (hearing_fibs frame l) frames h.1 rest end h.4
+    (subst (λ (k : Listening). AreFilled may k rest end) (hearing_append frame (flat frames) l) k)))))
 
-none_hold : (xs sent : List Fib) → AreFilled xs sent → AllByRecursion (λ fib. holds_ensemble fib ≡ false) xs
+none_hold : (may : Judge) (l : Listening) (xs sent : List Fib) → AreFilled may l xs sent → AllByRecursion (λ fib. holds_ensemble fib ≡ false) xs
     → AllByRecursion (λ fib. holds_ensemble fib ≡ false) sent
-none_hold [] sent h all = subst (λ (xs : List Fib). AllByRecursion (λ fib. holds_ensemble fib ≡ false) xs) (sym h) tt
-none_hold (x ∷ xs) sent h all =
+none_hold may l [] sent h all = subst (λ (xs : List Fib). AllByRecursion (λ fib. holds_ensemble fib ≡ false) xs) (sym h) tt
+none_hold may l (x ∷ xs) sent h all =
     subst (λ (ys : List Fib). AllByRecursion (λ fib. holds_ensemble fib ≡ false) ys) (sym h.2)
-    (holds_alike x h.0 ∙ all.0, none_hold xs h.1 h.3 all.1)
+    (holds_alike x h.0 ∙ all.0, none_hold may (hearing_fib x l) xs h.1 h.4 all.1)
 
-none_begin : (xs sent : List Fib) → AreFilled xs sent → AllByRecursion (λ fib. begins_with_ensemble fib ≡ false) xs
+none_begin : (may : Judge) (l : Listening) (xs sent : List Fib) → AreFilled may l xs sent → AllByRecursion (λ fib. begins_with_ensemble fib ≡ false) xs
     → AllByRecursion (λ fib. begins_with_ensemble fib ≡ false) sent
-none_begin [] sent h all = subst (λ (xs : List Fib). AllByRecursion (λ fib. begins_with_ensemble fib ≡ false) xs) (sym h) tt
-none_begin (x ∷ xs) sent h all =
+none_begin may l [] sent h all = subst (λ (xs : List Fib). AllByRecursion (λ fib. begins_with_ensemble fib ≡ false) xs) (sym h) tt
+none_begin may l (x ∷ xs) sent h all =
     subst (λ (ys : List Fib). AllByRecursion (λ fib. begins_with_ensemble fib ≡ false) ys) (sym h.2)
-    (begins_alike x h.0 ∙ all.0, none_begin xs h.1 h.3 all.1)
+    (begins_alike x h.0 ∙ all.0, none_begin may (hearing_fib x l) xs h.1 h.4 all.1)
 
-first_holds : (xs sent : List Fib) → AreFilled xs sent → HoldsFirst xs → HoldsFirst sent
-first_holds [] sent h holds = subst (λ (xs : List Fib). HoldsFirst xs) (sym h) tt
-first_holds (x ∷ xs) sent h holds = subst (λ (ys : List Fib). HoldsFirst ys) (sym h.2) (holds_alike x h.0 ∙ holds)
+first_holds : (may : Judge) (l : Listening) (xs sent : List Fib) → AreFilled may l xs sent → HoldsFirst xs → HoldsFirst sent
+first_holds may l [] sent h holds = subst (λ (xs : List Fib). HoldsFirst xs) (sym h) tt
+first_holds may l (x ∷ xs) sent h holds = subst (λ (ys : List Fib). HoldsFirst ys) (sym h.2) (holds_alike x h.0 ∙ holds)
 
-one_frame : (xs sent : List Fib) → AreFilled xs sent → IsOneFrame xs → IsOneFrame sent
-one_frame [] sent h one = absurd one
-one_frame (x ∷ xs) sent h one = subst (λ (ys : List Fib). IsOneFrame ys) (sym h.2) (none_begin xs h.1 h.3 one)
+one_frame : (may : Judge) (l : Listening) (xs sent : List Fib) → AreFilled may l xs sent → IsOneFrame xs → IsOneFrame sent
+one_frame may l [] sent h one = absurd one
+one_frame may l (x ∷ xs) sent h one = subst (λ (ys : List Fib). IsOneFrame ys) (sym h.2) (none_begin may (hearing_fib x l) xs h.1 h.4 one)
 
-begins_anew : (xs sent : List Fib) → AreFilled xs sent → BeginsAnew xs → BeginsAnew sent
-begins_anew [] sent h begins = absurd begins
-begins_anew (x ∷ xs) sent h begins = subst (λ (ys : List Fib). BeginsAnew ys) (sym h.2) (begins_alike x h.0 ∙ begins)
+begins_anew : (may : Judge) (l : Listening) (xs sent : List Fib) → AreFilled may l xs sent → BeginsAnew xs → BeginsAnew sent
+begins_anew may l [] sent h begins = absurd begins
+begins_anew may l (x ∷ xs) sent h begins = subst (λ (ys : List Fib). BeginsAnew ys) (sym h.2) (begins_alike x h.0 ∙ begins)
 
-rest_cut : (size : ℕ) (rest end : List Fib) → AreFilled rest end → AreFrames size [] rest → AreFrames size [] end
-rest_cut size [] end h cut = subst (λ (xs : List Fib). AreFrames size [] xs) (sym h) tt
-rest_cut size (x ∷ xs) end h cut =
-    let long = (frame_alike xs h.1 h.3).long in
+rest_cut : (may : Judge) (l : Listening) (size : ℕ) (rest end : List Fib) → AreFilled may l rest end → AreFrames size [] rest → AreFrames size [] end
+rest_cut may l size [] end h cut = subst (λ (xs : List Fib). AreFrames size [] xs) (sym h) tt
+rest_cut may l size (x ∷ xs) end h cut =
+    let long = (frame_alike may (hearing_fib x l) xs h.1 h.4).long in
     subst (λ (ys : List Fib). AreFrames size [] ys) (sym h.2)
-    (one_frame (x ∷ xs) (with_carried x h.0 ∷ h.1) (h.0, h.1, refl, h.3) cut.0, omega (arith, long, cut.1))
+    (one_frame may l (x ∷ xs) (with_carried x h.0 ∷ h.1) (h.0, h.1, refl, h.3, h.4) cut.0, omega (arith, long, cut.1))
 
-frames_cut : (size : ℕ) (frames ones : List (List Fib)) (rest end : List Fib) → AreFilledFrames frames ones → AreFilled rest end
+frames_cut : (may : Judge) (l : Listening) (size : ℕ) (frames ones : List (List Fib)) (rest end : List Fib) → AreFilledFrames may l frames ones → AreFilled may (hearing_fibs (flat frames) l) rest end
     → AreFrames size frames rest → AreFrames size ones end
-frames_cut size [] ones rest end h k cut = subst (λ (fs : List (List Fib)). AreFrames size fs end) (sym h) (rest_cut size rest end k cut)
-frames_cut size (frame ∷ frames) ones rest end h k cut =
-    let long = (frame_alike frame h.0 h.3).long in
+frames_cut may l size [] ones rest end h k cut = subst (λ (fs : List (List Fib)). AreFrames size fs end) (sym h) (rest_cut may l size rest end k cut)
+frames_cut may l size (frame ∷ frames) ones rest end h k cut =
+    let long = (frame_alike may l frame h.0 h.3).long in
+    let later = hearing_fibs frame l in
+    let last = subst (λ (m : Listening). AreFilled may m rest end) (hearing_append frame (flat frames) l) k in
     subst (λ (fs : List (List Fib)). AreFrames size fs end) (sym h.2) (
-      one_frame frame h.0 h.3 cut.0,
+      one_frame may l frame h.0 h.3 cut.0,
       omega (arith, long, cut.1),
-      (λ short. begins_anew (flat frames ++ rest) (flat h.1 ++ end) (filled_flat frames h.1 rest end h.4 k) (cut.2 (omega (arith, long, short)))),
-      frames_cut size frames h.1 rest end h.4 k cut.3,
+      (λ short. begins_anew may later (flat frames ++ rest) (flat h.1 ++ end) (filled_flat may later frames h.1 rest end h.4 last) (cut.2 (omega (arith, long, short)))),
+      frames_cut may later size frames h.1 rest end h.4 last cut.3,
     )
 
 pub framed_alike : FilledIsFramedAlike
-framed_alike size stream sent skipped frames rest h f =
-    let whole : AreFilled (skipped ++ (flat frames ++ rest)) sent = subst (λ (xs : List Fib). AreFilled xs sent) f.whole h in
-    let apart = cut_filled skipped (flat frames ++ rest) sent whole in
-    let more = cut_frames frames rest apart.1 apart.4 in
+framed_alike may size stream sent skipped frames rest h f =
+    let whole : AreFilled may untuned (skipped ++ (flat frames ++ rest)) sent = subst (λ (xs : List Fib). AreFilled may untuned xs sent) f.whole h in
+    let apart = cut_filled may untuned skipped (flat frames ++ rest) sent whole in
+    let still = silent_fibs skipped f.before in
+    let behind = subst (λ (k : Listening). AreFilled may k (flat frames ++ rest) apart.1) still apart.4 in
+    let more = cut_frames may untuned frames rest apart.1 behind in
     record {
       skipped_sent = apart.0;
       frames_sent = more.0;
       rest_sent = more.1;
       framed = record {
         whole = apart.2 ∙ ap (λ (xs : List Fib). apart.0 ++ xs) more.2;
-        before = none_hold skipped apart.0 apart.3 f.before;
-        begun = subst (λ (xs : List Fib). HoldsFirst xs) more.2 (first_holds (flat frames ++ rest) apart.1 apart.4 f.begun);
-        cut = frames_cut size frames more.0 rest more.1 more.3 more.4 f.cut;
+        before = none_hold may untuned skipped apart.0 apart.3 f.before;
+        begun = subst (λ (xs : List Fib). HoldsFirst xs) more.2 (first_holds may untuned (flat frames ++ rest) apart.1 behind f.begun);
+        cut = frames_cut may untuned size frames more.0 rest more.1 more.3 more.4 f.cut;
       };
       skipped_alike = apart.3;
       frames_alike = more.3;

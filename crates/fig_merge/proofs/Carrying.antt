@@ -1,5 +1,5 @@
 -- One pass over the FIGs that wait, and the end of a FIB.
-use Rattle.std.proofs.Common.{◌≡◌, ℕ, ◌+◌, ◌-◌, ◌≤◌, ◌<◌, leb, ltb, zero, suc, inl, inr, true, false, List, [], ◌∷◌, ◌++◌, length, get_or, take, drop, replicate, refl, sym, ap, ap₂, ◌∙◌, arith, append_assoc, append-nil, length-append, take_at, length-take-le, length-drop, drop-cons, drop_at, subst, subst₂}
+use Rattle.std.proofs.Common.{◌≡◌, ℕ, ◌+◌, ◌-◌, ◌≤◌, ◌<◌, leb, ltb, zero, suc, inl, inr, Bool, true, false, List, [], ◌∷◌, ◌++◌, length, get_or, take, drop, replicate, refl, sym, ap, ap₂, ◌∙◌, arith, append_assoc, append-nil, length-append, take_at, length-take-le, length-drop, drop-cons, drop_at, subst, subst₂}
 use Rattle.std.proofs.lemmas.List.{length-replicate}
 use Rattle.std.proofs.lemmas.Bool.{cond-true, cond-false, lt-ltb, le-ltb, le-leb, lt-leb, cases_lt}
 use Rattle.std.proofs.lemmas.List.Folds.{list_any-append}
@@ -8,50 +8,100 @@ use Rattle.std.specs.List.{concat}
 use Rattle.std.specs.Str.{bytes_eq}
 use Rattle.fib_codec.specs.Spelling.{filled}
 use Rattle.fig_merge.specs.Taking.{waits}
-use Rattle.fig_merge.specs.Filling.{carried_in, left_in}
+use Rattle.fig_merge.specs.Filling.{carried_in, carried_of, left_in, room_after, stale_in, stale_of, turns_in}
 
--- ---- a FIG that is carried, or waits on
-pub carried_over : (fig : List ℕ) (rest : List (List ℕ)) (room : ℕ) → leb (length fig) room ≡ false → carried_in room (fig ∷ rest) ≡ carried_in room rest
-carried_over fig rest room over = cond-false (leb (length fig) room) (fig ∷ carried_in (room - length fig) rest) (carried_in room rest) over
+-- ---- a FIG that waits on
+turns_over : (ok : List ℕ → Bool) (fig : List ℕ) (rest : List (List ℕ)) (room : ℕ) → leb (length fig) room ≡ false → turns_in ok room (fig ∷ rest) ≡ turns_in ok room rest
+turns_over ok fig rest room over = cond-false (leb (length fig) room) (fig ∷ turns_in ok (room_after ok room fig) rest) (turns_in ok room rest) over
 
-pub left_over : (fig : List ℕ) (rest : List (List ℕ)) (room : ℕ) → leb (length fig) room ≡ false → left_in room (fig ∷ rest) ≡ fig ∷ left_in room rest
-left_over fig rest room over = cond-false (leb (length fig) room) (left_in (room - length fig) rest) (fig ∷ left_in room rest) over
+left_over : (ok : List ℕ → Bool) (fig : List ℕ) (rest : List (List ℕ)) (room : ℕ) → leb (length fig) room ≡ false → left_in ok room (fig ∷ rest) ≡ fig ∷ left_in ok room rest
+left_over ok fig rest room over = cond-false (leb (length fig) room) (left_in ok (room_after ok room fig) rest) (fig ∷ left_in ok room rest) over
 
-pub carried_here : (fig : List ℕ) (rest : List (List ℕ)) (room : ℕ) → leb (length fig) room ≡ true → carried_in room (fig ∷ rest) ≡ fig ∷ carried_in (room - length fig) rest
-carried_here fig rest room fits = cond-true (leb (length fig) room) (fig ∷ carried_in (room - length fig) rest) (carried_in room rest) fits
+-- ---- a FIG whose turn comes
+turns_here : (ok : List ℕ → Bool) (fig : List ℕ) (rest : List (List ℕ)) (room : ℕ) → leb (length fig) room ≡ true → turns_in ok room (fig ∷ rest) ≡ fig ∷ turns_in ok (room_after ok room fig) rest
+turns_here ok fig rest room fits = cond-true (leb (length fig) room) (fig ∷ turns_in ok (room_after ok room fig) rest) (turns_in ok room rest) fits
 
-pub left_here : (fig : List ℕ) (rest : List (List ℕ)) (room : ℕ) → leb (length fig) room ≡ true → left_in room (fig ∷ rest) ≡ left_in (room - length fig) rest
-left_here fig rest room fits = cond-true (leb (length fig) room) (left_in (room - length fig) rest) (fig ∷ left_in room rest) fits
+left_here : (ok : List ℕ → Bool) (fig : List ℕ) (rest : List (List ℕ)) (room : ℕ) → leb (length fig) room ≡ true → left_in ok room (fig ∷ rest) ≡ left_in ok (room_after ok room fig) rest
+left_here ok fig rest room fits = cond-true (leb (length fig) room) (left_in ok (room_after ok room fig) rest) (fig ∷ left_in ok room rest) fits
+
+room_carried : (ok : List ℕ → Bool) (fig : List ℕ) (room : ℕ) → ok fig ≡ true → room_after ok room fig ≡ room - length fig
+room_carried ok fig room is = cond-true (ok fig) (room - length fig) room is
+
+room_stale : (ok : List ℕ → Bool) (fig : List ℕ) (room : ℕ) → ok fig ≡ false → room_after ok room fig ≡ room
+room_stale ok fig room is = cond-false (ok fig) (room - length fig) room is
+
+-- one that agrees
+carried_here : (ok : List ℕ → Bool) (fig : List ℕ) (rest : List (List ℕ)) (room : ℕ) → leb (length fig) room ≡ true → ok fig ≡ true
+    → carried_in ok room (fig ∷ rest) ≡ fig ∷ carried_in ok (room - length fig) rest
+carried_here ok fig rest room fits is =
+    ap (carried_of ok) (turns_here ok fig rest room fits) ∙ cond-true (ok fig) (fig ∷ carried_of ok (turns_in ok (room_after ok room fig) rest)) (carried_of ok (turns_in ok (room_after ok room fig) rest)) is
+    ∙ ap (λ n. fig ∷ carried_in ok n rest) (room_carried ok fig room is)
+
+none_stale : (ok : List ℕ → Bool) (fig : List ℕ) (rest : List (List ℕ)) (room : ℕ) → leb (length fig) room ≡ true → ok fig ≡ true
+    → stale_in ok room (fig ∷ rest) ≡ stale_in ok (room - length fig) rest
+none_stale ok fig rest room fits is =
+    ap (stale_of ok) (turns_here ok fig rest room fits) ∙ cond-true (ok fig) (stale_of ok (turns_in ok (room_after ok room fig) rest)) (fig ∷ stale_of ok (turns_in ok (room_after ok room fig) rest)) is
+    ∙ ap (λ n. stale_in ok n rest) (room_carried ok fig room is)
+
+-- one that does not
+none_carried : (ok : List ℕ → Bool) (fig : List ℕ) (rest : List (List ℕ)) (room : ℕ) → leb (length fig) room ≡ true → ok fig ≡ false
+    → carried_in ok room (fig ∷ rest) ≡ carried_in ok room rest
+none_carried ok fig rest room fits is =
+    ap (carried_of ok) (turns_here ok fig rest room fits) ∙ cond-false (ok fig) (fig ∷ carried_of ok (turns_in ok (room_after ok room fig) rest)) (carried_of ok (turns_in ok (room_after ok room fig) rest)) is
+    ∙ ap (λ n. carried_in ok n rest) (room_stale ok fig room is)
+
+stale_here : (ok : List ℕ → Bool) (fig : List ℕ) (rest : List (List ℕ)) (room : ℕ) → leb (length fig) room ≡ true → ok fig ≡ false
+    → stale_in ok room (fig ∷ rest) ≡ fig ∷ stale_in ok room rest
+stale_here ok fig rest room fits is =
+    ap (stale_of ok) (turns_here ok fig rest room fits) ∙ cond-false (ok fig) (stale_of ok (turns_in ok (room_after ok room fig) rest)) (fig ∷ stale_of ok (turns_in ok (room_after ok room fig) rest)) is
+    ∙ ap (λ n. fig ∷ stale_in ok n rest) (room_stale ok fig room is)
 
 -- ---- the pass so far: what is done and what is still to be done together are all
-pub record IsPassed (bytes0 : List ℕ) (waiting : List (List ℕ)) (room0 : ℕ) (bytes : List ℕ) (front rest : List (List ℕ)) (room count : ℕ) : Type 0 where
-  pub carried : bytes ++ concat (carried_in room rest) ≡ bytes0 ++ concat (carried_in room0 waiting)
-  pub left : front ++ left_in room rest ≡ left_in room0 waiting
-  pub counted : count + length (carried_in room rest) ≡ length (carried_in room0 waiting)
+pub record IsPassed (ok : List ℕ → Bool) (bytes0 : List ℕ) (waiting : List (List ℕ)) (room0 : ℕ) (bytes : List ℕ) (front rest : List (List ℕ)) (room count stale : ℕ) : Type 0 where
+  pub carried : bytes ++ concat (carried_in ok room rest) ≡ bytes0 ++ concat (carried_in ok room0 waiting)
+  pub left : front ++ left_in ok room rest ≡ left_in ok room0 waiting
+  pub counted : count + length (carried_in ok room rest) ≡ length (carried_in ok room0 waiting)
+  pub gone : stale + length (stale_in ok room rest) ≡ length (stale_in ok room0 waiting)
 
-pub pass_begins : (bytes : List ℕ) (waiting : List (List ℕ)) (room : ℕ) → IsPassed bytes waiting room bytes [] waiting room 0
-pass_begins bytes waiting room = record { carried = refl; left = refl; counted = omega arith }
+pub pass_begins : (ok : List ℕ → Bool) (bytes : List ℕ) (waiting : List (List ℕ)) (room : ℕ) → IsPassed ok bytes waiting room bytes [] waiting room 0 0
+pass_begins ok bytes waiting room = record { carried = refl; left = refl; counted = omega arith; gone = omega arith }
 
-pub passed_over : (bytes0 bytes fig : List ℕ) (waiting front rest : List (List ℕ)) (room0 room count : ℕ) → leb (length fig) room ≡ false
-    → IsPassed bytes0 waiting room0 bytes front (fig ∷ rest) room count → IsPassed bytes0 waiting room0 bytes (front ++ fig ∷ []) rest room count
-passed_over bytes0 bytes fig waiting front rest room0 room count over h = record {
-  carried = ap (λ xs. bytes ++ concat xs) (sym (carried_over fig rest room over)) ∙ h.carried;
-  left = append_assoc front (fig ∷ []) (left_in room rest) ∙ ap (λ xs. front ++ xs) (sym (left_over fig rest room over)) ∙ h.left;
-  counted = ap (λ xs. count + length xs) (sym (carried_over fig rest room over)) ∙ h.counted;
-}
+module _ (ok : List ℕ → Bool) (bytes0 bytes fig : List ℕ) (waiting front rest : List (List ℕ)) (room0 room count stale : ℕ) where
+  passed_over : leb (length fig) room ≡ false
+      → IsPassed ok bytes0 waiting room0 bytes front (fig ∷ rest) room count stale → IsPassed ok bytes0 waiting room0 bytes (front ++ fig ∷ []) rest room count stale
+  passed_over over h = record {
+    carried = ap (λ xs. bytes ++ concat (carried_of ok xs)) (sym (turns_over ok fig rest room over)) ∙ h.carried;
+    left = append_assoc front (fig ∷ []) (left_in ok room rest) ∙ ap (λ xs. front ++ xs) (sym (left_over ok fig rest room over)) ∙ h.left;
+    counted = ap (λ xs. count + length (carried_of ok xs)) (sym (turns_over ok fig rest room over)) ∙ h.counted;
+    gone = ap (λ xs. stale + length (stale_of ok xs)) (sym (turns_over ok fig rest room over)) ∙ h.gone;
+  }
 
-pub passed_in : (bytes0 bytes fig : List ℕ) (waiting front rest : List (List ℕ)) (room0 room count : ℕ) → leb (length fig) room ≡ true
-    → IsPassed bytes0 waiting room0 bytes front (fig ∷ rest) room count
-    → IsPassed bytes0 waiting room0 (bytes ++ fig) front rest (room - length fig) (count + 1)
-passed_in bytes0 bytes fig waiting front rest room0 room count fits h =
-    let more = carried_in (room - length fig) rest in
-    let longer : length (carried_in room (fig ∷ rest)) ≡ length (fig ∷ more) = ap length (carried_here fig rest room fits) in
-    let all = h.counted in
-    record {
-      carried = append_assoc bytes fig (concat more) ∙ ap (λ xs. bytes ++ concat xs) (sym (carried_here fig rest room fits)) ∙ h.carried;
-      left = ap (λ xs. front ++ xs) (sym (left_here fig rest room fits)) ∙ h.left;
-      counted = omega (arith, longer, all);
-    }
+  passed_in : leb (length fig) room ≡ true → ok fig ≡ true
+      → IsPassed ok bytes0 waiting room0 bytes front (fig ∷ rest) room count stale
+      → IsPassed ok bytes0 waiting room0 (bytes ++ fig) front rest (room - length fig) (count + 1) stale
+  passed_in fits is h =
+      let more = carried_in ok (room - length fig) rest in
+      let longer : length (carried_in ok room (fig ∷ rest)) ≡ length (fig ∷ more) = ap length (carried_here ok fig rest room fits is) in
+      let all = h.counted in
+      record {
+        carried = append_assoc bytes fig (concat more) ∙ ap (λ xs. bytes ++ concat xs) (sym (carried_here ok fig rest room fits is)) ∙ h.carried;
+        left = ap (λ n. front ++ left_in ok n rest) (sym (room_carried ok fig room is)) ∙ ap (λ xs. front ++ xs) (sym (left_here ok fig rest room fits)) ∙ h.left;
+        counted = omega (arith, longer, all);
+        gone = ap (λ xs. stale + length xs) (sym (none_stale ok fig rest room fits is)) ∙ h.gone;
+      }
+
+  passed_by : leb (length fig) room ≡ true → ok fig ≡ false
+      → IsPassed ok bytes0 waiting room0 bytes front (fig ∷ rest) room count stale
+      → IsPassed ok bytes0 waiting room0 bytes front rest room count (stale + 1)
+  passed_by fits is h =
+      let longer : length (stale_in ok room (fig ∷ rest)) ≡ length (fig ∷ stale_in ok room rest) = ap length (stale_here ok fig rest room fits is) in
+      let all = h.gone in
+      record {
+        carried = ap (λ xs. bytes ++ concat xs) (sym (none_carried ok fig rest room fits is)) ∙ h.carried;
+        left = ap (λ n. front ++ left_in ok n rest) (sym (room_stale ok fig room is)) ∙ ap (λ xs. front ++ xs) (sym (left_here ok fig rest room fits)) ∙ h.left;
+        counted = ap (λ xs. count + length xs) (sym (none_carried ok fig rest room fits is)) ∙ h.counted;
+        gone = omega (arith, longer, all);
+      }
 
 -- ---- a FIG with the same bytes
 pub waits_not_yet : (fig d : List ℕ) (figs : List (List ℕ)) (i : ℕ) → i < length figs → waits fig (take i figs) ≡ false
@@ -105,28 +155,38 @@ cut_at figs at fig lt is =
 taken_at : (figs : List (List ℕ)) (at : ℕ) (fig : List ℕ) → at < length figs → fig ≡ get_or figs at fig → take (at + 1) figs ≡ take at figs ++ fig ∷ []
 taken_at figs at fig lt is = take_more figs at fig lt ∙ ap (λ x. take at figs ++ x ∷ []) (sym is)
 
-pub step_over : (bytes0 bytes fig : List ℕ) (waiting figs : List (List ℕ)) (room0 room at count : ℕ) → at < length figs → fig ≡ get_or figs at fig
-    → room < length fig → IsPassed bytes0 waiting room0 bytes (take at figs) (drop at figs) room count
-    → IsPassed bytes0 waiting room0 bytes (take (at + 1) figs) (drop (at + 1) figs) room count
-step_over bytes0 bytes fig waiting figs room0 room at count lt is long h =
-    let here : IsPassed bytes0 waiting room0 bytes (take at figs) (fig ∷ drop (at + 1) figs) room count =
-    subst (λ (xs : List (List ℕ)). IsPassed bytes0 waiting room0 bytes (take at figs) xs room count) (cut_at figs at fig lt is) h in
-    subst (λ (xs : List (List ℕ)). IsPassed bytes0 waiting room0 bytes xs (drop (at + 1) figs) room count) (sym (taken_at figs at fig lt is))
-    (passed_over bytes0 bytes fig waiting (take at figs) (drop (at + 1) figs) room0 room count (lt-leb (length fig) room long) here)
+pub step_over : (ok : List ℕ → Bool) (bytes0 bytes fig : List ℕ) (waiting figs : List (List ℕ)) (room0 room at count stale : ℕ) → at < length figs → fig ≡ get_or figs at fig
+    → room < length fig → IsPassed ok bytes0 waiting room0 bytes (take at figs) (drop at figs) room count stale
+    → IsPassed ok bytes0 waiting room0 bytes (take (at + 1) figs) (drop (at + 1) figs) room count stale
+step_over ok bytes0 bytes fig waiting figs room0 room at count stale lt is long h =
+    let here : IsPassed ok bytes0 waiting room0 bytes (take at figs) (fig ∷ drop (at + 1) figs) room count stale =
+    subst (λ (xs : List (List ℕ)). IsPassed ok bytes0 waiting room0 bytes (take at figs) xs room count stale) (cut_at figs at fig lt is) h in
+    subst (λ (xs : List (List ℕ)). IsPassed ok bytes0 waiting room0 bytes xs (drop (at + 1) figs) room count stale) (sym (taken_at figs at fig lt is))
+    (passed_over ok bytes0 bytes fig waiting (take at figs) (drop (at + 1) figs) room0 room count stale (lt-leb (length fig) room long) here)
 
-pub step_in : (bytes0 bytes fig : List ℕ) (waiting figs new : List (List ℕ)) (room0 room at count : ℕ) → at < length figs → fig ≡ get_or figs at fig
-    → length fig ≤ room → new ≡ take at figs ++ drop (suc at) figs → IsPassed bytes0 waiting room0 bytes (take at figs) (drop at figs) room count
-    → IsPassed bytes0 waiting room0 (bytes ++ fig) (take at new) (drop at new) (room - length fig) (count + 1)
-step_in bytes0 bytes fig waiting figs new room0 room at count lt is short removed h =
-    let next : suc at ≡ at + 1 = omega arith in
-    let front : take at new ≡ take at figs =
-    ap (take at) removed ∙ take_at (take at figs) (drop (suc at) figs) at (length-take-le at figs (omega (arith, lt))) in
-    let back : drop at new ≡ drop (at + 1) figs =
-    ap (drop at) removed ∙ drop_at (take at figs) (drop (suc at) figs) at (length-take-le at figs (omega (arith, lt))) ∙ ap (λ n. drop n figs) next in
-    let here : IsPassed bytes0 waiting room0 bytes (take at figs) (fig ∷ drop (at + 1) figs) room count =
-    subst (λ (xs : List (List ℕ)). IsPassed bytes0 waiting room0 bytes (take at figs) xs room count) (cut_at figs at fig lt is) h in
-    subst₂ (λ (xs ys : List (List ℕ)). IsPassed bytes0 waiting room0 (bytes ++ fig) xs ys (room - length fig) (count + 1)) (sym front) (sym back)
-    (passed_in bytes0 bytes fig waiting (take at figs) (drop (at + 1) figs) room0 room count (le-leb (length fig) room short) here)
+-- a FIG is removed
+module _ (ok : List ℕ → Bool) (bytes0 bytes fig : List ℕ) (waiting figs new : List (List ℕ)) (room0 room at count stale : ℕ) (lt : at < length figs) (is : fig ≡ get_or figs at fig)
+    (short : length fig ≤ room) (removed : new ≡ take at figs ++ drop (suc at) figs) (h : IsPassed ok bytes0 waiting room0 bytes (take at figs) (drop at figs) room count stale) where
+  front : take at new ≡ take at figs
+  front = ap (take at) removed ∙ take_at (take at figs) (drop (suc at) figs) at (length-take-le at figs (omega (arith, lt)))
+
+  back : drop at new ≡ drop (at + 1) figs
+  back =
+      let next : suc at ≡ at + 1 = omega arith in
+      ap (drop at) removed ∙ drop_at (take at figs) (drop (suc at) figs) at (length-take-le at figs (omega (arith, lt))) ∙ ap (λ n. drop n figs) next
+
+  here : IsPassed ok bytes0 waiting room0 bytes (take at figs) (fig ∷ drop (at + 1) figs) room count stale
+  here = subst (λ (xs : List (List ℕ)). IsPassed ok bytes0 waiting room0 bytes (take at figs) xs room count stale) (cut_at figs at fig lt is) h
+
+  pub step_in : ok fig ≡ true → IsPassed ok bytes0 waiting room0 (bytes ++ fig) (take at new) (drop at new) (room - length fig) (count + 1) stale
+  step_in agrees =
+      subst₂ (λ (xs ys : List (List ℕ)). IsPassed ok bytes0 waiting room0 (bytes ++ fig) xs ys (room - length fig) (count + 1) stale) (sym front) (sym back)
+      (passed_in ok bytes0 bytes fig waiting (take at figs) (drop (at + 1) figs) room0 room count stale (le-leb (length fig) room short) agrees here)
+
+  pub step_by : ok fig ≡ false → IsPassed ok bytes0 waiting room0 bytes (take at new) (drop at new) room count (stale + 1)
+  step_by agrees =
+      subst₂ (λ (xs ys : List (List ℕ)). IsPassed ok bytes0 waiting room0 bytes xs ys room count (stale + 1)) (sym front) (sym back)
+      (passed_by ok bytes0 bytes fig waiting (take at figs) (drop (at + 1) figs) room0 room count stale (le-leb (length fig) room short) agrees here)
 
 pub written_behind : (fib new fig : List ℕ) (used : ℕ) → used + length fig ≤ length fib
     → new ≡ take used fib ++ (fig ++ drop (used + length fig) fib) → take (used + length fig) new ≡ take used fib ++ fig

@@ -7,8 +7,8 @@ use Rattle.std.specs.List.{AllByRecursion}
 use Rattle.std.specs.Str.{bytes_eq}
 use Rattle.stream_check.specs.Frames.{Fib, Reading}
 use Rattle.fig_merge.specs.Taking.{Merging, nothing_taken, most, limited, waits, with_fig, with_figs, taken_in, taken_of, after_take}
-use Rattle.fig_merge.specs.Filling.{room_of, carried_in, left_in, carried_by, after_fill}
-use Rattle.fig_merge.specs.Steps.{Step, Take, Fill, after_step, after_steps, taken_at, carried_at, repeated_of, dropped_of, all_taken, all_carried, all_repeated, all_dropped, times, AreDifferent, AllAreAccounted, Go, TheLongestWaitingGoes}
+use Rattle.fig_merge.specs.Filling.{agrees_with, room_after, room_of, turns_in, carried_of, stale_of, carried_in, stale_in, left_in, turns_by, carried_by, stale_by, after_fill}
+use Rattle.fig_merge.specs.Steps.{Step, Take, Fill, after_step, after_steps, taken_at, turns_at, carried_at, stale_at, repeated_of, dropped_of, all_taken, all_carried, all_stale, all_repeated, all_dropped, times, AreDifferent, AllAreAccounted, Go, TheLongestWaitingGoes}
 use Rattle.fig_merge.proofs.Passing.{few_left}
 
 -- ---- a measure of lists: how long they are, or how often they have some bytes
@@ -59,11 +59,29 @@ parts_by : (size : List (List ℕ) → ℕ) → IsMeasure size → (fits : Bool)
 parts_by size is true fig figs there left gone on e f = omega (arith, is.more fig figs, is.more fig there, e)
 parts_by size is false fig figs there left gone on e f = omega (arith, is.more fig figs, is.more fig on, f)
 
-parts : (size : List (List ℕ) → ℕ) → IsMeasure size → (room : ℕ) (waiting : List (List ℕ)) → size (carried_in room waiting) + size (left_in room waiting) ≡ size waiting
-parts size is room [] = omega (arith, is.none)
-parts size is room (fig ∷ figs) =
-    parts_by size is (leb (length fig) room) fig figs (carried_in (room - length fig) figs) (left_in (room - length fig) figs) (carried_in room figs) (left_in room figs)
-    (parts size is (room - length fig) figs) (parts size is room figs)
+parts : (size : List (List ℕ) → ℕ) → IsMeasure size → (ok : List ℕ → Bool) (room : ℕ) (waiting : List (List ℕ)) → size (turns_in ok room waiting) + size (left_in ok room waiting) ≡ size waiting
+parts size is ok room [] = omega (arith, is.none)
+parts size is ok room (fig ∷ figs) =
+    parts_by size is (leb (length fig) room) fig figs (turns_in ok (room_after ok room fig) figs) (left_in ok (room_after ok room fig) figs) (turns_in ok room figs) (left_in ok room figs)
+    (parts size is ok (room_after ok room fig) figs) (parts size is ok room figs)
+
+-- those whose turn comes are carried, or stale
+judged_by : (size : List (List ℕ) → ℕ) → IsMeasure size → (agrees : Bool) (fig : List ℕ) (figs carried stale : List (List ℕ)) → size carried + size stale ≡ size figs
+    → size (cond agrees (fig ∷ carried) carried) + size (cond agrees stale (fig ∷ stale)) ≡ size (fig ∷ figs)
+judged_by size is true fig figs carried stale e = omega (arith, is.more fig figs, is.more fig carried, e)
+judged_by size is false fig figs carried stale e = omega (arith, is.more fig figs, is.more fig stale, e)
+
+judged : (size : List (List ℕ) → ℕ) → IsMeasure size → (ok : List ℕ → Bool) (turns : List (List ℕ)) → size (carried_of ok turns) + size (stale_of ok turns) ≡ size turns
+judged size is ok [] = omega (arith, is.none)
+judged size is ok (fig ∷ figs) = judged_by size is (ok fig) fig figs (carried_of ok figs) (stale_of ok figs) (judged size is ok figs)
+
+fib_judged : (size : List (List ℕ) → ℕ) → IsMeasure size → (fib : Fib) (m : Merging) → size (turns_by fib m) ≡ size (carried_by fib m) + size (stale_by fib m)
+fib_judged size is None m = omega (arith, is.none)
+fib_judged size is (Some figs) m = omega (arith, judged size is (agrees_with figs m.heard) (turns_in (agrees_with figs m.heard) (room_of figs) m.waiting))
+
+step_judged : (size : List (List ℕ) → ℕ) → IsMeasure size → (r : Reading) (s : Step) (m : Merging) → size (turns_at r s m) ≡ size (carried_at r s m) + size (stale_at r s m)
+step_judged size is r (Take fib) m = omega (arith, is.none)
+step_judged size is r (Fill fib) m = fib_judged size is (r.read fib) m
 
 -- ---- a call
 taken_fate : (size : List (List ℕ) → ℕ) → IsMeasure size → (fib : Fib) (m : Merging)
@@ -71,28 +89,30 @@ taken_fate : (size : List (List ℕ) → ℕ) → IsMeasure size → (fib : Fib)
 taken_fate size is None m = omega (arith, is.none)
 taken_fate size is (Some figs) m = fates size is (taken_of figs) m
 
-filled_fate : (size : List (List ℕ) → ℕ) → IsMeasure size → (fib : Fib) (m : Merging) → size m.waiting ≡ size (carried_by fib m) + size (after_fill fib m).waiting
+filled_fate : (size : List (List ℕ) → ℕ) → IsMeasure size → (fib : Fib) (m : Merging) → size m.waiting ≡ size (turns_by fib m) + size (after_fill fib m).waiting
 filled_fate size is None m = omega (arith, is.none)
-filled_fate size is (Some figs) m = omega (arith, parts size is (room_of figs) m.waiting)
+filled_fate size is (Some figs) m = omega (arith, parts size is (agrees_with figs m.heard) (room_of figs) m.waiting)
 
 step_fate : (size : List (List ℕ) → ℕ) → IsMeasure size → (r : Reading) (s : Step) (m : Merging)
     → size (taken_at r s) + size m.waiting
-    ≡ size (carried_at r s m) + size (after_step r s m).waiting + size (repeated_of (taken_at r s) m) + size (dropped_of (taken_at r s) m)
+    ≡ size (turns_at r s m) + size (after_step r s m).waiting + size (repeated_of (taken_at r s) m) + size (dropped_of (taken_at r s) m)
 step_fate size is r (Take fib) m = omega (arith, is.none, taken_fate size is (r.read fib) m)
 step_fate size is r (Fill fib) m = omega (arith, is.none, filled_fate size is (r.read fib) m)
 
 steps_fate : (size : List (List ℕ) → ℕ) → IsMeasure size → (r : Reading) (steps : List Step) (m : Merging)
     → size (all_taken r steps) + size m.waiting
-    ≡ size (all_carried r steps m) + size (after_steps r steps m).waiting + size (all_repeated r steps m) + size (all_dropped r steps m)
+    ≡ size (all_carried r steps m) + size (after_steps r steps m).waiting + size (all_repeated r steps m) + size (all_dropped r steps m) + size (all_stale r steps m)
 steps_fate size is r [] m = omega (arith, is.none)
 steps_fate size is r (s ∷ ss) m =
     let later = after_step r s m in
     omega (
       arith,
       step_fate size is r s m,
+      step_judged size is r s m,
       steps_fate size is r ss later,
       both size is (taken_at r s) (all_taken r ss),
       both size is (carried_at r s m) (all_carried r ss later),
+      both size is (stale_at r s m) (all_stale r ss later),
       both size is (repeated_of (taken_at r s) m) (all_repeated r ss later),
       both size is (dropped_of (taken_at r s) m) (all_dropped r ss later),
     )
@@ -155,101 +175,121 @@ none_left_by : (fits : Bool) (x fig : List ℕ) (there on : List (List ℕ)) →
 none_left_by true x fig there on e f g = f
 none_left_by false x fig there on e f g = or_both (bytes_eq x fig) (waits x on) e g
 
-none_left : (x : List ℕ) (room : ℕ) (waiting : List (List ℕ)) → waits x waiting ≡ false → waits x (left_in room waiting) ≡ false
-none_left x room [] h = refl
-none_left x room (fig ∷ figs) h =
+none_left : (x : List ℕ) (ok : List ℕ → Bool) (room : ℕ) (waiting : List (List ℕ)) → waits x waiting ≡ false → waits x (left_in ok room waiting) ≡ false
+none_left x ok room [] h = refl
+none_left x ok room (fig ∷ figs) h =
     let parts = or_none (bytes_eq x fig) (waits x figs) h in
-    none_left_by (leb (length fig) room) x fig (left_in (room - length fig) figs) (left_in room figs) parts.0
-    (none_left x (room - length fig) figs parts.1) (none_left x room figs parts.1)
+    none_left_by (leb (length fig) room) x fig (left_in ok (room_after ok room fig) figs) (left_in ok room figs) parts.0
+    (none_left x ok (room_after ok room fig) figs parts.1) (none_left x ok room figs parts.1)
 
 different_by : (fits : Bool) (fig : List ℕ) (there on : List (List ℕ)) → AreDifferent there → waits fig on ≡ false → AreDifferent on → AreDifferent (cond fits there (fig ∷ on))
 different_by true fig there on d e f = d
 different_by false fig there on d e f = (e, f)
 
-different_left : (room : ℕ) (waiting : List (List ℕ)) → AreDifferent waiting → AreDifferent (left_in room waiting)
-different_left room [] d = tt
-different_left room (fig ∷ figs) d =
-    different_by (leb (length fig) room) fig (left_in (room - length fig) figs) (left_in room figs)
-    (different_left (room - length fig) figs d.1) (none_left fig room figs d.0) (different_left room figs d.1)
+different_left : (ok : List ℕ → Bool) (room : ℕ) (waiting : List (List ℕ)) → AreDifferent waiting → AreDifferent (left_in ok room waiting)
+different_left ok room [] d = tt
+different_left ok room (fig ∷ figs) d =
+    different_by (leb (length fig) room) fig (left_in ok (room_after ok room fig) figs) (left_in ok room figs)
+    (different_left ok (room_after ok room fig) figs d.1) (none_left fig ok room figs d.0) (different_left ok room figs d.1)
 
 -- ---- what holds after each call
-record IsKept (m : Merging) (carried dropped : ℕ) : Type 0 where
+record IsKept (m : Merging) (carried dropped stale : ℕ) : Type 0 where
   carried_is : m.carried ≡ limited carried
   dropped_is : m.dropped ≡ limited dropped
+  stale_is : m.stale ≡ limited stale
   different : AreDifferent m.waiting
   few : length m.waiting ≤ most
 
-kept_by : (there room : Bool) (fig : List ℕ) (m : Merging) (c d : ℕ) → waits fig m.waiting ≡ there → ltb (length m.waiting) most ≡ room → IsKept m c d
+kept_by : (there room : Bool) (fig : List ℕ) (m : Merging) (c d e : ℕ) → waits fig m.waiting ≡ there → ltb (length m.waiting) most ≡ room → IsKept m c d e
     → IsKept (cond there m (cond room (record m { waiting = m.waiting ++ fig ∷ [] }) (record m { dropped = limited (m.dropped + 1) })))
-    c (d + length (cond there [] (cond room [] (fig ∷ []))))
-kept_by true room fig m c d e f k = record { carried_is = k.carried_is; dropped_is = k.dropped_is ∙ ap limited (let z : d ≡ d + 0 = omega arith in z); different = k.different; few = k.few }
-kept_by false true fig m c d e f k = record {
+    c (d + length (cond there [] (cond room [] (fig ∷ [])))) e
+kept_by true room fig m c d e waits_so full k = record { carried_is = k.carried_is; dropped_is = k.dropped_is ∙ ap limited (let z : d ≡ d + 0 = omega arith in z); stale_is = k.stale_is; different = k.different; few = k.few }
+kept_by false true fig m c d e waits_so full k = record {
   carried_is = k.carried_is;
   dropped_is = k.dropped_is ∙ ap limited (let z : d ≡ d + 0 = omega arith in z);
-  different = different_last fig m.waiting e k.different;
-  few = omega (arith, length-append m.waiting (fig ∷ []), ltb-true (length m.waiting) most f);
+  stale_is = k.stale_is;
+  different = different_last fig m.waiting waits_so k.different;
+  few = omega (arith, length-append m.waiting (fig ∷ []), ltb-true (length m.waiting) most full);
 }
-kept_by false false fig m c d e f k = record {
+kept_by false false fig m c d e waits_so full k = record {
   carried_is = k.carried_is;
   dropped_is = ap (λ n. limited (n + 1)) k.dropped_is ∙ more_limited d 1;
+  stale_is = k.stale_is;
   different = k.different;
   few = k.few;
 }
 
-kept_figs : (figs : List (List ℕ)) (m : Merging) (c d : ℕ) → IsKept m c d → IsKept (with_figs figs m) c (d + length (dropped_of figs m))
-kept_figs [] m c d k = subst (λ (n : ℕ). IsKept m c n) (let z : d ≡ d + 0 = omega arith in z) k
-kept_figs (fig ∷ figs) m c d k =
+kept_figs : (figs : List (List ℕ)) (m : Merging) (c d e : ℕ) → IsKept m c d e → IsKept (with_figs figs m) c (d + length (dropped_of figs m)) e
+kept_figs [] m c d e k = subst (λ (n : ℕ). IsKept m c n e) (let z : d ≡ d + 0 = omega arith in z) k
+kept_figs (fig ∷ figs) m c d e k =
     let gone : List (List ℕ) = cond (waits fig m.waiting) [] (cond (ltb (length m.waiting) most) [] (fig ∷ [])) in
-    let one = kept_by (waits fig m.waiting) (ltb (length m.waiting) most) fig m c d refl refl k in
+    let one = kept_by (waits fig m.waiting) (ltb (length m.waiting) most) fig m c d e refl refl k in
     let all : d + length gone + length (dropped_of figs (with_fig fig m)) ≡ d + length (gone ++ dropped_of figs (with_fig fig m)) =
     omega (arith, length-append gone (dropped_of figs (with_fig fig m))) in
-    subst (λ (n : ℕ). IsKept (with_figs figs (with_fig fig m)) c n) all (kept_figs figs (with_fig fig m) c (d + length gone) one)
+    subst (λ (n : ℕ). IsKept (with_figs figs (with_fig fig m)) c n e) all (kept_figs figs (with_fig fig m) c (d + length gone) e one)
 
-kept_take : (fib : Fib) (m : Merging) (c d : ℕ) → IsKept m c d → IsKept (after_take fib m) c (d + length (dropped_of (taken_in fib) m))
-kept_take None m c d k = subst (λ (n : ℕ). IsKept (after_take None m) c n) (let z : d ≡ d + 0 = omega arith in z) (record { carried_is = k.carried_is; dropped_is = k.dropped_is; different = k.different; few = k.few })
-kept_take (Some figs) m c d k = kept_figs (taken_of figs) m c d k
+kept_take : (fib : Fib) (m : Merging) (c d e : ℕ) → IsKept m c d e → IsKept (after_take fib m) c (d + length (dropped_of (taken_in fib) m)) e
+kept_take None m c d e k = subst (λ (n : ℕ). IsKept (after_take None m) c n e) (let z : d ≡ d + 0 = omega arith in z) (record { carried_is = k.carried_is; dropped_is = k.dropped_is; stale_is = k.stale_is; different = k.different; few = k.few })
+kept_take (Some figs) m c d e k = kept_figs (taken_of figs) m c d e k
 
-kept_fill : (fib : Fib) (m : Merging) (c d : ℕ) → IsKept m c d → IsKept (after_fill fib m) (c + length (carried_by fib m)) d
-kept_fill None m c d k = subst (λ (n : ℕ). IsKept (after_fill None m) n d) (let z : c ≡ c + 0 = omega arith in z) (record { carried_is = k.carried_is; dropped_is = k.dropped_is; different = k.different; few = k.few })
-kept_fill (Some figs) m c d k =
-    let count = length (carried_in (room_of figs) m.waiting) in
+-- the counts are as many as these
+counted : (m : Merging) (c d e c2 d2 e2 : ℕ) → c ≡ c2 → d ≡ d2 → e ≡ e2 → IsKept m c d e → IsKept m c2 d2 e2
+counted m c d e c2 d2 e2 one two three k =
+    record { carried_is = k.carried_is ∙ ap limited one; dropped_is = k.dropped_is ∙ ap limited two; stale_is = k.stale_is ∙ ap limited three; different = k.different; few = k.few }
+
+kept_fill : (fib : Fib) (m : Merging) (c d e : ℕ) → IsKept m c d e → IsKept (after_fill fib m) (c + length (carried_by fib m)) d (e + length (stale_by fib m))
+kept_fill None m c d e k = record {
+  carried_is = k.carried_is ∙ ap limited (let z : c ≡ c + 0 = omega arith in z);
+  dropped_is = k.dropped_is;
+  stale_is = k.stale_is ∙ ap limited (let z : e ≡ e + 0 = omega arith in z);
+  different = k.different;
+  few = k.few;
+}
+kept_fill (Some figs) m c d e k =
+    let ok = agrees_with figs m.heard in
+    let count = length (carried_in ok (room_of figs) m.waiting) in
+    let more = length (stale_in ok (room_of figs) m.waiting) in
     record {
       carried_is = ap (λ n. limited (n + count)) k.carried_is ∙ more_limited c count;
       dropped_is = k.dropped_is;
-      different = different_left (room_of figs) m.waiting k.different;
-      few = omega (arith, few_left (room_of figs) m.waiting, k.few);
+      stale_is = ap (λ n. limited (n + more)) k.stale_is ∙ more_limited e more;
+      different = different_left ok (room_of figs) m.waiting k.different;
+      few = omega (arith, few_left ok (room_of figs) m.waiting, k.few);
     }
 
-kept_step : (r : Reading) (s : Step) (m : Merging) (c d : ℕ) → IsKept m c d → IsKept (after_step r s m) (c + length (carried_at r s m)) (d + length (dropped_of (taken_at r s) m))
-kept_step r (Take fib) m c d k = subst (λ (n : ℕ). IsKept (after_take (r.read fib) m) n (d + length (dropped_of (taken_in (r.read fib)) m))) (let z : c ≡ c + 0 = omega arith in z) (kept_take (r.read fib) m c d k)
-kept_step r (Fill fib) m c d k = subst (λ (n : ℕ). IsKept (after_fill (r.read fib) m) (c + length (carried_by (r.read fib) m)) n) (let z : d ≡ d + 0 = omega arith in z) (kept_fill (r.read fib) m c d k)
+kept_step : (r : Reading) (s : Step) (m : Merging) (c d e : ℕ) → IsKept m c d e
+    → IsKept (after_step r s m) (c + length (carried_at r s m)) (d + length (dropped_of (taken_at r s) m)) (e + length (stale_at r s m))
+kept_step r (Take fib) m c d e k =
+    counted (after_take (r.read fib) m) c (d + length (dropped_of (taken_in (r.read fib)) m)) e (c + 0) (d + length (dropped_of (taken_in (r.read fib)) m)) (e + 0) (omega arith) refl (omega arith) (kept_take (r.read fib) m c d e k)
+kept_step r (Fill fib) m c d e k =
+    counted (after_fill (r.read fib) m) (c + length (carried_by (r.read fib) m)) d (e + length (stale_by (r.read fib) m)) (c + length (carried_by (r.read fib) m)) (d + 0) (e + length (stale_by (r.read fib) m)) refl (omega arith) refl (kept_fill (r.read fib) m c d e k)
 
-kept_steps : (r : Reading) (steps : List Step) (m : Merging) (c d : ℕ) → IsKept m c d
-    → IsKept (after_steps r steps m) (c + length (all_carried r steps m)) (d + length (all_dropped r steps m))
-kept_steps r [] m c d k = subst (λ (n : ℕ). IsKept m n (d + 0)) (let z : c ≡ c + 0 = omega arith in z) (subst (λ (n : ℕ). IsKept m c n) (let z : d ≡ d + 0 = omega arith in z) k)
-kept_steps r (s ∷ ss) m c d k =
+kept_steps : (r : Reading) (steps : List Step) (m : Merging) (c d e : ℕ) → IsKept m c d e
+    → IsKept (after_steps r steps m) (c + length (all_carried r steps m)) (d + length (all_dropped r steps m)) (e + length (all_stale r steps m))
+kept_steps r [] m c d e k = counted m c d e (c + 0) (d + 0) (e + 0) (omega arith) (omega arith) (omega arith) k
+kept_steps r (s ∷ ss) m c d e k =
     let later = after_step r s m in
-    let one = kept_step r s m c d k in
-    let more = kept_steps r ss later (c + length (carried_at r s m)) (d + length (dropped_of (taken_at r s) m)) one in
-    let sent : c + length (carried_at r s m) + length (all_carried r ss later) ≡ c + length (carried_at r s m ++ all_carried r ss later) =
-    omega (arith, length-append (carried_at r s m) (all_carried r ss later)) in
-    let gone : d + length (dropped_of (taken_at r s) m) + length (all_dropped r ss later) ≡ d + length (dropped_of (taken_at r s) m ++ all_dropped r ss later) =
-    omega (arith, length-append (dropped_of (taken_at r s) m) (all_dropped r ss later)) in
-    subst (λ (n : ℕ). IsKept (after_steps r ss later) n (d + length (dropped_of (taken_at r s) m ++ all_dropped r ss later))) sent
-    (subst (λ (n : ℕ). IsKept (after_steps r ss later) (c + length (carried_at r s m) + length (all_carried r ss later)) n) gone more)
+    let one = kept_step r s m c d e k in
+    let more = kept_steps r ss later (c + length (carried_at r s m)) (d + length (dropped_of (taken_at r s) m)) (e + length (stale_at r s m)) one in
+    counted (after_steps r ss later) _ _ _ (c + length (carried_at r s m ++ all_carried r ss later)) (d + length (dropped_of (taken_at r s) m ++ all_dropped r ss later)) (e + length (stale_at r s m ++ all_stale r ss later))
+    (omega (arith, length-append (carried_at r s m) (all_carried r ss later)))
+    (omega (arith, length-append (dropped_of (taken_at r s) m) (all_dropped r ss later)))
+    (omega (arith, length-append (stale_at r s m) (all_stale r ss later)))
+    more
 
 from_nothing : (n count : ℕ) → count ≡ limited (0 + n) → count ≡ limited n
 from_nothing n count is = let same : 0 + n ≡ n = omega arith in is ∙ ap limited same
 
 pub all_are_accounted : AllAreAccounted
 all_are_accounted r steps =
-    let start : IsKept nothing_taken 0 0 = record { carried_is = refl; dropped_is = refl; different = tt; few = omega arith } in
-    let kept = kept_steps r steps nothing_taken 0 0 start in
+    let start : IsKept nothing_taken 0 0 0 = record { carried_is = refl; dropped_is = refl; stale_is = refl; different = tt; few = omega arith } in
+    let kept = kept_steps r steps nothing_taken 0 0 0 start in
     record {
       adds_up = λ fig. omega (arith, steps_fate (times fig) (how_often fig) r steps nothing_taken);
       numbers = omega (arith, steps_fate length lengths r steps nothing_taken);
       carried = from_nothing _ _ kept.carried_is;
       dropped = from_nothing _ _ kept.dropped_is;
+      stale = from_nothing _ _ kept.stale_is;
       different = kept.different;
       few = kept.few;
     }
@@ -263,23 +303,30 @@ longer_more : (room : ℕ) (fig : List ℕ) (figs : List (List ℕ)) → AllByRe
 longer_more room fig [] all long = (long, tt)
 longer_more room fig (x ∷ xs) all long = (all.0, longer_more room fig xs all.1 long)
 
-go_case : (fits : Bool) (room : ℕ) (fig : List ℕ) (before figs : List (List ℕ)) → leb (length fig) room ≡ fits → AllByRecursion (λ fig. room < length fig) before
-    → Go (room - length fig) (before ++ figs) (carried_in (room - length fig) figs) (before ++ left_in (room - length fig) figs)
-    → (room < length fig → Go room ((before ++ fig ∷ []) ++ figs) (carried_in room figs) ((before ++ fig ∷ []) ++ left_in room figs))
-    → Go room (before ++ fig ∷ figs) (cond fits (fig ∷ carried_in (room - length fig) figs) (carried_in room figs))
-    (before ++ cond fits (left_in (room - length fig) figs) (fig ∷ left_in room figs))
-go_case true room fig before figs e all one two = (before, figs, refl, all, leb-true (length fig) room e, one)
-go_case false room fig before figs e all one two =
-    subst₂ (λ (xs ys : List (List ℕ)). Go room xs (carried_in room figs) ys) (append_assoc before (fig ∷ []) figs)
-    (append_assoc before (fig ∷ []) (left_in room figs)) (two (leb-false (length fig) room e))
+smaller : (ok : List ℕ → Bool) (room : ℕ) (fig : List ℕ) → room_after ok room fig ≤ room
+smaller ok room fig = by_case (ok fig)
+  where
+    by_case : (b : Bool) → cond b (room - length fig) room ≤ room
+    by_case true = omega arith
+    by_case false = omega arith
 
-go_from : (room : ℕ) (before waiting : List (List ℕ)) → AllByRecursion (λ fig. room < length fig) before
-    → Go room (before ++ waiting) (carried_in room waiting) (before ++ left_in room waiting)
-go_from room before [] all = (refl, subst (λ (xs : List (List ℕ)). AllByRecursion (λ fig. room < length fig) xs) (sym (append-nil before)) all)
-go_from room before (fig ∷ figs) all =
-    go_case (leb (length fig) room) room fig before figs refl all
-    (go_from (room - length fig) before figs (longer_all room (room - length fig) before (omega arith) all))
-    (λ long. go_from room (before ++ fig ∷ []) figs (longer_more room fig before all long))
+go_case : (ok : List ℕ → Bool) (fits : Bool) (room : ℕ) (fig : List ℕ) (before figs : List (List ℕ)) → leb (length fig) room ≡ fits → AllByRecursion (λ fig. room < length fig) before
+    → Go ok (room_after ok room fig) (before ++ figs) (turns_in ok (room_after ok room fig) figs) (before ++ left_in ok (room_after ok room fig) figs)
+    → (room < length fig → Go ok room ((before ++ fig ∷ []) ++ figs) (turns_in ok room figs) ((before ++ fig ∷ []) ++ left_in ok room figs))
+    → Go ok room (before ++ fig ∷ figs) (cond fits (fig ∷ turns_in ok (room_after ok room fig) figs) (turns_in ok room figs))
+    (before ++ cond fits (left_in ok (room_after ok room fig) figs) (fig ∷ left_in ok room figs))
+go_case ok true room fig before figs e all one two = (before, figs, refl, all, leb-true (length fig) room e, one)
+go_case ok false room fig before figs e all one two =
+    subst₂ (λ (xs ys : List (List ℕ)). Go ok room xs (turns_in ok room figs) ys) (append_assoc before (fig ∷ []) figs)
+    (append_assoc before (fig ∷ []) (left_in ok room figs)) (two (leb-false (length fig) room e))
+
+go_from : (ok : List ℕ → Bool) (room : ℕ) (before waiting : List (List ℕ)) → AllByRecursion (λ fig. room < length fig) before
+    → Go ok room (before ++ waiting) (turns_in ok room waiting) (before ++ left_in ok room waiting)
+go_from ok room before [] all = (refl, subst (λ (xs : List (List ℕ)). AllByRecursion (λ fig. room < length fig) xs) (sym (append-nil before)) all)
+go_from ok room before (fig ∷ figs) all =
+    go_case ok (leb (length fig) room) room fig before figs refl all
+    (go_from ok (room_after ok room fig) before figs (longer_all room (room_after ok room fig) before (smaller ok room fig) all))
+    (λ long. go_from ok room (before ++ fig ∷ []) figs (longer_more room fig before all long))
 
 pub the_longest_waiting_goes : TheLongestWaitingGoes
-the_longest_waiting_goes room waiting = go_from room [] waiting tt
+the_longest_waiting_goes ok room waiting = go_from ok room [] waiting tt

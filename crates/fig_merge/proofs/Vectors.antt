@@ -1,11 +1,13 @@
 -- Small cases, computed by the checker from the definitions: for each definition one that holds and one that fails.
-use Rattle.std.proofs.Common.{◌≡◌, ℕ, true, false, List, [], ◌∷◌, ◌++◌, length, replicate, Some, None, refl, arith}
+use Rattle.std.proofs.Common.{◌≡◌, ℕ, ◌==◌, not, Bool, true, false, List, [], ◌∷◌, ◌++◌, length, replicate, Some, None, refl, arith}
 use Rattle.fib_codec.specs.Grammar.{Open, Other}
 use Rattle.fib_codec.specs.Spelling.{filled}
+use Rattle.fib_reader.specs.Listening.{untuned}
+use Rattle.fig_mentions.specs.Mentions.{mentions_in}
 use Rattle.fig_merge.specs.Taking.{Merging, nothing_taken, is_left_out, taken_of, taken_in, limited, with_fig, after_take}
-use Rattle.fig_merge.specs.Filling.{room_of, carried_in, left_in, carried_by}
+use Rattle.fig_merge.specs.Filling.{room_of, carried_in, stale_in, left_in, carried_by}
 use Rattle.fig_merge.specs.Steps.{Go, times, AreDifferent, repeated_of, dropped_of}
-use Rattle.fig_merge.specs.Passing.{with_carried, AreFilled}
+use Rattle.fig_merge.specs.Passing.{with_carried, any_carried, agreeing, hearing_fibs, AreFilled}
 
 -- ---- which FIGs are taken: the header byte, then the second byte with C/N, OE, P/D and the extension
 
@@ -47,7 +49,7 @@ one = 33 ∷ 1 ∷ []
 abbrev two : List ℕ
 two = 33 ∷ 2 ∷ []
 
-first_waits : with_fig one nothing_taken ≡ record { waiting = one ∷ []; carried = 0; dropped = 0; damaged = 0 }
+first_waits : with_fig one nothing_taken ≡ record nothing_taken { waiting = one ∷ [] }
 first_waits = refl
 
 second_behind_it : (with_fig two (with_fig one nothing_taken)).waiting ≡ one ∷ two ∷ []
@@ -60,7 +62,7 @@ repeat_is_not_dropped : (with_fig one (with_fig one nothing_taken)).dropped ≡ 
 repeat_is_not_dropped = refl
 
 abbrev full : Merging
-full = record { waiting = replicate 256 one; carried = 0; dropped = 7; damaged = 0 }
+full = record nothing_taken { waiting = replicate 256 one; dropped = 7 }
 
 dropped_where_256_wait : (with_fig two full).dropped ≡ 8
 dropped_where_256_wait = refl
@@ -94,17 +96,38 @@ middle = replicate 5 8
 abbrev short : List ℕ
 short = replicate 2 7
 
-short_overtakes_longer : carried_in 10 (long ∷ middle ∷ short ∷ []) ≡ long ∷ short ∷ []
+-- all agree, or all but the one of five bytes
+abbrev always : List ℕ → Bool
+always fig = true
+
+abbrev not_middle : List ℕ → Bool
+not_middle fig = not (length fig == 5)
+
+short_overtakes_longer : carried_in always 10 (long ∷ middle ∷ short ∷ []) ≡ long ∷ short ∷ []
 short_overtakes_longer = refl
 
-longer_waits_on : left_in 10 (long ∷ middle ∷ short ∷ []) ≡ middle ∷ []
+longer_waits_on : left_in always 10 (long ∷ middle ∷ short ∷ []) ≡ middle ∷ []
 longer_waits_on = refl
 
-all_go : left_in 15 (long ∷ middle ∷ short ∷ []) ≡ []
+all_go : left_in always 15 (long ∷ middle ∷ short ∷ []) ≡ []
 all_go = refl
 
-none_goes : carried_in 1 (long ∷ middle ∷ short ∷ []) ≡ []
+none_goes : carried_in always 1 (long ∷ middle ∷ short ∷ []) ≡ []
 none_goes = refl
+
+-- one that does not agree takes no room
+stale_takes_no_room : carried_in not_middle 11 (middle ∷ long ∷ short ∷ []) ≡ long ∷ short ∷ []
+stale_takes_no_room = refl
+
+it_is_stale : stale_in not_middle 11 (middle ∷ long ∷ short ∷ []) ≡ middle ∷ []
+it_is_stale = refl
+
+it_waits_no_more : left_in not_middle 11 (middle ∷ long ∷ short ∷ []) ≡ []
+it_waits_no_more = refl
+
+-- one that does not fit is not judged
+not_judged : stale_in not_middle 4 (middle ∷ []) ≡ []
+not_judged = refl
 
 room_of_nothing : room_of [] ≡ 30
 room_of_nothing = refl
@@ -121,10 +144,10 @@ marker_behind_29 = refl
 no_marker_behind_30 : filled (replicate 30 1) ≡ replicate 30 1
 no_marker_behind_30 = refl
 
-one_goes : Go 2 (one ∷ []) (one ∷ []) []
+one_goes : Go always 2 (one ∷ []) (one ∷ []) []
 one_goes = ([], [], refl, tt, omega arith, (refl, tt))
 
-none_that_fits_stays : Go 2 (one ∷ []) [] (one ∷ []) → ⊥
+none_that_fits_stays : Go always 2 (one ∷ []) [] (one ∷ []) → ⊥
 none_that_fits_stays h = absurd (omega (arith, h.1.0))
 
 -- ---- accounts
@@ -149,8 +172,19 @@ carried_behind = refl
 damaged_stays : with_carried None (one ∷ []) ≡ None
 damaged_stays = refl
 
-filled_behind : AreFilled (Some [] ∷ None ∷ []) (Some (Other one ∷ []) ∷ None ∷ [])
-filled_behind = (one ∷ [], None ∷ [], refl, ([], [], refl, refl))
+filled_behind : AreFilled any_carried untuned (Some [] ∷ None ∷ []) (Some (Other one ∷ []) ∷ None ∷ [])
+filled_behind = (one ∷ [], None ∷ [], refl, refl, ([], [], refl, refl, refl))
 
-none_left_out : AreFilled (Some [] ∷ []) [] → ⊥
+none_left_out : AreFilled any_carried untuned (Some [] ∷ []) [] → ⊥
 none_left_out h = let left_out = h.2 in absurd cc
+
+-- FIG 0/14 for sub-channel 1, which is not there before the first FIG 0/0; a damaged FIB carries nothing that is judged
+absent_is_not_carried : agreeing untuned (Some []) ((2 ∷ 14 ∷ 4 ∷ []) ∷ []) ≡ false
+unfolding mentions_in
+absent_is_not_carried = refl
+
+another_is_carried : agreeing untuned (Some []) ((2 ∷ 10 ∷ 4 ∷ []) ∷ []) ≡ true
+another_is_carried = refl
+
+heard_nothing : hearing_fibs (None ∷ Some [] ∷ []) untuned ≡ untuned
+heard_nothing = refl

@@ -3,6 +3,7 @@ use Rattle.std.specs.Prelude.{◌≡◌, ℕ, ◌+◌, ◌-◌, ◌/◌, ◌%◌
 use Rattle.std.specs.List.{AllByRecursion, list_any}
 use Rattle.std.specs.Str.{bytes_eq}
 use Rattle.fib_codec.specs.Grammar.{Fig, Open, Other, IsOther, fig_spelled}
+use Rattle.fib_reader.specs.Listening.{Listening, untuned}
 use Rattle.stream_check.specs.Frames.{Fib}
 
 -- the second byte of FIG 0/7 of this ensemble: OE 0 and extension 7
@@ -29,16 +30,18 @@ taken_in (Some figs) = taken_of figs
 abbrev pub most : ℕ
 most = 256
 
--- the bytes of the FIGs that wait, the one that has waited longest first, and how many FIGs were carried, how many
--- dropped, and how many FIBs were damaged
+-- the bytes of the FIGs that wait, the one that has waited longest first; how many FIGs were carried, how many dropped,
+-- and how many were stale; how many FIBs were damaged; and what a listener has heard of the plan's FIBs
 pub record Merging : Type 0 where
   pub waiting : List (List ℕ)
   pub carried : ℕ
   pub dropped : ℕ
+  pub stale : ℕ
   pub damaged : ℕ
+  pub heard : Listening
 
 abbrev pub nothing_taken : Merging
-nothing_taken = record { waiting = []; carried = 0; dropped = 0; damaged = 0 }
+nothing_taken = record { waiting = []; carried = 0; dropped = 0; stale = 0; damaged = 0; heard = untuned }
 
 -- the bytes of a FIG that a listener passes over, which fits into an empty FIB
 abbrev pub IsPassedOver : List ℕ → Type 0

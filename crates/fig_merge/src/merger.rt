@@ -7,17 +7,19 @@ ghost use Rattle.fig_merge.specs.Filling.{data_of};
 use crate::queue::Queue;
 use crate::sealing::end_fib;
 use fib_codec::bytes::byte_at;
-use fib_reader::{Fig, Figs, check};
+use fib_reader::{Fig, Figs, Listener, check};
 use std::marker::Model;
 
-/// The FIGs of a multiplexer that wait to be carried in the FIBs of a plan, at most 256, and counts. It does not
-/// allocate.
+/// The FIGs of a multiplexer that wait to be carried in the FIBs of a plan, at most 256, and counts; and what was heard
+/// of the plan. It does not allocate.
 #[derive(Drop)]
 pub struct Merger {
     queue: Queue,
     carried: u64,
     dropped: u64,
+    stale: u64,
     damaged: u64,
+    listener: Listener,
 }
 
 impl Model for Merger {
@@ -29,14 +31,18 @@ impl Model for Merger {
       waiting = m.queue;
       carried = m.carried;
       dropped = m.dropped;
+      stale = m.stale;
       damaged = m.damaged;
+      heard = m.listener;
     } };
 
     ghost invariant = { λ m. IsMerging (record {
       waiting = m.queue;
       carried = m.carried;
       dropped = m.dropped;
+      stale = m.stale;
       damaged = m.damaged;
+      heard = m.listener;
     }) };
 }
 
@@ -80,7 +86,7 @@ impl Merger {
     ghost use Rattle.std.specs.List.{AllByRecursion};
     ghost use Rattle.stream_check.specs.Frames.{Reading};
     ghost use Rattle.fig_merge.specs.Taking.{nothing_taken, with_fig, with_figs, with_damaged, taken_of, after_take, IsPassedOver, IsSendable};
-    ghost use Rattle.fig_merge.specs.Filling.{merged, after_fill, carried_in, room_of};
+    ghost use Rattle.fig_merge.specs.Filling.{agrees_with, merged, after_fill, carried_in, room_of};
 
     /// A merger that has taken nothing.
     pub fn new() -> Merger
@@ -90,7 +96,9 @@ impl Merger {
             queue: Queue::new(),
             carried: 0,
             dropped: 0,
+            stale: 0,
             damaged: 0,
+            listener: Listener::new(),
         }
     }
 
@@ -113,6 +121,13 @@ impl Merger {
         ensures { result ≡ self.now.dropped }
     {
         self.dropped
+    }
+
+    /// The number of FIGs that did not agree with the plan's configuration when their turn came.
+    pub fn stale(&self) -> u64
+        ensures { result ≡ self.now.stale }
+    {
+        self.stale
     }
 
     /// The number of damaged FIBs, of both multiplexes.
@@ -169,13 +184,15 @@ impl Merger {
     }
 
     /// Appends FIGs that wait to those of a FIB of the plan: as long as one of them fits into what is left of the thirty
-    /// data bytes, the one that has waited longest of those that fit. A damaged FIB stays as it is, and is counted.
+    /// data bytes, the turn of the one that has waited longest of those that fit comes. It is carried if it agrees with
+    /// the current configuration, as far as it was heard in the plan's FIBs up to and with this one; else it is let go,
+    /// and counted. A damaged FIB stays as it is, and is counted.
     pub fn fill(&mut self, fib: &mut [u8; 32])
         ensures merger { (r : Reading) → self.new ≡ after_fill (r.read fib.old) self.old }
         ensures bytes { (r : Reading) → fib.new ≡ merged fib.old (r.read fib.old) self.old }
         ensures figs { (figs : List grammar.Fig) → grammar.IsFib fib.old figs
-            → grammar.IsFib fib.new
-            (figs ++ map grammar.Other (carried_in (room_of figs) self.old.waiting)) }
+            → grammar.IsFib fib.new (figs ++ map grammar.Other
+            (carried_in (agrees_with figs self.old.heard) (room_of figs) self.old.waiting)) }
     {
         let used = match check(fib) {
             Ok(figs) => data_len(figs),
@@ -184,8 +201,11 @@ impl Merger {
                 return;
             }
         };
-        let load = self.queue.carry(fib, used);
+        // A FIB for which a listener has no room says nothing.
+        let _ = self.listener.hear(fib);
+        let load = self.queue.carry(fib, used, self.listener.current());
         end_fib(fib, load.used);
         self.carried = sum(self.carried, load.figs);
+        self.stale = sum(self.stale, load.stale);
     }
 }

@@ -5,6 +5,8 @@ ghost use Rattle.std.specs.Prelude.{◌≡◌};
 use crate::sealing::write_at;
 use crate::stored_fig::StoredFig;
 use arrayvec::ArrayVec;
+use fib_reader::Picture;
+use fig_mentions::agrees;
 use std::marker::Model;
 
 /// The most FIGs that wait.
@@ -31,13 +33,16 @@ pub(crate) struct Load {
     pub(crate) used: usize,
     /// The number of FIGs that are carried.
     pub(crate) figs: u64,
+    /// The number of FIGs whose turn came, and that do not agree.
+    pub(crate) stale: u64,
 }
 
 impl Queue {
     ghost use Rattle.std.specs.Prelude.{◌≡◌, ◌-◌, ◌<◌, ◌≤◌, ◌++◌, ◌∷◌, [], true, false, length, take};
     ghost use Rattle.std.specs.List.{concat};
     ghost use Rattle.fig_merge.specs.Taking.{most, waits};
-    ghost use Rattle.fig_merge.specs.Filling.{carried_in, left_in};
+    ghost use Rattle.fig_mentions.specs.Agreeing.{fig_agrees};
+    ghost use Rattle.fig_merge.specs.Filling.{carried_in, left_in, stale_in};
 
     /// No FIG.
     pub(crate) fn new() -> Queue
@@ -86,30 +91,39 @@ impl Queue {
     }
 
     /// Moves FIGs into a FIB, behind its first `front` data bytes: from the one that has waited longest on, each that
-    /// fits into what is left of the thirty data bytes.
-    pub(crate) fn carry(&mut self, fib: &mut [u8], front: usize) -> Load
+    /// fits into what is left of the thirty data bytes, and agrees with a configuration. One that fits and does not
+    /// agree is let go.
+    pub(crate) fn carry(&mut self, fib: &mut [u8], front: usize, current: &Picture) -> Load
         requires whole { length fib.old ≡ 32 }
         requires within { front ≤ 30 }
-        ensures data { take result.used fib.new
-            ≡ take front fib.old ++ concat (carried_in (30 - front) self.old) }
+        ensures data { take result.used fib.new ≡ take front fib.old
+            ++ concat (carried_in (fig_agrees current.now) (30 - front) self.old) }
         ensures whole { length fib.new ≡ 32 }
         ensures within { result.used ≤ 30 }
-        ensures left { self.new ≡ left_in (30 - front) self.old }
-        ensures count { result.figs ≡ length (carried_in (30 - front) self.old) }
+        ensures left { self.new ≡ left_in (fig_agrees current.now) (30 - front) self.old }
+        ensures count { result.figs
+            ≡ length (carried_in (fig_agrees current.now) (30 - front) self.old) }
+        ensures stale { result.stale
+            ≡ length (stale_in (fig_agrees current.now) (30 - front) self.old) }
     {
         let mut used = front;
         let mut figs = 0;
+        let mut stale = 0;
         let mut at = 0;
         for _ in 0..self.figs.len() {
             if self.figs[at].len() > 30 - used {
                 at += 1;
             } else {
                 let fig = self.figs.remove(at);
-                write_at(fib, used, fig.as_slice());
-                used += fig.len();
-                figs += 1;
+                if agrees(fig.as_slice(), current) {
+                    write_at(fib, used, fig.as_slice());
+                    used += fig.len();
+                    figs += 1;
+                } else {
+                    stale += 1;
+                }
             }
         }
-        Load { used, figs }
+        Load { used, figs, stale }
     }
 }

@@ -7,10 +7,13 @@ pub mod LabelLaws
 pub mod LineLaws
 pub mod LoopLaws
 pub mod Loops
+pub mod Meeting
 pub mod OpcodeLaws
 pub mod Operands
 pub mod PlacedFiles
 pub mod PlacedParts
 pub mod SteadyParts
 pub mod SteadyFiles
-mod Vectors
+pub mod Vectors
+mod VectorsOfAlternatives
+pub mod Windows

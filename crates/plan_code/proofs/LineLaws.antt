@@ -7,14 +7,14 @@ use Rattle.mux_config.specs.FieldSpelling.{u16_bytes}
 use Rattle.mux_config.specs.FieldReading.{Reads, place, byte_at, flag_at}
 use Rattle.mux_config.proofs.FieldLaws.{IsBytes, Front, front_then, bind_ok, ok_is, byte_front}
 use Rattle.plan_code.specs.declared.instr.Instr.{Instr}
-use Rattle.plan_code.specs.declared.instr.Instr.TheVariants.{Wait, Until, WaitContact, CommitIn, CommitAt, Join, Settle, End, Edit as Edits, Test, Jump, Set, Loop}
+use Rattle.plan_code.specs.declared.instr.Instr.TheVariants.{Wait, Until, WaitContact, WaitAny, CommitIn, CommitAt, Join, Settle, End, Edit as Edits, Test, TestTime, Jump, Set, Loop}
 use Rattle.plan_code.specs.declared.instr.Line.{Line}
 use Rattle.plan_code.specs.declared.opcode.Opcode.{Opcode}
 use Rattle.plan_code.specs.Opcodes.{opcode_byte, opcode_of}
 use Rattle.plan_code.specs.Program.{IsInstr, IsLine}
 use Rattle.plan_code.specs.Spelling.{instr_bytes, line_bytes}
-use Rattle.plan_code.specs.Parts.{contact_at, counter_at, any_u16, times_at, delay_at, day_frame_at, wait_at, until_at, wait_contact_at, commit_in_at, commit_at_at, test_at, jump_at, set_at, loop_at, opcode_at, edit_instr, instr_of, instr_from, line_from}
-use Rattle.plan_code.proofs.Operands.{IsReading, giving, byte_of, flag_of, long_of, byte_reading, word_from_reading, word_reading, flag_reading, day_frame_reading, one_front, one_again, two_front, two_again}
+use Rattle.plan_code.specs.Parts.{contact_at, counter_at, any_u16, times_at, delay_at, day_frame_at, contacts_at, day_frame_or_none_at, frames_or_none_at, wait_at, until_at, wait_contact_at, wait_any_at, commit_in_at, commit_at_at, test_at, jump_at, set_at, loop_at, test_time_at, opcode_at, edit_instr, instr_of, instr_from, line_from}
+use Rattle.plan_code.proofs.Operands.{IsReading, giving, byte_of, flag_of, long_of, byte_reading, word_from_reading, word_reading, flag_reading, day_frame_reading, set_bytes, contacts_reading, day_frame_bytes, day_frame_or_none_reading, frames_bytes, frames_or_none_reading, one_front, one_again, two_front, two_again}
 use Rattle.plan_code.proofs.OpcodeLaws.{some_given, opcode_only}
 use Rattle.plan_code.proofs.EditLaws.{behind, IsEditRead, add_sub_front, drop_sub_front, move_sub_front, rate_sub_front, add_service_front, drop_service_front, add_component_front, drop_component_front, add_packet_front, drop_packet_front, edit_again}
 
@@ -60,6 +60,25 @@ wait_contact_front total bytes x fits e =
     let t = two_front (contact_at total) byte_of (λ n. n < 16) (flag_at total) flag_of (λ b. Unit {0}) WaitContact (byte_reading total 15) (flag_reading total) bytes x fits e in
     is_read Opcode.WaitContact bytes (byte_of t.first ++ flag_of t.second) x (WaitContact t.first t.second) t.is t.front refl t.formed
 
+wait_any_front : (total : ℕ) (bytes : List ℕ) (x : Instr × List ℕ) → IsBytes bytes → wait_any_at total bytes ≡ Ok x → IsInstrRead Opcode.WaitAny bytes x
+unfolding wait_any_at
+wait_any_front total bytes x fits e =
+    let c = bind_ok (contacts_at bytes) _ x e in
+    let fc = contacts_reading.front bytes c.0 fits c.1 in
+    let o = bind_ok (contacts_at c.0.1) _ x c.2 in
+    let fo = contacts_reading.front c.0.1 o.0 fc.0.rest_fits o.1 in
+    let u = bind_ok (day_frame_or_none_at total o.0.1) _ x o.2 in
+    let fu = (day_frame_or_none_reading total).front o.0.1 u.0 fo.0.rest_fits u.1 in
+    let f = bind_ok (frames_or_none_at u.0.1) _ x u.2 in
+    let ff = frames_or_none_reading.front u.0.1 f.0 fu.0.rest_fits f.1 in
+    let made : Instr × List ℕ = (WaitAny c.0.0 o.0.0 u.0.0 f.0.0, f.0.1) in
+    let co = front_then bytes (set_bytes c.0.0) c.0.1 (set_bytes o.0.0) o.0.1 fc.0 fo.0 in
+    let cou = front_then bytes (set_bytes c.0.0 ++ set_bytes o.0.0) o.0.1 (day_frame_bytes u.0.0) u.0.1 co fu.0 in
+    let all = front_then bytes ((set_bytes c.0.0 ++ set_bytes o.0.0) ++ day_frame_bytes u.0.0) u.0.1 (frames_bytes f.0.0) f.0.1 cou ff.0 in
+    let formed : IsInstr made.0 = record { closed_within = fc.1; opened_within = fo.1; until_within = fu.1; frames_within = ff.1 } in
+    subst (λ (y : Instr × List ℕ). IsInstrRead Opcode.WaitAny bytes y) (ok_is made x f.2)
+    (is_read Opcode.WaitAny bytes (((set_bytes c.0.0 ++ set_bytes o.0.0) ++ day_frame_bytes u.0.0) ++ frames_bytes f.0.0) made made.0 refl all refl formed)
+
 commit_in_front : (total : ℕ) (bytes : List ℕ) (x : Instr × List ℕ) → IsBytes bytes → commit_in_at total bytes ≡ Ok x → IsInstrRead Opcode.CommitIn bytes x
 unfolding commit_in_at
 commit_in_front total bytes x fits e =
@@ -104,6 +123,22 @@ loop_front total bytes x fits e =
     let t = two_front (counter_at total) byte_of (λ n. n < 8) any_u16 u16_bytes (λ n. n < 65536) Loop (byte_reading total 7) word_reading bytes x fits e in
     is_read Opcode.Loop bytes (byte_of t.first ++ u16_bytes t.second) x (Loop t.first t.second) t.is t.front refl (t.formed, t.formed')
 
+test_time_front : (total : ℕ) (bytes : List ℕ) (x : Instr × List ℕ) → IsBytes bytes → test_time_at total bytes ≡ Ok x → IsInstrRead Opcode.TestTime bytes x
+unfolding test_time_at
+test_time_front total bytes x fits e =
+    let f = bind_ok (day_frame_at total bytes) _ x e in
+    let ff = (day_frame_reading total).front bytes f.0 fits f.1 in
+    let t = bind_ok (day_frame_at total f.0.1) _ x f.2 in
+    let ft = (day_frame_reading total).front f.0.1 t.0 ff.0.rest_fits t.1 in
+    let g = bind_ok (any_u16 t.0.1) _ x t.2 in
+    let fg = word_reading.front t.0.1 g.0 ft.0.rest_fits g.1 in
+    let made : Instr × List ℕ = (TestTime f.0.0 t.0.0 g.0.0, g.0.1) in
+    let times = front_then bytes (long_of f.0.0) f.0.1 (long_of t.0.0) t.0.1 ff.0 ft.0 in
+    let all = front_then bytes (long_of f.0.0 ++ long_of t.0.0) t.0.1 (u16_bytes g.0.0) g.0.1 times fg.0 in
+    let formed : IsInstr made.0 = (ff.1, ft.1, fg.1) in
+    subst (λ (y : Instr × List ℕ). IsInstrRead Opcode.TestTime bytes y) (ok_is made x g.2)
+    (is_read Opcode.TestTime bytes ((long_of f.0.0 ++ long_of t.0.0) ++ u16_bytes g.0.0) made made.0 refl all refl formed)
+
 -- ---- any instruction
 
 edited_front : (opcode : Opcode) (bytes : List ℕ) (x : Instr × List ℕ) (read : Reads Edit) → ((y : Edit × List ℕ) → read ≡ Ok y → IsEditRead opcode bytes y)
@@ -124,6 +159,7 @@ operands_front total Opcode.CommitAt bytes x fits e = commit_at_front bytes x fi
 operands_front total Opcode.Join bytes x fits e = bare_front Opcode.Join bytes x Join fits refl tt e
 operands_front total Opcode.End bytes x fits e = bare_front Opcode.End bytes x End fits refl tt e
 operands_front total Opcode.Settle bytes x fits e = bare_front Opcode.Settle bytes x Settle fits refl tt e
+operands_front total Opcode.WaitAny bytes x fits e = wait_any_front total bytes x fits e
 operands_front total Opcode.AddSub bytes x fits e = edited_front Opcode.AddSub bytes x _ (λ y. add_sub_front total bytes y fits) e
 operands_front total Opcode.DropSub bytes x fits e = edited_front Opcode.DropSub bytes x _ (λ y. drop_sub_front total bytes y fits) e
 operands_front total Opcode.MoveSub bytes x fits e = edited_front Opcode.MoveSub bytes x _ (λ y. move_sub_front total bytes y fits) e
@@ -138,6 +174,7 @@ operands_front total Opcode.Test bytes x fits e = test_front total bytes x fits 
 operands_front total Opcode.Jump bytes x fits e = jump_front bytes x fits e
 operands_front total Opcode.Set bytes x fits e = set_front total bytes x fits e
 operands_front total Opcode.Loop bytes x fits e = loop_front total bytes x fits e
+operands_front total Opcode.TestTime bytes x fits e = test_time_front total bytes x fits e
 
 opcode_front : (total : ℕ) (bytes : List ℕ) (x : Opcode × List ℕ) → IsBytes bytes → opcode_at total bytes ≡ Ok x → Front bytes (opcode_byte x.0 ∷ []) x.1
 opcode_front total bytes x fits e =
@@ -171,10 +208,17 @@ line_front total bytes x fits e =
 -- ---- spelling and reading again
 
 instr_again : (total : ℕ) (i : Instr) (rest : List ℕ) → IsInstr i → instr_from total (instr_bytes i ++ rest) ≡ Ok (i, rest)
-unfolding opcode_of instr_from instr_of wait_at until_at wait_contact_at commit_in_at commit_at_at test_at jump_at set_at loop_at
+unfolding opcode_of instr_from instr_of wait_at until_at wait_contact_at wait_any_at commit_in_at commit_at_at test_at jump_at set_at loop_at test_time_at
 instr_again total (Wait n) rest is = one_again (times_at total) u16_bytes AreTimes Wait (times_reading total) n rest (is.0, omega (arith, is.1))
 instr_again total (Until t) rest is = one_again (day_frame_at total) long_of (λ n. n < 3600000) Until (day_frame_reading total) t rest is
 instr_again total (WaitContact c closed) rest is = two_again (contact_at total) byte_of (λ n. n < 16) (flag_at total) flag_of (λ b. Unit {0}) WaitContact (byte_reading total 15) (flag_reading total) c closed rest is tt
+instr_again total (WaitAny closed opened until frames) rest is =
+    rw (
+      contacts_reading.again closed (set_bytes opened ++ (day_frame_bytes until ++ (frames_bytes frames ++ rest))) is.closed_within,
+      contacts_reading.again opened (day_frame_bytes until ++ (frames_bytes frames ++ rest)) is.opened_within,
+      (day_frame_or_none_reading total).again until (frames_bytes frames ++ rest) is.until_within,
+      frames_or_none_reading.again frames rest is.frames_within,
+    ) refl
 instr_again total (CommitIn k) rest is = one_again (delay_at total) u16_bytes IsDelay CommitIn (delay_reading total) k rest is
 instr_again total (CommitAt n) rest is = one_again any_u16 u16_bytes (λ m. m < 65536) CommitAt word_reading n rest is
 instr_again total Join rest is = refl
@@ -185,6 +229,12 @@ instr_again total (Test c target) rest is = two_again (contact_at total) byte_of
 instr_again total (Jump target) rest is = one_again any_u16 u16_bytes (λ m. m < 65536) Jump word_reading target rest is
 instr_again total (Set r n) rest is = two_again (counter_at total) byte_of (λ m. m < 8) (times_at total) u16_bytes AreTimes Set (byte_reading total 7) (times_reading total) r n rest is.0 (is.1, omega (arith, is.2))
 instr_again total (Loop r target) rest is = two_again (counter_at total) byte_of (λ m. m < 8) any_u16 u16_bytes (λ m. m < 65536) Loop (byte_reading total 7) word_reading r target rest is.0 is.1
+instr_again total (TestTime from to target) rest is =
+    rw (
+      (day_frame_reading total).again from (long_of to ++ (u16_bytes target ++ rest)) is.0,
+      (day_frame_reading total).again to (u16_bytes target ++ rest) is.1,
+      word_reading.again target rest is.2,
+    ) refl
 
 pub line_again : (total : ℕ) (l : Line) (rest : List ℕ) → IsLine l → line_from total (line_bytes l ++ rest) ≡ Ok (l, rest)
 unfolding line_from

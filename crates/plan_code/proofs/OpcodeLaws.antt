@@ -20,6 +20,7 @@ opcode_again Opcode.CommitAt = refl
 opcode_again Opcode.Join = refl
 opcode_again Opcode.End = refl
 opcode_again Opcode.Settle = refl
+opcode_again Opcode.WaitAny = refl
 opcode_again Opcode.AddSub = refl
 opcode_again Opcode.DropSub = refl
 opcode_again Opcode.MoveSub = refl
@@ -34,6 +35,7 @@ opcode_again Opcode.Test = refl
 opcode_again Opcode.Jump = refl
 opcode_again Opcode.Set = refl
 opcode_again Opcode.Loop = refl
+opcode_again Opcode.TestTime = refl
 
 some_is : (x y : Opcode) → Some x ≡ Some y → x ≡ y
 some_is x y e = cc

@@ -1,7 +1,8 @@
 -- Reading an operand and spelling it are inverse.
-use Rattle.std.proofs.Common.{◌≡◌, ℕ, zero, suc, ◌+◌, ◌<◌, ◌≤◌, Bool, false, cond, ltb, List, [], ◌∷◌, ◌++◌, Ok, Err, refl, sym, ap, subst, ◌∙◌, append_assoc, arith}
+use Rattle.std.proofs.Common.{◌≡◌, ℕ, zero, suc, ◌+◌, ◌<◌, ◌≤◌, Bool, true, false, cond, eqb, ltb, Option, Some, None, List, [], ◌∷◌, ◌++◌, Ok, Err, refl, sym, ap, subst, ◌∙◌, append_assoc, arith}
+use Rattle.std.specs.Prelude.{IfSome}
 use Rattle.std.specs.Int.{w32, to_be_bytes}
-use Rattle.std.proofs.lemmas.Bool.{ltb-false, le-ltb}
+use Rattle.std.proofs.lemmas.Bool.{eqb-true, ltb-false, le-ltb, ne_eqb}
 use Rattle.mux_eep.specs.Sizes.{Profile}
 use Rattle.mux_types.specs.declared.parts.Sub.{Sub}
 use Rattle.mux_types.specs.declared.parts.Packet.{Packet}
@@ -13,9 +14,10 @@ use Rattle.mux_config.specs.FieldSpelling.{u16_bytes, flag_byte, protection_byte
 use Rattle.mux_config.specs.Spelling.{sub_record, packet_record}
 use Rattle.mux_config.specs.FieldReading.{Reads, ◌>>=◌, place, number_at, judged, byte_within, u16_in_range, flag_at, protection_at, sid_at, component_at}
 use Rattle.mux_config.proofs.FieldLaws.{IsBytes, Front, front_then, bind_ok, guard_ok, done, ok_is, word_front, word_again, long_front, long_again, byte_within_front, byte_within_again, word_within_front, word_within_again, flag_front, flag_again, protection_front, protection_again, sid_front, sid_again, component_front, component_again}
-use Rattle.plan_code.specs.Program.{IsNewSub, IsNewPacket, IsCarrier}
-use Rattle.plan_code.specs.Spelling.{carrier_bytes}
-use Rattle.plan_code.specs.Parts.{sub_id_at, type_at, scid_at, start_at, any_u16, day_frame_at, new_sub_at, new_packet_at, wide_sub_id_at, carrier_of_kind, carrier_at}
+use Rattle.plan_code.specs.declared.flags.Contacts.{Contacts}
+use Rattle.plan_code.specs.Program.{IsNewSub, IsNewPacket, IsCarrier, IsDayFrame, IsFrames}
+use Rattle.plan_code.specs.Spelling.{no_day_frame, day_frame_number, frames_number, carrier_bytes}
+use Rattle.plan_code.specs.Parts.{sub_id_at, type_at, scid_at, start_at, any_u16, day_frame_at, some_or_none, day_frame_or_none_at, frames_or_none, frames_or_none_at, contacts_at, new_sub_at, new_packet_at, wide_sub_id_at, carrier_of_kind, carrier_at}
 
 -- reading and spelling are inverse on well-formed values
 pub record IsReading {T : Type 0} (read : List ℕ → Reads T) (spell : T → List ℕ) (P : T → Type 0) : Type 0 where
@@ -84,6 +86,118 @@ day_frame_reading total = record {
       let from : ltb n 0 ≡ false = le-ltb _ _ (omega arith) in
       rw (long_again n rest (omega (arith, lt)), from, small) refl;
 }
+
+-- ---- operands that may be none, and sets of contacts
+
+abbrev pub IsDayFrameOrNone : Option ℕ → Type 0
+IsDayFrameOrNone frame = IfSome frame IsDayFrame
+
+abbrev pub day_frame_bytes : Option ℕ → List ℕ
+day_frame_bytes frame = to_be_bytes w32 (day_frame_number frame)
+
+-- what was read is the number or none, and is within its range
+pub record IsNumbered (n : ℕ × List ℕ) (x : Option ℕ × List ℕ) : Type 0 where
+  pub number : day_frame_number x.0 ≡ n.0
+  pub rest : n.1 ≡ x.1
+  pub formed : IsDayFrameOrNone x.0
+
+numbered_by : (at : ℕ) (n : ℕ × List ℕ) (x : Option ℕ × List ℕ) (none : Bool) → (none ≡ true → n.0 ≡ no_day_frame) → some_or_none at n none ≡ Ok x → IsNumbered n x
+numbered_by at n x true is e =
+    let made : Option ℕ × List ℕ = (None, n.1) in
+    subst (λ (y : Option ℕ × List ℕ). IsNumbered n y) (ok_is made x e) (record { number = sym (is refl); rest = refl; formed = tt })
+numbered_by at n x false is e =
+    let b = bind_ok (judged at 0 3599999 n) _ x e in
+    let j = judged_is at 3599999 n b.0 b.1 in
+    let made : Option ℕ × List ℕ = (Some b.0.0, b.0.1) in
+    subst (λ (y : Option ℕ × List ℕ). IsNumbered n y) (ok_is made x b.2)
+    (record { number = ap (λ (m : ℕ × List ℕ). m.0) (sym j.0); rest = ap (λ (m : ℕ × List ℕ). m.1) j.0; formed = omega (arith, j.1) })
+
+is_none : (n : ℕ) → eqb n no_day_frame ≡ true → n ≡ no_day_frame
+is_none n e = eqb-true n no_day_frame e
+
+day_frame_or_none_front : (total : ℕ) (bytes : List ℕ) (x : Option ℕ × List ℕ) → IsBytes bytes → day_frame_or_none_at total bytes ≡ Ok x
+    → Front bytes (day_frame_bytes x.0) x.1 × IsDayFrameOrNone x.0
+day_frame_or_none_front total bytes x fits e =
+    let b = bind_ok (number_at w32 bytes) _ x e in
+    let f = long_front bytes b.0 fits b.1 in
+    let n = numbered_by (place total bytes) b.0 x (eqb b.0.0 no_day_frame) (is_none b.0.0) b.2 in
+    let here : Front bytes (day_frame_bytes x.0) b.0.1 = subst (λ (m : ℕ). Front bytes (to_be_bytes w32 m) b.0.1) (sym n.number) f.0 in
+    (subst (λ (rest : List ℕ). Front bytes (day_frame_bytes x.0) rest) n.rest here, n.formed)
+
+day_frame_or_none_again : (total : ℕ) (frame : Option ℕ) (rest : List ℕ) → IsDayFrameOrNone frame → day_frame_or_none_at total (day_frame_bytes frame ++ rest) ≡ Ok (frame, rest)
+day_frame_or_none_again total None rest is = rw (long_again no_day_frame rest (omega arith)) refl
+day_frame_or_none_again total (Some t) rest is =
+    let apart : eqb t no_day_frame ≡ false = ne_eqb _ _ (λ e. omega (arith, e, is)) in
+    let small : ltb 3599999 t ≡ false = le-ltb _ _ (omega (arith, is)) in
+    let from : ltb t 0 ≡ false = le-ltb _ _ (omega arith) in
+    rw (long_again t rest (omega (arith, is)), apart, from, small) refl
+
+pub day_frame_or_none_reading : (total : ℕ) → IsReading (day_frame_or_none_at total) day_frame_bytes IsDayFrameOrNone
+day_frame_or_none_reading total = record { front = day_frame_or_none_front total; again = day_frame_or_none_again total }
+
+abbrev pub IsFramesOrNone : Option ℕ → Type 0
+IsFramesOrNone frames = IfSome frames IsFrames
+
+abbrev pub frames_bytes : Option ℕ → List ℕ
+frames_bytes frames = u16_bytes (frames_number frames)
+
+suc_is_some : (n : ℕ) → frames_or_none (suc n) ≡ Some (suc n)
+suc_is_some n = rw (ne_eqb (suc n) 0 (λ e. omega (arith, e))) refl
+
+frames_numbered : (n : ℕ) → n < 65536 → (frames_number (frames_or_none n) ≡ n) × IsFramesOrNone (frames_or_none n)
+frames_numbered zero lt = (refl, tt)
+frames_numbered (suc n) lt = rw (suc_is_some n) (refl, (omega arith, lt))
+
+frames_again : (frames : Option ℕ) → IsFramesOrNone frames → frames_or_none (frames_number frames) ≡ frames
+frames_again None is = refl
+frames_again (Some zero) is = absurd (omega (arith, is.0))
+frames_again (Some (suc n)) is = suc_is_some n
+
+frames_small : (frames : Option ℕ) → IsFramesOrNone frames → frames_number frames < 65536
+frames_small None is = omega arith
+frames_small (Some n) is = is.1
+
+abbrev numbered_frames : ℕ × List ℕ → Reads (Option ℕ)
+numbered_frames n = Ok (frames_or_none n.0, n.1)
+
+frames_or_none_front : (bytes : List ℕ) (x : Option ℕ × List ℕ) → IsBytes bytes → frames_or_none_at bytes ≡ Ok x → Front bytes (frames_bytes x.0) x.1 × IsFramesOrNone x.0
+frames_or_none_front bytes x fits e =
+    let b = bind_ok (any_u16 bytes) numbered_frames x e in
+    let f = word_reading.front bytes b.0 fits b.1 in
+    let n = frames_numbered b.0.0 f.1 in
+    let made : Option ℕ × List ℕ = (frames_or_none b.0.0, b.0.1) in
+    let here : Front bytes (frames_bytes made.0) b.0.1 = subst (λ (m : ℕ). Front bytes (u16_bytes m) b.0.1) (sym n.0) f.0 in
+    subst (λ (y : Option ℕ × List ℕ). Front bytes (frames_bytes y.0) y.1 × IsFramesOrNone y.0) (ok_is made x b.2) (here, n.1)
+
+frames_or_none_again : (frames : Option ℕ) (rest : List ℕ) → IsFramesOrNone frames → frames_or_none_at (frames_bytes frames ++ rest) ≡ Ok (frames, rest)
+frames_or_none_again frames rest is = rw (word_reading.again (frames_number frames) rest (frames_small frames is), frames_again frames is) refl
+
+pub frames_or_none_reading : IsReading frames_or_none_at frames_bytes IsFramesOrNone
+frames_or_none_reading = record { front = frames_or_none_front; again = frames_or_none_again }
+
+abbrev pub set_bytes : Contacts → List ℕ
+set_bytes set = u16_bytes set.0
+
+abbrev pub IsSet : Contacts → Type 0
+IsSet set = set.0 < 65536
+
+abbrev numbered_set : ℕ → Contacts
+numbered_set n = record { 0 = n }
+
+contacts_front : (bytes : List ℕ) (x : Contacts × List ℕ) → IsBytes bytes → contacts_at bytes ≡ Ok x → Front bytes (set_bytes x.0) x.1 × IsSet x.0
+contacts_front bytes x fits e =
+    let b = bind_ok (any_u16 bytes) _ x e in
+    let f = word_reading.front bytes b.0 fits b.1 in
+    let made : Contacts × List ℕ = (numbered_set b.0.0, b.0.1) in
+    subst (λ (y : Contacts × List ℕ). Front bytes (set_bytes y.0) y.1 × IsSet y.0) (ok_is made x b.2) f
+
+contacts_again : (set : Contacts) (rest : List ℕ) → IsSet set → contacts_at (set_bytes set ++ rest) ≡ Ok (set, rest)
+contacts_again set rest is = rw (word_reading.again set.0 rest is) refl
+
+pub contacts_reading : IsReading contacts_at set_bytes IsSet
+contacts_reading = record { front = contacts_front; again = contacts_again }
+
+-- ---- SIds, components and profiles
 
 pub sid_reading : (total : ℕ) → IsReading (sid_at total) sid_field IsSid
 sid_reading total = record { front = sid_front total; again = sid_again total }

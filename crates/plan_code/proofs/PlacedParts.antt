@@ -1,5 +1,5 @@
 -- The offset of a fault of a label or an instruction is within the file.
-use Rattle.std.proofs.Common.{ℕ, zero, suc, ◌-◌, ◌<◌, ◌≤◌, List, [], ◌∷◌, length, Option, Some, None, arith}
+use Rattle.std.proofs.Common.{Bool, true, false, eqb, ℕ, zero, suc, ◌-◌, ◌<◌, ◌≤◌, List, [], ◌∷◌, length, Option, Some, None, arith}
 use Rattle.std.specs.Prelude.{ok_or}
 use Rattle.std.specs.Int.{w16, w32}
 use Rattle.mux_config.specs.declared.edit.Edit.{Edit}
@@ -8,7 +8,8 @@ use Rattle.mux_config.specs.FieldReading.{Reads, ◌>>=◌, place, number_at}
 use Rattle.mux_config.proofs.PlacedFields.{Placed, placed_bind, placed_byte, placed_number, placed_judged, placed_byte_within, placed_word_within, placed_flag, placed_protection, placed_sid, placed_component}
 use Rattle.plan_code.specs.declared.opcode.Opcode.{Opcode}
 use Rattle.plan_code.specs.Opcodes.{opcode_of}
-use Rattle.plan_code.specs.Parts.{bounds_of, swap_at, label_from, day_frame_at, new_sub_at, new_packet_at, carrier_of_kind, carrier_at, add_sub_at, drop_sub_at, move_sub_at, rate_sub_at, add_service_at, drop_service_at, add_component_at, drop_component_at, add_packet_at, drop_packet_at, wait_at, until_at, wait_contact_at, commit_in_at, commit_at_at, test_at, jump_at, set_at, loop_at, opcode_at, edit_instr, instr_of, instr_from, line_from}
+use Rattle.plan_code.specs.Parts.{bounds_of, swap_at, label_from, day_frame_at, some_or_none, day_frame_or_none_at, frames_or_none_at, contacts_at, new_sub_at, new_packet_at, carrier_of_kind, carrier_at, add_sub_at, drop_sub_at, move_sub_at, rate_sub_at, add_service_at, drop_service_at, add_component_at, drop_component_at, add_packet_at, drop_packet_at, wait_at, until_at, wait_contact_at, wait_any_at, commit_in_at, commit_at_at, test_at, jump_at, set_at, loop_at, test_time_at, opcode_at, edit_instr, instr_of, instr_from, line_from}
+use Rattle.plan_code.specs.Spelling.{no_day_frame}
 use Rattle.plan_code.proofs.OpcodeLaws.{taken}
 
 -- ---- labels
@@ -72,11 +73,41 @@ placed_day_frame total [] left = tt
 placed_day_frame total (b ∷ bytes) left =
     placed_bind total (number_at w32 (b ∷ bytes)) _ (placed_number total w32 (b ∷ bytes) left) (λ n rest after. placed_judged total (place total (b ∷ bytes)) 0 3599999 n rest (omega (arith, left)) after)
 
+placed_none : (total at n : ℕ) (rest : List ℕ) (none : Bool) → at < total → length rest ≤ total → Placed total (some_or_none at (n, rest) none)
+placed_none total at n rest true within left = left
+placed_none total at n rest false within left = placed_bind total _ _ (placed_judged total at 0 3599999 n rest within left) (λ frame last after. after)
+
+placed_day_frame_or_none : (total : ℕ) (bytes : List ℕ) → length bytes ≤ total → Placed total (day_frame_or_none_at total bytes)
+placed_day_frame_or_none total [] left = tt
+placed_day_frame_or_none total (b ∷ bytes) left =
+    placed_bind total (number_at w32 (b ∷ bytes)) _ (placed_number total w32 (b ∷ bytes) left) (λ n rest after. placed_none total (place total (b ∷ bytes)) n rest (eqb n no_day_frame) (omega (arith, left)) after)
+
+placed_frames_or_none : (total : ℕ) (bytes : List ℕ) → length bytes ≤ total → Placed total (frames_or_none_at bytes)
+placed_frames_or_none total bytes left = placed_bind total _ _ (placed_number total w16 bytes left) (λ n rest after. after)
+
+placed_contacts : (total : ℕ) (bytes : List ℕ) → length bytes ≤ total → Placed total (contacts_at bytes)
+placed_contacts total bytes left = placed_bind total _ _ (placed_number total w16 bytes left) (λ n rest after. after)
+
+placed_wait_any : (total : ℕ) (bytes : List ℕ) → length bytes ≤ total → Placed total (wait_any_at total bytes)
+unfolding wait_any_at
+placed_wait_any total bytes left =
+    placed_bind total _ _ (placed_contacts total bytes left) (λ closed after_closed left_closed.
+    placed_bind total _ _ (placed_contacts total after_closed left_closed) (λ opened after_opened left_opened.
+    placed_bind total _ _ (placed_day_frame_or_none total after_opened left_opened) (λ until after_until left_until.
+    placed_bind total _ _ (placed_frames_or_none total after_until left_until) (λ frames rest after. after))))
+
+placed_test_time : (total : ℕ) (bytes : List ℕ) → length bytes ≤ total → Placed total (test_time_at total bytes)
+unfolding test_time_at
+placed_test_time total bytes left =
+    placed_bind total _ _ (placed_day_frame total bytes left) (λ from after_from left_from.
+    placed_bind total _ _ (placed_day_frame total after_from left_from) (λ to after_to left_to.
+    placed_bind total _ _ (placed_number total w16 after_to left_to) (λ target rest after. after)))
+
 placed_edited : (total : ℕ) (read : Reads Edit) → Placed total read → Placed total (edit_instr read)
 placed_edited total read here = placed_bind total read _ here (λ edit rest after. after)
 
 placed_operands : (total : ℕ) (opcode : Opcode) (bytes : List ℕ) → length bytes ≤ total → Placed total (instr_of total opcode bytes)
-unfolding instr_of wait_at until_at wait_contact_at commit_in_at commit_at_at add_sub_at drop_sub_at move_sub_at rate_sub_at add_service_at drop_service_at add_component_at drop_component_at add_packet_at drop_packet_at test_at jump_at set_at loop_at
+unfolding instr_of wait_at until_at wait_contact_at wait_any_at commit_in_at commit_at_at add_sub_at drop_sub_at move_sub_at rate_sub_at add_service_at drop_service_at add_component_at drop_component_at add_packet_at drop_packet_at test_at jump_at set_at loop_at test_time_at
 placed_operands total Opcode.Wait bytes left = placed_bind total _ _ (placed_word_within total 1 65535 bytes left) (λ frames rest after. after)
 placed_operands total Opcode.Until bytes left = placed_bind total _ _ (placed_day_frame total bytes left) (λ frame rest after. after)
 placed_operands total Opcode.WaitContact bytes left = placed_bind total _ _ (placed_byte_within total 0 15 bytes left) (λ contact after_contact some. placed_bind total _ _ (placed_flag total after_contact some) (λ closed rest after. after))
@@ -85,6 +116,7 @@ placed_operands total Opcode.CommitAt bytes left = placed_bind total _ _ (placed
 placed_operands total Opcode.Join bytes left = left
 placed_operands total Opcode.End bytes left = left
 placed_operands total Opcode.Settle bytes left = left
+placed_operands total Opcode.WaitAny bytes left = placed_wait_any total bytes left
 placed_operands total Opcode.AddSub bytes left = placed_edited total _ (placed_bind total _ _ (placed_new_sub total bytes left) (λ sub rest after. after))
 placed_operands total Opcode.DropSub bytes left = placed_edited total _ (placed_bind total _ _ (placed_byte_within total 0 63 bytes left) (λ id rest after. after))
 placed_operands total Opcode.MoveSub bytes left = placed_edited total _ (placed_bind total _ _ (placed_byte_within total 0 63 bytes left) (λ id after_id some. placed_bind total _ _ (placed_word_within total 0 1023 after_id some) (λ start rest after. after)))
@@ -99,6 +131,7 @@ placed_operands total Opcode.Test bytes left = placed_bind total _ _ (placed_byt
 placed_operands total Opcode.Jump bytes left = placed_bind total _ _ (placed_number total w16 bytes left) (λ target rest after. after)
 placed_operands total Opcode.Set bytes left = placed_bind total _ _ (placed_byte_within total 0 7 bytes left) (λ counter after_counter some. placed_bind total _ _ (placed_word_within total 1 65535 after_counter some) (λ times rest after. after))
 placed_operands total Opcode.Loop bytes left = placed_bind total _ _ (placed_byte_within total 0 7 bytes left) (λ counter after_counter some. placed_bind total _ _ (placed_number total w16 after_counter some) (λ target rest after. after))
+placed_operands total Opcode.TestTime bytes left = placed_test_time total bytes left
 
 -- the opcode of a byte, or a fault at its offset
 placed_known : (total : ℕ) (rest : List ℕ) (opcode : Option Opcode) (at : ℕ) → at < total → length rest ≤ total → Placed total (ok_or opcode (Field at) >>= λ o. taken (o, rest))

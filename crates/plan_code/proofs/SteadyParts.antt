@@ -1,6 +1,6 @@
 -- Appended bytes do not affect the reading of labels and instructions: a value, and any fault except `Short`, stays the
 -- same.
-use Rattle.std.proofs.Common.{◌≡◌, ℕ, zero, suc, ◌+◌, ◌-◌, List, ◌++◌, length, Option, Some, None, refl, ap}
+use Rattle.std.proofs.Common.{◌≡◌, ℕ, zero, suc, ◌+◌, ◌-◌, Bool, true, false, eqb, List, ◌++◌, length, Option, Some, None, refl, ap}
 use Rattle.std.specs.Prelude.{ok_or}
 use Rattle.std.specs.Int.{w16, w32}
 use Rattle.mux_config.specs.declared.edit.Edit.{Edit}
@@ -9,7 +9,8 @@ use Rattle.mux_config.specs.FieldReading.{Reads, ◌>>=◌}
 use Rattle.mux_config.proofs.SteadyFields.{Goes, goes_bind, goes_fault, place_same, goes_byte, goes_number, goes_judged, goes_byte_within, goes_word_within, goes_flag, goes_protection, goes_sid, goes_component}
 use Rattle.plan_code.specs.declared.opcode.Opcode.{Opcode}
 use Rattle.plan_code.specs.Opcodes.{opcode_of}
-use Rattle.plan_code.specs.Parts.{bounds_of, swap_at, label_from, day_frame_at, new_sub_at, new_packet_at, carrier_of_kind, carrier_at, add_sub_at, drop_sub_at, move_sub_at, rate_sub_at, add_service_at, drop_service_at, add_component_at, drop_component_at, add_packet_at, drop_packet_at, wait_at, until_at, wait_contact_at, commit_in_at, commit_at_at, test_at, jump_at, set_at, loop_at, opcode_at, edit_instr, instr_of, instr_from, line_from}
+use Rattle.plan_code.specs.Parts.{bounds_of, swap_at, label_from, day_frame_at, some_or_none, day_frame_or_none_at, frames_or_none_at, contacts_at, new_sub_at, new_packet_at, carrier_of_kind, carrier_at, add_sub_at, drop_sub_at, move_sub_at, rate_sub_at, add_service_at, drop_service_at, add_component_at, drop_component_at, add_packet_at, drop_packet_at, wait_at, until_at, wait_contact_at, wait_any_at, commit_in_at, commit_at_at, test_at, jump_at, set_at, loop_at, test_time_at, opcode_at, edit_instr, instr_of, instr_from, line_from}
+use Rattle.plan_code.specs.Spelling.{no_day_frame}
 use Rattle.plan_code.proofs.OpcodeLaws.{taken}
 
 -- ---- labels
@@ -71,11 +72,40 @@ goes_carrier total bytes more = goes_bind more _ _ _ _ (goes_byte_within total 0
 goes_day_frame : (total : ℕ) (bytes more : List ℕ) → Goes more (day_frame_at total bytes) (day_frame_at (total + length more) (bytes ++ more))
 goes_day_frame total bytes more = goes_bind more _ _ _ _ (goes_number w32 bytes more) (λ n rest. goes_judged more _ _ 0 3599999 n rest (place_same total bytes more))
 
+goes_none : (more : List ℕ) (at by n : ℕ) (rest : List ℕ) (none : Bool) → at ≡ by → Goes more (some_or_none at (n, rest) none) (some_or_none by (n, rest ++ more) none)
+goes_none more at by n rest true e = refl
+goes_none more at by n rest false e = goes_bind more _ _ _ _ (goes_judged more at by 0 3599999 n rest e) (λ frame last. refl)
+
+goes_day_frame_or_none : (total : ℕ) (bytes more : List ℕ) → Goes more (day_frame_or_none_at total bytes) (day_frame_or_none_at (total + length more) (bytes ++ more))
+goes_day_frame_or_none total bytes more =
+    goes_bind more _ _ _ _ (goes_number w32 bytes more) (λ n rest. goes_none more _ _ n rest (eqb n no_day_frame) (place_same total bytes more))
+
+goes_frames_or_none : (bytes more : List ℕ) → Goes more (frames_or_none_at bytes) (frames_or_none_at (bytes ++ more))
+goes_frames_or_none bytes more = goes_bind more _ _ _ _ (goes_number w16 bytes more) (λ n rest. refl)
+
+goes_contacts : (bytes more : List ℕ) → Goes more (contacts_at bytes) (contacts_at (bytes ++ more))
+goes_contacts bytes more = goes_bind more _ _ _ _ (goes_number w16 bytes more) (λ n rest. refl)
+
+goes_wait_any : (total : ℕ) (bytes more : List ℕ) → Goes more (wait_any_at total bytes) (wait_any_at (total + length more) (bytes ++ more))
+unfolding wait_any_at
+goes_wait_any total bytes more =
+    goes_bind more _ _ _ _ (goes_contacts bytes more) (λ closed after_closed.
+    goes_bind more _ _ _ _ (goes_contacts after_closed more) (λ opened after_opened.
+    goes_bind more _ _ _ _ (goes_day_frame_or_none total after_opened more) (λ until after_until.
+    goes_bind more _ _ _ _ (goes_frames_or_none after_until more) (λ frames rest. refl))))
+
+goes_test_time : (total : ℕ) (bytes more : List ℕ) → Goes more (test_time_at total bytes) (test_time_at (total + length more) (bytes ++ more))
+unfolding test_time_at
+goes_test_time total bytes more =
+    goes_bind more _ _ _ _ (goes_day_frame total bytes more) (λ from after_from.
+    goes_bind more _ _ _ _ (goes_day_frame total after_from more) (λ to after_to.
+    goes_bind more _ _ _ _ (goes_number w16 after_to more) (λ target rest. refl)))
+
 goes_edited : (more : List ℕ) (r s : Reads Edit) → Goes more r s → Goes more (edit_instr r) (edit_instr s)
 goes_edited more r s h = goes_bind more r s _ _ h (λ edit rest. refl)
 
 goes_operands : (total : ℕ) (opcode : Opcode) (bytes more : List ℕ) → Goes more (instr_of total opcode bytes) (instr_of (total + length more) opcode (bytes ++ more))
-unfolding instr_of wait_at until_at wait_contact_at commit_in_at commit_at_at add_sub_at drop_sub_at move_sub_at rate_sub_at add_service_at drop_service_at add_component_at drop_component_at add_packet_at drop_packet_at test_at jump_at set_at loop_at
+unfolding instr_of wait_at until_at wait_contact_at wait_any_at commit_in_at commit_at_at add_sub_at drop_sub_at move_sub_at rate_sub_at add_service_at drop_service_at add_component_at drop_component_at add_packet_at drop_packet_at test_at jump_at set_at loop_at test_time_at
 goes_operands total Opcode.Wait bytes more = goes_bind more _ _ _ _ (goes_word_within total 1 65535 bytes more) (λ frames rest. refl)
 goes_operands total Opcode.Until bytes more = goes_bind more _ _ _ _ (goes_day_frame total bytes more) (λ frame rest. refl)
 goes_operands total Opcode.WaitContact bytes more = goes_bind more _ _ _ _ (goes_byte_within total 0 15 bytes more) (λ contact after_contact. goes_bind more _ _ _ _ (goes_flag total after_contact more) (λ closed rest. refl))
@@ -84,6 +114,7 @@ goes_operands total Opcode.CommitAt bytes more = goes_bind more _ _ _ _ (goes_nu
 goes_operands total Opcode.Join bytes more = refl
 goes_operands total Opcode.End bytes more = refl
 goes_operands total Opcode.Settle bytes more = refl
+goes_operands total Opcode.WaitAny bytes more = goes_wait_any total bytes more
 goes_operands total Opcode.AddSub bytes more = goes_edited more _ _ (goes_bind more _ _ _ _ (goes_new_sub total bytes more) (λ sub rest. refl))
 goes_operands total Opcode.DropSub bytes more = goes_edited more _ _ (goes_bind more _ _ _ _ (goes_byte_within total 0 63 bytes more) (λ id rest. refl))
 goes_operands total Opcode.MoveSub bytes more = goes_edited more _ _ (goes_bind more _ _ _ _ (goes_byte_within total 0 63 bytes more) (λ id after_id. goes_bind more _ _ _ _ (goes_word_within total 0 1023 after_id more) (λ start rest. refl)))
@@ -98,6 +129,7 @@ goes_operands total Opcode.Test bytes more = goes_bind more _ _ _ _ (goes_byte_w
 goes_operands total Opcode.Jump bytes more = goes_bind more _ _ _ _ (goes_number w16 bytes more) (λ target rest. refl)
 goes_operands total Opcode.Set bytes more = goes_bind more _ _ _ _ (goes_byte_within total 0 7 bytes more) (λ counter after_counter. goes_bind more _ _ _ _ (goes_word_within total 1 65535 after_counter more) (λ times rest. refl))
 goes_operands total Opcode.Loop bytes more = goes_bind more _ _ _ _ (goes_byte_within total 0 7 bytes more) (λ counter after_counter. goes_bind more _ _ _ _ (goes_number w16 after_counter more) (λ target rest. refl))
+goes_operands total Opcode.TestTime bytes more = goes_test_time total bytes more
 
 -- the opcode of a byte, or a fault at the same offset
 goes_known : (more rest : List ℕ) (opcode : Option Opcode) (at by : ℕ) → at ≡ by

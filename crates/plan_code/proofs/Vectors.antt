@@ -18,7 +18,7 @@ use Rattle.plan_code.specs.Reading.{layout_at, reserving_at}
 use Rattle.plan_code.specs.declared.fault.CodeFault.TheVariants.{Version, Field}
 use Rattle.plan_code.specs.Machine.{State, effect, IsAllowed, IsLeastFrom}
 
-abbrev plan : Mode → Plan
+abbrev pub plan : Mode → Plan
 plan mode = record { eid = 0xe1c5; layout = Whole mode; period = 4; notice = 24; budget = 20 }
 
 -- contact 3 is closed
@@ -48,19 +48,19 @@ at_seven left next =
       page_index = 0;
     }
 
-abbrev idle : State
+abbrev pub idle : State
 idle = at_seven None (with_sub 128)
 
 abbrev changed : State
 changed = at_seven None (with_sub 96)
 
-abbrev pending : State
+abbrev pub pending : State
 pending = at_seven (Some 27) (with_sub 96)
 
-abbrev at : ℕ → State → State
+abbrev pub at : ℕ → State → State
 at pc s = record s { pc = pc }
 
-abbrev held : Hold → State → State
+abbrev pub held : Hold → State → State
 held hold s = record s { hold = hold; pc = 8 }
 
 -- ---- effects

@@ -1,6 +1,7 @@
 -- Sets of counters and of contacts, as bit sets.
-use Rattle.std.specs.Prelude.{◌≡◌, ◌≢◌, ℕ, ◌-◌, ◌<◌, ◌^◌, ◌==◌, Bool, true, false}
+use Rattle.std.specs.Prelude.{◌≡◌, ◌≢◌, ℕ, ◌-◌, ◌<◌, ◌^◌, ◌==◌, ◌&&◌, Bool, true, false, not, List}
 use Rattle.std.specs.Int.{bit_at}
+use Rattle.std.specs.List.{list_any, range_with_len}
 use Rattle.std.specs.Int.RustNames.{bit_and, bit_or}
 use Rattle.plan_code.specs.declared.flags.Counters.{Counters}
 use Rattle.plan_code.specs.declared.flags.Contacts.{Contacts}
@@ -28,6 +29,20 @@ Includes counters other = (r : ℕ) → is_set other r ≡ true → is_set count
 abbrev pub with_contact : ℕ → Bool → Contacts → Contacts
 with_contact c true contacts = record { 0 = bit_or contacts.0 (2 ^ c) }
 with_contact c false contacts = record { 0 = bit_and contacts.0 (2 ^ 16 - 1 - 2 ^ c) }
+
+-- contact c is in a set of contacts to wait for
+abbrev pub is_in : Contacts → ℕ → Bool
+is_in set c = bit_at set.0 c == 1
+
+abbrev pub contact_ids : List ℕ
+contact_ids = range_with_len 0 16
+
+-- one of the contacts of the set is closed; below, one of them is open
+unfoldable pub any_closed : (set contacts : Contacts) → Bool
+any_closed set contacts = list_any (λ c. is_in set c && is_closed contacts c) contact_ids
+
+unfoldable pub any_open : (set contacts : Contacts) → Bool
+any_open set contacts = list_any (λ c. is_in set c && not (is_closed contacts c)) contact_ids
 
 -- ---- what these change, and what they leave unchanged
 

@@ -1,6 +1,6 @@
 -- The machine that executes instructions: its state, how each instruction changes it, and what each needs so as
 -- not to trap.
-use Rattle.std.specs.Prelude.{◌≡◌, ◌≢◌, ℕ, zero, suc, ◌+◌, ◌-◌, ◌%◌, ◌<◌, ◌≤◌, if◌then◌else◌, nat_lt, List, length, Option, Some, None, IsSome, slice_index, slice_set}
+use Rattle.std.specs.Prelude.{◌≡◌, ◌≢◌, ◌↔◌, ◌⊎◌, true, Bool, ℕ, zero, suc, ◌+◌, ◌-◌, ◌%◌, ◌<◌, ◌≤◌, if◌then◌else◌, nat_lt, List, length, Option, Some, None, IsSome, slice_index, slice_set}
 use Rattle.mux_config.specs.Configuration.{Configuration}
 use Rattle.mux_config.specs.Edits.{changed, edit_fault}
 use Rattle.mux_config.specs.Sound.{IsSound}
@@ -9,11 +9,12 @@ use Rattle.fib_codec.specs.Modes.{count_step}
 use Rattle.fib_codec.specs.Layouts.{layout_mode}
 use Rattle.fib_codec.specs.declared.modes.Mode.{Mode}
 use Rattle.mux_types.specs.declared.limits.TheConstants.{COUNTS}
+use Rattle.plan_code.specs.declared.limits.TheConstants.{FRAMES_A_DAY}
 use Rattle.plan_code.specs.declared.plan.Plan.{Plan}
 use Rattle.plan_code.specs.declared.instr.Instr.{Instr}
-use Rattle.plan_code.specs.declared.instr.Instr.TheVariants.{Wait, Until, WaitContact, CommitIn, CommitAt, Join, Settle, End, Edit as Edits, Test, Jump, Set, Loop}
+use Rattle.plan_code.specs.declared.instr.Instr.TheVariants.{Wait, Until, WaitContact, WaitAny, CommitIn, CommitAt, Join, Settle, End, Edit as Edits, Test, TestTime, Jump, Set, Loop}
 use Rattle.plan_code.specs.declared.hold.Hold.{Hold}
-use Rattle.plan_code.specs.declared.hold.Hold.TheVariants.{Waits, WaitsDay, WaitsContact, WaitsSwap, Ended}
+use Rattle.plan_code.specs.declared.hold.Hold.TheVariants.{Waits, WaitsDay, WaitsContact, WaitsAny, WaitsSwap, Ended}
 use Rattle.plan_code.specs.declared.flags.Contacts.{Contacts}
 use Rattle.plan_code.specs.Flags.{is_closed}
 use Rattle.plan_code.specs.Program.{Program, instr_at}
@@ -64,6 +65,26 @@ SwapsAtCount =
     (count least at : ℕ) → at < COUNTS
     → IsLeastFrom least (λ r. (count + r) % COUNTS ≡ at) (left_at count least at)
 
+-- ---- windows of the day
+
+-- the number of frames from a frame of the day to the next one that is `to`
+abbrev pub frames_until : (from to : ℕ) → ℕ
+frames_until from to = (to + (FRAMES_A_DAY - from)) % FRAMES_A_DAY
+
+-- the frame of the day is in the window from `from` to `to`: it comes before `to` does
+abbrev pub is_in_window : (from to day : ℕ) → Bool
+is_in_window from to day = nat_lt (frames_until from day) (frames_until from to)
+
+-- a window begins with its first frame and ends before its last one; it runs over midnight if that comes before the
+-- first; and it is empty if the two are the same
+pub record IsWindow (from to day : ℕ) : Type 0 where
+  pub within_a_day : from ≤ to → is_in_window from to day ≡ true ↔ (from ≤ day) × (day < to)
+  pub over_midnight : to < from → is_in_window from to day ≡ true ↔ (from ≤ day) ⊎ (day < to)
+
+abbrev pub WindowsAreHalfOpen : Type 0
+WindowsAreHalfOpen =
+    (from to day : ℕ) → from < FRAMES_A_DAY → to < FRAMES_A_DAY → day < FRAMES_A_DAY → IsWindow from to day
+
 -- ---- what an instruction does
 
 -- the next instruction runs at once
@@ -89,6 +110,7 @@ abbrev pub effect : Plan → Instr → State → State
 effect plan (Wait n) s = suspend (Waits n) s
 effect plan (Until t) s = suspend (WaitsDay t) s
 effect plan (WaitContact c closed) s = suspend (WaitsContact c closed) s
+effect plan (WaitAny closed opened until frames) s = suspend (WaitsAny closed opened until frames) s
 effect plan (CommitIn k) s = commit (left_in (count_step (layout_mode plan.layout)) s.count k) s
 effect plan (CommitAt n) s = commit (left_at s.count plan.notice n) s
 effect plan Join s = suspend WaitsSwap s
@@ -96,6 +118,7 @@ effect plan Settle s = settle s.left s
 effect plan End s = record s { hold = Ended }
 effect plan (Edits e) s = record s { next = changed e s.next; pc = s.pc + 1 }
 effect plan (Test c target) s = record s { pc = if is_closed s.contacts c then s.pc + 1 else target }
+effect plan (TestTime from to target) s = record s { pc = if is_in_window from to s.day then s.pc + 1 else target }
 effect plan (Jump target) s = record s { pc = target }
 effect plan (Set r n) s = record s { counters = slice_set s.counters r n; pc = s.pc + 1 }
 effect plan (Loop r target) s =
@@ -137,6 +160,7 @@ abbrev pub IsAllowed : Plan → Instr → State → Type 0
 IsAllowed plan (Wait n) s = Unit {0}
 IsAllowed plan (Until t) s = Unit {0}
 IsAllowed plan (WaitContact c closed) s = Unit {0}
+IsAllowed plan (WaitAny closed opened until frames) s = Unit {0}
 IsAllowed plan (CommitIn k) s = IsReady s × IsNoticed plan k
 IsAllowed plan (CommitAt n) s = IsReady s × IsSwapCount (layout_mode plan.layout) n
 IsAllowed plan Join s = IsPending s
@@ -144,6 +168,7 @@ IsAllowed plan Settle s = Unit {0}
 IsAllowed plan End s = Unit {0}
 IsAllowed plan (Edits e) s = IsIdle s × HasNoFault e s.next
 IsAllowed plan (Test c target) s = Unit {0}
+IsAllowed plan (TestTime from to target) s = Unit {0}
 IsAllowed plan (Jump target) s = Unit {0}
 IsAllowed plan (Set r n) s = Unit {0}
 IsAllowed plan (Loop r target) s = IsCounterSet s r

@@ -1,7 +1,7 @@
 -- The opcodes: the first byte of each instruction.
 use Rattle.std.specs.Prelude.{◌≡◌, ℕ, ◌==◌, List, [], ◌∷◌, Option, Some, find}
 use Rattle.plan_code.specs.declared.opcode.Opcode.{Opcode}
-use Rattle.plan_code.specs.declared.opcode.Opcode.TheVariants.{Wait, Until, WaitContact, CommitIn, CommitAt, Join, End, Settle, AddSub, DropSub, MoveSub, RateSub, AddService, DropService, AddComponent, DropComponent, AddPacket, DropPacket, Test, Jump, Set, Loop}
+use Rattle.plan_code.specs.declared.opcode.Opcode.TheVariants.{Wait, Until, WaitContact, CommitIn, CommitAt, Join, End, Settle, WaitAny, AddSub, DropSub, MoveSub, RateSub, AddService, DropService, AddComponent, DropComponent, AddPacket, DropPacket, Test, Jump, Set, Loop, TestTime}
 
 abbrev pub opcode_byte : Opcode → ℕ
 opcode_byte Wait = 0x01
@@ -12,6 +12,7 @@ opcode_byte CommitAt = 0x05
 opcode_byte Join = 0x06
 opcode_byte End = 0x07
 opcode_byte Settle = 0x08
+opcode_byte WaitAny = 0x09
 opcode_byte AddSub = 0x10
 opcode_byte DropSub = 0x11
 opcode_byte MoveSub = 0x12
@@ -26,11 +27,12 @@ opcode_byte Test = 0x20
 opcode_byte Jump = 0x21
 opcode_byte Set = 0x22
 opcode_byte Loop = 0x23
+opcode_byte TestTime = 0x24
 
 abbrev pub opcodes : List Opcode
-opcodes = Wait ∷ Until ∷ WaitContact ∷ CommitIn ∷ CommitAt ∷ Join ∷ End ∷ Settle
+opcodes = Wait ∷ Until ∷ WaitContact ∷ CommitIn ∷ CommitAt ∷ Join ∷ End ∷ Settle ∷ WaitAny
     ∷ AddSub ∷ DropSub ∷ MoveSub ∷ RateSub ∷ AddService ∷ DropService ∷ AddComponent ∷ DropComponent ∷ AddPacket ∷ DropPacket
-    ∷ Test ∷ Jump ∷ Set ∷ Loop ∷ []
+    ∷ Test ∷ Jump ∷ Set ∷ Loop ∷ TestTime ∷ []
 
 -- the opcode of a byte; any other byte has none
 unfoldable pub opcode_of : ℕ → Option Opcode

@@ -1,6 +1,6 @@
 -- Reading a label, and a line with its instruction, in order up to the first fault: a field whose bytes are missing, or
 -- one that is out of range.
-use Rattle.std.specs.Prelude.{ℕ, zero, suc, ◌-◌, List, ok_or, Ok}
+use Rattle.std.specs.Prelude.{ℕ, zero, suc, ◌-◌, ◌==◌, if◌then◌else◌, Bool, true, false, List, Option, Some, None, ok_or, Ok}
 use Rattle.std.specs.Int.{w16, w32}
 use Rattle.mux_config.specs.FieldReading.{Reads, ◌>>=◌, place, byte_at, number_at, judged, byte_within, u16_in_range, flag_at, protection_at, sid_at, component_at}
 use Rattle.mux_config.specs.declared.record.RecordFault.TheVariants.{Field}
@@ -10,15 +10,17 @@ use Rattle.mux_types.specs.declared.parts.Carrier.TheVariants.{Sub as BySub, Pac
 use Rattle.mux_types.specs.declared.parts.Packet.{Packet}
 use Rattle.mux_config.specs.declared.edit.Edit.{Edit}
 use Rattle.mux_config.specs.declared.edit.Edit.TheVariants.{AddSub, DropSub, MoveSub, RateSub, AddService, DropService, AddComponent, DropComponent, AddPacket, DropPacket}
+use Rattle.plan_code.specs.declared.flags.Contacts.{Contacts}
 use Rattle.plan_code.specs.declared.flags.Counters.{Counters}
 use Rattle.plan_code.specs.declared.label.Label.{Label}
 use Rattle.plan_code.specs.declared.label.Swap.{Swap}
 use Rattle.plan_code.specs.declared.label.Swap.TheVariants.{Idle, Within, Perhaps}
 use Rattle.plan_code.specs.declared.instr.Instr.{Instr}
-use Rattle.plan_code.specs.declared.instr.Instr.TheVariants.{Wait, Until, WaitContact, CommitIn, CommitAt, Join, Settle, End, Edit as Edits, Test, Jump, Set, Loop}
+use Rattle.plan_code.specs.declared.instr.Instr.TheVariants.{Wait, Until, WaitContact, WaitAny, CommitIn, CommitAt, Join, Settle, End, Edit as Edits, Test, TestTime, Jump, Set, Loop}
 use Rattle.plan_code.specs.declared.instr.Line.{Line}
 use Rattle.plan_code.specs.declared.opcode.Opcode.{Opcode}
 use Rattle.plan_code.specs.Opcodes.{opcode_of}
+use Rattle.plan_code.specs.Spelling.{no_day_frame}
 
 -- ---- labels
 
@@ -87,6 +89,24 @@ delay_at total bytes = u16_in_range total 1 60000 bytes
 
 abbrev pub day_frame_at : (total : ℕ) → List ℕ → Reads ℕ
 day_frame_at total bytes = number_at w32 bytes >>= judged (place total bytes) 0 3599999
+
+-- a frame of the day, or none
+abbrev pub some_or_none : (at : ℕ) → ℕ × List ℕ → (none : Bool) → Reads (Option ℕ)
+some_or_none at n true = Ok (None, n.1)
+some_or_none at n false = judged at 0 3599999 n >>= λ frame. Ok (Some frame.0, frame.1)
+
+abbrev pub day_frame_or_none_at : (total : ℕ) → List ℕ → Reads (Option ℕ)
+day_frame_or_none_at total bytes = number_at w32 bytes >>= λ n. some_or_none (place total bytes) n (n.0 == no_day_frame)
+
+-- a number of frames, or none for 0
+abbrev pub frames_or_none : ℕ → Option ℕ
+frames_or_none n = if n == 0 then None else Some n
+
+abbrev pub frames_or_none_at : List ℕ → Reads (Option ℕ)
+frames_or_none_at bytes = any_u16 bytes >>= λ n. Ok (frames_or_none n.0, n.1)
+
+abbrev pub contacts_at : List ℕ → Reads Contacts
+contacts_at bytes = any_u16 bytes >>= λ n. let set : Contacts = record { 0 = n.0 } in Ok (set, n.1)
 
 unfoldable pub new_sub_at : (total : ℕ) → List ℕ → Reads Sub
 new_sub_at total bytes = do
@@ -192,6 +212,14 @@ wait_contact_at total bytes = do
   closed ← flag_at total contact.1
   Ok (WaitContact contact.0 closed.0, closed.1)
 
+unfoldable pub wait_any_at : (total : ℕ) → List ℕ → Reads Instr
+wait_any_at total bytes = do
+  closed ← contacts_at bytes
+  opened ← contacts_at closed.1
+  until ← day_frame_or_none_at total opened.1
+  frames ← frames_or_none_at until.1
+  Ok (WaitAny closed.0 opened.0 until.0 frames.0, frames.1)
+
 unfoldable pub commit_in_at : (total : ℕ) → List ℕ → Reads Instr
 commit_in_at total bytes = do
   delay ← delay_at total bytes
@@ -225,6 +253,13 @@ loop_at total bytes = do
   target ← any_u16 counter.1
   Ok (Loop counter.0 target.0, target.1)
 
+unfoldable pub test_time_at : (total : ℕ) → List ℕ → Reads Instr
+test_time_at total bytes = do
+  from ← day_frame_at total bytes
+  to ← day_frame_at total from.1
+  target ← any_u16 to.1
+  Ok (TestTime from.0 to.0 target.0, target.1)
+
 -- ---- any instruction, and its line
 
 abbrev pub opcode_at : (total : ℕ) → List ℕ → Reads Opcode
@@ -247,6 +282,7 @@ instr_of total Opcode.CommitAt bytes = commit_at_at bytes
 instr_of total Opcode.Join bytes = Ok (Join, bytes)
 instr_of total Opcode.End bytes = Ok (End, bytes)
 instr_of total Opcode.Settle bytes = Ok (Settle, bytes)
+instr_of total Opcode.WaitAny bytes = wait_any_at total bytes
 instr_of total Opcode.AddSub bytes = edit_instr (add_sub_at total bytes)
 instr_of total Opcode.DropSub bytes = edit_instr (drop_sub_at total bytes)
 instr_of total Opcode.MoveSub bytes = edit_instr (move_sub_at total bytes)
@@ -261,6 +297,7 @@ instr_of total Opcode.Test bytes = test_at total bytes
 instr_of total Opcode.Jump bytes = jump_at bytes
 instr_of total Opcode.Set bytes = set_at total bytes
 instr_of total Opcode.Loop bytes = loop_at total bytes
+instr_of total Opcode.TestTime bytes = test_time_at total bytes
 
 unfoldable pub instr_from : (total : ℕ) → List ℕ → Reads Instr
 instr_from total bytes = do

@@ -1,6 +1,6 @@
 -- What a plan code is: a plan, a table of configurations, a table of labels and instructions, with every field
 -- within its limits.
-use Rattle.std.specs.Prelude.{ℕ, ◌<◌, ◌≤◌, ◌==◌, List, length, Option, find, slice_get, option_map}
+use Rattle.std.specs.Prelude.{ℕ, ◌<◌, ◌≤◌, ◌==◌, List, length, Option, IfSome, find, slice_get, option_map}
 use Rattle.mux_config.specs.Configuration.{Configuration, IsConfiguration, IsAscending, IsSid, IsComponent}
 use Rattle.std.specs.List.{AllByRecursion}
 use Rattle.mux_types.specs.declared.parts.Sub.{Sub}
@@ -10,12 +10,13 @@ use Rattle.mux_types.specs.declared.parts.Packet.{Packet}
 use Rattle.mux_config.specs.declared.edit.Edit.{Edit}
 use Rattle.mux_config.specs.declared.edit.Edit.TheVariants.{AddSub, DropSub, MoveSub, RateSub, AddService, DropService, AddComponent, DropComponent, AddPacket, DropPacket}
 use Rattle.plan_code.specs.declared.limits.TheConstants.{MOST_CONFIGURATIONS, MOST_LABELS, MOST_INSTRUCTIONS, LONGEST_PERIOD, SHORTEST_NOTICE, LONGEST_NOTICE, LONGEST_DELAY, CONTACTS, COUNTERS, FRAMES_A_DAY}
+use Rattle.plan_code.specs.declared.flags.Contacts.{Contacts}
 use Rattle.plan_code.specs.declared.plan.Plan.{Plan}
 use Rattle.plan_code.specs.declared.label.Label.{Label}
 use Rattle.plan_code.specs.declared.label.Swap.{Swap}
 use Rattle.plan_code.specs.declared.label.Swap.TheVariants.{Idle, Within, Perhaps}
 use Rattle.plan_code.specs.declared.instr.Instr.{Instr}
-use Rattle.plan_code.specs.declared.instr.Instr.TheVariants.{Wait, Until, WaitContact, CommitIn, CommitAt, Join, Settle, End, Edit as Edits, Test, Jump, Set, Loop}
+use Rattle.plan_code.specs.declared.instr.Instr.TheVariants.{Wait, Until, WaitContact, WaitAny, CommitIn, CommitAt, Join, Settle, End, Edit as Edits, Test, TestTime, Jump, Set, Loop}
 use Rattle.plan_code.specs.declared.instr.Line.{Line}
 
 pub record Program : Type 0 where
@@ -94,10 +95,25 @@ IsEdit (DropComponent sid carrier) = IsSid sid × IsCarrier carrier
 IsEdit (AddPacket p) = IsNewPacket p
 IsEdit (DropPacket scid) = scid < 4096
 
+abbrev pub IsDayFrame : ℕ → Type 0
+IsDayFrame t = t < FRAMES_A_DAY
+
+-- a number of frames to wait
+abbrev pub IsFrames : ℕ → Type 0
+IsFrames n = (1 ≤ n) × (n < 65536)
+
+-- what a wait with alternatives waits for: it may be nothing
+pub record AreAlternatives (closed opened : Contacts) (until frames : Option ℕ) : Type 0 where
+  pub closed_within : closed.0 < 65536
+  pub opened_within : opened.0 < 65536
+  pub until_within : IfSome until IsDayFrame
+  pub frames_within : IfSome frames IsFrames
+
 abbrev pub IsInstr : Instr → Type 0
-IsInstr (Wait n) = (1 ≤ n) × (n < 65536)
-IsInstr (Until t) = t < FRAMES_A_DAY
+IsInstr (Wait n) = IsFrames n
+IsInstr (Until t) = IsDayFrame t
 IsInstr (WaitContact c closed) = c < CONTACTS
+IsInstr (WaitAny closed opened until frames) = AreAlternatives closed opened until frames
 IsInstr (CommitIn k) = (1 ≤ k) × (k ≤ LONGEST_DELAY)
 IsInstr (CommitAt n) = n < 65536
 IsInstr Join = Unit {0}
@@ -108,6 +124,7 @@ IsInstr (Test c target) = (c < CONTACTS) × (target < 65536)
 IsInstr (Jump target) = target < 65536
 IsInstr (Set r n) = (r < COUNTERS) × (1 ≤ n) × (n < 65536)
 IsInstr (Loop r target) = (r < COUNTERS) × (target < 65536)
+IsInstr (TestTime from to target) = IsDayFrame from × IsDayFrame to × (target < 65536)
 
 pub record IsLine (l : Line) : Type 0 where
   pub numbered : l.number < 65536

@@ -1,5 +1,5 @@
 -- The file of a plan code. Numbers of two or four bytes are big-endian.
-use Rattle.std.specs.Prelude.{ℕ, List, [], ◌∷◌, ◌++◌, length}
+use Rattle.std.specs.Prelude.{ℕ, List, [], ◌∷◌, ◌++◌, length, Option, Some, None}
 use Rattle.std.specs.Int.{w32, to_be_bytes}
 use Rattle.std.specs.List.{flat_map}
 use Rattle.mux_config.specs.FieldSpelling.{u16_bytes, flag_byte, sid_field, component_bytes}
@@ -17,7 +17,7 @@ use Rattle.plan_code.specs.declared.label.Label.{Label}
 use Rattle.plan_code.specs.declared.label.Swap.{Swap}
 use Rattle.plan_code.specs.declared.label.Swap.TheVariants.{Idle, Within, Perhaps}
 use Rattle.plan_code.specs.declared.instr.Instr.{Instr}
-use Rattle.plan_code.specs.declared.instr.Instr.TheVariants.{Wait, Until, WaitContact, CommitIn, CommitAt, Join, Settle, End, Edit as Edits, Test, Jump, Set, Loop}
+use Rattle.plan_code.specs.declared.instr.Instr.TheVariants.{Wait, Until, WaitContact, WaitAny, CommitIn, CommitAt, Join, Settle, End, Edit as Edits, Test, TestTime, Jump, Set, Loop}
 use Rattle.plan_code.specs.declared.instr.Line.{Line}
 use Rattle.plan_code.specs.declared.opcode.Opcode.{Opcode}
 use Rattle.plan_code.specs.Opcodes.{opcode_byte}
@@ -83,10 +83,26 @@ edit_bytes (DropComponent sid carrier) = opcode_byte Opcode.DropComponent ∷ si
 edit_bytes (AddPacket p) = opcode_byte Opcode.AddPacket ∷ packet_record p
 edit_bytes (DropPacket scid) = opcode_byte Opcode.DropPacket ∷ u16_bytes scid
 
+-- the number that is written where a wait has no frame of the day
+abbrev pub no_day_frame : ℕ
+no_day_frame = 0xFFFFFFFF
+
+abbrev pub day_frame_number : Option ℕ → ℕ
+day_frame_number None = no_day_frame
+day_frame_number (Some t) = t
+
+-- 0 where it has no number of frames
+abbrev pub frames_number : Option ℕ → ℕ
+frames_number None = 0
+frames_number (Some n) = n
+
 abbrev pub instr_bytes : Instr → List ℕ
 instr_bytes (Wait n) = opcode_byte Opcode.Wait ∷ u16_bytes n
 instr_bytes (Until t) = opcode_byte Opcode.Until ∷ to_be_bytes w32 t
 instr_bytes (WaitContact c closed) = opcode_byte Opcode.WaitContact ∷ c ∷ flag_byte closed ∷ []
+instr_bytes (WaitAny closed opened until frames) =
+    opcode_byte Opcode.WaitAny ∷ u16_bytes closed.0 ++ u16_bytes opened.0
+    ++ to_be_bytes w32 (day_frame_number until) ++ u16_bytes (frames_number frames)
 instr_bytes (CommitIn k) = opcode_byte Opcode.CommitIn ∷ u16_bytes k
 instr_bytes (CommitAt n) = opcode_byte Opcode.CommitAt ∷ u16_bytes n
 instr_bytes Join = opcode_byte Opcode.Join ∷ []
@@ -97,6 +113,8 @@ instr_bytes (Test c target) = opcode_byte Opcode.Test ∷ c ∷ u16_bytes target
 instr_bytes (Jump target) = opcode_byte Opcode.Jump ∷ u16_bytes target
 instr_bytes (Set r n) = opcode_byte Opcode.Set ∷ r ∷ u16_bytes n
 instr_bytes (Loop r target) = opcode_byte Opcode.Loop ∷ r ∷ u16_bytes target
+instr_bytes (TestTime from to target) =
+    opcode_byte Opcode.TestTime ∷ to_be_bytes w32 from ++ to_be_bytes w32 to ++ u16_bytes target
 
 abbrev pub line_bytes : Line → List ℕ
 line_bytes l = u16_bytes l.number ++ instr_bytes l.instr

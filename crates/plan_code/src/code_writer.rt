@@ -6,15 +6,18 @@ ghost use Rattle.mux_config.specs.FieldSpelling.{u16_bytes};
 ghost use Rattle.mux_config.specs.Spelling.{sub_record, packet_record, config_bytes};
 ghost use Rattle.plan_code.specs.Opcodes.{opcode_byte};
 ghost use Rattle.plan_code.specs.Program.{IsProgram};
-ghost use Rattle.plan_code.specs.Spelling.{mode_bytes, layout_bytes, mode_number, plan_bytes, swap_bytes, label_bytes, carrier_bytes, edit_bytes, instr_bytes, line_bytes, code_bytes};
+ghost use Rattle.plan_code.specs.declared.instr.Instr.TheVariants.{WaitAny, TestTime};
+ghost use Rattle.plan_code.specs.Spelling.{mode_bytes, layout_bytes, mode_number, plan_bytes, swap_bytes, label_bytes, carrier_bytes, edit_bytes, day_frame_number, frames_number, instr_bytes, line_bytes, code_bytes};
 ghost use Rattle.plan_code.specs.Reading.{code_of};
 
 use crate::code::Code;
 use crate::code_reader::MAGIC;
-use crate::flags::Counters;
+use crate::flags::{Contacts, Counters};
 use crate::instr::{Instr, Line};
 use crate::label::{Label, Swap};
+use crate::numbers::{DayFrame, Frames};
 use crate::opcode::Opcode;
+use crate::operand::NO_DAY_FRAME;
 use crate::plan::Plan;
 use fib_codec::{FrameLayout, Mode};
 use mux_config::record_writer::put_config;
@@ -191,6 +194,57 @@ fn put_edit(out: &mut Vec<u8>, edit: Edit) -> Result<(), AllocError>
     }
 }
 
+/// The number of a frame of the day, or the one for none.
+fn day_frame_number(frame: Option<DayFrame>) -> u32
+    ensures { result ≡ day_frame_number frame }
+{
+    match frame {
+        Some(frame) => frame.get(),
+        None => NO_DAY_FRAME,
+    }
+}
+
+/// The number of frames, or 0 for none.
+fn frames_number(frames: Option<Frames>) -> u16
+    ensures { result ≡ frames_number frames }
+{
+    match frames {
+        Some(frames) => frames.get(),
+        None => 0,
+    }
+}
+
+fn put_wait_any(
+    out: &mut Vec<u8>,
+    closed: Contacts,
+    opened: Contacts,
+    until: Option<DayFrame>,
+    frames: Option<Frames>,
+) -> Result<(), AllocError>
+    ensures { OnOk result (out.new.items
+        ≡ out.old.items ++ instr_bytes (WaitAny closed opened until frames)) }
+{
+    put_with_u16(out, Opcode::WaitAny, closed.0)?;
+    put_u16(out, opened.0)?;
+    put_u32(out, day_frame_number(until))?;
+    put_u16(out, frames_number(frames))
+}
+
+fn put_test_time(
+    out: &mut Vec<u8>,
+    from: DayFrame,
+    to: DayFrame,
+    target: u16,
+) -> Result<(), AllocError>
+    ensures { OnOk result (out.new.items
+        ≡ out.old.items ++ instr_bytes (TestTime from to target)) }
+{
+    put_opcode(out, Opcode::TestTime)?;
+    put_u32(out, from.get())?;
+    put_u32(out, to.get())?;
+    put_u16(out, target)
+}
+
 fn put_instr(out: &mut Vec<u8>, instr: Instr) -> Result<(), AllocError>
     ensures { OnOk result (out.new.items ≡ out.old.items ++ instr_bytes instr) }
 {
@@ -204,6 +258,12 @@ fn put_instr(out: &mut Vec<u8>, instr: Instr) -> Result<(), AllocError>
             put_with_byte(out, Opcode::WaitContact, contact.get())?;
             out.extend_from_slice(&[u8::from(closed)])
         }
+        Instr::WaitAny {
+            closed,
+            opened,
+            until,
+            frames,
+        } => put_wait_any(out, closed, opened, until, frames),
         Instr::CommitIn(delay) => put_with_u16(out, Opcode::CommitIn, delay.get()),
         Instr::CommitAt(count) => put_with_u16(out, Opcode::CommitAt, count),
         Instr::Join => put_opcode(out, Opcode::Join),
@@ -220,6 +280,7 @@ fn put_instr(out: &mut Vec<u8>, instr: Instr) -> Result<(), AllocError>
         Instr::Loop { counter, target } => {
             put_with_both(out, Opcode::Loop, counter.get(), target)
         }
+        Instr::TestTime { from, to, target } => put_test_time(out, from, to, target),
     }
 }
 

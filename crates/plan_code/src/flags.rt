@@ -1,7 +1,7 @@
 //! Sets of counters and of contacts, as bit sets.
 
 ghost use Rattle.std.specs.Prelude.{⊤, ◌≡◌, ◌<◌, ◌↔◌, IsTrue, [], ◌∷◌, codes};
-ghost use Rattle.plan_code.specs.Flags.{is_set, is_closed, with_counter, without_counter, with_contact, Includes};
+ghost use Rattle.plan_code.specs.Flags.{is_set, is_closed, with_counter, without_counter, with_contact, any_closed, any_open, Includes};
 
 use crate::numbers::{ContactId, CounterId};
 use bitflags::{Flag, Flags, bitflag_items};
@@ -78,7 +78,7 @@ impl Counters {
     }
 }
 
-/// A set of contacts, those that are closed: bit `c` is set where contact `c` is closed.
+/// A set of contacts: bit `c` is set where contact `c` is in it. The contacts of a player are those that are closed.
 #[derive(Clone, Copy, Debug, PartialEq, Eq)]
 pub struct Contacts(pub u16);
 
@@ -138,6 +138,20 @@ impl Contacts {
         ensures { result ≡ is_closed self contact }
     {
         (self.0 >> contact.get()) & 1 == 1
+    }
+
+    /// Whether one of the contacts of the set is closed.
+    pub fn any_closed(self, set: Contacts) -> bool
+        ensures { result ≡ any_closed set self }
+    {
+        set.intersects(self)
+    }
+
+    /// Whether one of the contacts of the set is open.
+    pub fn any_open(self, set: Contacts) -> bool
+        ensures { result ≡ any_open set self }
+    {
+        !self.contains(set)
     }
 
     /// The contacts with this one closed or open, and the others unchanged.

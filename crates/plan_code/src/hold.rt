@@ -1,5 +1,6 @@
 //! What a machine that executes instructions waits for.
 
+use crate::flags::Contacts;
 use crate::numbers::{ContactId, DayFrame};
 
 /// What the machine waits for before it executes the next instruction.
@@ -12,7 +13,18 @@ pub enum Hold {
     /// A later frame at this frame of the day.
     WaitsDay(DayFrame),
     /// A later frame in which the contact is closed, or open.
-    WaitsContact { contact: ContactId, closed: bool },
+    WaitsContact {
+        contact: ContactId,
+        closed: bool,
+    },
+    /// A later frame in which one of the contacts of `closed` is closed, or one of those of `opened` is open, or that
+    /// is this frame of the day; or a number of frames: when none is left, the wait ends with the next frame.
+    WaitsAny {
+        closed: Contacts,
+        opened: Contacts,
+        until: Option<DayFrame>,
+        left: Option<u16>,
+    },
     /// The pending swap.
     WaitsSwap,
     /// Nothing: the code has ended.

@@ -4,7 +4,7 @@ ghost use Rattle.plan_code.specs.Flags.{CountersChangeAlone, ContactsChangeAlone
 ghost use Rattle.plan_code.specs.Opcodes.{OpcodesAgree};
 ghost use Rattle.plan_code.specs.Faults.{HasOneFault, HasFaultWithoutCode, BytesLackNoMemory};
 ghost use Rattle.plan_code.specs.FileFaults.{CutsAreTruncated, FileFaultsStay, FileFaultsAreFirst, TruncatedBeforePlaces};
-ghost use Rattle.plan_code.specs.Machine.{SwapsInTime, SwapsAtCount, AlwaysSettles, LoopsRun};
+ghost use Rattle.plan_code.specs.Machine.{SwapsInTime, SwapsAtCount, WindowsAreHalfOpen, AlwaysSettles, LoopsRun};
 
 /// The law of commits: the number of frames from a commit to its swap is the least number, from the delay or the
 /// notice on, after which the CIF count is a multiple of the mode's step or the requested count.
@@ -12,6 +12,13 @@ ghost use Rattle.plan_code.specs.Machine.{SwapsInTime, SwapsAtCount, AlwaysSettl
 pub fn commits()
     ensures in_time { SwapsInTime }
     ensures at_count { SwapsAtCount }
+{}
+
+/// The law of windows of the day: a window contains the frames of the day from its first one on and before its last
+/// one; where the last one is before the first, those from the first one on and those before the last one. The
+/// function does nothing; its contract is the law.
+pub fn windows()
+    ensures half_open { WindowsAreHalfOpen }
 {}
 
 /// The law of `settle`: where no swap is pending the next instruction runs at once and nothing else changes; where one

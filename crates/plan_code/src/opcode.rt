@@ -19,6 +19,8 @@ pub(crate) enum Opcode {
     End = 0x07,
     /// Suspends until the swap if one is pending.
     Settle = 0x08,
+    /// Suspends until one of several alternatives.
+    WaitAny = 0x09,
     /// Adds a sub-channel.
     AddSub = 0x10,
     /// Drops a sub-channel.
@@ -47,6 +49,8 @@ pub(crate) enum Opcode {
     Set = 0x22,
     /// Decrements a counter, and jumps if the result is not 0.
     Loop = 0x23,
+    /// Jumps outside a window of the day.
+    TestTime = 0x24,
 }
 
 /// A byte that is not an opcode.
@@ -84,6 +88,7 @@ impl TryFrom<u8> for Opcode {
             0x06 => Ok(Opcode::Join),
             0x07 => Ok(Opcode::End),
             0x08 => Ok(Opcode::Settle),
+            0x09 => Ok(Opcode::WaitAny),
             0x10 => Ok(Opcode::AddSub),
             0x11 => Ok(Opcode::DropSub),
             0x12 => Ok(Opcode::MoveSub),
@@ -98,6 +103,7 @@ impl TryFrom<u8> for Opcode {
             0x21 => Ok(Opcode::Jump),
             0x22 => Ok(Opcode::Set),
             0x23 => Ok(Opcode::Loop),
+            0x24 => Ok(Opcode::TestTime),
             _ => Err(UnknownOpcode),
         }
     }

@@ -2,8 +2,9 @@
 
 ghost use Rattle.std.specs.Prelude.{◌≡◌};
 ghost use Rattle.mux_config.specs.FieldReading.{Takes};
-ghost use Rattle.plan_code.specs.Parts.{contact_at, counter_at, start_at, times_at, delay_at, day_frame_at, new_sub_at, new_packet_at, wide_sub_id_at, carrier_at};
+ghost use Rattle.plan_code.specs.Parts.{contact_at, counter_at, start_at, times_at, delay_at, day_frame_at, day_frame_or_none_at, frames_or_none_at, contacts_at, new_sub_at, new_packet_at, wide_sub_id_at, carrier_at};
 
+use crate::flags::Contacts;
 use crate::numbers::{ContactId, CounterId, DayFrame, Delay, Frames, Times};
 use mux_config::{Carrier, NewSub, Packet, Reader, RecordFault, StartAddress, SubId};
 
@@ -15,6 +16,15 @@ pub(crate) fn contact(reader: &mut Reader) -> Result<ContactId, RecordFault>
     let offset = reader.place();
     let number = reader.byte()?;
     ContactId::new(number).ok_or(RecordFault::Field(offset))
+}
+
+/// Reads a set of contacts.
+pub(crate) fn contacts(reader: &mut Reader) -> Result<Contacts, RecordFault>
+    ensures read { Takes (contacts_at reader.old.rest) result reader.new }
+    ensures total { reader.new.total ≡ reader.old.total }
+{
+    let set = reader.u16()?;
+    Ok(Contacts(set))
 }
 
 /// Reads the number of a counter.
@@ -75,6 +85,34 @@ pub(crate) fn day_frame(reader: &mut Reader) -> Result<DayFrame, RecordFault>
     let offset = reader.place();
     let number = reader.u32()?;
     DayFrame::new(number).ok_or(RecordFault::Field(offset))
+}
+
+/// The number that is written where there is no frame of the day.
+pub(crate) const NO_DAY_FRAME: u32 = 0xFFFF_FFFF;
+
+/// Reads a frame of the day that may be none.
+pub(crate) fn day_frame_or_none(reader: &mut Reader) -> Result<Option<DayFrame>, RecordFault>
+    ensures read { Takes (day_frame_or_none_at reader.old.total reader.old.rest) result reader.new }
+    ensures total { reader.new.total ≡ reader.old.total }
+{
+    let offset = reader.place();
+    let number = reader.u32()?;
+    if number == NO_DAY_FRAME {
+        return Ok(None);
+    }
+    match DayFrame::new(number) {
+        Some(frame) => Ok(Some(frame)),
+        None => Err(RecordFault::Field(offset)),
+    }
+}
+
+/// Reads a number of frames to wait that may be none, written as 0.
+pub(crate) fn frames_or_none(reader: &mut Reader) -> Result<Option<Frames>, RecordFault>
+    ensures read { Takes (frames_or_none_at reader.old.rest) result reader.new }
+    ensures total { reader.new.total ≡ reader.old.total }
+{
+    let number = reader.u16()?;
+    Ok(Frames::new(number))
 }
 
 #[tactic(auto, unfolding(crate::specs::Parts::new_sub_at))]

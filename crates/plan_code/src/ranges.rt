@@ -1,9 +1,12 @@
 //! Range facts of operand types. These functions do nothing; their contracts state the ranges for a caller's proof.
 ghost use Rattle.mux_config.specs.Configuration.{IsConfiguration, IsSid, IsComponent};
 ghost use Rattle.std.specs.List.{AllByRecursion};
-ghost use Rattle.plan_code.specs.Program.{IsNewSub, IsNewPacket, IsCarrier, IsEdit, IsInstr, IsLine};
+ghost use Rattle.std.specs.Prelude.{IfSome};
+ghost use Rattle.plan_code.specs.Program.{IsNewSub, IsNewPacket, IsCarrier, IsEdit, IsDayFrame, IsFrames, AreAlternatives, IsInstr, IsLine};
 
+use crate::flags::Contacts;
 use crate::instr::{Instr, Line};
+use crate::numbers::{DayFrame, Frames};
 use mux_config::{Carrier, Component, Config, Edit, NewSub, Packet, Sid};
 
 fn sid_in_range(sid: Sid)
@@ -90,6 +93,37 @@ fn edit_in_range(edit: Edit)
     }
 }
 
+fn day_frame_in_range(frame: Option<DayFrame>)
+    ensures { IfSome frame IsDayFrame }
+{
+    if let Some(frame) = frame {
+        frame.get();
+    }
+}
+
+fn frames_in_range(frames: Option<Frames>)
+    ensures { IfSome frames IsFrames }
+{
+    if let Some(frames) = frames {
+        frames.get();
+    }
+}
+
+fn alternatives_in_range(
+    closed: Contacts,
+    opened: Contacts,
+    until: Option<DayFrame>,
+    frames: Option<Frames>,
+)
+    ensures { AreAlternatives closed opened until frames }
+{
+    // Read for the proof: the sets are within their bits where these are read.
+    let Contacts(_closed) = closed;
+    let Contacts(_opened) = opened;
+    day_frame_in_range(until);
+    frames_in_range(frames);
+}
+
 fn instr_in_range(instr: Instr)
     ensures { IsInstr instr }
 {
@@ -103,13 +137,17 @@ fn instr_in_range(instr: Instr)
         Instr::WaitContact { contact, .. } => {
             contact.get();
         }
+        Instr::WaitAny {
+            closed,
+            opened,
+            until,
+            frames,
+        } => alternatives_in_range(closed, opened, until, frames),
         Instr::CommitIn(delay) => {
             delay.get();
         }
         Instr::CommitAt(_) => {}
-        Instr::Join => {}
-        Instr::Settle => {}
-        Instr::End => {}
+        Instr::Join | Instr::Settle | Instr::End => {}
         Instr::Edit(edit) => edit_in_range(edit),
         Instr::Test { contact, .. } => {
             contact.get();
@@ -121,6 +159,10 @@ fn instr_in_range(instr: Instr)
         }
         Instr::Loop { counter, .. } => {
             counter.get();
+        }
+        Instr::TestTime { from, to, .. } => {
+            from.get();
+            to.get();
         }
     }
 }

@@ -2,11 +2,13 @@
 
 ghost use Rattle.std.specs.Prelude.{◌≡◌};
 ghost use Rattle.mux_config.specs.FieldReading.{Takes};
-ghost use Rattle.plan_code.specs.Parts.{wait_at, until_at, wait_contact_at, commit_in_at, commit_at_at, test_at, jump_at, set_at, loop_at, opcode_at, instr_of, instr_from, line_from};
+ghost use Rattle.plan_code.specs.Parts.{wait_at, until_at, wait_contact_at, wait_any_at, commit_in_at, commit_at_at, test_at, jump_at, set_at, loop_at, test_time_at, opcode_at, instr_of, instr_from, line_from};
 
 use crate::instr::{Instr, Line};
 use crate::opcode::{Opcode, UnknownOpcode};
-use crate::operand::{contact, counter, day_frame, delay, frames, times};
+use crate::operand::{
+    contact, contacts, counter, day_frame, day_frame_or_none, delay, frames, frames_or_none, times,
+};
 use crate::read_edit::{
     add_component, add_packet, add_service, add_sub, drop_component, drop_packet, drop_service,
     drop_sub, move_sub, rate_sub,
@@ -39,6 +41,23 @@ fn wait_contact(reader: &mut Reader) -> Result<Instr, RecordFault>
     let contact = contact(reader)?;
     let closed = reader.flag()?;
     Ok(Instr::WaitContact { contact, closed })
+}
+
+#[tactic(auto, unfolding(crate::specs::Parts::wait_any_at))]
+fn wait_any(reader: &mut Reader) -> Result<Instr, RecordFault>
+    ensures read { Takes (wait_any_at reader.old.total reader.old.rest) result reader.new }
+    ensures total { reader.new.total ≡ reader.old.total }
+{
+    let closed = contacts(reader)?;
+    let opened = contacts(reader)?;
+    let until = day_frame_or_none(reader)?;
+    let frames = frames_or_none(reader)?;
+    Ok(Instr::WaitAny {
+        closed,
+        opened,
+        until,
+        frames,
+    })
 }
 
 #[tactic(auto, unfolding(crate::specs::Parts::commit_in_at))]
@@ -98,6 +117,17 @@ fn loop_back(reader: &mut Reader) -> Result<Instr, RecordFault>
     Ok(Instr::Loop { counter, target })
 }
 
+#[tactic(auto, unfolding(crate::specs::Parts::test_time_at))]
+fn test_time(reader: &mut Reader) -> Result<Instr, RecordFault>
+    ensures read { Takes (test_time_at reader.old.total reader.old.rest) result reader.new }
+    ensures total { reader.new.total ≡ reader.old.total }
+{
+    let from = day_frame(reader)?;
+    let to = day_frame(reader)?;
+    let target = reader.u16()?;
+    Ok(Instr::TestTime { from, to, target })
+}
+
 /// Reads an opcode.
 fn opcode(reader: &mut Reader) -> Result<Opcode, RecordFault>
     ensures read { Takes (opcode_at reader.old.total reader.old.rest) result reader.new }
@@ -126,6 +156,7 @@ fn instr_of(reader: &mut Reader, opcode: Opcode) -> Result<Instr, RecordFault>
         Opcode::Join => Ok(Instr::Join),
         Opcode::End => Ok(Instr::End),
         Opcode::Settle => Ok(Instr::Settle),
+        Opcode::WaitAny => wait_any(reader),
         Opcode::AddSub => Ok(Instr::Edit(add_sub(reader)?)),
         Opcode::DropSub => Ok(Instr::Edit(drop_sub(reader)?)),
         Opcode::MoveSub => Ok(Instr::Edit(move_sub(reader)?)),
@@ -140,6 +171,7 @@ fn instr_of(reader: &mut Reader, opcode: Opcode) -> Result<Instr, RecordFault>
         Opcode::Jump => jump(reader),
         Opcode::Set => set(reader),
         Opcode::Loop => loop_back(reader),
+        Opcode::TestTime => test_time(reader),
     }
 }
 

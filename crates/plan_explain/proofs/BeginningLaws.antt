@@ -2,7 +2,7 @@
 use Rattle.std.proofs.Common.{◌≡◌, ℕ, List, [], ◌∷◌, ◌++◌, Option, Some, refl, ap, subst, ◌∙◌}
 use Rattle.std.specs.List.{AllByRecursion}
 use Rattle.plan_code.specs.declared.instr.Instr.{Instr}
-use Rattle.plan_code.specs.declared.instr.Instr.TheVariants.{Wait, Until, WaitContact, CommitIn, CommitAt, Join, Settle, End, Edit, Test, Jump, Set, Loop}
+use Rattle.plan_code.specs.declared.instr.Instr.TheVariants.{Wait, Until, WaitContact, WaitAny, CommitIn, CommitAt, Join, Settle, End, Edit, Test, TestTime, Jump, Set, Loop}
 use Rattle.plan_code.specs.declared.instr.Line.{Line}
 use Rattle.plan_explain.specs.declared.beginning.FirstWait.{FirstWait}
 use Rattle.plan_explain.specs.Beginnings.{IsQuiet, WaitsFirst, wait_at, first_wait}
@@ -22,12 +22,14 @@ at_instr line (Set k n) ls w rest h = later (record { number = line; instr = Set
 at_instr line (Until t) ls w rest h = here line t ls w h
 at_instr line (Wait n) ls w rest h = absurd cc
 at_instr line (WaitContact k b) ls w rest h = absurd cc
+at_instr line (WaitAny closed opened until frames) ls w rest h = absurd cc
 at_instr line (CommitIn d) ls w rest h = absurd cc
 at_instr line (CommitAt n) ls w rest h = absurd cc
 at_instr line Join ls w rest h = absurd cc
 at_instr line Settle ls w rest h = absurd cc
 at_instr line End ls w rest h = absurd cc
 at_instr line (Test k t) ls w rest h = absurd cc
+at_instr line (TestTime from to t) ls w rest h = absurd cc
 at_instr line (Jump t) ls w rest h = absurd cc
 at_instr line (Loop k t) ls w rest h = absurd cc
 
@@ -41,12 +43,14 @@ passed line (Set k n) later quiet = refl
 passed line (Until t) later quiet = absurd quiet
 passed line (Wait n) later quiet = absurd quiet
 passed line (WaitContact k b) later quiet = absurd quiet
+passed line (WaitAny closed opened until frames) later quiet = absurd quiet
 passed line (CommitIn d) later quiet = absurd quiet
 passed line (CommitAt n) later quiet = absurd quiet
 passed line Join later quiet = absurd quiet
 passed line Settle later quiet = absurd quiet
 passed line End later quiet = absurd quiet
 passed line (Test k t) later quiet = absurd quiet
+passed line (TestTime from to t) later quiet = absurd quiet
 passed line (Jump t) later quiet = absurd quiet
 passed line (Loop k t) later quiet = absurd quiet
 

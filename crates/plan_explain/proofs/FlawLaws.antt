@@ -131,13 +131,13 @@ both_same : (sid tid : Sid) (a b : ℕ) (same : Bool) → is_same_sid sid tid �
 both_same sid tid a b true e h = let one : sid ≡ tid = sid_same sid tid e in let other : a ≡ b = eqb-true a b h in cc
 both_same sid tid a b false e h = absurd (false≢true h)
 
-flaw_same : (f g : Flaw) → is_same_flaw f g ≡ true → f ≡ g
+pub flaw_same : (f g : Flaw) → is_same_flaw f g ≡ true → f ≡ g
 flaw_same (Unnamed a) (Unnamed b) e = ap Unnamed (eqb-true a b e)
 flaw_same (Unnamed a) (LongAudio tid b) e = absurd (false≢true e)
 flaw_same (LongAudio sid a) (Unnamed b) e = absurd (false≢true e)
 flaw_same (LongAudio sid a) (LongAudio tid b) e = both_same sid tid a b (is_same_sid sid tid) refl e
 
-flaw_itself : (f : Flaw) → is_same_flaw f f ≡ true
+pub flaw_itself : (f : Flaw) → is_same_flaw f f ≡ true
 flaw_itself (Unnamed a) = eq-eqb a a refl
 flaw_itself (LongAudio sid a) = subst (λ (b : Bool). (if b then a == a else false) ≡ true) (sym (sid_itself sid)) (eq-eqb a a refl)
 

@@ -6,7 +6,7 @@ use Rattle.std.proofs.lemmas.Option.{slice_get-get_or}
 use Rattle.std.proofs.lemmas.List.{drop_more, drop_all}
 use Rattle.mux_types.specs.Configuration.{nothing}
 use Rattle.plan_code.specs.declared.instr.Instr.{Instr}
-use Rattle.plan_code.specs.declared.instr.Instr.TheVariants.{Wait, Until, WaitContact, CommitIn, CommitAt, Join, Settle, End, Edit, Test, Jump, Set, Loop}
+use Rattle.plan_code.specs.declared.instr.Instr.TheVariants.{Wait, Until, WaitContact, WaitAny, CommitIn, CommitAt, Join, Settle, End, Edit, Test, TestTime, Jump, Set, Loop}
 use Rattle.plan_code.specs.declared.instr.Line.{Line}
 use Rattle.plan_code.specs.declared.flags.Counters.{Counters}
 use Rattle.plan_code.specs.declared.plan.Plan.{Plan}
@@ -79,6 +79,7 @@ its_counter : (plan : Plan) (i : Instr) (t : Known) → IsFine plan i t → HasI
 its_counter plan (Wait n) t h = tt
 its_counter plan (Until d) t h = tt
 its_counter plan (WaitContact k b) t h = tt
+its_counter plan (WaitAny closed opened until frames) t h = tt
 its_counter plan (CommitIn d) t h = tt
 its_counter plan (CommitAt n) t h = tt
 its_counter plan Join t h = tt
@@ -86,6 +87,7 @@ its_counter plan Settle t h = tt
 its_counter plan End t h = tt
 its_counter plan (Edit e) t h = tt
 its_counter plan (Test k u) t h = tt
+its_counter plan (TestTime from to u) t h = tt
 its_counter plan (Jump u) t h = tt
 its_counter plan (Set k n) t h = tt
 its_counter plan (Loop k u) t h = h

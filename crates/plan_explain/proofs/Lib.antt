@@ -1,36 +1,17 @@
+mod Flags
 mod Lists
 mod FlawLaws
 mod PrimaryLaws
 mod BeginningLaws
 mod BlockLaws
+mod LateLaws
+mod DayLaws
+mod StraightLaws
+mod RepeatLaws
 mod Known
 mod Changed
 mod WarningLaws
 mod VectorsOfWarnings
-mod VectorsOfTexts
-mod Digits
-mod Finding
-mod Sharing
+mod VectorsOfDays
 pub mod Vectors
-pub mod VectorsPaths
-mod Walks
-mod Passing
-mod Turns
-mod Trees
-mod Walking
-mod Alike
-mod Passages
-mod Judging
-mod Faults
-mod Differing
-mod OnWays
-mod CodeWays
-mod Reaching
-mod Arriving
-mod Fronts
-pub mod VectorsOfWays
-pub mod VectorsOfCodeWays
-mod Said
-mod VectorsOfSwaps
-pub mod VectorsOfDifferences
-pub mod VectorsOfJudging
+pub mod VectorsOfFacts

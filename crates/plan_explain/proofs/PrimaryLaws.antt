@@ -1,5 +1,5 @@
 -- The primary components that are listed are those that differ between two configurations.
-use Rattle.std.proofs.Common.{◌≡◌, ◌≢◌, Bool, true, false, if◌then◌else◌, List, [], ◌∷◌, Contains, refl, sym, ap, subst, ◌∙◌}
+use Rattle.std.proofs.Common.{◌≡◌, ◌≢◌, ◌&&◌, Bool, true, false, if◌then◌else◌, List, [], ◌∷◌, Contains, refl, sym, ap, subst, ◌∙◌}
 use Rattle.std.proofs.lemmas.Bool.{false≢true}
 use Rattle.mux_types.proofs.Elements.{contains_first, contains_none}
 use Rattle.mux_types.specs.declared.parts.Service.{Service}
@@ -9,7 +9,7 @@ use Rattle.mux_types.specs.Configuration.{Configuration}
 use Rattle.mux_types.specs.Sameness.{is_same_sid, is_same_component}
 use Rattle.mux_config.proofs.Same.{sid_same, sid_itself, component_same, component_itself}
 use Rattle.plan_explain.specs.declared.primary.Primary.{Primary}
-use Rattle.plan_explain.specs.Primaries.{IsFirst, IsOtherPrimary, other_first, other_primary, primaries_of, primaries}
+use Rattle.plan_explain.specs.Primaries.{IsFirst, IsOtherPrimary, is_alone, other_first, other_primary, primaries_of, primaries}
 use Rattle.plan_explain.proofs.Lists.{from_flat, to_flat, from_one}
 
 -- what is known of a listed one
@@ -41,9 +41,11 @@ first_of sid [] ns p h = absurd (contains_none p h)
 first_of sid (m ∷ ms) [] p h = absurd (contains_none p h)
 first_of sid (m ∷ ms) (n ∷ ns) p h = first_at sid m n ms ns p (is_same_component m n) refl h
 
-primary_at : (before after : Configuration) (was is : Service) (p : Primary) (b : Bool) → is_same_sid was.sid is.sid ≡ b → Contains before.services was → Contains after.services is
-    → Contains (if b then other_first is.sid was.components is.components else []) p → IsOtherPrimary before after p
-primary_at before after was is p true e in_before in_after h =
+primary_at : (before after : Configuration) (was is : Service) (p : Primary) (b a : Bool) → is_same_sid was.sid is.sid ≡ b → (is_alone was.components && is_alone is.components) ≡ a
+    → Contains before.services was → Contains after.services is
+    → Contains (if b then (if a then [] else other_first is.sid was.components is.components) else []) p → IsOtherPrimary before after p
+primary_at before after was is p true true e alone in_before in_after h = absurd (contains_none p h)
+primary_at before after was is p true false e alone in_before in_after h =
     let first = first_of is.sid was.components is.components p h in
     record {
       was = was;
@@ -55,14 +57,15 @@ primary_at before after was is p true e in_before in_after h =
       first_before = first.before;
       first_after = first.after;
       differ = first.differ;
+      several = alone;
     }
-primary_at before after was is p false e in_before in_after h = absurd (contains_none p h)
+primary_at before after was is p false a e alone in_before in_after h = absurd (contains_none p h)
 
 pub is_other : (before after : Configuration) (p : Primary) → Contains (primaries before after) p → IsOtherPrimary before after p
 is_other before after p h =
     let later = from_flat (primaries_of before.services) after.services p h in
     let earlier = from_flat (other_primary later.source) before.services p later.has in
-    primary_at before after earlier.source later.source p (is_same_sid earlier.source.sid later.source.sid) refl earlier.there later.there earlier.has
+    primary_at before after earlier.source later.source p (is_same_sid earlier.source.sid later.source.sid) (is_alone earlier.source.components && is_alone later.source.components) refl refl earlier.there later.there earlier.has
 
 -- ---- and back
 
@@ -84,6 +87,9 @@ other_listed before after p h =
     let named : Contains (other_first h.is.sid h.was.components h.is.components) p = subst (λ (s : Sid). Contains (other_first s h.was.components h.is.components) p) (sym h.sid_after) first in
     let alike : h.was.sid ≡ h.is.sid = h.sid_before ∙ sym h.sid_after in
     let same : is_same_sid h.was.sid h.is.sid ≡ true = subst (λ (s : Sid). is_same_sid h.was.sid s ≡ true) alike (sid_itself h.was.sid) in
-    let at : Contains (other_primary h.is h.was) p = subst (λ (b : Bool). Contains (if b then other_first h.is.sid h.was.components h.is.components else []) p) (sym same) named in
+    let unless : Contains (if is_alone h.was.components && is_alone h.is.components then [] else other_first h.is.sid h.was.components h.is.components) p =
+    subst (λ (b : Bool). Contains (if b then [] else other_first h.is.sid h.was.components h.is.components) p) (sym h.several) named in
+    let at : Contains (other_primary h.is h.was) p =
+    subst (λ (b : Bool). Contains (if b then (if is_alone h.was.components && is_alone h.is.components then [] else other_first h.is.sid h.was.components h.is.components) else []) p) (sym same) unless in
     let earlier = to_flat (other_primary h.is) before.services h.was p h.in_before at in
     to_flat (primaries_of before.services) after.services h.is p h.in_after earlier

@@ -1,6 +1,6 @@
 -- Short configurations, codes and blocks, with what is to be said of them and what is not.
-use Rattle.std.proofs.Common.{◌≡◌, true, [], ◌∷◌, Some, None, refl, sym, ap, ◌∙◌}
-use Rattle.mux_types.proofs.Elements.{contains_first, contains_none}
+use Rattle.std.proofs.Common.{◌≡◌, true, inl, inr, [], ◌∷◌, Some, None, Contains, refl, sym, ap, ◌∙◌, arith}
+use Rattle.mux_types.proofs.Elements.{contains_cases, contains_first, contains_later, contains_none}
 use Rattle.mux_eep.specs.declared.sizes.EepSet.TheVariants.{A}
 use Rattle.mux_types.specs.declared.parts.Sub.{Sub}
 use Rattle.mux_types.specs.declared.parts.Service.{Service}
@@ -9,11 +9,14 @@ use Rattle.mux_types.specs.declared.numbers.Sid.TheVariants.{Short, Long}
 use Rattle.mux_types.specs.Configuration.{Configuration}
 use Rattle.plan_code.specs.declared.instr.Instr.TheVariants.{Wait, Until, Edit}
 use Rattle.mux_config.specs.declared.edit.Edit.TheVariants.{DropSub}
-use Rattle.script_front.specs.declared.tree.Act.TheVariants.{Join as Joins}
+use Rattle.script_front.specs.declared.tree.Act.TheVariants.{Wait as Waits, WaitContact as WaitsContact, Until as WaitsUntil, Join as Joins}
 use Rattle.script_front.specs.declared.tree.Statement.TheOpen.{Statement-F}
 use Rattle.script_front.specs.declared.tree.Statement.TheVariants.{Act as Acts, rolls-Act}
 use Rattle.script_front.specs.declared.tree.Statement.TheFolds.{fold-roll-Statement}
-use Rattle.script_front.specs.Block.{nothing, Before, statement_step, before}
+use Rattle.script_front.specs.declared.tree.Condition.TheVariants.{Contact as OnContact}
+use Rattle.script_front.specs.declared.moment.MomentForm.{MomentForm as Moment}
+use Rattle.script_front.specs.declared.moment.MomentForm.TheVariants.{At}
+use Rattle.script_front.specs.Block.{Block, nothing, basic, when, Before, statement_step, before}
 use Rattle.plan_explain.specs.declared.flaw.Flaw.TheVariants.{Unnamed, LongAudio}
 use Rattle.plan_explain.specs.declared.primary.Primary.{Primary}
 use Rattle.plan_explain.specs.declared.beginning.FirstWait.{FirstWait}
@@ -21,6 +24,10 @@ use Rattle.plan_explain.specs.Flaws.{HasFlaw}
 use Rattle.plan_explain.specs.Primaries.{IsOtherPrimary}
 use Rattle.plan_explain.specs.Beginnings.{WaitsFirst}
 use Rattle.plan_explain.specs.Blocks.{line_of, own_line, IsUnreached}
+use Rattle.plan_explain.specs.declared.late_until.LateUntil.{LateUntil}
+use Rattle.plan_explain.specs.LateUntils.{HasLate}
+use Rattle.plan_explain.specs.declared.warning.Warning.TheVariants.{Unreached}
+use Rattle.plan_explain.specs.Repeats.{AreApart, AreEachOnce}
 use Rattle.plan_explain.proofs.FlawLaws.{has_flaw, flaw_listed}
 use Rattle.plan_explain.proofs.PrimaryLaws.{is_other, other_listed}
 use Rattle.plan_explain.proofs.BeginningLaws.{waits_first, is_found}
@@ -80,6 +87,17 @@ first_changes = is_other of_two turned _ (contains_first (record { sid = Short 5
 first_stays : (p : Primary) → IsOtherPrimary of_two of_two p → ⊥
 first_stays p h = contains_none p (other_listed of_two of_two p h)
 
+-- the only component of a service moves
+
+abbrev of_one : Configuration
+of_one = record { subs = []; services = record { sid = Short 5; components = Sound 63 1 ∷ [] } ∷ []; packets = [] }
+
+abbrev moved_one : Configuration
+moved_one = record { subs = []; services = record { sid = Short 5; components = Sound 63 2 ∷ [] } ∷ []; packets = [] }
+
+one_moves : (p : Primary) → IsOtherPrimary of_one moved_one p → ⊥
+one_moves p h = contains_none p (other_listed of_one moved_one p h)
+
 -- ---- first waits
 
 until_first : WaitsFirst (record { number = 8; instr = Edit (DropSub 3) } ∷ record { number = 9; instr = Until 5 } ∷ []) (record { line = 9; frame = 5 })
@@ -109,3 +127,55 @@ nothing_of_it =
 
 has_its_line : IsUnreached (record { number = 9; instr = Until 5 } ∷ []) ((Acts 9 Joins ∷ []) ∷ []) 9 → ⊥
 has_its_line h = h.absent (record { number = 9; instr = Until 5 }) (contains_first _ []) refl
+
+-- ---- `until` behind `wait contact`
+
+abbrev ten : Moment
+ten = At 79200
+
+abbrev at_ten : LateUntil
+at_ten = record { line = 9; contact = 3; closed = true; until = ten }
+
+is_late : HasLate (basic 8 (WaitsContact 3 true) (basic 9 (WaitsUntil ten) nothing)) at_ten
+is_late = inl (record { waits = refl; behind = nothing; follows = refl })
+
+is_late_inside : HasLate (when 7 (OnContact 1) (basic 8 (WaitsContact 3 true) (basic 9 (WaitsUntil ten) nothing)) nothing) at_ten
+is_late_inside = inl is_late
+
+-- a statement between them
+abbrev apart : Block
+apart = basic 8 (WaitsContact 3 true) (basic 9 (Waits 1) (basic 10 (WaitsUntil ten) nothing))
+
+is_not_late : (u : LateUntil) → HasLate apart u → ⊥
+is_not_late u (inl h) = let no = h.follows in cc
+is_not_late u (inr (inl h)) = let no = h.waits in cc
+is_not_late u (inr (inr (inl h))) = let no = h.waits in cc
+is_not_late u (inr (inr (inr h))) = h
+
+-- the wait in braces, and the time behind them
+is_not_late_behind : (u : LateUntil) → HasLate (when 7 (OnContact 1) (basic 8 (WaitsContact 3 true) nothing) (basic 9 (WaitsUntil ten) nothing)) u → ⊥
+is_not_late_behind u (inl (inl h)) = let no = h.follows in cc
+is_not_late_behind u (inl (inr h)) = h
+is_not_late_behind u (inr (inl h)) = let no = h.waits in cc
+is_not_late_behind u (inr (inr h)) = h
+
+-- ---- warnings, each once
+
+two_lines : AreApart (Unreached 9 ∷ Unreached 10 ∷ [])
+two_lines = (λ h. elim (contains_cases (Unreached 10) [] (Unreached 9) h) [ inl same ↦ cc | inr none ↦ contains_none (Unreached 9) none ], (contains_none (Unreached 10), tt))
+
+one_line : AreApart (Unreached 9 ∷ Unreached 9 ∷ []) → ⊥
+one_line h = h.0 (contains_first (Unreached 9) [])
+
+kept_once : AreEachOnce (Unreached 9 ∷ Unreached 9 ∷ []) (Unreached 9 ∷ [])
+kept_once =
+    record {
+      same = λ w. (
+        λ h. contains_later (Unreached 9) (Unreached 9 ∷ []) w h,
+        λ h. elim (contains_cases (Unreached 9) (Unreached 9 ∷ []) w h) [ inl same ↦ (0, omega arith, same) | inr later ↦ later ],
+      );
+      apart = (contains_none (Unreached 9), tt);
+    }
+
+nothing_is_lost : AreEachOnce (Unreached 9 ∷ []) [] → ⊥
+nothing_is_lost h = contains_none (Unreached 9) ((h.same (Unreached 9)).1 (contains_first (Unreached 9) []))

@@ -14,11 +14,13 @@ use Rattle.plan_explain.specs.declared.flaw.Flaw.{Flaw}
 use Rattle.plan_explain.specs.declared.primary.Primary.{Primary}
 use Rattle.plan_explain.specs.declared.beginning.FirstWait.{FirstWait}
 use Rattle.plan_explain.specs.declared.warning.Warning.{Warning}
-use Rattle.plan_explain.specs.declared.warning.Warning.TheVariants.{Flawed, OtherPrimary, WaitsForTime, Unreached}
+use Rattle.plan_explain.specs.declared.warning.Warning.TheVariants.{Flawed, OtherPrimary, WaitsForTime, Unreached, Late, NextDay}
 use Rattle.plan_explain.specs.Flaws.{HasFlaw, flaws, is_among, unless_among}
 use Rattle.plan_explain.specs.Primaries.{IsOtherPrimary, primaries}
 use Rattle.plan_explain.specs.Beginnings.{first_wait}
 use Rattle.plan_explain.specs.Blocks.{unreached}
+use Rattle.plan_explain.specs.Straight.{straight_warnings}
+use Rattle.plan_explain.specs.Repeats.{AreApart, AreEachOnce}
 use Rattle.plan_explain.specs.ConfigurationChanges.{between, at_instr, at_commits, at_opening}
 use Rattle.plan_explain.specs.Listed.{at_wait, warnings}
 use Rattle.plan_explain.specs.Warnings.{IsOpening, IsCommit, Comes, IsNewFlaw, IsWarranted}
@@ -27,6 +29,9 @@ use Rattle.plan_explain.proofs.FlawLaws.{has_flaw, flaw_listed, is_new, new_list
 use Rattle.plan_explain.proofs.PrimaryLaws.{is_other, other_listed}
 use Rattle.plan_explain.proofs.BeginningLaws.{waits_first, is_found}
 use Rattle.plan_explain.proofs.BlockLaws.{is_unreached, unreached_listed}
+use Rattle.plan_explain.proofs.LateLaws.{has_late, late_listed}
+use Rattle.plan_explain.proofs.DayLaws.{has_day, day_listed}
+use Rattle.plan_explain.proofs.StraightLaws.{only_straight}
 
 -- ---- one configuration in the place of another
 
@@ -124,8 +129,23 @@ unreached_warranted script code w has =
     let from = from_map Unreached (unreached code.lines script.blocks) w has in
     subst (λ (x : Warning). IsWarranted script code x) from.is (is_unreached code.lines script.blocks from.source from.there)
 
-warranted_in : (script : Tree) (code : Program) (typing : List Known) (w : Warning) → IsTyping code typing → Contains (warnings script code typing) w → IsWarranted script code w
-warranted_in script code typing w h has =
+straight_warranted : (script : Tree) (code : Program) (w : Warning) → Contains (straight_warnings script) w → IsWarranted script code w
+straight_warranted script code (Late u) has = has_late script u has
+straight_warranted script code (NextDay d) has = has_day script d has
+straight_warranted script code (Flawed line f) has = absurd (only_straight script (Flawed line f) has)
+straight_warranted script code (OtherPrimary line p) has = absurd (only_straight script (OtherPrimary line p) has)
+straight_warranted script code (WaitsForTime f) has = absurd (only_straight script (WaitsForTime f) has)
+straight_warranted script code (Unreached line) has = absurd (only_straight script (Unreached line) has)
+
+-- all but the last
+abbrev earlier : Tree → Program → List Known → List Warning
+earlier script code typing =
+    (at_opening script.begin_line typing ++ at_commits code.lines typing)
+    ++ at_wait (first_wait code.lines)
+    ++ map Unreached (unreached code.lines script.blocks)
+
+earlier_warranted : (script : Tree) (code : Program) (typing : List Known) (w : Warning) → IsTyping code typing → Contains (earlier script code typing) w → IsWarranted script code w
+earlier_warranted script code typing w h has =
     elim (Contains-append_cases ((at_opening script.begin_line typing ++ at_commits code.lines typing) ++ at_wait (first_wait code.lines)) (map Unreached (unreached code.lines script.blocks)) w has) [
       | inl most ↦ elim (Contains-append_cases (at_opening script.begin_line typing ++ at_commits code.lines typing) (at_wait (first_wait code.lines)) w most) [
         | inl one ↦ elim (Contains-append_cases (at_opening script.begin_line typing) (at_commits code.lines typing) w one) [
@@ -139,13 +159,23 @@ warranted_in script code typing w h has =
       | inr block ↦ unreached_warranted script code w block
     ]
 
+warranted_in : (script : Tree) (code : Program) (typing : List Known) (w : Warning) → IsTyping code typing → Contains (warnings script code typing) w → IsWarranted script code w
+warranted_in script code typing w h has =
+    elim (Contains-append_cases (earlier script code typing) (straight_warnings script) w has) [
+      | inl most ↦ earlier_warranted script code typing w h most
+      | inr straight ↦ straight_warranted script code w straight
+    ]
+
 -- ---- and back
 
 module _ (script : Tree) (code : Program) (w : Warning) where
+  in_earlier : (typing : List Known) → Contains (earlier script code typing) w → Contains (warnings script code typing) w
+  in_earlier typing h = Contains-append_left (earlier script code typing) (straight_warnings script) w h
+
   in_configurations : (typing : List Known) → Contains (at_opening script.begin_line typing ++ at_commits code.lines typing) w → Contains (warnings script code typing) w
   in_configurations typing h =
-      Contains-append_left ((at_opening script.begin_line typing ++ at_commits code.lines typing) ++ at_wait (first_wait code.lines)) (map Unreached (unreached code.lines script.blocks)) w
-      (Contains-append_left (at_opening script.begin_line typing ++ at_commits code.lines typing) (at_wait (first_wait code.lines)) w h)
+      in_earlier typing (Contains-append_left ((at_opening script.begin_line typing ++ at_commits code.lines typing) ++ at_wait (first_wait code.lines)) (map Unreached (unreached code.lines script.blocks)) w
+      (Contains-append_left (at_opening script.begin_line typing ++ at_commits code.lines typing) (at_wait (first_wait code.lines)) w h))
 
   in_opening : (typing : List Known) → Contains (at_opening script.begin_line typing) w → Contains (warnings script code typing) w
   in_opening typing h = in_configurations typing (Contains-append_left (at_opening script.begin_line typing) (at_commits code.lines typing) w h)
@@ -155,12 +185,15 @@ module _ (script : Tree) (code : Program) (w : Warning) where
 
   in_waits : (typing : List Known) → Contains (at_wait (first_wait code.lines)) w → Contains (warnings script code typing) w
   in_waits typing h =
-      Contains-append_left ((at_opening script.begin_line typing ++ at_commits code.lines typing) ++ at_wait (first_wait code.lines)) (map Unreached (unreached code.lines script.blocks)) w
-      (Contains-append_right (at_opening script.begin_line typing ++ at_commits code.lines typing) (at_wait (first_wait code.lines)) w h)
+      in_earlier typing (Contains-append_left ((at_opening script.begin_line typing ++ at_commits code.lines typing) ++ at_wait (first_wait code.lines)) (map Unreached (unreached code.lines script.blocks)) w
+      (Contains-append_right (at_opening script.begin_line typing ++ at_commits code.lines typing) (at_wait (first_wait code.lines)) w h))
 
   in_blocks : (typing : List Known) → Contains (map Unreached (unreached code.lines script.blocks)) w → Contains (warnings script code typing) w
   in_blocks typing h =
-      Contains-append_right ((at_opening script.begin_line typing ++ at_commits code.lines typing) ++ at_wait (first_wait code.lines)) (map Unreached (unreached code.lines script.blocks)) w h
+      in_earlier typing (Contains-append_right ((at_opening script.begin_line typing ++ at_commits code.lines typing) ++ at_wait (first_wait code.lines)) (map Unreached (unreached code.lines script.blocks)) w h)
+
+  in_straight : (typing : List Known) → Contains (straight_warnings script) w → Contains (warnings script code typing) w
+  in_straight typing h = Contains-append_right (earlier script code typing) (straight_warnings script) w h
 
 opening_listed : (begin : ℕ) (typing : List Known) (t : Known) (w : Warning) → slice_get typing 0 ≡ Some t → Contains (between begin nothing t.current) w → Contains (at_opening begin typing) w
 opening_listed begin [] t w there has = absurd cc
@@ -203,6 +236,8 @@ listed script code ws typed lists (WaitsForTime f) h =
 listed script code ws typed lists (Unreached line) h =
     let at = to_map Unreached (unreached code.lines script.blocks) line (unreached_listed code.lines script.blocks line h) in
     subst (λ (xs : List Warning). Contains xs (Unreached line)) (sym (lists typed.0 typed.1)) (in_blocks script code (Unreached line) typed.0 at)
+listed script code ws typed lists (Late u) h = subst (λ (xs : List Warning). Contains xs (Late u)) (sym (lists typed.0 typed.1)) (in_straight script code (Late u) typed.0 (late_listed script u h))
+listed script code ws typed lists (NextDay d) h = subst (λ (xs : List Warning). Contains xs (NextDay d)) (sym (lists typed.0 typed.1)) (in_straight script code (NextDay d) typed.0 (day_listed script d h))
 
 pub warranted : (script : Tree) (code : Program) (ws : List Warning) → IsTyped code → ((typing : List Known) → IsTyping code typing → ws ≡ warnings script code typing) → (w : Warning) → Contains ws w ↔ IsWarranted script code w
 warranted script code ws typed lists w = (
@@ -210,8 +245,16 @@ warranted script code ws typed lists w = (
   λ h. listed script code ws typed lists w h,
 )
 
--- the same of a call that may fail
-pub if_warranted : {V F : Type 0} (items : V → List Warning) (r : Result V F) (script : Tree) (code : Program) → IsTyped code → IfOk r (λ v. (typing : List Known) → IsTyping code typing → items v ≡ warnings script code typing)
-    → IfOk r (λ v. (w : Warning) → Contains (items v) w ↔ IsWarranted script code w)
-if_warranted items (Ok v) script code typed lists = warranted script code (items v) typed lists
-if_warranted items (Err e) script code typed lists = tt
+-- the same of those that are kept, each once, by a call that may fail
+pub if_warranted : {V F : Type 0} (items : V → List Warning) (r : Result V F) (script : Tree) (code : Program) (ws : List Warning) → IsTyped code → ((typing : List Known) → IsTyping code typing → ws ≡ warnings script code typing)
+    → IfOk r (λ v. AreEachOnce ws (items v)) → IfOk r (λ v. (w : Warning) → Contains (items v) w ↔ IsWarranted script code w)
+if_warranted items (Ok v) script code ws typed lists once =
+    λ w. (
+      λ there. (warranted script code ws typed lists w).0 ((once.same w).0 there),
+      λ is. (once.same w).1 ((warranted script code ws typed lists w).1 is),
+    )
+if_warranted items (Err e) script code ws typed lists once = tt
+
+pub if_apart : {V F : Type 0} (items : V → List Warning) (r : Result V F) (ws : List Warning) → IfOk r (λ v. AreEachOnce ws (items v)) → IfOk r (λ v. AreApart (items v))
+if_apart items (Ok v) ws once = once.apart
+if_apart items (Err e) ws once = tt

@@ -1,42 +1,27 @@
--- The first difference between two configurations: an object that one of them has and the other has not, or has
--- otherwise.
-use Rattle.std.specs.Prelude.{◌≡◌, ◌≢◌, ◌⊎◌, ℕ, ◌≤◌, List, Option, Some, None}
-use Rattle.mux_config.specs.Configuration.{Configuration, sub_key, sid_key, service_key, packet_key}
-use Rattle.mux_config.specs.Tables.{entry_at}
+-- What differs between two paths.
+use Rattle.std.specs.Prelude.{◌≢◌, ◌||◌, not, if◌then◌else◌}
+use Rattle.mux_config.specs.Configuration.{Configuration, nothing}
+use Rattle.mux_config.specs.Edits.{sub_at, service_at, packet_at}
+use Rattle.plan_code.specs.declared.label.Swap.{Swap}
+use Rattle.plan_flow.specs.Flows.{Flow}
+use Rattle.plan_flow.specs.Tests.{is_idle}
+use Rattle.plan_explain.specs.declared.difference.Compared.{Compared}
+use Rattle.plan_explain.specs.declared.difference.Compared.TheVariants.{Current, AfterSwap, Next}
 use Rattle.plan_explain.specs.declared.difference.Difference.{Difference}
-use Rattle.plan_explain.specs.declared.difference.Difference.TheVariants.{Sub as OfSub, Service as OfService, Packet as OfPacket}
+use Rattle.plan_explain.specs.declared.difference.Difference.TheVariants.{Sub, Service, Packet}
 
--- ---- objects of one kind, by their keys
+-- the configuration of a path that is compared with that of another, which has this swap state
+abbrev pub compared : Compared → Swap → Flow → Configuration
+compared Current other t = t.current
+compared Next other t = t.next
+compared AfterSwap other t = if is_idle t.pending || not (is_idle other) then t.current else t.next
 
--- a key is no later than another in the order of the search: first those that the first set has, then those that it has
--- not, each in ascending order. The objects are those that it has under the one key and the other
-abbrev pub IsNoLater : {T : Type 0} → Option T → Option T → ℕ → ℕ → Type 0
-IsNoLater (Some x) (Some y) k j = k ≤ j
-IsNoLater (Some x) None k j = Unit {0}
-IsNoLater None (Some y) k j = ⊥
-IsNoLater None None k j = k ≤ j
+-- a member is in one configuration and not in the other, or otherwise in the other
+abbrev pub Differ : Difference → Configuration → Configuration → Type 0
+Differ (Sub id) a b = sub_at id a ≢ sub_at id b
+Differ (Service sid) a b = service_at sid a ≢ service_at sid b
+Differ (Packet scid) a b = packet_at scid a ≢ packet_at scid b
 
--- two sets have these under a key; the two are not the same, and there is no earlier key for which this is so
-pub record DifferFirst {T : Type 0} (key : T → ℕ) (xs ys : List T) (k : ℕ) (one other : Option T) : Type 0 where
-  pub in_first : one ≡ entry_at key k xs
-  pub in_second : other ≡ entry_at key k ys
-  pub differ : one ≢ other
-  pub first : (j : ℕ) → entry_at key j xs ≢ entry_at key j ys → IsNoLater one (entry_at key j xs) k j
-
--- ---- configurations: sub-channels come before services, and these before packet components
-
-abbrev pub IsFirstDifference : Configuration → Configuration → Difference → Type 0
-IsFirstDifference a b (OfSub one other) = (id : ℕ) × DifferFirst sub_key a.subs b.subs id one other
-IsFirstDifference a b (OfService sid) =
-    (a.subs ≡ b.subs)
-    × DifferFirst service_key a.services b.services (sid_key sid) (entry_at service_key (sid_key sid) a.services)
-    (entry_at service_key (sid_key sid) b.services)
-IsFirstDifference a b (OfPacket one other) =
-    (a.subs ≡ b.subs) × (a.services ≡ b.services)
-    × (scid : ℕ) × DifferFirst packet_key a.packets b.packets scid one other
-
--- ---- what is known when all objects of the first set have been compared
-
--- the first set has nothing else under this key than the second, if anything
-abbrev pub HasNoOther : {T : Type 0} → (T → ℕ) → List T → List T → ℕ → Type 0
-HasNoOther key xs ys k = (entry_at key k xs ≡ entry_at key k ys) ⊎ (entry_at key k xs ≡ None)
+-- a swap alone, with no configuration
+abbrev pub with_swap : Swap → Flow
+with_swap pending = record { current = nothing; next = nothing; pending = pending }

@@ -9,11 +9,13 @@ use Rattle.script_front.specs.Tree.{Tree}
 use Rattle.plan_explain.specs.declared.flaw.Flaw.{Flaw}
 use Rattle.plan_explain.specs.declared.primary.Primary.{Primary}
 use Rattle.plan_explain.specs.declared.warning.Warning.{Warning}
-use Rattle.plan_explain.specs.declared.warning.Warning.TheVariants.{Flawed, OtherPrimary, WaitsForTime, Unreached}
+use Rattle.plan_explain.specs.declared.warning.Warning.TheVariants.{Flawed, OtherPrimary, WaitsForTime, Unreached, Late, NextDay}
 use Rattle.plan_explain.specs.Flaws.{HasFlaw}
 use Rattle.plan_explain.specs.Primaries.{IsOtherPrimary}
 use Rattle.plan_explain.specs.Beginnings.{WaitsFirst}
 use Rattle.plan_explain.specs.Blocks.{IsUnreached}
+use Rattle.plan_explain.specs.LateUntils.{HasLateUntil}
+use Rattle.plan_explain.specs.DayWaits.{HasDayWaitIn}
 
 -- ---- what comes on air, and what was there before
 
@@ -63,3 +65,5 @@ IsWarranted script code (Flawed line flaw) = IsNewFlaw script code line flaw
 IsWarranted script code (OtherPrimary line primary) = IsNewPrimary script code line primary
 IsWarranted script code (WaitsForTime wait) = WaitsFirst code.lines wait
 IsWarranted script code (Unreached line) = IsUnreached code.lines script.blocks line
+IsWarranted script code (Late until) = HasLateUntil script until
+IsWarranted script code (NextDay wait) = HasDayWaitIn script wait

@@ -1,171 +1,422 @@
-//! Explains why a code is refused.
+//! Explains why a code is refused, by what is known at the instruction.
 
-ghost use Rattle.std.specs.Prelude.{◌≡◌, ℕ, true};
-ghost use Rattle.plan_code.specs.Program.{Program};
-ghost use Rattle.plan_explain.specs.Paths.{ways_of};
-ghost use Rattle.plan_explain.specs.Reaching.{Entered, ComesFromWays};
-
-use crate::cause::{Refused, advise_instr, explain_instr};
-use crate::labels::{explain_cost, explain_mismatch, target_at};
-use crate::past::Past;
-use crate::reach::Reach;
-use crate::room::{advise_opening, explain_opening};
-use plan_code::{Code, Instr, Plan};
-use plan_flow::{Cause, test_opening};
+use crate::advice::{advise_instr, advise_opening};
+use crate::facts::facts_of;
+use crate::note::{Note, push, put_notes};
+use crate::sentence::{Search, put_instr, put_opening};
+use crate::stop::{Refused, Stop, copied};
+use crate::words::{Sides, put_fact};
+use mux_config::{Config, Store};
+use plan_code::{Code, CounterId, Counters, Instr, Label, Plan, Swap};
+use plan_flow::flow::{is_idle, is_same};
+use plan_flow::properties::{continues, suspends, target_of};
+use plan_flow::{Cause, Flow, test_opening};
 use std::alloc::Global;
-use std::io::{self, Error, ErrorKind, Write};
+use std::io::{self, Write};
+
+/// What is known on entry to an instruction from the one before.
+#[derive(Drop)]
+struct Reach {
+    flow: Flow<Config>,
+    /// The set counters.
+    counters: Counters,
+    /// How many instructions may still run in this frame.
+    left: u8,
+    /// Whether that is what is left of the budget since a suspension, and not of a label's cost.
+    is_of_budget: bool,
+    /// Whether the instruction before continues to this one.
+    comes: bool,
+}
+
+/// The configurations and the swap that a label declares.
+fn flow_of(code: &Code, label: Label) -> Option<Flow<Config>> {
+    Some(Flow {
+        current: Config::from_config(code.config(label.cur)?),
+        next: Config::from_config(code.config(label.next)?),
+        pending: label.pending,
+    })
+}
+
+/// What the label at an instruction declares of the configurations and the swap, if it has one.
+fn declared_at(code: &Code, pc: u16) -> Option<Flow<Config>> {
+    flow_of(code, code.label_at(pc)?)
+}
+
+/// The counters after an instruction.
+fn counters_after(counters: Counters, instr: &Instr) -> Counters {
+    match instr {
+        Instr::Set { counter, .. } => counters.with(*counter),
+        Instr::Loop { counter, .. } => counters.without(*counter),
+        _ => counters,
+    }
+}
+
+impl Reach {
+    /// Changes to what the label at an instruction declares, if it has one.
+    fn enter(&mut self, code: &Code, pc: u16) {
+        let Some(label) = code.label_at(pc) else {
+            return;
+        };
+        if let Some(flow) = flow_of(code, label) {
+            self.flow = flow;
+        }
+        self.counters = label.counters;
+        self.left = label.cost;
+        self.is_of_budget = false;
+    }
+
+    /// Applies an instruction.
+    fn pass(&mut self, plan: &Plan, instr: &Instr) {
+        let _ = self.flow.apply(plan, *instr);
+        self.counters = counters_after(self.counters, instr);
+        if suspends(*instr) {
+            self.left = plan.budget;
+            self.is_of_budget = true;
+        } else {
+            self.left = self.left.saturating_sub(1);
+        }
+        self.comes = continues(*instr);
+    }
+
+    /// What is known on entry to an instruction of a code.
+    fn at(code: &Code, pc: u16) -> Reach {
+        let plan = code.plan();
+        let mut reach = Reach {
+            flow: Flow {
+                current: Config::new(),
+                next: Config::new(),
+                pending: Swap::Idle,
+            },
+            counters: Counters(0),
+            left: 0,
+            is_of_budget: true,
+            comes: false,
+        };
+        for at in 0..pc {
+            let Some(instr) = code.instr(at) else {
+                return reach;
+            };
+            reach.enter(code, at);
+            reach.pass(&plan, &instr);
+        }
+        reach
+    }
+
+    /// What the allowance is part of.
+    fn source(&self) -> &'static str {
+        if self.is_of_budget {
+            "by the budget since the wait before"
+        } else {
+            "as the label before declares"
+        }
+    }
+}
+
+/// The target of the instruction at this pc, if it jumps.
+fn target_at(code: &Code, pc: u16) -> Option<u16> {
+    match code.instr(pc) {
+        Some(instr) => target_of(instr),
+        None => None,
+    }
+}
 
 /// Explains an instruction that jumps to a pc without a label.
 fn explain_target<W: Write>(code: &Code, pc: u16, out: &mut W) -> io::Result<()> {
     match target_at(code, pc) {
-        Some(target) => writeln!(
+        Some(target) => write!(
             out,
             "instruction {pc} jumps to {target}, which has no label"
         ),
-        None => writeln!(out, "the target of instruction {pc} has no label"),
+        None => write!(out, "the target of instruction {pc} has no label"),
     }
 }
 
 /// Explains a missing label at an instruction that needs one.
 fn explain_table<W: Write>(code: &Code, pc: u16, out: &mut W) -> io::Result<()> {
     if pc == 0 {
-        return writeln!(out, "instruction 0, where a code begins, has no label");
+        return out.write_all(b"instruction 0, where a code begins, has no label");
     }
     let before = pc - 1;
     match code.line_at(before) {
-        Some(line) => writeln!(
+        Some(line) => write!(
             out,
             "instruction {pc} can't be reached: instruction {before}, of line {line}, does not continue to it, and it has no label"
         ),
-        None => writeln!(out, "instruction {pc} has no label, and needs one"),
+        None => write!(out, "instruction {pc} has no label, and needs one"),
     }
 }
 
 /// Explains a loop on a counter that may not be set.
 fn explain_counter<W: Write>(pc: u16, instr: &Instr, out: &mut W) -> io::Result<()> {
     let Instr::Loop { counter, .. } = instr else {
-        return writeln!(
+        return write!(
             out,
             "instruction {pc} loops on a counter that may not be set"
         );
     };
     let counter = counter.get();
-    writeln!(
+    write!(
         out,
         "instruction {pc} loops on counter {counter}, which may not be set here"
     )
 }
 
-/// Explains pages that have no room: those of the opening if this is the first instruction, else those of a commit.
-fn explain_pages<'x, W: Write>(
-    plan: &'x Plan,
-    reach: &'x Reach,
+/// The first counter in one set that is missing in the other.
+fn counter_missing(counters: Counters, declared: Counters) -> Option<u8> {
+    for id in 0u8..8 {
+        if let Some(counter) = CounterId::new(id) {
+            if declared.has(counter) && !counters.has(counter) {
+                return Some(id);
+            }
+        }
+    }
+    None
+}
+
+/// Whether what is known does not match the label at an instruction, if it has one.
+fn is_unfit(code: &Code, reach: &Reach, pc: u16) -> bool {
+    let Some(label) = code.label_at(pc) else {
+        return false;
+    };
+    if !reach.counters.includes(label.counters) {
+        return true;
+    }
+    match declared_at(code, pc) {
+        Some(flow) => !reach.flow.fits(&flow.current, &flow.next, flow.pending),
+        None => false,
+    }
+}
+
+/// Explains what does not match the label at an instruction.
+fn explain_unfit(
+    alloc: Global,
+    code: &Code,
+    reach: &Reach,
     pc: u16,
-    instr: &Instr,
-    out: &mut W,
+    note: &mut Note,
 ) -> io::Result<()> {
-    let opening = &reach.state.flow.current;
-    if pc == 0 && test_opening(plan, opening).is_err() {
-        explain_opening(plan, opening, out)?;
-        return advise_opening(plan, opening, out);
+    write!(&mut note.text, "at the label of instruction {pc}: ")?;
+    let (Some(label), Some(declared)) = (code.label_at(pc), declared_at(code, pc)) else {
+        return note.text.write_all(b"what is known does not fit it");
+    };
+    if let Some(counter) = counter_missing(reach.counters, label.counters) {
+        return write!(
+            &mut note.text,
+            "the label declares that counter {counter} is set, and it may not be"
+        );
     }
-    explain_known(plan, reach, instr, Cause::Round, false, out)
-}
-
-/// Explains a cause from what is known at the instruction; `names_commit` if the commit of a swap is named, and no statement
-/// that did something to an object.
-fn explain_known<'x, W: Write>(
-    plan: &'x Plan,
-    reach: &'x Reach,
-    instr: &Instr,
-    cause: Cause,
-    names_commit: bool,
-    out: &mut W,
-) -> io::Result<()> {
-    let refused = refused_at(plan, reach, *instr, cause, names_commit);
-    explain_instr(&refused, out)?;
-    advise_instr(&refused, out)
-}
-
-/// What was executed on the ways to an instruction; or its commits, if one is to be named.
-fn past_of(reach: &Reach, names_commit: bool) -> Past
-    ensures { (code : Program) (pc : ℕ) → reach.now.valid ≡ true → Entered code pc reach.now
-        → ComesFromWays code pc names_commit (ways_of result.history.now result.end) }
-{
-    if names_commit {
-        return reach.commits();
-    }
-    reach.past()
-}
-
-/// An instruction that is refused, where it has been entered. Either a commit is named, or what was done to objects.
-fn refused_at<'x>(
-    plan: &'x Plan,
-    reach: &'x Reach,
-    instr: Instr,
-    cause: Cause,
-    names_commit: bool,
-) -> Refused<'x>
-    ensures flow { result.flow.now ≡ reach.now.state.flow }
-    ensures ways { (code : Program) (pc : ℕ) → reach.now.valid ≡ true → Entered code pc reach.now
-        → ComesFromWays code pc names_commit (ways_of result.past.history.now result.past.end) }
-    ensures instr { result.instr ≡ instr }
-    ensures cause { result.cause ≡ cause }
-{
-    Refused {
-        plan,
-        flow: &reach.state.flow,
-        past: past_of(reach, names_commit),
-        instr,
-        cause,
+    let stop = Stop {
+        line: 0,
+        refused: Refused::Loop,
+        in_opening: false,
+        plan: code.plan(),
+        here: copied(&reach.flow),
+        other: declared,
+    };
+    let sides = Sides {
+        here: " as it is known",
+        there: " as the label declares",
+    };
+    note.text
+        .write_all(b"what is known does not fit the label: ")?;
+    let facts = facts_of(alloc, &stop)?;
+    match facts.as_slice().first() {
+        Some(fact) => put_fact(fact, &stop, &sides, &mut note.text),
+        None => Ok(()),
     }
 }
 
-/// Explains a cause at an existing instruction.
-fn explain_at<W: Write>(
+/// Whether a code can't begin with what its first label declares, whatever its configuration.
+fn has_no_beginning(code: &Code, pc: u16) -> bool {
+    let Some(label) = code.label_at(pc) else {
+        return false;
+    };
+    if pc > 0 {
+        return false;
+    }
+    if !is_idle(label.pending) || label.counters.0 != 0 {
+        return true;
+    }
+    match declared_at(code, 0) {
+        Some(flow) => !is_same(&flow.current, &flow.next),
+        None => false,
+    }
+}
+
+/// Explains the difference between what is known and what a label declares: the first label of the code, the one at the
+/// instruction, or the one at its jump target.
+fn explain_mismatch(
+    alloc: Global,
     code: &Code,
     reach: &mut Reach,
     pc: u16,
-    instr: &Instr,
-    cause: Cause,
+    note: &mut Note,
+) -> io::Result<()> {
+    if has_no_beginning(code, pc) {
+        return note.text.write_all(
+            b"the first label has to declare one configuration, both current and next, no pending swap and no counter",
+        );
+    }
+    if reach.comes && is_unfit(code, reach, pc) {
+        return explain_unfit(alloc, code, reach, pc, note);
+    }
+    reach.enter(code, pc);
+    match target_at(code, pc) {
+        Some(target) => explain_unfit(alloc, code, reach, target, note),
+        None => note.text.write_all(b"what is known does not fit the label"),
+    }
+}
+
+/// The cost of the label at an instruction, if it has one.
+fn cost_at(code: &Code, pc: u16) -> Option<u8> {
+    Some(code.label_at(pc)?.cost)
+}
+
+/// Explains a label whose cost is more than the remaining allowance.
+fn explain_allowance<W: Write>(
+    reach: &Reach,
+    pc: u16,
+    left: u8,
+    cost: u8,
     out: &mut W,
 ) -> io::Result<()> {
+    let source = reach.source();
+    write!(
+        out,
+        "the label of instruction {pc} declares that {cost} instructions may run from there in one frame; {left} may still run, {source}"
+    )
+}
+
+/// Explains a cost over the budget, or over the allowance of the label before.
+fn explain_cost<W: Write>(code: &Code, reach: &mut Reach, pc: u16, out: &mut W) -> io::Result<()> {
+    let budget = code.plan().budget;
+    if let Some(cost) = cost_at(code, pc) {
+        if reach.comes && reach.left < cost {
+            return explain_allowance(reach, pc, reach.left, cost, out);
+        }
+        if budget < cost {
+            return write!(
+                out,
+                "the label of instruction {pc} declares that {cost} instructions may run from there in one frame; the budget is {budget}"
+            );
+        }
+    }
+    reach.enter(code, pc);
+    if let Some(left) = reach.left.checked_sub(1) {
+        if let Some(target) = target_at(code, pc) {
+            if let Some(cost) = cost_at(code, target) {
+                return explain_allowance(reach, target, left, cost, out);
+            }
+        }
+    }
+    let source = reach.source();
+    write!(
+        out,
+        "no more instructions may run in this frame before instruction {pc}, {source}; the budget is {budget}"
+    )
+}
+
+/// Explains a cause by what is known at the instruction.
+fn explain_known(
+    alloc: Global,
+    code: &Code,
+    reach: &Reach,
+    pc: u16,
+    instr: &Instr,
+    cause: &Cause,
+    note: &mut Note,
+) -> io::Result<()> {
+    let plan = code.plan();
+    let is_opening = pc == 0 && test_opening(&plan, &reach.flow.current).is_err();
+    let refused = if is_opening {
+        Refused::Opening(*cause)
+    } else {
+        Refused::Instr(*instr, *cause)
+    };
+    let stop = Stop {
+        line: 0,
+        refused,
+        in_opening: is_opening,
+        plan,
+        here: copied(&reach.flow),
+        other: copied(&reach.flow),
+    };
+    if is_opening && *cause == Cause::Round {
+        put_opening(&stop, &mut note.text)?;
+        return advise_opening(&stop, &mut note.hint);
+    }
+    let facts = facts_of(alloc, &stop)?;
+    let facts = facts.as_slice();
+    let search = Search::Code(code, pc);
+    put_instr(&stop, instr, cause, facts, &search, None, &mut note.text)?;
+    let config = &stop.here.next;
+    advise_instr(&stop, config, instr, cause, facts, None, &mut note.hint)
+}
+
+/// Explains a cause at an instruction of a code.
+fn explain_at(
+    alloc: Global,
+    code: &Code,
+    pc: u16,
+    instr: &Instr,
+    cause: &Cause,
+    note: &mut Note,
+) -> io::Result<()> {
+    let mut reach = Reach::at(code, pc);
     match cause {
-        Cause::Mismatch => explain_mismatch(code, reach, pc, out),
-        Cause::Cost => explain_cost(code, reach, pc, out),
-        Cause::Target => explain_target(code, pc, out),
-        Cause::Table => explain_table(code, pc, out),
-        Cause::CounterUnset => explain_counter(pc, instr, out),
-        Cause::FallsOff => writeln!(
-            out,
+        Cause::Mismatch => explain_mismatch(alloc, code, &mut reach, pc, note),
+        Cause::Cost => explain_cost(code, &mut reach, pc, &mut note.text),
+        Cause::Target => explain_target(code, pc, &mut note.text),
+        Cause::Table => explain_table(code, pc, &mut note.text),
+        Cause::CounterUnset => explain_counter(pc, instr, &mut note.text),
+        Cause::FallsOff => write!(
+            &mut note.text,
             "the last instruction, {pc}, continues to one that is not there"
         ),
-        Cause::Round => {
-            reach.enter(code, pc)?;
-            explain_pages(&code.plan(), reach, pc, instr, out)
-        }
-        Cause::Edit(_)
+        Cause::Round
+        | Cause::Edit(_)
         | Cause::Config(_)
         | Cause::NoChange
         | Cause::Notice
         | Cause::Count
-        | Cause::JoinIdle => {
-            reach.enter(code, pc)?;
-            explain_known(&code.plan(), reach, instr, cause, false, out)
-        }
-        Cause::Pending | Cause::SwapUncertain => {
-            reach.enter(code, pc)?;
-            explain_known(&code.plan(), reach, instr, cause, true, out)
+        | Cause::JoinIdle
+        | Cause::Pending
+        | Cause::SwapUncertain => {
+            reach.enter(code, pc);
+            explain_known(alloc, code, &reach, pc, instr, cause, note)
         }
     }
 }
 
-/// Explains why a code is refused at an instruction, with the objects and numbers there. The line is the
-/// script's, as recorded in the code; 0 if there is no such instruction.
+/// Notes on why a code is refused at an instruction, with the objects and numbers there. The line is the script's, as
+/// recorded in the code; 0 if there is no such instruction.
 ///
 /// # Errors
 ///
-/// Those of the writer, and `OutOfMemory` if out of memory for the walk up to the instruction.
+/// `OutOfMemory`.
+pub fn notes_on_code(alloc: Global, code: &Code, pc: u16, cause: Cause) -> io::Result<Vec<Note>> {
+    let line = match code.line_at(pc) {
+        Some(line) => line,
+        None => 0,
+    };
+    let mut note = Note::on_line(alloc, line);
+    match code.instr(pc) {
+        Some(instr) => explain_at(alloc, code, pc, &instr, &cause, &mut note)?,
+        None => write!(
+            &mut note.text,
+            "a label is at {pc}, past the last instruction"
+        )?,
+    }
+    let mut notes = Vec::new(alloc);
+    push(&mut notes, note)?;
+    Ok(notes)
+}
+
+/// Writes why a code is refused at an instruction, as a note.
+///
+/// # Errors
+///
+/// Those of the writer, and `OutOfMemory`.
 pub fn explain_code<W: Write>(
     alloc: Global,
     path: &str,
@@ -174,16 +425,6 @@ pub fn explain_code<W: Write>(
     cause: Cause,
     out: &mut W,
 ) -> io::Result<()> {
-    let Ok(mut reach) = Reach::at(alloc, code, pc) else {
-        return Err(Error::from(ErrorKind::OutOfMemory));
-    };
-    let line = match code.line_at(pc) {
-        Some(line) => line,
-        None => 0,
-    };
-    write!(out, "{path}:{line}: ")?;
-    match code.instr(pc) {
-        Some(instr) => explain_at(code, &mut reach, pc, &instr, cause, out),
-        None => writeln!(out, "a label is at {pc}, past the last instruction"),
-    }
+    let notes = notes_on_code(alloc, code, pc, cause)?;
+    put_notes(path, "", notes.as_slice(), out)
 }

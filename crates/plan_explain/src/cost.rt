@@ -1,27 +1,16 @@
 //! Explains budgets that are too small, and costs that no budget allows.
 
-ghost use Rattle.std.specs.Prelude.{◌≡◌, IfOk, IfSome};
+ghost use Rattle.std.specs.Prelude.{IfOk, IfSome};
 ghost use Rattle.script_compiler.specs.Compiled.{placed_instrs, lines_of_placed};
 ghost use Rattle.script_compiler.specs.FrameCosts.{IsFrameCost};
 
-use crate::hint_loop::{Braces, try_wait_in};
+use crate::note::Note;
 use crate::source::Source;
-use crate::trier::Trier;
+use crate::trier::{Braces, Trier};
 use script_compiler::{CompileFault, FrameCost, LongestPath, frame_cost};
 use script_front::Script;
 use std::alloc::{AllocError, Global};
 use std::io::{self, Write};
-
-/// The facts that explain a cost.
-#[derive(Clone, Copy)]
-pub(crate) struct Costs {
-    /// How many instructions can run in one frame; none if the script is refused before its costs.
-    cost: Option<FrameCost>,
-    /// The loop that can repeat without a wait, if only one begins in its line.
-    found: Option<Loop>,
-    /// The budget of the script.
-    budget: u8,
-}
 
 /// A loop of a script.
 #[derive(Clone, Copy)]
@@ -31,7 +20,7 @@ struct Loop {
     ends: bool,
 }
 
-/// The first loop of a script that begins in this line, if one does.
+/// The only loop of a script that begins in this line.
 fn loop_of(source: &Source, line: u16) -> Option<Loop> {
     let index = source.index_in(usize::from(line), "repeat", "forever")?;
     let last = source.closing(index)?;
@@ -57,130 +46,89 @@ fn cost_of(alloc: Global, script: &Script) -> Result<Option<FrameCost>, AllocErr
     }
 }
 
-/// The facts that explain why a script with these tokens is refused for its costs.
-pub(crate) fn costs_of(alloc: Global, source: &Source, script: &Script) -> Result<Costs, AllocError>
-    ensures cost { IfOk result (λ costs. IfSome costs.cost
-        (IsFrameCost (lines_of_placed (placed_instrs script.now)))) }
-    ensures budget { IfOk result (λ costs. costs.budget ≡ script.now.header.budget) }
-{
-    let cost = match cost_of(alloc, script) {
-        Ok(cost) => cost,
-        Err(error) => return Err(error),
-    };
-    let found = match cost {
-        Some(FrameCost::Repeats { line }) => loop_of(source, line),
-        Some(FrameCost::Most(_)) => None,
-        Some(FrameCost::Beyond { .. }) => None,
-        None => None,
-    };
-    Ok(Costs {
-        cost,
-        found,
-        budget: script.header().budget,
-    })
-}
-
-/// Explains why a script costs more than its budget, on the lines after the position.
-pub(crate) fn explain_costs<W: Write>(costs: &Costs, out: &mut W) -> io::Result<()> {
-    let budget = costs.budget;
-    match costs.cost {
-        Some(FrameCost::Most(path)) => {
-            let instructions = path.instructions;
-            let (first, last) = (path.first, path.last);
-            writeln!(
-                out,
-                "the longest path runs {instructions} instructions in one frame, from line {first} to line {last}; the budget is {budget}"
-            )
-        }
-        Some(FrameCost::Repeats { line }) => explain_repeated(line, &costs.found, out),
-        Some(FrameCost::Beyond { line }) => writeln!(
-            out,
-            "from line {line} on more than 255 instructions can run in one frame, which no budget allows; the budget is {budget}"
-        ),
-        None => writeln!(out, "the plan is refused here"),
-    }
-}
-
-/// Explains a loop that begins in this line and can repeat without a wait.
-fn explain_repeated<W: Write>(first: u16, found: &Option<Loop>, out: &mut W) -> io::Result<()> {
-    let Some(Loop { braces, ends }) = found else {
-        return writeln!(
-            out,
-            "a loop that begins in line {first} can repeat without a wait, so that its instructions in one frame have no bound"
-        );
-    };
-    let last = braces.last.line;
-    if *ends {
-        return writeln!(
-            out,
-            "an iteration of the loop of lines {first} to {last} can run without a wait: that is refused, however few iterations it has"
-        );
-    }
-    writeln!(
-        out,
-        "the loop of lines {first} to {last} can repeat without a wait, so that its instructions in one frame have no bound"
-    )
-}
-
-/// Corrections of costs: a greater budget, or a wait in the loop.
-pub(crate) fn try_costs(trier: &mut Trier, costs: &Costs) -> Result<(), AllocError> {
-    match costs.cost {
-        Some(FrameCost::Most(path)) => try_budget(trier, costs.budget, path.instructions),
-        Some(FrameCost::Repeats { .. }) => match costs.found {
-            Some(Loop { braces, .. }) => try_wait_in(trier, braces),
-            None => Ok(()),
-        },
-        Some(FrameCost::Beyond { .. }) => Ok(()),
-        None => Ok(()),
-    }
-}
-
-/// The correction of a budget: the least one that is enough.
-fn try_budget(trier: &mut Trier, budget: u8, enough: u16) -> Result<(), AllocError> {
+/// Explains a path that is longer than the budget; the correction is the least budget that is enough.
+fn explain_path(
+    trier: &mut Trier,
+    path: LongestPath,
+    budget: u8,
+    note: &mut Note,
+) -> io::Result<()> {
+    let LongestPath {
+        instructions,
+        first,
+        last,
+    } = path;
+    write!(
+        &mut note.text,
+        "the longest path runs {instructions} instructions in one frame, from line {first} to line {last}; the budget is {budget}"
+    )?;
     let old = format!(in trier.alloc; "budget {budget}")?;
-    let new = format!(in trier.alloc; "budget {enough}")?;
-    match trier.header_spot("budget", old.as_str())? {
-        Some(spot) => trier.write_at(spot, new.as_str()),
-        None => Ok(()),
+    let new = format!(in trier.alloc; "budget {instructions}")?;
+    if let Some(spot) = trier.header_spot("budget", old.as_str())? {
+        trier.write_at(spot, new.as_str())?;
     }
+    if trier.is_at_loss() {
+        return write!(
+            &mut note.hint,
+            "a budget of {instructions}, or a 'wait 1' between line {first} and line {last}"
+        );
+    }
+    trier.put_hint(&mut note.hint)
 }
 
-/// Advises on a script that costs more than its budget.
-pub(crate) fn advise_costs<W: Write>(costs: &Costs, out: &mut W) -> io::Result<()> {
-    match costs.cost {
-        Some(FrameCost::Most(path)) => {
-            let LongestPath {
-                instructions,
-                first,
-                last,
-            } = path;
-            writeln!(
-                out,
-                "hint: a budget of {instructions}, or a 'wait 1' between line {first} and line {last}"
-            )
-        }
-        Some(FrameCost::Repeats { line }) => advise_repeated(line, &costs.found, out),
-        Some(FrameCost::Beyond { line }) => {
-            writeln!(
-                out,
-                "hint: a 'wait 1' among the statements from line {line} on"
-            )
-        }
-        None => Ok(()),
-    }
-}
-
-/// Advises on a loop that begins in this line and can repeat without a wait.
-fn advise_repeated<W: Write>(first: u16, found: &Option<Loop>, out: &mut W) -> io::Result<()> {
-    let Some(Loop { braces, .. }) = found else {
-        return writeln!(
-            out,
-            "hint: a 'wait 1' on each path through the loops that begin in line {first}"
+/// Explains a loop that begins in this line and can repeat without a wait; the correction is a wait in it.
+fn explain_repeated(trier: &mut Trier, first: u16, note: &mut Note) -> io::Result<()> {
+    let Some(Loop { braces, ends }) = loop_of(&trier.source, first) else {
+        write!(
+            &mut note.text,
+            "a loop that begins in line {first} can repeat without a wait, so that its instructions in one frame have no bound"
+        )?;
+        return write!(
+            &mut note.hint,
+            "a 'wait 1' on each path through the loops that begin in line {first}"
         );
     };
     let last = braces.last.line;
-    writeln!(
-        out,
-        "hint: a 'wait 1' in lines {first} to {last}, on each path through the loop"
-    )
+    if ends {
+        write!(
+            &mut note.text,
+            "an iteration of the loop of lines {first} to {last} can run without a wait: that is refused, however few iterations it has"
+        )?;
+    } else {
+        write!(
+            &mut note.text,
+            "the loop of lines {first} to {last} can repeat without a wait, so that its instructions in one frame have no bound"
+        )?;
+    }
+    trier.put_at(braces.last, "wait 1")?;
+    if let Some(spot) = trier.after_open(braces.first) {
+        trier.put_at(spot, "wait 1")?;
+    }
+    if trier.is_at_loss() {
+        return write!(
+            &mut note.hint,
+            "a 'wait 1' in lines {first} to {last}, on each path through the loop"
+        );
+    }
+    trier.put_hint(&mut note.hint)
+}
+
+/// Explains why a script costs more than its budget.
+pub(crate) fn explain_cost(trier: &mut Trier, script: &Script, note: &mut Note) -> io::Result<()> {
+    let budget = script.header().budget;
+    match cost_of(trier.alloc, script)? {
+        Some(FrameCost::Most(path)) => explain_path(trier, path, budget, note),
+        Some(FrameCost::Repeats { line }) => explain_repeated(trier, line, note),
+        Some(FrameCost::Beyond { line }) => {
+            write!(
+                &mut note.text,
+                "from line {line} on more than 255 instructions can run in one frame, which no budget allows; the budget is {budget}"
+            )?;
+            write!(
+                &mut note.hint,
+                "a 'wait 1' among the statements from line {line} on"
+            )
+        }
+        None => write!(&mut note.text, "the plan is refused here"),
+    }
 }

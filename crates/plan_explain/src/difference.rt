@@ -1,226 +1,148 @@
-//! The first difference between two configurations.
+//! What differs between two paths.
 
-ghost use Rattle.std.specs.Prelude.{◌≡◌, ◌↔◌, ℕ, None, Some, IfSome, IsTrue};
-ghost use Rattle.mux_config.specs.Configuration.{IsConfiguration, sub_key, service_key, packet_key};
+ghost use Rattle.std.specs.Prelude.{◌≡◌, ◌≢◌, ◌↔◌, IsTrue, Some};
 ghost use Rattle.mux_config.specs.Edits.{service_at};
-ghost use Rattle.plan_explain.specs.Differences.{HasNoOther, IsFirstDifference};
+ghost use Rattle.plan_flow.specs.Flows.{FitsFlow};
+ghost use Rattle.plan_explain.specs.Differences.{compared, Differ, with_swap};
 
-use crate::names::{put_packet, put_service, put_sid, put_sub};
-use mux_config::{Config, Packet, Service, Sid, Store, Sub};
+use mux_config::{Config, ScId, Service, Sid, Store, SubId};
 use mux_types::sameness::is_same_service;
-use std::io::{self, Write};
+use plan_code::Swap;
+use plan_flow::Flow;
+use plan_flow::flow::is_idle;
 
-/// A member that differs between two configurations, as it is in each that has it.
-#[derive(Clone, Copy)]
+/// Which configurations of two paths are compared.
+#[derive(Clone, Copy, Debug, PartialEq, Eq)]
+pub(crate) enum Compared {
+    /// The current ones.
+    Current,
+    /// Those after the swap, which is pending on one path alone.
+    AfterSwap,
+    /// The next ones.
+    Next,
+}
+
+/// A member that differs between two configurations: one of them does not have it, or has it otherwise.
+#[derive(Clone, Copy, Debug, PartialEq, Eq)]
 pub(crate) enum Difference {
     /// A sub-channel.
-    Sub(Option<Sub>, Option<Sub>),
-    /// The service of this SId.
+    Sub(SubId),
+    /// A service.
     Service(Sid),
     /// A packet component.
-    Packet(Option<Packet>, Option<Packet>),
+    Packet(ScId),
 }
 
-/// The first sub-channel of the first configuration that differs in the second or is missing there.
-fn sub_difference(a: &Config, b: &Config) -> Option<Difference>
-    ensures found { IfSome result (IsFirstDifference a.now b.now) }
-    ensures none { result ≡ None → (id : ℕ) → HasNoOther sub_key a.now.subs b.now.subs id }
-    ensures configuration { IsConfiguration a.now }
+/// The configuration of a path that is compared with that of another path, which has this swap state.
+pub(crate) fn configuration_of<'a>(
+    which: Compared,
+    other: Swap,
+    flow: &'a Flow<Config>,
+) -> &'a Config
+    ensures { result.now ≡ compared which other flow.now }
 {
-    for sub in a.subs() {
-        let other = b.sub(sub.id);
-        if other != Some(*sub) {
-            return Some(Difference::Sub(Some(*sub), other));
+    match which {
+        Compared::Current => &flow.current,
+        Compared::Next => &flow.next,
+        Compared::AfterSwap => {
+            if is_idle(flow.pending) || !is_idle(other) {
+                &flow.current
+            } else {
+                &flow.next
+            }
         }
     }
-    None
 }
 
-/// The first sub-channel of the second that is missing in the first, which has no other one.
-fn sub_added(a: &Config, b: &Config) -> Option<Difference>
-    requires others { (id : ℕ) → HasNoOther sub_key a.now.subs b.now.subs id }
-    requires configuration { IsConfiguration a.now }
-    ensures found { IfSome result (IsFirstDifference a.now b.now) }
-    ensures none { result ≡ None → a.now.subs ≡ b.now.subs }
+/// Whether a configuration has this service under an SId, with the same components in the same order.
+fn has_service(config: &Config, sid: Sid, service: &Service) -> bool
+    ensures { IsTrue result ↔ (service_at sid config.now ≡ Some service.now) }
 {
-    for sub in b.subs() {
-        if a.sub(sub.id).is_none() {
-            return Some(Difference::Sub(None, Some(*sub)));
-        }
-    }
-    None
-}
-
-/// Whether a configuration has this service, with the same components in the same order.
-fn has_service(config: &Config, service: &Service) -> bool
-    ensures { IsTrue result ↔ (service_at service.now.sid config.now ≡ Some service.now) }
-{
-    match config.service(service.sid) {
+    match config.service(sid) {
         Some(other) => is_same_service(other, service),
         None => false,
     }
 }
 
-/// The first service of the first that is missing in the second or has other components there.
-fn service_difference(a: &Config, b: &Config) -> Option<Difference>
-    requires { a.now.subs ≡ b.now.subs }
-    ensures found { IfSome result (IsFirstDifference a.now b.now) }
-    ensures none { result ≡ None → (key : ℕ) → HasNoOther service_key a.now.services
-        b.now.services key }
-    ensures configuration { IsConfiguration a.now }
+/// Whether a service differs between two configurations.
+fn service_differs(a: &Config, b: &Config, sid: Sid) -> bool
+    ensures { IsTrue result ↔ (service_at sid a.now ≢ service_at sid b.now) }
 {
-    for service in a.services() {
-        if !has_service(b, service) {
-            return Some(Difference::Service(service.sid));
-        }
-    }
-    None
-}
-
-/// The first service of the second that is missing in the first, which has no other one.
-fn service_added(a: &Config, b: &Config) -> Option<Difference>
-    requires subs { a.now.subs ≡ b.now.subs }
-    requires others { (key : ℕ) → HasNoOther service_key a.now.services b.now.services key }
-    requires configuration { IsConfiguration a.now }
-    ensures found { IfSome result (IsFirstDifference a.now b.now) }
-    ensures none { result ≡ None → a.now.services ≡ b.now.services }
-{
-    for service in b.services() {
-        if a.service(service.sid).is_none() {
-            return Some(Difference::Service(service.sid));
-        }
-    }
-    None
-}
-
-/// The first packet component of the first configuration that differs in the second or is missing there.
-fn packet_difference(a: &Config, b: &Config) -> Option<Difference>
-    requires subs { a.now.subs ≡ b.now.subs }
-    requires services { a.now.services ≡ b.now.services }
-    ensures found { IfSome result (IsFirstDifference a.now b.now) }
-    ensures none { result ≡ None → (scid : ℕ) → HasNoOther packet_key a.now.packets b.now.packets
-        scid }
-    ensures configuration { IsConfiguration a.now }
-{
-    for packet in a.packets() {
-        let other = b.packet(packet.scid);
-        if other != Some(*packet) {
-            return Some(Difference::Packet(Some(*packet), other));
-        }
-    }
-    None
-}
-
-/// The first packet component of the second that is missing in the first, which has no other one.
-fn packet_added(a: &Config, b: &Config) -> Option<Difference>
-    requires subs { a.now.subs ≡ b.now.subs }
-    requires services { a.now.services ≡ b.now.services }
-    requires others { (scid : ℕ) → HasNoOther packet_key a.now.packets b.now.packets scid }
-    requires configuration { IsConfiguration a.now }
-    ensures found { IfSome result (IsFirstDifference a.now b.now) }
-    ensures none { result ≡ None → a.now.packets ≡ b.now.packets }
-{
-    for packet in b.packets() {
-        if a.packet(packet.scid).is_none() {
-            return Some(Difference::Packet(None, Some(*packet)));
-        }
-    }
-    None
-}
-
-/// The first member that differs between two configurations; `None` if they are equal.
-pub(crate) fn first_difference(a: &Config, b: &Config) -> Option<Difference>
-    ensures found { IfSome result (IsFirstDifference a.now b.now) }
-    ensures none { (result ≡ None) ↔ (a.now ≡ b.now) }
-{
-    if let Some(found) = sub_difference(a, b) {
-        return Some(found);
-    }
-    if let Some(found) = sub_added(a, b) {
-        return Some(found);
-    }
-    if let Some(found) = service_difference(a, b) {
-        return Some(found);
-    }
-    if let Some(found) = service_added(a, b) {
-        return Some(found);
-    }
-    if let Some(found) = packet_difference(a, b) {
-        return Some(found);
-    }
-    packet_added(a, b)
-}
-
-/// Writes a sub-channel, or the absence of `other`.
-fn put_one_sub<W: Write>(sub: &Option<Sub>, other: &Option<Sub>, out: &mut W) -> io::Result<()> {
-    match sub {
-        Some(sub) => put_sub(sub, out),
-        None => match other {
-            Some(other) => {
-                let id = other.id.get();
-                write!(out, "no sub {id}")
-            }
-            None => Ok(()),
-        },
+    match a.service(sid) {
+        Some(service) => !has_service(b, sid, service),
+        None => b.service(sid).is_some(),
     }
 }
 
-/// Writes a packet component, or the absence of `other`.
-fn put_one_packet<W: Write>(
-    packet: &Option<Packet>,
-    other: &Option<Packet>,
-    out: &mut W,
-) -> io::Result<()> {
-    match packet {
-        Some(packet) => put_packet(packet, out),
-        None => match other {
-            Some(other) => {
-                let scid = other.scid.get();
-                write!(out, "no packet {scid}")
-            }
-            None => Ok(()),
-        },
-    }
-}
-
-/// Writes the service of a configuration, or its absence.
-fn put_one_service<W: Write>(config: &Config, sid: Sid, out: &mut W) -> io::Result<()> {
-    match config.service(sid) {
-        Some(service) => put_service(service, out),
-        None => {
-            out.write_all(b"no service ")?;
-            put_sid(sid, out)
-        }
-    }
-}
-
-/// Writes both forms of a member that differs between two configurations, each with the text that follows it.
-pub(crate) fn put_difference<W: Write>(
-    difference: &Difference,
-    a: &Config,
-    b: &Config,
-    here: &str,
-    there: &str,
-    out: &mut W,
-) -> io::Result<()>
-    requires { IsFirstDifference a.now b.now difference.now }
+/// Whether a member differs between two configurations.
+pub(crate) fn differs(a: &Config, b: &Config, difference: Difference) -> bool
+    ensures { IsTrue result ↔ Differ difference a.now b.now }
 {
     match difference {
-        Difference::Sub(one, other) => {
-            put_one_sub(one, other, out)?;
-            write!(out, "{here}, ")?;
-            put_one_sub(other, one, out)?;
-        }
-        Difference::Packet(one, other) => {
-            put_one_packet(one, other, out)?;
-            write!(out, "{here}, ")?;
-            put_one_packet(other, one, out)?;
-        }
-        Difference::Service(sid) => {
-            put_one_service(a, *sid, out)?;
-            write!(out, "{here}, ")?;
-            put_one_service(b, *sid, out)?;
+        Difference::Sub(id) => a.sub(id) != b.sub(id),
+        Difference::Service(sid) => service_differs(a, b, sid),
+        Difference::Packet(scid) => a.packet(scid) != b.packet(scid),
+    }
+}
+
+/// Whether what is known of the swap does not match what is declared, whatever the configurations are: it does not even
+/// if they are all empty.
+pub(crate) fn has_other_swap(known: Swap, declared: Swap) -> bool
+    ensures { IsTrue result ↔ (FitsFlow (with_swap known) (with_swap declared) → ⊥) }
+{
+    let empty = Config::new();
+    let flow = Flow {
+        current: Config::new(),
+        next: Config::new(),
+        pending: known,
+    };
+    !flow.fits(&empty, &empty, declared)
+}
+
+/// The first member that differs between two configurations: sub-channels before services, and these before packet
+/// components.
+pub(crate) fn first_differing(a: &Config, b: &Config) -> Option<Difference> {
+    for config in [a, b] {
+        for sub in config.subs() {
+            if differs(a, b, Difference::Sub(sub.id)) {
+                return Some(Difference::Sub(sub.id));
+            }
         }
     }
-    out.write_all(there.as_bytes())
+    for config in [a, b] {
+        for service in config.services() {
+            if differs(a, b, Difference::Service(service.sid)) {
+                return Some(Difference::Service(service.sid));
+            }
+        }
+    }
+    for config in [a, b] {
+        for packet in config.packets() {
+            if differs(a, b, Difference::Packet(packet.scid)) {
+                return Some(Difference::Packet(packet.scid));
+            }
+        }
+    }
+    None
+}
+
+/// What differs between two paths: between the configurations that are compared, or else between the next ones.
+pub(crate) fn first_contrast(
+    here: &Flow<Config>,
+    there: &Flow<Config>,
+) -> Option<(Compared, Difference)> {
+    let which = if is_idle(here.pending) == is_idle(there.pending) {
+        Compared::Current
+    } else {
+        Compared::AfterSwap
+    };
+    let one = configuration_of(which, there.pending, here);
+    let other = configuration_of(which, here.pending, there);
+    match first_differing(one, other) {
+        Some(difference) => Some((which, difference)),
+        None => match first_differing(&here.next, &there.next) {
+            Some(difference) => Some((Compared::Next, difference)),
+            None => None,
+        },
+    }
 }

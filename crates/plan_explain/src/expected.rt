@@ -1,38 +1,9 @@
 //! Describes what is valid at a position of a script.
 
+use crate::keywords::{HEADER, ITEMS, OTHERS, WAITS};
 use crate::probe::{Answer, Front};
 use std::alloc::{AllocError, Global};
 use std::io::{self, Write};
-
-/// The keywords of the grammar, except those that begin a statement.
-const WORDS: [&str; 21] = [
-    "ensemble",
-    "mode",
-    "period",
-    "notice",
-    "budget",
-    "reserve",
-    "begin",
-    "at",
-    "eep",
-    "in",
-    "groups",
-    "raw",
-    "type",
-    "address",
-    "component",
-    "contact",
-    "closed",
-    "open",
-    "else",
-    "{",
-    "}",
-];
-
-/// Keywords that begin items and definitions; some of them are valid elsewhere too.
-const ITEM_WORDS: [&str; 7] = [
-    "sub", "service", "audio", "data", "carry", "packet", "define",
-];
 
 /// What is valid at a position, as phrases.
 #[derive(Drop)]
@@ -102,6 +73,11 @@ impl Expected {
             return Ok(());
         };
         let what = number_in(front.last().as_bytes(), high);
+        let high = if high == 1023 && front.last() == "at" {
+            863
+        } else {
+            high
+        };
         let phrase = if low == high {
             format!(in alloc; "{what}, {low}")?
         } else {
@@ -126,7 +102,16 @@ impl Expected {
         if front.passes(alloc, "join")? {
             return self.add(alloc, "a statement");
         }
-        self.add_tokens(alloc, front, &ITEM_WORDS)
+        self.add_tokens(alloc, front, &ITEMS)
+    }
+
+    /// Adds the keywords of waits, unless a statement is valid: there a wait may go on, but need not.
+    fn add_waits(&mut self, alloc: Global, front: &Front) -> Result<(), AllocError> {
+        if front.passes(alloc, "join")? {
+            return Ok(());
+        }
+        self.add_tokens(alloc, front, &["until"])?;
+        self.add_tokens(alloc, front, &WAITS)
     }
 
     /// Collects what is valid after the front.
@@ -150,7 +135,10 @@ impl Expected {
         )?;
         found.add_name(alloc, front)?;
         found.add_statement(alloc, front)?;
-        found.add_tokens(alloc, front, &WORDS)?;
+        found.add_tokens(alloc, front, &HEADER)?;
+        found.add_tokens(alloc, front, &OTHERS)?;
+        found.add_waits(alloc, front)?;
+        found.add_tokens(alloc, front, &["{", "}"])?;
         if front.may_end(alloc)? {
             found.add(alloc, "the end of the script")?;
         }
@@ -203,7 +191,7 @@ fn number_in(word: &[u8], high: u32) -> &'static str {
         b"packet" | b"carry" => "an SCId",
         b"address" => "a packet address",
         b"contact" => "a contact",
-        b"wait" => "a number of frames",
+        b"wait" | b"or" | b"early" => "a number of frames",
         b"in" => "a number of frames",
         b"repeat" => "a number of times",
         b"at" => {

@@ -143,7 +143,7 @@ fn push_all_audio(flaws: &mut Vec<Flaw>, services: &[Service]) -> Result<(), All
 }
 
 /// Whether two flaws are the same.
-fn is_same_flaw(one: &Flaw, other: &Flaw) -> bool
+pub(crate) fn is_same_flaw(one: &Flaw, other: &Flaw) -> bool
     ensures { result ≡ is_same_flaw one.now other.now }
 {
     match *one {

@@ -1,74 +1,63 @@
 //! Explained plans: what a user needs to correct a refused script or code, with the objects and numbers involved; and
 //! what the author of an accepted plan may not want, though it is not wrong.
 //!
-//! [`explain_fault`] explains why a text is not a script, [`explain_script`] why a script is not compiled, and
-//! [`explain_code`] why a code is refused. Most facts come from the functions that refuse: `parse` decides what is valid
-//! at a position, `Flow::apply` is called up to the refused statement, and the costs are those that `frame_cost` finds.
-//! Which statements did something last is found over all paths (`past`), which are the ways through the script or the
-//! code: what these are is defined in `specs/Ways.antt` and `specs/CodeWays.antt`, and [`laws`] says how control takes
-//! them. Counters and allowances of a code, pages and limits are looked up here.
+//! [`notes_on_fault`] says why a text is not a script, [`notes_on_script`] why a script is not compiled, and
+//! [`notes_on_code`] why a code is refused; [`put_notes`] and [`put_errors`] print what they say. A refused script is
+//! followed up to the refusal, with what is known there: a `Stop`, which is the compiler's refusal
+//! (`specs/Stops.antt`). A `Fact` about it is printed only if it holds (`specs/Facts.antt`); a line is to blame if the
+//! refusal is passed without it; and a hint that changes the text was compiled (`specs/TextChanges.antt`).
 //!
 //! [`warnings_of`] returns the warnings that are true of a script and its code: all of them, and no other ones. When a
-//! [`Warning`] is true is defined in `specs/Warnings.antt`; [`put_warning`] writes its line.
+//! [`Warning`] is true is defined in `specs/Warnings.antt`; [`put_warning`] prints one.
 #![tactic(auto)]
 
-mod absent;
+mod advice;
+mod because;
 mod beginning;
 mod blocks;
-mod branches;
-mod cause;
-mod change;
 mod changes;
 mod code;
-mod config;
-mod contrast;
 mod cost;
+mod day_wait;
 mod difference;
-mod edit;
 mod expected;
+mod fact;
+mod facts;
 mod flaw;
-mod further;
-mod hint_config;
-mod hint_edit;
-mod hint_loop;
-mod hint_statement;
-mod history;
-mod item_faults;
-mod jumps;
-mod labels;
-pub mod laws;
+mod follow;
+mod hint;
+mod keywords;
+mod late_until;
 mod limit;
 mod list;
-mod names;
-mod others;
-mod overlap;
-mod past;
-mod paths;
-mod place;
+mod note;
+mod once;
 mod primary;
 mod probe;
-mod reach;
 mod repair;
-mod room;
 mod script;
-mod script_fault;
-mod sought;
+mod sentence;
 mod source;
-mod state;
-mod swap;
+mod stop;
+mod straight;
+mod syntax;
 mod trial;
 mod trier;
-mod walk;
 mod warned;
 mod warning;
 mod warnings;
+mod words;
 
 pub use beginning::FirstWait;
-pub use code::explain_code;
+pub use code::{explain_code, notes_on_code};
+pub use day_wait::DayWait;
 pub use flaw::Flaw;
+pub use late_until::LateUntil;
+pub use note::{Note, put_errors, put_notes};
 pub use primary::Primary;
-pub use script::explain_script;
-pub use script_fault::explain_fault;
+pub use script::{explain_script, notes_on_script};
+pub use straight::Way;
+pub use syntax::{explain_fault, notes_on_fault};
 pub use warned::put_warning;
 pub use warning::Warning;
 pub use warnings::warnings_of;

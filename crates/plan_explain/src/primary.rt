@@ -3,7 +3,7 @@
 ghost use Rattle.std.specs.Prelude.{◌≡◌, ◌++◌, ◌∷◌, [], IfOk, OnOk};
 ghost use Rattle.std.specs.List.{flat_map};
 ghost use Rattle.mux_types.specs.Sameness.{is_same_sid, is_same_component};
-ghost use Rattle.plan_explain.specs.Primaries.{other_first, other_primary, primaries_of, primaries};
+ghost use Rattle.plan_explain.specs.Primaries.{is_alone, other_first, other_primary, primaries_of, primaries};
 
 use crate::list::push;
 use mux_config::{Component, Config, Service, Sid};
@@ -28,7 +28,7 @@ pub(crate) fn is_same_sid(a: Sid, b: Sid) -> bool
 }
 
 /// Whether two components are the same.
-fn is_same_component(a: Component, b: Component) -> bool
+pub(crate) fn is_same_component(a: Component, b: Component) -> bool
     ensures { result ≡ is_same_component a b }
 {
     a == b
@@ -60,6 +60,16 @@ fn push_other_first(
     )
 }
 
+/// Whether a component is the only one.
+fn is_alone(components: &[Component]) -> bool
+    ensures { result ≡ is_alone components.now }
+{
+    match components {
+        [_one] => true,
+        _ => false,
+    }
+}
+
 /// Appends a service whose first component is another one than before, if this was the same service then.
 fn push_other_primary(
     primaries: &mut Vec<Primary>,
@@ -70,6 +80,9 @@ fn push_other_primary(
         before.now) }
 {
     if !is_same_sid(before.sid, service.sid) {
+        return Ok(());
+    }
+    if is_alone(before.components.as_slice()) && is_alone(service.components.as_slice()) {
         return Ok(());
     }
     push_other_first(

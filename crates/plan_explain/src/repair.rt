@@ -1,52 +1,10 @@
 //! Suggests the token that may have been meant by an invalid one.
 
+use crate::keywords::{HEADER, ITEMS, OTHERS, STATEMENTS, WAITS};
 use crate::probe::Front;
 use crate::source::Spot;
 use crate::trier::Trier;
 use std::alloc::{AllocError, Global};
-
-/// The keywords of the grammar.
-const WORDS: [&str; 39] = [
-    "ensemble",
-    "mode",
-    "period",
-    "notice",
-    "budget",
-    "reserve",
-    "define",
-    "begin",
-    "sub",
-    "at",
-    "eep",
-    "service",
-    "audio",
-    "in",
-    "data",
-    "carry",
-    "packet",
-    "groups",
-    "raw",
-    "type",
-    "address",
-    "drop",
-    "component",
-    "move",
-    "rate",
-    "wait",
-    "contact",
-    "closed",
-    "open",
-    "until",
-    "commit",
-    "join",
-    "settle",
-    "end",
-    "if",
-    "else",
-    "repeat",
-    "forever",
-    "apply",
-];
 
 /// Words for a state of a contact that do not say whether it is closed or open.
 const LEVELS: [&str; 6] = ["on", "off", "high", "low", "true", "false"];
@@ -187,20 +145,140 @@ impl<'a> Wrong<'a> {
     /// Tries the keywords that are like the token.
     fn attempt_keyword(&self, trier: &mut Trier) -> Result<(), AllocError> {
         let lower = in_case(trier.alloc, self.token, false)?;
-        for word in WORDS {
-            if is_close(word.as_bytes(), lower.as_slice()) {
-                self.attempt(trier, word)?;
+        let lists: [&[&str]; 5] = [&HEADER, &ITEMS, &OTHERS, &WAITS, &STATEMENTS];
+        for words in lists {
+            for word in words {
+                if is_close(word.as_bytes(), lower.as_slice()) {
+                    self.attempt(trier, word)?;
+                }
             }
         }
         Ok(())
     }
 
-    /// Tries what may have been meant: a token that is valid in the place of this one.
+    /// The digits at the front of the token, as a number.
+    fn number(&self) -> u32 {
+        let mut number = 0u32;
+        for byte in self.token {
+            if !byte.is_ascii_digit() {
+                return number;
+            }
+            number = number
+                .saturating_mul(10)
+                .saturating_add(u32::from(*byte - b'0'));
+        }
+        number
+    }
+
+    /// What follows the digits at the front of the token; empty if it begins with no digit.
+    fn unit(&self) -> &[u8] {
+        for (at, byte) in self.token.iter().enumerate() {
+            if !byte.is_ascii_digit() {
+                return if at == 0 { b"" } else { &self.token[at..] };
+            }
+        }
+        b""
+    }
+
+    /// The number of frames that the token means, if it is in seconds.
+    pub(crate) fn frames(&self) -> Option<(u32, u32)> {
+        let seconds = self.number();
+        match self.unit() {
+            b"s" | b"sec" => Some((seconds, seconds.saturating_mul(125).saturating_add(2) / 3)),
+            _ => None,
+        }
+    }
+
+    /// Tries a number without its unit: seconds as frames, a rate as it is.
+    fn attempt_unit(&self, trier: &mut Trier) -> Result<(), AllocError> {
+        let alloc = trier.alloc;
+        let number = match self.frames() {
+            Some((_, frames)) => frames,
+            None => match self.unit() {
+                b"k" | b"kb" | b"kbit" | b"kbits" | b"kbps" => self.number(),
+                _ => return Ok(()),
+            },
+        };
+        let token = format!(in alloc; "{number}")?;
+        self.attempt(trier, token.as_str())
+    }
+
+    /// Tries statements that may have been meant by the words up to this one: a commit at a time of day, and one without
+    /// `in`.
+    fn attempt_statement(&self, trier: &mut Trier) -> Result<(), AllocError> {
+        let alloc = trier.alloc;
+        let index = self.spot.index;
+        let token = text_of(alloc, self.token)?;
+        let token = token.as_str();
+        let last = self.front.last();
+        if last == "at" && self.token.contains(&b':') {
+            let before = index.saturating_sub(2);
+            if trier.source.word(before) != "commit" {
+                return Ok(());
+            }
+            let notice = trier.source.number_after("notice");
+            let words = format!(in alloc; "until {token}; commit in {notice}")?;
+            return match trier.source.spot(before, 3) {
+                Some(spot) => trier.write_at(spot, words.as_str()),
+                None => Ok(()),
+            };
+        }
+        if last == "commit" && self.number() > 0 {
+            return trier.put_at(self.spot, "in");
+        }
+        if token == "to" {
+            return trier.leave_out_at(self.spot);
+        }
+        if last == "mode" && token == "1" {
+            return match trier.source.spot(index.saturating_sub(1), 2) {
+                Some(spot) => trier.leave_out_at(spot),
+                None => Ok(()),
+            };
+        }
+        Ok(())
+    }
+
+    /// Tries what may have been meant: a token that is valid in the place of this one, or another statement.
     pub(crate) fn attempt_all(&self, trier: &mut Trier) -> Result<(), AllocError> {
+        self.attempt_statement(trier)?;
+        self.attempt_unit(trier)?;
         self.attempt_profile(trier)?;
         self.attempt_keyword(trier)?;
         self.attempt_value(trier)?;
         self.attempt_time(trier)
+    }
+}
+
+/// Tries `until` in the place of `wait until` without an alternative, directly before the token with this index, or the end
+/// of the text.
+pub(crate) fn attempt_until(trier: &mut Trier, index: usize) -> Result<(), AllocError> {
+    let alloc = trier.alloc;
+    let plain = index.saturating_sub(3);
+    if index >= 3 && trier.source.word(plain) == "wait" && trier.source.word(plain + 1) == "until" {
+        let time = trier.source.word(plain + 2);
+        let words = format!(in alloc; "until {time}")?;
+        return write_words(trier, plain, 3, words.as_str());
+    }
+    let early = index.saturating_sub(5);
+    if index >= 5 && trier.source.word(early) == "wait" && trier.source.word(early + 3) == "early" {
+        let time = trier.source.word(early + 2);
+        let frames = trier.source.word(early + 4);
+        let words = format!(in alloc; "until {time} early {frames}")?;
+        return write_words(trier, early, 5, words.as_str());
+    }
+    Ok(())
+}
+
+/// Tries other words in the place of so many tokens from an index on.
+fn write_words(
+    trier: &mut Trier,
+    index: usize,
+    count: usize,
+    words: &str,
+) -> Result<(), AllocError> {
+    match trier.source.spot(index, count) {
+        Some(spot) => trier.write_at(spot, words),
+        None => Ok(()),
     }
 }
 

@@ -1,7 +1,8 @@
-//! The tokens of a script's text, and where statements are among them.
+//! A script's text: its tokens, where they are, and how a position of it is shown.
 
 use script_front::{Position, ScriptFault, Token, lex};
 use std::alloc::{AllocError, Global};
+use std::io::{self, Write};
 
 /// A script's text with its tokens.
 #[derive(Drop)]
@@ -55,6 +56,14 @@ impl<'a> Source<'a> {
         }
     }
 
+    /// The position of the token before one with an index, if there is one.
+    pub(crate) fn position_before(&self, index: usize) -> Option<Position> {
+        match self.tokens().get(index.checked_sub(1)?) {
+            Some(token) => Some(token.position),
+            None => None,
+        }
+    }
+
     /// The line of the token at this index; 0 if there is none.
     pub(crate) fn line(&self, index: usize) -> usize {
         match self.tokens.get(index) {
@@ -63,11 +72,13 @@ impl<'a> Source<'a> {
         }
     }
 
-    /// Whether tokens in a row in one line, from this index on, are those of some words.
+    /// Whether tokens in a row in one line, from this index on, are those of some words, `_` being any.
     fn has_at(&self, index: usize, words: &Source) -> bool {
         for offset in 0..words.tokens.len() {
             let at = index.saturating_add(offset);
-            if self.word(at) != words.word(offset) || self.line(at) != self.line(index) {
+            let word = words.word(offset);
+            let is_other = word != "_" && word != self.word(at);
+            if is_other || self.line(at) != self.line(index) {
                 return false;
             }
         }
@@ -103,6 +114,56 @@ impl<'a> Source<'a> {
             }
         }
         self.spot(found?, words.tokens.len())
+    }
+
+    /// Where some words are last, of those whose first token is before an index; none if they are nowhere, or no words.
+    pub(crate) fn last_before(&self, before: usize, words: &Source) -> Option<Spot> {
+        if words.tokens.is_empty() {
+            return None;
+        }
+        for index in (0..before.min(self.tokens.len())).rev() {
+            if self.has_at(index, words) {
+                return self.spot(index, words.tokens.len());
+            }
+        }
+        None
+    }
+
+    /// Where some words are first after an index.
+    pub(crate) fn first_after(&self, after: usize, words: &Source) -> Option<Spot> {
+        for index in after.saturating_add(1)..self.tokens.len() {
+            if self.has_at(index, words) {
+                return self.spot(index, words.tokens.len());
+            }
+        }
+        None
+    }
+
+    /// Whether the tokens of a spot, so many, are all of their line.
+    pub(crate) fn is_whole(&self, spot: &Spot, count: usize) -> bool {
+        spot.is_first && self.line(spot.index.saturating_add(count)) != spot.line
+    }
+
+    /// The decimal at an index; 0 if it is none.
+    pub(crate) fn number(&self, index: usize) -> u32 {
+        let mut number = 0u32;
+        for byte in self.word(index).as_bytes() {
+            if !byte.is_ascii_digit() {
+                return 0;
+            }
+            number = number
+                .saturating_mul(10)
+                .saturating_add(u32::from(*byte - b'0'));
+        }
+        number
+    }
+
+    /// The decimal after a word, the first one of the text; 0 if there is none.
+    pub(crate) fn number_after(&self, word: &str) -> u32 {
+        match self.index_of(word) {
+            Some(index) => self.number(index.saturating_add(1)),
+            None => 0,
+        }
     }
 
     /// The index of the first token that is this word, in any line.
@@ -179,22 +240,189 @@ impl<'a> Source<'a> {
         None
     }
 
-    /// The line of the last brace that is not closed.
-    pub(crate) fn open_brace(&self) -> Option<usize> {
+    /// The position of the last brace that is not closed.
+    pub(crate) fn open_brace(&self) -> Option<Position> {
         let mut closed = 0u32;
         for token in self.tokens.as_slice().iter().rev() {
             match self.text.get(token.start..token.end) {
                 Some("}") => closed = closed.saturating_add(1),
-                Some("{") if closed == 0 => return Some(token.position.line),
+                Some("{") if closed == 0 => return Some(token.position),
                 Some("{") => closed -= 1,
                 _ => {}
             }
         }
         None
     }
+
+    /// The column of the token at an index; 0 if there is none.
+    fn column(&self, index: usize) -> usize {
+        match self.tokens.get(index) {
+            Some(token) => token.position.column,
+            None => 0,
+        }
+    }
+
+    /// The column of the first token of the line of the token at an index.
+    fn indentation(&self, index: usize) -> usize {
+        let line = self.line(index);
+        for before in (0..index).rev() {
+            if self.line(before) != line {
+                return self.column(before.saturating_add(1));
+            }
+        }
+        self.column(0)
+    }
+
+    /// The first line after a brace at this index, before the one that closes it, that is indented no more than the line
+    /// of that brace and does not begin with a brace.
+    fn unindented_after(&self, index: usize) -> Option<usize> {
+        let first = self.line(index);
+        let column = self.indentation(index);
+        let end = match self.closing(index) {
+            Some(end) => end,
+            None => self.tokens.len(),
+        };
+        for at in index..end {
+            let is_new = self.line(at) > first && self.line(at) != self.line(at.saturating_sub(1));
+            if is_new && self.column(at) <= column && self.word(at) != "}" {
+                return Some(self.line(at));
+            }
+        }
+        None
+    }
+
+    /// The lines of the innermost block that ends by its indentation before its brace is closed: where it begins, and the
+    /// next line.
+    pub(crate) fn unindented(&self) -> Option<(usize, usize)> {
+        let mut found = None;
+        for index in 0..self.tokens.len() {
+            if self.word(index) == "{" {
+                if let Some(next) = self.unindented_after(index) {
+                    found = Some((self.line(index), next));
+                }
+            }
+        }
+        found
+    }
 }
 
 /// Whether a position is before another one.
 pub(crate) fn is_before(a: Position, b: Position) -> bool {
     a.line < b.line || (a.line == b.line && a.column < b.column)
+}
+
+/// The most bytes of a line that are shown.
+const SHOWN: usize = 160;
+
+/// The offset of a position in a text; the length of the text if it has no such position.
+pub(crate) fn offset_of(text: &[u8], position: Position) -> usize {
+    let mut line = 1usize;
+    let mut column = 1usize;
+    for (at, byte) in text.iter().enumerate() {
+        if line == position.line && column == position.column {
+            return at;
+        }
+        if *byte == b'\n' {
+            line = line.saturating_add(1);
+            column = 1;
+        } else {
+            column = column.saturating_add(1);
+        }
+    }
+    text.len()
+}
+
+/// Whether a byte belongs to an atom.
+fn is_letter(byte: u8) -> bool {
+    byte.is_ascii_alphanumeric() || byte == b'_' || byte == b':' || byte == b'-'
+}
+
+/// The atom at the front of some bytes; the first byte if they begin with none, and none if they are empty.
+pub(crate) fn token_at(bytes: &[u8]) -> &[u8] {
+    for (at, byte) in bytes.iter().enumerate() {
+        if !is_letter(*byte) {
+            return &bytes[..at.max(1)];
+        }
+    }
+    bytes
+}
+
+/// The bytes between two offsets of a text; none if they are out of range.
+fn between(text: &[u8], start: usize, end: usize) -> &[u8] {
+    match text.get(start..end) {
+        Some(bytes) => bytes,
+        None => &text[..0],
+    }
+}
+
+/// The line of this number, from 1, without its end; empty if the text has none.
+fn line_of(text: &[u8], number: usize) -> &[u8] {
+    let mut line = 1usize;
+    let mut start = 0usize;
+    for (at, byte) in text.iter().enumerate() {
+        if *byte == b'\n' {
+            if line == number {
+                return between(text, start, at);
+            }
+            line = line.saturating_add(1);
+            start = at + 1;
+        }
+    }
+    if line == number {
+        return between(text, start, text.len());
+    }
+    &text[..0]
+}
+
+/// A line without the carriage return at its end, if it has one.
+fn without_return(line: &[u8]) -> &[u8] {
+    if let Some((last, front)) = line.split_last() {
+        if *last == b'\r' {
+            return front;
+        }
+    }
+    line
+}
+
+/// Writes a line of the text, and a caret under a column of it. Of a long line the first bytes are shown, or those
+/// around the column. Bytes that a terminal would not show are written as `?`.
+pub(crate) fn show_position<W: Write>(
+    text: &[u8],
+    position: Position,
+    out: &mut W,
+) -> io::Result<()> {
+    let line = without_return(line_of(text, position.line));
+    let column = position.column.saturating_sub(1);
+    let start = if column < SHOWN {
+        0
+    } else {
+        column - SHOWN / 2
+    };
+    let end = line.len().min(start.saturating_add(SHOWN));
+    out.write_all(b"    ")?;
+    put_bytes(between(line, start, end), out)?;
+    out.write_all(b"\n    ")?;
+    for _column in start..column {
+        out.write_all(b" ")?;
+    }
+    out.write_all(b"^\n")
+}
+
+/// Writes a byte of a line.
+pub(crate) fn put_byte<W: Write>(byte: u8, out: &mut W) -> io::Result<()> {
+    if byte == b'\t' {
+        return out.write_all(b" ");
+    }
+    if byte < 0x20 || byte > 0x7E {
+        return out.write_all(b"?");
+    }
+    out.write_all(&[byte])
+}
+
+/// Writes bytes of a text.
+pub(crate) fn put_bytes<W: Write>(bytes: &[u8], out: &mut W) -> io::Result<()> {
+    for byte in bytes {
+        put_byte(*byte, out)?;
+    }
+    Ok(())
 }

@@ -1,9 +1,9 @@
 //! Finds the first of several corrections of a script's text that removes its refusal.
 
-use crate::change::{Change, Splice, line_before};
-use crate::hint_loop::Braces;
 use crate::source::{Source, Spot};
-use crate::trial::{Refusal, Touched, try_change};
+use crate::trial::{
+    Change, Refusal, TextPatch, Touched, Verdict, line_before, line_start, try_change,
+};
 use std::alloc::{AllocError, Global};
 use std::io::{self, Write};
 
@@ -37,11 +37,18 @@ pub(crate) struct Trier<'a> {
     found: Option<Found>,
 }
 
+/// The first token of a loop or an `if`, and the brace that closes its last block.
+#[derive(Clone, Copy)]
+pub(crate) struct Braces {
+    pub(crate) first: Spot,
+    pub(crate) last: Spot,
+}
+
 /// A correction in one place.
 #[derive(Drop)]
 struct Step {
     sentence: String,
-    splice: Splice,
+    patch: TextPatch,
     /// The line that it touches, and how many it puts before that.
     line: usize,
     added: u16,
@@ -79,10 +86,9 @@ impl<'a> Trier<'a> {
             &correction.touched,
             &correction.change,
         )?;
-        let Some(is_accepted) = tried else {
-            return Ok(());
-        };
-        if is_accepted || self.found.is_none() {
+        let is_accepted = tried == Some(Verdict::Accepted);
+        let is_passed = tried == Some(Verdict::Passed);
+        if is_accepted || (is_passed && self.found.is_none()) {
             self.found = Some(Found {
                 sentence: correction.sentence,
                 is_accepted,
@@ -107,7 +113,7 @@ impl<'a> Trier<'a> {
         self.attempt(Correction {
             sentence: step.sentence,
             change: Change {
-                first: step.splice,
+                first: step.patch,
                 second: None,
             },
             touched: Touched {
@@ -129,8 +135,8 @@ impl<'a> Trier<'a> {
         self.attempt(Correction {
             sentence,
             change: Change {
-                first: one.splice,
-                second: Some(other.splice),
+                first: one.patch,
+                second: Some(other.patch),
             },
             touched: Touched {
                 added: one.shift.saturating_add(other.shift),
@@ -181,13 +187,13 @@ impl<'a> Trier<'a> {
         let line = spot.line;
         let shift = u16::from(self.is_before_refusal(line));
         if spot.is_first {
-            let Some(splice) = line_before(self.alloc, self.source.text, line, what)? else {
+            let Some(patch) = line_before(self.alloc, self.source.text, line, what)? else {
                 return Ok(None);
             };
             let sentence = format!(in self.alloc; "put '{what}' before line {line}")?;
             return Ok(Some(Step {
                 sentence,
-                splice,
+                patch,
                 line,
                 added: 1,
                 shift,
@@ -203,7 +209,7 @@ impl<'a> Trier<'a> {
         }
         Ok(Some(Step {
             sentence: format!(in self.alloc; "put '{what}' before '{words}' in line {line}")?,
-            splice: Splice {
+            patch: TextPatch {
                 start: spot.start,
                 end: spot.start,
                 part: format!(in self.alloc; "{what}; ")?,
@@ -231,7 +237,7 @@ impl<'a> Trier<'a> {
         let line = spot.line;
         Ok(Some(Step {
             sentence: format!(in self.alloc; "write '{new}' in place of '{old}' in line {line}")?,
-            splice: Splice {
+            patch: TextPatch {
                 start: spot.start,
                 end: spot.end,
                 part: String::from_str(self.alloc, new)?,
@@ -288,7 +294,7 @@ impl<'a> Trier<'a> {
     pub(crate) fn write_token(&mut self, spot: Spot, token: &str) -> Result<(), AllocError> {
         let step = Step {
             sentence: format!(in self.alloc; "write '{token}'")?,
-            splice: Splice {
+            patch: TextPatch {
                 start: spot.start,
                 end: spot.end,
                 part: String::from_str(self.alloc, token)?,
@@ -314,22 +320,120 @@ impl<'a> Trier<'a> {
         self.attempt_both(first, second)
     }
 
-    /// Tries to leave out a statement of these words in a line.
-    pub(crate) fn leave_out(&mut self, line: u16, words: &str) -> Result<(), AllocError> {
-        let Some(spot) = self.spot_of(line, words)? else {
-            return Ok(());
-        };
-        let Some(old) = self.source.text.get(spot.start..spot.end) else {
-            return Ok(());
-        };
-        let step = Step {
-            sentence: format!(in self.alloc; "leave out '{old}' in line {line}")?,
-            splice: Splice {
+    /// What becomes of the refusal without the tokens of a spot.
+    pub(crate) fn without(&self, spot: Spot) -> Result<Option<Verdict>, AllocError> {
+        let change = Change {
+            first: TextPatch {
                 start: spot.start,
                 end: spot.end,
                 part: String::new(self.alloc),
             },
-            line: spot.line,
+            second: None,
+        };
+        let touched = Touched {
+            added: 0,
+            columns: 0,
+            lines: [spot.line, spot.line],
+        };
+        try_change(
+            self.alloc,
+            self.source.text,
+            &self.source,
+            self.refusal,
+            &touched,
+            &change,
+        )
+    }
+
+    /// Where a statement of these words is last before the refused one, in a line in which it is once.
+    pub(crate) fn last_spot(&self, before: usize, words: &str) -> Result<Option<Spot>, AllocError> {
+        let words = Source::new(self.alloc, words)?;
+        match self.source.last_before(before, &words) {
+            Some(spot) => Ok(self.source.find(spot.line, &words)),
+            None => Ok(None),
+        }
+    }
+
+    /// Tries to move a statement of these words, the only one of its line, behind the line of a later one of others.
+    pub(crate) fn move_behind(
+        &mut self,
+        line: u16,
+        words: &str,
+        target: &str,
+    ) -> Result<(), AllocError> {
+        let words = Source::new(self.alloc, words)?;
+        let target = Source::new(self.alloc, target)?;
+        let Some(spot) = self.source.find(usize::from(line), &words) else {
+            return Ok(());
+        };
+        let Some(there) = self.source.first_after(spot.index, &target) else {
+            return Ok(());
+        };
+        let is_whole = self.source.is_whole(&spot, words.tokens().len())
+            && self.source.is_whole(&there, target.tokens().len());
+        if !is_whole {
+            return Ok(());
+        }
+        self.move_line(spot.line, there.line)
+    }
+
+    /// Tries to move a line behind a later one.
+    fn move_line(&mut self, from: usize, to: usize) -> Result<(), AllocError> {
+        let text = self.source.text;
+        let bytes = text.as_bytes();
+        let start = line_start(bytes, from);
+        let end = line_start(bytes, from.saturating_add(1));
+        let behind = line_start(bytes, to.saturating_add(1));
+        let (Some(start), Some(end), Some(behind)) = (start, end, behind) else {
+            return Ok(());
+        };
+        let Some(line) = text.get(start..end) else {
+            return Ok(());
+        };
+        self.attempt(Correction {
+            sentence: format!(in self.alloc; "move line {from} behind line {to}")?,
+            change: Change {
+                first: TextPatch {
+                    start,
+                    end,
+                    part: String::new(self.alloc),
+                },
+                second: Some(TextPatch {
+                    start: behind,
+                    end: behind,
+                    part: String::from_str(self.alloc, line)?,
+                }),
+            },
+            touched: Touched {
+                added: 0,
+                columns: 0,
+                lines: [to, to],
+            },
+        })
+    }
+
+    /// Tries to leave out a statement of these words in a line.
+    pub(crate) fn leave_out(&mut self, line: u16, words: &str) -> Result<(), AllocError> {
+        match self.spot_of(line, words)? {
+            Some(spot) => self.leave_out_at(spot),
+            None => Ok(()),
+        }
+    }
+
+    /// Tries to leave out the tokens of a spot, which stand once in their line.
+    pub(crate) fn leave_out_at(&mut self, spot: Spot) -> Result<(), AllocError> {
+        let Some(old) = self.source.text.get(spot.start..spot.end) else {
+            return Ok(());
+        };
+        let line = spot.line;
+        let step = Step {
+            sentence: format!(in self.alloc; "leave out '{old}' in line {line}")?,
+            patch: TextPatch {
+                start: spot.start,
+                end: spot.end,
+                part: String::new(self.alloc),
+            },
+            line,
             added: 0,
             shift: 0,
             columns: 0,
@@ -349,8 +453,8 @@ impl<'a> Trier<'a> {
         };
         let sentence = found.sentence.as_str();
         if found.is_accepted {
-            return writeln!(out, "hint: {sentence}; then it is accepted");
+            return write!(out, "{sentence}; then it is accepted");
         }
-        writeln!(out, "hint: {sentence}")
+        write!(out, "{sentence}")
     }
 }

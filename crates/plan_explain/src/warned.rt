@@ -1,21 +1,16 @@
 //! Writes warnings about accepted plans.
 
-ghost use Rattle.std.specs.Prelude.{◌≡◌, OnOk};
-ghost use Rattle.std.specs.Io.KnownBytes.{Appends};
-ghost use Rattle.plan_explain.specs.WarningTexts.{flaw_text, primary_text, second_of, wait_text, line_of, message_text, warning_text};
-
-use crate::names::{ComponentText, SidText};
-use crate::{Flaw, Primary, Warning};
+use crate::words::{put_component, put_name, put_sid};
+use crate::{DayWait, Flaw, LateUntil, Primary, Warning};
 use plan_code::DayFrame;
+use plan_code::limits::FRAMES_A_DAY;
+use script_front::Act;
 use script_front::lexemes::put_act;
-use script_front::{Act, TimeOfDay};
 use std::alloc::Global;
 use std::io::{self, Write};
 
 /// Writes what a configuration has.
-fn put_flaw<W: Write>(flaw: Flaw, out: &mut W) -> io::Result<()>
-    ensures { OnOk result (Appends (W.contents out.old) (W.contents out.new) (flaw_text flaw)) }
-{
+fn put_flaw<W: Write>(flaw: Flaw, out: &mut W) -> io::Result<()> {
     match flaw {
         Flaw::Unnamed(sub) => {
             let id = sub.get();
@@ -23,76 +18,87 @@ fn put_flaw<W: Write>(flaw: Flaw, out: &mut W) -> io::Result<()>
         }
         Flaw::LongAudio(sid, sub) => {
             let id = sub.get();
+            put_name(sid, out)?;
             write!(
                 out,
-                "service {} has audio on sub {id}: its SId has 32 bits, as those of data services",
-                SidText(sid)
+                " has audio on sub {id}: its SId has 32 bits, as those of data services"
             )
         }
     }
 }
 
 /// Writes which component of a service is the first one now, and which one was.
-fn put_primary<W: Write>(primary: &Primary, out: &mut W) -> io::Result<()>
-    ensures { OnOk result (Appends (W.contents out.old) (W.contents out.new)
-        (primary_text primary.now)) }
-{
-    let sid = SidText(primary.sid);
-    let before = ComponentText(primary.before);
-    let after = ComponentText(primary.after);
-    write!(
-        out,
-        "the primary component of service {sid} changes from {before} to {after}"
-    )
+fn put_primary<W: Write>(primary: &Primary, out: &mut W) -> io::Result<()> {
+    out.write_all(b"the primary component of service ")?;
+    put_sid(primary.sid, out)?;
+    out.write_all(b" changes from ")?;
+    put_component(primary.before, out)?;
+    out.write_all(b" to ")?;
+    put_component(primary.after, out)
 }
 
-/// The time of day at which a frame of the day begins, in whole seconds.
-fn time_of(frame: DayFrame) -> TimeOfDay
-    ensures { result ≡ second_of frame }
-{
-    match TimeOfDay::new(frame.get() * 3 / 125) {
-        Some(time) => time,
-        None => unreachable!(),
-    }
+/// Writes the time of a frame of the day.
+fn put_frame<W: Write>(frame: u32, out: &mut W) -> io::Result<()> {
+    let second = frame % FRAMES_A_DAY * 3 / 125;
+    let hours = second / 3600;
+    let minutes = second / 60 % 60;
+    let seconds = second % 60;
+    write!(out, "{hours:02}:{minutes:02}:{seconds:02}")
 }
 
 /// Writes that a plan waits for a frame of the day first.
-fn put_wait<W: Write>(alloc: Global, frame: DayFrame, out: &mut W) -> io::Result<()>
-    ensures { OnOk result (Appends (W.contents out.old) (W.contents out.new) (wait_text frame)) }
-{
+fn put_wait<W: Write>(frame: DayFrame, out: &mut W) -> io::Result<()> {
+    out.write_all(b"the plan begins with 'until ")?;
+    put_frame(frame.get(), out)?;
+    out.write_all(b"': started at any time, it stays in the configuration of 'begin' until then")
+}
+
+/// Writes that a wait for a time of day comes after one for a contact.
+fn put_late<W: Write>(alloc: Global, until: &LateUntil, out: &mut W) -> io::Result<()> {
+    let LateUntil {
+        contact,
+        closed,
+        ..
+    } = *until;
     let mut words = String::new(alloc);
-    put_act(&mut words, Act::Until(time_of(frame)))?;
+    put_act(&mut words, Act::WaitContact { contact, closed })?;
+    words.push_str(" or ")?;
+    put_act(&mut words, Act::Until(until.until))?;
     let words = words.as_str();
     write!(
         out,
-        "the plan begins with '{words}': started at any time, it stays in the configuration of 'begin' until then"
+        "until comes after the wait; for whichever comes first write '{words}'"
     )
 }
 
+/// Writes that a wait for a time of day is one for the next day.
+fn put_day<W: Write>(alloc: Global, wait: &DayWait, out: &mut W) -> io::Result<()> {
+    let mut words = String::new(alloc);
+    put_act(&mut words, Act::Until(wait.until))?;
+    let words = words.as_str();
+    write!(out, "waits {words} of the next day: ")?;
+    let from = wait.way.from.get();
+    match wait.way.swap {
+        Some(swap) => {
+            out.write_all(b"the swap before it comes at ")?;
+            put_frame(from.saturating_add(swap), out)
+        }
+        None => {
+            out.write_all(b"what is before it lasts until ")?;
+            put_frame(from.saturating_add(wait.way.frames), out)
+        }
+    }
+}
+
 /// The line that a warning is about.
-fn line_of(warning: &Warning) -> u16
-    ensures { result ≡ line_of warning.now }
-{
+fn line_of(warning: &Warning) -> u16 {
     match warning {
         Warning::Flawed(line, _) => *line,
         Warning::OtherPrimary(line, _) => *line,
         Warning::WaitsForTime(wait) => wait.line,
         Warning::Unreached(line) => *line,
-    }
-}
-
-/// Writes what a warning says.
-fn put_message<W: Write>(alloc: Global, warning: &Warning, out: &mut W) -> io::Result<()>
-    ensures { OnOk result (Appends (W.contents out.old) (W.contents out.new)
-        (message_text warning.now)) }
-{
-    match warning {
-        Warning::Flawed(_, flaw) => put_flaw(*flaw, out),
-        Warning::OtherPrimary(_, primary) => put_primary(primary, out),
-        Warning::WaitsForTime(wait) => put_wait(alloc, wait.frame, out),
-        Warning::Unreached(_) => out.write_all(
-            b"no path reaches this statement: nothing that is reached applies its block",
-        ),
+        Warning::Late(until) => until.line,
+        Warning::NextDay(wait) => wait.line,
     }
 }
 
@@ -106,11 +112,17 @@ pub fn put_warning<W: Write>(
     path: &str,
     warning: &Warning,
     out: &mut W,
-) -> io::Result<()>
-    ensures { OnOk result (Appends (W.contents out.old) (W.contents out.new)
-        (warning_text path.now warning.now)) }
-{
+) -> io::Result<()> {
     let line = line_of(warning);
     write!(out, "{path}:{line}: warning: ")?;
-    put_message(alloc, warning, out)
+    match warning {
+        Warning::Flawed(_, flaw) => put_flaw(*flaw, out),
+        Warning::OtherPrimary(_, primary) => put_primary(primary, out),
+        Warning::WaitsForTime(wait) => put_wait(wait.frame, out),
+        Warning::Unreached(_) => out.write_all(
+            b"no path reaches this statement: nothing that is reached applies its block",
+        ),
+        Warning::Late(until) => put_late(alloc, until, out),
+        Warning::NextDay(wait) => put_day(alloc, wait, out),
+    }
 }

@@ -1,7 +1,9 @@
 //! A warning about an accepted plan.
 
 use crate::beginning::FirstWait;
+use crate::day_wait::DayWait;
 use crate::flaw::Flaw;
+use crate::late_until::LateUntil;
 use crate::primary::Primary;
 
 /// A warning about an accepted plan, with the line of the script that it is about.
@@ -16,4 +18,8 @@ pub enum Warning {
     WaitsForTime(FirstWait),
     /// No path reaches the statement in this line, the first one of a defined block, and what follows it there.
     Unreached(u16),
+    /// An `until` is directly behind a `wait contact`: it comes after the wait, and not instead.
+    Late(LateUntil),
+    /// An `until` waits for its time of the next day: that of this day is past when the plan comes to it.
+    NextDay(DayWait),
 }

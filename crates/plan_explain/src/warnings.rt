@@ -4,12 +4,15 @@ ghost use Rattle.std.specs.Prelude.{◌≡◌, ◌↔◌, ◌++◌, List, IfOk, 
 ghost use Rattle.plan_verifier.specs.Typing.{Known, IsTyped, IsTyping};
 ghost use Rattle.plan_explain.specs.declared.warning.Warning.TheVariants.{Unreached as IsNotReached};
 ghost use Rattle.plan_explain.specs.Listed.{at_wait, warnings};
+ghost use Rattle.plan_explain.specs.Repeats.{AreApart};
 ghost use Rattle.plan_explain.specs.Warnings.{IsWarranted};
 
 use crate::beginning::{FirstWait, first_wait};
 use crate::blocks::unreached;
 use crate::changes::{push_commits, push_opening};
 use crate::list::push;
+use crate::once::each_once;
+use crate::straight::push_straight;
 use crate::warning::Warning;
 use plan_code::Code;
 use script_front::Script;
@@ -46,19 +49,22 @@ fn all_warnings(alloc: Global, script: &Script, code: &Code) -> Result<Vec<Warni
     push_wait(&mut found, first_wait(code.lines()))?;
     let lines = unreached(alloc, code.lines(), script.blocks())?;
     push_unreached(&mut found, lines.as_slice())?;
+    push_straight(&mut found, script)?;
     Ok(found)
 }
 
-/// The warnings about a script and its code, which is typed: those that are true, and no other ones. First those of the
-/// opening, then of each commit in the order of the code, then the others.
+/// The warnings about a script and its code, which is typed: those that are true, and no other ones, each once. First
+/// those of the opening, then of each commit in the order of the code, then the others.
 ///
 /// # Errors
 ///
 /// Out of memory.
 pub fn warnings_of(alloc: Global, script: &Script, code: &Code) -> Result<Vec<Warning>, AllocError>
     requires { IsTyped code.now }
-    ensures { IfOk result (λ v. (w : Warning) → Contains v.items w
+    ensures each { IfOk result (λ v. (w : Warning) → Contains v.items w
         ↔ IsWarranted script.now code.now w) }
+    ensures apart { IfOk result (λ v. AreApart v.items) }
 {
-    all_warnings(alloc, script, code)
+    let found = all_warnings(alloc, script, code)?;
+    each_once(alloc, found.as_slice())
 }

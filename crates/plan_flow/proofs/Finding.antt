@@ -9,7 +9,7 @@ use Rattle.plan_code.specs.declared.flags.Counters.{Counters}
 use Rattle.plan_code.specs.declared.label.Swap.{Swap}
 use Rattle.plan_code.specs.declared.label.Swap.TheVariants.{Idle, Within, Perhaps}
 use Rattle.plan_code.specs.declared.instr.Instr.{Instr}
-use Rattle.plan_code.specs.declared.instr.Instr.TheVariants.{Wait, Until, WaitContact, CommitIn, CommitAt, Join, Settle, End, Edit as Edits, Test, Jump, Set, Loop}
+use Rattle.plan_code.specs.declared.instr.Instr.TheVariants.{Wait, Until, WaitContact, WaitAny, CommitIn, CommitAt, Join, Settle, End, Edit as Edits, Test, TestTime, Jump, Set, Loop}
 use Rattle.plan_flow.specs.declared.cause.Cause.{Cause}
 use Rattle.plan_flow.specs.Rules.{Known, CanCommit, IsFine}
 use Rattle.plan_flow.specs.Causes.{CommitRefused, FlowRefused}
@@ -39,9 +39,11 @@ flow_computes plan (CommitAt count) t = commit_computes plan t _ _ _ (decides_no
 flow_computes plan (Wait frames) t = computes_where _ _ _ (decides_not _ _ (decides_certain frames t.pending))
 flow_computes plan (Until day) t = computes_never
 flow_computes plan (WaitContact contact closed) t = computes_never
+flow_computes plan (WaitAny closed opened until frames) t = computes_never
 flow_computes plan Join t = computes_where _ _ _ (decides_not _ _ (decides_pending t.pending))
 flow_computes plan Settle t = computes_never
 flow_computes plan (Test contact target) t = computes_never
+flow_computes plan (TestTime from to target) t = computes_never
 flow_computes plan (Jump target) t = computes_never
 flow_computes plan (Loop counter target) t = computes_never
 flow_computes plan (Set counter times) t = computes_never
@@ -126,9 +128,11 @@ flow_fine plan (CommitAt count) t c e =
 flow_fine plan (Wait frames) t c e = needed _ _ _ (decides_certain frames t.pending) e
 flow_fine plan (Until day) t c e = tt
 flow_fine plan (WaitContact contact closed) t c e = tt
+flow_fine plan (WaitAny closed opened until frames) t c e = tt
 flow_fine plan Join t c e = needed _ _ _ (decides_pending t.pending) e
 flow_fine plan Settle t c e = tt
 flow_fine plan (Test contact target) t c e = tt
+flow_fine plan (TestTime from to target) t c e = tt
 flow_fine plan (Jump target) t c e = tt
 flow_fine plan (Loop counter target) t c e = c
 flow_fine plan (Set counter times) t c e = tt
@@ -142,9 +146,11 @@ fine_none plan (CommitAt count) t formed h = commit_none plan t _ _ _ (decides_n
 fine_none plan (Wait frames) t formed h = none_unless _ _ _ (decides_certain frames t.pending) h
 fine_none plan (Until day) t formed h = refl
 fine_none plan (WaitContact contact closed) t formed h = refl
+fine_none plan (WaitAny closed opened until frames) t formed h = refl
 fine_none plan Join t formed h = none_unless _ _ _ (decides_pending t.pending) h
 fine_none plan Settle t formed h = refl
 fine_none plan (Test contact target) t formed h = refl
+fine_none plan (TestTime from to target) t formed h = refl
 fine_none plan (Jump target) t formed h = refl
 fine_none plan (Loop counter target) t formed h = refl
 fine_none plan (Set counter times) t formed h = refl
@@ -180,9 +186,11 @@ flow_alone plan (CommitAt count) t = refl
 flow_alone plan (Wait frames) t = refl
 flow_alone plan (Until day) t = refl
 flow_alone plan (WaitContact contact closed) t = refl
+flow_alone plan (WaitAny closed opened until frames) t = refl
 flow_alone plan Join t = refl
 flow_alone plan Settle t = refl
 flow_alone plan (Test contact target) t = refl
+flow_alone plan (TestTime from to target) t = refl
 flow_alone plan (Jump target) t = refl
 flow_alone plan (Loop counter target) t = refl
 flow_alone plan (Set counter times) t = refl

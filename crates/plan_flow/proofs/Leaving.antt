@@ -5,7 +5,7 @@ use Rattle.plan_code.specs.declared.flags.Counters.{Counters}
 use Rattle.plan_code.specs.declared.label.Swap.{Swap}
 use Rattle.plan_code.specs.declared.label.Swap.TheVariants.{Idle, Within, Perhaps}
 use Rattle.plan_code.specs.declared.instr.Instr.{Instr}
-use Rattle.plan_code.specs.declared.instr.Instr.TheVariants.{Wait, Until, WaitContact, CommitIn, CommitAt, Join, Settle, End, Edit, Test, Jump, Set, Loop}
+use Rattle.plan_code.specs.declared.instr.Instr.TheVariants.{Wait, Until, WaitContact, WaitAny, CommitIn, CommitAt, Join, Settle, End, Edit, Test, TestTime, Jump, Set, Loop}
 use Rattle.plan_flow.specs.Rules.{known_after_swap, after_wait, perhaps_swapped, after_pause, after_settle, spent, rested, leaves}
 use Rattle.plan_flow.specs.Flows.{Flow, known_with, known_at, flow_of, after_instr, set_after, left_over}
 
@@ -46,6 +46,7 @@ pub leaves_known : (plan : Plan) (i : Instr) (f : Flow) (c : Counters) (a : ℕ)
 leaves_known plan (Wait frames) f c a = waited_known plan frames f.pending f c a
 leaves_known plan (Until day) f c a = paused_known plan f.pending f c a
 leaves_known plan (WaitContact contact closed) f c a = paused_known plan f.pending f c a
+leaves_known plan (WaitAny closed opened until frames) f c a = paused_known plan f.pending f c a
 leaves_known plan (CommitIn delay) f c a = refl
 leaves_known plan (CommitAt count) f c a = refl
 leaves_known plan Join f c a = refl
@@ -53,6 +54,7 @@ leaves_known plan Settle f c a = settled_known f.pending f c a
 leaves_known plan End f c a = refl
 leaves_known plan (Edit edit) f c a = refl
 leaves_known plan (Test contact target) f c a = refl
+leaves_known plan (TestTime from to target) f c a = refl
 leaves_known plan (Jump target) f c a = refl
 leaves_known plan (Set counter times) f c a = refl
 leaves_known plan (Loop counter target) f c a = refl

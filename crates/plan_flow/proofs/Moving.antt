@@ -6,7 +6,7 @@ use Rattle.plan_code.specs.declared.plan.Plan.{Plan}
 use Rattle.plan_code.specs.declared.label.Swap.{Swap}
 use Rattle.plan_code.specs.declared.label.Swap.TheVariants.{Idle, Within, Perhaps}
 use Rattle.plan_code.specs.declared.instr.Instr.{Instr}
-use Rattle.plan_code.specs.declared.instr.Instr.TheVariants.{Wait, Until, WaitContact, CommitIn, CommitAt, Join, Settle, End, Edit as Edits, Test, Jump, Set, Loop}
+use Rattle.plan_code.specs.declared.instr.Instr.TheVariants.{Wait, Until, WaitContact, WaitAny, CommitIn, CommitAt, Join, Settle, End, Edit as Edits, Test, TestTime, Jump, Set, Loop}
 use Rattle.plan_flow.specs.declared.indices.IndexedFlow.{IndexedFlow}
 use Rattle.plan_flow.specs.declared.indices.Indices.{Indices}
 use Rattle.plan_flow.specs.Rules.{Known, FitsSwap, known_after_swap, after_wait, after_pause, after_settle}
@@ -61,9 +61,11 @@ tracked_after plan (CommitAt count) table k t h = h
 tracked_after plan (Wait frames) table k t h = waited table k frames t.pending (known_at t) h
 tracked_after plan (Until day) table k t h = paused table k t.pending (known_at t) h
 tracked_after plan (WaitContact contact closed) table k t h = paused table k t.pending (known_at t) h
+tracked_after plan (WaitAny closed opened until frames) table k t h = paused table k t.pending (known_at t) h
 tracked_after plan Join table k t h = (h.1, h.1)
 tracked_after plan Settle table k t h = settled table k t.pending (known_at t) refl h
 tracked_after plan (Test contact target) table k t h = h
+tracked_after plan (TestTime from to target) table k t h = h
 tracked_after plan (Jump target) table k t h = h
 tracked_after plan (Loop counter target) table k t h = h
 tracked_after plan (Set counter times) table k t h = h

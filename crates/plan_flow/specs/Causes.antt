@@ -7,7 +7,7 @@ use Rattle.fib_codec.specs.Layouts.{layout_mode}
 use Rattle.plan_code.specs.declared.plan.Plan.{Plan}
 use Rattle.plan_code.specs.declared.label.Swap.TheVariants.{Idle}
 use Rattle.plan_code.specs.declared.instr.Instr.{Instr}
-use Rattle.plan_code.specs.declared.instr.Instr.TheVariants.{Wait, Until, WaitContact, CommitIn, CommitAt, Join, Settle, End, Edit as Edits, Test, Jump, Set, Loop}
+use Rattle.plan_code.specs.declared.instr.Instr.TheVariants.{Wait, Until, WaitContact, WaitAny, CommitIn, CommitAt, Join, Settle, End, Edit as Edits, Test, TestTime, Jump, Set, Loop}
 use Rattle.plan_code.specs.Machine.{IsSwapCount}
 use Rattle.plan_flow.specs.declared.cause.Cause.{Cause}
 use Rattle.plan_flow.specs.declared.cause.Cause.TheVariants.{Edit as OfEdit, Config as OfConfig, Pending, NoChange, Notice, Count, JoinIdle, SwapUncertain, Round}
@@ -47,9 +47,11 @@ FlowRefused plan (CommitAt count) t = CommitRefused plan t (IsSwapCount (layout_
 FlowRefused plan (Wait frames) t = Where (IsCertain frames t.pending → ⊥) SwapUncertain
 FlowRefused plan (Until day) t = λ given. ⊥
 FlowRefused plan (WaitContact contact closed) t = λ given. ⊥
+FlowRefused plan (WaitAny closed opened until frames) t = λ given. ⊥
 FlowRefused plan Join t = Where (IsSurelyPending t.pending → ⊥) JoinIdle
 FlowRefused plan Settle t = λ given. ⊥
 FlowRefused plan (Test contact target) t = λ given. ⊥
+FlowRefused plan (TestTime from to target) t = λ given. ⊥
 FlowRefused plan (Jump target) t = λ given. ⊥
 FlowRefused plan (Loop counter target) t = λ given. ⊥
 FlowRefused plan (Set counter times) t = λ given. ⊥

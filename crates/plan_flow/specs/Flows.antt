@@ -6,7 +6,7 @@ use Rattle.plan_code.specs.declared.flags.Counters.{Counters}
 use Rattle.plan_code.specs.declared.label.Swap.{Swap}
 use Rattle.plan_code.specs.declared.label.Swap.TheVariants.{Idle, Within, Perhaps}
 use Rattle.plan_code.specs.declared.instr.Instr.{Instr}
-use Rattle.plan_code.specs.declared.instr.Instr.TheVariants.{Wait, Until, WaitContact, Join, Set, Loop}
+use Rattle.plan_code.specs.declared.instr.Instr.TheVariants.{Wait, Until, WaitContact, WaitAny, Join, Set, Loop}
 use Rattle.plan_code.specs.Flags.{is_set, with_counter, without_counter}
 use Rattle.plan_flow.specs.declared.flow.Flow.{Flow as FlowIn}
 use Rattle.plan_flow.specs.Rules.{Known, leaves, FitsSwap}
@@ -54,6 +54,7 @@ abbrev pub rests : Instr → Bool
 rests (Wait frames) = true
 rests (Until day) = true
 rests (WaitContact contact closed) = true
+rests (WaitAny closed opened until frames) = true
 rests Join = true
 rests _ = false
 

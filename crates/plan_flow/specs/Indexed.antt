@@ -3,7 +3,7 @@ use Rattle.std.specs.Prelude.{◌≡◌, ℕ, ◌<◌, ◌&&◌, Bool, not, if�
 use Rattle.mux_config.specs.Configuration.{Configuration, nothing}
 use Rattle.plan_code.specs.declared.label.Swap.{Swap}
 use Rattle.plan_code.specs.declared.instr.Instr.{Instr}
-use Rattle.plan_code.specs.declared.instr.Instr.TheVariants.{Edit as Edits, Join, Wait, Until, WaitContact, Settle}
+use Rattle.plan_code.specs.declared.instr.Instr.TheVariants.{Edit as Edits, Join, Wait, Until, WaitContact, WaitAny, Settle}
 use Rattle.plan_flow.specs.declared.indices.IndexedFlow.{IndexedFlow}
 use Rattle.plan_flow.specs.declared.indices.Indices.{Indices}
 use Rattle.plan_flow.specs.declared.tracked.TrackedFlow.{TrackedFlow}
@@ -58,6 +58,7 @@ indices_after Join before after k = swapped_indices k
 indices_after (Wait frames) before after k = moved_indices before after k
 indices_after (Until day) before after k = moved_indices before after k
 indices_after (WaitContact contact closed) before after k = moved_indices before after k
+indices_after (WaitAny closed opened until frames) before after k = moved_indices before after k
 indices_after Settle before after k = moved_indices before after k
 indices_after _ before after k = k
 

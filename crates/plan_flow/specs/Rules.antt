@@ -12,7 +12,7 @@ use Rattle.plan_code.specs.declared.flags.Counters.{Counters}
 use Rattle.plan_code.specs.declared.label.Swap.{Swap}
 use Rattle.plan_code.specs.declared.label.Swap.TheVariants.{Idle, Within, Perhaps}
 use Rattle.plan_code.specs.declared.instr.Instr.{Instr}
-use Rattle.plan_code.specs.declared.instr.Instr.TheVariants.{Wait, Until, WaitContact, CommitIn, CommitAt, Join, Settle, End, Edit as Edits, Test, Jump, Set, Loop}
+use Rattle.plan_code.specs.declared.instr.Instr.TheVariants.{Wait, Until, WaitContact, WaitAny, CommitIn, CommitAt, Join, Settle, End, Edit as Edits, Test, TestTime, Jump, Set, Loop}
 use Rattle.plan_code.specs.Flags.{is_set, with_counter, without_counter}
 use Rattle.plan_code.specs.Machine.{IsSwapCount}
 
@@ -73,11 +73,13 @@ IsFine plan (CommitAt count) t = CanCommit plan t × IsSwapCount (layout_mode pl
 IsFine plan (Wait frames) t = IsCertain frames t.pending
 IsFine plan (Until day) t = Unit {0}
 IsFine plan (WaitContact contact closed) t = Unit {0}
+IsFine plan (WaitAny closed opened until frames) t = Unit {0}
 IsFine plan Join t = IsSurelyPending t.pending
 IsFine plan Settle t = Unit {0}
 IsFine plan (Loop counter target) t = is_set t.counters counter ≡ true
 IsFine plan (Set counter times) t = Unit {0}
 IsFine plan (Test contact target) t = Unit {0}
+IsFine plan (TestTime from to target) t = Unit {0}
 IsFine plan (Jump target) t = Unit {0}
 IsFine plan End t = Unit {0}
 
@@ -127,11 +129,13 @@ leaves plan (CommitAt count) t = spent (record t { pending = Within plan.notice 
 leaves plan (Wait frames) t = rested plan (after_wait frames t.pending t)
 leaves plan (Until day) t = rested plan (after_pause t.pending t)
 leaves plan (WaitContact contact closed) t = rested plan (after_pause t.pending t)
+leaves plan (WaitAny closed opened until frames) t = rested plan (after_pause t.pending t)
 leaves plan Join t = rested plan (known_after_swap t)
 leaves plan Settle t = spent (after_settle t.pending t)
 leaves plan (Set counter times) t = spent (record t { counters = with_counter counter t.counters })
 leaves plan (Loop counter target) t = spent (record t { counters = without_counter counter t.counters })
 leaves plan (Test contact target) t = spent t
+leaves plan (TestTime from to target) t = spent t
 leaves plan (Jump target) t = spent t
 leaves plan End t = spent t
 
@@ -164,6 +168,7 @@ commits _ = false
 -- its jump target; a jump changes nothing, so a loop's counter is still set there
 abbrev pub target_of : Instr → Option ℕ
 target_of (Test contact target) = Some target
+target_of (TestTime from to target) = Some target
 target_of (Jump target) = Some target
 target_of (Loop counter target) = Some target
 target_of _ = None
@@ -179,6 +184,7 @@ abbrev pub suspends : Instr → Bool
 suspends (Wait frames) = true
 suspends (Until day) = true
 suspends (WaitContact contact closed) = true
+suspends (WaitAny closed opened until frames) = true
 suspends Join = true
 suspends End = true
 suspends _ = false

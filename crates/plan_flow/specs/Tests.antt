@@ -11,7 +11,7 @@ use Rattle.plan_code.specs.declared.plan.Plan.{Plan}
 use Rattle.plan_code.specs.declared.label.Swap.{Swap}
 use Rattle.plan_code.specs.declared.label.Swap.TheVariants.{Idle, Within, Perhaps}
 use Rattle.plan_code.specs.declared.instr.Instr.{Instr}
-use Rattle.plan_code.specs.declared.instr.Instr.TheVariants.{Wait, CommitIn, CommitAt, Join, Edit as Edits, Until, WaitContact, Settle, Test, Jump, Loop, Set, End}
+use Rattle.plan_code.specs.declared.instr.Instr.TheVariants.{Wait, CommitIn, CommitAt, Join, Edit as Edits, Until, WaitContact, WaitAny, Settle, Test, TestTime, Jump, Loop, Set, End}
 use Rattle.plan_flow.specs.declared.fitting.Condition.{Condition}
 use Rattle.plan_flow.specs.declared.fitting.Condition.TheVariants.{Never, Both, NextTwice}
 use Rattle.plan_flow.specs.declared.cause.Cause.{Cause}
@@ -111,9 +111,11 @@ flow_cause plan (CommitAt count) t = commit_cause plan t (not (is_swap_count pla
 flow_cause plan (Wait frames) t = cause_if (not (is_certain frames t.pending)) SwapUncertain
 flow_cause plan (Until day) t = None
 flow_cause plan (WaitContact contact closed) t = None
+flow_cause plan (WaitAny closed opened until frames) t = None
 flow_cause plan Join t = cause_if (not (is_surely_pending t.pending)) JoinIdle
 flow_cause plan Settle t = None
 flow_cause plan (Test contact target) t = None
+flow_cause plan (TestTime from to target) t = None
 flow_cause plan (Jump target) t = None
 flow_cause plan (Loop counter target) t = None
 flow_cause plan (Set counter times) t = None

@@ -87,8 +87,10 @@ fn run<S: Store>(plan: &Plan, instr: Instr, flow: &mut Flow<S>) -> Result<(), Ca
         Instr::Join => return join(plan, flow),
         Instr::Until(_) => pause(flow),
         Instr::WaitContact { .. } => pause(flow),
+        Instr::WaitAny { .. } => pause(flow),
         Instr::Settle => settle(flow),
         Instr::Test { .. } => {}
+        Instr::TestTime { .. } => {}
         Instr::Jump(_) => {}
         Instr::Loop { .. } => {}
         Instr::Set { .. } => {}

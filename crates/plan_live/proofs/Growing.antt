@@ -1,5 +1,5 @@
 -- A list that grows, and then grows by more.
-use Rattle.std.proofs.Common.{◌≡◌, List, [], ◌++◌, Option, None, Some, sym, ap, subst, ◌∙◌, append_assoc, append-nil}
+use Rattle.std.proofs.Common.{List, [], ◌++◌, Option, None, Some, sym, ap, ◌∙◌, append_assoc, append-nil}
 use Rattle.plan_live.specs.Growing.{Grows}
 
 pub grows_more : {A : Type 0} (a b c : Option (List A)) (xs ys : List A) → Grows a b xs → Grows b c ys → Grows a c (xs ++ ys)
@@ -11,9 +11,3 @@ grows_more {A} (Some x) (Some y) (Some z) xs ys p q = q ∙ ap (λ (l : List A).
 pub grows_none : {A : Type 0} (a : Option (List A)) → Grows a a []
 grows_none None = tt
 grows_none (Some x) = sym (append-nil x)
-
-pub grows_same : {A : Type 0} (a b : Option (List A)) → b ≡ a → Grows a b []
-grows_same {A} a b same = subst (λ (o : Option (List A)). Grows a o []) (sym same) (grows_none a)
-
-pub grows_as : {A : Type 0} (a b : Option (List A)) (xs ys : List A) → xs ≡ ys → Grows a b xs → Grows a b ys
-grows_as {A} a b xs ys e p = subst (λ (l : List A). Grows a b l) e p

@@ -7,16 +7,13 @@ use Rattle.plan_code.specs.Machine.{State}
 use Rattle.plan_runs.specs.declared.event.Event.{Event}
 use Rattle.plan_runs.specs.declared.event.Event.TheVariants.{Contact, Frame}
 use Rattle.plan_runs.specs.Frames.{frame_steps, after_frame}
-use Rattle.plan_runs.specs.Runs.{happens, run, run_frames}
+use Rattle.plan_runs.specs.Runs.{happens, run}
 use Rattle.plan_runs.proofs.Joined.{state_joins, runs_join}
 use Rattle.plan_player.specs.Playing.{Playing, last_steps, played}
 use Rattle.plan_player.specs.Delivery.{frames_of}
 use Rattle.plan_session.specs.declared.step.Step.{Step}
 use Rattle.plan_session.specs.Events.{events_of_step, events_of}
-use Rattle.plan_live.specs.declared.options.Wanted.{Wanted}
-use Rattle.plan_live.specs.declared.message.Message.{Message}
 use Rattle.plan_live.specs.Living.{kept_bytes}
-use Rattle.plan_live.specs.Notes.{wanted_notes, notes}
 
 -- ---- the player and its frames
 
@@ -70,30 +67,6 @@ kept_from skip p q n m xs ys state count =
     ap (λ (x : Playing). kept_bytes (skip - n) p xs ++ kept_bytes (skip - m) x ys) state
     ∙ ap (λ (k : ℕ). kept_bytes (skip - n) p xs ++ kept_bytes k (played p xs) ys) left
     ∙ sym (kept_join (skip - n) p xs ys)
-
--- ---- the notes
-
-notes_join : (wanted : Wanted) (n : ℕ) (p : Program) (s : State) (xs ys : List Event)
-    → notes wanted n p s (xs ++ ys) ≡ notes wanted n p s xs ++ notes wanted (n + length (run_frames p s xs)) p (run p s xs) ys
-notes_join wanted n p s [] ys =
-    let same : n ≡ n + 0 = omega arith in
-    ap (λ (k : ℕ). notes wanted k p s ys) same
-notes_join wanted n p s (Contact c closed ∷ xs) ys = notes_join wanted n p (happens p s (Contact c closed)) xs ys
-notes_join wanted n p s (Frame ∷ xs) ys =
-    let t : State = after_frame p s in
-    let count : (n + 1) + length (run_frames p t xs) ≡ n + suc (length (run_frames p t xs)) = omega arith in
-    ap (λ (l : List Message). wanted_notes wanted n p s ++ l) (notes_join wanted (n + 1) p t xs ys ∙ ap (λ (k : ℕ). notes wanted (n + 1) p t xs ++ notes wanted k p (run p t xs) ys) count)
-    ∙ sym (append_assoc (wanted_notes wanted n p s) (notes wanted (n + 1) p t xs) (notes wanted (n + suc (length (run_frames p t xs))) p (run p t xs) ys))
-
-pub notes_none : (wanted : Wanted) (n : ℕ) (p : Program) (s : State) → notes wanted n p s [] ≡ []
-notes_none wanted n p s = refl
-
-pub notes_from : (wanted : Wanted) (p q : Playing) (n m : ℕ) (xs ys : List Event) → q ≡ played p xs → m ≡ n + length (frames_of p xs)
-    → notes wanted n p.code p.state xs ++ notes wanted m q.code q.state ys ≡ notes wanted n p.code p.state (xs ++ ys)
-notes_from wanted p q n m xs ys state count =
-    ap (λ (x : Playing). notes wanted n p.code p.state xs ++ notes wanted m x.code x.state ys) state
-    ∙ ap (λ (k : ℕ). notes wanted n p.code p.state xs ++ notes wanted k p.code (run p.code p.state xs) ys) count
-    ∙ sym (notes_join wanted n p.code p.state xs ys)
 
 -- ---- the events of steps
 

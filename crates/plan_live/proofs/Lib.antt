@@ -3,12 +3,8 @@ mod Growing
 mod Joining
 mod Lines
 mod OneFile
-mod Reading
-mod Starts
 mod Steps
 mod Vectors
 mod VectorsOfGoing
-mod VectorsOfMessages
 mod VectorsOfOneFile
 mod VectorsOfRuns
-mod VectorsOfWords

@@ -1,23 +1,17 @@
 -- The lines of a live run list their steps one after another, and so does one event file with just these lines.
-use Rattle.std.proofs.Common.{◌≡◌, ◌⊎◌, inl, inr, ℕ, ◌+◌, ◌≤◌, List, [], ◌∷◌, ◌++◌, length, Option, Some, None, refl, sym, ap, subst, ◌∙◌, arith, append_assoc, append-nil, length-append}
+use Rattle.std.proofs.Common.{◌≡◌, ◌⊎◌, inl, inr, ℕ, ◌≤◌, List, [], ◌∷◌, ◌++◌, length, Option, Some, None, refl, sym, ap, subst, ◌∙◌, arith, append_assoc, append-nil, length-append}
 use Rattle.std.specs.Prelude.{IfSome}
 use Rattle.std.specs.List.{AllByRecursion}
 use Rattle.std.specs.Io.KnownBytes.{Appends, IsAtEnd}
 use Rattle.console.specs.Lines.{HasNoFeed, with_feeds, LacksLastFeed, AreLinesOf, lines_of, BytesHaveLines, GivesLines}
 use Rattle.script_tokens.specs.Lexing.{lexed}
-use Rattle.plan_player.specs.Playing.{Playing, played}
-use Rattle.plan_player.specs.Delivery.{frames_of}
+use Rattle.plan_player.specs.Playing.{Playing}
 use Rattle.plan_session.specs.declared.step.Step.{Step}
 use Rattle.plan_session.specs.Events.{IsStep, step_lexemes, Holds, HoldsOneList, events_of}
-use Rattle.plan_session.specs.Playback.{Request, IsPlayback}
-use Rattle.plan_live.specs.declared.message.LineFault.{LineFault}
-use Rattle.plan_live.specs.declared.message.LineFault.TheVariants.{Limit, NoText, Byte, Number, Expected}
-use Rattle.plan_live.specs.declared.message.Message.{Message}
-use Rattle.plan_live.specs.declared.options.Wanted.{Wanted}
-use Rattle.plan_live.specs.Beginning.{Begins}
-use Rattle.plan_live.specs.Lines.{LineHolds, IsLineFault, LineDoes, LinesDo}
+use Rattle.plan_session.specs.Playback.{Request, Begins, IsPlayback}
+use Rattle.plan_live.specs.Lines.{LineHolds, LineDoes, LinesDo}
 use Rattle.plan_live.specs.Living.{kept_bytes}
-use Rattle.plan_live.specs.OneFile.{ListsNone, AreListing, ListInTurn, Fits, LinesListInTurn, over, LiveIsPlayback, InputIsPlayback}
+use Rattle.plan_live.specs.OneFile.{AreListing, ListInTurn, Fits, LinesListInTurn, over, LiveIsPlayback, InputIsPlayback}
 use Rattle.plan_session.proofs.JoinedTexts.{holds_joined}
 
 -- ---- one event file
@@ -70,38 +64,29 @@ lines_list_in_turn lines steps text h are short = either_way lines steps text h 
 
 -- ---- the lines that list steps
 
-none_by : (line : List ℕ) (fault : LineFault) → IsLineFault line fault → ListsNone line
-none_by line Limit long = λ steps h. let short = h.short in absurd (omega (arith, long, short))
-none_by line NoText h = λ steps k. h.1 k.text
-none_by line (Byte column) h = λ steps k. h.2.none steps k.holds
-none_by line (Number column) h = λ steps k. h.2.none steps k.holds
-none_by line (Expected column) h = λ steps k. h.2.none steps k.holds
-
 -- those of the lines that list steps
 record Listing (lines : List (List ℕ)) (steps : List Step) : Type 0 where
   listing : List (List ℕ)
   those : AreListing lines listing
   in_turn : ListInTurn listing steps
 
-listing_more : (wanted : Wanted) (p : Playing) (n number : ℕ) (line : List ℕ) (lines : List (List ℕ)) (first rest steps : List Step) (front : List Message)
-    → LineDoes wanted p n number line first front → steps ≡ first ++ rest → Listing lines rest → Listing (line ∷ lines) steps
-listing_more wanted p n number line lines first rest steps front (inl here) cut l = record {
+listing_more : (line : List ℕ) (lines : List (List ℕ)) (first rest steps : List Step) → LineDoes line first → steps ≡ first ++ rest → Listing lines rest → Listing (line ∷ lines) steps
+listing_more line lines first rest steps (inl here) cut l = record {
   listing = line ∷ l.listing;
-  those = inl (first, l.listing, here.0, refl, l.those);
-  in_turn = (first, rest, here.0, cut, l.in_turn);
+  those = inl (first, l.listing, here, refl, l.those);
+  in_turn = (first, rest, here, cut, l.in_turn);
 }
-listing_more wanted p n number line lines first rest steps front (inr bad) cut l =
-    let all : steps ≡ rest = cut ∙ ap (λ (s : List Step). s ++ rest) bad.2 in
+listing_more line lines first rest steps (inr bad) cut l =
+    let all : steps ≡ rest = cut ∙ ap (λ (s : List Step). s ++ rest) bad.1 in
     record {
       listing = l.listing;
-      those = inr (none_by line bad.0 bad.1, l.those);
+      those = inr (bad.0, l.those);
       in_turn = subst (λ (s : List Step). ListInTurn l.listing s) (sym all) l.in_turn;
     }
 
-listing_of : (wanted : Wanted) (p : Playing) (n number : ℕ) (lines : List (List ℕ)) (steps : List Step) (reported : List Message) → LinesDo wanted p n number lines steps reported → Listing lines steps
-listing_of wanted p n number [] steps reported h = record { listing = []; those = refl; in_turn = h.0 }
-listing_of wanted p n number (line ∷ lines) steps reported (first, rest, front, back, cut, parts, here, others) =
-    listing_more wanted p n (number + 1) line lines first rest steps front here cut (listing_of wanted (played p (events_of first)) (n + length (frames_of p (events_of first))) (number + 1) lines rest back others)
+listing_of : (lines : List (List ℕ)) (steps : List Step) → LinesDo lines steps → Listing lines steps
+listing_of [] steps h = record { listing = []; those = refl; in_turn = h }
+listing_of (line ∷ lines) steps (first, rest, cut, here, others) = listing_more line lines first rest steps here cut (listing_of lines rest others)
 
 -- ---- such a file exists
 
@@ -133,8 +118,8 @@ playback_of r p steps text h holds = record {
 }
 
 pub live_is_playback : BytesHaveLines → LiveIsPlayback
-live_is_playback law r wanted p old new begins (lines, reached, ended) =
-    let l : Listing lines reached.steps = listing_of wanted p 0 0 lines reached.steps reached.messages reached.does in
+live_is_playback law r p old new begins (lines, reached, ended) =
+    let l : Listing lines reached.steps = listing_of lines reached.steps reached.does in
     record {
       lines = lines;
       listing = l.listing;
@@ -150,15 +135,13 @@ live_is_playback law r wanted p old new begins (lines, reached, ended) =
 -- ---- the whole input
 
 -- lines that all list steps have the steps that they list
-same_steps : HoldsOneList → (wanted : Wanted) (p : Playing) (n number : ℕ) (lines : List (List ℕ)) (steps others : List Step) (reported : List Message)
-    → LinesDo wanted p n number lines steps reported → ListInTurn lines others → steps ≡ others
-same_steps law wanted p n number [] steps others reported h k = h.0 ∙ sym k
-same_steps law wanted p n number (line ∷ lines) steps others reported (first, rest, front, back, cut, parts, inl here, later) (one, more, holds, is, all) =
-    let same : first ≡ one = law line first one here.0.holds holds.holds in
-    let further : rest ≡ more = same_steps law wanted (played p (events_of first)) (n + length (frames_of p (events_of first))) (number + 1) lines rest more back later all in
+same_steps : HoldsOneList → (lines : List (List ℕ)) (steps others : List Step) → LinesDo lines steps → ListInTurn lines others → steps ≡ others
+same_steps law [] steps others h k = h ∙ sym k
+same_steps law (line ∷ lines) steps others (first, rest, cut, inl here, later) (one, more, holds, is, all) =
+    let same : first ≡ one = law line first one here.holds holds.holds in
+    let further : rest ≡ more = same_steps law lines rest more later all in
     cut ∙ ap (λ (s : List Step). s ++ rest) same ∙ ap (λ (s : List Step). one ++ s) further ∙ sym is
-same_steps law wanted p n number (line ∷ lines) steps others reported (first, rest, front, back, cut, parts, inr bad, later) (one, more, holds, is, all) =
-    absurd (none_by line bad.0 bad.1 one holds)
+same_steps law (line ∷ lines) steps others (first, rest, cut, inr bad, later) (one, more, holds, is, all) = absurd (bad.0 one holds)
 
 -- at the end of a known input all of its lines were read
 all_read : (input : List ℕ) (left after : Option (List ℕ)) (lines : List (List ℕ)) → left ≡ Some input → GivesLines left lines after → IsAtEnd after → lines_of input ≡ lines
@@ -169,10 +152,10 @@ all_read input (Some bytes) (Some rest) lines known given ended =
     ap (λ (l : List ℕ). lines_of l) (sym same) ∙ given ∙ ap (λ (l : List ℕ). lines ++ lines_of l) ended ∙ append-nil lines
 
 pub input_is_playback : BytesHaveLines → HoldsOneList → InputIsPlayback
-input_is_playback law one_list r wanted p old new input steps begins (lines, reached, ended) known list short =
+input_is_playback law one_list r p old new input steps begins (lines, reached, ended) known list short =
     let all : lines_of input ≡ lines = all_read input old.left new.left lines known reached.given ended in
     let same : reached.steps ≡ steps =
-    same_steps one_list wanted p 0 0 lines reached.steps steps reached.messages reached.does (subst (λ (ls : List (List ℕ)). ListInTurn ls steps) all list) in
+    same_steps one_list lines reached.steps steps reached.does (subst (λ (ls : List (List ℕ)). ListInTurn ls steps) all list) in
     let are : AreLinesOf input (lines_of input) = (law input (lines_of input)).1 refl in (
       playback_of r p steps input begins (lines_list_in_turn (lines_of input) steps input list are short),
       (refl, subst (λ (s : List Step). Appends old.written new.written (kept_bytes 0 p (events_of s))) same reached.out),

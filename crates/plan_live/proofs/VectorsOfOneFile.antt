@@ -10,13 +10,12 @@ use Rattle.plan_player.specs.Delivery.{played_bytes}
 use Rattle.plan_session.specs.declared.step.Step.{Step}
 use Rattle.plan_session.specs.declared.step.Step.TheVariants.{Frames}
 use Rattle.plan_session.specs.Events.{Holds, HoldsOneList, events_of}
-use Rattle.plan_session.specs.Playback.{Request}
-use Rattle.plan_live.specs.Beginning.{Begins}
+use Rattle.plan_session.specs.Playback.{Request, Begins}
 use Rattle.plan_live.specs.Lines.{LineHolds}
 use Rattle.plan_live.specs.Living.{Streamed, streamed, kept_bytes}
-use Rattle.plan_live.specs.OneFile.{ListsNone, AreListing, ListInTurn, Fits, over, IsPlayedAs}
+use Rattle.plan_live.specs.OneFile.{AreListing, ListInTurn, Fits, over, IsPlayedAs}
 use Rattle.plan_live.proofs.OneFile.{lines_list_in_turn, playback_of}
-use Rattle.plan_live.proofs.Vectors.{fresh, frames, two_frames, two_are_held, only_two, at_sign, no_steps, end_told}
+use Rattle.plan_live.proofs.Vectors.{fresh, frames, two_frames, two_are_held, only_two, at_sign, no_steps, some_steps}
 
 -- ---- the lines that list steps
 
@@ -38,12 +37,6 @@ two_are_held_with_it =
       };
     }
 
-at_lists_none : ListsNone at_sign
-at_lists_none = λ steps h. no_steps.none steps h.holds
-
-two_list_some : ListsNone two_frames → ⊥
-two_list_some h = h (Frames 2 ∷ []) two_are_held
-
 abbrev three : List (List ℕ)
 three = with_return ∷ at_sign ∷ two_frames ∷ []
 
@@ -51,23 +44,23 @@ abbrev good : List (List ℕ)
 good = with_return ∷ two_frames ∷ []
 
 those_are_listing : AreListing three good
-those_are_listing = inl (Frames 2 ∷ [], two_frames ∷ [], two_are_held_with_it, refl, inr (at_lists_none, inl (Frames 2 ∷ [], [], two_are_held, refl, refl)))
+those_are_listing = inl (Frames 2 ∷ [], two_frames ∷ [], two_are_held_with_it, refl, inr (no_steps, inl (Frames 2 ∷ [], [], two_are_held, refl, refl)))
 
 -- a line that lists steps is left out
 one_is_left_out : AreListing (two_frames ∷ []) [] → ⊥
 one_is_left_out (inl (steps, others, holds, is, rest)) = let n : 0 ≡ length (two_frames ∷ others) = ap (λ (l : List (List ℕ)). length l) is in omega (arith, n)
-one_is_left_out (inr h) = two_list_some h.0
+one_is_left_out (inr h) = some_steps h.0
 
 -- a line that lists none is taken
 bad_is_taken : AreListing (at_sign ∷ []) (at_sign ∷ []) → ⊥
-bad_is_taken (inl (steps, others, holds, is, rest)) = at_lists_none steps holds
+bad_is_taken (inl (steps, others, holds, is, rest)) = no_steps steps holds
 bad_is_taken (inr h) = let n : 1 ≡ 0 = ap (λ (l : List (List ℕ)). length l) h.1 in omega (arith, n)
 
 twice : ListInTurn good (Frames 2 ∷ Frames 2 ∷ [])
 twice = (Frames 2 ∷ [], Frames 2 ∷ [], two_are_held_with_it, refl, (Frames 2 ∷ [], [], two_are_held, refl, refl))
 
 bad_in_turn : (steps : List Step) → ListInTurn (at_sign ∷ []) steps → ⊥
-bad_in_turn steps (first, rest, holds, cut, none) = at_lists_none first holds
+bad_in_turn steps (first, rest, holds, cut, none) = no_steps first holds
 
 -- ---- one event file
 
@@ -109,10 +102,10 @@ abbrev input : List ℕ
 input = two_frames ++ 10 ∷ []
 
 abbrev before : Streamed
-before = streamed (Some input) (Some []) (Some [])
+before = streamed (Some input) (Some [])
 
 abbrev after : Streamed
-after = streamed (Some []) (Some (kept_bytes 0 fresh (frames 2))) (Some end_told)
+after = streamed (Some []) (Some (kept_bytes 0 fresh (frames 2)))
 
 in_turn : ListInTurn one (Frames 2 ∷ [])
 in_turn = (Frames 2 ∷ [], [], two_are_held, refl, refl)
@@ -137,14 +130,14 @@ played_as r begins = record {
 }
 
 steps_of_one : HoldsOneList → (listing : List (List ℕ)) (steps : List Step) → AreListing one listing → ListInTurn listing steps → steps ≡ Frames 2 ∷ []
-steps_of_one law listing steps (inr h) k = absurd (two_list_some h.0)
+steps_of_one law listing steps (inr h) k = absurd (some_steps h.0)
 steps_of_one law listing steps (inl (more, others, holds, is, rest)) k =
     let all : listing ≡ one = is ∙ ap (λ (l : List (List ℕ)). two_frames ∷ l) rest in
     let list : ListInTurn one steps = subst (λ (l : List (List ℕ)). ListInTurn l steps) all k in
     list.3 ∙ ap (λ (s : List Step). s ++ list.1) (only_two law list.0 list.2) ∙ ap (λ (s : List Step). Frames 2 ∷ s) list.4
 
 -- nothing was written
-nothing_written : HoldsOneList → (r : Request) → IsPlayedAs r fresh before (streamed (Some []) (Some []) (Some [])) → ⊥
+nothing_written : HoldsOneList → (r : Request) → IsPlayedAs r fresh before (streamed (Some []) (Some [])) → ⊥
 nothing_written law r h =
     let all : h.lines ≡ one = sym (append-nil h.lines) ∙ sym h.given in
     let steps : h.steps ≡ Frames 2 ∷ [] = steps_of_one law h.listing h.steps (subst (λ (l : List (List ℕ)). AreListing l h.listing) all h.those) h.in_turn in

@@ -3,8 +3,5 @@ pub mod Going
 pub mod Growing
 pub mod Lines
 pub mod Living
-pub mod Looking
-pub mod Messages
-pub mod Notes
 pub mod OneFile
 pub mod Streaming

@@ -5,16 +5,11 @@ use Rattle.plan_player.specs.Playing.{Playing}
 use Rattle.plan_player.specs.Delivery.{frames_of}
 use Rattle.plan_session.specs.declared.step.Step.{Step}
 use Rattle.plan_session.specs.Events.{Holds, events_of}
-use Rattle.plan_session.specs.Playback.{Request, IsPlayback, Delivers}
-use Rattle.plan_live.specs.declared.options.Wanted.{Wanted}
-use Rattle.plan_live.specs.Beginning.{Begins}
-use Rattle.plan_live.specs.Lines.{LineHolds}
-use Rattle.plan_live.specs.Living.{Streamed, Whole, most}
+use Rattle.plan_session.specs.Playback.{Request, Begins, IsPlayback, Delivers}
+use Rattle.plan_live.specs.Lines.{LineHolds, ListsNone}
+use Rattle.plan_live.specs.Living.{Streamed, Whole}
 
 -- ---- the lines that list steps
-
-abbrev pub ListsNone : List ℕ → Type 0
-ListsNone line = (steps : List Step) → LineHolds line steps → ⊥
 
 -- these are those of the lines that list steps, in order
 abbrev pub AreListing : (lines listing : List (List ℕ)) → Type 0
@@ -32,7 +27,7 @@ ListInTurn (line ∷ lines) steps = (first : List Step) × (rest : List Step) ×
 
 -- a text that fits into memory has at most 2^64 - 1 bytes
 abbrev pub Fits : List ℕ → Type 0
-Fits text = length text ≤ most
+Fits text = length text ≤ 18446744073709551615
 
 -- a text lists the steps that its lines list, one after another, if each of them lists some; its last line may end
 -- without a line feed
@@ -61,10 +56,10 @@ pub record IsPlayedAs (r : Request) (p : Playing) (old new : Streamed) : Type 0 
 
 -- a live run to the end of its input that skips nothing is the playback of one event file
 abbrev pub LiveIsPlayback : Type 0
-LiveIsPlayback = (r : Request) (wanted : Wanted) (p : Playing) (old new : Streamed) → Begins r p → Whole 0 wanted p old new → IsPlayedAs r p old new
+LiveIsPlayback = (r : Request) (p : Playing) (old new : Streamed) → Begins r p → Whole 0 p old new → IsPlayedAs r p old new
 
 -- where each line of the input lists steps, the input is that event file
 abbrev pub InputIsPlayback : Type 0
-InputIsPlayback = (r : Request) (wanted : Wanted) (p : Playing) (old new : Streamed) (input : List ℕ) (steps : List Step) → Begins r p → Whole 0 wanted p old new
+InputIsPlayback = (r : Request) (p : Playing) (old new : Streamed) (input : List ℕ) (steps : List Step) → Begins r p → Whole 0 p old new
     → old.left ≡ Some input → ListInTurn (lines_of input) steps → Fits input
     → IsPlayback (over input r) p steps × Delivers p (events_of steps) old.written new.written (Ok (length (frames_of p (events_of steps))))

@@ -1,8 +1,8 @@
 //! Drives a player line by line.
 
-ghost use Rattle.std.specs.Prelude.{◌≡◌, ◌<◌, ◌≤◌, length, true, OnOk, IfErr};
-ghost use Rattle.plan_live.specs.Going.{TakesLine};
-ghost use Rattle.plan_live.specs.Living.{streams_at, Whole, StoppedBy, IsPrompt, HasFailed};
+ghost use Rattle.std.specs.Prelude.{◌≡◌, ◌≤◌, length, true, OnOk};
+ghost use Rattle.plan_live.specs.Going.{LineWent};
+ghost use Rattle.plan_live.specs.Living.{streams_at, Whole, IsPrompt};
 
 use crate::ends::Ends;
 use crate::fault::Stop;
@@ -28,12 +28,9 @@ fn take_line<'a, S: Store, E: Ends>(
 ) -> Result<(), Stop>
     requires short { length line.now ≤ 65536 }
     requires flushed { E.is_flushed ends.old ≡ true }
-    requires room { E.held ends.old < 64 }
-    ensures taken { let at = streams_at E.left E.written E.reported in
-        TakesLine options player.old made.old number line.now player.new made.new
-        (at ends.old) (at ends.new) result }
-    ensures failed { IfErr result (λ stop.
-        HasFailed stop (E.input_failed ends.new) (E.output_failed ends.new)) }
+    ensures went { let at = streams_at E.left E.written in OnOk result
+        (LineWent options.skip player.old made.old line.now player.new made.new
+        (at ends.old) (at ends.new)) }
     ensures moments { E.moments ends.new ≡ E.moments ends.old }
     ensures flushed { OnOk result (E.is_flushed ends.new ≡ true) }
 {
@@ -49,16 +46,18 @@ fn take_line<'a, S: Store, E: Ends>(
     }
 }
 
-/// Drives a player with the lines of an input to its end. The steps that a line lists are played before the next line
-/// is read: the bytes of their frames are written, except the first `skip` frames of the run, and flushed. A line that
-/// lists no steps does nothing and is reported. No more memory is allocated than the steps of one line need. Messages
-/// are delivered after the frames of their line; if they are too many to be held, the earlier ones after the frames up
-/// to there, which are flushed first. Those held when the run ends are left to the caller to release.
+/// Drives a player with the lines of an input to its end. The steps that a line lists are played
+/// before the next line is read: the bytes of their frames are written, except the first `skip`
+/// frames of the run, and flushed. A line that lists no steps does nothing and is reported. No more
+/// memory is allocated than the steps of one line need. Messages are delivered after the frames of
+/// their line; if they are too many to be held, the earlier ones after the frames up to there,
+/// which are flushed first. Those held when the run ends are left to the caller to release.
 ///
 /// # Errors
 ///
-/// `Write` if the output failed, with all that it took; `Memory` if out of memory for a line's steps; `Read`
-/// if the input failed; `TooMany` after 2^64 - 1 frames or lines. No line is read after it.
+/// `Write` if the output failed, with all that it took; `Memory` if out of memory for a line's
+/// steps; `Read` if the input failed; `TooMany` after 2^64 - 1 frames or lines. No line is read
+/// after it.
 pub fn drive<'a, S: Store, E: Ends>(
     alloc: Global,
     player: &mut Player<'a, S>,
@@ -66,16 +65,11 @@ pub fn drive<'a, S: Store, E: Ends>(
     ends: &mut E,
 ) -> Result<(), Stop>
     requires flushed { E.is_flushed ends.old ≡ true }
-    ensures whole { let at = streams_at E.left E.written E.reported in OnOk result
-        (Whole options.skip options.wanted player.old (at ends.old) (at ends.new)) }
-    ensures stopped { let at = streams_at E.left E.written E.reported in IfErr result (λ stop.
-        StoppedBy options.skip options.wanted player.old (at ends.old) (at ends.new) stop) }
-    ensures failed { IfErr result (λ stop.
-        HasFailed stop (E.input_failed ends.new) (E.output_failed ends.new)) }
+    ensures whole { let at = streams_at E.left E.written in OnOk result
+        (Whole options.skip player.old (at ends.old) (at ends.new)) }
     // Each time a line is requested, all lines before it have been processed.
-    ensures prompt { let at = streams_at E.left E.written E.reported in
-        IsPrompt options.skip options.wanted player.old (at ends.old)
-        (E.moments ends.old) (E.moments ends.new) }
+    ensures prompt { let at = streams_at E.left E.written in
+        IsPrompt options.skip player.old (at ends.old) (E.moments ends.old) (E.moments ends.new) }
 {
     let mut line = ArrayVec::new();
     let mut made = 0u64;

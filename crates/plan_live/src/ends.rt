@@ -1,9 +1,9 @@
 //! The three streams of a live run, as traits: lines in, bytes out, and messages.
 
-ghost use Rattle.std.specs.Prelude.{◌≡◌, ◌+◌, ◌<◌, ◌≤◌, ◌↔◌, ℕ, List, ◌∷◌, [], length, take, true, false, IsTrue, OnOk, OnErr, IfErr};
+ghost use Rattle.std.specs.Prelude.{◌≡◌, ◌<◌, ◌≤◌, ℕ, List, ◌∷◌, [], length, true, OnOk};
 ghost use Rattle.std.specs.Io.KnownBytes.{Appends, Keeps, IsAtEnd};
 ghost use Rattle.console.specs.Lines.{GivesLine};
-ghost use Rattle.console.specs.declared.lines.Heard.TheVariants.{Line as IsLine, Long as IsLong, End as IsEnd, Failed as IsFailed};
+ghost use Rattle.console.specs.declared.lines.Heard.TheVariants.{Line as IsLine, Long as IsLong, End as IsEnd};
 ghost use Rattle.plan_live.specs.Growing.{Grows};
 ghost use Rattle.plan_live.specs.Living.{streamed};
 
@@ -11,38 +11,24 @@ use crate::message::Message;
 use arrayvec::ArrayVec;
 use console::lines::Heard;
 
-/// A message sink, which holds up to 64 messages. A message that can't be delivered is lost.
+/// A message sink, which holds some messages, at least four. A message that can't be delivered is
+/// lost.
 pub trait Messages {
-    ghost use Rattle.std.specs.Prelude.{ℕ, ◌≡◌, ◌+◌, ◌<◌, ◌≤◌, ◌↔◌, IsTrue, List, Option};
-    ghost use Rattle.plan_live.specs.declared.message.Message.{Message};
-
-    /// The messages so far, if known.
-    ghost reported: { Self → Option (List Message) };
-
-    /// The number of messages that are held.
-    ghost held: { Self → ℕ };
-
     /// Whether four more messages can be held, the most of a frame.
-    fn has_room(&self) -> bool
-        ensures { IsTrue result ↔ (held self.now + 4 ≤ 64) };
+    fn has_room(&self) -> bool;
 
-    /// Holds a message until the next release.
-    fn report(&mut self, message: Message)
-        requires room { held self.old < 64 }
-        ensures reported { Grows (reported self.old) (reported self.new) (message ∷ []) }
-        ensures held { held self.new ≡ held self.old + 1 };
+    /// Holds a message until the next release. It is lost if there is no room.
+    fn report(&mut self, message: Message);
 
     /// Delivers all messages held, in order.
-    fn release(&mut self)
-        ensures reported { reported self.new ≡ reported self.old }
-        ensures none { held self.new ≡ 0 };
+    fn release(&mut self);
 }
 
-/// The three streams of a live run: an input of lines, an output of bytes, and a sink of messages. Messages are held,
-/// and neither are they delivered nor is a line read before the output is flushed.
+/// The three streams of a live run: an input of lines, an output of bytes, and a sink of messages.
+/// Messages are held, and neither are they delivered nor is a line read before the output is
+/// flushed.
 pub trait Ends {
     ghost use Rattle.std.specs.Prelude.{ℕ, List, Option, Bool};
-    ghost use Rattle.plan_live.specs.declared.message.Message.{Message};
     ghost use Rattle.plan_live.specs.Living.{Streamed};
 
     /// The remaining bytes of the input, if known.
@@ -51,26 +37,15 @@ pub trait Ends {
     /// The bytes that the output has taken, if known.
     ghost written: { Self → Option (List ℕ) };
 
-    /// The messages so far, if known.
-    ghost reported: { Self → Option (List Message) };
-
-    /// The number of messages that are held.
-    ghost held: { Self → ℕ };
-
     /// Whether the output is flushed.
     ghost is_flushed: { Self → Bool };
 
-    /// The remaining, written and reported items at each request for a line, if known.
+    /// The remaining and the written bytes at each request for a line, if known.
     ghost moments: { Self → Option (List Streamed) };
 
-    /// Whether the input could not be read.
-    ghost input_failed: { Self → Bool };
-
-    /// Whether a write to the output or a flush of it has failed.
-    ghost output_failed: { Self → Bool };
-
-    /// Delivers all messages held; then reads up to the next line feed and no byte further, and puts the line, without
-    /// its line feed, into `line`. With any result but `Line` the content of `line` is unspecified.
+    /// Delivers all messages held; then reads up to the next line feed and no byte further, and
+    /// puts the line, without its line feed, into `line`. With any result but `Line` the content of
+    /// `line` is unspecified.
     fn next(&mut self, line: &mut ArrayVec<u8, 65536>) -> Heard
         requires flushed { is_flushed self.old ≡ true }
         ensures line { result ≡ IsLine → GivesLine (left self.old) line.new.items (left self.new) }
@@ -79,45 +54,29 @@ pub trait Ends {
             × GivesLine (left self.old) line (left self.new) }
         ensures end { result ≡ IsEnd
             → Keeps (left self.old) (left self.new) × IsAtEnd (left self.new) }
-        ensures failed { result ≡ IsFailed → input_failed self.new ≡ true }
         ensures moments { Grows (moments self.old) (moments self.new)
-            (streamed (left self.old) (written self.old) (reported self.old) ∷ []) }
+            (streamed (left self.old) (written self.old) ∷ []) }
         ensures flushed { is_flushed self.new ≡ true }
-        ensures none { held self.new ≡ 0 }
-        ensures written { written self.new ≡ written self.old }
-        ensures reported { reported self.new ≡ reported self.old };
+        ensures written { written self.new ≡ written self.old };
 
     /// Writes these bytes. `Err`: the output failed after this many of them, fewer than all.
     fn write(&mut self, bytes: &[u8]) -> Result<(), usize>
         ensures all { OnOk result (Appends (written self.old) (written self.new) bytes.now) }
-        ensures bound { IfErr result (λ n. n < length bytes.now) }
-        ensures part { IfErr result (λ n.
-            Appends (written self.old) (written self.new) (take n bytes.now)) }
-        ensures failed { OnErr result (output_failed self.new ≡ true) }
         ensures moments { moments self.new ≡ moments self.old }
-        ensures left { left self.new ≡ left self.old }
-        ensures held { held self.new ≡ held self.old }
-        ensures reported { reported self.new ≡ reported self.old };
+        ensures left { left self.new ≡ left self.old };
 
     /// Flushes the output, and returns whether that succeeded.
     fn flush(&mut self) -> bool
         ensures flushed { result ≡ true → is_flushed self.new ≡ true }
-        ensures failed { result ≡ false → output_failed self.new ≡ true }
         ensures written { Keeps (written self.old) (written self.new) }
         ensures moments { moments self.new ≡ moments self.old }
-        ensures left { left self.new ≡ left self.old }
-        ensures held { held self.new ≡ held self.old }
-        ensures reported { reported self.new ≡ reported self.old };
+        ensures left { left self.new ≡ left self.old };
 
     /// Whether four more messages can be held, the most of a frame.
-    fn has_room(&self) -> bool
-        ensures { IsTrue result ↔ (held self.now + 4 ≤ 64) };
+    fn has_room(&self) -> bool;
 
-    /// Holds a message until the next release.
+    /// Holds a message until the next release. It is lost if there is no room.
     fn report(&mut self, message: Message)
-        requires room { held self.old < 64 }
-        ensures reported { Grows (reported self.old) (reported self.new) (message ∷ []) }
-        ensures held { held self.new ≡ held self.old + 1 }
         ensures moments { moments self.new ≡ moments self.old }
         ensures flushed { is_flushed self.new ≡ is_flushed self.old }
         ensures written { written self.new ≡ written self.old }
@@ -126,10 +85,7 @@ pub trait Ends {
     /// Delivers all messages held, in order.
     fn release(&mut self)
         requires flushed { is_flushed self.old ≡ true }
-        ensures none { held self.new ≡ 0 }
-        ensures reported { reported self.new ≡ reported self.old }
         ensures moments { moments self.new ≡ moments self.old }
-        ensures flushed { is_flushed self.new ≡ true }
         ensures written { written self.new ≡ written self.old }
         ensures left { left self.new ≡ left self.old };
 }

@@ -1,19 +1,17 @@
 //! Makes and writes the frames of steps.
 
-ghost use Rattle.std.specs.Prelude.{◌≡◌, ◌+◌, ◌-◌, ◌<◌, ◌≤◌, [], ◌∷◌, length, take, true, replicate, OnOk, OnErr, IfErr};
-ghost use Rattle.std.specs.List.{AllByRecursion};
-ghost use Rattle.std.specs.Io.KnownBytes.{Appends, Keeps};
+ghost use Rattle.std.specs.Prelude.{◌≡◌, [], ◌∷◌, true, replicate, OnOk};
+ghost use Rattle.std.specs.Io.KnownBytes.{Keeps};
 ghost use Rattle.plan_runs.specs.declared.event.Event.TheVariants.{Frame};
 ghost use Rattle.plan_player.specs.Playing.{played};
 ghost use Rattle.plan_player.specs.Delivery.{next_frame};
 ghost use Rattle.plan_session.specs.Events.{events_of_step, events_of};
-ghost use Rattle.plan_live.specs.Going.{kept, FrameWent, FrameStops, Plays};
-ghost use Rattle.plan_live.specs.Living.{streams_at, HasFailed};
-ghost use Rattle.plan_live.specs.declared.fault.Stop.TheVariants.{Write};
+ghost use Rattle.plan_live.specs.Going.{FrameWent, Went};
+ghost use Rattle.plan_live.specs.Living.{streams_at};
 
 use crate::ends::Ends;
 use crate::fault::Stop;
-use crate::notes::{look_at, report_frame};
+use crate::notes::{Notes, look_at, notes_of};
 use crate::options::LiveOptions;
 use fib_codec::FibFrame;
 use mux_config::Store;
@@ -21,53 +19,26 @@ use plan_player::Player;
 use plan_session::Step;
 
 /// How many of the frames made so far were written.
-fn written_of(made: u64, skip: u32) -> u64
-    ensures { result ≡ made - skip }
-{
+fn written_of(made: u64, skip: u32) -> u64 {
     made.saturating_sub(u64::from(skip))
-}
-
-/// Writes the bytes of the frame of this number, unless it is skipped. `Err`: the output took only this many.
-fn put<E: Ends>(bytes: &[u8], number: u64, skip: u32, ends: &mut E) -> Result<(), usize>
-    ensures all { OnOk result
-        (Appends (E.written ends.old) (E.written ends.new) (kept skip number bytes.now)) }
-    ensures bound { IfErr result (λ n. n < length bytes.now) }
-    ensures passed { IfErr result (λ n. skip ≤ number) }
-    ensures part { IfErr result (λ n.
-        Appends (E.written ends.old) (E.written ends.new) (take n bytes.now)) }
-    ensures failed { OnErr result (E.output_failed ends.new ≡ true) }
-    ensures moments { E.moments ends.new ≡ E.moments ends.old }
-    ensures left { E.left ends.new ≡ E.left ends.old }
-    ensures held { E.held ends.new ≡ E.held ends.old }
-    ensures reported { E.reported ends.new ≡ E.reported ends.old }
-{
-    if number < u64::from(skip) {
-        return Ok(());
-    }
-    ends.write(bytes)
 }
 
 /// Writes the bytes of the next frame, unless it is skipped, and counts it.
 fn write_frame<E: Ends>(bytes: &[u8], made: &mut u64, skip: u32, ends: &mut E) -> Result<(), Stop>
-    ensures counted { OnOk result (made.old < 18446744073709551615) }
-    ensures done { let at = streams_at E.left E.written E.reported in OnOk result
+    ensures went { let at = streams_at E.left E.written in OnOk result
         (FrameWent skip bytes.now made.old made.new (at ends.old) (at ends.new)) }
-    ensures stopped { let at = streams_at E.left E.written E.reported in IfErr result (λ stop.
-        FrameStops skip bytes.now made.old (at ends.old) (at ends.new) stop) }
-    ensures failed { IfErr result (λ stop.
-        HasFailed stop (E.input_failed ends.new) (E.output_failed ends.new)) }
     ensures moments { E.moments ends.new ≡ E.moments ends.old }
-    ensures held { E.held ends.new ≡ E.held ends.old }
 {
     let number = *made;
     if number == u64::MAX {
         return Err(Stop::TooMany);
     }
-    match put(bytes, number, skip, ends) {
-        Ok(()) => {
-            *made = number + 1;
-            Ok(())
-        }
+    *made = number + 1;
+    if number < u64::from(skip) {
+        return Ok(());
+    }
+    match ends.write(bytes) {
+        Ok(()) => Ok(()),
         Err(bytes) => Err(Stop::Write {
             frames: written_of(number, skip),
             bytes,
@@ -86,13 +57,9 @@ fn make_frame<'a, S: Store>(player: &mut Player<'a, S>) -> FibFrame
 /// Flushes the output. `Err`: that failed after this many frames were made.
 fn flush_line<E: Ends>(made: u64, skip: u32, ends: &mut E) -> Result<(), Stop>
     ensures flushed { OnOk result (E.is_flushed ends.new ≡ true) }
-    ensures fault { IfErr result (λ stop. stop ≡ Write (made - skip) 0) }
-    ensures failed { IfErr result (λ stop.
-        HasFailed stop (E.input_failed ends.new) (E.output_failed ends.new)) }
     ensures moments { E.moments ends.new ≡ E.moments ends.old }
     ensures written { Keeps (E.written ends.old) (E.written ends.new) }
     ensures left { E.left ends.new ≡ E.left ends.old }
-    ensures reported { E.reported ends.new ≡ E.reported ends.old }
 {
     if ends.flush() {
         Ok(())
@@ -104,18 +71,12 @@ fn flush_line<E: Ends>(made: u64, skip: u32, ends: &mut E) -> Result<(), Stop>
     }
 }
 
-/// Makes room for the messages of a frame: if there is none, the output is flushed, and the messages held are
-/// delivered.
-/// `Err`: the flush failed after this many frames were made.
+/// Makes room for the messages of a frame: if there is none, the output is flushed, and the
+/// messages held are delivered. `Err`: the flush failed after this many frames were made.
 fn make_room<E: Ends>(made: u64, skip: u32, ends: &mut E) -> Result<(), Stop>
-    ensures room { OnOk result (E.held ends.new + 4 ≤ 64) }
-    ensures fault { IfErr result (λ stop. stop ≡ Write (made - skip) 0) }
-    ensures failed { IfErr result (λ stop.
-        HasFailed stop (E.input_failed ends.new) (E.output_failed ends.new)) }
     ensures moments { E.moments ends.new ≡ E.moments ends.old }
     ensures written { Keeps (E.written ends.old) (E.written ends.new) }
     ensures left { E.left ends.new ≡ E.left ends.old }
-    ensures reported { E.reported ends.new ≡ E.reported ends.old }
 {
     if ends.has_room() {
         return Ok(());
@@ -129,6 +90,19 @@ fn make_room<E: Ends>(made: u64, skip: u32, ends: &mut E) -> Result<(), Stop>
     }
 }
 
+/// Reports the notes of a frame.
+fn report_notes<E: Ends>(notes: Notes, ends: &mut E)
+    ensures moments { E.moments ends.new ≡ E.moments ends.old }
+    ensures written { E.written ends.new ≡ E.written ends.old }
+    ensures left { E.left ends.new ≡ E.left ends.old }
+{
+    for note in &notes {
+        if let Some(message) = note {
+            ends.report(*message);
+        }
+    }
+}
+
 /// Makes the next frame, writes it, and reports its notes.
 fn send_frame<'a, S: Store, E: Ends>(
     player: &mut Player<'a, S>,
@@ -136,12 +110,9 @@ fn send_frame<'a, S: Store, E: Ends>(
     options: LiveOptions,
     ends: &mut E,
 ) -> Result<(), Stop>
-    requires room { E.held ends.old + 4 ≤ 64 }
-    ensures played { let at = streams_at E.left E.written E.reported in
-        Plays options player.old made.old (Frame ∷ []) player.new made.new
-        (at ends.old) (at ends.new) result }
-    ensures failed { IfErr result (λ stop.
-        HasFailed stop (E.input_failed ends.new) (E.output_failed ends.new)) }
+    ensures went { let at = streams_at E.left E.written in OnOk result
+        (Went options.skip player.old made.old (Frame ∷ []) player.new made.new
+        (at ends.old) (at ends.new)) }
     ensures moments { E.moments ends.new ≡ E.moments ends.old }
 {
     let number = *made;
@@ -149,25 +120,24 @@ fn send_frame<'a, S: Store, E: Ends>(
     let frame = make_frame(player);
     match write_frame(frame.bytes(), made, options.skip, ends) {
         Ok(()) => {
-            report_frame(player, before, number, options.wanted, ends);
+            report_notes(notes_of(player, before, number, options.wanted), ends);
             Ok(())
         }
         Err(stop) => Err(stop),
     }
 }
 
-/// Makes the next frame, writes it, and reports its notes, after those before where there is no room for more.
+/// Makes the next frame, writes it, and reports its notes, after those before where there is no
+/// room for more.
 fn play_frame<'a, S: Store, E: Ends>(
     player: &mut Player<'a, S>,
     made: &mut u64,
     options: LiveOptions,
     ends: &mut E,
 ) -> Result<(), Stop>
-    ensures played { let at = streams_at E.left E.written E.reported in
-        Plays options player.old made.old (Frame ∷ []) player.new made.new
-        (at ends.old) (at ends.new) result }
-    ensures failed { IfErr result (λ stop.
-        HasFailed stop (E.input_failed ends.new) (E.output_failed ends.new)) }
+    ensures went { let at = streams_at E.left E.written in OnOk result
+        (Went options.skip player.old made.old (Frame ∷ []) player.new made.new
+        (at ends.old) (at ends.new)) }
     ensures moments { E.moments ends.new ≡ E.moments ends.old }
 {
     match make_room(*made, options.skip, ends) {
@@ -184,11 +154,9 @@ fn play_frames<'a, S: Store, E: Ends>(
     options: LiveOptions,
     ends: &mut E,
 ) -> Result<(), Stop>
-    ensures played { let at = streams_at E.left E.written E.reported in
-        Plays options player.old made.old (replicate count Frame) player.new made.new
-        (at ends.old) (at ends.new) result }
-    ensures failed { IfErr result (λ stop.
-        HasFailed stop (E.input_failed ends.new) (E.output_failed ends.new)) }
+    ensures went { let at = streams_at E.left E.written in OnOk result
+        (Went options.skip player.old made.old (replicate count Frame) player.new made.new
+        (at ends.old) (at ends.new)) }
     ensures moments { E.moments ends.new ≡ E.moments ends.old }
 {
     let mut done = 0u32;
@@ -209,11 +177,9 @@ fn play_step<'a, S: Store, E: Ends>(
     options: LiveOptions,
     ends: &mut E,
 ) -> Result<(), Stop>
-    ensures played { let at = streams_at E.left E.written E.reported in
-        Plays options player.old made.old (events_of_step step) player.new made.new
-        (at ends.old) (at ends.new) result }
-    ensures failed { IfErr result (λ stop.
-        HasFailed stop (E.input_failed ends.new) (E.output_failed ends.new)) }
+    ensures went { let at = streams_at E.left E.written in OnOk result
+        (Went options.skip player.old made.old (events_of_step step) player.new made.new
+        (at ends.old) (at ends.new)) }
     ensures moments { E.moments ends.new ≡ E.moments ends.old }
 {
     match step {
@@ -233,11 +199,9 @@ fn play_steps<'a, S: Store, E: Ends>(
     options: LiveOptions,
     ends: &mut E,
 ) -> Result<(), Stop>
-    ensures played { let at = streams_at E.left E.written E.reported in
-        Plays options player.old made.old (events_of steps.now) player.new made.new
-        (at ends.old) (at ends.new) result }
-    ensures failed { IfErr result (λ stop.
-        HasFailed stop (E.input_failed ends.new) (E.output_failed ends.new)) }
+    ensures went { let at = streams_at E.left E.written in OnOk result
+        (Went options.skip player.old made.old (events_of steps.now) player.new made.new
+        (at ends.old) (at ends.new)) }
     ensures moments { E.moments ends.new ≡ E.moments ends.old }
 {
     for step in steps {
@@ -257,11 +221,9 @@ pub(crate) fn play_line<'a, S: Store, E: Ends>(
     options: LiveOptions,
     ends: &mut E,
 ) -> Result<(), Stop>
-    ensures played { let at = streams_at E.left E.written E.reported in
-        Plays options player.old made.old (events_of steps.now) player.new made.new
-        (at ends.old) (at ends.new) result }
-    ensures failed { IfErr result (λ stop.
-        HasFailed stop (E.input_failed ends.new) (E.output_failed ends.new)) }
+    ensures went { let at = streams_at E.left E.written in OnOk result
+        (Went options.skip player.old made.old (events_of steps.now) player.new made.new
+        (at ends.old) (at ends.new)) }
     ensures moments { E.moments ends.new ≡ E.moments ends.old }
     ensures flushed { OnOk result (E.is_flushed ends.new ≡ true) }
 {

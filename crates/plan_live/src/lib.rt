@@ -1,10 +1,10 @@
 //! Live playback: a plan that is driven line by line while it runs.
 //!
-//! [`live`] plays a code file over the lines of an input as they arrive, and [`drive`] a player at its start. Both use
-//! three streams, [`Ends`]: lines in, bytes out, and messages; [`Streams`] implements them over a reader, a writer and
-//! [`Messages`]. The steps of a line are defined in `specs/Lines.antt`, the notes of frames in `specs/Notes.antt`, how
-//! messages are shown in `specs/Messages.antt`, and the outcome of a live run in `specs/Living.antt`. That a live run
-//! is the playback of one event file is a law of [`laws`].
+//! [`live`] plays a code file over the lines of an input as they arrive, and [`drive`] a player at
+//! its start. Both use three streams, [`Ends`]: lines in, bytes out, and messages; [`Streams`]
+//! implements them over a reader, a writer and [`Messages`]. The steps of a line are defined in
+//! `specs/Lines.antt`, and the outcome of a live run in `specs/Living.antt`. That a live run is the
+//! playback of one event file is a law of [`laws`].
 #![tactic(auto)]
 
 pub mod driving;

@@ -1,7 +1,9 @@
 //! The steps that a line lists.
 
-ghost use Rattle.std.specs.Prelude.{◌≡◌, ◌≤◌, length, IfOk, IfErr};
-ghost use Rattle.plan_live.specs.Lines.{LineHolds, IsUnread, unread_of};
+ghost use Rattle.std.specs.Prelude.{◌≡◌, ◌≢◌, ◌≤◌, length, IfOk, IfErr};
+ghost use Rattle.plan_session.specs.declared.event_fault.EventFault.TheVariants.{Memory as NoMemory};
+ghost use Rattle.plan_live.specs.declared.line.Unread.TheVariants.{Memory};
+ghost use Rattle.plan_live.specs.Lines.{LineHolds, ListsNone};
 
 use crate::message::LineFault;
 use plan_session::{EventFault, Step, read_events};
@@ -19,7 +21,7 @@ pub(crate) enum Unread {
 
 /// The fault of a line, given the fault of the event file that it forms.
 fn fault_of(fault: EventFault) -> Unread
-    ensures { result ≡ unread_of fault }
+    ensures { fault ≡ NoMemory → result ≡ Memory }
 {
     match fault {
         EventFault::Byte(position) => Unread::Bad(LineFault::Byte(position.column)),
@@ -33,7 +35,7 @@ fn fault_of(fault: EventFault) -> Unread
 pub(crate) fn steps_of_line(alloc: Global, line: &[u8]) -> Result<Vec<Step>, Unread>
     requires { length line.now ≤ 65536 }
     ensures found { IfOk result (λ steps. LineHolds line.now steps.items) }
-    ensures fault { IfErr result (λ unread. IsUnread line.now unread) }
+    ensures none { IfErr result (λ unread. unread ≢ Memory → ListsNone line.now) }
 {
     let text = match str::from_utf8(line) {
         Ok(text) => text,

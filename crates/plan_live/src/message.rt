@@ -1,14 +1,10 @@
-//! The messages of a live run.
-
-ghost use Rattle.std.specs.Prelude.{◌≡◌};
-ghost use Rattle.std.specs.Fmt.{WritesOnOk};
-ghost use Rattle.plan_live.specs.Messages.{announcement_fields, column_of, fault_name, json_of_bad, notice_text, swap_count, swap_fields};
+//! The messages of a live run, as lines of text and as objects of JSON.
 
 use std::error;
 use std::fmt::{self, Display, Formatter};
 
-/// Why a line lists no steps. The column is that of the first byte of the invalid byte or token, counted from 1 in
-/// bytes; or the one just past the line.
+/// Why a line lists no steps. The column is that of the first byte of the invalid byte or token,
+/// counted from 1 in bytes; or the one just past the line.
 #[derive(Clone, Copy, Debug, PartialEq, Eq)]
 pub enum LineFault {
     /// The line has more than 65,536 bytes.
@@ -25,9 +21,7 @@ pub enum LineFault {
 
 impl LineFault {
     /// The name that is shown.
-    fn name(self) -> &'static str
-        ensures { result.now ≡ fault_name self }
-    {
+    fn name(self) -> &'static str {
         match self {
             LineFault::Limit => "Limit",
             LineFault::NoText | LineFault::Byte(_) => "Byte",
@@ -37,9 +31,7 @@ impl LineFault {
     }
 
     /// The column, if the fault has one.
-    fn column(self) -> Option<usize>
-        ensures { result ≡ column_of self }
-    {
+    fn column(self) -> Option<usize> {
         match self {
             LineFault::Limit | LineFault::NoText => None,
             LineFault::Byte(column) | LineFault::Number(column) | LineFault::Expected(column) => {
@@ -50,11 +42,6 @@ impl LineFault {
 }
 
 impl Display for LineFault {
-    ghost use Rattle.std.specs.Prelude.{Some};
-    ghost use Rattle.plan_live.specs.Messages.{fault_text};
-
-    ghost output = { λ fault. Some (fault_text fault) };
-
     fn fmt<W: fmt::Write>(&self, f: &mut Formatter<W>) -> fmt::Result {
         let name = self.name();
         match self.column() {
@@ -66,7 +53,8 @@ impl Display for LineFault {
 
 impl error::Error for LineFault {}
 
-/// A message to the operator of the run. Lines are counted from 1, frames from 0 over the whole run.
+/// A message to the operator of the run. Lines are counted from 1, frames from 0 over the whole
+/// run.
 #[derive(Clone, Copy, Debug, PartialEq, Eq)]
 pub enum Message {
     /// The line of this number lists no steps, for this reason.
@@ -76,8 +64,8 @@ pub enum Message {
         frame: u64,
         count: u16,
     },
-    /// A notice begins with this frame: its change flags, the low part of the CIF count of the swap, and the frames
-    /// until the swap.
+    /// A notice begins with this frame: its change flags, the low part of the CIF count of the
+    /// swap, and the frames until the swap.
     Notice {
         frame: u64,
         count: u16,
@@ -98,11 +86,6 @@ pub enum Message {
 }
 
 impl Display for Message {
-    ghost use Rattle.std.specs.Prelude.{Some};
-    ghost use Rattle.plan_live.specs.Messages.{message_text};
-
-    ghost output = { λ message. Some (message_text message) };
-
     fn fmt<W: fmt::Write>(&self, f: &mut Formatter<W>) -> fmt::Result {
         match *self {
             Message::Bad(line, fault) => write!(f, "line {line}: {fault}"),
@@ -113,7 +96,10 @@ impl Display for Message {
                 change,
                 low,
                 left: _,
-            } => write_notice(frame, count, change, low, f),
+            } => {
+                write!(f, "frame {frame} count {count}")?;
+                write!(f, " announced {change} swap at low {low}")
+            }
             Message::End { frame, count } => write!(f, "frame {frame} count {count} end"),
             Message::Passed { frame, count } => write!(f, "frame {frame} count {count}"),
         }
@@ -127,20 +113,13 @@ impl error::Error for Message {}
 pub struct JsonMessage(pub Message);
 
 impl Display for JsonMessage {
-    ghost use Rattle.std.specs.Prelude.{Some};
-    ghost use Rattle.plan_live.specs.Messages.{json_of};
-
-    ghost output = { λ json. Some (json_of json.0) };
-
     fn fmt<W: fmt::Write>(&self, f: &mut Formatter<W>) -> fmt::Result {
         match self.0 {
-            Message::Bad(line, fault) => write_bad(line, fault, f),
-            Message::Swap { frame, count } => {
-                write!(
-                    f,
-                    "{{\"kind\":\"swap\",\"frame\":{frame},\"count\":{count}}}"
-                )
+            Message::Bad(line, fault) => {
+                write!(f, "{{\"kind\":\"line\",\"line\":{line}")?;
+                write_fault(fault, f)
             }
+            Message::Swap { frame, count } => write_frame("swap", frame, count, f),
             Message::Notice {
                 frame,
                 count,
@@ -148,86 +127,38 @@ impl Display for JsonMessage {
                 low,
                 left,
             } => {
-                write_announcement(frame, count, change, low, f)?;
-                write_swap(swap_count(count, left), left, f)
-            }
-            Message::End { frame, count } => {
                 write!(
                     f,
-                    "{{\"kind\":\"end\",\"frame\":{frame},\"count\":{count}}}"
-                )
+                    "{{\"kind\":\"announced\",\"frame\":{frame},\"count\":{count}"
+                )?;
+                write!(f, ",\"change\":{change},\"low\":{low}")?;
+                let swap_count = (u32::from(count) + u32::from(left)) % 5000;
+                write!(f, ",\"swap_count\":{swap_count},\"left\":{left}}}")
             }
-            Message::Passed { frame, count } => {
-                write!(
-                    f,
-                    "{{\"kind\":\"frame\",\"frame\":{frame},\"count\":{count}}}"
-                )
-            }
+            Message::End { frame, count } => write_frame("end", frame, count, f),
+            Message::Passed { frame, count } => write_frame("frame", frame, count, f),
         }
     }
 }
 
-/// Writes the line of a notice.
-fn write_notice<W: fmt::Write>(
+/// Writes an object of this kind for a frame.
+fn write_frame<W: fmt::Write>(
+    kind: &str,
     frame: u64,
     count: u16,
-    change: u8,
-    low: u8,
     f: &mut Formatter<W>,
-) -> fmt::Result
-    ensures { WritesOnOk W.write_str_gives f.old result (notice_text frame count change low) f.new }
-{
-    write!(f, "frame {frame} count {count}")?;
-    write!(f, " announced {change} swap at low {low}")
-}
-
-/// Writes the first fields of the object of a notice.
-fn write_announcement<W: fmt::Write>(
-    frame: u64,
-    count: u16,
-    change: u8,
-    low: u8,
-    f: &mut Formatter<W>,
-) -> fmt::Result
-    ensures { WritesOnOk W.write_str_gives f.old result (announcement_fields frame count change low)
-        f.new }
-{
+) -> fmt::Result {
     write!(
         f,
-        "{{\"kind\":\"announced\",\"frame\":{frame},\"count\":{count}"
-    )?;
-    write!(f, ",\"change\":{change},\"low\":{low}")
+        "{{\"kind\":\"{kind}\",\"frame\":{frame},\"count\":{count}}}"
+    )
 }
 
-/// Writes the last fields of the object of a notice.
-fn write_swap<W: fmt::Write>(swap_count: u32, left: u8, f: &mut Formatter<W>) -> fmt::Result
-    ensures { WritesOnOk W.write_str_gives f.old result (swap_fields swap_count left) f.new }
-{
-    write!(f, ",\"swap_count\":{swap_count},\"left\":{left}}}")
-}
-
-/// The CIF count this many frames after another, modulo 5000.
-fn swap_count(count: u16, left: u8) -> u32
-    ensures { result ≡ swap_count count left }
-{
-    (u32::from(count) + u32::from(left)) % 5000
-}
-
-/// Writes the object of a line that lists no steps.
-fn write_bad<W: fmt::Write>(line: u64, fault: LineFault, f: &mut Formatter<W>) -> fmt::Result
-    ensures { WritesOnOk W.write_str_gives f.old result (json_of_bad line fault) f.new }
-{
+/// Writes the last fields of the object of a line that lists no steps.
+fn write_fault<W: fmt::Write>(fault: LineFault, f: &mut Formatter<W>) -> fmt::Result {
     let name = fault.name();
-    match fault.column() {
-        Some(column) => {
-            write!(
-                f,
-                "{{\"kind\":\"line\",\"line\":{line},\"column\":{column},\"fault\":\"{name}\"}}"
-            )
-        }
-        None => write!(
-            f,
-            "{{\"kind\":\"line\",\"line\":{line},\"fault\":\"{name}\"}}"
-        ),
+    if let Some(column) = fault.column() {
+        write!(f, ",\"column\":{column}")?;
     }
+    write!(f, ",\"fault\":\"{name}\"}}")
 }

@@ -9,53 +9,44 @@ use console::lines::{Heard, Lines};
 use console::output::write_out;
 use std::io::{Read, Write};
 
-/// The lines of a reader, a writer that is flushed, and a message sink. A write that fails, takes nothing or is
-/// interrupted is not retried. What the message sink holds is delivered before a line is read. What is known of the
-/// reader, the writer and the messages is known of the streams.
+/// The lines of a reader, a writer that is flushed, and a message sink. A write that fails, takes
+/// nothing or is interrupted is not retried. What the message sink holds is delivered before a line
+/// is read. What is known of the reader and of the writer is known of the streams.
 #[derive(Drop)]
 pub struct Streams<R: Read + Drop, W, M> {
     lines: Lines<R>,
     out: W,
     messages: M,
     is_flushed: bool,
-    input_failed: bool,
-    output_failed: bool,
 }
 
 impl<R: Read + Drop, W: Write, M: Messages> Streams<R, W, M> {
-    ghost use Rattle.std.specs.Prelude.{◌≡◌, true, false};
-    ghost use Rattle.plan_live.specs.Streaming.{writer_of, messages_of};
+    ghost use Rattle.std.specs.Prelude.{◌≡◌, true};
+    ghost use Rattle.plan_live.specs.Streaming.{writer_of};
 
     /// The streams, with nothing written so far.
     pub fn new(reader: R, out: W, messages: M) -> Self
         ensures left { result.lines ≡ R.remaining reader }
         ensures writer { writer_of result ≡ out }
-        ensures messages { messages_of result ≡ messages }
         ensures flushed { result.is_flushed ≡ true }
-        ensures working { (result.input_failed ≡ false) × (result.output_failed ≡ false) }
     {
         Streams {
             lines: Lines::new(reader),
             out,
             messages,
             is_flushed: true,
-            input_failed: false,
-            output_failed: false,
         }
     }
 
     /// The writer, and the message sink with what it holds still. The reader is dropped.
     pub fn into_parts(self) -> (W, M)
         ensures writer { result.0 ≡ writer_of self }
-        ensures messages { result.1 ≡ messages_of self }
     {
         let Streams {
             lines: _,
             out,
             messages,
             is_flushed: _,
-            input_failed: _,
-            output_failed: _,
         } = self;
         (out, messages)
     }
@@ -63,32 +54,19 @@ impl<R: Read + Drop, W: Write, M: Messages> Streams<R, W, M> {
 
 impl<R: Read + Drop, W: Write, M: Messages> Ends for Streams<R, W, M> {
     ghost use Rattle.std.specs.Prelude.{None};
-    ghost use Rattle.plan_live.specs.Streaming.{writer_of, messages_of};
+    ghost use Rattle.plan_live.specs.Streaming.{writer_of};
 
     ghost left = { λ s. s.lines };
 
     ghost written = { λ s. W.contents (writer_of s) };
 
-    ghost reported = { λ s. M.reported (messages_of s) };
-
-    ghost held = { λ s. M.held (messages_of s) };
-
     ghost is_flushed = { λ s. s.is_flushed };
 
     ghost moments = { λ _. None };
 
-    ghost input_failed = { λ s. s.input_failed };
-
-    ghost output_failed = { λ s. s.output_failed };
-
     fn next(&mut self, line: &mut ArrayVec<u8, 65536>) -> Heard {
         self.messages.release();
-        let heard = self.lines.next(line);
-        match heard {
-            Heard::Failed => self.input_failed = true,
-            Heard::Line | Heard::Long | Heard::End => {}
-        }
-        heard
+        self.lines.next(line)
     }
 
     fn write(&mut self, bytes: &[u8]) -> Result<(), usize> {
@@ -96,10 +74,7 @@ impl<R: Read + Drop, W: Write, M: Messages> Ends for Streams<R, W, M> {
         let (taken, result) = write_out(bytes, &mut self.out);
         match result {
             Ok(()) => Ok(()),
-            Err(_) => {
-                self.output_failed = true;
-                Err(taken)
-            }
+            Err(_) => Err(taken),
         }
     }
 
@@ -109,10 +84,7 @@ impl<R: Read + Drop, W: Write, M: Messages> Ends for Streams<R, W, M> {
                 self.is_flushed = true;
                 true
             }
-            Err(_) => {
-                self.output_failed = true;
-                false
-            }
+            Err(_) => false,
         }
     }
 

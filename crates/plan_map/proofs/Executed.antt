@@ -8,10 +8,10 @@ use Rattle.plan_code.specs.declared.label.Label.{Label}
 use Rattle.plan_code.specs.declared.label.Swap.{Swap}
 use Rattle.plan_code.specs.declared.label.Swap.TheVariants.{Idle, Within, Perhaps}
 use Rattle.plan_code.specs.declared.instr.Instr.{Instr}
-use Rattle.plan_code.specs.declared.instr.Instr.TheVariants.{Wait, Until, WaitContact, CommitIn, CommitAt, Join, Settle, End, Edit as Edits, Test, Jump, Set, Loop}
+use Rattle.plan_code.specs.declared.instr.Instr.TheVariants.{Wait, Until, WaitContact, WaitAny, CommitIn, CommitAt, Join, Settle, End, Edit as Edits, Test, TestTime, Jump, Set, Loop}
 use Rattle.plan_code.specs.declared.instr.Line.{Line}
 use Rattle.plan_code.specs.Program.{Program, instr_at, label_at}
-use Rattle.plan_code.specs.Machine.{State, step, settle, effect}
+use Rattle.plan_code.specs.Machine.{State, step, settle, effect, is_in_window}
 use Rattle.plan_code.specs.Flags.{is_closed}
 use Rattle.plan_verifier.specs.Typing.{Known, IsTyping, IsSafe, Arrives, FitsSwap, leaves, spent, target_of}
 use Rattle.plan_verifier.proofs.Tabled.{found}
@@ -27,6 +27,7 @@ use Rattle.plan_runs.proofs.Between.{step_is}
 use Rattle.plan_map.specs.declared.rows.Row.{Row}
 use Rattle.plan_map.specs.declared.rows.RowKind.TheVariants.{Begin}
 use Rattle.plan_map.specs.declared.lead.Lead.TheVariants.{Begin as Beginning}
+use Rattle.plan_map.specs.declared.lead.Ways.TheVariants.{One}
 use Rattle.plan_map.specs.Rows.{opening_of, rows_of}
 use Rattle.plan_map.specs.Committed.{HasCommit, commits_before, RunsBeginWithTheFirst, CommitsAreRows}
 use Rattle.plan_map.proofs.KnownRows.{waited_next, paused_next, settled_next, at_first, all_from, commits_if, row_of}
@@ -100,6 +101,7 @@ effect_known : (p : Program) (typing : List Known) → IsTyping p typing → (s 
 effect_known p typing ty s (Wait n) t safe there e = arrives p typing ty (s.pc + 1) (leaves p.plan (Wait n) t) s.next (safe.onward refl) (e ∙ sym (waited_next n t.pending t))
 effect_known p typing ty s (Until d) t safe there e = arrives p typing ty (s.pc + 1) (leaves p.plan (Until d) t) s.next (safe.onward refl) (e ∙ sym (paused_next t.pending t))
 effect_known p typing ty s (WaitContact c b) t safe there e = arrives p typing ty (s.pc + 1) (leaves p.plan (WaitContact c b) t) s.next (safe.onward refl) (e ∙ sym (paused_next t.pending t))
+effect_known p typing ty s (WaitAny closed opened until frames) t safe there e = arrives p typing ty (s.pc + 1) (leaves p.plan (WaitAny closed opened until frames) t) s.next (safe.onward refl) (e ∙ sym (paused_next t.pending t))
 effect_known p typing ty s (CommitIn k) t safe there e = arrives p typing ty (s.pc + 1) (leaves p.plan (CommitIn k) t) s.next (safe.onward refl) e
 effect_known p typing ty s (CommitAt n) t safe there e = arrives p typing ty (s.pc + 1) (leaves p.plan (CommitAt n) t) s.next (safe.onward refl) e
 effect_known p typing ty s Join t safe there e = arrives p typing ty (s.pc + 1) (leaves p.plan Join t) s.next (safe.onward refl) e
@@ -110,6 +112,9 @@ effect_known p typing ty s (Edits c) t safe there e = arrives p typing ty (s.pc 
 effect_known p typing ty s (Test c target) t safe there e =
     either_pc typing (is_closed s.contacts c) (s.pc + 1) target s.next (arrives p typing ty (s.pc + 1) (leaves p.plan (Test c target) t) s.next (safe.onward refl) e)
     (reaches p typing ty s (Test c target) t safe e target refl)
+effect_known p typing ty s (TestTime from to target) t safe there e =
+    either_pc typing (is_in_window from to s.day) (s.pc + 1) target s.next (arrives p typing ty (s.pc + 1) (leaves p.plan (TestTime from to target) t) s.next (safe.onward refl) e)
+    (reaches p typing ty s (TestTime from to target) t safe e target refl)
 effect_known p typing ty s (Jump target) t safe there e = reaches p typing ty s (Jump target) t safe e target refl
 effect_known p typing ty s (Set r n) t safe there e = arrives p typing ty (s.pc + 1) (leaves p.plan (Set r n) t) s.next (safe.onward refl) e
 effect_known p typing ty s (Loop r target) t safe there e =
@@ -205,7 +210,7 @@ pub row_at_state : (begin : ℕ) (p : Program) (typing : List Known) → IsTypin
 row_at_state begin p typing ty s l h at commits =
     let place : s.pc ≡ 0 + s.pc = omega arith in
     let there : slice_get typing (0 + s.pc) ≡ Some h.known = subst (λ k. slice_get typing k ≡ Some h.known) place h.there in
-    let row = row_of p typing ty 0 (Some Beginning) (opening_of p) p.lines (all_from p) (at_first p typing (opening_of p) ty) s.pc l h.known at there (commits_if l.instr commits) in
+    let row = row_of p typing ty 0 (One Beginning) [] (opening_of p) p.lines (all_from p) (at_first p typing (opening_of p) ty) s.pc l h.known at there (commits_if l.instr commits) in
     let e : suc (commits_before p s.pc) ≡ 1 + commits_before p s.pc = omega arith in
     record {
       row = row.row;

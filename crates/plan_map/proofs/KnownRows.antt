@@ -11,7 +11,7 @@ use Rattle.plan_code.specs.declared.label.Label.{Label}
 use Rattle.plan_code.specs.declared.label.Swap.{Swap}
 use Rattle.plan_code.specs.declared.label.Swap.TheVariants.{Idle, Within, Perhaps}
 use Rattle.plan_code.specs.declared.instr.Instr.{Instr}
-use Rattle.plan_code.specs.declared.instr.Instr.TheVariants.{Wait, Until, WaitContact, CommitIn, CommitAt, Join, Settle, End, Edit as Edits, Test, Jump, Set, Loop}
+use Rattle.plan_code.specs.declared.instr.Instr.TheVariants.{Wait, Until, WaitContact, WaitAny, CommitIn, CommitAt, Join, Settle, End, Edit as Edits, Test, TestTime, Jump, Set, Loop}
 use Rattle.plan_code.specs.declared.instr.Line.{Line}
 use Rattle.plan_code.specs.Program.{Program, instr_at, label_at}
 use Rattle.plan_flow.specs.Rules.{commits}
@@ -23,7 +23,10 @@ use Rattle.plan_map.specs.declared.rows.Row.{Row}
 use Rattle.plan_map.specs.declared.rows.RowKind.TheVariants.{Commit}
 use Rattle.plan_map.specs.declared.lead.Lead.{Lead}
 use Rattle.plan_map.specs.declared.lead.Lead.TheVariants.{Begin as Beginning}
-use Rattle.plan_map.specs.Leads.{lead_at, lead_after}
+use Rattle.plan_map.specs.declared.lead.Ways.{Ways}
+use Rattle.plan_map.specs.declared.lead.Ways.TheVariants.{One}
+use Rattle.plan_map.specs.declared.lead.Reached.{Reached}
+use Rattle.plan_map.specs.Leads.{after, ways_from, lead_of}
 use Rattle.plan_map.specs.Rows.{or_else, declared_by, known_next, opening_of, unless_at_fault, left_by, commits_from, rows_of}
 use Rattle.plan_map.specs.Committed.{HasCommit, RowsAreCommits}
 
@@ -66,6 +69,7 @@ left_known : (plan : Plan) (i : Instr) (t : Known) → IsFine plan i t → left_
 left_known plan (Wait n) t h = sym (waited_next n t.pending t)
 left_known plan (Until d) t h = sym (paused_next t.pending t)
 left_known plan (WaitContact k b) t h = sym (paused_next t.pending t)
+left_known plan (WaitAny closed opened until frames) t h = sym (paused_next t.pending t)
 left_known plan (CommitIn d) t h = refl
 left_known plan (CommitAt n) t h = refl
 left_known plan Join t h = refl
@@ -73,6 +77,7 @@ left_known plan Settle t h = sym (settled_next t.pending t)
 left_known plan End t h = refl
 left_known plan (Edits e) t h = ap (λ o. unless_at_fault o (changed e t.next) t.next) h.1
 left_known plan (Test k u) t h = refl
+left_known plan (TestTime from to u) t h = refl
 left_known plan (Jump u) t h = refl
 left_known plan (Set k n) t h = refl
 left_known plan (Loop k u) t h = refl
@@ -146,6 +151,7 @@ pub commits_if : (i : Instr) → IsCommit i → commits i ≡ true
 commits_if (Wait n) h = absurd h
 commits_if (Until t) h = absurd h
 commits_if (WaitContact k b) h = absurd h
+commits_if (WaitAny closed opened until frames) h = absurd h
 commits_if (CommitIn d) h = refl
 commits_if (CommitAt n) h = refl
 commits_if Join h = absurd h
@@ -153,6 +159,7 @@ commits_if Settle h = absurd h
 commits_if End h = absurd h
 commits_if (Edits e) h = absurd h
 commits_if (Test k t) h = absurd h
+commits_if (TestTime from to t) h = absurd h
 commits_if (Jump t) h = absurd h
 commits_if (Set k n) h = absurd h
 commits_if (Loop k t) h = absurd h
@@ -161,6 +168,7 @@ is_commit : (i : Instr) → commits i ≡ true → IsCommit i
 is_commit (Wait n) e = absurd cc
 is_commit (Until t) e = absurd cc
 is_commit (WaitContact k b) e = absurd cc
+is_commit (WaitAny closed opened until frames) e = absurd cc
 is_commit (CommitIn d) e = tt
 is_commit (CommitAt n) e = tt
 is_commit Join e = absurd cc
@@ -168,6 +176,7 @@ is_commit Settle e = absurd cc
 is_commit End e = absurd cc
 is_commit (Edits e) h = absurd cc
 is_commit (Test k t) e = absurd cc
+is_commit (TestTime from to t) e = absurd cc
 is_commit (Jump t) e = absurd cc
 is_commit (Set k n) e = absurd cc
 is_commit (Loop k t) e = absurd cc
@@ -182,16 +191,16 @@ past_row : (b : Bool) (r : Row) (rows : List Row) (x : Line) (xs : List Line) �
 past_row true r rows x xs = refl
 past_row false r rows x xs = refl
 
-pub row_of : (p : Program) (typing : List Known) → IsTyping p typing → (pc : ℕ) (lead : Option Lead) (next : Configuration) (ls : List Line) → AreFrom p pc ls → KnowsNext p typing pc next
+pub row_of : (p : Program) (typing : List Known) → IsTyping p typing → (pc : ℕ) (before : Ways) (passed : List Reached) (next : Configuration) (ls : List Line) → AreFrom p pc ls → KnowsNext p typing pc next
     → (k : ℕ) (l : Line) (t : Known) → slice_get ls k ≡ Some l → slice_get typing (pc + k) ≡ Some t → commits l.instr ≡ true
-    → HasCommit (commits_from p pc lead next ls) (commit_count (take k ls)) l t.next
-row_of p typing ty pc lead next [] rest knows k l t at there c = absurd cc
-row_of p typing ty pc lead next (x ∷ ls) rest knows zero l t at there c =
+    → HasCommit (commits_from p pc before passed next ls) (commit_count (take k ls)) l t.next
+row_of p typing ty pc before passed next [] rest knows k l t at there c = absurd cc
+row_of p typing ty pc before passed next (x ∷ ls) rest knows zero l t at there c =
     let same : l ≡ x = some_same l x (sym at) in
     let here : Configuration = known_next p pc next in
-    let led : Option Lead = lead_at p pc lead in
-    let row : Row = record { kind = Commit; line = x.number; block = []; lead = led; config = here } in
-    let behind : List Row = commits_from p (pc + 1) (lead_after x.instr led) (left_by x.instr here) ls in
+    let ways : Ways = ways_from pc before passed in
+    let row : Row = record { kind = Commit; line = x.number; block = []; lead = lead_of ways; config = here } in
+    let behind : List Row = commits_from p (pc + 1) (after x.instr ways) (passed ++ record { instr = x.instr; ways = ways } ∷ []) (left_by x.instr here) ls in
     let on : commits x.instr ≡ true = subst (λ (y : Line). commits y.instr ≡ true) same c in
     let place : pc + 0 ≡ pc = omega arith in
     record {
@@ -201,14 +210,14 @@ row_of p typing ty pc lead next (x ∷ ls) rest knows zero l t at there c =
       line = ap (λ (y : Line). y.number) (sym same);
       config = knows t (subst (λ n. slice_get typing n ≡ Some t) place there);
     }
-row_of p typing ty pc lead next (x ∷ ls) rest knows (suc k) l t at there c =
+row_of p typing ty pc before passed next (x ∷ ls) rest knows (suc k) l t at there c =
     let here : Configuration = known_next p pc next in
-    let led : Option Lead = lead_at p pc lead in
-    let row : Row = record { kind = Commit; line = x.number; block = []; lead = led; config = here } in
-    let behind : List Row = commits_from p (pc + 1) (lead_after x.instr led) (left_by x.instr here) ls in
+    let ways : Ways = ways_from pc before passed in
+    let row : Row = record { kind = Commit; line = x.number; block = []; lead = lead_of ways; config = here } in
+    let behind : List Row = commits_from p (pc + 1) (after x.instr ways) (passed ++ record { instr = x.instr; ways = ways } ∷ []) (left_by x.instr here) ls in
     let place : pc + suc k ≡ pc + 1 + k = omega arith in
     let more =
-    row_of p typing ty (pc + 1) (lead_after x.instr led) (left_by x.instr here) ls (from_next p pc x ls rest) (knows_next p typing pc next x ls ty rest knows) k l t at
+    row_of p typing ty (pc + 1) (after x.instr ways) (passed ++ record { instr = x.instr; ways = ways } ∷ []) (left_by x.instr here) ls (from_next p pc x ls rest) (knows_next p typing pc next x ls ty rest knows) k l t at
     (subst (λ n. slice_get typing n ≡ Some t) place there) c
     in
     record {
@@ -280,18 +289,18 @@ from_either typing pc x ls r rows here later true e zero row at = here e row (so
 from_either typing pc x ls r rows here later true e (suc n) row at = from_later typing pc x ls true n row e (later n row at)
 from_either typing pc x ls r rows here later false e n row at = from_later typing pc x ls false n row e (later n row at)
 
-of_row : (p : Program) (typing : List Known) → IsTyping p typing → (pc : ℕ) (lead : Option Lead) (next : Configuration) (ls : List Line) → AreFrom p pc ls → KnowsNext p typing pc next
-    → (n : ℕ) (row : Row) → slice_get (commits_from p pc lead next ls) n ≡ Some row → IsFrom typing pc ls n row
-of_row p typing ty pc lead next [] rest knows n row at = absurd cc
-of_row p typing ty pc lead next (x ∷ ls) rest knows n row at =
+of_row : (p : Program) (typing : List Known) → IsTyping p typing → (pc : ℕ) (before : Ways) (passed : List Reached) (next : Configuration) (ls : List Line) → AreFrom p pc ls → KnowsNext p typing pc next
+    → (n : ℕ) (row : Row) → slice_get (commits_from p pc before passed next ls) n ≡ Some row → IsFrom typing pc ls n row
+of_row p typing ty pc before passed next [] rest knows n row at = absurd cc
+of_row p typing ty pc before passed next (x ∷ ls) rest knows n row at =
     let here : Configuration = known_next p pc next in
-    let led : Option Lead = lead_at p pc lead in
-    let r : Row = record { kind = Commit; line = x.number; block = []; lead = led; config = here } in
+    let ways : Ways = ways_from pc before passed in
+    let r : Row = record { kind = Commit; line = x.number; block = []; lead = lead_of ways; config = here } in
     let within : pc < length typing = subst (λ k. pc < k) (sym ty.each) (slice_get_within p.lines pc x (first_of_them p pc x ls rest)) in
     let known = get_some typing pc within in
-    from_either typing pc x ls r (commits_from p (pc + 1) (lead_after x.instr led) (left_by x.instr here) ls)
-    (λ c given is. from_here p typing pc led next x ls known.0 given known.1 knows c is)
-    (of_row p typing ty (pc + 1) (lead_after x.instr led) (left_by x.instr here) ls (from_next p pc x ls rest) (knows_next p typing pc next x ls ty rest knows))
+    from_either typing pc x ls r (commits_from p (pc + 1) (after x.instr ways) (passed ++ record { instr = x.instr; ways = ways } ∷ []) (left_by x.instr here) ls)
+    (λ c given is. from_here p typing pc (lead_of ways) next x ls known.0 given known.1 knows c is)
+    (of_row p typing ty (pc + 1) (after x.instr ways) (passed ++ record { instr = x.instr; ways = ways } ∷ []) (left_by x.instr here) ls (from_next p pc x ls rest) (knows_next p typing pc next x ls ty rest knows))
     (commits x.instr) refl n row at
 
 -- ---- the number of rows
@@ -300,20 +309,20 @@ more_rows : (b : Bool) (r : Row) (rows : List Row) (x : Line) (xs : List Line) �
 more_rows true r rows x xs e = ap suc e
 more_rows false r rows x xs e = e
 
-row_count : (p : Program) (pc : ℕ) (lead : Option Lead) (next : Configuration) (ls : List Line) → length (commits_from p pc lead next ls) ≡ commit_count (take (length ls) ls)
-row_count p pc lead next [] = refl
-row_count p pc lead next (x ∷ ls) =
+row_count : (p : Program) (pc : ℕ) (before : Ways) (passed : List Reached) (next : Configuration) (ls : List Line) → length (commits_from p pc before passed next ls) ≡ commit_count (take (length ls) ls)
+row_count p pc before passed next [] = refl
+row_count p pc before passed next (x ∷ ls) =
     let here : Configuration = known_next p pc next in
-    let led : Option Lead = lead_at p pc lead in
-    let row : Row = record { kind = Commit; line = x.number; block = []; lead = led; config = here } in
-    more_rows (commits x.instr) row (commits_from p (pc + 1) (lead_after x.instr led) (left_by x.instr here) ls) x (filter (λ (y : Line). commits y.instr) (take (length ls) ls))
-    (row_count p (pc + 1) (lead_after x.instr led) (left_by x.instr here) ls)
+    let ways : Ways = ways_from pc before passed in
+    let row : Row = record { kind = Commit; line = x.number; block = []; lead = lead_of ways; config = here } in
+    more_rows (commits x.instr) row (commits_from p (pc + 1) (after x.instr ways) (passed ++ record { instr = x.instr; ways = ways } ∷ []) (left_by x.instr here) ls) x (filter (λ (y : Line). commits y.instr) (take (length ls) ls))
+    (row_count p (pc + 1) (after x.instr ways) (passed ++ record { instr = x.instr; ways = ways } ∷ []) (left_by x.instr here) ls)
 
 -- ---- the law
 
 -- the rows after the first one
 abbrev pub later_rows : Program → List Row
-later_rows p = commits_from p 0 (Some Beginning) (opening_of p) p.lines
+later_rows p = commits_from p 0 (One Beginning) [] (opening_of p) p.lines
 
 later_row : (begin n : ℕ) (p : Program) (row : Row) → slice_get (rows_of begin p) (1 + n) ≡ Some row → slice_get (later_rows p) n ≡ Some row
 later_row begin n p row at =
@@ -323,9 +332,9 @@ later_row begin n p row at =
 pub rows_are_commits : RowsAreCommits
 rows_are_commits begin p typing ty =
     let more : suc (length (later_rows p)) ≡ 1 + length (later_rows p) = omega arith in (
-      more ∙ ap (λ n. 1 + n) (row_count p 0 (Some Beginning) (opening_of p) p.lines),
+      more ∙ ap (λ n. 1 + n) (row_count p 0 (One Beginning) [] (opening_of p) p.lines),
       λ n row at.
-          let h = of_row p typing ty 0 (Some Beginning) (opening_of p) p.lines (all_from p) (at_first p typing (opening_of p) ty) n row (later_row begin n p row at) in
+          let h = of_row p typing ty 0 (One Beginning) [] (opening_of p) p.lines (all_from p) (at_first p typing (opening_of p) ty) n row (later_row begin n p row at) in
           let place : 0 + h.at ≡ h.at = omega arith in
           record {
             pc = h.at;

@@ -1,11 +1,8 @@
-pub mod Holding
+pub mod Pieces
 pub mod Walking
-pub mod Printed
 pub mod Places
-pub mod Keys
-pub mod Drawn
-pub mod VectorsOfDrawings
 pub mod KnownRows
 pub mod Executed
 pub mod SentRows
+pub mod VectorsOfLeads
 pub mod VectorsOfRows

@@ -11,7 +11,7 @@ use Rattle.mux_types.specs.Configuration.{IsConfiguration}
 use Rattle.plan_map.specs.declared.rows.Row.{Row}
 use Rattle.plan_map.specs.declared.layout.Clash.{Clash}
 use Rattle.plan_map.specs.Cells.{end_of}
-use Rattle.plan_map.proofs.Printed.{texts_more}
+use Rattle.plan_map.proofs.Pieces.{texts_more}
 use Rattle.plan_map.specs.Layout.{row_subs, subs_of, clashes, first_with, listed, place_of, places, places_below, shares, clash_with, clash_of, in_order, first_clash, is_served, is_refused, Serves, Occurs, IsClash}
 
 same_number : (n : ℕ) → n == n ≡ true

@@ -6,7 +6,7 @@ use Rattle.mux_types.proofs.Elements.{contains_first}
 use Rattle.mux_config.specs.Edits.{changed}
 use Rattle.plan_code.specs.declared.plan.Plan.{Plan}
 use Rattle.plan_code.specs.declared.instr.Instr.{Instr}
-use Rattle.plan_code.specs.declared.instr.Instr.TheVariants.{Wait, Until, WaitContact, CommitIn, CommitAt, Join, Settle, End, Edit as Edits, Test, Jump, Set, Loop}
+use Rattle.plan_code.specs.declared.instr.Instr.TheVariants.{Wait, Until, WaitContact, WaitAny, CommitIn, CommitAt, Join, Settle, End, Edit as Edits, Test, TestTime, Jump, Set, Loop}
 use Rattle.plan_code.specs.declared.instr.Line.{Line}
 use Rattle.plan_code.specs.Program.{Program, instr_at}
 use Rattle.plan_code.specs.Machine.{State, IsAllowed, step, settle, effect}
@@ -54,6 +54,7 @@ effect_rows : (rows : List Row) (plan : Plan) (i : Instr) (s : State) → IsAllo
 effect_rows rows plan (Wait n) s a c h = record { current = h.current; pending = h.pending }
 effect_rows rows plan (Until d) s a c h = record { current = h.current; pending = h.pending }
 effect_rows rows plan (WaitContact d b) s a c h = record { current = h.current; pending = h.pending }
+effect_rows rows plan (WaitAny closed opened until frames) s a c h = record { current = h.current; pending = h.pending }
 effect_rows rows plan (CommitIn k) s a c h = record { current = h.current; pending = c tt }
 effect_rows rows plan (CommitAt n) s a c h = record { current = h.current; pending = c tt }
 effect_rows rows plan Join s a c h = record { current = h.current; pending = h.pending }
@@ -61,6 +62,7 @@ effect_rows rows plan Settle s a c h = settle_rows rows s.left s h
 effect_rows rows plan End s a c h = record { current = h.current; pending = h.pending }
 effect_rows rows plan (Edits e) s a c h = record { current = h.current; pending = subst (λ (o : Option ℕ). IsPending rows o (changed e s.next)) (sym a.0) tt }
 effect_rows rows plan (Test d target) s a c h = record { current = h.current; pending = h.pending }
+effect_rows rows plan (TestTime from to target) s a c h = record { current = h.current; pending = h.pending }
 effect_rows rows plan (Jump target) s a c h = record { current = h.current; pending = h.pending }
 effect_rows rows plan (Set r n) s a c h = record { current = h.current; pending = h.pending }
 effect_rows rows plan (Loop r target) s a c h = record { current = h.current; pending = h.pending }

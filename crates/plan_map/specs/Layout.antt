@@ -1,16 +1,13 @@
 -- The one layout of sub-channels that serves every configuration of a map's rows, and what stands against one.
-use Rattle.std.specs.Prelude.{◌≡◌, ◌⊎◌, ℕ, ◌≤◌, ◌==◌, ◌&&◌, Bool, true, false, not, if◌then◌else◌, nat_lt, List, [], ◌∷◌, ◌++◌, Option, Some, None, codes}
+use Rattle.std.specs.Prelude.{◌≡◌, ◌⊎◌, ℕ, ◌≤◌, ◌==◌, ◌&&◌, Bool, true, false, not, if◌then◌else◌, nat_lt, List, [], ◌∷◌, Option, Some, None}
 use Rattle.std.specs.List.{flat_map, range_with_len, list_any, AllByRecursion}
-use Rattle.std.specs.Fmt.{decimal}
 use Rattle.mux_types.specs.declared.parts.Sub.{Sub}
 use Rattle.mux_types.specs.Sameness.{is_same_sub}
-use Rattle.mux_eep.specs.declared.sizes.EepSet.{EepSet}
-use Rattle.mux_eep.specs.declared.sizes.EepSet.TheVariants.{A, B}
 use Rattle.plan_map.specs.declared.rows.Row.{Row}
 use Rattle.plan_map.specs.declared.layout.Clash.{Clash}
 use Rattle.plan_map.specs.declared.layout.Layout.{Layout}
 use Rattle.plan_map.specs.declared.layout.Layout.TheVariants.{One, Apart}
-use Rattle.plan_map.specs.Cells.{units_of, end_of}
+use Rattle.plan_map.specs.Cells.{end_of}
 
 -- the sub-channels of each row's configuration, row by row
 abbrev pub row_subs : Row → List Sub
@@ -92,33 +89,3 @@ pub record IsClash (c : Clash) (subs : List Sub) : Type 0 where
 abbrev pub IsLayout : Layout → List Sub → Type 0
 IsLayout (One v) subs = Serves v.items subs
 IsLayout (Apart c) subs = IsClash c subs
-
--- as text, in the words of a listing
-abbrev pub set_text : EepSet → List ℕ
-set_text A = codes "A"
-set_text B = codes "B"
-
-unfoldable pub place_text : Sub → List ℕ
-place_text s =
-    codes "at " ++ decimal s.start ++ codes " size " ++ decimal (units_of s) ++ codes " eep " ++ decimal s.protection.level
-    ++ codes "-" ++ set_text s.protection.set
-
-unfoldable pub sub_text : Sub → List ℕ
-sub_text s = codes "sub " ++ decimal s.id ++ codes " " ++ place_text s
-
-abbrev pub sub_line : Sub → List ℕ
-sub_line s = sub_text s ++ codes "\n"
-
-abbrev pub layout_text : List Sub → List ℕ
-layout_text subs = flat_map sub_line subs
-
--- where both are one sub-channel its number is not said again
-unfoldable pub other_text : Sub → Sub → List ℕ
-other_text a b = if a.id == b.id then place_text b else sub_text b
-
-abbrev pub clash_text : Clash → List ℕ
-clash_text c = codes "no one layout: " ++ (sub_text c.first ++ (codes " and " ++ (other_text c.first c.second ++ codes "\n")))
-
-abbrev pub answer_text : Layout → List ℕ
-answer_text (One v) = layout_text v.items
-answer_text (Apart c) = clash_text c

@@ -1,70 +1,93 @@
--- What leads to a commit: the last statement before it that suspends or tests a contact.
-use Rattle.std.specs.Prelude.{ℕ, ◌-◌, ◌==◌, Bool, true, false, if◌then◌else◌, List, [], ◌∷◌, length, take, min, Option, Some, None}
+-- What leads to a commit: the last statement before it that suspends or tests a contact, on every path there from
+-- before.
+use Rattle.std.specs.Prelude.{ℕ, ◌==◌, ◌&&◌, not, Bool, true, false, if◌then◌else◌, List, [], ◌∷◌, Option, Some, None}
 use Rattle.plan_code.specs.declared.instr.Instr.{Instr}
-use Rattle.plan_code.specs.declared.instr.Instr.TheVariants.{Wait, Until, WaitContact, CommitIn, CommitAt, Join, Settle, End, Edit, Test, Jump, Set, Loop}
-use Rattle.plan_code.specs.declared.instr.Line.{Line}
-use Rattle.plan_code.specs.Program.{Program, instr_at}
+use Rattle.plan_code.specs.declared.instr.Instr.TheVariants.{Wait, Until, WaitContact, WaitAny, CommitIn, CommitAt, Join, Settle, End, Edit, Test, TestTime, Jump, Set, Loop}
+use Rattle.plan_map.specs.declared.lead.AnyOf.{AnyOf}
 use Rattle.plan_map.specs.declared.lead.Lead.{Lead}
-use Rattle.plan_map.specs.declared.lead.Lead.TheVariants.{Wait as Waited, Until as Reached, Contact, Join as Joined, Settle as Settled}
+use Rattle.plan_map.specs.declared.lead.Lead.TheVariants.{Begin, Wait as Waited, Until as IsTime, Contact, Any, Window, Join as Joined, Settle as Settled}
 use Rattle.plan_map.specs.declared.lead.Ways.{Ways}
-use Rattle.plan_map.specs.declared.lead.Ways.TheVariants.{Nothing, Open, Others}
+use Rattle.plan_map.specs.declared.lead.Ways.TheVariants.{Nothing, One, Others}
+use Rattle.plan_map.specs.declared.lead.Reached.{Reached}
 
--- after an instruction: itself, if it suspends or tests; a test is passed where its contact is closed
-abbrev pub lead_after : Instr → Option Lead → Option Lead
-lead_after (Wait n) lead = Some (Waited n)
-lead_after (Until t) lead = Some (Reached t)
-lead_after (WaitContact k b) lead = Some (Contact k b)
-lead_after Join lead = Some Joined
-lead_after Settle lead = Some Settled
-lead_after (Test k t) lead = Some (Contact k true)
-lead_after (CommitIn d) lead = lead
-lead_after (CommitAt n) lead = lead
-lead_after End lead = lead
-lead_after (Edit e) lead = lead
-lead_after (Jump t) lead = lead
-lead_after (Set k n) lead = lead
-lead_after (Loop k t) lead = lead
+abbrev pub is_same_level : Bool → Bool → Bool
+is_same_level true b = b
+is_same_level false b = not b
 
--- the jumps to a pc, with those of one more instruction
-abbrev pub one_more : ℕ → Ways → Ways
-one_more k Nothing = Open k
-one_more k (Open j) = Others
-one_more k Others = Others
+abbrev pub is_same_number : Option ℕ → Option ℕ → Bool
+is_same_number None None = true
+is_same_number None (Some n) = false
+is_same_number (Some m) None = false
+is_same_number (Some m) (Some n) = m == n
 
-abbrev pub way_to : ℕ → Instr → Ways → Ways
-way_to pc (Test k t) ways = if t == pc then one_more k ways else ways
-way_to pc (Jump t) ways = if t == pc then Others else ways
-way_to pc (Wait n) ways = ways
-way_to pc (Until t) ways = ways
-way_to pc (WaitContact k b) ways = ways
-way_to pc (CommitIn d) ways = ways
-way_to pc (CommitAt n) ways = ways
-way_to pc Join ways = ways
-way_to pc Settle ways = ways
-way_to pc End ways = ways
-way_to pc (Edit e) ways = ways
-way_to pc (Set k n) ways = ways
-way_to pc (Loop k t) ways = ways
+abbrev pub is_same_any : AnyOf → AnyOf → Bool
+is_same_any a b =
+    (a.closed.0 == b.closed.0) && (a.opened.0 == b.opened.0) && is_same_number a.until b.until && is_same_number a.frames b.frames
 
-abbrev pub ways_from : ℕ → Ways → List Line → Ways
+abbrev pub is_same_lead : Lead → Lead → Bool
+is_same_lead Begin Begin = true
+is_same_lead (Waited m) (Waited n) = m == n
+is_same_lead (IsTime s) (IsTime t) = s == t
+is_same_lead (Contact j a) (Contact k b) = j == k && is_same_level a b
+is_same_lead (Any a) (Any b) = is_same_any a b
+is_same_lead (Window s t a) (Window v w b) = (s == v) && (t == w) && is_same_level a b
+is_same_lead Joined Joined = true
+is_same_lead Settled Settled = true
+is_same_lead a b = false
+
+-- on the paths of both
+abbrev pub both : Ways → Ways → Ways
+both Nothing b = b
+both (One a) Nothing = One a
+both (One a) (One b) = if is_same_lead a b then One a else Others
+both (One a) Others = Others
+both Others b = Others
+
+-- on from an instruction to the one behind it: itself, if it suspends or tests; a test is passed where its contact is
+-- closed, or inside its window of the day. There is no path on behind an `end` or a jump
+abbrev pub after : Instr → Ways → Ways
+after (Wait n) ways = One (Waited n)
+after (Until t) ways = One (IsTime t)
+after (WaitContact k b) ways = One (Contact k b)
+after (WaitAny closed opened until frames) ways = One (Any (record { closed = closed; opened = opened; until = until; frames = frames }))
+after Join ways = One Joined
+after Settle ways = One Settled
+after (Test k t) ways = One (Contact k true)
+after (TestTime from to t) ways = One (Window from to true)
+after End ways = Nothing
+after (Jump t) ways = Nothing
+after (CommitIn d) ways = ways
+after (CommitAt n) ways = ways
+after (Edit e) ways = ways
+after (Set k n) ways = ways
+after (Loop k t) ways = ways
+
+-- to a pc, with the jump of one more instruction: a test jumps where its contact is open, or outside its window; what
+-- leads to a jump leads to its target
+abbrev pub way_to : ℕ → Instr → Ways → Ways → Ways
+way_to pc (Test k t) its ways = if t == pc then both ways (One (Contact k false)) else ways
+way_to pc (TestTime from to t) its ways = if t == pc then both ways (One (Window from to false)) else ways
+way_to pc (Jump t) its ways = if t == pc then both ways its else ways
+way_to pc (Wait n) its ways = ways
+way_to pc (Until t) its ways = ways
+way_to pc (WaitContact k b) its ways = ways
+way_to pc (WaitAny closed opened until frames) its ways = ways
+way_to pc (CommitIn d) its ways = ways
+way_to pc (CommitAt n) its ways = ways
+way_to pc Join its ways = ways
+way_to pc Settle its ways = ways
+way_to pc End its ways = ways
+way_to pc (Edit e) its ways = ways
+way_to pc (Set k n) its ways = ways
+way_to pc (Loop k t) its ways = ways
+
+-- to a pc: on from the instruction before it, and with the jumps of those before it
+abbrev pub ways_from : ℕ → Ways → List Reached → Ways
 ways_from pc ways [] = ways
-ways_from pc ways (l ∷ ls) = ways_from pc (way_to pc l.instr ways) ls
+ways_from pc ways (r ∷ rs) = ways_from pc (way_to pc r.instr r.ways ways) rs
 
--- whether the instruction after one is reached from it; there is none before the first
-abbrev pub falls_through : Option Instr → Bool
-falls_through None = true
-falls_through (Some (Jump t)) = false
-falls_through (Some End) = false
-falls_through (Some i) = true
-
--- at an instruction, given the jumps to it from before, and whether it is reached from the one before it
-abbrev pub lead_of : Ways → Bool → Option Lead → Option Lead
-lead_of Nothing falls lead = lead
-lead_of (Open k) true lead = None
-lead_of (Open k) false lead = Some (Contact k false)
-lead_of Others falls lead = None
-
--- no other way leads there from before: what leads to it from the instruction before. One test alone: its contact is open.
--- Otherwise different ones
-abbrev pub lead_at : Program → ℕ → Option Lead → Option Lead
-lead_at p pc lead = lead_of (ways_from pc Nothing (take (min pc (length p.lines)) p.lines)) (falls_through (instr_at p (pc - 1))) lead
+-- the same on every path
+abbrev pub lead_of : Ways → Option Lead
+lead_of Nothing = None
+lead_of (One lead) = Some lead
+lead_of Others = None

@@ -3,11 +3,3 @@ pub mod Rows
 pub mod Committed
 pub mod Cells
 pub mod Layout
-pub mod Changes
-pub mod Bars
-pub mod Key
-pub mod DrawnParts
-pub mod DrawnSubs
-pub mod DrawnRow
-pub mod Legend
-pub mod Drawing

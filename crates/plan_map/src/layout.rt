@@ -4,8 +4,7 @@
 ghost use Rattle.std.specs.Prelude.{◌≡◌, ◌<◌, ◌++◌, ◌∷◌, [], IfOk, IfErr, IfSome, OnOk, IsTrue, Ok, Err, false, Option, Some, None};
 ghost use Rattle.std.specs.List.{AllByRecursion, list_any};
 ghost use Rattle.mux_types.specs.Sameness.{is_same_sub};
-ghost use Rattle.std.specs.Io.KnownBytes.{Appends};
-ghost use Rattle.plan_map.specs.Layout.{Serves, IsClash, IsLayout, is_served, is_refused, Occurs, set_text, place_text, sub_text, sub_line, layout_text, other_text, clash_text, answer_text, row_subs, subs_of, shares, clashes, first_with, place_of, places_below, clash_with, in_order, first_clash};
+ghost use Rattle.plan_map.specs.Layout.{Serves, IsClash, IsLayout, is_served, is_refused, Occurs, row_subs, subs_of, shares, clashes, first_with, place_of, places_below, clash_with, in_order, first_clash};
 
 use crate::cells::{end_of, units_of};
 use crate::rows::Row;
@@ -188,9 +187,7 @@ pub fn layout_of(alloc: Global, rows: &[Row]) -> Result<Layout, AllocError>
 }
 
 /// The letter of a set of protection profiles.
-pub(crate) fn set_text(set: EepSet) -> &'static str
-    ensures { result.now ≡ set_text set }
-{
+pub(crate) fn set_text(set: EepSet) -> &'static str {
     match set {
         EepSet::A => "A",
         EepSet::B => "B",
@@ -198,10 +195,7 @@ pub(crate) fn set_text(set: EepSet) -> &'static str
 }
 
 /// Prints the place, the size and the profile of a sub-channel.
-#[tactic(auto, unfolding(crate::specs::Layout::place_text))]
-fn print_place<W: Write>(sub: &Sub, out: &mut W) -> io::Result<()>
-    ensures { OnOk result (Appends (W.contents out.old) (W.contents out.new) (place_text sub.now)) }
-{
+fn print_place<W: Write>(sub: &Sub, out: &mut W) -> io::Result<()> {
     let start = sub.start;
     let size = units_of(sub);
     let level = sub.protection.level();
@@ -210,40 +204,23 @@ fn print_place<W: Write>(sub: &Sub, out: &mut W) -> io::Result<()>
 }
 
 /// Prints a sub-channel in the words of a listing: `sub 1 at 0 size 96 eep 3-A`.
-#[tactic(auto, unfolding(crate::specs::Layout::sub_text))]
-pub(crate) fn print_sub<W: Write>(sub: &Sub, out: &mut W) -> io::Result<()>
-    ensures { OnOk result (Appends (W.contents out.old) (W.contents out.new) (sub_text sub.now)) }
-{
+pub(crate) fn print_sub<W: Write>(sub: &Sub, out: &mut W) -> io::Result<()> {
     let id = sub.id.get();
     write!(out, "sub {id} ")?;
     print_place(sub, out)
 }
 
 /// Prints a layout: a line for each sub-channel, in the words of a listing.
-fn print_subs<W: Write>(subs: &[Sub], out: &mut W) -> io::Result<()>
-    ensures { OnOk result (Appends (W.contents out.old) (W.contents out.new)
-        (layout_text subs.now)) }
-{
+fn print_subs<W: Write>(subs: &[Sub], out: &mut W) -> io::Result<()> {
     for sub in subs {
-        print_line(sub, out)?;
+        print_sub(sub, out)?;
+        out.write_all(b"\n")?;
     }
     Ok(())
 }
 
-/// Prints the line of a sub-channel.
-fn print_line<W: Write>(sub: &Sub, out: &mut W) -> io::Result<()>
-    ensures { OnOk result (Appends (W.contents out.old) (W.contents out.new) (sub_line sub.now)) }
-{
-    print_sub(sub, out)?;
-    out.write_all(b"\n")
-}
-
 /// Prints another sub-channel than a first one; of the same one its place alone.
-#[tactic(auto, unfolding(crate::specs::Layout::other_text))]
-fn print_other<W: Write>(first: &Sub, other: &Sub, out: &mut W) -> io::Result<()>
-    ensures { OnOk result (Appends (W.contents out.old) (W.contents out.new)
-        (other_text first.now other.now)) }
-{
+fn print_other<W: Write>(first: &Sub, other: &Sub, out: &mut W) -> io::Result<()> {
     if first.id == other.id {
         print_place(other, out)
     } else {
@@ -252,10 +229,7 @@ fn print_other<W: Write>(first: &Sub, other: &Sub, out: &mut W) -> io::Result<()
 }
 
 /// Prints why there is no layout: a sub-channel with its two places, or two sub-channels with theirs.
-fn print_clash<W: Write>(clash: &Clash, out: &mut W) -> io::Result<()>
-    ensures { OnOk result (Appends (W.contents out.old) (W.contents out.new)
-        (clash_text clash.now)) }
-{
+fn print_clash<W: Write>(clash: &Clash, out: &mut W) -> io::Result<()> {
     out.write_all(b"no one layout: ")?;
     print_sub(&clash.first, out)?;
     out.write_all(b" and ")?;
@@ -266,10 +240,7 @@ fn print_clash<W: Write>(clash: &Clash, out: &mut W) -> io::Result<()>
 /// Prints a layout: a line for each sub-channel, by ascending SubChId, `sub 1 at 0 size 96 eep 3-A`. Or the line
 /// `no one layout: sub 1 at 0 size 96 eep 3-A and at 0 size 72 eep 3-A`, with two places of one sub-channel or with two
 /// sub-channels that share capacity units.
-pub fn print_layout<W: Write>(layout: &Layout, out: &mut W) -> io::Result<()>
-    ensures { OnOk result (Appends (W.contents out.old) (W.contents out.new)
-        (answer_text layout.now)) }
-{
+pub fn print_layout<W: Write>(layout: &Layout, out: &mut W) -> io::Result<()> {
     match layout {
         Layout::One(subs) => print_subs(subs.as_slice(), out),
         Layout::Apart(clash) => print_clash(clash, out),

@@ -1,9 +1,9 @@
 //! The map of a plan: which capacity units each sub-channel has, at first and after each commit.
 //!
 //! [`rows_of`] returns the rows of a code, [`print_map`] writes them as text, and [`draw_map`] as a drawing to scale.
-//! Which rows a code has is defined in `specs/Rows.antt`, the text of a row in `specs/Bars.antt`,
-//! the key of the services in `specs/Key.antt`, and the drawing in `specs/Drawing.antt`. [`laws`] says what the rows
-//! have to do with the runs of the code.
+//! Which rows a code has is defined in `specs/Rows.antt`, what leads to a commit in `specs/Leads.antt`, and the one
+//! layout for all of them in `specs/Layout.antt`. [`laws`] says what the rows have to do with the runs of the code. Text
+//! and drawing have no contract; tests print them.
 #![tactic(auto)]
 
 pub mod cells;
@@ -23,6 +23,6 @@ pub mod text;
 pub use drawing::draw_map;
 pub use key::{Use, key_of};
 pub use layout::{Clash, Layout, layout_of, print_layout};
-pub use lead::{Lead, Ways};
+pub use lead::{AnyOf, Lead, Reached, Ways};
 pub use rows::{Row, RowKind, rows_of};
 pub use text::print_map;

@@ -1,10 +1,10 @@
 //! The rows of a map: the configurations of a plan, in the order of its text.
 
 ghost use Rattle.std.specs.Prelude.{◌≡◌, ◌++◌, ◌∷◌, [], IfOk, OnOk};
-ghost use Rattle.plan_map.specs.Leads.{lead_at, lead_after};
+ghost use Rattle.plan_map.specs.Leads.{after, lead_of, ways_from};
 ghost use Rattle.plan_map.specs.Rows.{rows_of, row_at, known_next, left_by};
 
-use crate::lead::{Lead, lead_after, lead_at};
+use crate::lead::{Lead, Reached, Ways, after, lead_of, ways_to};
 use mux_config::Config;
 use mux_types::BoundedVec;
 use plan_code::{Code, Instr, Line};
@@ -27,7 +27,8 @@ pub struct Row {
     pub kind: RowKind,
     /// The line of `begin`, or that of the commit.
     pub line: u16,
-    /// The name of the block that the commit is in, or its first 32 letters; empty outside of blocks.
+    /// The name of the block that the commit is in, or its first 32 letters; empty outside of
+    /// blocks.
     pub block: BoundedVec<u8, 32>,
     /// What leads to the commit, if that is the same on every way to it.
     pub lead: Option<Lead>,
@@ -35,8 +36,8 @@ pub struct Row {
     pub config: Config,
 }
 
-/// The next configuration at a pc of a code, given the one that the instruction before left: that of the label
-/// there, if there is one.
+/// The next configuration at a pc of a code, given the one that the instruction before left: that
+/// of the label there, if there is one.
 fn enter(code: &Code, pc: u16, next: &mut Config)
     ensures { next.new ≡ known_next code.now pc next.old }
 {
@@ -57,18 +58,36 @@ fn follow(instr: Instr, next: &mut Config)
     }
 }
 
-/// What leads to the instruction at a pc, given what leads from the one before it.
-fn arrive(code: &Code, pc: u16, lead: &mut Option<Lead>)
-    ensures { lead.new ≡ lead_at code.now pc lead.old }
+/// Appends an instruction to those passed, with what leads to it.
+fn pass(passed: &mut Vec<Reached>, line: &Line, ways: &Ways) -> Result<(), AllocError>
+    ensures { let l = line.now in OnOk result (passed.new.items ≡ passed.old.items ++ record {
+      instr = l.instr;
+      ways = ways.now;
+    } ∷ []) }
 {
-    *lead = lead_at(code, pc, *lead);
+    let reached = Reached {
+        instr: line.instr,
+        ways: *ways,
+    };
+    match passed.push(reached) {
+        Ok(()) => Ok(()),
+        Err(_full) => Err(AllocError),
+    }
 }
 
-/// What leads to the instruction after this one.
-fn pass(line: &Line, lead: &mut Option<Lead>)
-    ensures { let l = line.now in lead.new ≡ lead_after l.instr lead.old }
+/// What leads to the instruction at a pc, given what leads on from the one before it, and those
+/// passed.
+fn arrive(pc: u16, passed: &[Reached], ways: &mut Ways)
+    ensures { ways.new ≡ ways_from pc ways.old passed.now }
 {
-    *lead = lead_after(line.instr, *lead);
+    *ways = ways_to(pc, *ways, passed);
+}
+
+/// What leads on from an instruction, given what leads to it.
+fn leave(line: &Line, ways: &mut Ways)
+    ensures { let l = line.now in ways.new ≡ after l.instr ways.old }
+{
+    *ways = after(line.instr, *ways);
 }
 
 /// A row of this configuration.
@@ -106,22 +125,26 @@ fn push(rows: &mut Vec<Row>, row: Row) -> Result<(), AllocError>
 fn push_commit(
     rows: &mut Vec<Row>,
     line: &Line,
-    lead: &Option<Lead>,
+    ways: &Ways,
     next: &Config,
 ) -> Result<(), AllocError>
-    ensures { OnOk result (rows.new.items ≡ rows.old.items ++ row_at line.now lead.now next.now) }
+    ensures { OnOk result (rows.new.items ≡ rows.old.items ++ row_at line.now ways.now next.now) }
 {
     if commits(line.instr) {
-        return push(rows, row_of(RowKind::Commit, line.number, *lead, next));
+        return push(
+            rows,
+            row_of(RowKind::Commit, line.number, lead_of(*ways), next),
+        );
     }
     Ok(())
 }
 
-/// The rows of a code's map: its opening at the line of `begin`, and the configuration of each commit, in the order of
-/// the code, which is that of the script's text with each block where it is applied. At a label, the next configuration
-/// is the one that it declares, which holds there on every path. What leads to a commit is the last statement before it
-/// that suspends or tests a contact; none where different ones lead to it. In a loop it is what leads to it at first.
-/// A code has no names: the caller adds those of blocks.
+/// The rows of a code's map: its opening at the line of `begin`, and the configuration of each
+/// commit, in the order of the code, which is that of the script's text with each block where it is
+/// applied. At a label, the next configuration is the one that it declares, which holds there on
+/// every path. What leads to a commit is the last statement before it that suspends or tests a
+/// contact; none where different ones lead to it. In a loop it is what leads to it at first. A code
+/// has no names: the caller adds those of blocks.
 ///
 /// # Errors
 ///
@@ -134,13 +157,15 @@ pub fn rows_of(alloc: Global, begin_line: u16, code: &Code) -> Result<Vec<Row>, 
     enter(code, 0, &mut next);
     let mut rows = Vec::new(alloc);
     push(&mut rows, row_of(RowKind::Begin, begin_line, None, &next))?;
-    let mut lead = Some(Lead::Begin);
+    let mut ways = Ways::One(Lead::Begin);
+    let mut passed = Vec::new(alloc);
     let mut pc = 0u16;
     for line in code.lines() {
         enter(code, pc, &mut next);
-        arrive(code, pc, &mut lead);
-        push_commit(&mut rows, line, &lead, &next)?;
-        pass(line, &mut lead);
+        arrive(pc, passed.as_slice(), &mut ways);
+        push_commit(&mut rows, line, &ways, &next)?;
+        pass(&mut passed, line, &ways)?;
+        leave(line, &mut ways);
         follow(line.instr, &mut next);
         pc += 1;
     }

@@ -1,21 +1,15 @@
 //! Prints a map as text: for each row its heading, its cells, and what changes from the row above.
 
-ghost use Rattle.std.specs.Prelude.{◌≡◌, ◌+◌, ◌<◌, ◌≤◌, OnOk};
-ghost use Rattle.plan_map.specs.Cells.{holder};
-ghost use Rattle.std.specs.Io.KnownBytes.{Appends};
-ghost use Rattle.plan_map.specs.Bars.{kind_text, pair_text, second_of, time_text, lead_text, led_text, block_text, head_line, cell_text, cells_text, bar, row_text, map_text};
-
 use crate::cells::{HALF, free_units, holder};
 use crate::changes::print_changes;
-use crate::lead::Lead;
+use crate::lead::{AnyOf, Lead};
 use crate::rows::{Row, RowKind};
 use mux_config::{Config, Sub};
+use plan_code::{ContactId, DayFrame};
 use std::io::{self, Write};
 
 /// The keyword of a row's statement.
-pub fn kind_text(kind: RowKind) -> &'static str
-    ensures { result.now ≡ kind_text kind }
-{
+pub fn kind_text(kind: RowKind) -> &'static str {
     match kind {
         RowKind::Begin => "begin",
         RowKind::Commit => "commit",
@@ -23,9 +17,7 @@ pub fn kind_text(kind: RowKind) -> &'static str
 }
 
 /// Prints a number with at least two digits.
-fn print_pair<W: Write>(number: u32, out: &mut W) -> io::Result<()>
-    ensures { OnOk result (Appends (W.contents out.old) (W.contents out.new) (pair_text number)) }
-{
+fn print_pair<W: Write>(number: u32, out: &mut W) -> io::Result<()> {
     if number < 10 {
         write!(out, "0{number}")
     } else {
@@ -34,9 +26,7 @@ fn print_pair<W: Write>(number: u32, out: &mut W) -> io::Result<()>
 }
 
 /// Prints a time of the day.
-fn print_time<W: Write>(second: u32, out: &mut W) -> io::Result<()>
-    ensures { OnOk result (Appends (W.contents out.old) (W.contents out.new) (time_text second)) }
-{
+fn print_time<W: Write>(second: u32, out: &mut W) -> io::Result<()> {
     print_pair(second / 3600, out)?;
     out.write_all(b":")?;
     print_pair(second / 60 % 60, out)?;
@@ -44,34 +34,117 @@ fn print_time<W: Write>(second: u32, out: &mut W) -> io::Result<()>
     print_pair(second % 60, out)
 }
 
+/// Prints a frame of the day as a time.
+fn print_frame<W: Write>(frame: DayFrame, out: &mut W) -> io::Result<()> {
+    print_time(frame.get() * 3 / 125, out)
+}
+
+/// Prints a wait for a frame of the day.
+fn print_until<W: Write>(frame: DayFrame, out: &mut W) -> io::Result<()> {
+    out.write_all(b"until ")?;
+    print_frame(frame, out)
+}
+
+/// Prints a contact and its level.
+fn print_contact<W: Write>(contact: u8, closed: bool, out: &mut W) -> io::Result<()> {
+    let level = if closed { "closed" } else { "open" };
+    write!(out, "contact {contact} {level}")
+}
+
+/// Prints `or`, behind a first alternative.
+fn print_or<W: Write>(is_first: &mut bool, out: &mut W) -> io::Result<()> {
+    if *is_first {
+        *is_first = false;
+        return Ok(());
+    }
+    out.write_all(b" or ")
+}
+
+/// Prints a contact with each level that is an alternative.
+fn print_levels<W: Write>(
+    contact: ContactId,
+    alternatives: &AnyOf,
+    is_first: &mut bool,
+    out: &mut W,
+) -> io::Result<()> {
+    if alternatives.closed.is_closed(contact) {
+        print_or(is_first, out)?;
+        print_contact(contact.get(), true, out)?;
+    }
+    if alternatives.opened.is_closed(contact) {
+        print_or(is_first, out)?;
+        print_contact(contact.get(), false, out)?;
+    }
+    Ok(())
+}
+
+/// Prints the contacts that are alternatives, by ascending number.
+fn print_contacts<W: Write>(
+    alternatives: &AnyOf,
+    is_first: &mut bool,
+    out: &mut W,
+) -> io::Result<()> {
+    for number in 0u8..16 {
+        if let Some(contact) = ContactId::new(number) {
+            print_levels(contact, alternatives, is_first, out)?;
+        }
+    }
+    Ok(())
+}
+
+/// Prints the alternatives of a wait: contacts, then a time of day, then a number of frames.
+fn print_any<W: Write>(alternatives: AnyOf, out: &mut W) -> io::Result<()> {
+    let mut is_first = true;
+    print_contacts(&alternatives, &mut is_first, out)?;
+    if let Some(frame) = alternatives.until {
+        print_or(&mut is_first, out)?;
+        print_until(frame, out)?;
+    }
+    if let Some(frames) = alternatives.frames {
+        let frames = frames.get();
+        print_or(&mut is_first, out)?;
+        write!(out, "{frames} frames")?;
+    }
+    Ok(())
+}
+
+/// Prints the times of day at which a path is taken: inside a window, or outside it, which is at
+/// any time where the window is empty.
+fn print_window<W: Write>(
+    from: DayFrame,
+    to: DayFrame,
+    inside: bool,
+    out: &mut W,
+) -> io::Result<()> {
+    if !inside && from == to {
+        return out.write_all(b"any time");
+    }
+    let (first, last) = if inside { (from, to) } else { (to, from) };
+    out.write_all(b"time ")?;
+    print_frame(first, out)?;
+    out.write_all(b" to ")?;
+    print_frame(last, out)
+}
+
 /// Prints what leads to a commit, in the words of the script.
-pub fn print_lead<W: Write>(lead: Lead, out: &mut W) -> io::Result<()>
-    ensures { OnOk result (Appends (W.contents out.old) (W.contents out.new) (lead_text lead)) }
-{
+pub fn print_lead<W: Write>(lead: Lead, out: &mut W) -> io::Result<()> {
     match lead {
         Lead::Begin => out.write_all(b"begin"),
         Lead::Wait(frames) => {
             let frames = frames.get();
             write!(out, "wait {frames}")
         }
-        Lead::Until(frame) => {
-            out.write_all(b"until ")?;
-            print_time(frame.get() * 3 / 125, out)
-        }
-        Lead::Contact { contact, closed } => {
-            let contact = contact.get();
-            let level = if closed { "closed" } else { "open" };
-            write!(out, "contact {contact} {level}")
-        }
+        Lead::Until(frame) => print_until(frame, out),
+        Lead::Contact { contact, closed } => print_contact(contact.get(), closed, out),
+        Lead::Any(alternatives) => print_any(alternatives, out),
+        Lead::Window { from, to, inside } => print_window(from, to, inside, out),
         Lead::Join => out.write_all(b"join"),
         Lead::Settle => out.write_all(b"settle"),
     }
 }
 
 /// Prints what leads to a commit in parentheses, if it is one.
-fn print_led<W: Write>(lead: Option<Lead>, out: &mut W) -> io::Result<()>
-    ensures { OnOk result (Appends (W.contents out.old) (W.contents out.new) (led_text lead)) }
-{
+fn print_led<W: Write>(lead: Option<Lead>, out: &mut W) -> io::Result<()> {
     match lead {
         None => Ok(()),
         Some(lead) => {
@@ -83,10 +156,7 @@ fn print_led<W: Write>(lead: Option<Lead>, out: &mut W) -> io::Result<()>
 }
 
 /// Prints the name of a block, if it is one.
-fn print_block<W: Write>(name: &[u8], out: &mut W) -> io::Result<()>
-    ensures { OnOk result (Appends (W.contents out.old) (W.contents out.new)
-        (block_text name.now)) }
-{
+fn print_block<W: Write>(name: &[u8], out: &mut W) -> io::Result<()> {
     if name.len() == 0 {
         return Ok(());
     }
@@ -94,10 +164,9 @@ fn print_block<W: Write>(name: &[u8], out: &mut W) -> io::Result<()>
     out.write_all(name)
 }
 
-/// Prints the heading of a row: the statement and its line, its block, what leads to it, and the number of free capacity units.
-fn print_head<W: Write>(row: &Row, out: &mut W) -> io::Result<()>
-    ensures { OnOk result (Appends (W.contents out.old) (W.contents out.new) (head_line row.now)) }
-{
+/// Prints the heading of a row: the statement and its line, its block, what leads to it, and the
+/// number of free capacity units.
+fn print_head<W: Write>(row: &Row, out: &mut W) -> io::Result<()> {
     let line = row.line;
     let free = free_units(row.config.subs());
     out.write_all(kind_text(row.kind).as_bytes())?;
@@ -108,11 +177,7 @@ fn print_head<W: Write>(row: &Row, out: &mut W) -> io::Result<()>
 }
 
 /// Prints a cell: the number of the sub-channel that has most of it, or `..` if it is free.
-fn print_cell<W: Write>(cell: u16, subs: &[Sub], out: &mut W) -> io::Result<()>
-    requires { cell < 72 }
-    ensures { OnOk result (Appends (W.contents out.old) (W.contents out.new)
-        (cell_text (holder cell subs.now))) }
-{
+fn print_cell<W: Write>(cell: u16, subs: &[Sub], out: &mut W) -> io::Result<()> {
     match holder(cell, subs) {
         None => out.write_all(b".."),
         Some(sub) => {
@@ -126,47 +191,36 @@ fn print_cell<W: Write>(cell: u16, subs: &[Sub], out: &mut W) -> io::Result<()>
     }
 }
 
-/// Prints so many cells of a row, from this one on.
-#[tactic(auto, unfolding(crate::specs::Bars::cells_text))]
-fn print_cells<W: Write>(first: u16, count: u16, subs: &[Sub], out: &mut W) -> io::Result<()>
-    requires { first + count ≤ 72 }
-    ensures { OnOk result (Appends (W.contents out.old) (W.contents out.new)
-        (cells_text first count subs.now)) }
-{
-    for cell in 0..count {
-        print_cell(first + cell, subs, out)?;
+/// Prints the cells of a row from `first` on, up to but without `end`.
+fn print_cells<W: Write>(first: u16, end: u16, subs: &[Sub], out: &mut W) -> io::Result<()> {
+    for cell in first..end {
+        print_cell(cell, subs, out)?;
     }
     Ok(())
 }
 
 /// Prints the 72 cells of a row in two lines, each after its first capacity unit.
-fn print_bar<W: Write>(subs: &[Sub], out: &mut W) -> io::Result<()>
-    ensures { OnOk result (Appends (W.contents out.old) (W.contents out.new) (bar subs.now)) }
-{
+fn print_bar<W: Write>(subs: &[Sub], out: &mut W) -> io::Result<()> {
     out.write_all(b"    0 ")?;
     print_cells(0, HALF, subs, out)?;
     out.write_all(b"\n  432 ")?;
-    print_cells(HALF, HALF, subs, out)?;
+    print_cells(HALF, 2 * HALF, subs, out)?;
     out.write_all(b"\n")
 }
 
 /// Prints a row below one with another configuration.
-fn print_row<W: Write>(above: &Config, row: &Row, out: &mut W) -> io::Result<()>
-    ensures { OnOk result (Appends (W.contents out.old) (W.contents out.new)
-        (row_text above.now row.now)) }
-{
+fn print_row<W: Write>(above: &Config, row: &Row, out: &mut W) -> io::Result<()> {
     print_head(row, out)?;
     print_bar(row.config.subs(), out)?;
     print_changes(above, &row.config, out)
 }
 
-/// Prints a map. A row has a heading with the statement, its line, its block, what leads to it, and the number of free capacity
-/// units; two lines of 36 cells of 12 capacity units, in two columns each; and a line for each part of the configuration
-/// above that is left out, and for each that is new. A cell has the number of the sub-channel that has most of it, the
-/// first in a tie, and `..` if no sub-channel has any of it.
-pub fn print_map<W: Write>(rows: &[Row], out: &mut W) -> io::Result<()>
-    ensures { OnOk result (Appends (W.contents out.old) (W.contents out.new) (map_text rows.now)) }
-{
+/// Prints a map. A row has a heading with the statement, its line, its block, what leads to it, and
+/// the number of free capacity units; two lines of 36 cells of 12 capacity units, in two columns
+/// each; and a line for each part of the configuration above that is left out, and for each that is
+/// new. A cell has the number of the sub-channel that has most of it, the first in a tie, and `..`
+/// if no sub-channel has any of it.
+pub fn print_map<W: Write>(rows: &[Row], out: &mut W) -> io::Result<()> {
     let Some(first) = rows.first() else {
         return Ok(());
     };

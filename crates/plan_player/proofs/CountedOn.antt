@@ -5,7 +5,7 @@ use Rattle.std.proofs.Math.Nat.{mod-eq_of_lt, mod-add-mod, mod_self, mod-lt}
 use Rattle.mux_types.specs.declared.limits.TheConstants.{COUNTS}
 use Rattle.fib_carousel.specs.Pages.{page_after}
 use Rattle.plan_code.specs.declared.hold.Hold.{Hold}
-use Rattle.plan_code.specs.declared.hold.Hold.TheVariants.{Running, Waits, WaitsDay, WaitsContact, WaitsSwap, Ended}
+use Rattle.plan_code.specs.declared.hold.Hold.TheVariants.{Running, Waits, WaitsDay, WaitsContact, WaitsAny, WaitsSwap, Ended}
 use Rattle.plan_code.specs.declared.limits.TheConstants.{FRAMES_A_DAY}
 use Rattle.plan_code.specs.declared.plan.Plan.{Plan}
 use Rattle.plan_code.specs.Machine.{State}
@@ -57,6 +57,7 @@ hold_none (Waits n) =
     ap (λ (k : ℕ). Waits k) same
 hold_none (WaitsDay t) = refl
 hold_none (WaitsContact c closed) = refl
+hold_none (WaitsAny closed opened until left) = ap (λ (l : Option ℕ). WaitsAny closed opened until l) (left_none left)
 hold_none WaitsSwap = refl
 hold_none Ended = refl
 
@@ -67,6 +68,7 @@ hold_step n (Waits m) =
     ap (λ (k : ℕ). Waits k) same
 hold_step n (WaitsDay t) = refl
 hold_step n (WaitsContact c closed) = refl
+hold_step n (WaitsAny closed opened until left) = ap (λ (l : Option ℕ). WaitsAny closed opened until l) (left_step n left)
 hold_step n WaitsSwap = refl
 hold_step n Ended = refl
 

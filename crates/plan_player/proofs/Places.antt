@@ -3,9 +3,9 @@ use Rattle.std.specs.Prelude.{slice_get, option_map, IsSome}
 use Rattle.std.proofs.Common.{◌≡◌, ℕ, zero, suc, ◌<◌, Bool, true, false, cond, eqb, List, [], ◌∷◌, length, Option, Some, None, refl, sym, ap, subst, ◌∙◌, arith}
 use Rattle.std.proofs.lemmas.Bool.{eqb-true}
 use Rattle.plan_code.specs.declared.hold.Hold.{Hold}
-use Rattle.plan_code.specs.declared.hold.Hold.TheVariants.{Running, Waits, WaitsDay, WaitsContact, WaitsSwap, Ended}
+use Rattle.plan_code.specs.declared.hold.Hold.TheVariants.{Running, Waits, WaitsDay, WaitsContact, WaitsAny, WaitsSwap, Ended}
 use Rattle.plan_code.specs.declared.instr.Instr.{Instr}
-use Rattle.plan_code.specs.declared.instr.Instr.TheVariants.{Wait, Until, WaitContact, CommitIn, CommitAt, Join, Settle, End, Edit as Edits, Test, Jump, Set, Loop}
+use Rattle.plan_code.specs.declared.instr.Instr.TheVariants.{Wait, Until, WaitContact, WaitAny, CommitIn, CommitAt, Join, Settle, End, Edit as Edits, Test, TestTime, Jump, Set, Loop}
 use Rattle.plan_code.specs.declared.instr.Line.{Line}
 use Rattle.plan_code.specs.declared.label.Label.{Label}
 use Rattle.plan_code.specs.declared.plan.Plan.{Plan}
@@ -58,6 +58,7 @@ effect_inside : (p : Program) (plan : Plan) (i : Instr) (s : State) → is_runni
 effect_inside p plan (Wait n) s runs inside e = absurd cc
 effect_inside p plan (Until d) s runs inside e = absurd cc
 effect_inside p plan (WaitContact d closed) s runs inside e = absurd cc
+effect_inside p plan (WaitAny closed opened until frames) s runs inside e = absurd cc
 effect_inside p plan (CommitIn k) s runs inside e = absurd (not_ended s.hold runs e)
 effect_inside p plan (CommitAt n) s runs inside e = absurd (not_ended s.hold runs e)
 effect_inside p plan Join s runs inside e = absurd cc
@@ -65,6 +66,7 @@ effect_inside p plan Settle s runs inside e = absurd (settle_ends s s.left runs 
 effect_inside p plan End s runs inside e = inside
 effect_inside p plan (Edits d) s runs inside e = absurd (not_ended s.hold runs e)
 effect_inside p plan (Test d target) s runs inside e = absurd (not_ended s.hold runs e)
+effect_inside p plan (TestTime from to target) s runs inside e = absurd (not_ended s.hold runs e)
 effect_inside p plan (Jump target) s runs inside e = absurd (not_ended s.hold runs e)
 effect_inside p plan (Set r n) s runs inside e = absurd (not_ended s.hold runs e)
 effect_inside p plan (Loop r target) s runs inside e = absurd (not_ended s.hold runs e)
@@ -104,6 +106,7 @@ suspended_inside p ts ty u Running e h ended = expects_inside p ts ty u.pc u.cou
 suspended_inside p ts ty u (Waits k) e h ended = expects_inside p ts ty u.pc u.counters _ h
 suspended_inside p ts ty u (WaitsDay d) e h ended = expects_inside p ts ty u.pc u.counters _ h
 suspended_inside p ts ty u (WaitsContact d closed) e h ended = expects_inside p ts ty u.pc u.counters _ h
+suspended_inside p ts ty u (WaitsAny closed opened until left) e h ended = expects_inside p ts ty u.pc u.counters _ h
 suspended_inside p ts ty u WaitsSwap e h ended = expects_inside p ts ty u.pc u.counters _ h
 suspended_inside p ts ty u Ended e h ended = ended e
 

@@ -1,22 +1,22 @@
 -- Quiet frames: what they are, from the state alone, and how many there are.
-use Rattle.std.specs.Prelude.{◌||◌, replicate}
+use Rattle.std.specs.Prelude.{◌||◌, IfSome, replicate}
 use Rattle.std.proofs.Common.{◌≡◌, ℕ, zero, suc, ◌+◌, ◌%◌, ◌≤◌, ◌==◌, Bool, true, false, cond, List, ◌∷◌, Option, Some, None, refl, sym, ap, subst, ◌∙◌, arith}
 use Rattle.std.proofs.lemmas.Bool.{eqb-true}
 use Rattle.std.proofs.Math.Nat.{mod-eq_of_lt}
 use Rattle.mux_config.specs.Sameness.{is_same_flag}
 use Rattle.plan_code.specs.declared.hold.Hold.{Hold}
-use Rattle.plan_code.specs.declared.hold.Hold.TheVariants.{Running, Waits, WaitsDay, WaitsContact, WaitsSwap, Ended}
+use Rattle.plan_code.specs.declared.hold.Hold.TheVariants.{Running, Waits, WaitsDay, WaitsContact, WaitsAny, WaitsSwap, Ended}
 use Rattle.plan_code.specs.declared.limits.TheConstants.{FRAMES_A_DAY}
 use Rattle.plan_code.specs.declared.plan.Plan.{Plan}
-use Rattle.plan_code.specs.Flags.{is_closed}
+use Rattle.plan_code.specs.Flags.{is_closed, any_closed, any_open}
 use Rattle.plan_code.specs.Program.{Program}
 use Rattle.plan_code.specs.Machine.{State}
 use Rattle.plan_runs.specs.declared.event.Event.TheVariants.{Frame}
-use Rattle.plan_runs.specs.Frames.{is_due, with_swap, with_due_swap, is_running, is_here, with_hold_ended, ready, burst, burst_steps, after_burst, frame_steps, is_first_noticed, shown, shown_bytes, left_after_frame, hold_after_frame, with_next_counts, frame_bytes, after_frame}
+use Rattle.plan_runs.specs.Frames.{is_due, with_swap, with_due_swap, is_running, is_day, is_here, with_hold_ended, ready, burst, burst_steps, after_burst, frame_steps, is_first_noticed, shown, shown_bytes, left_after_frame, hold_after_frame, with_next_counts, frame_bytes, after_frame}
 use Rattle.plan_runs.specs.Runs.{run_frames}
 use Rattle.plan_runs.specs.Announced.{notice_frames}
 use Rattle.plan_player.specs.Playing.{last_steps}
-use Rattle.plan_player.specs.Quiet.{IsQuiet, AreQuiet, counted_on, QuietFramesAreCopied, SwapIsAway, HoldIsAway}
+use Rattle.plan_player.specs.Quiet.{IsQuiet, AreQuiet, counted_on, QuietFramesAreCopied, SwapIsAway, DayIsAway, HoldIsAway}
 
 -- ---- a quiet frame
 
@@ -107,13 +107,30 @@ pub fewer_swap : (notice : ℕ) (left : Option ℕ) (m n : ℕ) → n ≤ m → 
 fewer_swap notice None m n le away = tt
 fewer_swap notice (Some l) m n le away = (omega (arith, le, away.0), λ from. omega (arith, le, away.1 from))
 
+pub fewer_day : (day t m n : ℕ) → n ≤ m → DayIsAway day m t → DayIsAway day n t
+fewer_day day t m n le away = λ some.
+    let at = away (omega (arith, le, some)) in
+    (omega (arith, le, at.0), λ before. omega (arith, le, at.1 before))
+
+pub fewer_until : (day : ℕ) (until : Option ℕ) (m n : ℕ) → n ≤ m → IfSome until (DayIsAway day m) → IfSome until (DayIsAway day n)
+fewer_until day None m n le away = tt
+fewer_until day (Some t) m n le away = fewer_day day t m n le away
+
+pub fewer_left : (left : Option ℕ) (m n : ℕ) → n ≤ m → IfSome left (λ k. m ≤ k) → IfSome left (λ k. n ≤ k)
+fewer_left None m n le away = tt
+fewer_left (Some k) m n le away = omega (arith, le, away)
+
 pub fewer_hold : (s : State) (hold : Hold) (m n : ℕ) → n ≤ m → HoldIsAway s hold m → HoldIsAway s hold n
 fewer_hold s Running m n le away = omega (arith, le, away)
 fewer_hold s (Waits frames) m n le away = omega (arith, le, away)
-fewer_hold s (WaitsDay t) m n le away = λ some.
-    let day = away (omega (arith, le, some)) in
-    (omega (arith, le, day.0), λ before. omega (arith, le, day.1 before))
+fewer_hold s (WaitsDay t) m n le away = fewer_day s.day t m n le away
 fewer_hold s (WaitsContact c closed) m n le away = λ here. omega (arith, le, away here)
+fewer_hold s (WaitsAny closed opened until left) m n le away = record {
+  closed_away = λ here. omega (arith, le, away.closed_away here);
+  opened_away = λ here. omega (arith, le, away.opened_away here);
+  until_away = fewer_until s.day until m n le away.until_away;
+  left_away = fewer_left left m n le away.left_away;
+}
 fewer_hold s WaitsSwap m n le away = tt
 fewer_hold s Ended m n le away = tt
 
@@ -146,11 +163,27 @@ contact_not_here : (here : Bool) (n : ℕ) → (here ≡ true → suc n ≡ 0) �
 contact_not_here true n away = let none : suc n ≡ 0 = away refl in absurd (omega (arith, none))
 contact_not_here false n away = refl
 
+until_not_here : (day : ℕ) (until : Option ℕ) (n : ℕ) → IfSome until (DayIsAway day (suc n)) → is_day day until ≡ false
+until_not_here day None n away = refl
+until_not_here day (Some t) n away = day_not_here day t n (away (omega arith)).1 (day == t) refl
+
+left_not_here : (left : Option ℕ) (n : ℕ) → IfSome left (λ k. suc n ≤ k) → is_due left ≡ false
+left_not_here None n away = refl
+left_not_here (Some k) n away = not_zero k (omega (arith, away)) (k == 0) refl
+
+neither : (a b : Bool) → a ≡ false → b ≡ false → (a || b) ≡ false
+neither true b e f = absurd cc
+neither false b e f = f
+
 not_here : (s : State) (hold : Hold) (n : ℕ) → HoldIsAway s hold (suc n) → is_here s hold ≡ false
 not_here s Running n away = absurd (omega (arith, away))
 not_here s (Waits k) n away = not_zero k (omega (arith, away)) (k == 0) refl
 not_here s (WaitsDay t) n away = day_not_here s.day t n (away (omega arith)).1 (s.day == t) refl
 not_here s (WaitsContact c closed) n away = contact_not_here (is_same_flag (is_closed s.contacts c) closed) n away
+not_here s (WaitsAny closed opened until left) n away =
+    neither (any_closed closed s.contacts) _ (contact_not_here (any_closed closed s.contacts) n away.closed_away)
+    (neither (any_open opened s.contacts) _ (contact_not_here (any_open opened s.contacts) n away.opened_away)
+    (neither (is_day s.day until) _ (until_not_here s.day until n away.until_away) (left_not_here left n away.left_away)))
 not_here s WaitsSwap n away = refl
 not_here s Ended n away = refl
 
@@ -158,16 +191,13 @@ not_ended : (s : State) (b : Bool) → b ≡ false → cond b (resumed s) s ≡ 
 not_ended s true e = absurd cc
 not_ended s false e = refl
 
-neither : (a b : Bool) → a ≡ false → b ≡ false → (a || b) ≡ false
-neither true b e f = absurd cc
-neither false b e f = f
-
 -- a machine whose wait condition is not met is suspended
 not_running : (s : State) (hold : Hold) → is_here s hold ≡ false → is_running hold ≡ false
 not_running s Running e = absurd cc
 not_running s (Waits k) e = refl
 not_running s (WaitsDay t) e = refl
 not_running s (WaitsContact c closed) e = refl
+not_running s (WaitsAny closed opened until left) e = refl
 not_running s WaitsSwap e = refl
 not_running s Ended e = refl
 
@@ -191,16 +221,36 @@ is_quiet p s n swap hold =
       no_phase = neither (is_due s.left) (is_first_noticed notice (shown p s).left) due later;
     }
 
+day_nearer : (day t n : ℕ) → DayIsAway day (suc n) t → DayIsAway ((day + 1) % FRAMES_A_DAY) n t
+day_nearer day t n away = λ some.
+    let at = away (omega arith) in
+    let next : (day + 1) % FRAMES_A_DAY ≡ day + 1 = mod-eq_of_lt (omega (arith, some, at.0)) in
+    (omega (arith, next, at.0), λ before. omega (arith, next, at.1 (omega (arith, next, before))))
+
+until_nearer : (day : ℕ) (until : Option ℕ) (n : ℕ) → IfSome until (DayIsAway day (suc n)) → IfSome until (DayIsAway ((day + 1) % FRAMES_A_DAY) n)
+until_nearer day None n away = tt
+until_nearer day (Some t) n away = day_nearer day t n away
+
+left_nearer : (left : Option ℕ) (n : ℕ) → IfSome left (λ k. suc n ≤ k) → IfSome (left_after_frame left) (λ k. n ≤ k)
+left_nearer None n away = tt
+left_nearer (Some k) n away = omega (arith, away)
+
+none_before : (n : ℕ) → suc n ≡ 0 → n ≡ 0
+none_before n none = absurd (omega (arith, none))
+
 hold_nearer : (plan : Plan) (s : State) (hold : Hold) (n : ℕ) → HoldIsAway s hold (suc n) → HoldIsAway (with_next_counts plan s) (hold_after_frame hold) n
 hold_nearer plan s Running n away = absurd (omega (arith, away))
 hold_nearer plan s (Waits k) n away = omega (arith, away)
-hold_nearer plan s (WaitsDay t) n away = λ some.
-    let day = away (omega arith) in
-    let next : (s.day + 1) % FRAMES_A_DAY ≡ s.day + 1 = mod-eq_of_lt (omega (arith, some, day.0)) in
-    (omega (arith, next, day.0), λ before. omega (arith, next, day.1 (omega (arith, next, before))))
+hold_nearer plan s (WaitsDay t) n away = day_nearer s.day t n away
 hold_nearer plan s (WaitsContact c closed) n away = λ here.
     let none : suc n ≡ 0 = away here in
     absurd (omega (arith, none))
+hold_nearer plan s (WaitsAny closed opened until left) n away = record {
+  closed_away = λ here. none_before n (away.closed_away here);
+  opened_away = λ here. none_before n (away.opened_away here);
+  until_away = until_nearer s.day until n away.until_away;
+  left_away = left_nearer left n away.left_away;
+}
 hold_nearer plan s WaitsSwap n away = tt
 hold_nearer plan s Ended n away = tt
 

@@ -1,13 +1,16 @@
 -- Quiet frames of a code that waits, with an empty multiplex: examples that hold and examples that fail.
 use Rattle.std.proofs.Common.{◌≡◌, ℕ, zero, suc, true, false, [], ◌∷◌, Option, Some, None, refl, arith}
 use Rattle.mux_config.specs.Configuration.{nothing}
+use Rattle.plan_code.specs.declared.flags.Contacts.{Contacts}
 use Rattle.plan_code.specs.declared.hold.Hold.{Hold}
-use Rattle.plan_code.specs.declared.hold.Hold.TheVariants.{Running, Waits, WaitsDay, WaitsContact, WaitsSwap, Ended}
+use Rattle.plan_code.specs.declared.hold.Hold.TheVariants.{Running, Waits, WaitsDay, WaitsContact, WaitsAny, WaitsSwap, Ended}
 use Rattle.plan_code.specs.declared.instr.Instr.TheVariants.{Wait, End}
+use Rattle.plan_code.specs.Flags.{any_closed, any_open}
 use Rattle.plan_code.specs.Program.{Program}
 use Rattle.plan_code.specs.Machine.{State}
 use Rattle.plan_runs.proofs.Samples.{plan, line, code, first_state}
-use Rattle.plan_player.specs.Quiet.{IsQuiet, AreQuiet, counted_on, AreCopied, SwapIsAway, HoldIsAway}
+use Rattle.plan_player.specs.Quiet.{IsQuiet, AreQuiet, counted_on, AreCopied, SwapIsAway, DayIsAway, AreAway, HoldIsAway}
+use Rattle.plan_player.specs.Stretch.{hold_later}
 use Rattle.plan_player.proofs.Quiet.{quiet_frames_are_copied}
 
 abbrev waits : Program
@@ -107,3 +110,50 @@ open_as_long_as_it_is = λ here. let e : false ≡ true = here in absurd cc
 
 is_open_now : HoldIsAway (at Ended None) (WaitsContact 3 false) 1 → ⊥
 is_open_now h = let e : 1 ≡ 0 = h refl in omega (arith, e)
+
+-- ---- alternatives: contact 3 closed, or these, with all contacts open
+
+abbrev third : Contacts
+third = record { 0 = 8 }
+
+abbrev no_contacts : Contacts
+no_contacts = record { 0 = 0 }
+
+one_before_the_day : DayIsAway 3599998 1 3599999
+one_before_the_day = λ some. (omega arith, λ before. omega arith)
+
+not_its_frame : DayIsAway 3599998 2 3599999 → ⊥
+not_its_frame h = let e = (h (omega arith)).1 (omega arith) in omega (arith, e)
+
+two_of_three : HoldIsAway (at Ended None) (WaitsAny third no_contacts (Some 42) (Some 3)) 2
+unfolding any_closed any_open
+two_of_three = record {
+  closed_away = λ here. let e : false ≡ true = here in absurd cc;
+  opened_away = λ here. let e : false ≡ true = here in absurd cc;
+  until_away = λ some. (omega arith, λ before. omega (arith, before));
+  left_away = omega arith;
+}
+
+-- the number of frames ends it
+not_four_of_three : AreAway (at Ended None) third no_contacts None (Some 3) 4 → ⊥
+not_four_of_three h = omega (arith, h.left_away)
+
+-- the day does
+not_with_the_day : AreAway (at Ended None) third no_contacts (Some 3599999) (Some 5) 2 → ⊥
+not_with_the_day h = not_its_frame h.until_away
+
+-- a contact that is open does at once
+open_already : AreAway (at Ended None) no_contacts third None None 1 → ⊥
+unfolding any_closed any_open
+open_already h = let e : 1 ≡ 0 = h.opened_away refl in omega (arith, e)
+
+fewer_are_left : hold_later 2 (WaitsAny third no_contacts (Some 42) (Some 3)) ≡ WaitsAny third no_contacts (Some 42) (Some 1)
+fewer_are_left = refl
+
+while_alternatives_are_away : IsQuiet waits (at (WaitsAny third no_contacts (Some 42) (Some 1)) None)
+unfolding any_closed any_open
+while_alternatives_are_away = record { no_swap = refl; suspended = refl; no_phase = refl }
+
+as_the_frames_end : IsQuiet waits (at (WaitsAny third no_contacts (Some 42) (Some 0)) None) → ⊥
+unfolding any_closed any_open
+as_the_frames_end h = let e : true ≡ false = h.suspended in absurd cc

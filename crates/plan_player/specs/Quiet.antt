@@ -1,10 +1,11 @@
 -- Quiet frames: they make no swap, execute no instruction and begin no phase.
-use Rattle.std.specs.Prelude.{◌≡◌, ℕ, zero, suc, ◌+◌, ◌≤◌, true, false, replicate, Option, Some, None}
+use Rattle.std.specs.Prelude.{◌≡◌, ℕ, zero, suc, ◌+◌, ◌≤◌, true, false, replicate, Option, Some, None, IfSome}
 use Rattle.plan_code.specs.declared.hold.Hold.{Hold}
-use Rattle.plan_code.specs.declared.hold.Hold.TheVariants.{Running, Waits, WaitsDay, WaitsContact, WaitsSwap, Ended}
+use Rattle.plan_code.specs.declared.hold.Hold.TheVariants.{Running, Waits, WaitsDay, WaitsContact, WaitsAny, WaitsSwap, Ended}
 use Rattle.plan_code.specs.declared.limits.TheConstants.{FRAMES_A_DAY}
 use Rattle.plan_code.specs.declared.plan.Plan.{Plan}
-use Rattle.plan_code.specs.Flags.{is_closed}
+use Rattle.plan_code.specs.declared.flags.Contacts.{Contacts}
+use Rattle.plan_code.specs.Flags.{is_closed, any_closed, any_open}
 use Rattle.plan_code.specs.Program.{Program}
 use Rattle.plan_code.specs.Machine.{State}
 use Rattle.mux_config.specs.Sameness.{is_same_flag}
@@ -50,11 +51,23 @@ abbrev pub SwapIsAway : ℕ → Option ℕ → ℕ → Type 0
 SwapIsAway notice None n = Unit {0}
 SwapIsAway notice (Some left) n = (n ≤ left) × (notice ≤ left → notice + n ≤ left)
 
+-- none of n frames is this frame of the day, and they are all of one day
+abbrev pub DayIsAway : (day n t : ℕ) → Type 0
+DayIsAway day n t = 1 ≤ n → (day + n ≤ FRAMES_A_DAY) × (day ≤ t → day + n ≤ t)
+
+-- none of the alternatives of a wait is met in n frames
+pub record AreAway (s : State) (closed opened : Contacts) (until left : Option ℕ) (n : ℕ) : Type 0 where
+  pub closed_away : any_closed closed s.contacts ≡ true → n ≡ 0
+  pub opened_away : any_open opened s.contacts ≡ true → n ≡ 0
+  pub until_away : IfSome until (DayIsAway s.day n)
+  pub left_away : IfSome left (λ k. n ≤ k)
+
 -- this wait ends in none of n frames; a running machine executes instructions in the first
 abbrev pub HoldIsAway : State → Hold → ℕ → Type 0
 HoldIsAway s Running n = n ≡ 0
 HoldIsAway s (Waits frames) n = n ≤ frames
-HoldIsAway s (WaitsDay t) n = 1 ≤ n → (s.day + n ≤ FRAMES_A_DAY) × (s.day ≤ t → s.day + n ≤ t)
+HoldIsAway s (WaitsDay t) n = DayIsAway s.day n t
 HoldIsAway s (WaitsContact c closed) n = is_same_flag (is_closed s.contacts c) closed ≡ true → n ≡ 0
+HoldIsAway s (WaitsAny closed opened until left) n = AreAway s closed opened until left n
 HoldIsAway s WaitsSwap n = Unit {0}
 HoldIsAway s Ended n = Unit {0}

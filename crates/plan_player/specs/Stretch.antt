@@ -9,7 +9,7 @@ use Rattle.fib_codec.specs.Modes.{count_step}
 use Rattle.fib_codec.specs.declared.modes.Mode.{Mode}
 use Rattle.fib_carousel.specs.Carried.{IsPageable}
 use Rattle.plan_code.specs.declared.hold.Hold.{Hold}
-use Rattle.plan_code.specs.declared.hold.Hold.TheVariants.{Running, Waits, WaitsDay, WaitsContact, WaitsSwap, Ended}
+use Rattle.plan_code.specs.declared.hold.Hold.TheVariants.{Running, Waits, WaitsDay, WaitsContact, WaitsAny, WaitsSwap, Ended}
 use Rattle.plan_code.specs.declared.plan.Plan.{Plan}
 use Rattle.plan_code.specs.Machine.{State}
 use Rattle.plan_runs.specs.Frames.{is_noticed, low_of_swap, ensemble_sent, shown_bytes, sent_entries, sent_rounds}
@@ -91,6 +91,7 @@ hold_later n Running = Running
 hold_later n (Waits frames) = Waits (frames - n)
 hold_later n (WaitsDay t) = WaitsDay t
 hold_later n (WaitsContact c closed) = WaitsContact c closed
+hold_later n (WaitsAny closed opened until left) = WaitsAny closed opened until (left_later n left)
 hold_later n WaitsSwap = WaitsSwap
 hold_later n Ended = Ended
 

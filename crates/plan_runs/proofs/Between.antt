@@ -1,17 +1,19 @@
 -- A typed code between frames: what is expected where it resumes, and that each frame is free of traps.
-use Rattle.std.specs.Prelude.{slice_get, option_map}
+use Rattle.std.specs.Prelude.{◌||◌, IfSome, slice_get, option_map}
 use Rattle.std.proofs.Common.{◌≡◌, ℕ, zero, suc, ◌+◌, ◌-◌, ◌≤◌, Bool, true, false, cond, List, [], ◌∷◌, Option, Some, None, refl, sym, ap, subst, arith, inl, inr}
 use Rattle.std.proofs.lemmas.Bool.{eqb-true, eqb-false}
 use Rattle.mux_config.specs.Configuration.{Configuration}
 use Rattle.std.specs.List.{AllByRecursion}
+use Rattle.plan_code.specs.declared.flags.Contacts.{Contacts}
 use Rattle.plan_code.specs.declared.hold.Hold.{Hold}
-use Rattle.plan_code.specs.declared.hold.Hold.TheVariants.{Running, Waits, WaitsDay, WaitsContact, WaitsSwap, Ended}
+use Rattle.plan_code.specs.declared.hold.Hold.TheVariants.{Running, Waits, WaitsDay, WaitsContact, WaitsAny, WaitsSwap, Ended}
 use Rattle.plan_code.specs.declared.instr.Line.{Line}
 use Rattle.plan_code.specs.declared.instr.Instr.{Instr}
+use Rattle.plan_code.specs.Flags.{any_closed, any_open}
 use Rattle.plan_code.specs.Program.{Program, IsProgram, IsLine, IsInstr, instr_at}
 use Rattle.plan_code.specs.Machine.{State, step, effect, effect_of}
 use Rattle.plan_verifier.specs.Typing.{Known, IsTyping}
-use Rattle.plan_runs.specs.Frames.{is_due, with_swap, with_due_swap, hold_after_swap, is_running, is_here, with_hold_ended, ready, Executes, after_burst, FrameIsAllowed, is_first_noticed, left_after_frame, hold_after_frame, with_next_counts, after_frame}
+use Rattle.plan_runs.specs.Frames.{is_due, with_swap, with_due_swap, hold_after_swap, is_running, is_day, is_any_here, is_here, with_hold_ended, ready, Executes, after_burst, FrameIsAllowed, is_first_noticed, left_after_frame, hold_after_frame, with_next_counts, after_frame}
 use Rattle.plan_runs.proofs.Knowledge.{ComesBy, IsAhead, IsOnAir, CommittedBy, IsKept}
 use Rattle.plan_runs.proofs.Passing.{swap_comes, swap_pauses, swap_joins, now, pauses_come, comes_later, pauses_later, joins_later, ahead_from}
 use Rattle.plan_runs.proofs.Steps.{Expects, ResumesBy, IsSuspended, not_running, Suspends, RunsAt, Outcome, arrive}
@@ -90,6 +92,7 @@ swap_resumes p ts pc Running left c n counters due h = expects_as p ts pc counte
 swap_resumes p ts pc (Waits k) left c n counters due h = expects_as p ts pc counters _ _ (λ t. swap_comes k t.pending t left c n due) h
 swap_resumes p ts pc (WaitsDay d) left c n counters due h = expects_as p ts pc counters _ _ (λ t. swap_pauses t.pending t left c n due) h
 swap_resumes p ts pc (WaitsContact d closed) left c n counters due h = expects_as p ts pc counters _ _ (λ t. swap_pauses t.pending t left c n due) h
+swap_resumes p ts pc (WaitsAny closed opened until frames) left c n counters due h = expects_as p ts pc counters _ _ (λ t. swap_pauses t.pending t left c n due) h
 swap_resumes p ts pc WaitsSwap left c n counters due h = expects_as p ts pc counters _ _ (λ t. swap_joins t left n) h
 swap_resumes p ts pc Ended left c n counters due h = tt
 
@@ -131,6 +134,9 @@ resumed p ts ty s (WaitsDay d) here ahead kept h =
 resumed p ts ty s (WaitsContact d closed) here ahead kept h =
     let comes = pauses_come h.known.pending h.known s.left s.current s.next h.comes in
     arrive p ts ty p.plan.budget (record s { hold = Running }) h.known refl h.arrives h.affords (now h.known.pending h.known s.left s.current s.next ahead comes) h.set kept
+resumed p ts ty s (WaitsAny closed opened until left) here ahead kept h =
+    let comes = pauses_come h.known.pending h.known s.left s.current s.next h.comes in
+    arrive p ts ty p.plan.budget (record s { hold = Running }) h.known refl h.arrives h.affords (now h.known.pending h.known s.left s.current s.next ahead comes) h.set kept
 resumed p ts ty s WaitsSwap here ahead kept h = absurd cc
 resumed p ts ty s Ended here ahead kept h = absurd cc
 
@@ -145,14 +151,29 @@ holds p ts s (Waits k) away ahead h =
     record { known = h.known; arrives = h.arrives; affords = h.affords; set = h.set; comes = comes_later (k - 1) h.known.pending h.known s.left s.current s.next ahead comes }
 holds p ts s (WaitsDay d) away ahead h = expects_as p ts s.pc s.counters _ _ (λ t. pauses_later t.pending t s.left s.current s.next ahead) h
 holds p ts s (WaitsContact d closed) away ahead h = expects_as p ts s.pc s.counters _ _ (λ t. pauses_later t.pending t s.left s.current s.next ahead) h
+holds p ts s (WaitsAny closed opened until left) away ahead h = expects_as p ts s.pc s.counters _ _ (λ t. pauses_later t.pending t s.left s.current s.next ahead) h
 holds p ts s WaitsSwap away ahead h = expects_as p ts s.pc s.counters _ _ (λ t. joins_later t s.left s.next) h
 holds p ts s Ended away ahead h = tt
+
+-- while a wait with alternatives continues, frames are left, if it has a number of them
+later_none : (a b : Bool) → (a || b) ≡ false → b ≡ false
+later_none false b e = e
+later_none true b e = absurd cc
+
+pub not_due : (s : State) (closed opened : Contacts) (until left : Option ℕ) → is_any_here s closed opened until left ≡ false → is_due left ≡ false
+not_due s closed opened until left e =
+    later_none (is_day s.day until) (is_due left) (later_none (any_open opened s.contacts) _ (later_none (any_closed closed s.contacts) _ e))
+
+pub some_left : (left : Option ℕ) → is_due left ≡ false → IfSome left (λ k. 1 ≤ k)
+some_left None e = tt
+some_left (Some k) e = let apart = eqb-false k 0 e in omega (arith, apart)
 
 still : (s : State) (hold : Hold) → is_here s hold ≡ false → IsSuspended hold
 still s Running e = absurd cc
 still s (Waits k) e = let apart = eqb-false k 0 e in omega (arith, apart)
 still s (WaitsDay d) e = tt
 still s (WaitsContact d closed) e = tt
+still s (WaitsAny closed opened until left) e = some_left left (not_due s closed opened until left e)
 still s WaitsSwap e = tt
 still s Ended e = tt
 

@@ -12,7 +12,7 @@ use Rattle.fib_codec.specs.Modes.{count_step}
 use Rattle.plan_code.specs.declared.plan.Plan.{Plan}
 use Rattle.plan_code.specs.declared.hold.Hold.TheVariants.{Running}
 use Rattle.plan_code.specs.declared.instr.Instr.{Instr}
-use Rattle.plan_code.specs.declared.instr.Instr.TheVariants.{Wait, Until, WaitContact, CommitIn, CommitAt, Join, Settle, End, Edit as Edits, Test, Jump, Set, Loop}
+use Rattle.plan_code.specs.declared.instr.Instr.TheVariants.{Wait, Until, WaitContact, WaitAny, CommitIn, CommitAt, Join, Settle, End, Edit as Edits, Test, TestTime, Jump, Set, Loop}
 use Rattle.plan_code.specs.Program.{Program, IsProgram, IsInstr, IsEdit}
 use Rattle.plan_code.specs.Machine.{State, step, settle, effect, IsAllowed, left_in, left_at}
 use Rattle.plan_runs.specs.Frames.{with_due_swap, is_here, with_hold_ended, ready, Executes, after_burst}
@@ -105,6 +105,7 @@ effect_carries : (plan : Plan) (i : Instr) (s : State) → IsInstr i → IsAllow
 effect_carries plan (Wait n) s f a = record { current = refl; count = refl; eid = refl; page_index = refl; left = left_same plan s.count s.left s.next; next = λ c. c }
 effect_carries plan (Until d) s f a = record { current = refl; count = refl; eid = refl; page_index = refl; left = left_same plan s.count s.left s.next; next = λ c. c }
 effect_carries plan (WaitContact d closed) s f a = record { current = refl; count = refl; eid = refl; page_index = refl; left = left_same plan s.count s.left s.next; next = λ c. c }
+effect_carries plan (WaitAny closed opened until frames) s f a = record { current = refl; count = refl; eid = refl; page_index = refl; left = left_same plan s.count s.left s.next; next = λ c. c }
 effect_carries plan (CommitIn k) s f a =
     let new : IsNewly plan s.count (Some (left_in (count_step (layout_mode plan.layout)) s.count k)) = (in_notice (layout_mode plan.layout) s.count k plan.notice a.1, in_step (layout_mode plan.layout) s.count k) in
     record { current = refl; count = refl; eid = refl; page_index = refl; left = left_new plan s.count s.left (Some (left_in (count_step (layout_mode plan.layout)) s.count k)) s.next s.next a.0.idle new; next = λ c. c }
@@ -124,6 +125,7 @@ effect_carries plan (Edits e) s f a =
       next = λ c. edits_keep e s.next (edit_in_range e f) c a.1;
     }
 effect_carries plan (Test d target) s f a = record { current = refl; count = refl; eid = refl; page_index = refl; left = left_same plan s.count s.left s.next; next = λ c. c }
+effect_carries plan (TestTime from to target) s f a = record { current = refl; count = refl; eid = refl; page_index = refl; left = left_same plan s.count s.left s.next; next = λ c. c }
 effect_carries plan (Jump target) s f a = record { current = refl; count = refl; eid = refl; page_index = refl; left = left_same plan s.count s.left s.next; next = λ c. c }
 effect_carries plan (Set r n) s f a = record { current = refl; count = refl; eid = refl; page_index = refl; left = left_same plan s.count s.left s.next; next = λ c. c }
 effect_carries plan (Loop r target) s f a = record { current = refl; count = refl; eid = refl; page_index = refl; left = left_same plan s.count s.left s.next; next = λ c. c }

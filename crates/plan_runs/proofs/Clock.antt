@@ -5,7 +5,7 @@ use Rattle.std.proofs.lemmas.Bool.{eqb-true, eqb-false}
 use Rattle.mux_config.specs.Configuration.{Configuration}
 use Rattle.plan_code.specs.declared.plan.Plan.{Plan}
 use Rattle.plan_code.specs.declared.instr.Instr.{Instr}
-use Rattle.plan_code.specs.declared.instr.Instr.TheVariants.{Wait, Until, WaitContact, CommitIn, CommitAt, Join, Settle, End, Edit as Edits, Test, Jump, Set, Loop}
+use Rattle.plan_code.specs.declared.instr.Instr.TheVariants.{Wait, Until, WaitContact, WaitAny, CommitIn, CommitAt, Join, Settle, End, Edit as Edits, Test, TestTime, Jump, Set, Loop}
 use Rattle.plan_code.specs.declared.flags.Contacts.{Contacts}
 use Rattle.plan_code.specs.Flags.{is_closed, with_contact}
 use Rattle.plan_code.proofs.Bits.{contacts_change_alone}
@@ -33,6 +33,7 @@ effect_clock : (plan : Plan) (i : Instr) (s : State) → clock (effect plan i s)
 effect_clock plan (Wait n) s = refl
 effect_clock plan (Until t) s = refl
 effect_clock plan (WaitContact c closed) s = refl
+effect_clock plan (WaitAny closed opened until frames) s = refl
 effect_clock plan (CommitIn k) s = refl
 effect_clock plan (CommitAt n) s = refl
 effect_clock plan Join s = refl
@@ -40,6 +41,7 @@ effect_clock plan Settle s = settle_clock s.left s
 effect_clock plan End s = refl
 effect_clock plan (Edits e) s = refl
 effect_clock plan (Test c target) s = refl
+effect_clock plan (TestTime from to target) s = refl
 effect_clock plan (Jump target) s = refl
 effect_clock plan (Set r n) s = refl
 effect_clock plan (Loop r target) s = refl

@@ -1,5 +1,5 @@
 -- Each kind of instruction of a typed code is allowed, and leaves what is known wherever the machine continues.
-use Rattle.std.specs.Prelude.{nat_lt, slice_index, slice_set}
+use Rattle.std.specs.Prelude.{IfSome, nat_lt, slice_index, slice_set}
 use Rattle.std.proofs.Common.{◌≡◌, ◌≢◌, ℕ, ◌+◌, ◌-◌, ◌<◌, ◌≤◌, Bool, true, false, cond, eqb, List, length, set, Option, Some, None, is_some, refl, sym, ap, subst, ◌∙◌, arith, inl, inr}
 use Rattle.std.proofs.lemmas.Bool.{eqb-true, eqb-false, ltb-true}
 use Rattle.std.proofs.lemmas.List.{get_or-set_same, get_or-set_other, length-set}
@@ -12,17 +12,18 @@ use Rattle.fib_codec.specs.declared.modes.Mode.{Mode}
 use Rattle.fib_codec.specs.declared.modes.Mode.TheVariants.{I, II, III, IV}
 use Rattle.fib_codec.specs.Modes.{count_step}
 use Rattle.plan_code.specs.declared.hold.Hold.TheVariants.{WaitsSwap}
+use Rattle.plan_code.specs.declared.flags.Contacts.{Contacts}
 use Rattle.plan_code.specs.declared.flags.Counters.{Counters}
 use Rattle.plan_code.specs.declared.label.Label.{Label}
 use Rattle.plan_code.specs.declared.label.Swap.{Swap}
 use Rattle.plan_code.specs.declared.label.Swap.TheVariants.{Idle, Within, Perhaps}
 use Rattle.plan_code.specs.declared.instr.Instr.{Instr}
-use Rattle.plan_code.specs.declared.instr.Instr.TheVariants.{Wait, Until, WaitContact, CommitIn, CommitAt, Join, Settle, End, Edit as Edits, Test, Jump, Set, Loop}
+use Rattle.plan_code.specs.declared.instr.Instr.TheVariants.{Wait, Until, WaitContact, WaitAny, CommitIn, CommitAt, Join, Settle, End, Edit as Edits, Test, TestTime, Jump, Set, Loop}
 use Rattle.plan_code.specs.Flags.{is_set, is_closed, with_counter, without_counter}
 use Rattle.plan_code.proofs.Bits.{counters_change_alone}
-use Rattle.plan_code.specs.Program.{Program, IsProgram, IsInstr, label_at}
-use Rattle.plan_code.specs.Machine.{State, advance, suspend, commit, settle, effect, left_in, left_at, counter_of, IsAllowed, IsReady}
-use Rattle.plan_verifier.specs.Typing.{Known, CanCommit, IsTyping, IsSafe, IsSurelyPending, Arrives, Reaches, leaves, spent, known_after_swap, after_wait, after_pause, after_settle}
+use Rattle.plan_code.specs.Program.{Program, IsProgram, IsFrames, IsInstr, label_at}
+use Rattle.plan_code.specs.Machine.{State, advance, suspend, commit, settle, effect, left_in, left_at, counter_of, is_in_window, IsAllowed, IsReady}
+use Rattle.plan_verifier.specs.Typing.{Known, CanCommit, IsTyping, IsSafe, IsSurelyPending, Arrives, Reaches, leaves, continues, target_of, spent, known_after_swap, after_wait, after_pause, after_settle}
 use Rattle.plan_runs.specs.Frames.{is_running, left_after_frame}
 use Rattle.plan_runs.proofs.Knowledge.{IsIdleAs, IsPendingAs, AgreesBy, ComesBy, PausesBy, JoinsBy, IsAhead, AreSet, IsCommitted, CommittedBy, IsKept}
 use Rattle.plan_runs.proofs.Passing.{wait_by, pause_by, after_some}
@@ -131,6 +132,24 @@ wait_contact p ts b s d closed t h =
       comes = pause_by t.pending t s.left s.current s.next refl h.agrees;
     } in
     (tt, inl (record { stops = tt; ahead = agrees_ahead t.pending t.current t.next s.left s.current s.next h.agrees; resumes = expects; kept = h.kept }))
+
+some_frames : (frames : Option ℕ) → IfSome frames IsFrames → IfSome frames (λ k. 1 ≤ k)
+some_frames None formed = tt
+some_frames (Some k) formed = formed.0
+
+wait_any : (p : Program) (ts : List Known) (b : ℕ) (s : State) (closed opened : Contacts) (day frames : Option ℕ) (t : Known) → IsHere p ts b s (WaitAny closed opened day frames) t
+    → Succeeds p ts b s (WaitAny closed opened day frames)
+wait_any p ts b s closed opened day frames t h =
+    let u : Known = leaves p.plan (WaitAny closed opened day frames) t in
+    let expects : Expects p ts (s.pc + 1) s.counters (λ k. PausesBy k.pending k.current k.next (left_after_frame s.left) s.current s.next) =
+    record {
+      known = u;
+      arrives = h.safe.onward refl;
+      affords = omega arith;
+      set = set_as u.counters t.counters s.counters (paused_counters t.pending t) h.set;
+      comes = pause_by t.pending t s.left s.current s.next refl h.agrees;
+    } in
+    (tt, inl (record { stops = some_frames frames h.formed.frames_within; ahead = agrees_ahead t.pending t.current t.next s.left s.current s.next h.agrees; resumes = expects; kept = h.kept }))
 
 -- a wait for the swap
 joins : (p : Program) (ts : List Known) (s : State) (u : Known) (l : ℕ) → s.left ≡ Some l → Arrives p ts (s.pc + 1) (label_at p (s.pc + 1)) u → u.allowance ≤ p.plan.budget → AreSet u.counters s.counters
@@ -280,16 +299,22 @@ jump p ts b s target t h =
     let arrives = target_arrives p ts target (spent t) (h.safe.targets target refl) in
     (tt, inr (arrive p ts h.typing b (effect p.plan (Jump target) s) (spent t) h.runs arrives (omega (arith, h.affords)) h.agrees h.set h.kept))
 
-test_by : (p : Program) (ts : List Known) (b : ℕ) (s : State) (c target : ℕ) (t : Known) (closed : Bool) → IsHere p ts b s (Test c target) t
-    → Outcome p ts b (let r : State = record s { pc = cond closed (s.pc + 1) target } in r)
-test_by p ts b s c target t true h =
-    inr (arrive p ts h.typing b (let r : State = record s { pc = s.pc + 1 } in r) (spent t) h.runs (h.safe.onward refl) (omega (arith, h.affords)) h.agrees h.set h.kept)
-test_by p ts b s c target t false h =
-    let arrives = target_arrives p ts target (spent t) (h.safe.targets target refl) in
+-- a test that continues, or jumps to its target
+test_by : (p : Program) (ts : List Known) (b : ℕ) (s : State) (i : Instr) (target : ℕ) (t : Known) (onward : Bool) → IsHere p ts b s i t
+    → leaves p.plan i t ≡ spent t → continues i ≡ true → target_of i ≡ Some target
+    → Outcome p ts b (let r : State = record s { pc = cond onward (s.pc + 1) target } in r)
+test_by p ts b s i target t true h same goes jumps =
+    let arrives = subst (λ (u : Known). Arrives p ts (s.pc + 1) (label_at p (s.pc + 1)) u) same (h.safe.onward goes) in
+    inr (arrive p ts h.typing b (let r : State = record s { pc = s.pc + 1 } in r) (spent t) h.runs arrives (omega (arith, h.affords)) h.agrees h.set h.kept)
+test_by p ts b s i target t false h same goes jumps =
+    let arrives = target_arrives p ts target (spent t) (h.safe.targets target jumps) in
     inr (arrive p ts h.typing b (let r : State = record s { pc = target } in r) (spent t) h.runs arrives (omega (arith, h.affords)) h.agrees h.set h.kept)
 
 test : (p : Program) (ts : List Known) (b : ℕ) (s : State) (c target : ℕ) (t : Known) → IsHere p ts b s (Test c target) t → Succeeds p ts b s (Test c target)
-test p ts b s c target t h = (tt, test_by p ts b s c target t (is_closed s.contacts c) h)
+test p ts b s c target t h = (tt, test_by p ts b s (Test c target) target t (is_closed s.contacts c) h refl refl refl)
+
+test_time : (p : Program) (ts : List Known) (b : ℕ) (s : State) (from to target : ℕ) (t : Known) → IsHere p ts b s (TestTime from to target) t → Succeeds p ts b s (TestTime from to target)
+test_time p ts b s from to target t h = (tt, test_by p ts b s (TestTime from to target) target t (is_in_window from to s.day) h refl refl refl)
 
 -- ---- counters
 
@@ -382,6 +407,7 @@ pub succeeds : (p : Program) (ts : List Known) (b : ℕ) (s : State) (i : Instr)
 succeeds p ts b s (Wait n) t h = wait p ts b s n t h
 succeeds p ts b s (Until d) t h = until p ts b s d t h
 succeeds p ts b s (WaitContact d closed) t h = wait_contact p ts b s d closed t h
+succeeds p ts b s (WaitAny closed opened until frames) t h = wait_any p ts b s closed opened until frames t h
 succeeds p ts b s (CommitIn k) t h = commit_in p ts b s k t h
 succeeds p ts b s (CommitAt n) t h = commit_at p ts b s n t h
 succeeds p ts b s Join t h = join p ts b s t h
@@ -389,6 +415,7 @@ succeeds p ts b s Settle t h = settles p ts b s t h
 succeeds p ts b s End t h = end p ts b s t h
 succeeds p ts b s (Edits e) t h = edit p ts b s e t h
 succeeds p ts b s (Test c target) t h = test p ts b s c target t h
+succeeds p ts b s (TestTime from to target) t h = test_time p ts b s from to target t h
 succeeds p ts b s (Jump target) t h = jump p ts b s target t h
 succeeds p ts b s (Set r n) t h = set_counter p ts b s r n t h
 succeeds p ts b s (Loop r target) t h = loop p ts b s r target t h

@@ -5,6 +5,7 @@ pub mod Joined
 pub mod Reached
 pub mod Samples
 mod Vectors
+mod VectorsOfAlternatives
 mod Meanings
 pub mod Lookups
 pub mod Knowledge

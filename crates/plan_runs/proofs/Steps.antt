@@ -1,10 +1,10 @@
 -- One instruction of a typed code is allowed, and leaves what is known wherever the machine continues.
-use Rattle.std.specs.Prelude.{slice_get, option_map}
+use Rattle.std.specs.Prelude.{IfSome, slice_get, option_map}
 use Rattle.std.proofs.Common.{◌≡◌, ℕ, ◌<◌, ◌≤◌, true, false, eqb, List, length, Option, Some, None, refl, sym, ap, subst, ◌∙◌, arith, ◌⊎◌}
 use Rattle.std.proofs.lemmas.Bool.{eqb-true}
 use Rattle.mux_config.specs.Configuration.{Configuration}
 use Rattle.plan_code.specs.declared.hold.Hold.{Hold}
-use Rattle.plan_code.specs.declared.hold.Hold.TheVariants.{Running, Waits, WaitsDay, WaitsContact, WaitsSwap, Ended}
+use Rattle.plan_code.specs.declared.hold.Hold.TheVariants.{Running, Waits, WaitsDay, WaitsContact, WaitsAny, WaitsSwap, Ended}
 use Rattle.plan_code.specs.declared.flags.Counters.{Counters}
 use Rattle.plan_code.specs.declared.label.Label.{Label}
 use Rattle.plan_code.specs.declared.label.Swap.{Swap}
@@ -31,6 +31,7 @@ ResumesBy p ts pc Running left c n counters = Expects p ts pc counters (λ t. Co
 ResumesBy p ts pc (Waits k) left c n counters = Expects p ts pc counters (λ t. ComesBy k t.pending t.current t.next left c n)
 ResumesBy p ts pc (WaitsDay d) left c n counters = Expects p ts pc counters (λ t. PausesBy t.pending t.current t.next left c n)
 ResumesBy p ts pc (WaitsContact d closed) left c n counters = Expects p ts pc counters (λ t. PausesBy t.pending t.current t.next left c n)
+ResumesBy p ts pc (WaitsAny closed opened until frames) left c n counters = Expects p ts pc counters (λ t. PausesBy t.pending t.current t.next left c n)
 ResumesBy p ts pc WaitsSwap left c n counters = Expects p ts pc counters (λ t. JoinsBy t left n)
 ResumesBy p ts pc Ended left c n counters = Unit {0}
 
@@ -40,6 +41,7 @@ IsSuspended Running = ⊥
 IsSuspended (Waits k) = 1 ≤ k
 IsSuspended (WaitsDay d) = Unit {0}
 IsSuspended (WaitsContact d closed) = Unit {0}
+IsSuspended (WaitsAny closed opened until left) = IfSome left (λ k. 1 ≤ k)
 IsSuspended WaitsSwap = Unit {0}
 IsSuspended Ended = Unit {0}
 
@@ -48,6 +50,7 @@ not_running Running h = absurd h
 not_running (Waits k) h = refl
 not_running (WaitsDay d) h = refl
 not_running (WaitsContact d closed) h = refl
+not_running (WaitsAny closed opened until left) h = refl
 not_running WaitsSwap h = refl
 not_running Ended h = refl
 

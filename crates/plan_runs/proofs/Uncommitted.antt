@@ -3,7 +3,7 @@ use Rattle.std.proofs.Common.{◌≡◌, ℕ, zero, suc, ◌+◌, ◌<◌, Bool,
 use Rattle.plan_code.specs.declared.plan.Plan.{Plan}
 use Rattle.plan_code.specs.declared.hold.Hold.TheVariants.{Running}
 use Rattle.plan_code.specs.declared.instr.Instr.{Instr}
-use Rattle.plan_code.specs.declared.instr.Instr.TheVariants.{Wait, Until, WaitContact, CommitIn, CommitAt, Join, Settle, End, Edit as Edits, Test, Jump, Set, Loop}
+use Rattle.plan_code.specs.declared.instr.Instr.TheVariants.{Wait, Until, WaitContact, WaitAny, CommitIn, CommitAt, Join, Settle, End, Edit as Edits, Test, TestTime, Jump, Set, Loop}
 use Rattle.plan_code.specs.Program.{Program, instr_at}
 use Rattle.plan_code.specs.Machine.{State, step, settle, effect, effect_of}
 use Rattle.plan_runs.specs.Frames.{is_due, with_swap, with_due_swap, is_running, is_here, ready, burst, burst_steps, after_burst, is_first_noticed, left_after_frame}
@@ -17,6 +17,7 @@ effect_left : (plan : Plan) (i : Instr) (s : State) → (IsCommit i → ⊥) →
 effect_left plan (Wait n) s other = refl
 effect_left plan (Until t) s other = refl
 effect_left plan (WaitContact c closed) s other = refl
+effect_left plan (WaitAny closed opened until frames) s other = refl
 effect_left plan (CommitIn k) s other = absurd (other tt)
 effect_left plan (CommitAt n) s other = absurd (other tt)
 effect_left plan Join s other = refl
@@ -24,6 +25,7 @@ effect_left plan Settle s other = settle_left s.left s
 effect_left plan End s other = refl
 effect_left plan (Edits e) s other = refl
 effect_left plan (Test c target) s other = refl
+effect_left plan (TestTime from to target) s other = refl
 effect_left plan (Jump target) s other = refl
 effect_left plan (Set r n) s other = refl
 effect_left plan (Loop r target) s other = refl

@@ -3,7 +3,7 @@ use Rattle.std.proofs.Common.{◌≡◌, ℕ, zero, suc, Bool, true, false, cond
 use Rattle.plan_code.specs.declared.plan.Plan.{Plan}
 use Rattle.plan_code.specs.declared.flags.Contacts.{Contacts}
 use Rattle.plan_code.specs.declared.instr.Instr.{Instr}
-use Rattle.plan_code.specs.declared.instr.Instr.TheVariants.{Wait, Until, WaitContact, CommitIn, CommitAt, Join, Settle, End, Edit as Edits, Test, Jump, Set, Loop}
+use Rattle.plan_code.specs.declared.instr.Instr.TheVariants.{Wait, Until, WaitContact, WaitAny, CommitIn, CommitAt, Join, Settle, End, Edit as Edits, Test, TestTime, Jump, Set, Loop}
 use Rattle.plan_code.specs.Program.{Program, instr_at}
 use Rattle.plan_code.specs.Machine.{State, step, settle, effect, effect_of}
 use Rattle.plan_runs.specs.Frames.{is_due, with_swap, with_due_swap, is_running, is_here, burst, ready, after_burst, is_first_noticed, after_frame}
@@ -21,6 +21,7 @@ effect_contacts : (plan : Plan) (i : Instr) (s : State) → (effect plan i s).co
 effect_contacts plan (Wait n) s = refl
 effect_contacts plan (Until t) s = refl
 effect_contacts plan (WaitContact c closed) s = refl
+effect_contacts plan (WaitAny closed opened until frames) s = refl
 effect_contacts plan (CommitIn k) s = refl
 effect_contacts plan (CommitAt n) s = refl
 effect_contacts plan Join s = refl
@@ -28,6 +29,7 @@ effect_contacts plan Settle s = settle_contacts s.left s
 effect_contacts plan End s = refl
 effect_contacts plan (Edits e) s = refl
 effect_contacts plan (Test c target) s = refl
+effect_contacts plan (TestTime from to target) s = refl
 effect_contacts plan (Jump target) s = refl
 effect_contacts plan (Set r n) s = refl
 effect_contacts plan (Loop r target) s = refl

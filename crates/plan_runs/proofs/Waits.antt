@@ -1,23 +1,25 @@
 -- A suspended code resumes in the first frame with which its wait ends.
-use Rattle.std.specs.Prelude.{nat_le, ◌==◌}
+use Rattle.std.specs.Prelude.{nat_le, ◌==◌, ◌||◌, ◌⊎◌, IfSome, Option, Some, None}
 use Rattle.std.proofs.Common.{◌≡◌, ℕ, zero, suc, ◌+◌, ◌-◌, ◌≤◌, Bool, true, false, cond, List, [], ◌∷◌, refl, sym, ap, subst, ◌∙◌, arith, inl, inr}
-use Rattle.std.proofs.lemmas.Bool.{eqb-true, eqb-false, le-leb}
+use Rattle.std.proofs.lemmas.Bool.{eqb-true, eqb-false, eq-eqb, le-leb}
 use Rattle.mux_config.specs.Sameness.{is_same_flag}
 use Rattle.plan_code.specs.declared.hold.Hold.{Hold}
-use Rattle.plan_code.specs.declared.hold.Hold.TheVariants.{Running, Waits, WaitsDay, WaitsContact, WaitsSwap, Ended}
+use Rattle.plan_code.specs.declared.hold.Hold.TheVariants.{Running, Waits, WaitsDay, WaitsContact, WaitsAny, WaitsSwap, Ended}
 use Rattle.plan_code.specs.declared.instr.Instr.{Instr}
-use Rattle.plan_code.specs.declared.instr.Instr.TheVariants.{Wait, Until, WaitContact, CommitIn, CommitAt, Join, Settle, End, Edit as Edits, Test, Jump, Set, Loop}
-use Rattle.plan_code.specs.Flags.{is_closed}
+use Rattle.plan_code.specs.declared.instr.Instr.TheVariants.{Wait, Until, WaitContact, WaitAny, CommitIn, CommitAt, Join, Settle, End, Edit as Edits, Test, TestTime, Jump, Set, Loop}
+use Rattle.plan_code.specs.declared.flags.Contacts.{Contacts}
+use Rattle.plan_code.specs.Flags.{is_closed, any_closed, any_open}
+use Rattle.plan_code.proofs.Meeting.{closed_is, is_closed_one, open_is, is_open_one}
 use Rattle.plan_code.specs.Program.{Program, IsInstr}
 use Rattle.plan_code.specs.Machine.{State, step, effect}
 use Rattle.plan_runs.specs.declared.event.Event.{Event}
 use Rattle.plan_runs.specs.declared.event.Event.TheVariants.{Contact, Frame}
-use Rattle.plan_runs.specs.Frames.{is_due, with_swap, with_due_swap, hold_after_swap, is_running, is_here, ready, Executes, burst, burst_steps, after_burst, is_first_noticed, shown, hold_after_frame, after_frame}
+use Rattle.plan_runs.specs.Frames.{is_due, with_swap, with_due_swap, hold_after_swap, is_running, is_day, is_any_here, is_here, ready, Executes, burst, burst_steps, after_burst, is_first_noticed, shown, left_after_frame, hold_after_frame, after_frame}
 use Rattle.plan_runs.specs.Runs.{happens}
 use Rattle.plan_runs.specs.Firsts.{is_active, CarriesOut, IsFirstWhere}
 use Rattle.plan_runs.specs.TypedRuns.{IsPlayed}
 use Rattle.plan_runs.specs.Waits.{HasCome, WaitsAreKept, InstructionsSuspend}
-use Rattle.plan_runs.proofs.Between.{line_formed, step_is, frame_goes, still_stops}
+use Rattle.plan_runs.proofs.Between.{line_formed, step_is, frame_goes, not_due, still_stops}
 use Rattle.plan_runs.proofs.Steps.{IsSuspended}
 use Rattle.plan_runs.proofs.Facts.{code_of, played_holds}
 use Rattle.plan_runs.proofs.Swaps.{midway}
@@ -29,6 +31,7 @@ ends_by s Running = true
 ends_by s (Waits n) = n == 0
 ends_by s (WaitsDay t) = s.day == t
 ends_by s (WaitsContact c closed) = is_same_flag (is_closed s.contacts c) closed
+ends_by s (WaitsAny closed opened until left) = is_any_here s closed opened until left
 ends_by s WaitsSwap = is_due s.left
 ends_by s Ended = false
 
@@ -37,6 +40,7 @@ after_swap s Running due = refl
 after_swap s (Waits n) due = refl
 after_swap s (WaitsDay t) due = refl
 after_swap s (WaitsContact c closed) due = refl
+after_swap s (WaitsAny closed opened until left) due = refl
 after_swap s WaitsSwap due = sym due
 after_swap s Ended due = refl
 
@@ -45,6 +49,7 @@ without_swap s Running due = refl
 without_swap s (Waits n) due = refl
 without_swap s (WaitsDay t) due = refl
 without_swap s (WaitsContact c closed) due = refl
+without_swap s (WaitsAny closed opened until left) due = refl
 without_swap s WaitsSwap due = sym due
 without_swap s Ended due = refl
 
@@ -87,6 +92,7 @@ hold_swapped s Running due away = refl
 hold_swapped s (Waits n) due away = refl
 hold_swapped s (WaitsDay t) due away = refl
 hold_swapped s (WaitsContact c closed) due away = refl
+hold_swapped s (WaitsAny closed opened until left) due away = refl
 hold_swapped s WaitsSwap due away = let clash : true ≡ false = sym due ∙ away in absurd cc
 hold_swapped s Ended due away = refl
 
@@ -109,12 +115,88 @@ still_held p s away =
 
 -- ---- frame by frame
 
+-- the frames that are left of a number of them, if there is one, n frames later
+abbrev fewer : ℕ → Option ℕ → Option ℕ
+fewer n None = None
+fewer n (Some k) = Some (k - n)
+
+abbrev AreLeft : ℕ → Option ℕ → Type 0
+AreLeft n frames = IfSome frames (λ k. n ≤ k)
+
+fewer_later : (n : ℕ) (frames : Option ℕ) → left_after_frame (fewer n frames) ≡ fewer (n + 1) frames
+fewer_later n None = refl
+fewer_later n (Some k) = let same : k - n - 1 ≡ k - (n + 1) = omega arith in ap (λ (m : ℕ). Some m) same
+
+fewer_first : (frames : Option ℕ) → left_after_frame frames ≡ fewer 1 frames
+fewer_first None = refl
+fewer_first (Some k) = refl
+
+left_later : (n : ℕ) (frames : Option ℕ) → AreLeft n frames → is_due (fewer n frames) ≡ false → AreLeft (n + 1) frames
+left_later n None left away = tt
+left_later n (Some k) left away = let apart = eqb-false (k - n) 0 away in omega (arith, apart, left)
+
+-- one of the alternatives is met exactly if the wait has come to its end
+frames_over : (n : ℕ) (frames : Option ℕ) → AreLeft n frames → is_due (fewer n frames) ≡ true → frames ≡ Some n
+frames_over n None left due = absurd cc
+frames_over n (Some k) left due = let none = eqb-true (k - n) 0 due in let same : k ≡ n = omega (arith, none, left) in ap (λ (m : ℕ). Some m) same
+
+over_frames : (n : ℕ) (frames : Option ℕ) → frames ≡ Some n → is_due (fewer n frames) ≡ true
+over_frames n frames is = ap (λ (o : Option ℕ). is_due (fewer n o)) is ∙ eq-eqb (n - n) 0 (omega arith)
+
+day_is : (day : ℕ) (until : Option ℕ) → is_day day until ≡ true → until ≡ Some day
+day_is day None here = absurd cc
+day_is day (Some t) here = let same = eqb-true day t here in ap (λ (m : ℕ). Some m) (sym same)
+
+is_the_day : (day : ℕ) (until : Option ℕ) → until ≡ Some day → is_day day until ≡ true
+is_the_day day until is = ap (is_day day) is ∙ eq-eqb day day refl
+
+either : (a b : Bool) → (a || b) ≡ true → (a ≡ true) ⊎ (b ≡ true)
+either true b e = inl refl
+either false b e = inr e
+
+first_of : (a b : Bool) → a ≡ true → (a || b) ≡ true
+first_of true b e = refl
+first_of false b e = absurd cc
+
+later_of : (a b : Bool) → b ≡ true → (a || b) ≡ true
+later_of true b e = refl
+later_of false b e = e
+
+alternative : (s : State) (closed opened : Contacts) (until frames : Option ℕ) (n : ℕ) → AreLeft n frames → is_any_here s closed opened until (fewer n frames) ≡ true
+    → HasCome (WaitsAny closed opened until frames) n s
+alternative s closed opened until frames n left here =
+    elim (either (any_closed closed s.contacts) _ here) [
+      | inl level ↦ inl (closed_is closed s.contacts level)
+      | inr others ↦ inr (elim (either (any_open opened s.contacts) _ others) [
+        | inl level ↦ inl (open_is opened s.contacts level)
+        | inr times ↦ inr (elim (either (is_day s.day until) _ times) [
+          | inl day ↦ inl (day_is s.day until day)
+          | inr due ↦ inr (frames_over n frames left due)
+        ])
+      ])
+    ]
+
+by_alternative : (s : State) (closed opened : Contacts) (until frames : Option ℕ) (n : ℕ) → HasCome (WaitsAny closed opened until frames) n s
+    → is_any_here s closed opened until (fewer n frames) ≡ true
+by_alternative s closed opened until frames n came =
+    elim came [
+      | inl level ↦ first_of (any_closed closed s.contacts) _ (is_closed_one closed s.contacts level.0 level.1 level.2 level.3)
+      | inr others ↦ later_of (any_closed closed s.contacts) _ (elim others [
+        | inl level ↦ first_of (any_open opened s.contacts) _ (is_open_one opened s.contacts level.0 level.1 level.2 level.3)
+        | inr times ↦ later_of (any_open opened s.contacts) _ (elim times [
+          | inl day ↦ first_of (is_day s.day until) _ (is_the_day s.day until day)
+          | inr over ↦ later_of (is_day s.day until) _ (over_frames n frames over)
+        ])
+      ])
+    ]
+
 -- the hold before the n-th frame after one that left the machine in `hold`
 abbrev IsHeld : Hold → ℕ → Hold → Type 0
 IsHeld Running n h = ⊥
 IsHeld (Waits frames) n h = (h ≡ Waits (frames - n)) × (n ≤ frames)
 IsHeld (WaitsDay t) n h = h ≡ WaitsDay t
 IsHeld (WaitsContact c closed) n h = h ≡ WaitsContact c closed
+IsHeld (WaitsAny closed opened until frames) n h = (h ≡ WaitsAny closed opened until (fewer n frames)) × AreLeft n frames
 IsHeld WaitsSwap n h = h ≡ WaitsSwap
 IsHeld Ended n h = h ≡ Ended
 
@@ -138,6 +220,7 @@ has_come (Waits frames) n s h held e =
     omega (arith, none, held.1)
 has_come (WaitsDay t) n s h held e = eqb-true s.day t (sym (ap (ends_by s) held) ∙ e)
 has_come (WaitsContact c closed) n s h held e = same_flag (is_closed s.contacts c) closed (sym (ap (ends_by s) held) ∙ e)
+has_come (WaitsAny closed opened until frames) n s h held e = alternative s closed opened until frames n held.1 (sym (ap (ends_by s) held.0) ∙ e)
 has_come WaitsSwap n s h held e = sym (ap (ends_by s) held) ∙ e
 has_come Ended n s h held e = let clash : false ≡ true = sym (ap (ends_by s) held) ∙ e in absurd cc
 
@@ -151,6 +234,9 @@ not_yet (WaitsDay t) n s h held e came = eqb-false s.day t (sym (ap (ends_by s) 
 not_yet (WaitsContact c closed) n s h held e came =
     let clash : true ≡ false = sym (flag_same (is_closed s.contacts c) closed came) ∙ sym (ap (ends_by s) held) ∙ e in
     absurd cc
+not_yet (WaitsAny closed opened until frames) n s h held e came =
+    let clash : true ≡ false = sym (by_alternative s closed opened until frames n came) ∙ sym (ap (ends_by s) held.0) ∙ e in
+    absurd cc
 not_yet WaitsSwap n s h held e came = let clash : true ≡ false = sym came ∙ sym (ap (ends_by s) held) ∙ e in absurd cc
 not_yet Ended n s h held e came = came
 
@@ -163,6 +249,9 @@ held_later (Waits frames) n s h held e =
     (ap hold_after_frame held.0 ∙ ap (λ (k : ℕ). Waits k) fewer, omega (arith, apart, held.1))
 held_later (WaitsDay t) n s h held e = ap hold_after_frame held
 held_later (WaitsContact c closed) n s h held e = ap hold_after_frame held
+held_later (WaitsAny closed opened until frames) n s h held e =
+    let away = not_due s closed opened until (fewer n frames) (sym (ap (ends_by s) held.0) ∙ e) in
+    (ap hold_after_frame held.0 ∙ ap (λ (left : Option ℕ). WaitsAny closed opened until left) (fewer_later n frames), left_later n frames held.1 away)
 held_later WaitsSwap n s h held e = ap hold_after_frame held
 held_later Ended n s h held e = ap hold_after_frame held
 
@@ -186,6 +275,7 @@ held_first Running e = absurd e
 held_first (Waits n) e = (refl, e)
 held_first (WaitsDay t) e = refl
 held_first (WaitsContact c closed) e = refl
+held_first (WaitsAny closed opened until frames) e = (ap (λ (left : Option ℕ). WaitsAny closed opened until left) (fewer_first frames), e)
 held_first WaitsSwap e = refl
 held_first Ended e = refl
 
@@ -217,6 +307,7 @@ pub instructions_suspend : InstructionsSuspend
 instructions_suspend p s (Wait n) h carries = leaves p s (Wait n) (Waits n) h (λ formed. refl) (λ t. refl) carries
 instructions_suspend p s (Until d) h carries = leaves p s (Until d) (WaitsDay d) h (λ formed. refl) (λ t. refl) carries
 instructions_suspend p s (WaitContact d closed) h carries = leaves p s (WaitContact d closed) (WaitsContact d closed) h (λ formed. refl) (λ t. refl) carries
+instructions_suspend p s (WaitAny closed opened until frames) h carries = leaves p s (WaitAny closed opened until frames) (WaitsAny closed opened until frames) h (λ formed. refl) (λ t. refl) carries
 instructions_suspend p s (CommitIn k) h carries = tt
 instructions_suspend p s (CommitAt n) h carries = tt
 instructions_suspend p s Join h carries = leaves p s Join WaitsSwap h (λ formed. refl) (λ t. refl) carries
@@ -224,6 +315,7 @@ instructions_suspend p s Settle h carries = tt
 instructions_suspend p s End h carries = leaves p s End Ended h (λ formed. refl) (λ t. refl) carries
 instructions_suspend p s (Edits e) h carries = tt
 instructions_suspend p s (Test d target) h carries = tt
+instructions_suspend p s (TestTime from to target) h carries = tt
 instructions_suspend p s (Jump target) h carries = tt
 instructions_suspend p s (Set r n) h carries = tt
 instructions_suspend p s (Loop r target) h carries = tt

@@ -12,9 +12,10 @@ use Rattle.fib_carousel.specs.Bytes.{page_bytes}
 use Rattle.mux_types.specs.declared.limits.TheConstants.{COUNTS}
 use Rattle.plan_code.specs.declared.limits.TheConstants.{FRAMES_A_DAY}
 use Rattle.plan_code.specs.declared.hold.Hold.{Hold}
-use Rattle.plan_code.specs.declared.hold.Hold.TheVariants.{Running, Waits, WaitsDay, WaitsContact, WaitsSwap, Ended}
+use Rattle.plan_code.specs.declared.hold.Hold.TheVariants.{Running, Waits, WaitsDay, WaitsContact, WaitsAny, WaitsSwap, Ended}
 use Rattle.plan_code.specs.declared.plan.Plan.{Plan}
-use Rattle.plan_code.specs.Flags.{is_closed}
+use Rattle.plan_code.specs.declared.flags.Contacts.{Contacts}
+use Rattle.plan_code.specs.Flags.{is_closed, any_closed, any_open}
 use Rattle.plan_code.specs.Program.{Program}
 use Rattle.plan_code.specs.Machine.{State, step, StepIsAllowed}
 
@@ -32,6 +33,7 @@ hold_after_swap WaitsSwap = Running
 hold_after_swap (Waits n) = Waits n
 hold_after_swap (WaitsDay t) = WaitsDay t
 hold_after_swap (WaitsContact c closed) = WaitsContact c closed
+hold_after_swap (WaitsAny closed opened until left) = WaitsAny closed opened until left
 hold_after_swap Ended = Ended
 
 -- the next configuration becomes the current one, and page 0 is in turn
@@ -49,8 +51,19 @@ is_running Running = true
 is_running (Waits n) = false
 is_running (WaitsDay t) = false
 is_running (WaitsContact c closed) = false
+is_running (WaitsAny closed opened until left) = false
 is_running WaitsSwap = false
 is_running Ended = false
+
+-- it is this frame of the day, if there is one
+abbrev pub is_day : ℕ → Option ℕ → Bool
+is_day day None = false
+is_day day (Some t) = day == t
+
+-- one of the alternatives is met; a number of frames is when none is left
+abbrev pub is_any_here : State → (closed opened : Contacts) → (until left : Option ℕ) → Bool
+is_any_here s closed opened until left =
+    any_closed closed s.contacts || (any_open opened s.contacts || (is_day s.day until || is_due left))
 
 -- the wait condition is met; where the machine is running, there is none
 abbrev pub is_here : State → Hold → Bool
@@ -58,6 +71,7 @@ is_here s Running = true
 is_here s (Waits n) = n == 0
 is_here s (WaitsDay t) = s.day == t
 is_here s (WaitsContact c closed) = is_same_flag (is_closed s.contacts c) closed
+is_here s (WaitsAny closed opened until left) = is_any_here s closed opened until left
 is_here s WaitsSwap = false
 is_here s Ended = false
 
@@ -166,6 +180,7 @@ hold_after_frame Running = Running
 hold_after_frame (Waits n) = Waits (n - 1)
 hold_after_frame (WaitsDay t) = WaitsDay t
 hold_after_frame (WaitsContact c closed) = WaitsContact c closed
+hold_after_frame (WaitsAny closed opened until left) = WaitsAny closed opened until (left_after_frame left)
 hold_after_frame WaitsSwap = WaitsSwap
 hold_after_frame Ended = Ended
 

@@ -1,10 +1,11 @@
 -- How long a suspended code waits.
-use Rattle.std.specs.Prelude.{◌≡◌, ℕ, true, List}
+use Rattle.std.specs.Prelude.{◌≡◌, ◌⊎◌, ℕ, ◌<◌, true, false, List, Some}
 use Rattle.plan_code.specs.declared.hold.Hold.{Hold}
-use Rattle.plan_code.specs.declared.hold.Hold.TheVariants.{Running, Waits, WaitsDay, WaitsContact, WaitsSwap, Ended}
+use Rattle.plan_code.specs.declared.hold.Hold.TheVariants.{Running, Waits, WaitsDay, WaitsContact, WaitsAny, WaitsSwap, Ended}
 use Rattle.plan_code.specs.declared.instr.Instr.{Instr}
-use Rattle.plan_code.specs.declared.instr.Instr.TheVariants.{Wait, Until, WaitContact, CommitIn, CommitAt, Join, Settle, End, Edit as Edits, Test, Jump, Set, Loop}
-use Rattle.plan_code.specs.Flags.{is_closed}
+use Rattle.plan_code.specs.declared.instr.Instr.TheVariants.{Wait, Until, WaitContact, WaitAny, CommitIn, CommitAt, Join, Settle, End, Edit as Edits, Test, TestTime, Jump, Set, Loop}
+use Rattle.plan_code.specs.declared.flags.Contacts.{Contacts}
+use Rattle.plan_code.specs.Flags.{is_in, is_closed}
 use Rattle.plan_code.specs.Program.{Program}
 use Rattle.plan_code.specs.Machine.{State}
 use Rattle.plan_runs.specs.declared.event.Event.{Event}
@@ -17,6 +18,7 @@ abbrev pub IsWaitOf : Instr → Hold → Type 0
 IsWaitOf (Wait frames) hold = hold ≡ Waits frames
 IsWaitOf (Until t) hold = hold ≡ WaitsDay t
 IsWaitOf (WaitContact c closed) hold = hold ≡ WaitsContact c closed
+IsWaitOf (WaitAny closed opened until frames) hold = hold ≡ WaitsAny closed opened until frames
 IsWaitOf (CommitIn k) hold = Unit {0}
 IsWaitOf (CommitAt n) hold = Unit {0}
 IsWaitOf Join hold = hold ≡ WaitsSwap
@@ -24,9 +26,17 @@ IsWaitOf Settle hold = Unit {0}
 IsWaitOf End hold = hold ≡ Ended
 IsWaitOf (Edits e) hold = Unit {0}
 IsWaitOf (Test c target) hold = Unit {0}
+IsWaitOf (TestTime from to target) hold = Unit {0}
 IsWaitOf (Jump target) hold = Unit {0}
 IsWaitOf (Set r n) hold = Unit {0}
 IsWaitOf (Loop r target) hold = Unit {0}
+
+-- one of the contacts of the set is closed; below, one of them is open
+abbrev pub HasClosed : (set contacts : Contacts) → Type 0
+HasClosed set contacts = (c : ℕ) × (c < 16) × (is_in set c ≡ true) × (is_closed contacts c ≡ true)
+
+abbrev pub HasOpen : (set contacts : Contacts) → Type 0
+HasOpen set contacts = (c : ℕ) × (c < 16) × (is_in set c ≡ true) × (is_closed contacts c ≡ false)
 
 -- the wait ends with the frame from this state, the n-th after the one that suspended; a running machine does not wait
 abbrev pub HasCome : Hold → ℕ → State → Type 0
@@ -34,6 +44,8 @@ HasCome Running n s = ⊥
 HasCome (Waits frames) n s = n ≡ frames
 HasCome (WaitsDay t) n s = s.day ≡ t
 HasCome (WaitsContact c closed) n s = is_closed s.contacts c ≡ closed
+HasCome (WaitsAny closed opened until frames) n s =
+    HasClosed closed s.contacts ⊎ (HasOpen opened s.contacts ⊎ ((until ≡ Some s.day) ⊎ (frames ≡ Some n)))
 HasCome WaitsSwap n s = is_due s.left ≡ true
 HasCome Ended n s = ⊥
 

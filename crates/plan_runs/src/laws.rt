@@ -54,8 +54,8 @@ pub fn swaps()
 /// The law of waits: an instruction that suspends is the last of its frame and determines what is waited for. After
 /// that frame, the first one that executes instructions is the n-th for a wait of n frames; the first at the frame of
 /// the day, the first with the contact at the level, or the first in which a swap is due, for a wait for one of these;
-/// and none where the code has ended. The counts are those of the start plus one for each frame, and a contact is at
-/// the level to which it was last set.
+/// the first that is one of the alternatives for a wait with alternatives; and none where the code has ended. The
+/// counts are those of the start plus one for each frame, and a contact is at the level to which it was last set.
 pub fn waits()
     ensures suspends { InstructionsSuspend }
     ensures kept { WaitsAreKept }

@@ -8,7 +8,7 @@ use Rattle.script_tokens.specs.Reading.{lexemes_of}
 use Rattle.plan_session.specs.declared.event_fault.EventFault.{EventFault}
 use Rattle.plan_session.specs.declared.event_fault.EventFault.TheVariants.{Byte, Number, Expected, Memory}
 use Rattle.plan_session.specs.Items.{HoldsItems}
-use Rattle.plan_session.specs.Kept.{cut_of, ReportsFirstFault}
+use Rattle.plan_session.specs.FirstFaults.{cut_of, ReportsFirstFault}
 use Rattle.plan_session.specs.ItemFaults.{Begins, word_at, IsFaultAfter, HasItemFault, ReportsItemFault, HasOneItemFault}
 use Rattle.plan_session.proofs.FaultyItems.{split_either, lexemes_join, shorter_front}
 

@@ -17,7 +17,7 @@ use Rattle.plan_session.specs.declared.step.Step.{Step}
 use Rattle.plan_session.specs.declared.step.Step.TheVariants.{Contact, Frames}
 use Rattle.plan_session.specs.Commands.{IsCommand, command_lexemes}
 use Rattle.plan_session.specs.Events.{IsStep, step_lexemes}
-use Rattle.plan_session.specs.Kept.{cut_of, ReportsFirstFault}
+use Rattle.plan_session.specs.FirstFaults.{cut_of, ReportsFirstFault}
 use Rattle.plan_session.specs.ItemFaults.{Begins, IsBrace, IsDigits, WantsNumber, end_position, HasItemFault, ReportsStepFault, ReportsCommandFault}
 use Rattle.plan_session.proofs.FaultLaws.{has_one_fault}
 use Rattle.plan_session.proofs.FaultyItems.{begins_none}

@@ -8,7 +8,7 @@ use Rattle.plan_session.specs.declared.event_fault.EventFault.{EventFault}
 use Rattle.plan_session.specs.declared.event_fault.EventFault.TheVariants.{Byte, Number, Expected, Memory}
 use Rattle.plan_session.specs.declared.item_fault.Wrong.{Wrong}
 use Rattle.plan_session.specs.Items.{AreUnique, HasLexemes}
-use Rattle.plan_session.specs.Kept.{reported_fault}
+use Rattle.plan_session.specs.FirstFaults.{reported_fault}
 use Rattle.plan_session.specs.ItemFaults.{Begins, WantsNumber, word_at, end_position, IsFaultAfter, HasItemFault, BeginsItem, IsWrongAfter, IsWrongItem, position_or_end, named_fault, fault_at}
 
 -- ---- lists of tokens

@@ -18,7 +18,36 @@ use Rattle.script_tokens.specs.Reading.{lexemes_of}
 use Rattle.script_tokens.specs.Texts.{Piece, blank, comment, brace, atom, text_of, AreLetters, HaveNoLineEnd, IsPiece, CanPrecede, AreText, tokens_of, TokensFit, IsCutInto}
 use Rattle.script_tokens.proofs.Pieces.{texts_are_cut, cut_into}
 use Rattle.plan_session.specs.Items.{HoldsItems}
-use Rattle.plan_session.specs.InParts.{outside_after, is_outside, separates}
+
+-- ---- where a text can be cut
+
+-- whether what follows a byte of this kind is outside comments, where the byte itself is or is not
+abbrev pub outside_after : Bool → Kind → Bool
+outside_after out LineEnd = true
+outside_after true Hash = false
+outside_after true Blank = true
+outside_after true Brace = true
+outside_after true Letter = true
+outside_after true Bad = true
+outside_after false Hash = false
+outside_after false Blank = false
+outside_after false Brace = false
+outside_after false Letter = false
+outside_after false Bad = false
+
+-- the same after these bytes
+abbrev pub is_outside : Bool → List ℕ → Bool
+is_outside out [] = out
+is_outside out (b ∷ bs) = is_outside (outside_after out (kind_of b)) bs
+
+-- a byte that ends each token and each comment before it: a line end, or a blank outside comments
+abbrev pub separates : Bool → Kind → Bool
+separates out LineEnd = true
+separates out Blank = out
+separates out Hash = false
+separates out Brace = false
+separates out Letter = false
+separates out Bad = false
 
 -- ---- positions
 

@@ -13,8 +13,8 @@ use Rattle.plan_session.specs.declared.event_fault.EventFault.{EventFault}
 use Rattle.plan_session.specs.declared.item_fault.Wrong.{Wrong}
 use Rattle.plan_session.specs.Items.{AreUnique, HasLexemes, HoldsItems}
 use Rattle.plan_session.specs.ItemFaults.{HasItemFault, ReportsItemFault, IsWrongItem}
-use Rattle.plan_session.specs.Kept.{reported_fault}
-use Rattle.plan_session.specs.Listing.{as_lexemes, lexemes_left, Lists, TakesItem, all_added, preceded, HasNoTokens, TakesUpTo, ReadsItem, PassesItem, HasFaultLeft, FindsItem}
+use Rattle.plan_session.specs.FirstFaults.{reported_fault}
+use Rattle.plan_session.specs.Listing.{as_lexemes, lexemes_left, Lists, TakesItem, all_added, preceded, HasNoTokens, ReadsItem, PassesItem, HasFaultLeft, FindsItem}
 use Rattle.plan_session.proofs.FaultyItems.{count_lexemes, fault_after_item, fault_in_item}
 
 -- ---- tokens before others
@@ -102,27 +102,8 @@ one_taken i old mid new ts t h f a = record {
   bytes = omega (arith, f.3, h.bytes);
 }
 
-pub takes_end : (i count : ℕ) (old mid new : Scan) (ts : List Token) → i ≤ count → IsTaken i old mid ts → FindsNext mid new (Ok None) → TakesUpTo count old new ts
-takes_end i count old mid new ts few h f = subst (λ (s : Scan). TakesUpTo count old s ts) (sym f.1) (record {
-  text = h.text;
-  left = h.left;
-  within = h.within;
-  most = omega (arith, h.number, few);
-  all = inr f.0;
-  bytes = h.bytes;
-})
-
-pub takes_all : (count : ℕ) (old new : Scan) (ts : List Token) → IsTaken count old new ts → TakesUpTo count old new ts
-takes_all count old new ts h = record { text = h.text; left = h.left; within = h.within; most = omega (arith, h.number); all = inl h.number; bytes = h.bytes }
-
 pub no_tokens_by : (i : ℕ) (old mid new : Scan) (ts : List Token) (e : ScriptFault) → IsTaken i old mid ts → FindsNext mid new (Err e) → HasNoTokens old
 no_tokens_by i old mid new ts e h f = λ tokens is. let all = sym (h.left ∙ ap (all_added ts) f.0 ∙ added_fault ts e) ∙ is in absurd (cc all)
-
-pub no_tokens_first : (old new : Scan) (e : ScriptFault) → FindsNext old new (Err e) → HasNoTokens old
-no_tokens_first old new e f = λ tokens is. let all = sym f.0 ∙ is in absurd (cc all)
-
-pub no_tokens_later : (old mid : Scan) (t : Token) → FindsNext old mid (Ok (Some t)) → HasNoTokens mid → HasNoTokens old
-no_tokens_later old mid t f none = λ tokens is. let later = tokens_after t (tokens_left mid) tokens (sym f.0 ∙ is) in none later.0 later.1
 
 -- ---- an item
 

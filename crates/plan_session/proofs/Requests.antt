@@ -1,7 +1,7 @@
 -- A request has at most one playback.
 use Rattle.std.specs.Prelude.{slice_get}
 use Rattle.std.specs.Io.KnownBytes.{Appends}
-use Rattle.std.proofs.Common.{◌≡◌, ◌≢◌, ℕ, List, length, Option, Some, None, replicate, refl, sym, ap, subst, ◌∙◌}
+use Rattle.std.proofs.Common.{◌≡◌, ℕ, List, length, Option, Some, None, replicate, refl, sym, ap, subst, ◌∙◌}
 use Rattle.mux_config.specs.Configuration.{Configuration}
 use Rattle.plan_code.specs.declared.hold.Hold.TheVariants.{Running}
 use Rattle.plan_code.specs.declared.label.Label.{Label}
@@ -11,15 +11,11 @@ use Rattle.plan_runs.specs.declared.event.Start.{Start as Starting}
 use Rattle.plan_runs.specs.Runs.{IsStart}
 use Rattle.plan_player.specs.Playing.{Playing, IsAtStart, start_fault}
 use Rattle.plan_player.specs.Delivery.{frames_of, played_bytes, Delivered, Stopped}
-use Rattle.plan_session.specs.declared.event_fault.EventFault.{EventFault}
-use Rattle.plan_session.specs.declared.event_fault.EventFault.TheVariants.{Byte, Number, Expected, Memory}
 use Rattle.plan_session.specs.declared.step.Step.{Step}
 use Rattle.plan_session.specs.Events.{events_of}
-use Rattle.plan_session.specs.FilePlayback.{Begins}
 use Rattle.plan_session.specs.declared.run_fault.RunFault.{RunFault}
 use Rattle.plan_session.specs.declared.run_fault.RunFault.TheVariants.{Code, Refused, Start as StartFault, Events, Write}
-use Rattle.plan_session.specs.Playback.{Request, start_of, IsTypedFileOf, IsPlayback, IsStarted, IsPlayFault, IsRunFault}
-use Rattle.plan_session.specs.Parts.{IsCodeFault}
+use Rattle.plan_session.specs.Playback.{Request, Begins, start_of, IsTypedFileOf, IsPlayback, IsStarted, IsPlayFault, IsRunFault}
 
 -- ---- at most one start
 
@@ -87,14 +83,6 @@ fault_of_run r code start (StartFault fault) file starts h = (code, file, ap (λ
 fault_of_run r code start (Events fault) file starts h = (code, record { file = file; start = ap (λ (s : Starting). start_fault s) (sym starts) ∙ h.0 }, h.1)
 fault_of_run r code start (Write frames bytes) file starts h = (h.0, h.1, asked_for r h.0 h.1 code start file starts h.2)
 
--- a fault of the code file is one of the request
-pub fault_of_file : (r : Request) (e : RunFault) → IsCodeFault r.file e → IsRunFault r e
-fault_of_file r (Code fault) h = h
-fault_of_file r (Refused pc line cause) h = h
-fault_of_file r (StartFault fault) h = absurd h
-fault_of_file r (Events fault) h = absurd h
-fault_of_file r (Write frames bytes) h = absurd h
-
 -- ---- what is delivered
 
 pub whole : (p q new : Playing) (steps others : List Step) (x y : Option (List ℕ)) (n : ℕ) → q ≡ p → others ≡ steps → Delivered q new (events_of others) x y n
@@ -109,11 +97,3 @@ pub cut_off : (p q new : Playing) (steps others : List Step) (x y : Option (List
 cut_off p q new steps others x y n k players lists s =
     let one : Stopped p new (events_of others) x y n k = subst (λ (a : Playing). Stopped a new (events_of others) x y n k) players s in
     subst (λ (l : List Step). Stopped p new (events_of l) x y n k) lists one
-
--- ---- out of memory
-
-pub only_memory : (f : EventFault) → (f ≢ Memory → ⊥) → f ≡ Memory
-only_memory (Byte at) h = absurd (h (λ e. absurd cc))
-only_memory (Number at) h = absurd (h (λ e. absurd cc))
-only_memory (Expected at) h = absurd (h (λ e. absurd cc))
-only_memory Memory h = refl

@@ -17,7 +17,7 @@ use Rattle.plan_session.specs.declared.item_fault.Wrong.{Wrong}
 use Rattle.plan_session.specs.Commands.{IsCommand, command_lexemes}
 use Rattle.plan_session.specs.Events.{IsStep, step_lexemes}
 use Rattle.plan_session.specs.Items.{HoldsItems}
-use Rattle.plan_session.specs.Kept.{cut_of, ReportsFirstFault}
+use Rattle.plan_session.specs.FirstFaults.{cut_of, ReportsFirstFault}
 
 -- ---- tokens with which a list of items begins
 

@@ -13,7 +13,7 @@ use Rattle.plan_session.specs.declared.step.Step.{Step}
 use Rattle.plan_session.specs.Commands.{IsCommand, command_lexemes}
 use Rattle.plan_session.specs.Events.{IsStep, step_lexemes}
 use Rattle.plan_session.specs.ItemFaults.{HasItemFault, IsWrongItem, fault_at}
-use Rattle.plan_session.specs.Kept.{reported_fault}
+use Rattle.plan_session.specs.FirstFaults.{reported_fault}
 
 -- the tokens as their bytes, or the first fault
 abbrev pub as_lexemes : List ℕ → Result (List Token) ScriptFault → Result (List (List ℕ)) ScriptFault

@@ -1,5 +1,5 @@
 -- The request for a playback, when it can be played, what is then delivered, and the faults.
-use Rattle.std.specs.Prelude.{◌≡◌, ◌≢◌, ℕ, Bool, true, false, List, length, Option, Some, None, Result, Ok, Err}
+use Rattle.std.specs.Prelude.{◌≡◌, ◌≢◌, ◌↔◌, ℕ, Bool, true, false, List, length, Option, Some, None, Result, Ok, Err}
 use Rattle.std.specs.Io.KnownBytes.{Appends, Keeps}
 use Rattle.plan_code.specs.declared.fault.CodeFault.TheVariants.{Memory as NoMemoryForCode}
 use Rattle.plan_code.specs.declared.flags.Contacts.{Contacts}
@@ -66,6 +66,22 @@ pub record IsStarted (code : Program) (start : Starting) (text : List ℕ) (p : 
   pub begins : IsAtStart code start p
   pub holds : Holds text steps
 
+-- ---- how every session begins
+
+-- a code, and the start of its player
+pub record Opened : Type 0 where
+  pub code : Program
+  pub start : Starting
+
+-- the code can be played from the start, and this is the player at the start
+pub record Begins (r : Request) (p : Playing) : Type 0 where
+  pub ready : CanStart p.code r
+  pub begins : IsAtStart p.code (start_of p.code r) p
+
+-- the player at the start of the session is the one of the request
+abbrev pub IsSessionOf : Request → Opened → Type 0
+IsSessionOf r s = (p : Playing) → Begins r p ↔ IsAtStart s.code s.start p
+
 -- ---- what is delivered
 
 -- all bytes of the playback, and the number of its frames; or the part that the sink took; barring allocation failure
@@ -90,6 +106,14 @@ IsRunFault r (Refused pc line cause) = (code : Program) × IsFileOf code r.file 
 IsRunFault r (Start fault) = (code : Program) × IsTypedFileOf code r.file × (start_fault (start_of code r) ≡ Some fault)
 IsRunFault r (Events fault) = (code : Program) × CanStart code r × (fault ≢ NoMemoryForEvents → (steps : List Step) → Holds r.text steps → ⊥)
 IsRunFault r (Write frames bytes) = (p : Playing) × (steps : List Step) × IsPlayback r p steps
+
+-- the fault with which a request does not begin
+abbrev pub IsBeginFault : Request → RunFault → Type 0
+IsBeginFault r (Code fault) = fault ≢ NoMemoryForCode → HasCodeFault r.file fault
+IsBeginFault r (Refused pc line cause) = (code : Program) × IsFileOf code r.file × IsRefused code pc cause × (line ≡ or_zero (line_at code pc))
+IsBeginFault r (Start fault) = (code : Program) × IsTypedFileOf code r.file × (start_fault (start_of code r) ≡ Some fault)
+IsBeginFault r (Events fault) = ⊥
+IsBeginFault r (Write frames bytes) = ⊥
 
 -- the same for a typed code and its start
 abbrev pub IsPlayFault : Program → Starting → List ℕ → RunFault → Type 0

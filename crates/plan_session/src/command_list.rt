@@ -36,16 +36,17 @@ impl<'a> CommandList<'a> {
     ghost use Rattle.plan_session.specs.declared.event_fault.EventFault.TheVariants.{Memory};
     ghost use Rattle.plan_session.specs.Commands.{HoldsCommands};
     ghost use Rattle.plan_session.specs.ItemFaults.{ReportsCommandFault};
-    ghost use Rattle.plan_session.specs.Kept.{ReportsFirstFault};
+    ghost use Rattle.plan_session.specs.FirstFaults.{ReportsFirstFault};
     ghost use Rattle.plan_session.specs.Listing.{ListsCommands, TakesCommand};
 
     /// The commands of a text. All of the text is parsed, and no memory is allocated.
     ///
     /// # Errors
     ///
-    /// First `Byte`, for a byte outside comments that is not allowed; then the first in text order of `Number`, for an
-    /// atom that is not the required number in range, and `Expected`, for any other wrong token or the end of the text.
-    /// Each has its position. A text that lists commands has no fault.
+    /// First `Byte`, for a byte outside comments that is not allowed; then the first in text order
+    /// of `Number`, for an atom that is not the required number in range, and `Expected`, for any
+    /// other wrong token or the end of the text. Each has its position. A text that lists commands
+    /// has no fault.
     pub fn new(text: &'a str) -> Result<Self, EventFault>
         ensures found { IfOk result (λ list. (commands : List Command)
             × HoldsCommands text.now commands

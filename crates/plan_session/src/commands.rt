@@ -6,7 +6,7 @@ ghost use Rattle.plan_session.specs.declared.commands.Keyword.{Keyword};
 ghost use Rattle.plan_session.specs.declared.event_fault.EventFault.TheVariants.{Memory};
 ghost use Rattle.plan_session.specs.Commands.{IsCommand, command_lexemes, HoldsCommands};
 ghost use Rattle.plan_session.specs.ItemFaults.{IsWrongItem, ReportsCommandFault};
-ghost use Rattle.plan_session.specs.Kept.{ReportsFirstFault};
+ghost use Rattle.plan_session.specs.FirstFaults.{ReportsFirstFault};
 ghost use Rattle.plan_session.specs.Keywords.{keyword_text, tokens_after};
 
 use crate::command::Command;
@@ -111,15 +111,16 @@ impl Item for Command {
     }
 }
 
-/// Parses a command file: `contact C closed` and `contact C open` with C from 0 to 15, `run N` with N from 1 to
-/// 3,600,000, `next`, `break LINE` with LINE from 1 to 65,535, `clear` and `show`, separated by blanks and comments as
-/// in scripts.
+/// Parses a command file: `contact C closed` and `contact C open` with C from 0 to 15, `run N` with
+/// N from 1 to 3,600,000, `next`, `break LINE` with LINE from 1 to 65,535, `clear` and `show`,
+/// separated by blanks and comments as in scripts.
 ///
 /// # Errors
 ///
-/// First `Byte`, for a byte outside comments that is not allowed; then the first in text order of `Number`, for an atom
-/// that is not the required number in range, and `Expected`, for any other wrong token or the end of the text. Each has
-/// its position. `Memory` if memory runs out. A text that lists commands has no other fault.
+/// First `Byte`, for a byte outside comments that is not allowed; then the first in text order of
+/// `Number`, for an atom that is not the required number in range, and `Expected`, for any other
+/// wrong token or the end of the text. Each has its position. `Memory` if memory runs out. A text
+/// that lists commands has no other fault.
 pub fn read_commands(alloc: Global, text: &str) -> Result<Vec<Command>, EventFault>
     ensures found { IfOk result (λ v. HoldsCommands text.now v.items) }
     ensures only { IfErr result (λ e. e ≢ Memory → (all : List Command)

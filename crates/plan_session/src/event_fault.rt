@@ -4,7 +4,8 @@ use script_tokens::{Position, ScriptFault};
 use std::alloc::AllocError;
 use thiserror::Error;
 
-/// Why a text is not an event file or a command file, with the position of the token, or just past the text.
+/// Why a text is not an event file or a command file, with the position of the token, or just past
+/// the text.
 #[derive(Clone, Copy, Debug, PartialEq, Eq, Error)]
 pub enum EventFault {
     /// A byte outside comments that is not allowed.
@@ -35,12 +36,12 @@ impl From<AllocError> for EventFault {
 
 impl From<ScriptFault> for EventFault {
     ghost use Rattle.std.specs.Prelude.{◌≡◌};
-    ghost use Rattle.plan_session.specs.Kept.{reported_fault};
+    ghost use Rattle.plan_session.specs.FirstFaults.{reported_fault};
 
     ghost from_gives = { λ fault e. e ≡ reported_fault fault };
 
-    /// The fault for one of the lexer or of the reader. Event and command files have no blocks, names or limits, so
-    /// only `Byte`, `Number`, `Expected` and `Memory` occur.
+    /// The fault for one of the lexer or of the reader. Event and command files have no blocks,
+    /// names or limits, so only `Byte`, `Number`, `Expected` and `Memory` occur.
     fn from(fault: ScriptFault) -> Self {
         match fault {
             ScriptFault::Memory => EventFault::Memory,

@@ -5,7 +5,7 @@ ghost use Rattle.plan_session.specs.declared.event_fault.EventFault.TheVariants.
 ghost use Rattle.plan_session.specs.declared.step.Step.{Step};
 ghost use Rattle.plan_session.specs.Events.{IsStep, step_lexemes, first_lexeme, Holds};
 ghost use Rattle.plan_session.specs.ItemFaults.{IsWrongItem, ReportsStepFault};
-ghost use Rattle.plan_session.specs.Kept.{ReportsFirstFault};
+ghost use Rattle.plan_session.specs.FirstFaults.{ReportsFirstFault};
 
 use crate::event_fault::EventFault;
 use crate::item_fault::{NO_ITEM, Wrong};
@@ -78,14 +78,15 @@ impl Item for Step {
     }
 }
 
-/// Parses an event file: `frames N` with N from 1 to 3,600,000, `contact C closed` and `contact C open` with C from 0
-/// to 15, separated by blanks and comments as in scripts.
+/// Parses an event file: `frames N` with N from 1 to 3,600,000, `contact C closed` and `contact C
+/// open` with C from 0 to 15, separated by blanks and comments as in scripts.
 ///
 /// # Errors
 ///
-/// First `Byte`, for a byte outside comments that is not allowed; then the first in text order of `Number`, for an atom
-/// that is not the required number in range, and `Expected`, for any other wrong token or the end of the text. Each has
-/// its position. `Memory` if memory runs out. A text that lists steps has no other fault.
+/// First `Byte`, for a byte outside comments that is not allowed; then the first in text order of
+/// `Number`, for an atom that is not the required number in range, and `Expected`, for any other
+/// wrong token or the end of the text. Each has its position. `Memory` if memory runs out. A text
+/// that lists steps has no other fault.
 pub fn read_events(alloc: Global, text: &str) -> Result<Vec<Step>, EventFault>
     ensures found { IfOk result (λ v. Holds text.now v.items) }
     ensures only { IfErr result (λ e. e ≢ Memory → (all : List Step) → Holds text.now all → ⊥) }

@@ -14,7 +14,6 @@ use script_tokens::values::{contact, decimal, level};
 /// An item that a text lists, spelled by tokens.
 pub(crate) trait Item: Copy {
     ghost use Rattle.std.specs.Prelude.{◌≡◌, ◌≢◌, ◌≤◌, ℕ, List, ◌∷◌, ◌++◌, length, IfOk, IfErr};
-    ghost use Rattle.plan_session.specs.InParts.{BeginOnce};
     ghost use Rattle.plan_session.specs.ItemFaults.{IsWrongItem};
     ghost use Rattle.plan_session.specs.Items.{AreUnique, HasLexemes};
 
@@ -24,12 +23,11 @@ pub(crate) trait Item: Copy {
     /// Whether its numbers are in their ranges.
     ghost is_item: { Self → Type 0 };
 
-    /// The law of items: their tokens identify them, and the first alone begins like one. The function does nothing;
-    /// its contract is the law.
+    /// The law of items: their tokens identify them. The function does nothing; its contract is the
+    /// law.
     fn uniqueness()
         ensures unique { AreUnique spelled is_item }
-        ensures some { HasLexemes spelled }
-        ensures once { BeginOnce spelled is_item };
+        ensures some { HasLexemes spelled };
 
     /// The number of tokens after the first one, for an item that begins with this token.
     fn further(word: &[u8]) -> usize

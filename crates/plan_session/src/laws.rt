@@ -3,34 +3,27 @@
 ghost use Rattle.plan_session.specs.Commands.{HoldsOneListOfCommands};
 ghost use Rattle.plan_session.specs.Events.{HoldsOneList};
 ghost use Rattle.plan_session.specs.ItemFaults.{EventFilesHaveOneFault, CommandFilesHaveOneFault};
-ghost use Rattle.plan_session.specs.Kept.{KeptTextsHaveSameResult};
 
-/// The law of event files: a text has at most one list of steps. The function does nothing; its contract is the law.
+/// The law of event files: a text has at most one list of steps. The function does nothing; its
+/// contract is the law.
 pub fn one_list()
     ensures { HoldsOneList }
 {}
 
-/// The law of command files: a text has at most one list of commands. The function does nothing; its contract is the
-/// law.
+/// The law of command files: a text has at most one list of commands. The function does nothing;
+/// its contract is the law.
 pub fn one_list_of_commands()
     ensures { HoldsOneListOfCommands }
 {}
 
-/// The law of the faults of event files: a text has at most one, and lists no steps then. The function does nothing;
-/// its contract is the law.
+/// The law of the faults of event files: a text has at most one, and lists no steps then. The
+/// function does nothing; its contract is the law.
 pub fn one_event_fault()
     ensures { EventFilesHaveOneFault }
 {}
 
-/// The law of the faults of command files: a text has at most one, and lists no commands then. The function does
-/// nothing; its contract is the law.
+/// The law of the faults of command files: a text has at most one, and lists no commands then. The
+/// function does nothing; its contract is the law.
 pub fn one_command_fault()
     ensures { CommandFilesHaveOneFault }
-{}
-
-/// The law of texts that are kept in part: what [`read_text`](crate::read_text) keeps of a text has the same tokens
-/// as the whole, or the same first fault at the same position, and lists the same steps and commands. The function does
-/// nothing; its contract is the law.
-pub fn kept_texts()
-    ensures { KeptTextsHaveSameResult }
 {}

@@ -4,11 +4,10 @@ ghost use Rattle.std.specs.Prelude.{◌≡◌, ◌≢◌, ◌+◌, ◌≤◌, �
 ghost use Rattle.script_tokens.specs.declared.fault.ScriptFault.TheVariants.{Memory as NoMemory};
 ghost use Rattle.script_tokens.specs.declared.token.Token.{Token};
 ghost use Rattle.script_tokens.specs.Reading.{AreWithin, lexemes_of};
-ghost use Rattle.script_tokens.specs.Scanning.{bytes_left};
 ghost use Rattle.plan_session.specs.declared.event_fault.EventFault.TheVariants.{Memory};
 ghost use Rattle.plan_session.specs.ItemFaults.{ReportsItemFault};
 ghost use Rattle.plan_session.specs.Items.{HoldsItems};
-ghost use Rattle.plan_session.specs.Kept.{ReportsFirstFault, cut_of};
+ghost use Rattle.plan_session.specs.FirstFaults.{ReportsFirstFault, cut_of};
 ghost use Rattle.plan_session.specs.Listing.{Lists, TakesItem, TakesTokens, FindsItem, ReadsItem, HasFaultLeft};
 
 use crate::event_fault::EventFault;
@@ -88,7 +87,8 @@ fn check_tokens(text: &str) -> Result<(), ScriptFault>
     Ok(())
 }
 
-/// Whether the tokens that are left spell items: the fault of the first that can't be read, if they do not.
+/// Whether the tokens that are left spell items: the fault of the first that can't be read, if they
+/// do not.
 fn check_items<T: Item>(scanner: &mut Scanner<'_>) -> Result<(), ScriptFault>
     ensures found { OnOk result ((items : List T) × Lists T.spelled T.is_item scanner.old items) }
     ensures none { IfErr result (λ e. (items : List T) → Lists T.spelled T.is_item scanner.old items
@@ -105,8 +105,8 @@ fn check_items<T: Item>(scanner: &mut Scanner<'_>) -> Result<(), ScriptFault>
 ///
 /// # Errors
 ///
-/// First `Byte`, for a byte outside comments that is not allowed; then the fault of the first item that cannot be read.
-/// A text that lists items has no fault.
+/// First `Byte`, for a byte outside comments that is not allowed; then the fault of the first item
+/// that cannot be read. A text that lists items has no fault.
 pub(crate) fn list_items<'a, T: Item>(text: &'a str) -> Result<Scanner<'a>, EventFault>
     ensures found { IfOk result (λ s. (items : List T)
         × HoldsItems T.spelled T.is_item text.now items
@@ -116,7 +116,6 @@ pub(crate) fn list_items<'a, T: Item>(text: &'a str) -> Result<Scanner<'a>, Even
     ensures first { IfErr result (λ e. ReportsFirstFault text.now e) }
     ensures fault { IfErr result (λ e. ReportsItemFault T.spelled T.is_item text.now e) }
     ensures named { IfErr result (λ e. e ≢ Memory) }
-    ensures few { IfOk result (λ s. bytes_left s ≤ length text.now) }
 {
     check_tokens(text)?;
     let mut scanner = Scanner::new(text, NO_LIMITS);

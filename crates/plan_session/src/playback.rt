@@ -18,14 +18,15 @@ use plan_player::{Player, Sink, Start};
 use plan_verifier::Verified;
 use std::alloc::Global;
 
-/// Plays a typed code from this start over the events of a text. Each frame is put into the sink, which must not have
-/// failed. Returns the number of frames. No memory is allocated for the steps of the text or their frames.
+/// Plays a typed code from this start over the events of a text. Each frame is put into the sink,
+/// which must not have failed. Returns the number of frames. No memory is allocated for the steps
+/// of the text or their frames.
 ///
 /// # Errors
 ///
-/// The first of these: `Start` if the count is 5000 or more, or the frame of the day 3,600,000 or more; `Events` if the
-/// text is not an event file; `Write` if the sink fails, with what it took. With any other
-/// fault nothing was written.
+/// The first of these: `Start` if the count is 5000 or more, or the frame of the day 3,600,000 or
+/// more; `Events` if the text is not an event file; `Write` if the sink fails, with what it took.
+/// With any other fault nothing was written.
 pub fn play<K: Sink>(
     code: &Verified,
     start: Start,
@@ -41,7 +42,8 @@ pub fn play<K: Sink>(
     ensures only { OnOk result ((p : Playing) × (steps : List Step)
         × IsStarted code.now start events.now p steps) }
     ensures first_fault { IfErr result (λ e. IsPlayFault code.now start events.now e) }
-    // The sink has failed exactly if the fault is `Write`, and has taken nothing with any other fault.
+    // The sink has failed exactly if the fault is `Write`, and has taken nothing with any other
+    // fault.
     ensures failed { K.has_failed out.new ≡ is_write result }
     ensures silent { IfErr result (λ e. IsSilent (K.taken out.old) (K.taken out.new) e) }
 {
@@ -63,15 +65,16 @@ pub fn play<K: Sink>(
     }
 }
 
-/// Plays a code file over the events of a text. The player starts at this CIF count and frame of the day with these
-/// contacts closed. Each frame is put into the sink, which must not have failed. Returns the number of frames.
+/// Plays a code file over the events of a text. The player starts at this CIF count and frame of
+/// the day with these contacts closed. Each frame is put into the sink, which must not have failed.
+/// Returns the number of frames.
 ///
 /// # Errors
 ///
-/// The first of these: `Code` if the bytes are not a code file, or memory for it runs out; `Refused` if the code is not
-/// typed; `Start` if the count is 5000 or more, or the frame of the day 3,600,000 or more; `Events` if the text is not
-/// an event file; `Write` if the sink fails, with what it took. With any other fault nothing
-/// was written.
+/// The first of these: `Code` if the bytes are not a code file, or memory for it runs out;
+/// `Refused` if the code is not typed; `Start` if the count is 5000 or more, or the frame of the
+/// day 3,600,000 or more; `Events` if the text is not an event file; `Write` if the sink fails,
+/// with what it took. With any other fault nothing was written.
 pub fn run<K: Sink>(
     alloc: Global,
     code: &[u8],
@@ -82,7 +85,8 @@ pub fn run<K: Sink>(
     out: &mut K,
 ) -> Result<u128, RunFault>
     requires working { K.has_failed out.old ≡ false }
-    // A typed code, a start in range and a text of steps are played, unless memory runs out or the sink fails.
+    // A typed code, a start in range and a text of steps are played, unless memory runs out or the
+    // sink fails.
     ensures played { (p : Playing) (steps : List Step)
         → IsPlayback (asked code.now events.now count day contacts) p steps
         → Delivers p (events_of steps) (K.taken out.old) (K.taken out.new) result }
@@ -91,7 +95,8 @@ pub fn run<K: Sink>(
         × IsPlayback (asked code.now events.now count day contacts) p steps) }
     ensures first_fault { IfErr result (λ e.
         IsRunFault (asked code.now events.now count day contacts) e) }
-    // The sink has failed exactly if the fault is `Write`, and has taken nothing with any other fault.
+    // The sink has failed exactly if the fault is `Write`, and has taken nothing with any other
+    // fault.
     ensures failed { K.has_failed out.new ≡ is_write result }
     ensures silent { IfErr result (λ e. IsSilent (K.taken out.old) (K.taken out.new) e) }
 {

@@ -1,19 +1,19 @@
 //! Playing the steps of an event file into a sink, one by one.
 
-ghost use Rattle.std.specs.Prelude.{◌≡◌, ◌≤◌, ◌*◌, List, false, true, replicate, IfOk, OnOk, IfErr, OnErr};
+ghost use Rattle.std.specs.Prelude.{◌≡◌, List, false, true, replicate, IfOk, OnOk, IfErr, OnErr};
 ghost use Rattle.plan_runs.specs.declared.event.Event.TheVariants.{Frame};
 ghost use Rattle.plan_player.specs.Delivery.{Delivered, Stopped};
 ghost use Rattle.plan_session.specs.declared.step.Step.{Step};
 ghost use Rattle.plan_session.specs.Events.{events_of_step, events_of};
 ghost use Rattle.plan_session.specs.Listing.{ListsSteps};
-ghost use Rattle.script_tokens.specs.Scanning.{bytes_left};
 
 use crate::step::Step;
 use crate::step_list::StepList;
 use mux_config::Store;
 use plan_player::{Event, PlayFault, Player, Sink, play, play_frames};
 
-/// What a sink took before it failed: this many whole frames, and this many bytes of the next frame.
+/// What a sink took before it failed: this many whole frames, and this many bytes of the next
+/// frame.
 #[derive(Clone, Copy, Debug, PartialEq, Eq)]
 pub(crate) struct Cut {
     pub(crate) frames: u128,
@@ -103,8 +103,6 @@ pub(crate) fn play_list<'a, S: Store, K: Sink>(
         → Stopped player.old player.new (events_of all) (K.taken sink.old) (K.taken sink.new)
         cut.frames cut.bytes) }
     ensures fails { OnErr result (K.has_failed sink.new ≡ true) }
-    ensures few { IfOk result (λ n. n ≤ bytes_left steps.old * 3600000) }
-    ensures few_cut { IfErr result (λ cut. cut.frames ≤ bytes_left steps.old * 3600000) }
 {
     let mut frames = 0u128;
     while let Some(step) = steps.next() {

@@ -4,7 +4,7 @@ ghost use Rattle.std.specs.Prelude.{◌≡◌, ◌≢◌, List, [], ◌∷◌, �
 ghost use Rattle.plan_session.specs.declared.event_fault.EventFault.TheVariants.{Memory};
 ghost use Rattle.plan_session.specs.ItemFaults.{ReportsItemFault};
 ghost use Rattle.plan_session.specs.Items.{HoldsItems};
-ghost use Rattle.plan_session.specs.Kept.{ReportsFirstFault};
+ghost use Rattle.plan_session.specs.FirstFaults.{ReportsFirstFault};
 
 use crate::event_fault::EventFault;
 use crate::items::Item;
@@ -15,8 +15,8 @@ use std::alloc::Global;
 ///
 /// # Errors
 ///
-/// First `Byte`, for a byte outside comments that is not allowed; then the fault of the first item that cannot be read.
-/// `Memory` if memory runs out. A text that lists items has no other fault.
+/// First `Byte`, for a byte outside comments that is not allowed; then the fault of the first item
+/// that cannot be read. `Memory` if memory runs out. A text that lists items has no other fault.
 pub(crate) fn read_items<T: Item>(alloc: Global, text: &str) -> Result<Vec<T>, EventFault>
     ensures found { IfOk result (λ v. HoldsItems T.spelled T.is_item text.now v.items) }
     ensures only { IfErr result (λ e. e ≢ Memory → (all : List T)

@@ -15,7 +15,8 @@ pub enum RunFault {
     /// The code is refused.
     #[error("refused at {pc} line {line}: {cause}")]
     Refused {
-        /// The pc at which it is refused: of an instruction, counted from 0, or of a label past the last one.
+        /// The pc at which it is refused: of an instruction, counted from 0, or of a label past the
+        /// last one.
         pc: u16,
         /// The source line of the instruction; 0 if there is no instruction at `pc`.
         line: u16,
@@ -33,7 +34,8 @@ pub enum RunFault {
     Write {
         /// The whole frames that the sink took.
         frames: u128,
-        /// The bytes that it took of the next frame, fewer than a whole frame: 0 to 95, or 0 to 127 in mode III.
+        /// The bytes that it took of the next frame, fewer than a whole frame: 0 to 95, or 0 to 127
+        /// in mode III.
         bytes: usize,
     },
 }

@@ -10,7 +10,8 @@ use std::marker::Model;
 
 /// The steps of the text of an event file, one by one: none is kept.
 ///
-/// Contracts refer to the part of the text that is left; the steps that it lists are defined in `specs/Listing.antt`.
+/// Contracts refer to the part of the text that is left; the steps that it lists are defined in
+/// `specs/Listing.antt`.
 #[derive(Drop)]
 pub struct StepList<'a> {
     scanner: Scanner<'a>,
@@ -30,22 +31,22 @@ impl<'a> Model for StepList<'a> {
 }
 
 impl<'a> StepList<'a> {
-    ghost use Rattle.std.specs.Prelude.{◌≢◌, ◌≤◌, List, length, IfOk, IfErr};
-    ghost use Rattle.script_tokens.specs.Scanning.{bytes_left};
+    ghost use Rattle.std.specs.Prelude.{◌≢◌, List, IfOk, IfErr};
     ghost use Rattle.plan_session.specs.declared.step.Step.{Step};
     ghost use Rattle.plan_session.specs.declared.event_fault.EventFault.TheVariants.{Memory};
     ghost use Rattle.plan_session.specs.Events.{Holds};
     ghost use Rattle.plan_session.specs.ItemFaults.{ReportsStepFault};
-    ghost use Rattle.plan_session.specs.Kept.{ReportsFirstFault};
+    ghost use Rattle.plan_session.specs.FirstFaults.{ReportsFirstFault};
     ghost use Rattle.plan_session.specs.Listing.{ListsSteps, TakesStep};
 
     /// The steps of a text. All of the text is parsed, and no memory is allocated.
     ///
     /// # Errors
     ///
-    /// First `Byte`, for a byte outside comments that is not allowed; then the first in text order of `Number`, for an
-    /// atom that is not the required number in range, and `Expected`, for any other wrong token or the end of the text.
-    /// Each has its position. A text that lists steps has no fault.
+    /// First `Byte`, for a byte outside comments that is not allowed; then the first in text order
+    /// of `Number`, for an atom that is not the required number in range, and `Expected`, for any
+    /// other wrong token or the end of the text. Each has its position. A text that lists steps has
+    /// no fault.
     pub fn new(text: &'a str) -> Result<Self, EventFault>
         ensures found { IfOk result (λ list. (steps : List Step) × Holds text.now steps
             × ListsSteps list steps) }
@@ -53,7 +54,6 @@ impl<'a> StepList<'a> {
         ensures first { IfErr result (λ e. ReportsFirstFault text.now e) }
         ensures fault { IfErr result (λ e. ReportsStepFault text.now e) }
         ensures named { IfErr result (λ e. e ≢ Memory) }
-        ensures few { IfOk result (λ list. bytes_left list ≤ length text.now) }
     {
         match list_items::<Step>(text) {
             Ok(scanner) => Ok(StepList { scanner }),

@@ -3,7 +3,7 @@ use Rattle.std.proofs.Common.{◌≡◌, ℕ, ◌+◌, ◌<◌, ◌≤◌, true,
 use Rattle.mux_config.specs.Configuration.{IsConfiguration}
 use Rattle.plan_code.specs.declared.label.Label.{Label}
 use Rattle.plan_code.specs.declared.instr.Instr.{Instr}
-use Rattle.plan_code.specs.declared.instr.Instr.TheVariants.{Wait, Until, WaitContact, CommitIn, CommitAt, Join, Settle, End, Edit as Edits, Test, Jump, Set, Loop}
+use Rattle.plan_code.specs.declared.instr.Instr.TheVariants.{Wait, Until, WaitContact, WaitAny, CommitIn, CommitAt, Join, Settle, End, Edit as Edits, Test, TestTime, Jump, Set, Loop}
 use Rattle.plan_code.specs.Program.{Program, label_at}
 use Rattle.plan_flow.specs.declared.cause.Cause.{Cause}
 use Rattle.plan_flow.specs.declared.cause.Cause.TheVariants.{Target}
@@ -52,9 +52,11 @@ instr_computes code (CommitAt count) t h = flow_computes code.plan (CommitAt cou
 instr_computes code (Wait frames) t h = flow_computes code.plan (Wait frames) t
 instr_computes code (Until day) t h = flow_computes code.plan (Until day) t
 instr_computes code (WaitContact contact closed) t h = flow_computes code.plan (WaitContact contact closed) t
+instr_computes code (WaitAny closed opened until frames) t h = flow_computes code.plan (WaitAny closed opened until frames) t
 instr_computes code Join t h = flow_computes code.plan Join t
 instr_computes code Settle t h = flow_computes code.plan Settle t
 instr_computes code (Test contact target) t h = computes_alone _ _ (target_computes code target (spent t) h)
+instr_computes code (TestTime from to target) t h = computes_alone _ _ (target_computes code target (spent t) h)
 instr_computes code (Jump target) t h = computes_alone _ _ (target_computes code target (spent t) h)
 instr_computes code (Loop counter target) t h =
     computes_alone _ _ (computes_orelse _ _ _ _ (computes_where _ _ _ (decides_is_false _)) (target_computes code target (spent t) h))
@@ -121,9 +123,11 @@ none_targets code (CommitAt count) t h e = goes_nowhere code (CommitAt count) t 
 none_targets code (Wait frames) t h e = goes_nowhere code (Wait frames) t tt refl
 none_targets code (Until day) t h e = goes_nowhere code (Until day) t tt refl
 none_targets code (WaitContact contact closed) t h e = goes_nowhere code (WaitContact contact closed) t tt refl
+none_targets code (WaitAny closed opened until frames) t h e = goes_nowhere code (WaitAny closed opened until frames) t tt refl
 none_targets code Join t h e = goes_nowhere code Join t tt refl
 none_targets code Settle t h e = goes_nowhere code Settle t tt refl
 none_targets code (Test contact target) t h e = record { counter = tt; targets = none_reaches code target (spent t) h e }
+none_targets code (TestTime from to target) t h e = record { counter = tt; targets = none_reaches code target (spent t) h e }
 none_targets code (Jump target) t h e = record { counter = tt; targets = none_reaches code target (spent t) h e }
 none_targets code (Loop counter target) t h e =
     let parts = none_two _ _ e in
@@ -144,9 +148,11 @@ targets_none code (CommitAt count) t h g = refl
 targets_none code (Wait frames) t h g = refl
 targets_none code (Until day) t h g = refl
 targets_none code (WaitContact contact closed) t h g = refl
+targets_none code (WaitAny closed opened until frames) t h g = refl
 targets_none code Join t h g = refl
 targets_none code Settle t h g = refl
 targets_none code (Test contact target) t h g = reached_none code target (spent t) h g.targets
+targets_none code (TestTime from to target) t h g = reached_none code target (spent t) h g.targets
 targets_none code (Jump target) t h g = reached_none code target (spent t) h g.targets
 targets_none code (Loop counter target) t h g = two_none _ _ (if_none _ _ (ap not g.fine)) (reached_none code target (spent t) h g.targets)
 targets_none code (Set counter times) t h g = refl

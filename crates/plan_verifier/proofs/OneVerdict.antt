@@ -12,7 +12,7 @@ use Rattle.plan_code.specs.declared.label.Swap.{Swap}
 use Rattle.plan_code.specs.declared.label.Swap.TheVariants.{Idle, Within, Perhaps}
 use Rattle.plan_code.specs.declared.instr.Line.{Line}
 use Rattle.plan_code.specs.declared.instr.Instr.{Instr}
-use Rattle.plan_code.specs.declared.instr.Instr.TheVariants.{Wait, Until, WaitContact, CommitIn, CommitAt, Join, Settle, End, Edit as Edits, Test, Jump, Set, Loop}
+use Rattle.plan_code.specs.declared.instr.Instr.TheVariants.{Wait, Until, WaitContact, WaitAny, CommitIn, CommitAt, Join, Settle, End, Edit as Edits, Test, TestTime, Jump, Set, Loop}
 use Rattle.plan_code.specs.Program.{Program, IsProgram, IsInstr, IsEdit, instr_at, label_at}
 use Rattle.plan_flow.specs.declared.cause.Cause.{Cause}
 use Rattle.plan_flow.specs.declared.cause.Cause.TheVariants.{Table}
@@ -79,9 +79,11 @@ leaves_formed plan (CommitAt count) t is fine h = formed_as t _ refl refl h
 leaves_formed plan (Wait frames) t is fine h = formed_as (after_wait frames t.pending t) _ refl refl (formed_waited frames t.pending t h)
 leaves_formed plan (Until day) t is fine h = formed_as (after_pause t.pending t) _ refl refl (formed_paused t.pending t h)
 leaves_formed plan (WaitContact contact closed) t is fine h = formed_as (after_pause t.pending t) _ refl refl (formed_paused t.pending t h)
+leaves_formed plan (WaitAny closed opened until frames) t is fine h = formed_as (after_pause t.pending t) _ refl refl (formed_paused t.pending t h)
 leaves_formed plan Join t is fine h = formed_as (known_after_swap t) _ refl refl (formed_swapped t h)
 leaves_formed plan Settle t is fine h = formed_as (after_settle t.pending t) _ refl refl (formed_settled t.pending t h)
 leaves_formed plan (Test contact target) t is fine h = formed_as t _ refl refl h
+leaves_formed plan (TestTime from to target) t is fine h = formed_as t _ refl refl h
 leaves_formed plan (Jump target) t is fine h = formed_as t _ refl refl h
 leaves_formed plan (Loop counter target) t is fine h = formed_as t _ refl refl h
 leaves_formed plan (Set counter times) t is fine h = formed_as t _ refl refl h

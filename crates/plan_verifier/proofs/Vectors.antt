@@ -1,5 +1,5 @@
 -- Small codes: which are typed, and why and where others are refused.
-use Rattle.std.proofs.Common.{◌≡◌, ℕ, ◌<◌, true, List, [], ◌∷◌, refl, arith}
+use Rattle.std.proofs.Common.{◌≡◌, ℕ, ◌<◌, ◌≤◌, true, List, [], ◌∷◌, Some, None, refl, arith}
 use Rattle.mux_config.specs.Configuration.{nothing}
 use Rattle.mux_config.specs.declared.edit.Edit.TheVariants.{AddSub, DropSub, AddService}
 use Rattle.mux_config.specs.declared.fault.EditFault.TheVariants.{IdAbsent}
@@ -7,10 +7,11 @@ use Rattle.mux_config.specs.declared.fault.ConfigFault.TheVariants.{EmptyService
 use Rattle.mux_types.specs.declared.numbers.Sid.TheVariants.{Short}
 use Rattle.mux_types.specs.declared.parts.Sub.{Sub}
 use Rattle.mux_eep.specs.declared.sizes.EepSet.TheVariants.{A}
+use Rattle.plan_code.specs.declared.flags.Contacts.{Contacts}
 use Rattle.plan_code.specs.declared.label.Swap.TheVariants.{Idle, Within, Perhaps}
 use Rattle.plan_code.specs.declared.instr.Instr.{Instr}
 use Rattle.plan_code.specs.declared.instr.Line.{Line}
-use Rattle.plan_code.specs.declared.instr.Instr.TheVariants.{Wait, Until, WaitContact, CommitIn, CommitAt, Join, Settle, End, Edit as Edits, Jump, Set, Loop}
+use Rattle.plan_code.specs.declared.instr.Instr.TheVariants.{Wait, Until, WaitContact, WaitAny, CommitIn, CommitAt, Join, Settle, End, Edit as Edits, TestTime, Jump, Set, Loop}
 use Rattle.plan_code.specs.Program.{Program, IsProgram, IsLine, IsInstr}
 use Rattle.plan_flow.specs.declared.cause.Cause.{Cause}
 use Rattle.plan_flow.specs.declared.cause.Cause.TheVariants.{Target, Table, Edit as OfEdit, Config as OfConfig, Pending, NoChange, Notice, Count, JoinIdle, SwapUncertain, CounterUnset, Mismatch, Cost, FallsOff}
@@ -64,6 +65,27 @@ count_refused = refused_if (lone (CommitAt 1002)) 0 Count (lone_is (CommitAt 100
 change_refused : IsRefused (lone (CommitIn 24)) 0 NoChange
 change_refused = refused_if (lone (CommitIn 24)) 0 NoChange (lone_is (CommitIn 24) (omega arith, omega arith)) refl
 
+-- a wait for nothing is an instruction like any other
+abbrev no_contacts : Contacts
+no_contacts = record { 0 = 0 }
+
+abbrev third : Contacts
+third = record { 0 = 8 }
+
+any_refused : IsRefused (lone (WaitAny no_contacts no_contacts None None)) 0 FallsOff
+any_refused =
+    refused_if (lone (WaitAny no_contacts no_contacts None None)) 0 FallsOff
+    (lone_is (WaitAny no_contacts no_contacts None None) (record { closed_within = omega arith; opened_within = omega arith; until_within = tt; frames_within = tt })) refl
+
+window_is : (target : ℕ) → target < 65536 → IsInstr (TestTime 0 1 target)
+window_is target below = (omega arith, omega arith, below)
+
+window_round_refused : IsRefused (lone (TestTime 0 1 0)) 0 Cost
+window_round_refused = refused_if (lone (TestTime 0 1 0)) 0 Cost (lone_is (TestTime 0 1 0) (window_is 0 (omega arith))) refl
+
+window_target_refused : IsRefused (lone (TestTime 0 1 5)) 0 Target
+window_target_refused = refused_if (lone (TestTime 0 1 5)) 0 Target (lone_is (TestTime 0 1 5) (window_is 5 (omega arith))) refl
+
 -- ---- labels
 
 abbrev late : Program
@@ -109,6 +131,20 @@ midnight_typed =
     typed_if (code (label 0 1 ∷ []) at_midnight)
     (first_is 1 at_midnight (omega arith) (omega arith) (line_is (Until 0) (omega arith), (line_is End tt, tt)) (omega arith) (omega arith)) refl
 
+-- at night both ways lead to the end
+abbrev at_night : Program
+at_night = code (label 0 2 ∷ label 1 1 ∷ []) (line (TestTime 3300000 900000 1) ∷ line End ∷ [])
+
+at_night_is : IsProgram at_night
+at_night_is =
+    code_is (label 0 2 ∷ label 1 1 ∷ []) (line (TestTime 3300000 900000 1) ∷ line End ∷ [])
+    (label_is 0 2 (omega arith) (omega arith) (omega arith), (label_is 1 1 (omega arith) (omega arith) (omega arith), tt))
+    ((omega arith, tt), (tt, tt)) (omega arith) (omega arith)
+    (line_is (TestTime 3300000 900000 1) (omega arith, omega arith, omega arith), (line_is End tt, tt)) (omega arith) (omega arith)
+
+night_typed : IsTyped at_night
+night_typed = typed_if at_night at_night_is refl
+
 -- ---- commits of one sub-channel
 
 abbrev sub : ℕ → ℕ → Sub
@@ -137,6 +173,37 @@ settled_typed =
     (first_is 3 after_settle (omega arith) (omega arith)
     (adds 1 0 (omega arith) (omega arith), (commits, (line_is (WaitContact 3 true) (omega arith), (line_is Settle tt, (line_is (Edits (DropSub 1)) (omega arith), (line_is End tt, tt))))))
     (omega arith) (omega arith)) refl
+
+-- contact 3 closed, or 5 frames; at most 26 frames are left after it
+abbrev third_or_five : Instr
+third_or_five = WaitAny third no_contacts None (Some 5)
+
+third_or_five_is : IsLine (line third_or_five)
+third_or_five_is = line_is third_or_five (record { closed_within = omega arith; opened_within = omega arith; until_within = tt; frames_within = (omega arith, omega arith) })
+
+abbrev after_any : ℕ → List Line
+after_any frames = line (Edits (AddSub (sub 1 0))) ∷ line (CommitIn 24) ∷ line third_or_five ∷ line (Wait frames) ∷ line (Edits (DropSub 1)) ∷ line End ∷ []
+
+after_any_is : (frames : ℕ) → 1 ≤ frames → frames < 65536 → IsProgram (code (label 0 3 ∷ []) (after_any frames))
+after_any_is frames some few =
+    first_is 3 (after_any frames) (omega arith) (omega arith)
+    (adds 1 0 (omega arith) (omega arith), (commits, (third_or_five_is, (line_is (Wait frames) (some, few), (line_is (Edits (DropSub 1)) (omega arith), (line_is End tt, tt))))))
+    (omega arith) (omega arith)
+
+after_26_typed : IsTyped (code (label 0 3 ∷ []) (after_any 26))
+after_26_typed = typed_if (code (label 0 3 ∷ []) (after_any 26)) (after_any_is 26 (omega arith) (omega arith)) refl
+
+after_25_refused : IsRefused (code (label 0 3 ∷ []) (after_any 25)) 4 Pending
+after_25_refused = refused_if (code (label 0 3 ∷ []) (after_any 25)) 4 Pending (after_any_is 25 (omega arith) (omega arith)) refl
+
+abbrev joined_after_any : List Line
+joined_after_any = line (Edits (AddSub (sub 1 0))) ∷ line (CommitIn 24) ∷ line third_or_five ∷ line Join ∷ line End ∷ []
+
+join_after_any_refused : IsRefused (code (label 0 3 ∷ []) joined_after_any) 3 JoinIdle
+join_after_any_refused =
+    refused_if (code (label 0 3 ∷ []) joined_after_any) 3 JoinIdle
+    (first_is 3 joined_after_any (omega arith) (omega arith)
+    (adds 1 0 (omega arith) (omega arith), (commits, (third_or_five_is, (line_is Join tt, (line_is End tt, tt))))) (omega arith) (omega arith)) refl
 
 abbrev twice : List Line
 twice = line (Edits (AddSub (sub 1 0))) ∷ line (CommitIn 24) ∷ line (Edits (AddSub (sub 2 96))) ∷ []
@@ -181,6 +248,18 @@ wait_of_27 = refl
 
 contact_awaited : (leaves plan (WaitContact 3 true) committed).pending ≡ Perhaps 26
 contact_awaited = refl
+
+any_awaited : (leaves plan third_or_five committed).pending ≡ Perhaps 26
+any_awaited = refl
+
+any_allowance : (leaves plan third_or_five committed).allowance ≡ 20
+any_allowance = refl
+
+window_tested : (leaves plan (TestTime 3300000 900000 1) committed).pending ≡ Within 24 27
+window_tested = refl
+
+window_allowance : (leaves plan (TestTime 3300000 900000 1) committed).allowance ≡ 3
+window_allowance = refl
 
 -- settling does not renew the allowance, joining does
 settled_allowance : (leaves plan Settle committed).allowance ≡ 3

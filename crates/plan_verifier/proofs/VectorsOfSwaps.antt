@@ -1,5 +1,5 @@
 -- A swap in each transmission mode, and what is allowed where it may already have been made.
-use Rattle.std.proofs.Common.{◌≡◌, ◌<◌, ◌≤◌, true, [], ◌∷◌, inl, inr, refl, ap, arith}
+use Rattle.std.proofs.Common.{◌≡◌, ℕ, ◌<◌, ◌≤◌, true, [], ◌∷◌, Option, Some, None, inl, inr, refl, ap, arith}
 use Rattle.fib_codec.specs.declared.frame_layout.FrameLayout.TheVariants.{Whole}
 use Rattle.mux_config.specs.Configuration.{Configuration}
 use Rattle.mux_config.specs.declared.edit.Edit.TheVariants.{DropSub}
@@ -8,7 +8,8 @@ use Rattle.fib_codec.specs.declared.modes.Mode.{Mode}
 use Rattle.fib_codec.specs.declared.modes.Mode.TheVariants.{I, II, III, IV}
 use Rattle.plan_code.specs.declared.plan.Plan.{Plan}
 use Rattle.plan_code.specs.declared.label.Swap.TheVariants.{Idle, Within, Perhaps}
-use Rattle.plan_code.specs.declared.instr.Instr.TheVariants.{Wait, Until, WaitContact, CommitIn, CommitAt, Join, Settle, Edit as Edits}
+use Rattle.plan_code.specs.declared.instr.Instr.{Instr}
+use Rattle.plan_code.specs.declared.instr.Instr.TheVariants.{Wait, Until, WaitContact, WaitAny, CommitIn, CommitAt, Join, Settle, Edit as Edits}
 use Rattle.plan_flow.specs.declared.cause.Cause.TheVariants.{Pending, JoinIdle, Edit as OfEdit}
 use Rattle.plan_flow.proofs.Samples.{plan, one_sub, sub}
 use Rattle.plan_verifier.specs.Typing.{Known, CanCommit, IsFine, FitsSwap, leaves}
@@ -75,6 +76,25 @@ until_one_of_two = refl
 
 contact_in_the_next_frame : leaves plan (WaitContact 3 true) (knows one_sub (Perhaps 1) 3) ≡ joined
 contact_in_the_next_frame = refl
+
+-- alternatives, even none at all, are a frame or more
+abbrev any : Option ℕ → Instr
+any frames = WaitAny (record { 0 = 8 }) (record { 0 = 0 }) (Some 42) frames
+
+any_is_a_frame_or_more : (leaves plan (any (Some 5)) perhaps).pending ≡ Perhaps 25
+any_is_a_frame_or_more = refl
+
+any_in_the_next_frame : leaves plan (any None) (knows one_sub (Perhaps 1) 3) ≡ joined
+any_in_the_next_frame = refl
+
+any_one_of_two : (leaves plan (any (Some 1)) (knows one_sub (Within 1 2) 3)).pending ≡ Perhaps 1
+any_one_of_two = refl
+
+none_of_any : (leaves plan (WaitAny (record { 0 = 0 }) (record { 0 = 0 }) None None) perhaps).pending ≡ Perhaps 25
+none_of_any = refl
+
+any_without_a_swap : (leaves plan (any (Some 5)) joined).pending ≡ Idle
+any_without_a_swap = refl
 
 -- settling uses up an instruction, and then the swap has been made
 after_settle : leaves plan Settle perhaps ≡ (let t : Known = record joined { allowance = 2 } in t)

@@ -5,7 +5,7 @@ use Rattle.mux_config.specs.Sound.{first_fault}
 use Rattle.plan_code.specs.declared.plan.Plan.{Plan}
 use Rattle.plan_code.specs.declared.label.Label.{Label}
 use Rattle.plan_code.specs.declared.instr.Instr.{Instr}
-use Rattle.plan_code.specs.declared.instr.Instr.TheVariants.{Test, Jump, Loop}
+use Rattle.plan_code.specs.declared.instr.Instr.TheVariants.{Test, TestTime, Jump, Loop}
 use Rattle.plan_code.specs.Flags.{is_set}
 use Rattle.plan_code.specs.Program.{Program, IsProgram, instr_at, label_at}
 use Rattle.plan_flow.specs.declared.cause.Cause.{Cause}
@@ -31,6 +31,7 @@ JumpRefused code (Some label) t given = EntryRefused code label t given
 -- an instruction: for the label that it jumps to, or for what is known of the configurations and the swap
 abbrev pub InstrRefused : Program → Instr → Known → Cause → Type 0
 InstrRefused code (Test contact target) t = JumpRefused code (label_at code target) (spent t)
+InstrRefused code (TestTime from to target) t = JumpRefused code (label_at code target) (spent t)
 InstrRefused code (Jump target) t = JumpRefused code (label_at code target) (spent t)
 InstrRefused code (Loop counter target) t =
     Where (is_set t.counters counter ≡ false) CounterUnset

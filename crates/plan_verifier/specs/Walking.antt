@@ -7,7 +7,7 @@ use Rattle.plan_code.specs.declared.flags.Counters.{Counters}
 use Rattle.plan_code.specs.declared.label.Label.{Label}
 use Rattle.plan_code.specs.declared.instr.Instr.{Instr}
 use Rattle.plan_code.specs.declared.instr.Line.{Line}
-use Rattle.plan_code.specs.declared.instr.Instr.TheVariants.{End, Test, Jump, Loop}
+use Rattle.plan_code.specs.declared.instr.Instr.TheVariants.{End, Test, TestTime, Jump, Loop}
 use Rattle.plan_code.specs.Flags.{is_set}
 use Rattle.plan_code.specs.Program.{Program, label_at}
 use Rattle.plan_flow.specs.declared.cause.Cause.{Cause}
@@ -50,6 +50,7 @@ jump_cause code (Some label) t = entry_cause code label t
 -- for a jump to a label
 abbrev pub target_cause : Program → Instr → Known → Option Cause
 target_cause code (Test contact target) t = jump_cause code (label_at code target) (spent t)
+target_cause code (TestTime from to target) t = jump_cause code (label_at code target) (spent t)
 target_cause code (Jump target) t = jump_cause code (label_at code target) (spent t)
 target_cause code (Loop counter target) t =
     cause_if (not (is_set t.counters counter)) CounterUnset first_or jump_cause code (label_at code target) (spent t)

@@ -45,6 +45,7 @@ fn test_target<S: Store>(code: &Code, instr: Instr, state: &mut KnownState<S>) -
 {
     match instr {
         Instr::Test { target, .. } => test_jump(code, target, state),
+        Instr::TestTime { target, .. } => test_jump(code, target, state),
         Instr::Jump(target) => test_jump(code, target, state),
         Instr::Loop { counter, target } => {
             if !state.counters.has(counter) {
@@ -58,6 +59,7 @@ fn test_target<S: Store>(code: &Code, instr: Instr, state: &mut KnownState<S>) -
         Instr::Wait(_) => Ok(()),
         Instr::Until(_) => Ok(()),
         Instr::WaitContact { .. } => Ok(()),
+        Instr::WaitAny { .. } => Ok(()),
         Instr::Join => Ok(()),
         Instr::Settle => Ok(()),
         Instr::Set { .. } => Ok(()),
@@ -89,6 +91,7 @@ fn account<S: Store>(plan: &Plan, instr: Instr, state: &mut KnownState<S>)
         Instr::Wait(_) => state.allowance = plan.budget,
         Instr::Until(_) => state.allowance = plan.budget,
         Instr::WaitContact { .. } => state.allowance = plan.budget,
+        Instr::WaitAny { .. } => state.allowance = plan.budget,
         Instr::Join => state.allowance = plan.budget,
         Instr::Set { counter, .. } => {
             state.counters = state.counters.with(counter);
@@ -103,6 +106,7 @@ fn account<S: Store>(plan: &Plan, instr: Instr, state: &mut KnownState<S>)
         Instr::CommitAt(_) => state.allowance -= 1,
         Instr::Settle => state.allowance -= 1,
         Instr::Test { .. } => state.allowance -= 1,
+        Instr::TestTime { .. } => state.allowance -= 1,
         Instr::Jump(_) => state.allowance -= 1,
         Instr::End => state.allowance -= 1,
     }

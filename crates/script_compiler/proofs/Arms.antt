@@ -5,6 +5,7 @@ use Rattle.script_front.specs.declared.tree.Statement.{Statement}
 use Rattle.script_front.specs.declared.tree.Statement.TheOpen.{Statement-F}
 use Rattle.script_front.specs.declared.tree.Statement.TheVariants.{Act as Acts, End, If, IfElse, Repeat, Forever, Apply, rolls-Act, rolls-End, rolls-If, rolls-IfElse, rolls-Repeat, rolls-Forever, rolls-Apply}
 use Rattle.script_front.specs.declared.tree.Statement.TheFolds.{fold-roll-Statement}
+use Rattle.script_front.specs.declared.tree.Condition.{Condition}
 use Rattle.script_front.specs.Block.{Block, basic, stop, when, either, repeat, forever, apply, Before, statement_step, named_at, before, block_of}
 
 pub is_act : (table : List Block) (s : Statement) (line : ℕ) (act : Act) → s ≡ Acts line act → (rest : Block) → before table s rest ≡ basic line act rest
@@ -13,11 +14,11 @@ is_act table s line act e rest = ap (λ x. before table x rest) e ∙ ap (λ f. 
 pub is_end : (table : List Block) (s : Statement) (line : ℕ) → s ≡ End line → (rest : Block) → before table s rest ≡ stop line rest
 is_end table s line e rest = ap (λ x. before table x rest) e ∙ ap (λ f. f rest) (ap (before table) (sym (rolls-End line)) ∙ fold-roll-Statement Before (statement_step table) (Statement-F.End line))
 
-pub is_if : (table : List Block) (s : Statement) (line contact : ℕ) (first : Vec Statement Global) → s ≡ If line contact first → (rest : Block) → before table s rest ≡ when line contact (block_of table first.items) rest
-is_if table s line contact first e rest = ap (λ x. before table x rest) e ∙ ap (λ f. f rest) (ap (before table) (sym (rolls-If line contact first)) ∙ fold-roll-Statement Before (statement_step table) (Statement-F.If line contact first))
+pub is_if : (table : List Block) (s : Statement) (line : ℕ) (condition : Condition) (first : Vec Statement Global) → s ≡ If line condition first → (rest : Block) → before table s rest ≡ when line condition (block_of table first.items) rest
+is_if table s line condition first e rest = ap (λ x. before table x rest) e ∙ ap (λ f. f rest) (ap (before table) (sym (rolls-If line condition first)) ∙ fold-roll-Statement Before (statement_step table) (Statement-F.If line condition first))
 
-pub is_if_else : (table : List Block) (s : Statement) (line contact : ℕ) (first second : Vec Statement Global) → s ≡ IfElse line contact first second → (rest : Block) → before table s rest ≡ either line contact (block_of table first.items) (block_of table second.items) rest
-is_if_else table s line contact first second e rest = ap (λ x. before table x rest) e ∙ ap (λ f. f rest) (ap (before table) (sym (rolls-IfElse line contact first second)) ∙ fold-roll-Statement Before (statement_step table) (Statement-F.IfElse line contact first second))
+pub is_if_else : (table : List Block) (s : Statement) (line : ℕ) (condition : Condition) (first second : Vec Statement Global) → s ≡ IfElse line condition first second → (rest : Block) → before table s rest ≡ either line condition (block_of table first.items) (block_of table second.items) rest
+is_if_else table s line condition first second e rest = ap (λ x. before table x rest) e ∙ ap (λ f. f rest) (ap (before table) (sym (rolls-IfElse line condition first second)) ∙ fold-roll-Statement Before (statement_step table) (Statement-F.IfElse line condition first second))
 
 pub is_repeat : (table : List Block) (s : Statement) (line times : ℕ) (body : Vec Statement Global) → s ≡ Repeat line times body → (rest : Block) → before table s rest ≡ repeat line times (block_of table body.items) rest
 is_repeat table s line times body e rest = ap (λ x. before table x rest) e ∙ ap (λ f. f rest) (ap (before table) (sym (rolls-Repeat line times body)) ∙ fold-roll-Statement Before (statement_step table) (Statement-F.Repeat line times body))

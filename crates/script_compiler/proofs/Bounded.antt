@@ -2,7 +2,7 @@
 use Rattle.std.proofs.Common.{ℕ, ◌+◌, ◌-◌, ◌≤◌, inl, inr, if◌then◌else◌, List, [], ◌∷◌, ◌++◌, length, Option, Some, None, sym, subst, arith}
 use Rattle.std.proofs.lemmas.Bool.{lt-ltb, le-ltb, cases_lt}
 use Rattle.plan_code.specs.declared.instr.Instr.{Instr}
-use Rattle.plan_code.specs.declared.instr.Instr.TheVariants.{Wait, Until, WaitContact, CommitIn, CommitAt, Join, Settle, End, Edit, Test, Jump, Set, Loop}
+use Rattle.plan_code.specs.declared.instr.Instr.TheVariants.{Wait, Until, WaitContact, WaitAny, CommitIn, CommitAt, Join, Settle, End, Edit, Test, TestTime, Jump, Set, Loop}
 use Rattle.plan_code.specs.declared.label.Swap.{Swap}
 use Rattle.plan_code.specs.declared.label.Swap.TheVariants.{Idle, Within, Perhaps}
 use Rattle.plan_code.specs.declared.plan.Plan.{Plan}
@@ -53,11 +53,13 @@ moved_bounded plan (CommitAt count) t least fine h = (least, omega arith)
 moved_bounded plan (Wait frames) t least fine h = waited_bounded frames t.pending (known_at t) h h
 moved_bounded plan (Until day) t least fine h = paused_bounded t.pending (known_at t) h
 moved_bounded plan (WaitContact contact closed) t least fine h = paused_bounded t.pending (known_at t) h
+moved_bounded plan (WaitAny closed opened until frames) t least fine h = paused_bounded t.pending (known_at t) h
 moved_bounded plan Join t least fine h = tt
 moved_bounded plan Settle t least fine h = settled_bounded t.pending (known_at t) h
 moved_bounded plan (Set counter times) t least fine h = h
 moved_bounded plan (Loop counter target) t least fine h = h
 moved_bounded plan (Test contact target) t least fine h = h
+moved_bounded plan (TestTime from until target) t least fine h = h
 moved_bounded plan (Jump target) t least fine h = h
 moved_bounded plan End t least fine h = h
 

@@ -5,9 +5,12 @@ use Rattle.plan_code.specs.declared.plan.Plan.{Plan}
 use Rattle.plan_flow.specs.Rules.{continues}
 use Rattle.plan_flow.specs.Flows.{after_instr}
 use Rattle.script_front.specs.declared.tree.Act.{Act}
-use Rattle.script_front.specs.declared.tree.Act.TheVariants.{Edit as Edits, Wait as Waits, WaitContact as WaitsContact, Until as WaitsUntil, CommitIn as CommitsIn, CommitAt as CommitsAt, Join as Joins, Settle as Settles}
+use Rattle.script_front.specs.declared.tree.Act.TheVariants.{Edit as Edits, Wait as Waits, WaitContact as WaitsContact, Until as WaitsUntil, WaitAny as WaitsAny, CommitIn as CommitsIn, CommitAt as CommitsAt, Join as Joins, Settle as Settles}
+use Rattle.script_front.specs.declared.tree.Condition.{Condition}
+use Rattle.script_front.specs.declared.tree.Condition.TheVariants.{Contact as IfContact, Time as IfTime}
 use Rattle.script_front.specs.Block.{Block, nothing, basic, stop, when, either, repeat, forever, apply}
 use Rattle.script_compiler.specs.declared.flow.ProgramPoint.{ProgramPoint}
+use Rattle.script_compiler.specs.Alternatives.{test_of}
 use Rattle.script_compiler.specs.Scheme.{PlacedInstr, without_label, at_label, meet, join, onward, head, point_after, placed_instr, alone, places, all_places, instr_of_act, falls_out}
 
 -- the preceding code continues to this point, or the point has a label
@@ -67,11 +70,16 @@ act_continues : (a : Act) → continues (instr_of_act a) ≡ true
 act_continues (Edits edit) = refl
 act_continues (Waits frames) = refl
 act_continues (WaitsContact contact closed) = refl
-act_continues (WaitsUntil second) = refl
+act_continues (WaitsUntil moment) = refl
+act_continues (WaitsAny all) = refl
 act_continues (CommitsIn delay) = refl
 act_continues (CommitsAt count) = refl
 act_continues Joins = refl
 act_continues Settles = refl
+
+test_continues : (c : Condition) (target : ℕ) → continues (test_of c target) ≡ true
+test_continues (IfContact contact) target = refl
+test_continues (IfTime from until) target = refl
 
 jump_chain : (came : Bool) (line to r : ℕ) (w : Option ProgramPoint) → ((u : ProgramPoint) → w ≡ Some u → Follows came u) → Connected came (onward w [] (alone line (Jump to) r))
 jump_chain came line to r None h = tt
@@ -90,9 +98,10 @@ chain plan (when line c first rest) r pc s came h =
     let firsts = places plan r (pc + 1) first (without_label s.flow) in
     let a = point_after plan first (without_label s.flow) in
     let end = pc + 1 + length firsts in
-    let front = chain plan first r (pc + 1) (without_label s.flow) true (λ e. refl) in
-    let back = rest_chain (ends true firsts) (λ u. places plan r end rest u) (λ u. point_after plan rest u) (meet a (Some s)) (λ u k. chain plan rest r end u (ends true firsts) k) (λ u e. meet_follows (ends true firsts) a s u e) in
-    let both = chain_both true firsts _ _ front.inner back in
+    let goes = continues (test_of c end) in
+    let front = chain plan first r (pc + 1) (without_label s.flow) goes (λ e. test_continues c end) in
+    let back = rest_chain (ends goes firsts) (λ u. places plan r end rest u) (λ u. point_after plan rest u) (meet a (Some s)) (λ u k. chain plan rest r end u (ends goes firsts) k) (λ u e. meet_follows (ends goes firsts) a s u e) in
+    let both = chain_both goes firsts _ _ front.inner back in
     record { inner = (h, both.inner); exits = both.exits }
 chain plan (either line c first second rest) r pc s came h =
     let firsts = places plan r (pc + 1) first (without_label s.flow) in
@@ -102,12 +111,13 @@ chain plan (either line c first second rest) r pc s came h =
     let b = point_after plan second (at_label s.flow) in
     let end = start + length seconds in
     let jumps = onward a [] (alone line (Jump end) r) in
-    let front = chain plan first r (pc + 1) (without_label s.flow) true (λ e. refl) in
-    let jump = jump_chain (ends true firsts) line end r a front.exits in
-    let come = ends (ends true firsts) jumps in
+    let goes = continues (test_of c start) in
+    let front = chain plan first r (pc + 1) (without_label s.flow) goes (λ e. test_continues c start) in
+    let jump = jump_chain (ends goes firsts) line end r a front.exits in
+    let come = ends (ends goes firsts) jumps in
     let middle = chain plan second r start (at_label s.flow) come (labelled_follows come (at_label s.flow) refl) in
     let back = rest_chain (ends come seconds) (λ u. places plan r end rest u) (λ u. point_after plan rest u) (join a b) (λ u k. chain plan rest r end u (ends come seconds) k) (join_follows (ends come seconds) a b middle.exits) in
-    let both = chain_both true firsts _ _ front.inner (chain_both (ends true firsts) jumps _ _ jump (chain_both come seconds _ _ middle.inner back)) in
+    let both = chain_both goes firsts _ _ front.inner (chain_both (ends goes firsts) jumps _ _ jump (chain_both come seconds _ _ middle.inner back)) in
     record { inner = (h, both.inner); exits = both.exits }
 chain plan (repeat line n body rest) r pc s came h =
     let start = head body (without_label s.flow) in

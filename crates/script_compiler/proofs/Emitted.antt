@@ -3,7 +3,7 @@ use Rattle.std.proofs.Common.{◌≡◌, ℕ, ◌+◌, ◌≤◌, Bool, true, fa
 use Rattle.std.specs.Prelude.{slice_set}
 use Rattle.std.proofs.Math.Seq.{set-append_seam}
 use Rattle.plan_code.specs.declared.instr.Instr.{Instr}
-use Rattle.plan_code.specs.declared.instr.Instr.TheVariants.{End, Test, Jump, Set, Loop}
+use Rattle.plan_code.specs.declared.instr.Instr.TheVariants.{End, Jump, Set, Loop}
 use Rattle.plan_code.specs.declared.instr.Line.{Line}
 use Rattle.plan_code.specs.declared.plan.Plan.{Plan}
 use Rattle.plan_flow.specs.declared.cause.Cause.{Cause}
@@ -12,6 +12,8 @@ use Rattle.plan_flow.specs.Rules.{IsFine}
 use Rattle.script_front.specs.declared.tree.Act.{Act}
 use Rattle.script_front.specs.Block.{Block, nothing, basic, stop, when, either, repeat, forever, apply}
 use Rattle.script_compiler.specs.declared.flow.ProgramPoint.{ProgramPoint}
+use Rattle.script_front.specs.declared.tree.Condition.{Condition}
+use Rattle.script_compiler.specs.Alternatives.{test_of}
 use Rattle.script_compiler.specs.Scheme.{PlacedInstr, without_label, at_label, meet, join, onward, head, point_after, placed_instr, alone, places, unpriced_label, unpriced_labels, instr_of_act, falls_out}
 use Rattle.script_compiler.specs.Judged.{IsJudged, Reached, WaysAgree, BranchesAgree, FitsEntry}
 use Rattle.script_compiler.specs.Refused.{IsRefusedIn, IsRefusedAfter}
@@ -153,36 +155,36 @@ whole_of plan r pc b s v w f e h l = subst (λ x. Whole plan r pc b x v w f) h (
 pub aimed : (xs ys : List Line) (i j : Line) (zs : List Line) → zs ≡ (xs ++ i ∷ []) ++ ys → slice_set zs (length xs) j ≡ xs ++ j ∷ ys
 aimed xs ys i j zs e = ap (λ z. slice_set z (length xs) j) (e ∙ append_assoc xs (i ∷ []) ys) ∙ set-append_seam xs i ys j
 
-module _ (plan : Plan) (r line : ℕ) (c : ℕ) (first rest : Block) (w0 w2 w3 w5 : Work) (f : Bool) where
+module _ (plan : Plan) (r line : ℕ) (c : Condition) (first rest : Block) (w0 w2 w3 w5 : Work) (f : Bool) where
   pub left_when :
-      r ≤ 8 → Forks line (Test c 0) r w0 w2 →
+      r ≤ 8 → Forks line (test_of c 0) r w0 w2 →
       Left plan r first w2 w3 f nothing →
       ((front : List ProgramPoint) (entry : ProgramPoint) → w3.saved.items ≡ front ++ entry ∷ [] → ClosesIf f line c (length w0.lines.items) front entry w3 w5) →
       Left plan r (when line c first rest) w0 w5 true rest
   left_when deep fork left closing =
       let pc = length w0.lines.items in
       let close = closing w0.saved.items w0.now (left.emits.saved ∙ fork.saved) in
-      let test = line_of_instr line (Test c 0) in
+      let test = line_of_instr line (test_of c 0) in
       let pc2 : length w2.lines.items ≡ pc + 1 = ap length fork.lines ∙ length-append w0.lines.items (test ∷ []) in
       let t = without_label w0.now.flow in
       let h = whole_of plan r (pc + 1) first t w2 w3 f pc2 fork.now left in
       let firsts = places plan r (pc + 1) first t in
       let end = pc + 1 + length firsts in
-      let there = line_of_instr line (Test c end) in
+      let there = line_of_instr line (test_of c end) in
       let code3 : w3.lines.items ≡ (w0.lines.items ++ test ∷ []) ++ lines_of_placed firsts = h.lines ∙ ap (λ xs. xs ++ lines_of_placed firsts) fork.lines in
       let at_end : length w3.lines.items ≡ end = ap length h.lines ∙ length-append w2.lines.items (lines_of_placed firsts) ∙ ap (λ n. n + length (lines_of_placed firsts)) pc2 ∙ ap (λ n. pc + 1 + n) (length_lines firsts) in
       let code : w5.lines.items ≡ w0.lines.items ++ there ∷ lines_of_placed firsts =
-      close.lines ∙ ap (λ n. slice_set w3.lines.items pc (line_of_instr line (Test c n))) at_end ∙ aimed w0.lines.items (lines_of_placed firsts) test there w3.lines.items code3 in
+      close.lines ∙ ap (λ n. slice_set w3.lines.items pc (line_of_instr line (test_of c n))) at_end ∙ aimed w0.lines.items (lines_of_placed firsts) test there w3.lines.items code3 in
       let len5 : length w5.lines.items ≡ end = let n = ap length code in let m = length-append w0.lines.items (there ∷ lines_of_placed firsts) in let k = length_lines firsts in omega (arith, n, m, k) in
-      let labels : w5.unpriced.items ≡ w0.unpriced.items ++ unpriced_labels pc (placed_instr line (Test c end) r w0.now ∷ firsts) =
-      close.unpriced ∙ h.unpriced ∙ ap (λ xs. xs ++ unpriced_labels (pc + 1) firsts) fork.unpriced ∙ append_assoc w0.unpriced.items (unpriced_labels pc (alone line (Test c 0) r w0.now)) (unpriced_labels (pc + 1) firsts)
-      ∙ ap (λ xs. w0.unpriced.items ++ xs) (sym (marks_both pc (alone line (Test c end) r w0.now) firsts)) in
+      let labels : w5.unpriced.items ≡ w0.unpriced.items ++ unpriced_labels pc (placed_instr line (test_of c end) r w0.now ∷ firsts) =
+      close.unpriced ∙ h.unpriced ∙ ap (λ xs. xs ++ unpriced_labels (pc + 1) firsts) fork.unpriced ∙ append_assoc w0.unpriced.items (unpriced_labels pc (alone line (test_of c 0) r w0.now)) (unpriced_labels (pc + 1) firsts)
+      ∙ ap (λ xs. w0.unpriced.items ++ xs) (sym (marks_both pc (alone line (test_of c end) r w0.now) firsts)) in
       let met : meet (point_after plan first t) (Some w0.now) ≡ Some w5.now = ap (λ w. meet w (Some w0.now)) h.leads ∙ close.met in
       let agree : WaysAgree (point_after plan first t) (Some w0.now) = subst (λ w. WaysAgree w (Some w0.now)) (sym h.leads) close.agree in
       record {
-        emitted = placed_instr line (Test c end) r w0.now ∷ firsts;
+        emitted = placed_instr line (test_of c end) r w0.now ∷ firsts;
         emits = record { lines = code; unpriced = labels; saved = close.saved };
-        whole = ap (λ w. placed_instr line (Test c end) r w0.now ∷ (firsts ++ onward w [] (λ u. places plan r end rest u))) met ∙ ap (λ n. placed_instr line (Test c end) r w0.now ∷ (firsts ++ places plan r n rest w5.now)) (sym len5);
+        whole = ap (λ w. placed_instr line (test_of c end) r w0.now ∷ (firsts ++ onward w [] (λ u. places plan r end rest u))) met ∙ ap (λ n. placed_instr line (test_of c end) r w0.now ∷ (firsts ++ places plan r n rest w5.now)) (sym len5);
         leads = ap (λ w. onward w None (λ u. point_after plan rest u)) met;
         judged = λ j. (h.judged, agree, subst (λ w. Reached w rest (λ u. IsJudged plan rest u)) (sym met) j);
         only = λ j. subst (λ w. Reached w rest (λ u. IsJudged plan rest u)) met j.2;
@@ -210,9 +212,9 @@ aimed_jump line r jump end None before ys code e h k = e
 aimed_jump line r jump end (Some u) before ys code e h k =
     ap (λ n. slice_set code jump (line_of_instr line (Jump n))) k ∙ ap (λ n. slice_set code n (line_of_instr line (Jump end))) h ∙ ap (λ z. slice_set z (length before) (line_of_instr line (Jump end))) e ∙ set-append_seam before (line_of_instr line (Jump 0)) ys (line_of_instr line (Jump end))
 
-module _ (plan : Plan) (r line : ℕ) (c : ℕ) (first second rest : Block) (w0 w2 w3 w6 w7 w8 : Work) (f1 f2 f : Bool) where
+module _ (plan : Plan) (r line : ℕ) (c : Condition) (first second rest : Block) (w0 w2 w3 w6 w7 w8 : Work) (f1 f2 f : Bool) where
   pub left_either :
-      r ≤ 8 → Forks line (Test c 0) r w0 w2 →
+      r ≤ 8 → Forks line (test_of c 0) r w0 w2 →
       Left plan r first w2 w3 f1 nothing →
       ((front : List ProgramPoint) (entry : ProgramPoint) → w3.saved.items ≡ front ++ entry ∷ [] → StartsElse f1 line r c (length w0.lines.items) front entry w3 w6) →
       Left plan r second w6 w7 f2 nothing →
@@ -223,7 +225,7 @@ module _ (plan : Plan) (r line : ℕ) (c : ℕ) (first second rest : Block) (w0 
       let start_else = turning w0.saved.items w0.now (left.emits.saved ∙ fork.saved) in
       let some_is : (g : Bool) → g ≡ is_some (way g w3) = λ g. elim g as (λ b. b ≡ is_some (way b w3)) [ true ↦ refl | false ↦ refl ] in
       let arr = arriving w0.saved.items (way f1 w3) (some_is f1) (left2.emits.saved ∙ start_else.saved) in
-      let test = line_of_instr line (Test c 0) in
+      let test = line_of_instr line (test_of c 0) in
       let pc2 : length w2.lines.items ≡ pc + 1 = ap length fork.lines ∙ length-append w0.lines.items (test ∷ []) in
       let t = without_label w0.now.flow in
       let h = whole_of plan r (pc + 1) first t w2 w3 f1 pc2 fork.now left in
@@ -231,7 +233,7 @@ module _ (plan : Plan) (r line : ℕ) (c : ℕ) (first second rest : Block) (w0 
       let a = point_after plan first t in
       let out = pc + 1 + length firsts in
       let start = out + (if falls_out first then 1 else 0) in
-      let there = line_of_instr line (Test c start) in
+      let there = line_of_instr line (test_of c start) in
       let s = at_label w0.now.flow in
       let seconds = places plan r start second s in
       let b = point_after plan second s in
@@ -246,7 +248,7 @@ module _ (plan : Plan) (r line : ℕ) (c : ℕ) (first second rest : Block) (w0 
       let code5' : code5 ≡ (w0.lines.items ++ test ∷ []) ++ (lines_of_placed firsts ++ lines_of_placed jumps0) =
       ap (λ xs. xs ++ lines_of_placed jumps0) code3 ∙ append_assoc (w0.lines.items ++ test ∷ []) (lines_of_placed firsts) (lines_of_placed jumps0) in
       let code6' : w6.lines.items ≡ w0.lines.items ++ there ∷ (lines_of_placed firsts ++ lines_of_placed jumps0) =
-      start_else.lines ∙ ap (λ n. slice_set code5 pc (line_of_instr line (Test c n))) at_start ∙ aimed w0.lines.items (lines_of_placed firsts ++ lines_of_placed jumps0) test there code5 code5' in
+      start_else.lines ∙ ap (λ n. slice_set code5 pc (line_of_instr line (test_of c n))) at_start ∙ aimed w0.lines.items (lines_of_placed firsts ++ lines_of_placed jumps0) test there code5 code5' in
       let len6 : length w6.lines.items ≡ start =
       let n = ap length code6' in let m = length-append w0.lines.items (there ∷ (lines_of_placed firsts ++ lines_of_placed jumps0)) in let k = length-append (lines_of_placed firsts) (lines_of_placed jumps0) in let q = length_lines firsts in omega (arith, n, m, k, q, jlen) in
       let h2 = whole_of plan r start second s w6 w7 f2 len6 start_else.now left2 in
@@ -265,14 +267,14 @@ module _ (plan : Plan) (r line : ℕ) (c : ℕ) (first second rest : Block) (w0 
       let jcount : length jumps ≡ (if falls_out first then 1 else 0) = ap (λ w. length (onward w [] (alone line (Jump end) r))) h.leads ∙ jump_count line end 0 r (way f1 w3) ∙ jlen in
       let lab_more : unpriced_labels out more ≡ unpriced_labels (length w3.lines.items) jumps0 ++ unpriced_labels start seconds =
       marks_both out jumps seconds ∙ ap (λ xs. xs ++ unpriced_labels (out + length jumps) seconds) joff ∙ ap (λ n. unpriced_labels (length w3.lines.items) jumps0 ++ unpriced_labels (out + n) seconds) jcount in
-      let lab_all : unpriced_labels pc (placed_instr line (Test c start) r w0.now ∷ (firsts ++ more)) ≡ unpriced_labels pc (alone line (Test c 0) r w0.now) ++ (unpriced_labels (pc + 1) firsts ++ (unpriced_labels (length w3.lines.items) jumps0 ++ unpriced_labels start seconds)) =
-      marks_both pc (alone line (Test c start) r w0.now) (firsts ++ more) ∙ ap (λ xs. unpriced_labels pc (alone line (Test c 0) r w0.now) ++ xs) (marks_both (pc + 1) firsts more ∙ ap (λ xs. unpriced_labels (pc + 1) firsts ++ xs) lab_more) in
-      let l0 = unpriced_labels pc (alone line (Test c 0) r w0.now) in
+      let lab_all : unpriced_labels pc (placed_instr line (test_of c start) r w0.now ∷ (firsts ++ more)) ≡ unpriced_labels pc (alone line (test_of c 0) r w0.now) ++ (unpriced_labels (pc + 1) firsts ++ (unpriced_labels (length w3.lines.items) jumps0 ++ unpriced_labels start seconds)) =
+      marks_both pc (alone line (test_of c start) r w0.now) (firsts ++ more) ∙ ap (λ xs. unpriced_labels pc (alone line (test_of c 0) r w0.now) ++ xs) (marks_both (pc + 1) firsts more ∙ ap (λ xs. unpriced_labels (pc + 1) firsts ++ xs) lab_more) in
+      let l0 = unpriced_labels pc (alone line (test_of c 0) r w0.now) in
       let l1 = unpriced_labels (pc + 1) firsts in
       let l2 = unpriced_labels (length w3.lines.items) jumps0 in
       let l3 = unpriced_labels start seconds in
       let labels3 : w3.unpriced.items ≡ (w0.unpriced.items ++ l0) ++ l1 = h.unpriced ∙ ap (λ xs. xs ++ l1) fork.unpriced in
-      let labels : w8.unpriced.items ≡ w0.unpriced.items ++ unpriced_labels pc (placed_instr line (Test c start) r w0.now ∷ (firsts ++ more)) =
+      let labels : w8.unpriced.items ≡ w0.unpriced.items ++ unpriced_labels pc (placed_instr line (test_of c start) r w0.now ∷ (firsts ++ more)) =
       arr.unpriced ∙ h2.unpriced ∙ ap (λ xs. xs ++ l3) (start_else.unpriced ∙ ap (λ xs. xs ++ l2) labels3)
       ∙ append_assoc ((w0.unpriced.items ++ l0) ++ l1) l2 l3 ∙ append_assoc (w0.unpriced.items ++ l0) l1 (l2 ++ l3) ∙ append_assoc w0.unpriced.items l0 (l1 ++ (l2 ++ l3)) ∙ ap (λ xs. w0.unpriced.items ++ xs) (sym lab_all) in
       let joins : join a b ≡ way f w8 = ap (λ w. join w b) h.leads ∙ ap (λ w. join (way f1 w3) w) h2.leads ∙ sym arr.leads in
@@ -282,9 +284,9 @@ module _ (plan : Plan) (r line : ℕ) (c : ℕ) (first second rest : Block) (w0 
       let rests = onward (way f w8) [] (λ u. places plan r (length w8.lines.items) rest u) in
       let at_rests : onward (join a b) [] (λ u. places plan r end rest u) ≡ rests = ap (λ w. onward w [] (λ u. places plan r end rest u)) joins ∙ ap (λ n. onward (way f w8) [] (λ u. places plan r n rest u)) (sym len8) in
       record {
-        emitted = placed_instr line (Test c start) r w0.now ∷ (firsts ++ more);
+        emitted = placed_instr line (test_of c start) r w0.now ∷ (firsts ++ more);
         emits = record { lines = code; unpriced = labels; saved = arr.saved };
-        whole = ap (λ xs. placed_instr line (Test c start) r w0.now ∷ (firsts ++ (jumps ++ (seconds ++ xs)))) at_rests ∙ ap (λ xs. placed_instr line (Test c start) r w0.now ∷ (firsts ++ xs)) (sym (append_assoc jumps seconds rests)) ∙ ap (λ xs. placed_instr line (Test c start) r w0.now ∷ xs) (sym (append_assoc firsts more rests));
+        whole = ap (λ xs. placed_instr line (test_of c start) r w0.now ∷ (firsts ++ (jumps ++ (seconds ++ xs)))) at_rests ∙ ap (λ xs. placed_instr line (test_of c start) r w0.now ∷ (firsts ++ xs)) (sym (append_assoc jumps seconds rests)) ∙ ap (λ xs. placed_instr line (test_of c start) r w0.now ∷ xs) (sym (append_assoc firsts more rests));
         leads = ap (λ w. onward w None (λ u. point_after plan rest u)) joins;
         judged = λ j. (h.judged, h2.judged, agree, subst (λ w. Reached w rest (λ u. IsJudged plan rest u)) (sym joins) j);
         only = λ j. subst (λ w. Reached w rest (λ u. IsJudged plan rest u)) joins j.3;

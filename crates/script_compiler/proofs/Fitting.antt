@@ -2,13 +2,15 @@
 use Rattle.std.proofs.Common.{◌≡◌, ℕ, ◌+◌, ◌≤◌, ◌<◌, Bool, true, false, if◌then◌else◌, List, [], ◌∷◌, ◌++◌, length, Option, Some, None, is_some, refl, sym, ap, ◌∙◌, subst, arith, append_assoc, append-nil, length-append, get_or, drop}
 use Rattle.std.proofs.lemmas.List.{length-set}
 use Rattle.plan_code.specs.declared.instr.Instr.{Instr}
-use Rattle.plan_code.specs.declared.instr.Instr.TheVariants.{Test, Jump, Set, Loop, End}
+use Rattle.plan_code.specs.declared.instr.Instr.TheVariants.{Jump, Set, Loop, End}
 use Rattle.plan_code.specs.declared.plan.Plan.{Plan}
 use Rattle.plan_flow.specs.Flows.{merged}
 use Rattle.script_front.specs.declared.tree.Act.{Act}
 use Rattle.script_front.specs.declared.tree.Statement.{Statement}
 use Rattle.script_front.specs.Block.{Block, nothing, basic, stop, when, either, repeat, forever, apply, before, block_of}
 use Rattle.script_compiler.specs.declared.flow.ProgramPoint.{ProgramPoint}
+use Rattle.script_front.specs.declared.tree.Condition.{Condition}
+use Rattle.script_compiler.specs.Alternatives.{test_of}
 use Rattle.script_compiler.specs.Scheme.{PlacedInstr, without_label, at_label, meet, join, onward, head, point_after, placed_instr, alone, places, all_places, instr_of_act, falls_out}
 use Rattle.script_compiler.specs.Judged.{IsJudged, WaysAgree, BranchesAgree}
 use Rattle.script_compiler.specs.Compiled.{Tabled, lines_of_placed, nested}
@@ -61,10 +63,10 @@ act_limited limit plan r line a w h rest can = h (placed_instr line (instr_of_ac
 pub stop_limited : (limit : CodeLimit) (plan : Plan) (r line : ℕ) (w : Work) → LacksSpace limit w → (rest : Block) → CanEmit limit plan r (stop line rest) w → ⊥
 stop_limited limit plan r line w h rest can = h _ _ refl can.space
 
-pub when_limited : (limit : CodeLimit) (plan : Plan) (r line c : ℕ) (first : Block) (w : Work) → LacksSpace limit w → (rest : Block) → CanEmit limit plan r (when line c first rest) w → ⊥
+pub when_limited : (limit : CodeLimit) (plan : Plan) (r line : ℕ) (c : Condition) (first : Block) (w : Work) → LacksSpace limit w → (rest : Block) → CanEmit limit plan r (when line c first rest) w → ⊥
 when_limited limit plan r line c first w h rest can = h _ _ refl can.space
 
-pub either_limited : (limit : CodeLimit) (plan : Plan) (r line c : ℕ) (first second : Block) (w : Work) → LacksSpace limit w → (rest : Block) → CanEmit limit plan r (either line c first second rest) w → ⊥
+pub either_limited : (limit : CodeLimit) (plan : Plan) (r line : ℕ) (c : Condition) (first second : Block) (w : Work) → LacksSpace limit w → (rest : Block) → CanEmit limit plan r (either line c first second rest) w → ⊥
 either_limited limit plan r line c first second w h rest can = h _ _ refl can.space
 
 pub repeat_limited : (limit : CodeLimit) (plan : Plan) (r line n : ℕ) (body : Block) (w : Work) → LacksSpace limit w → (rest : Block) → CanEmit limit plan r (repeat line n body rest) w → ⊥
@@ -114,18 +116,18 @@ space_whole limit plan r pc b s v w f more h space =
 
 -- ---- `if`
 
-module _ (limit : CodeLimit) (plan : Plan) (r line c : ℕ) (first rest : Block) (w0 w2 w3 : Work) (f : Bool) where
-  pub can_when_first : Forks line (Test c 0) r w0 w2 → CanEmit limit plan r (when line c first rest) w0 → CanEmit limit plan r first w2
+module _ (limit : CodeLimit) (plan : Plan) (r line : ℕ) (c : Condition) (first rest : Block) (w0 w2 w3 : Work) (f : Bool) where
+  pub can_when_first : Forks line (test_of c 0) r w0 w2 → CanEmit limit plan r (when line c first rest) w0 → CanEmit limit plan r first w2
   can_when_first fork can =
       let pc = length w0.lines.items in
       let s = w0.now in
       let t = without_label s.flow in
-      let pc2 : length w2.lines.items ≡ pc + 1 = ap length fork.lines ∙ length-append w0.lines.items (line_of_instr line (Test c 0) ∷ []) in
+      let pc2 : length w2.lines.items ≡ pc + 1 = ap length fork.lines ∙ length-append w0.lines.items (line_of_instr line (test_of c 0) ∷ []) in
       let firsts = places plan r (pc + 1) first t in
       let end = pc + 1 + length firsts in
       let a = point_after plan first t in
       let rests = onward (meet a (Some s)) [] (λ u. places plan r end rest u) in
-      let space : HasSpace limit w2 ((firsts ++ rests) ++ can.more) = space_one limit w0 w2 pc line r (Test c 0) (placed_instr line (Test c end) r s) _ refl pc2 fork.unpriced can.space in
+      let space : HasSpace limit w2 ((firsts ++ rests) ++ can.more) = space_one limit w0 w2 pc line r (test_of c 0) (placed_instr line (test_of c end) r s) _ refl pc2 fork.unpriced can.space in
       let space2 : HasSpace limit w2 (firsts ++ (rests ++ can.more)) = subst (λ ps. HasSpace limit w2 ps) (append_assoc firsts rests can.more) space in
       let point_here : firsts ≡ places plan r (length w2.lines.items) first w2.now = ap (λ n. places plan r n first t) (sym pc2) ∙ ap (λ x. places plan r (length w2.lines.items) first x) (sym fork.now) in
       record {
@@ -136,20 +138,20 @@ module _ (limit : CodeLimit) (plan : Plan) (r line c : ℕ) (first rest : Block)
         space = subst (λ ps. HasSpace limit w2 (ps ++ (rests ++ can.more))) point_here space2;
       }
 
-  pub can_when_closed : Forks line (Test c 0) r w0 w2 → Left plan r first w2 w3 f nothing →
+  pub can_when_closed : Forks line (test_of c 0) r w0 w2 → Left plan r first w2 w3 f nothing →
       ((front : List ProgramPoint) (entry : ProgramPoint) → w3.saved.items ≡ front ++ entry ∷ [] → (ps : List PlacedInstr) → ((u : ProgramPoint) → meet (way f w3) (Some entry) ≡ Some u → IsCovered u.flow ps) → HasSpace limit w3 ps → ⊥) →
       CanEmit limit plan r (when line c first rest) w0 → ⊥
   can_when_closed fork left full can =
       let pc = length w0.lines.items in
       let s = w0.now in
       let t = without_label s.flow in
-      let pc2 : length w2.lines.items ≡ pc + 1 = ap length fork.lines ∙ length-append w0.lines.items (line_of_instr line (Test c 0) ∷ []) in
+      let pc2 : length w2.lines.items ≡ pc + 1 = ap length fork.lines ∙ length-append w0.lines.items (line_of_instr line (test_of c 0) ∷ []) in
       let firsts = places plan r (pc + 1) first t in
       let end = pc + 1 + length firsts in
       let a = point_after plan first t in
       let rests = onward (meet a (Some s)) [] (λ u. places plan r end rest u) in
       let h = whole_of plan r (pc + 1) first t w2 w3 f pc2 fork.now left in
-      let space : HasSpace limit w2 ((firsts ++ rests) ++ can.more) = space_one limit w0 w2 pc line r (Test c 0) (placed_instr line (Test c end) r s) _ refl pc2 fork.unpriced can.space in
+      let space : HasSpace limit w2 ((firsts ++ rests) ++ can.more) = space_one limit w0 w2 pc line r (test_of c 0) (placed_instr line (test_of c end) r s) _ refl pc2 fork.unpriced can.space in
       let space2 : HasSpace limit w2 (firsts ++ (rests ++ can.more)) = subst (λ ps. HasSpace limit w2 ps) (append_assoc firsts rests can.more) space in
       let space3 = space_whole limit plan r (pc + 1) first t w2 w3 f (rests ++ can.more) h space2 in
       full w0.saved.items s (left.emits.saved ∙ fork.saved) (rests ++ can.more)
@@ -157,7 +159,7 @@ module _ (limit : CodeLimit) (plan : Plan) (r line c : ℕ) (first rest : Block)
 
 -- ---- `if` with `else`
 
-module _ (limit : CodeLimit) (plan : Plan) (r line c : ℕ) (first second rest : Block) (w0 w2 w3 w6 w7 : Work) (f1 f2 : Bool) where
+module _ (limit : CodeLimit) (plan : Plan) (r line : ℕ) (c : Condition) (first second rest : Block) (w0 w2 w3 w6 w7 : Work) (f1 f2 : Bool) where
   abbrev Firsts : List PlacedInstr
   Firsts = places plan r (length w0.lines.items + 1) first (without_label w0.now.flow)
 
@@ -179,17 +181,17 @@ module _ (limit : CodeLimit) (plan : Plan) (r line c : ℕ) (first second rest :
   abbrev Rests : List PlacedInstr
   Rests = onward (join Away (point_after plan second (at_label w0.now.flow))) [] (λ u. places plan r Stop rest u)
 
-  either_pc : Forks line (Test c 0) r w0 w2 → length w2.lines.items ≡ length w0.lines.items + 1
-  either_pc fork = ap length fork.lines ∙ length-append w0.lines.items (line_of_instr line (Test c 0) ∷ [])
+  either_pc : Forks line (test_of c 0) r w0 w2 → length w2.lines.items ≡ length w0.lines.items + 1
+  either_pc fork = ap length fork.lines ∙ length-append w0.lines.items (line_of_instr line (test_of c 0) ∷ [])
 
-  either_space : Forks line (Test c 0) r w0 w2 → (can : CanEmit limit plan r (either line c first second rest) w0) → HasSpace limit w2 (Firsts ++ (Jumps ++ (Seconds ++ (Rests ++ can.more))))
+  either_space : Forks line (test_of c 0) r w0 w2 → (can : CanEmit limit plan r (either line c first second rest) w0) → HasSpace limit w2 (Firsts ++ (Jumps ++ (Seconds ++ (Rests ++ can.more))))
   either_space fork can =
-      let space : HasSpace limit w2 ((Firsts ++ (Jumps ++ (Seconds ++ Rests))) ++ can.more) = space_one limit w0 w2 (length w0.lines.items) line r (Test c 0) (placed_instr line (Test c Start) r w0.now) _ refl (either_pc fork) fork.unpriced can.space in
+      let space : HasSpace limit w2 ((Firsts ++ (Jumps ++ (Seconds ++ Rests))) ++ can.more) = space_one limit w0 w2 (length w0.lines.items) line r (test_of c 0) (placed_instr line (test_of c Start) r w0.now) _ refl (either_pc fork) fork.unpriced can.space in
       let e : (Firsts ++ (Jumps ++ (Seconds ++ Rests))) ++ can.more ≡ Firsts ++ (Jumps ++ (Seconds ++ (Rests ++ can.more))) =
       append_assoc Firsts (Jumps ++ (Seconds ++ Rests)) can.more ∙ ap (λ ps. Firsts ++ ps) (append_assoc Jumps (Seconds ++ Rests) can.more ∙ ap (λ ps. Jumps ++ ps) (append_assoc Seconds Rests can.more)) in
       subst (λ ps. HasSpace limit w2 ps) e space
 
-  pub can_either_first : Forks line (Test c 0) r w0 w2 → CanEmit limit plan r (either line c first second rest) w0 → CanEmit limit plan r first w2
+  pub can_either_first : Forks line (test_of c 0) r w0 w2 → CanEmit limit plan r (either line c first second rest) w0 → CanEmit limit plan r first w2
   can_either_first fork can =
       let pc2 = either_pc fork in
       let t = without_label w0.now.flow in
@@ -203,11 +205,11 @@ module _ (limit : CodeLimit) (plan : Plan) (r line c : ℕ) (first second rest :
         space = subst (λ ps. HasSpace limit w2 (ps ++ (Jumps ++ more))) point_here (either_space fork can);
       }
 
-  either_left : (fork : Forks line (Test c 0) r w0 w2) → Left plan r first w2 w3 f1 nothing → Whole plan r (length w0.lines.items + 1) first (without_label w0.now.flow) w2 w3 f1
+  either_left : (fork : Forks line (test_of c 0) r w0 w2) → Left plan r first w2 w3 f1 nothing → Whole plan r (length w0.lines.items + 1) first (without_label w0.now.flow) w2 w3 f1
   either_left fork left = whole_of plan r (length w0.lines.items + 1) first (without_label w0.now.flow) w2 w3 f1 (either_pc fork) fork.now left
 
   -- before the jump at the end of the first branch
-  space_out : Forks line (Test c 0) r w0 w2 → Left plan r first w2 w3 f1 nothing → (can : CanEmit limit plan r (either line c first second rest) w0) → HasSpace limit w3 (onward (way f1 w3) [] (alone line (Jump Stop) r) ++ (Seconds ++ (Rests ++ can.more)))
+  space_out : Forks line (test_of c 0) r w0 w2 → Left plan r first w2 w3 f1 nothing → (can : CanEmit limit plan r (either line c first second rest) w0) → HasSpace limit w3 (onward (way f1 w3) [] (alone line (Jump Stop) r) ++ (Seconds ++ (Rests ++ can.more)))
   space_out fork left can =
       let h = either_left fork left in
       let more = Seconds ++ (Rests ++ can.more) in
@@ -216,7 +218,7 @@ module _ (limit : CodeLimit) (plan : Plan) (r line c : ℕ) (first second rest :
   second_covers : (can : CanEmit limit plan r (either line c first second rest) w0) → (u : ProgramPoint) → point_after plan second (at_label w0.now.flow) ≡ Some u → Covers u (Rests ++ can.more)
   second_covers can u e = join_covers plan r Stop rest can.more Away (point_after plan second (at_label w0.now.flow)) can.judged.2 (λ v h. can.onward v h) u e
 
-  pub can_either_turned : Forks line (Test c 0) r w0 w2 → Left plan r first w2 w3 f1 nothing →
+  pub can_either_turned : Forks line (test_of c 0) r w0 w2 → Left plan r first w2 w3 f1 nothing →
       ((front : List ProgramPoint) (entry : ProgramPoint) → w3.saved.items ≡ front ++ entry ∷ [] → (m n : ℕ) (i : Instr) (ps : List PlacedInstr) → HasSpace limit w3 (onward (way f1 w3) [] (alone m i n) ++ ps) → IsCovered entry.flow ps → ⊥) →
       CanEmit limit plan r (either line c first second rest) w0 → ⊥
   can_either_turned fork left full can =
@@ -225,7 +227,7 @@ module _ (limit : CodeLimit) (plan : Plan) (r line c : ℕ) (first second rest :
 
   module _ (at : ℕ) where
     -- the second branch starts at its pc
-    either_start : Forks line (Test c 0) r w0 w2 → Left plan r first w2 w3 f1 nothing → StartsElse f1 line r c at w0.saved.items w0.now w3 w6 → length w6.lines.items ≡ Start
+    either_start : Forks line (test_of c 0) r w0 w2 → Left plan r first w2 w3 f1 nothing → StartsElse f1 line r c at w0.saved.items w0.now w3 w6 → length w6.lines.items ≡ Start
     either_start fork left start_else =
         let h = either_left fork left in
         let jumps = lines_of_placed (jumping f1 line r w3) in
@@ -233,13 +235,13 @@ module _ (limit : CodeLimit) (plan : Plan) (r line c : ℕ) (first second rest :
         let jlen : length jumps ≡ (if falls_out first then 1 else 0) = jump_length line 0 r (way f1 w3) (falls_out first) (ap (λ w. is_some w) (sym h.leads) ∙ after_falls plan first (without_label w0.now.flow)) in
         ap length start_else.lines ∙ length-set (w3.lines.items ++ jumps) at _ ∙ length-append w3.lines.items jumps ∙ ap (λ n. n + length jumps) l3 ∙ ap (λ n. length w0.lines.items + 1 + length Firsts + n) jlen
 
-    space_second : Forks line (Test c 0) r w0 w2 → Left plan r first w2 w3 f1 nothing → StartsElse f1 line r c at w0.saved.items w0.now w3 w6 → (can : CanEmit limit plan r (either line c first second rest) w0) → HasSpace limit w6 (Seconds ++ (Rests ++ can.more))
+    space_second : Forks line (test_of c 0) r w0 w2 → Left plan r first w2 w3 f1 nothing → StartsElse f1 line r c at w0.saved.items w0.now w3 w6 → (can : CanEmit limit plan r (either line c first second rest) w0) → HasSpace limit w6 (Seconds ++ (Rests ++ can.more))
     space_second fork left start_else can =
         let jumps = lines_of_placed (jumping f1 line r w3) in
         let lines = ap length start_else.lines ∙ length-set (w3.lines.items ++ jumps) at _ ∙ length-append w3.lines.items jumps in
         space_left limit w3 w6 f1 line r line r (Jump Stop) (Seconds ++ (Rests ++ can.more)) lines start_else.unpriced (space_out fork left can)
 
-    pub can_either_second : Forks line (Test c 0) r w0 w2 → Left plan r first w2 w3 f1 nothing →
+    pub can_either_second : Forks line (test_of c 0) r w0 w2 → Left plan r first w2 w3 f1 nothing →
         ((front : List ProgramPoint) (entry : ProgramPoint) → w3.saved.items ≡ front ++ entry ∷ [] → StartsElse f1 line r c at front entry w3 w6) →
         CanEmit limit plan r (either line c first second rest) w0 → CanEmit limit plan r second w6
     can_either_second fork left turning can =
@@ -255,7 +257,7 @@ module _ (limit : CodeLimit) (plan : Plan) (r line c : ℕ) (first second rest :
           space = subst (λ ps. HasSpace limit w6 (ps ++ (Rests ++ can.more))) point_here (space_second fork left start_else can);
         }
 
-    pub can_either_closed : Forks line (Test c 0) r w0 w2 → Left plan r first w2 w3 f1 nothing →
+    pub can_either_closed : Forks line (test_of c 0) r w0 w2 → Left plan r first w2 w3 f1 nothing →
         ((front : List ProgramPoint) (entry : ProgramPoint) → w3.saved.items ≡ front ++ entry ∷ [] → StartsElse f1 line r c at front entry w3 w6) →
         Left plan r second w6 w7 f2 nothing →
         ((front : List ProgramPoint) (a : Option ProgramPoint) → f1 ≡ is_some a → w7.saved.items ≡ front ++ points_of a → (ps : List PlacedInstr) → ((u : ProgramPoint) → join a (way f2 w7) ≡ Some u → Covers u ps) → HasSpace limit w7 ps → ⊥) →

@@ -4,7 +4,7 @@ use Rattle.std.specs.Prelude.{slice_get, slice_index, slice_set, nat_lt}
 use Rattle.std.proofs.lemmas.Bool.{lt-ltb, le-ltb, cases_lt}
 use Rattle.std.proofs.lemmas.List.{get_or-set_same, get_or-set_other, length-set}
 use Rattle.plan_code.specs.declared.instr.Instr.{Instr}
-use Rattle.plan_code.specs.declared.instr.Instr.TheVariants.{End, Test, Jump, Set, Loop}
+use Rattle.plan_code.specs.declared.instr.Instr.TheVariants.{End, Jump, Set, Loop}
 use Rattle.plan_code.specs.Flags.{is_closed}
 use Rattle.plan_code.specs.Program.{Program, IsInstr, instr_at}
 use Rattle.plan_code.specs.Machine.{State, effect, effect_of, step, IsAllowed, StepIsAllowed}
@@ -12,8 +12,11 @@ use Rattle.plan_flow.specs.Flows.{after_instr}
 use Rattle.plan_runs.specs.Frames.{is_running}
 use Rattle.script_front.specs.Block.{Block, nothing, basic, stop, when, either, repeat, forever, apply}
 use Rattle.script_compiler.specs.declared.flow.ProgramPoint.{ProgramPoint}
+use Rattle.script_front.specs.declared.tree.Condition.{Condition}
+use Rattle.script_compiler.specs.Alternatives.{test_of}
+use Rattle.script_front.specs.declared.tree.Condition.TheVariants.{Contact as IfContact, Time as IfTime}
 use Rattle.script_compiler.specs.Scheme.{PlacedInstr, without_label, at_label, meet, join, onward, head, falls_out, instr_of_act, point_after, placed_instr, alone, places}
-use Rattle.script_compiler.specs.Meaning.{acts_as, Scene, Reading, reading, scene_of, followed, first_done, IsFineToDo, Performs}
+use Rattle.script_compiler.specs.Meaning.{acts_as, Scene, Reading, reading, scene_of, followed, first_done, IsFineToDo, Performs, holds}
 use Rattle.script_compiler.proofs.Scenes.{acts_as_compiled, act_scene, act_place, act_fine}
 use Rattle.script_compiler.proofs.Continuing.{after_falls}
 use Rattle.script_compiler.proofs.Places.{Stand, stand_front, stand_back, jump_length, meets_some, joins_first, joins_second}
@@ -97,10 +100,15 @@ module _ (p : Program) where
   jumps_on zero pc to cs b h f = tt
   jumps_on (suc m) pc to cs b h f = by_instr m pc cs b (Jump to) h (λ d runs ok. (b, comes_same (reading b (scene_of d)), f m (omega arith)))
 
-  branch : (n pc to : ℕ) (cs : List ℕ) (b first second : Block) (c : ℕ) (d : State) → is_running d.hold ≡ true → ((x : Scene) → IsFineToDo p.plan b x) →
-      first_done p.plan b (scene_of d) ≡ reading (if is_closed d.contacts c then first else second) (scene_of d) →
-      Follows n (pc + 1) cs first → Follows n to cs second → Next n b d (effect p.plan (Test c to) (at pc cs d))
-  branch n pc to cs b first second c d runs fine e f g = by (is_closed d.contacts c) e
+  -- what a test does, as the script reads
+  tested : (c : Condition) (to : ℕ) (s : State) → effect p.plan (test_of c to) s ≡ record s { pc = if holds c (scene_of s) then s.pc + 1 else to }
+  tested (IfContact contact) to s = refl
+  tested (IfTime from until) to s = refl
+
+  branch : (n pc to : ℕ) (cs : List ℕ) (b first second : Block) (c : Condition) (d : State) → is_running d.hold ≡ true → ((x : Scene) → IsFineToDo p.plan b x) →
+      first_done p.plan b (scene_of d) ≡ reading (if holds c (scene_of d) then first else second) (scene_of d) →
+      Follows n (pc + 1) cs first → Follows n to cs second → Next n b d (effect p.plan (test_of c to) (at pc cs d))
+  branch n pc to cs b first second c d runs fine e f g = subst (λ s. Next n b d s) (sym (tested c to (at pc cs d))) (by (holds c (scene_of d)) e)
     where
       by : (closed : Bool) → first_done p.plan b (scene_of d) ≡ reading (if closed then first else second) (scene_of d) →
           (x : Block) × Comes (reading b (scene_of d)) (reading x (scene_of d)) × Follows n (if closed then pc + 1 else to) cs x
@@ -216,7 +224,7 @@ module _ (p : Program) where
         let next = rest_goes n r end rest w cs k (λ m le. ih m (omega (arith, le)) rest) (stand_back whole (pc + 1) firsts rests st.1) (λ m le u ds eu same. go_at (suc n) _ _ r (point_after p.plan (when line c first rest) s) cs k e go m (omega (arith, le)) u ds eu same) in
         let v = meets_some (point_after p.plan first t) s in
         let b = when line c first (followed rest k) in
-        by_instr n pc cs b (Test c end) (there pc (placed_instr line (Test c end) r s) st.0) (λ d runs ok.
+        by_instr n pc cs b (test_of c end) (there pc (placed_instr line (test_of c end) r s) st.0) (λ d runs ok.
         branch n pc end cs b (followed first (followed rest k)) (followed rest k) c d runs (λ x. tt) refl
         (ih n (omega arith) first r (pc + 1) t (followed rest k) cs (stand_front whole (pc + 1) firsts rests st.1) eight (λ m le u ds eu same. next v.0 v.1 m le ds same))
         (next v.0 v.1 n (omega arith) cs (same_all r cs eight)))
@@ -240,7 +248,7 @@ module _ (p : Program) where
         let st_seconds = subst (λ m. Stand whole m (seconds ++ rests)) at_start (stand_back whole out jumps (seconds ++ rests) st_jumps) in
         let next = rest_goes n r end rest w cs k (λ m le. ih m (omega (arith, le)) rest) (stand_back whole start seconds rests st_seconds) (λ m le u ds eu same. go_at (suc n) _ _ r (point_after p.plan (either line c first second rest) s) cs k e go m (omega (arith, le)) u ds eu same) in
         let K = followed rest k in
-        by_instr n pc cs (either line c first second K) (Test c start) (there pc (placed_instr line (Test c start) r s) st.0) (λ d runs ok.
+        by_instr n pc cs (either line c first second K) (test_of c start) (there pc (placed_instr line (test_of c start) r s) st.0) (λ d runs ok.
         branch n pc start cs (either line c first second K) (followed first K) (followed second K) c d runs (λ x. tt) refl
         (ih n (omega arith) first r (pc + 1) t K cs (stand_front whole (pc + 1) firsts (jumps ++ (seconds ++ rests)) st.1) eight (λ m le u ds eu same.
         let v = joins_first a b u eu in

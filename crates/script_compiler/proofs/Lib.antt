@@ -1,5 +1,6 @@
 pub mod OneCode
 pub mod Scenes
+mod KeptAlternatives
 pub mod Places
 pub mod Following
 pub mod Openings

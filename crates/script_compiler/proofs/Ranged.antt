@@ -8,7 +8,7 @@ use Rattle.fib_codec.specs.Modes.{count_step}
 use Rattle.std.specs.List.{AllByRecursion}
 use Rattle.plan_code.specs.Program.{IsInstr, IsLine}
 use Rattle.plan_code.specs.declared.instr.Instr.{Instr}
-use Rattle.plan_code.specs.declared.instr.Instr.TheVariants.{Wait, Until, WaitContact, CommitIn, CommitAt, Join, Settle, End, Edit, Test, Jump, Set, Loop}
+use Rattle.plan_code.specs.declared.instr.Instr.TheVariants.{Wait, Until, WaitContact, WaitAny, CommitIn, CommitAt, Join, Settle, End, Edit, Test, TestTime, Jump, Set, Loop}
 use Rattle.plan_code.specs.declared.label.Swap.{Swap}
 use Rattle.plan_code.specs.declared.label.Swap.TheVariants.{Idle, Within, Perhaps}
 use Rattle.plan_code.specs.declared.plan.Plan.{Plan}
@@ -65,11 +65,13 @@ moved_ranged plan (CommitAt count) t most is h = omega (arith, most)
 moved_ranged plan (Wait frames) t most is h = waited_ranged frames t.pending (known_at t) h h
 moved_ranged plan (Until day) t most is h = paused_ranged t.pending (known_at t) h h
 moved_ranged plan (WaitContact contact closed) t most is h = paused_ranged t.pending (known_at t) h h
+moved_ranged plan (WaitAny closed opened until frames) t most is h = paused_ranged t.pending (known_at t) h h
 moved_ranged plan Join t most is h = tt
 moved_ranged plan Settle t most is h = settled_ranged t.pending (known_at t) h
 moved_ranged plan (Set counter times) t most is h = h
 moved_ranged plan (Loop counter target) t most is h = h
 moved_ranged plan (Test contact target) t most is h = h
+moved_ranged plan (TestTime from until target) t most is h = h
 moved_ranged plan (Jump target) t most is h = h
 moved_ranged plan End t most is h = h
 

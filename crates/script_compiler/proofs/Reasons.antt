@@ -2,7 +2,6 @@
 use Rattle.std.proofs.Common.{◌≡◌, ◌≢◌, ℕ, ◌+◌, ◌<◌, ◌≤◌, Result, Ok, Err, Bool, true, false, if◌then◌else◌, List, [], ◌∷◌, ◌++◌, length, Option, Some, inl, inr, is_some, refl, sym, ap, ◌∙◌, subst, get_or, drop}
 use Rattle.std.specs.Prelude.{IfErr}
 use Rattle.plan_code.specs.declared.instr.Instr.{Instr}
-use Rattle.plan_code.specs.declared.instr.Instr.TheVariants.{Test}
 use Rattle.plan_code.specs.declared.plan.Plan.{Plan}
 use Rattle.plan_flow.specs.declared.cause.Cause.{Cause}
 use Rattle.plan_flow.specs.declared.cause.Cause.TheVariants.{Table, Mismatch}
@@ -16,6 +15,8 @@ use Rattle.script_compiler.specs.Compiled.{opening_of}
 use Rattle.script_front.specs.declared.tree.Statement.{Statement}
 use Rattle.script_front.specs.Block.{Block, nothing, basic, stop, when, either, repeat, forever, apply, before, block_of}
 use Rattle.script_compiler.specs.declared.flow.ProgramPoint.{ProgramPoint}
+use Rattle.script_front.specs.declared.tree.Condition.{Condition}
+use Rattle.script_compiler.specs.Alternatives.{test_of}
 use Rattle.script_compiler.specs.Scheme.{without_label, at_label, head, point_after, falls_out}
 use Rattle.script_compiler.specs.Judged.{WaysAgree, BranchesAgree, FitsEntry}
 use Rattle.script_compiler.specs.Refused.{IsLine, IsRefusedIn, IsRefusedAfter, IsUnreached}
@@ -52,26 +53,26 @@ refused_as_said plan line i t e h = refused_here e line h.0 (λ at given. (at �
 
 -- ---- a statement with blocks: one of them is refused, or the paths do not agree
 
-module _ (plan : Plan) (r line c : ℕ) (first rest : Block) (w0 w2 w3 : Work) (f : Bool) where
-  pub when_body_why : (e : CompileFault) → Forks line (Test c 0) r w0 w2 → IfRefused e (λ at given. IsRefusedIn plan first w2.now at given) → IfRefused e (λ at given. IsRefusedIn plan (when line c first rest) w0.now at given)
+module _ (plan : Plan) (r line : ℕ) (c : Condition) (first rest : Block) (w0 w2 w3 : Work) (f : Bool) where
+  pub when_body_why : (e : CompileFault) → Forks line (test_of c 0) r w0 w2 → IfRefused e (λ at given. IsRefusedIn plan first w2.now at given) → IfRefused e (λ at given. IsRefusedIn plan (when line c first rest) w0.now at given)
   when_body_why e fork h = refused_map e (λ at given k. inl (subst (λ s. IsRefusedIn plan first s at given) fork.now k)) h
 
-  pub when_why : (cause : Cause) → Forks line (Test c 0) r w0 w2 → Left plan r first w2 w3 f nothing → (cause ≡ Mismatch) × ((front : List ProgramPoint) (entry : ProgramPoint) → w3.saved.items ≡ front ++ entry ∷ [] → WaysAgree (way f w3) (Some entry) → ⊥) → IsRefusedIn plan (when line c first rest) w0.now line cause
+  pub when_why : (cause : Cause) → Forks line (test_of c 0) r w0 w2 → Left plan r first w2 w3 f nothing → (cause ≡ Mismatch) × ((front : List ProgramPoint) (entry : ProgramPoint) → w3.saved.items ≡ front ++ entry ∷ [] → WaysAgree (way f w3) (Some entry) → ⊥) → IsRefusedIn plan (when line c first rest) w0.now line cause
   when_why cause fork left h =
       let whole = whole_of plan r (length w2.lines.items) first (without_label w0.now.flow) w2 w3 f refl fork.now left in
       inr (whole.judged, inl ((λ agree. h.1 w0.saved.items w0.now (left.emits.saved ∙ fork.saved) (subst (λ w. WaysAgree w (Some w0.now)) whole.leads agree)), refl, h.0))
 
-module _ (plan : Plan) (r line c jump : ℕ) (first second rest : Block) (w0 w2 w3 w6 w7 : Work) (f1 f2 : Bool) where
-  pub either_first_why : (e : CompileFault) → Forks line (Test c 0) r w0 w2 → IfRefused e (λ at given. IsRefusedIn plan first w2.now at given) → IfRefused e (λ at given. IsRefusedIn plan (either line c first second rest) w0.now at given)
+module _ (plan : Plan) (r line : ℕ) (c : Condition) (jump : ℕ) (first second rest : Block) (w0 w2 w3 w6 w7 : Work) (f1 f2 : Bool) where
+  pub either_first_why : (e : CompileFault) → Forks line (test_of c 0) r w0 w2 → IfRefused e (λ at given. IsRefusedIn plan first w2.now at given) → IfRefused e (λ at given. IsRefusedIn plan (either line c first second rest) w0.now at given)
   either_first_why e fork h = refused_map e (λ at given k. inl (subst (λ s. IsRefusedIn plan first s at given) fork.now k)) h
 
-  pub either_second_why : (e : CompileFault) → Forks line (Test c 0) r w0 w2 → Left plan r first w2 w3 f1 nothing → ((front : List ProgramPoint) (entry : ProgramPoint) → w3.saved.items ≡ front ++ entry ∷ [] → StartsElse f1 line r c jump front entry w3 w6) → IfRefused e (λ at given. IsRefusedIn plan second w6.now at given) → IfRefused e (λ at given. IsRefusedIn plan (either line c first second rest) w0.now at given)
+  pub either_second_why : (e : CompileFault) → Forks line (test_of c 0) r w0 w2 → Left plan r first w2 w3 f1 nothing → ((front : List ProgramPoint) (entry : ProgramPoint) → w3.saved.items ≡ front ++ entry ∷ [] → StartsElse f1 line r c jump front entry w3 w6) → IfRefused e (λ at given. IsRefusedIn plan second w6.now at given) → IfRefused e (λ at given. IsRefusedIn plan (either line c first second rest) w0.now at given)
   either_second_why e fork left turning h =
       let whole = whole_of plan r (length w2.lines.items) first (without_label w0.now.flow) w2 w3 f1 refl fork.now left in
       let start_else = turning w0.saved.items w0.now (left.emits.saved ∙ fork.saved) in
       refused_map e (λ at given k. inr (whole.judged, inl (subst (λ s. IsRefusedIn plan second s at given) start_else.now k))) h
 
-  pub either_why : (cause : Cause) → Forks line (Test c 0) r w0 w2 → Left plan r first w2 w3 f1 nothing → ((front : List ProgramPoint) (entry : ProgramPoint) → w3.saved.items ≡ front ++ entry ∷ [] → StartsElse f1 line r c jump front entry w3 w6) → Left plan r second w6 w7 f2 nothing
+  pub either_why : (cause : Cause) → Forks line (test_of c 0) r w0 w2 → Left plan r first w2 w3 f1 nothing → ((front : List ProgramPoint) (entry : ProgramPoint) → w3.saved.items ≡ front ++ entry ∷ [] → StartsElse f1 line r c jump front entry w3 w6) → Left plan r second w6 w7 f2 nothing
       → (cause ≡ Mismatch) × ((front : List ProgramPoint) (a : Option ProgramPoint) → f1 ≡ is_some a → w7.saved.items ≡ front ++ points_of a → BranchesAgree a (way f2 w7) → ⊥) → IsRefusedIn plan (either line c first second rest) w0.now line cause
   either_why cause fork left turning left2 h =
       let start_else = turning w0.saved.items w0.now (left.emits.saved ∙ fork.saved) in
@@ -110,8 +111,8 @@ pub unreached_at : (b : Block) (line : ℕ) → IsLine b line → IsUnreached b 
 unreached_at nothing line h = absurd h
 unreached_at (basic at act rest) line h = (sym h, refl)
 unreached_at (stop at rest) line h = (sym h, refl)
-unreached_at (when at contact first rest) line h = (sym h, refl)
-unreached_at (either at contact first second rest) line h = (sym h, refl)
+unreached_at (when at condition first rest) line h = (sym h, refl)
+unreached_at (either at condition first second rest) line h = (sym h, refl)
 unreached_at (repeat at times body rest) line h = (sym h, refl)
 unreached_at (forever at body rest) line h = (sym h, refl)
 unreached_at (apply at number named rest) line h = (sym h, refl)

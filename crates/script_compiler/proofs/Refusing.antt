@@ -1,11 +1,12 @@
 -- A script that is refused is not accepted.
 use Rattle.std.proofs.Common.{◌≡◌, ℕ, ◌+◌, ◌<◌, arith, Bool, true, false, if◌then◌else◌, List, [], ◌∷◌, ◌++◌, length, Some, is_some, refl, sym, ap, ◌∙◌, subst, get_or, drop}
-use Rattle.plan_code.specs.declared.instr.Instr.TheVariants.{Test}
 use Rattle.plan_code.specs.declared.plan.Plan.{Plan}
 use Rattle.script_front.specs.declared.tree.Statement.{Statement}
 use Rattle.script_front.specs.declared.tree.Statement.TheOpen.{Statement-F}
 use Rattle.script_front.specs.Block.{Block, nothing, when, either, repeat, forever, Before, statement_step, before, block_of}
 use Rattle.script_compiler.specs.declared.flow.ProgramPoint.{ProgramPoint}
+use Rattle.script_front.specs.declared.tree.Condition.{Condition}
+use Rattle.script_compiler.specs.Alternatives.{test_of}
 use Rattle.script_compiler.specs.Scheme.{without_label, at_label, head, point_after, falls_out}
 use Rattle.script_compiler.specs.Judged.{IsJudged, IsDone, Reached, WaysAgree, BranchesAgree, FitsEntry}
 use Rattle.script_compiler.specs.Working.{Work}
@@ -20,29 +21,29 @@ use Rattle.script_compiler.proofs.Emitted.{whole_of}
 
 -- ---- what the judgement of a statement with blocks implies
 
-module _ (plan : Plan) (r line c : ℕ) (first rest : Block) (w0 w2 w3 : Work) (f : Bool) where
-  pub when_first : Forks line (Test c 0) r w0 w2 → IsJudged plan (when line c first rest) w0.now → IsJudged plan first w2.now
+module _ (plan : Plan) (r line : ℕ) (c : Condition) (first rest : Block) (w0 w2 w3 : Work) (f : Bool) where
+  pub when_first : Forks line (test_of c 0) r w0 w2 → IsJudged plan (when line c first rest) w0.now → IsJudged plan first w2.now
   when_first fork j = subst (λ s. IsJudged plan first s) (sym fork.now) j.0
 
-  pub when_agrees : Forks line (Test c 0) r w0 w2 → Left plan r first w2 w3 f nothing → IsJudged plan (when line c first rest) w0.now → WaysAgree (way f w3) (Some w0.now)
+  pub when_agrees : Forks line (test_of c 0) r w0 w2 → Left plan r first w2 w3 f nothing → IsJudged plan (when line c first rest) w0.now → WaysAgree (way f w3) (Some w0.now)
   when_agrees fork left j =
       let h = whole_of plan r (length w2.lines.items) first (without_label w0.now.flow) w2 w3 f refl fork.now left in
       subst (λ w. WaysAgree w (Some w0.now)) h.leads j.1
 
-module _ (plan : Plan) (r line c at : ℕ) (first second rest : Block) (w0 w2 w3 w6 w7 : Work) (f1 f2 : Bool) where
-  pub either_first : Forks line (Test c 0) r w0 w2 → IsJudged plan (either line c first second rest) w0.now → IsJudged plan first w2.now
+module _ (plan : Plan) (r line : ℕ) (c : Condition) (at : ℕ) (first second rest : Block) (w0 w2 w3 w6 w7 : Work) (f1 f2 : Bool) where
+  pub either_first : Forks line (test_of c 0) r w0 w2 → IsJudged plan (either line c first second rest) w0.now → IsJudged plan first w2.now
   either_first fork j = subst (λ s. IsJudged plan first s) (sym fork.now) j.0
 
-  turned : Forks line (Test c 0) r w0 w2 → Left plan r first w2 w3 f1 nothing → ((front : List ProgramPoint) (entry : ProgramPoint) → w3.saved.items ≡ front ++ entry ∷ [] → StartsElse f1 line r c at front entry w3 w6) → StartsElse f1 line r c at w0.saved.items w0.now w3 w6
+  turned : Forks line (test_of c 0) r w0 w2 → Left plan r first w2 w3 f1 nothing → ((front : List ProgramPoint) (entry : ProgramPoint) → w3.saved.items ≡ front ++ entry ∷ [] → StartsElse f1 line r c at front entry w3 w6) → StartsElse f1 line r c at w0.saved.items w0.now w3 w6
   turned fork left turning = turning w0.saved.items w0.now (left.emits.saved ∙ fork.saved)
 
-  pub either_second : Forks line (Test c 0) r w0 w2 → Left plan r first w2 w3 f1 nothing → ((front : List ProgramPoint) (entry : ProgramPoint) → w3.saved.items ≡ front ++ entry ∷ [] → StartsElse f1 line r c at front entry w3 w6) → IsJudged plan (either line c first second rest) w0.now → IsJudged plan second w6.now
+  pub either_second : Forks line (test_of c 0) r w0 w2 → Left plan r first w2 w3 f1 nothing → ((front : List ProgramPoint) (entry : ProgramPoint) → w3.saved.items ≡ front ++ entry ∷ [] → StartsElse f1 line r c at front entry w3 w6) → IsJudged plan (either line c first second rest) w0.now → IsJudged plan second w6.now
   either_second fork left turning j = subst (λ s. IsJudged plan second s) (sym (turned fork left turning).now) j.1
 
-  pub either_saved : Forks line (Test c 0) r w0 w2 → Left plan r first w2 w3 f1 nothing → ((front : List ProgramPoint) (entry : ProgramPoint) → w3.saved.items ≡ front ++ entry ∷ [] → StartsElse f1 line r c at front entry w3 w6) → Left plan r second w6 w7 f2 nothing → w7.saved.items ≡ w0.saved.items ++ points_of (way f1 w3)
+  pub either_saved : Forks line (test_of c 0) r w0 w2 → Left plan r first w2 w3 f1 nothing → ((front : List ProgramPoint) (entry : ProgramPoint) → w3.saved.items ≡ front ++ entry ∷ [] → StartsElse f1 line r c at front entry w3 w6) → Left plan r second w6 w7 f2 nothing → w7.saved.items ≡ w0.saved.items ++ points_of (way f1 w3)
   either_saved fork left turning left2 = left2.emits.saved ∙ (turned fork left turning).saved
 
-  pub either_agrees : Forks line (Test c 0) r w0 w2 → Left plan r first w2 w3 f1 nothing → ((front : List ProgramPoint) (entry : ProgramPoint) → w3.saved.items ≡ front ++ entry ∷ [] → StartsElse f1 line r c at front entry w3 w6) → Left plan r second w6 w7 f2 nothing → IsJudged plan (either line c first second rest) w0.now → BranchesAgree (way f1 w3) (way f2 w7)
+  pub either_agrees : Forks line (test_of c 0) r w0 w2 → Left plan r first w2 w3 f1 nothing → ((front : List ProgramPoint) (entry : ProgramPoint) → w3.saved.items ≡ front ++ entry ∷ [] → StartsElse f1 line r c at front entry w3 w6) → Left plan r second w6 w7 f2 nothing → IsJudged plan (either line c first second rest) w0.now → BranchesAgree (way f1 w3) (way f2 w7)
   either_agrees fork left turning left2 j =
       let h = whole_of plan r (length w2.lines.items) first (without_label w0.now.flow) w2 w3 f1 refl fork.now left in
       let h2 = whole_of plan r (length w6.lines.items) second (at_label w0.now.flow) w6 w7 f2 refl (turned fork left turning).now left2 in
@@ -82,8 +83,8 @@ module _ (plan : Plan) (r line : ℕ) (body rest : Block) (w0 w2 w3 : Work) (f f
 step_not_done : (table : List Block) (x : Statement-F Before) (rest : Block) → IsDone (statement_step table x rest) → ⊥
 step_not_done table (Statement-F.Act line act) rest h = h
 step_not_done table (Statement-F.End line) rest h = h
-step_not_done table (Statement-F.If line contact first) rest h = h
-step_not_done table (Statement-F.IfElse line contact first second) rest h = h
+step_not_done table (Statement-F.If line condition first) rest h = h
+step_not_done table (Statement-F.IfElse line condition first second) rest h = h
 step_not_done table (Statement-F.Repeat line times body) rest h = h
 step_not_done table (Statement-F.Forever line body) rest h = h
 step_not_done table (Statement-F.Apply line block) rest h = h

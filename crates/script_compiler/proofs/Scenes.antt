@@ -1,13 +1,13 @@
 -- The scene after an instruction or a frame depends on the scene before alone.
 use Rattle.std.proofs.Common.{◌≡◌, ℕ, ◌+◌, Bool, true, false, if◌then◌else◌, Option, Some, None, refl, sym, ap, ◌∙◌}
 use Rattle.plan_code.specs.declared.hold.Hold.{Hold}
-use Rattle.plan_code.specs.declared.hold.Hold.TheVariants.{Running, Waits, WaitsDay, WaitsContact, WaitsSwap, Ended}
+use Rattle.plan_code.specs.declared.hold.Hold.TheVariants.{Running, Waits, WaitsDay, WaitsContact, WaitsAny, WaitsSwap, Ended}
 use Rattle.plan_code.specs.declared.plan.Plan.{Plan}
 use Rattle.plan_code.specs.Program.{Program}
 use Rattle.plan_code.specs.Machine.{State, effect, settle, IsAllowed}
 use Rattle.plan_runs.specs.Frames.{is_due, with_swap, with_due_swap, is_here, with_hold_ended, ready, after_burst, is_first_noticed, shown}
 use Rattle.script_front.specs.declared.tree.Act.{Act}
-use Rattle.script_front.specs.declared.tree.Act.TheVariants.{Edit, Wait, WaitContact, Until, CommitIn, CommitAt, Join, Settle}
+use Rattle.script_front.specs.declared.tree.Act.TheVariants.{Edit, Wait, WaitContact, Until, WaitAny, CommitIn, CommitAt, Join, Settle}
 use Rattle.script_compiler.specs.Scheme.{instr_of_act}
 use Rattle.script_compiler.specs.Meaning.{acts_as, scene_of, state_of_scene, acts, opens, ScenesSuffice}
 
@@ -26,6 +26,7 @@ here_same s Running = refl
 here_same s (Waits n) = refl
 here_same s (WaitsDay t) = refl
 here_same s (WaitsContact c closed) = refl
+here_same s (WaitsAny closed opened until left) = refl
 here_same s WaitsSwap = refl
 here_same s Ended = refl
 
@@ -76,7 +77,8 @@ pub acts_as_compiled : (a : Act) → instr_of_act a ≡ acts_as a
 acts_as_compiled (Edit edit) = refl
 acts_as_compiled (Wait frames) = refl
 acts_as_compiled (WaitContact contact closed) = refl
-acts_as_compiled (Until second) = refl
+acts_as_compiled (Until moment) = refl
+acts_as_compiled (WaitAny all) = refl
 acts_as_compiled (CommitIn delay) = refl
 acts_as_compiled (CommitAt count) = refl
 acts_as_compiled Join = refl
@@ -94,7 +96,8 @@ pub act_scene : (plan : Plan) (a : Act) (s : State) → scene_of (effect plan (a
 act_scene plan (Edit edit) s = refl
 act_scene plan (Wait frames) s = refl
 act_scene plan (WaitContact contact closed) s = refl
-act_scene plan (Until second) s = refl
+act_scene plan (Until moment) s = refl
+act_scene plan (WaitAny all) s = refl
 act_scene plan (CommitIn delay) s = refl
 act_scene plan (CommitAt count) s = refl
 act_scene plan Join s = refl
@@ -104,7 +107,8 @@ pub act_place : (plan : Plan) (a : Act) (s : State) → ((effect plan (acts_as a
 act_place plan (Edit edit) s = (refl, refl)
 act_place plan (Wait frames) s = (refl, refl)
 act_place plan (WaitContact contact closed) s = (refl, refl)
-act_place plan (Until second) s = (refl, refl)
+act_place plan (Until moment) s = (refl, refl)
+act_place plan (WaitAny all) s = (refl, refl)
 act_place plan (CommitIn delay) s = (refl, refl)
 act_place plan (CommitAt count) s = (refl, refl)
 act_place plan Join s = (refl, refl)
@@ -114,7 +118,8 @@ pub act_fine : (plan : Plan) (a : Act) (s : State) → IsAllowed plan (acts_as a
 act_fine plan (Edit edit) s h = h
 act_fine plan (Wait frames) s h = tt
 act_fine plan (WaitContact contact closed) s h = tt
-act_fine plan (Until second) s h = tt
+act_fine plan (Until moment) s h = tt
+act_fine plan (WaitAny all) s h = tt
 act_fine plan (CommitIn delay) s h = (record { idle = h.0.idle; sound = h.0.sound; changes = h.0.changes }, h.1)
 act_fine plan (CommitAt count) s h = (record { idle = h.0.idle; sound = h.0.sound; changes = h.0.changes }, h.1)
 act_fine plan Join s h = h
@@ -124,7 +129,8 @@ fine_act : (plan : Plan) (a : Act) (s : State) → IsAllowed plan (acts_as a) (p
 fine_act plan (Edit edit) s h = h
 fine_act plan (Wait frames) s h = tt
 fine_act plan (WaitContact contact closed) s h = tt
-fine_act plan (Until second) s h = tt
+fine_act plan (Until moment) s h = tt
+fine_act plan (WaitAny all) s h = tt
 fine_act plan (CommitIn delay) s h = (record { idle = h.0.idle; sound = h.0.sound; changes = h.0.changes }, h.1)
 fine_act plan (CommitAt count) s h = (record { idle = h.0.idle; sound = h.0.sound; changes = h.0.changes }, h.1)
 fine_act plan Join s h = h

@@ -3,7 +3,7 @@ use Rattle.std.proofs.Common.{◌≡◌, ℕ, zero, suc, ◌+◌, ◌<◌, ◌�
 use Rattle.std.specs.Prelude.{slice_get}
 use Rattle.plan_code.specs.declared.flags.Counters.{Counters}
 use Rattle.plan_code.specs.declared.instr.Instr.{Instr}
-use Rattle.plan_code.specs.declared.instr.Instr.TheVariants.{End, Test, Jump, Set, Loop}
+use Rattle.plan_code.specs.declared.instr.Instr.TheVariants.{End, Jump, Set, Loop}
 use Rattle.plan_code.specs.declared.label.Swap.{Swap}
 use Rattle.plan_code.specs.declared.label.Swap.TheVariants.{Idle, Within, Perhaps}
 use Rattle.plan_code.specs.declared.plan.Plan.{Plan}
@@ -13,9 +13,12 @@ use Rattle.plan_flow.specs.Rules.{Known, IsFine, FitsSwap, continues, target_of}
 use Rattle.plan_flow.specs.Flows.{Flow, known_at, known_with, after_instr, set_after, merged, FitsFlow}
 use Rattle.plan_flow.proofs.Finding.{commit_fine}
 use Rattle.script_front.specs.declared.tree.Act.{Act}
-use Rattle.script_front.specs.declared.tree.Act.TheVariants.{Edit as Edits, Wait as Waits, WaitContact as WaitsContact, Until as WaitsUntil, CommitIn as CommitsIn, CommitAt as CommitsAt, Join as Joins, Settle as Settles}
+use Rattle.script_front.specs.declared.tree.Act.TheVariants.{Edit as Edits, Wait as Waits, WaitContact as WaitsContact, Until as WaitsUntil, WaitAny as WaitsAny, CommitIn as CommitsIn, CommitAt as CommitsAt, Join as Joins, Settle as Settles}
 use Rattle.script_front.specs.Block.{Block, nothing, basic, stop, when, either, repeat, forever, apply}
 use Rattle.script_compiler.specs.declared.flow.ProgramPoint.{ProgramPoint}
+use Rattle.script_front.specs.declared.tree.Condition.{Condition}
+use Rattle.script_compiler.specs.Alternatives.{test_of}
+use Rattle.script_front.specs.declared.tree.Condition.TheVariants.{Contact as IfContact, Time as IfTime}
 use Rattle.script_compiler.specs.Scheme.{PlacedInstr, without_label, at_label, meet, join, onward, head, point_after, placed_instr, alone, places, all_places, instr_of_act, falls_out}
 use Rattle.script_compiler.specs.Judged.{IsJudged, WaysAgree, BranchesAgree, FitsEntry, Reached}
 use Rattle.script_compiler.specs.Compiled.{first_counters, nested}
@@ -209,7 +212,8 @@ module _ (plan : Plan) (code : List PlacedInstr) where
   act_target (Edits edit) = refl
   act_target (Waits frames) = refl
   act_target (WaitsContact contact closed) = refl
-  act_target (WaitsUntil second) = refl
+  act_target (WaitsUntil moment) = refl
+  act_target (WaitsAny all) = refl
   act_target (CommitsIn delay) = refl
   act_target (CommitsAt count) = refl
   act_target Joins = refl
@@ -219,7 +223,8 @@ module _ (plan : Plan) (code : List PlacedInstr) where
   act_counted (Edits edit) r = refl
   act_counted (Waits frames) r = refl
   act_counted (WaitsContact contact closed) r = refl
-  act_counted (WaitsUntil second) r = refl
+  act_counted (WaitsUntil moment) r = refl
+  act_counted (WaitsAny all) r = refl
   act_counted (CommitsIn delay) r = refl
   act_counted (CommitsAt count) r = refl
   act_counted Joins r = refl
@@ -229,7 +234,8 @@ module _ (plan : Plan) (code : List PlacedInstr) where
   act_sets (Edits edit) c = refl
   act_sets (Waits frames) c = refl
   act_sets (WaitsContact contact closed) c = refl
-  act_sets (WaitsUntil second) c = refl
+  act_sets (WaitsUntil moment) c = refl
+  act_sets (WaitsAny all) c = refl
   act_sets (CommitsIn delay) c = refl
   act_sets (CommitsAt count) c = refl
   act_sets Joins c = refl
@@ -239,7 +245,8 @@ module _ (plan : Plan) (code : List PlacedInstr) where
   act_fine (Edits edit) t c n h = h
   act_fine (Waits frames) t c n h = h
   act_fine (WaitsContact contact closed) t c n h = h
-  act_fine (WaitsUntil second) t c n h = h
+  act_fine (WaitsUntil moment) t c n h = h
+  act_fine (WaitsAny all) t c n h = h
   act_fine (CommitsIn delay) t c n h = (commit_fine plan t _ c 0 n h.0, h.1)
   act_fine (CommitsAt count) t c n h = (commit_fine plan t _ c 0 n h.0, h.1)
   act_fine Joins t c n h = h
@@ -256,8 +263,9 @@ module _ (plan : Plan) (code : List PlacedInstr) where
   end_holds : (line : ℕ) (r pc : ℕ) (s : ProgramPoint) → Holds plan code pc (placed_instr line End r s)
   end_holds line r pc s = record { fine = λ n. tt; onward = λ e. cc; targets = λ to e. cc; counters = refl }
 
-  test_holds : (line : ℕ) (c to r pc : ℕ) (s : ProgramPoint) → Lands code (pc + 1) r (without_label s.flow) → Meets code to r s.flow → Holds plan code pc (placed_instr line (Test c to) r s)
-  test_holds line c to r pc s l m = record { fine = λ n. tt; onward = λ _. l; targets = λ n e. subst (λ x. Meets code x r s.flow) (some_number to n e) m; counters = refl }
+  test_holds : (line : ℕ) (c : Condition) (to r pc : ℕ) (s : ProgramPoint) → Lands code (pc + 1) r (without_label s.flow) → Meets code to r s.flow → Holds plan code pc (placed_instr line (test_of c to) r s)
+  test_holds line (IfContact contact) to r pc s l m = record { fine = λ n. tt; onward = λ _. l; targets = λ n e. subst (λ x. Meets code x r s.flow) (some_number to n e) m; counters = refl }
+  test_holds line (IfTime from until) to r pc s l m = record { fine = λ n. tt; onward = λ _. l; targets = λ n e. subst (λ x. Meets code x r s.flow) (some_number to n e) m; counters = refl }
 
   jump_holds : (line : ℕ) (to r pc : ℕ) (s : ProgramPoint) → Meets code to r s.flow → Holds plan code pc (placed_instr line (Jump to) r s)
   jump_holds line to r pc s m = record { fine = λ n. tt; onward = λ e. cc; targets = λ n e. subst (λ x. Meets code x r s.flow) (some_number to n e) m; counters = refl }
@@ -305,7 +313,7 @@ module _ (plan : Plan) (code : List PlacedInstr) where
       meets_lands end r u (lands_meets end r (at_label m.flow) u.flow (back.1 (at_label m.flow) m.there) refl m.fits)) in
       let m = meets_right a (Some s) s j.1 refl in
       let target = lands_meets end r (at_label m.flow) s.flow (back.1 (at_label m.flow) m.there) refl m.fits in
-      ((test_holds line c end r pc s front.1 target, hold_both (pc + 1) firsts rests front.0 back.0), lands_at line pc r (Test c end) s st.0)
+      ((test_holds line c end r pc s front.1 target, hold_both (pc + 1) firsts rests front.0 back.0), lands_at line pc r (test_of c end) s st.0)
   sound (either line c first second rest) r pc s deep j st ex =
       let t = without_label s.flow in
       let firsts = places plan r (pc + 1) first t in
@@ -331,7 +339,7 @@ module _ (plan : Plan) (code : List PlacedInstr) where
       let target = lands_meets start r (at_label s.flow) s.flow middle.1 refl (fits_same s.flow) in
       let seconds_hold = hold_both start seconds rests middle.0 back.0 in
       let jumps_hold = hold_both out jumps (seconds ++ rests) jump (subst (λ n. AllHold plan code n (seconds ++ rests)) (sym at_start) seconds_hold) in
-      ((test_holds line c start r pc s front.1 target, hold_both (pc + 1) firsts (jumps ++ (seconds ++ rests)) front.0 jumps_hold), lands_at line pc r (Test c start) s st.0)
+      ((test_holds line c start r pc s front.1 target, hold_both (pc + 1) firsts (jumps ++ (seconds ++ rests)) front.0 jumps_hold), lands_at line pc r (test_of c start) s st.0)
   sound (repeat line n body rest) r pc s deep j st ex =
       let t = without_label s.flow in
       let start = head body t in

@@ -1,7 +1,7 @@
 -- The statements with blocks, step by step as the compiler processes them.
 use Rattle.std.proofs.Common.{◌≡◌, ℕ, zero, suc, ◌+◌, map, take, Vec, Global, Result, Ok, Err, ◌<◌, ◌≤◌, Bool, true, false, if◌then◌else◌, List, [], ◌∷◌, ◌++◌, ◌&&◌, length, Option, Some, None, is_some, refl, sym, ap, ◌∙◌, subst, arith, append-nil, drop, get_or}
 use Rattle.std.specs.Prelude.{IfOk, OnOk}
-use Rattle.plan_code.specs.declared.instr.Instr.TheVariants.{Test, Jump, Set, Loop}
+use Rattle.plan_code.specs.declared.instr.Instr.TheVariants.{Jump, Set, Loop}
 use Rattle.plan_code.specs.declared.plan.Plan.{Plan}
 use Rattle.plan_flow.specs.Flows.{known_at, after_instr}
 use Rattle.plan_flow.specs.Rules.{IsFine}
@@ -9,6 +9,8 @@ use Rattle.script_front.specs.declared.tree.Act.{Act}
 use Rattle.script_front.specs.declared.tree.Statement.{Statement}
 use Rattle.script_front.specs.Block.{Block, nothing, basic, stop, when, either, repeat, forever, apply, named_at, before, block_of}
 use Rattle.script_compiler.specs.declared.flow.ProgramPoint.{ProgramPoint}
+use Rattle.script_front.specs.declared.tree.Condition.{Condition}
+use Rattle.script_compiler.specs.Alternatives.{test_of}
 use Rattle.script_compiler.specs.Scheme.{without_label, onward, alone, point_after, places, instr_of_act, falls_out}
 use Rattle.script_compiler.specs.Judged.{IsJudged, Reached}
 use Rattle.script_compiler.specs.Compiled.{nested}
@@ -36,16 +38,16 @@ ok_both (Err y) C D h k = h
 pub act_step : (plan : Plan) (r line : ℕ) (a : Act) (rest : Block) (v w : Work) (x : Result Bool CompileFault) → IfOk x (λ f. f ≡ true) → OnOk x (Emits v w (alone line (instr_of_act a) r v.now)) → OnOk x (w.now ≡ without_label (after_instr plan (instr_of_act a) v.now.flow)) → OnOk x (IsFine plan (instr_of_act a) (known_at v.now.flow)) → IfOk x (λ f. Left plan r (basic line a rest) v w f rest)
 act_step plan r line a rest v w x goes emits now fine = ok_true x _ _ goes (ok_both x _ _ emits (ok_both x _ _ now fine)) (λ (all : Emits v w (alone line (instr_of_act a) r v.now) × ((w.now ≡ without_label (after_instr plan (instr_of_act a) v.now.flow)) × IsFine plan (instr_of_act a) (known_at v.now.flow))). left_act plan r line a rest v w all.0 all.1.0 all.1.1)
 
-module _ (plan : Plan) (r line c at : ℕ) (first rest : Block) (w0 w2 w3 w5 : Work) (f : Bool) (x : Result Bool CompileFault) where
+module _ (plan : Plan) (r line : ℕ) (c : Condition) (at : ℕ) (first rest : Block) (w0 w2 w3 w5 : Work) (f : Bool) (x : Result Bool CompileFault) where
   pub when_step :
-      r ≤ 8 → at ≡ length w0.lines.items → Forks line (Test c 0) r w0 w2 → Left plan r first w2 w3 f nothing → IfOk x (λ g. g ≡ true) →
+      r ≤ 8 → at ≡ length w0.lines.items → Forks line (test_of c 0) r w0 w2 → Left plan r first w2 w3 f nothing → IfOk x (λ g. g ≡ true) →
       OnOk x ((front : List ProgramPoint) (entry : ProgramPoint) → w3.saved.items ≡ front ++ entry ∷ [] → ClosesIf f line c at front entry w3 w5) →
       IfOk x (λ g. Left plan r (when line c first rest) w0 w5 g rest)
   when_step deep ea fork left goes closes = ok_true x _ _ goes closes (λ h. left_when plan r line c first rest w0 w2 w3 w5 f deep fork left (λ front entry e. subst (λ n. ClosesIf f line c n front entry w3 w5) ea (h front entry e)))
 
-module _ (plan : Plan) (r line c at jump : ℕ) (first second : Block) (w0 w2 w3 w6 w7 w8 : Work) (f1 f2 f : Bool) where
+module _ (plan : Plan) (r line : ℕ) (c : Condition) (at jump : ℕ) (first second : Block) (w0 w2 w3 w6 w7 w8 : Work) (f1 f2 f : Bool) where
   pub either_step :
-      r ≤ 8 → at ≡ length w0.lines.items → jump ≡ length w3.lines.items → Forks line (Test c 0) r w0 w2 → Left plan r first w2 w3 f1 nothing →
+      r ≤ 8 → at ≡ length w0.lines.items → jump ≡ length w3.lines.items → Forks line (test_of c 0) r w0 w2 → Left plan r first w2 w3 f1 nothing →
       ((front : List ProgramPoint) (entry : ProgramPoint) → w3.saved.items ≡ front ++ entry ∷ [] → StartsElse f1 line r c at front entry w3 w6) →
       Left plan r second w6 w7 f2 nothing →
       ((front : List ProgramPoint) (a : Option ProgramPoint) → f1 ≡ is_some a → w7.saved.items ≡ front ++ points_of a → IsAfterBranches a (way f2 w7) front line jump w7 w8 f) →

@@ -29,8 +29,8 @@ and_true false b = refl
 step_falls : (table : List Block) (x : Statement-F Before) (rest : Block) → falls_out (statement_step table x rest) ≡ (falls_out (statement_step table x nothing) && falls_out rest)
 step_falls table (Statement-F.Act line act) rest = refl
 step_falls table (Statement-F.End line) rest = refl
-step_falls table (Statement-F.If line contact first) rest = refl
-step_falls table (Statement-F.IfElse line contact first second) rest = and_true (falls_out (whole first.items) || falls_out (whole second.items)) (falls_out rest)
+step_falls table (Statement-F.If line condition first) rest = refl
+step_falls table (Statement-F.IfElse line condition first second) rest = and_true (falls_out (whole first.items) || falls_out (whole second.items)) (falls_out rest)
 step_falls table (Statement-F.Repeat line times body) rest = and_true (falls_out (whole body.items)) (falls_out rest)
 step_falls table (Statement-F.Forever line body) rest = refl
 step_falls table (Statement-F.Apply line block) rest = and_true (falls_out (named_at table block)) (falls_out rest)
@@ -46,8 +46,8 @@ falls_cut table ss k s is lt =
 step_silent : (table : List Block) (x : Statement-F Before) (rest : Block) → has_no_instr (statement_step table x rest) ≡ (has_no_instr (statement_step table x nothing) && has_no_instr rest)
 step_silent table (Statement-F.Act line act) rest = refl
 step_silent table (Statement-F.End line) rest = refl
-step_silent table (Statement-F.If line contact first) rest = refl
-step_silent table (Statement-F.IfElse line contact first second) rest = refl
+step_silent table (Statement-F.If line condition first) rest = refl
+step_silent table (Statement-F.IfElse line condition first second) rest = refl
 step_silent table (Statement-F.Repeat line times body) rest = refl
 step_silent table (Statement-F.Forever line body) rest = refl
 step_silent table (Statement-F.Apply line block) rest = and_true (has_no_instr (named_at table block)) (has_no_instr rest)

@@ -8,7 +8,7 @@ use Rattle.mux_config.specs.Configuration.{Configuration}
 use Rattle.mux_config.specs.Sound.{IsSound}
 use Rattle.plan_code.specs.declared.flags.Counters.{Counters}
 use Rattle.plan_code.specs.declared.instr.Instr.{Instr}
-use Rattle.plan_code.specs.declared.instr.Instr.TheVariants.{Wait, Until, WaitContact, CommitIn, CommitAt, Join, Settle, End, Edit, Test, Jump, Set, Loop}
+use Rattle.plan_code.specs.declared.instr.Instr.TheVariants.{Wait, Until, WaitContact, WaitAny, CommitIn, CommitAt, Join, Settle, End, Edit, Test, TestTime, Jump, Set, Loop}
 use Rattle.plan_code.specs.declared.label.Label.{Label}
 use Rattle.plan_code.specs.declared.label.Swap.{Swap}
 use Rattle.plan_code.specs.declared.label.Swap.TheVariants.{Idle, Within, Perhaps}
@@ -44,6 +44,7 @@ is_reached : (i : Instr) → continues i ≡ true → rests i ≡ false → susp
 is_reached (Wait frames) h k = k
 is_reached (Until day) h k = k
 is_reached (WaitContact contact closed) h k = k
+is_reached (WaitAny closed opened until frames) h k = k
 is_reached (CommitIn delay) h k = refl
 is_reached (CommitAt count) h k = refl
 is_reached Join h k = k
@@ -51,6 +52,7 @@ is_reached Settle h k = refl
 is_reached End h k = cc
 is_reached (Edit edit) h k = refl
 is_reached (Test contact target) h k = refl
+is_reached (TestTime from until target) h k = refl
 is_reached (Jump target) h k = refl
 is_reached (Set counter times) h k = refl
 is_reached (Loop counter target) h k = refl
@@ -59,6 +61,7 @@ targets_run : (i : Instr) (to : ℕ) → target_of i ≡ Some to → suspends i 
 targets_run (Wait frames) to h = cc
 targets_run (Until day) to h = cc
 targets_run (WaitContact contact closed) to h = cc
+targets_run (WaitAny closed opened until frames) to h = cc
 targets_run (CommitIn delay) to h = cc
 targets_run (CommitAt count) to h = cc
 targets_run Join to h = cc
@@ -66,6 +69,7 @@ targets_run Settle to h = cc
 targets_run End to h = cc
 targets_run (Edit edit) to h = cc
 targets_run (Test contact target) to h = refl
+targets_run (TestTime from until target) to h = refl
 targets_run (Jump target) to h = refl
 targets_run (Set counter times) to h = cc
 targets_run (Loop counter target) to h = refl

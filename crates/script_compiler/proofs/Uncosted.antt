@@ -6,7 +6,7 @@ use Rattle.mux_config.specs.Edits.{edit_fault}
 use Rattle.mux_config.specs.Sound.{first_fault}
 use Rattle.plan_code.specs.declared.plan.Plan.{Plan}
 use Rattle.plan_code.specs.declared.instr.Instr.{Instr}
-use Rattle.plan_code.specs.declared.instr.Instr.TheVariants.{Wait, Until, WaitContact, CommitIn, CommitAt, Join, Settle, End, Edit as Edits, Test, Jump, Set, Loop}
+use Rattle.plan_code.specs.declared.instr.Instr.TheVariants.{Wait, Until, WaitContact, WaitAny, CommitIn, CommitAt, Join, Settle, End, Edit as Edits, Test, TestTime, Jump, Set, Loop}
 use Rattle.plan_code.specs.declared.instr.Line.{Line}
 use Rattle.plan_flow.specs.declared.cause.Cause.{Cause}
 use Rattle.plan_flow.specs.declared.cause.Cause.TheVariants.{Edit as OfEdit, Config as OfConfig, Pending, NoChange, Notice, Count, JoinIdle, SwapUncertain, Round, Table, Mismatch, Cost}
@@ -62,9 +62,11 @@ flow_uncosted plan (CommitAt count) t given h e = commit_uncosted plan t _ Count
 flow_uncosted plan (Wait frames) t given h e = (let x : SwapUncertain ≡ Cost = sym h.1 ∙ e in cc)
 flow_uncosted plan (Until day) t given h e = h
 flow_uncosted plan (WaitContact contact closed) t given h e = h
+flow_uncosted plan (WaitAny closed opened until frames) t given h e = h
 flow_uncosted plan Join t given h e = (let x : JoinIdle ≡ Cost = sym h.1 ∙ e in cc)
 flow_uncosted plan Settle t given h e = h
 flow_uncosted plan (Test contact target) t given h e = h
+flow_uncosted plan (TestTime from until target) t given h e = h
 flow_uncosted plan (Jump target) t given h e = h
 flow_uncosted plan (Loop counter target) t given h e = h
 flow_uncosted plan (Set counter times) t given h e = h
@@ -77,8 +79,8 @@ unreached_uncosted : (b : Block) (at : ℕ) (given : Cause) → IsUnreached b at
 unreached_uncosted nothing at given h e = h
 unreached_uncosted (basic line act rest) at given h e = table_uncosted given h.1 e
 unreached_uncosted (stop line rest) at given h e = table_uncosted given h.1 e
-unreached_uncosted (when line contact first rest) at given h e = table_uncosted given h.1 e
-unreached_uncosted (either line contact first second rest) at given h e = table_uncosted given h.1 e
+unreached_uncosted (when line condition first rest) at given h e = table_uncosted given h.1 e
+unreached_uncosted (either line condition first second rest) at given h e = table_uncosted given h.1 e
 unreached_uncosted (repeat line times body rest) at given h e = table_uncosted given h.1 e
 unreached_uncosted (forever line body rest) at given h e = table_uncosted given h.1 e
 unreached_uncosted (apply line number named rest) at given h e = table_uncosted given h.1 e
@@ -97,14 +99,14 @@ in_uncosted plan (basic line act rest) s at given h e = elim h [
   | inr b ↦ in_uncosted plan rest _ at given b.1 e
 ]
 in_uncosted plan (stop line rest) s at given h e = unreached_uncosted rest at given h e
-in_uncosted plan (when line contact first rest) s at given h e = elim h [
+in_uncosted plan (when line condition first rest) s at given h e = elim h [
   | inl a ↦ in_uncosted plan first _ at given a e
   | inr b ↦ elim b.1 [
     | inl m ↦ mismatch_uncosted line _ at given m e
     | inr r ↦ after_uncosted _ rest (λ u. IsRefusedIn plan rest u at given) at given (λ u k. in_uncosted plan rest u at given k e) e r.1
   ]
 ]
-in_uncosted plan (either line contact first second rest) s at given h e = elim h [
+in_uncosted plan (either line condition first second rest) s at given h e = elim h [
   | inl a ↦ in_uncosted plan first _ at given a e
   | inr b ↦ elim b.1 [
     | inl a ↦ in_uncosted plan second _ at given a e

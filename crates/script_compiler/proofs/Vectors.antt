@@ -6,7 +6,7 @@ use Rattle.mux_config.specs.declared.fault.EditFault.TheVariants.{IdAbsent}
 use Rattle.mux_config.specs.Configuration.{nothing as no_configuration}
 use Rattle.plan_code.specs.declared.flags.Contacts.{Contacts}
 use Rattle.plan_code.specs.declared.hold.Hold.{Hold}
-use Rattle.plan_code.specs.declared.hold.Hold.TheVariants.{Running, Waits, WaitsSwap, Ended}
+use Rattle.plan_code.specs.declared.hold.Hold.TheVariants.{Running, Waits, WaitsAny, WaitsSwap, Ended}
 use Rattle.plan_code.specs.declared.instr.Instr.{Instr}
 use Rattle.plan_code.specs.declared.instr.Instr.TheVariants.{Wait as WaitInstr, End}
 use Rattle.plan_code.specs.declared.instr.Line.{Line}
@@ -17,7 +17,10 @@ use Rattle.plan_verifier.proofs.OneVerdict.{typed_if}
 use Rattle.plan_runs.specs.declared.event.Event.TheVariants.{Contact, Frame}
 use Rattle.plan_runs.specs.declared.event.Start.{Start}
 use Rattle.plan_runs.proofs.Samples.{all_open, start_at, in_range, first_state, it_starts}
-use Rattle.script_front.specs.declared.tree.Act.TheVariants.{Edit, Wait, Join, Settle}
+use Rattle.script_front.specs.declared.tree.Act.TheVariants.{Edit, Wait, WaitAny, Join, Settle}
+use Rattle.script_front.specs.declared.tree.Condition.TheVariants.{Contact as IfContact, Time as IfTime}
+use Rattle.script_front.specs.declared.moment.MomentForm.TheVariants.{At}
+use Rattle.script_front.specs.declared.alternatives.Alternative.TheVariants.{Contact as OfContact, Until as OfMoment, Frames as OfFrames}
 use Rattle.script_front.specs.Block.{Block, nothing, basic, when, either, repeat, forever, apply}
 use Rattle.script_front.specs.Tree.{Tree}
 use Rattle.script_compiler.specs.Compiled.{IsCodeOf}
@@ -74,7 +77,7 @@ does_not_end (suc (suc n)) h = let e : false ≡ true = h.2.0 in absurd (false�
 
 -- the first branch is for a closed contact
 abbrev branches : Block
-branches = either 1 3 (wait 4 nothing) (wait 5 nothing) nothing
+branches = either 1 (IfContact 3) (wait 4 nothing) (wait 5 nothing) nothing
 
 closed_branch : Performs plan (reading branches (after 0 third_closed Running)) 2 (reading nothing (after 0 third_closed (Waits 4)))
 closed_branch = (refl, tt, (refl, tt, (refl, refl)))
@@ -89,8 +92,37 @@ branches_exchanged n h = let e = held_same _ _ (performs_one plan 2 n _ _ _ open
     different e = absurd cc
 
 -- without `else`, an open contact skips the branch
-no_branch : Performs plan (reading (when 1 3 (wait 4 nothing) (wait 5 nothing)) (after 0 all_open Running)) 2 (reading nothing (after 0 all_open (Waits 5)))
+no_branch : Performs plan (reading (when 1 (IfContact 3) (wait 4 nothing) (wait 5 nothing)) (after 0 all_open Running)) 2 (reading nothing (after 0 all_open (Waits 5)))
 no_branch = (refl, tt, (refl, tt, (refl, refl)))
+
+-- a window of the first second has frames 0 to 41, and a window over midnight has frame 0
+abbrev in_window : (from to : ℕ) → Block
+in_window from to = either 1 (IfTime from to) (wait 4 nothing) (wait 5 nothing) nothing
+
+last_in_window : Performs plan (reading (in_window 0 1) (after 41 all_open Running)) 2 (reading nothing (after 41 all_open (Waits 4)))
+last_in_window = (refl, tt, (refl, tt, (refl, refl)))
+
+past_the_window : Performs plan (reading (in_window 0 1) (after 42 all_open Running)) 2 (reading nothing (after 42 all_open (Waits 5)))
+past_the_window = (refl, tt, (refl, tt, (refl, refl)))
+
+over_midnight : Performs plan (reading (in_window 79200 21600) (after 0 all_open Running)) 2 (reading nothing (after 0 all_open (Waits 4)))
+over_midnight = (refl, tt, (refl, tt, (refl, refl)))
+
+-- and one that ends as it begins has none
+an_empty_window : Performs plan (reading (in_window 0 0) (after 0 all_open Running)) 2 (reading nothing (after 0 all_open (Waits 5)))
+an_empty_window = (refl, tt, (refl, tt, (refl, refl)))
+
+the_window_has_no_such_frame : (n : ℕ) → Performs plan (reading (in_window 0 1) (after 42 all_open Running)) n (reading nothing (after 42 all_open (Waits 4))) → ⊥
+the_window_has_no_such_frame n h = let e = held_same _ _ (performs_one plan 2 n _ _ _ past_the_window h) in absurd (different e)
+  where
+    different : Waits 4 ≡ Waits 5 → ⊥
+    different e = absurd cc
+
+-- a wait with alternatives waits for each of them
+waits_for_any :
+    Performs plan (reading (basic 1 (WaitAny (OfContact 3 true ∷ OfContact 0 false ∷ OfMoment (At 1) ∷ OfFrames 750 ∷ [])) nothing) (after 0 all_open Running)) 1
+    (reading nothing (after 0 all_open (WaitsAny (record { 0 = 8 }) (record { 0 = 1 }) (Some 42) (Some 750))))
+waits_for_any = (refl, tt, (refl, refl))
 
 -- without a swap, `settle` does nothing and `join` traps
 settles : Performs plan (reading (basic 1 Settle (wait 5 nothing)) (after 0 all_open Running)) 2 (reading nothing (after 0 all_open (Waits 5)))

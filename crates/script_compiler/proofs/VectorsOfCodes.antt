@@ -1,5 +1,5 @@
 -- Test vectors: small scripts for which each definition holds, and for which it fails.
-use Rattle.std.proofs.Common.{◌≡◌, ◌≢◌, ◌++◌, ◌∙◌, length-append, ℕ, zero, suc, ◌+◌, ◌≤◌, true, false, List, [], ◌∷◌, map, length, Some, None, inl, inr, refl, sym, ap, subst, arith, rules}
+use Rattle.std.proofs.Common.{◌≡◌, ◌≢◌, ◌++◌, ◌∙◌, length-append, ℕ, zero, suc, ◌+◌, ◌≤◌, Bool, true, false, List, [], ◌∷◌, map, length, Some, None, inl, inr, refl, sym, ap, subst, arith, rules}
 use Rattle.mux_config.specs.Configuration.{Configuration, nothing as no_configuration}
 use Rattle.mux_config.specs.declared.edit.Edit.TheVariants.{AddSub}
 use Rattle.mux_config.specs.declared.fault.EditFault.TheVariants.{IdUsed}
@@ -8,16 +8,21 @@ use Rattle.plan_code.specs.declared.label.Label.{Label}
 use Rattle.plan_code.specs.declared.label.Swap.{Swap}
 use Rattle.plan_code.specs.declared.label.Swap.TheVariants.{Idle, Within, Perhaps}
 use Rattle.plan_code.specs.declared.instr.Instr.{Instr}
-use Rattle.plan_code.specs.declared.instr.Instr.TheVariants.{Wait, Settle, End, Test, Jump, Set, Loop}
+use Rattle.plan_code.specs.declared.instr.Instr.TheVariants.{Wait, WaitAny, Settle, End, Test, TestTime, Jump, Set, Loop}
 use Rattle.plan_code.specs.Program.{Program}
 use Rattle.plan_code.specs.declared.limits.TheConstants.{MOST_CONFIGURATIONS}
 use Rattle.plan_flow.proofs.Samples.{plan, sub, one_sub}
 use Rattle.plan_flow.specs.Flows.{Flow, widest, FitsFlow}
 use Rattle.plan_flow.specs.Rules.{suspends}
-use Rattle.script_front.specs.declared.tree.Act.TheVariants.{Wait as Waits, Join as Joins}
+use Rattle.script_front.specs.declared.tree.Act.TheVariants.{Wait as Waits, WaitAny as WaitsAny, Join as Joins, Settle as Settles}
 use Rattle.script_front.specs.declared.tree.Item.{Item}
-use Rattle.script_front.specs.Block.{Block, nothing, basic, stop, either, repeat, forever}
+use Rattle.script_front.specs.declared.tree.Condition.TheVariants.{Contact as IfContact, Time as IfTime}
+use Rattle.script_front.specs.Block.{Block, nothing, basic, stop, when, either, repeat, forever}
 use Rattle.script_front.specs.Tree.{Tree}
+use Rattle.script_front.specs.declared.alternatives.Alternative.{Alternative}
+use Rattle.script_front.specs.declared.moment.MomentForm.TheVariants.{At, Early}
+use Rattle.script_front.specs.declared.alternatives.Alternative.TheVariants.{Contact as OfContact, Until as OfMoment, Frames as OfFrames}
+use Rattle.script_compiler.specs.Alternatives.{no_contacts}
 use Rattle.script_compiler.specs.declared.flow.UnpricedLabel.{UnpricedLabel}
 use Rattle.script_compiler.specs.declared.flow.ProgramPoint.{ProgramPoint}
 use Rattle.script_compiler.specs.Scheme.{at_label, without_label, falls_out, point_after, all_places, unpriced_labels}
@@ -48,6 +53,17 @@ a_test_jumps = (refl, inr refl)
 
 a_test_goes_on : StepsTo (Test 1 5) 0 1
 a_test_goes_on = (refl, inl (refl, refl))
+
+-- a window of the day jumps or goes on in the same frame
+a_window_jumps : StepsTo (TestTime 42 84 5) 0 5
+a_window_jumps = (refl, inr refl)
+
+a_window_goes_on : StepsTo (TestTime 42 84 5) 0 1
+a_window_goes_on = (refl, inl (refl, refl))
+
+-- a wait with alternatives does not
+a_wait_with_alternatives_suspends : (to : ℕ) → StepsTo (WaitAny no_contacts no_contacts None None) 0 to → ⊥
+a_wait_with_alternatives_suspends to h = let e : true ≡ false = h.0 in absurd cc
 
 a_wait_suspends : (to : ℕ) → StepsTo (Wait 1) 0 to → ⊥
 a_wait_suspends to h = let e : true ≡ false = h.0 in absurd cc
@@ -160,7 +176,7 @@ a_loop_is_judged : IsJudged plan (repeat 3 3 (waits nothing) nothing) start
 a_loop_is_judged = ((tt, tt), (refl, refl), tt)
 
 -- both branches end
-nothing_after_two_ends : IsJudged plan (either 3 1 (stop 3 nothing) (stop 3 nothing) (waits nothing)) start → ⊥
+nothing_after_two_ends : IsJudged plan (either 3 (IfContact 1) (stop 3 nothing) (stop 3 nothing) (waits nothing)) start → ⊥
 nothing_after_two_ends h = h.3
 
 -- ---- the scheme
@@ -181,8 +197,49 @@ the_labels_of_a_loop : map (λ m. m.pc) (unpriced_labels 0 (all_places plan 5 (r
 the_labels_of_a_loop = refl
 
 -- `if contact 1 { } else { }` and `wait 1`
-the_instructions_of_a_choice : instrs_of (lines_of_placed (all_places plan 5 (either 2 1 nothing nothing (waits nothing)) start)) ≡ Test 1 2 ∷ Jump 2 ∷ Wait 1 ∷ End ∷ []
+the_instructions_of_a_choice : instrs_of (lines_of_placed (all_places plan 5 (either 2 (IfContact 1) nothing nothing (waits nothing)) start)) ≡ Test 1 2 ∷ Jump 2 ∷ Wait 1 ∷ End ∷ []
 the_instructions_of_a_choice = refl
+
+-- `contact 3 closed`, `contact 3 open` and `contact 0 open`
+abbrev third : Bool → Alternative
+third closed = OfContact 3 closed
+
+-- `wait contact 3 closed or until 00:00:01 or 750`
+a_wait_with_alternatives :
+    instrs_of (lines_of_placed (all_places plan 3 (basic 3 (WaitsAny (third true ∷ OfMoment (At 1) ∷ OfFrames 750 ∷ [])) nothing) start))
+    ≡ WaitAny (record { 0 = 8 }) no_contacts (Some 42) (Some 750) ∷ End ∷ []
+a_wait_with_alternatives = refl
+
+-- the same contact several times is in each set once; 250 frames before ten in the evening
+the_same_contact_again :
+    instrs_of (lines_of_placed (all_places plan 3 (basic 3 (WaitsAny (third true ∷ OfMoment (Early 79200 250) ∷ third true ∷ third false ∷ [])) nothing) start))
+    ≡ WaitAny (record { 0 = 8 }) (record { 0 = 8 }) (Some 3299750) None ∷ End ∷ []
+the_same_contact_again = refl
+
+-- `if time 22:00:00 to 06:00:00 { wait 3 } else { wait 2 }` and `wait 9`
+the_instructions_of_a_window :
+    instrs_of (lines_of_placed (all_places plan 8 (either 3 (IfTime 79200 21600) (basic 4 (Waits 3) nothing) (basic 6 (Waits 2) nothing) (basic 8 (Waits 9) nothing)) start))
+    ≡ TestTime 3300000 900000 3 ∷ Wait 3 ∷ Jump 4 ∷ Wait 2 ∷ Wait 9 ∷ End ∷ []
+the_instructions_of_a_window = refl
+
+-- `wait contact 3 closed or until 22:00:00`, `if time 22:00:00 to 06:00:00 { wait 1 }` and `settle`, where the swap falls
+-- after 24 to 27 frames
+abbrev over_a_window : Block
+over_a_window =
+    basic 9 (WaitsAny (third true ∷ OfMoment (At 79200) ∷ []))
+    (when 10 (IfTime 79200 21600) (basic 10 (Waits 1) nothing) (basic 11 Settles nothing))
+
+abbrev noticed : ProgramPoint
+noticed = without_label (knows one_sub (Within 24 27))
+
+a_window_is_judged : IsJudged plan over_a_window noticed
+a_window_is_judged = (tt, ((tt, tt), fits, (tt, tt)))
+  where
+    fits : WaysAgree (Some (without_label (knows one_sub (Perhaps 25)))) (Some (without_label (knows one_sub (Perhaps 26))))
+    fits = search rules
+
+the_label_after_a_window : unpriced_labels 0 (all_places plan 11 over_a_window noticed) ≡ record { pc = 3; flow = knows one_sub (Perhaps 26); repeats = 0 } ∷ []
+the_label_after_a_window = refl
 
 two_deep : nested (repeat 2 3 (repeat 3 3 (waits nothing) nothing) nothing) ≡ 2
 two_deep = refl

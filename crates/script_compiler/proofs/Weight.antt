@@ -11,8 +11,8 @@ abbrev pub weight : Block → ℕ
 weight nothing = 0
 weight (basic line act rest) = 1 + weight rest
 weight (stop line rest) = 1 + weight rest
-weight (when line contact first rest) = 1 + weight first + weight rest
-weight (either line contact first second rest) = 1 + weight first + weight second + weight rest
+weight (when line condition first rest) = 1 + weight first + weight rest
+weight (either line condition first second rest) = 1 + weight first + weight second + weight rest
 weight (repeat line times body rest) = 1 + weight body + weight rest
 weight (forever line body rest) = 1 + weight body + weight rest
 weight (apply line number named rest) = 1 + weight named + weight rest
@@ -20,8 +20,8 @@ weight (apply line number named rest) = 1 + weight named + weight rest
 step_weight : (table : List Block) (x : Statement-F Before) (rest : Block) → weight (statement_step table x rest) ≡ weight (statement_step table x nothing) + weight rest
 step_weight table (Statement-F.Act line act) rest = omega arith
 step_weight table (Statement-F.End line) rest = omega arith
-step_weight table (Statement-F.If line contact first) rest = omega arith
-step_weight table (Statement-F.IfElse line contact first second) rest = omega arith
+step_weight table (Statement-F.If line condition first) rest = omega arith
+step_weight table (Statement-F.IfElse line condition first second) rest = omega arith
 step_weight table (Statement-F.Repeat line times body) rest = omega arith
 step_weight table (Statement-F.Forever line body) rest = omega arith
 step_weight table (Statement-F.Apply line block) rest = omega arith

@@ -107,8 +107,8 @@ abbrev pub nested : Block → ℕ
 nested nothing = 0
 nested (basic line act rest) = nested rest
 nested (stop line rest) = nested rest
-nested (when line contact first rest) = max (nested first) (nested rest)
-nested (either line contact first second rest) = max (nested first) (max (nested second) (nested rest))
+nested (when line condition first rest) = max (nested first) (nested rest)
+nested (either line condition first second rest) = max (nested first) (max (nested second) (nested rest))
 nested (repeat line times body rest) = max (1 + nested body) (nested rest)
 nested (forever line body rest) = max (nested body) (nested rest)
 nested (apply line number named rest) = max (nested named) (nested rest)

@@ -3,13 +3,15 @@ use Rattle.std.specs.Prelude.{◌≡◌, ℕ, ◌+◌, ◌≤◌, Bool, Vec, if�
 use Rattle.std.specs.Global.{Global}
 use Rattle.plan_code.specs.declared.plan.Plan.{Plan}
 use Rattle.plan_code.specs.declared.instr.Instr.{Instr}
-use Rattle.plan_code.specs.declared.instr.Instr.TheVariants.{Jump, Test}
+use Rattle.plan_code.specs.declared.instr.Instr.TheVariants.{Jump}
 use Rattle.plan_code.specs.declared.instr.Line.{Line}
 use Rattle.plan_flow.specs.declared.cause.Cause.{Cause}
+use Rattle.script_front.specs.declared.tree.Condition.{Condition}
 use Rattle.script_front.specs.declared.tree.Statement.{Statement}
 use Rattle.script_front.specs.Block.{Block, nothing, apply, table_of}
 use Rattle.script_compiler.specs.declared.flow.ProgramPoint.{ProgramPoint}
 use Rattle.script_compiler.specs.Scheme.{PlacedInstr, onward, point_after, places, unpriced_labels, alone, without_label, at_label, meet, join, falls_out}
+use Rattle.script_compiler.specs.Alternatives.{test_of}
 use Rattle.script_compiler.specs.Judged.{IsJudged, Reached, WaysAgree, BranchesAgree, FitsEntry}
 use Rattle.script_compiler.specs.Refused.{IsRefusedIn, IsRefusedAfter}
 use Rattle.script_compiler.specs.Compiled.{lines_of_placed, nested}
@@ -76,8 +78,8 @@ points_of None = []
 points_of (Some s) = s ∷ []
 
 -- an `if` without `else` ends: the path through its block, if there is one, merges with the one past it
-pub record ClosesIf (falls : Bool) (line contact at : ℕ) (front : List ProgramPoint) (entry : ProgramPoint) (old new : Work) : Type 0 where
-  pub lines : new.lines.items ≡ slice_set old.lines.items at (line_of_instr line (Test contact (length old.lines.items)))
+pub record ClosesIf (falls : Bool) (line : ℕ) (condition : Condition) (at : ℕ) (front : List ProgramPoint) (entry : ProgramPoint) (old new : Work) : Type 0 where
+  pub lines : new.lines.items ≡ slice_set old.lines.items at (line_of_instr line (test_of condition (length old.lines.items)))
   pub unpriced : new.unpriced.items ≡ old.unpriced.items
   pub saved : new.saved.items ≡ front
   pub met : meet (way falls old) (Some entry) ≡ Some new.now
@@ -88,10 +90,10 @@ abbrev pub jumping : Bool → ℕ → ℕ → Work → List PlacedInstr
 jumping falls line r w = onward (way falls w) [] (alone line (Jump 0) r)
 
 -- a first branch ends, and the second one begins with what was known before both
-pub record StartsElse (falls : Bool) (line r contact at : ℕ) (front : List ProgramPoint) (entry : ProgramPoint) (old new : Work) : Type 0 where
+pub record StartsElse (falls : Bool) (line r : ℕ) (condition : Condition) (at : ℕ) (front : List ProgramPoint) (entry : ProgramPoint) (old new : Work) : Type 0 where
   pub lines :
       new.lines.items ≡ slice_set (old.lines.items ++ lines_of_placed (jumping falls line r old)) at
-      (line_of_instr line (Test contact (length (old.lines.items ++ lines_of_placed (jumping falls line r old)))))
+      (line_of_instr line (test_of condition (length (old.lines.items ++ lines_of_placed (jumping falls line r old)))))
   pub unpriced : new.unpriced.items ≡ old.unpriced.items ++ unpriced_labels (length old.lines.items) (jumping falls line r old)
   pub now : new.now ≡ at_label entry.flow
   pub saved : new.saved.items ≡ front ++ points_of (way falls old)

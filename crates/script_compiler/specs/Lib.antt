@@ -1,4 +1,5 @@
 pub mod Scheme
+pub mod Alternatives
 pub mod Judged
 pub mod Need
 pub mod Compiled

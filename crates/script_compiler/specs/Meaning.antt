@@ -7,11 +7,11 @@ use Rattle.plan_code.specs.declared.flags.Contacts.{Contacts}
 use Rattle.plan_code.specs.declared.hold.Hold.{Hold}
 use Rattle.plan_code.specs.declared.hold.Hold.TheVariants.{Running}
 use Rattle.plan_code.specs.declared.instr.Instr.{Instr}
-use Rattle.plan_code.specs.declared.instr.Instr.TheVariants.{End, Edit as DoesEdit, Wait as DoesWait, WaitContact as DoesWaitContact, Until as DoesUntil, CommitIn as DoesCommitIn, CommitAt as DoesCommitAt, Join as DoesJoin, Settle as DoesSettle}
+use Rattle.plan_code.specs.declared.instr.Instr.TheVariants.{End, Edit as DoesEdit, Wait as DoesWait, WaitContact as DoesWaitContact, Until as DoesUntil, WaitAny as DoesWaitAny, CommitIn as DoesCommitIn, CommitAt as DoesCommitAt, Join as DoesJoin, Settle as DoesSettle}
 use Rattle.plan_code.specs.declared.plan.Plan.{Plan}
 use Rattle.plan_code.specs.Flags.{is_closed, with_contact}
 use Rattle.plan_code.specs.Program.{Program, IsProgram}
-use Rattle.plan_code.specs.Machine.{State, effect, IsAllowed}
+use Rattle.plan_code.specs.Machine.{State, effect, is_in_window, IsAllowed}
 use Rattle.plan_verifier.specs.Typing.{IsTyped}
 use Rattle.plan_runs.specs.declared.event.Event.{Event}
 use Rattle.plan_runs.specs.declared.event.Event.TheVariants.{Contact, Frame}
@@ -19,10 +19,14 @@ use Rattle.plan_runs.specs.declared.event.Start.{Start}
 use Rattle.plan_runs.specs.Frames.{is_running, ready, with_next_counts}
 use Rattle.plan_runs.specs.Runs.{StartIsInRange, IsEvent, IsStart, run}
 use Rattle.script_front.specs.declared.tree.Act.{Act}
-use Rattle.script_front.specs.declared.tree.Act.TheVariants.{Edit, Wait, WaitContact, Until, CommitIn, CommitAt, Join, Settle}
+use Rattle.script_front.specs.declared.tree.Act.TheVariants.{Edit, Wait, WaitContact, Until, WaitAny, CommitIn, CommitAt, Join, Settle}
+use Rattle.script_front.specs.declared.tree.Condition.{Condition}
+use Rattle.script_front.specs.declared.tree.Condition.TheVariants.{Contact as IfContact, Time as IfTime}
 use Rattle.script_front.specs.Block.{Block, nothing, basic, stop, when, either, repeat, forever, apply}
 use Rattle.script_front.specs.Times.{frame_at}
+use Rattle.script_front.specs.Waits.{moment_frame}
 use Rattle.script_front.specs.Tree.{Tree}
+use Rattle.script_compiler.specs.Alternatives.{contacts_in, moment_in, frames_in}
 use Rattle.script_compiler.specs.Compiled.{IsCodeOf, body_of, opening_of}
 
 -- ---- the state of a script
@@ -86,7 +90,8 @@ abbrev pub acts_as : Act → Instr
 acts_as (Edit edit) = DoesEdit edit
 acts_as (Wait frames) = DoesWait frames
 acts_as (WaitContact contact closed) = DoesWaitContact contact closed
-acts_as (Until second) = DoesUntil (frame_at second)
+acts_as (Until moment) = DoesUntil (moment_frame moment)
+acts_as (WaitAny all) = DoesWaitAny (contacts_in true all) (contacts_in false all) (moment_in all) (frames_in all)
 acts_as (CommitIn delay) = DoesCommitIn delay
 acts_as (CommitAt count) = DoesCommitAt count
 acts_as Join = DoesJoin
@@ -96,13 +101,18 @@ acts_as Settle = DoesSettle
 abbrev pub acts : Plan → Instr → Scene → Scene
 acts plan i x = scene_of (effect plan i (state_of_scene x))
 
+-- whether the condition of an `if` holds: the contact is closed, or the frame of the day is in the window
+abbrev pub holds : Condition → Scene → Bool
+holds (IfContact contact) x = is_closed x.contacts contact
+holds (IfTime from to) x = is_in_window (frame_at from) (frame_at to) x.day
+
 -- the statements of one block, then those of another
 abbrev pub followed : Block → Block → Block
 followed nothing more = more
 followed (basic line act rest) more = basic line act (followed rest more)
 followed (stop line rest) more = stop line (followed rest more)
-followed (when line contact first rest) more = when line contact first (followed rest more)
-followed (either line contact first second rest) more = either line contact first second (followed rest more)
+followed (when line condition first rest) more = when line condition first (followed rest more)
+followed (either line condition first second rest) more = either line condition first second (followed rest more)
 followed (repeat line times body rest) more = repeat line times body (followed rest more)
 followed (forever line body rest) more = forever line body (followed rest more)
 followed (apply line number named rest) more = apply line number named (followed rest more)
@@ -113,10 +123,10 @@ abbrev pub first_done : Plan → Block → Scene → Reading
 first_done plan nothing x = reading nothing (acts plan End x)
 first_done plan (stop line rest) x = reading nothing (acts plan End x)
 first_done plan (basic line act rest) x = reading rest (acts plan (acts_as act) x)
-first_done plan (when line contact first rest) x =
-    reading (if is_closed x.contacts contact then followed first rest else rest) x
-first_done plan (either line contact first second rest) x =
-    reading (if is_closed x.contacts contact then followed first rest else followed second rest) x
+first_done plan (when line condition first rest) x =
+    reading (if holds condition x then followed first rest else rest) x
+first_done plan (either line condition first second rest) x =
+    reading (if holds condition x then followed first rest else followed second rest) x
 first_done plan (repeat line zero body rest) x = reading rest x
 first_done plan (repeat line (suc times) body rest) x = reading (followed body (repeat line times body rest)) x
 first_done plan (forever line body rest) x = reading (followed body (forever line body rest)) x

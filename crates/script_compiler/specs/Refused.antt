@@ -25,8 +25,8 @@ abbrev pub IsLine : Block → ℕ → Type 0
 IsLine nothing line = ⊥
 IsLine (basic at act rest) line = at ≡ line
 IsLine (stop at rest) line = at ≡ line
-IsLine (when at contact first rest) line = at ≡ line
-IsLine (either at contact first second rest) line = at ≡ line
+IsLine (when at condition first rest) line = at ≡ line
+IsLine (either at condition first second rest) line = at ≡ line
 IsLine (repeat at times body rest) line = at ≡ line
 IsLine (forever at body rest) line = at ≡ line
 IsLine (apply at number named rest) line = at ≡ line
@@ -36,8 +36,8 @@ abbrev pub IsUnreached : Block → ℕ → Cause → Type 0
 IsUnreached nothing at given = ⊥
 IsUnreached (basic line act rest) at given = (at ≡ line) × (given ≡ Table)
 IsUnreached (stop line rest) at given = (at ≡ line) × (given ≡ Table)
-IsUnreached (when line contact first rest) at given = (at ≡ line) × (given ≡ Table)
-IsUnreached (either line contact first second rest) at given = (at ≡ line) × (given ≡ Table)
+IsUnreached (when line condition first rest) at given = (at ≡ line) × (given ≡ Table)
+IsUnreached (either line condition first second rest) at given = (at ≡ line) × (given ≡ Table)
 IsUnreached (repeat line times body rest) at given = (at ≡ line) × (given ≡ Table)
 IsUnreached (forever line body rest) at given = (at ≡ line) × (given ≡ Table)
 IsUnreached (apply line number named rest) at given = (at ≡ line) × (given ≡ Table)
@@ -59,14 +59,14 @@ IsRefusedIn plan (basic line act rest) s at given =
     ⊎ (IsFine plan (instr_of_act act) (known_at s.flow)
     × IsRefusedIn plan rest (without_label (after_instr plan (instr_of_act act) s.flow)) at given)
 IsRefusedIn plan (stop line rest) s at given = IsUnreached rest at given
-IsRefusedIn plan (when line contact first rest) s at given =
+IsRefusedIn plan (when line condition first rest) s at given =
     let a = point_after plan first (without_label s.flow) in
     IsRefusedIn plan first (without_label s.flow) at given
     ⊎ (IsJudged plan first (without_label s.flow)
     × (IsMismatch line (WaysAgree a (Some s)) at given
     ⊎ (WaysAgree a (Some s)
     × IsRefusedAfter (meet a (Some s)) rest (λ u. IsRefusedIn plan rest u at given) at given)))
-IsRefusedIn plan (either line contact first second rest) s at given =
+IsRefusedIn plan (either line condition first second rest) s at given =
     let a = point_after plan first (without_label s.flow) in
     let b = point_after plan second (at_label s.flow) in
     IsRefusedIn plan first (without_label s.flow) at given

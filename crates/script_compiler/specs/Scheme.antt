@@ -2,12 +2,13 @@
 use Rattle.std.specs.Prelude.{ℕ, ◌+◌, Bool, true, false, if◌then◌else◌, ◌&&◌, ◌||◌, List, [], ◌∷◌, ◌++◌, length, Option, Some, None}
 use Rattle.plan_code.specs.declared.plan.Plan.{Plan}
 use Rattle.plan_code.specs.declared.instr.Instr.{Instr}
-use Rattle.plan_code.specs.declared.instr.Instr.TheVariants.{Wait, Until, WaitContact, CommitIn, CommitAt, Join, Settle, End, Edit, Test, Jump, Set, Loop}
+use Rattle.plan_code.specs.declared.instr.Instr.TheVariants.{Wait, Until, WaitContact, WaitAny, CommitIn, CommitAt, Join, Settle, End, Edit, Jump, Set, Loop}
 use Rattle.plan_flow.specs.Flows.{Flow, after_instr, merged}
 use Rattle.script_front.specs.declared.tree.Act.{Act}
-use Rattle.script_front.specs.declared.tree.Act.TheVariants.{Edit as Edits, Wait as Waits, WaitContact as WaitsContact, Until as WaitsUntil, CommitIn as CommitsIn, CommitAt as CommitsAt, Join as Joins, Settle as Settles}
+use Rattle.script_front.specs.declared.tree.Act.TheVariants.{Edit as Edits, Wait as Waits, WaitContact as WaitsContact, Until as WaitsUntil, WaitAny as WaitsAny, CommitIn as CommitsIn, CommitAt as CommitsAt, Join as Joins, Settle as Settles}
 use Rattle.script_front.specs.Block.{Block, nothing, basic, stop, when, either, repeat, forever, apply}
-use Rattle.script_front.specs.Times.{frame_at}
+use Rattle.script_front.specs.Waits.{moment_frame}
+use Rattle.script_compiler.specs.Alternatives.{contacts_in, moment_in, frames_in, test_of}
 use Rattle.script_compiler.specs.declared.flow.UnpricedLabel.{UnpricedLabel}
 use Rattle.script_compiler.specs.declared.flow.ProgramPoint.{ProgramPoint}
 
@@ -44,7 +45,8 @@ abbrev pub instr_of_act : Act → Instr
 instr_of_act (Edits edit) = Edit edit
 instr_of_act (Waits frames) = Wait frames
 instr_of_act (WaitsContact contact closed) = WaitContact contact closed
-instr_of_act (WaitsUntil second) = Until (frame_at second)
+instr_of_act (WaitsUntil moment) = Until (moment_frame moment)
+instr_of_act (WaitsAny all) = WaitAny (contacts_in true all) (contacts_in false all) (moment_in all) (frames_in all)
 instr_of_act (CommitsIn delay) = CommitIn delay
 instr_of_act (CommitsAt count) = CommitAt count
 instr_of_act Joins = Join
@@ -55,8 +57,8 @@ abbrev pub falls_out : Block → Bool
 falls_out nothing = true
 falls_out (basic line act rest) = falls_out rest
 falls_out (stop line rest) = false
-falls_out (when line contact first rest) = falls_out rest
-falls_out (either line contact first second rest) = (falls_out first || falls_out second) && falls_out rest
+falls_out (when line condition first rest) = falls_out rest
+falls_out (either line condition first second rest) = (falls_out first || falls_out second) && falls_out rest
 falls_out (repeat line times body rest) = falls_out body && falls_out rest
 falls_out (forever line body rest) = false
 falls_out (apply line number named rest) = falls_out named && falls_out rest
@@ -70,9 +72,9 @@ abbrev pub point_after : Plan → Block → ProgramPoint → Option ProgramPoint
 point_after plan nothing s = Some s
 point_after plan (basic line act rest) s = point_after plan rest (without_label (after_instr plan (instr_of_act act) s.flow))
 point_after plan (stop line rest) s = None
-point_after plan (when line contact first rest) s =
+point_after plan (when line condition first rest) s =
     onward (meet (point_after plan first (without_label s.flow)) (Some s)) None (λ u. point_after plan rest u)
-point_after plan (either line contact first second rest) s =
+point_after plan (either line condition first second rest) s =
     onward (join (point_after plan first (without_label s.flow)) (point_after plan second (at_label s.flow))) None (λ u. point_after plan rest u)
 point_after plan (repeat line times body rest) s =
     onward (point_after plan body (head body (without_label s.flow))) None (λ u. point_after plan rest (without_label u.flow))
@@ -98,18 +100,18 @@ places plan r pc nothing s = []
 places plan r pc (basic line act rest) s =
     placed_instr line (instr_of_act act) r s ∷ places plan r (pc + 1) rest (without_label (after_instr plan (instr_of_act act) s.flow))
 places plan r pc (stop line rest) s = placed_instr line End r s ∷ []
-places plan r pc (when line contact first rest) s =
+places plan r pc (when line condition first rest) s =
     let firsts = places plan r (pc + 1) first (without_label s.flow) in
     let end = pc + 1 + length firsts in
-    placed_instr line (Test contact end) r s
+    placed_instr line (test_of condition end) r s
     ∷ (firsts ++ onward (meet (point_after plan first (without_label s.flow)) (Some s)) [] (λ u. places plan r end rest u))
-places plan r pc (either line contact first second rest) s =
+places plan r pc (either line condition first second rest) s =
     let firsts = places plan r (pc + 1) first (without_label s.flow) in
     let leaving = point_after plan first (without_label s.flow) in
     let start = pc + 1 + length firsts + (if falls_out first then 1 else 0) in
     let seconds = places plan r start second (at_label s.flow) in
     let end = start + length seconds in
-    placed_instr line (Test contact start) r s
+    placed_instr line (test_of condition start) r s
     ∷ (firsts ++ (onward leaving [] (alone line (Jump end) r) ++ (seconds
     ++ onward (join leaving (point_after plan second (at_label s.flow))) [] (λ u. places plan r end rest u))))
 places plan r pc (repeat line times body rest) s =

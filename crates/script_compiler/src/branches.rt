@@ -4,6 +4,7 @@ ghost use Rattle.std.specs.Prelude.{◌≡◌, ℕ, ◌+◌, ◌<◌, true, if�
 ghost use Rattle.plan_code.specs.declared.instr.Instr.{Instr};
 ghost use Rattle.script_compiler.specs.declared.flow.ProgramPoint.{ProgramPoint};
 ghost use Rattle.script_compiler.specs.Scheme.{PlacedInstr, alone, onward, meet, join, unpriced_labels};
+ghost use Rattle.script_compiler.specs.Alternatives.{test_of};
 ghost use Rattle.script_compiler.specs.Judged.{WaysAgree, BranchesAgree, FitsEntry};
 ghost use Rattle.script_compiler.specs.Compiled.{lines_of_placed};
 ghost use Rattle.script_compiler.specs.Pool.{Extends, IsInPool, point_in};
@@ -12,16 +13,18 @@ ghost use Rattle.script_compiler.specs.Space.{HasSpace, LacksSpace, IsInLimits, 
 ghost use Rattle.script_compiler.specs.Emission.{Forks, ClosesIf, StartsElse, ClosesLoop, IsAfterBranches, jumping, way, points_of};
 
 use crate::fault::CompileFault;
+use crate::instructions::test_of;
 use crate::refusal::refused;
 use crate::short::IndexedPoint;
 use crate::work::Work;
-use plan_code::{ContactId, Instr};
+use plan_code::Instr;
 use plan_flow::Cause;
+use script_front::Condition;
 
 impl Work {
     /// Emits a forward jump whose target is patched later, and saves what is known before it.
     #[inline(never)]
-    pub(crate) fn fork(&mut self, line: u16, counters: u8, instr: Instr) -> Result<(), CompileFault>
+    fn fork(&mut self, line: u16, counters: u8, instr: Instr) -> Result<(), CompileFault>
         requires limits { IsInLimits self.old }
         ensures forks { OnOk result (Forks line instr counters self.old self.new) }
         ensures pool { Extends self.old.pool self.new.pool }
@@ -33,6 +36,24 @@ impl Work {
             return Err(fault);
         }
         self.put(line, counters, instr)
+    }
+
+    /// Emits the test of a condition, which jumps where it does not hold, and saves what is known before it.
+    #[inline(never)]
+    pub(crate) fn fork_if(
+        &mut self,
+        line: u16,
+        counters: u8,
+        condition: Condition,
+    ) -> Result<(), CompileFault>
+        requires limits { IsInLimits self.old }
+        ensures forks { OnOk result (Forks line (test_of condition 0) counters self.old self.new) }
+        ensures pool { Extends self.old.pool self.new.pool }
+        ensures limits { OnOk result (IsInLimits self.new) }
+        ensures limited { IfErr result (λ e. IsLimitAt line
+            (λ limit. LacksSpace limit self.old) e) }
+    {
+        self.fork(line, counters, test_of(condition, 0))
     }
 
     /// Starts a loop: saves what is known at its head, which gets a label if control reaches the end of the body.
@@ -128,7 +149,7 @@ impl Work {
         &mut self,
         falls: bool,
         line: u16,
-        contact: ContactId,
+        condition: Condition,
         at: usize,
     ) -> Result<bool, CompileFault>
         requires saved { 0 < length self.old.saved.items }
@@ -137,7 +158,7 @@ impl Work {
         ensures is_reached { IfOk result (λ f. f ≡ true) }
         ensures closes { OnOk result ((front : List ProgramPoint) (entry : ProgramPoint)
             → self.old.saved.items ≡ front
-            ++ entry ∷ [] → ClosesIf falls line contact at front entry self.old self.new) }
+            ++ entry ∷ [] → ClosesIf falls line condition at front entry self.old self.new) }
         ensures refused { IfErr result (λ e. IfMismatchAt line ((front : List ProgramPoint)
             (entry : ProgramPoint) → self.old.saved.items ≡ front ++ entry ∷ []
             → WaysAgree (way falls self.old) (Some entry) → ⊥) e) }
@@ -149,7 +170,7 @@ impl Work {
     {
         let entry = self.restore();
         let target = self.len() as u16;
-        self.patch(at, line, Instr::Test { contact, target });
+        self.patch(at, line, test_of(condition, target));
         if let Err(fault) = self.join(falls, line, &entry) {
             return Err(fault);
         }
@@ -186,7 +207,7 @@ impl Work {
         falls: bool,
         line: u16,
         counters: u8,
-        contact: ContactId,
+        condition: Condition,
         at: usize,
     ) -> Result<(), CompileFault>
         requires saved { 0 < length self.old.saved.items }
@@ -194,7 +215,7 @@ impl Work {
         requires limits { IsInLimits self.old }
         ensures starts_else { OnOk result ((front : List ProgramPoint) (entry : ProgramPoint) →
             self.old.saved.items ≡ front ++ entry ∷ []
-            → StartsElse falls line counters contact at front
+            → StartsElse falls line counters condition at front
             entry self.old self.new) }
         ensures limits { OnOk result (IsInLimits self.new) }
         ensures limited { IfErr result (λ e. IsLimitAt line (λ limit. (front : List ProgramPoint)
@@ -207,7 +228,7 @@ impl Work {
             return Err(fault);
         }
         let target = self.len() as u16;
-        self.patch(at, line, Instr::Test { contact, target });
+        self.patch(at, line, test_of(condition, target));
         self.take(&entry);
         self.unpriced_label(line)
     }

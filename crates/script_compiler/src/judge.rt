@@ -9,6 +9,7 @@ ghost use Rattle.script_compiler.specs.Scheme.{instr_of_act};
 ghost use Rattle.script_compiler.specs.Refusals.{IsRefusedAs};
 
 use crate::fault::CompileFault;
+use crate::instructions::wait_any;
 use crate::refusal::refused;
 use mux_tables::Tables;
 use plan_code::{Instr, Plan};
@@ -23,7 +24,8 @@ pub fn instr_of(act: Act) -> Instr
         Act::Edit(edit) => Instr::Edit(edit),
         Act::Wait(frames) => Instr::Wait(frames),
         Act::WaitContact { contact, closed } => Instr::WaitContact { contact, closed },
-        Act::Until(time) => Instr::Until(time.frame()),
+        Act::Until(moment) => Instr::Until(moment.frame()),
+        Act::WaitAny(alternatives) => wait_any(alternatives.as_slice()),
         Act::CommitIn(delay) => Instr::CommitIn(delay),
         Act::CommitAt(count) => Instr::CommitAt(count),
         Act::Join => Instr::Join,

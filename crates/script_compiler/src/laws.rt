@@ -1,5 +1,6 @@
 //! The laws of scripts and their codes. Each law is a function that does nothing; its contract is the law.
 
+ghost use Rattle.script_compiler.specs.Alternatives.{AlternativesAreKept};
 ghost use Rattle.script_compiler.specs.Compiled.{ScriptsHaveOneCode};
 ghost use Rattle.script_compiler.specs.FrameCosts.{LongestPathIsLeastBudget};
 ghost use Rattle.script_compiler.specs.Meaning.{ScenesSuffice, ScriptsPlayAsTheyRead};
@@ -14,6 +15,12 @@ pub fn codes()
 /// exactly if the budget is at least the number of the path's instructions.
 pub fn budgets()
     ensures { LongestPathIsLeastBudget }
+{}
+
+/// The law of alternatives: a contact is among those that the instruction of a wait awaits closed, or open, exactly if
+/// one of its alternatives is for that contact and that level.
+pub fn alternatives()
+    ensures { AlternativesAreKept }
 {}
 
 /// The law of scenes: how a frame and a statement change the configurations, the swap, the contacts, the counts and the

@@ -10,9 +10,9 @@ use crate::falls::all_fall;
 use crate::fault::{CodeLimit, CompileFault};
 use crate::refusal::refused;
 use crate::work::Work;
-use plan_code::{ContactId, CounterId, Instr, Times};
+use plan_code::{CounterId, Instr, Times};
 use plan_flow::Cause;
-use script_front::Statement;
+use script_front::{Condition, Statement};
 
 /// The line of a statement's first token, 1 to 65,535.
 pub fn line_of(statement: &Statement) -> u16
@@ -69,15 +69,15 @@ impl Work {
             }
             Statement::If {
                 line,
-                contact,
+                condition,
                 first,
-            } => self.when(context, *line, *contact, first),
+            } => self.when(context, *line, condition, first),
             Statement::IfElse {
                 line,
-                contact,
+                condition,
                 first,
                 second,
-            } => self.either(context, *line, *contact, first, second),
+            } => self.either(context, *line, condition, first, second),
             Statement::Repeat { line, times, body } => self.repeat(context, *line, *times, body),
             Statement::Forever { line, body } => self.forever(context, *line, body),
             Statement::Apply { block, .. } => {
@@ -104,23 +104,23 @@ impl Work {
         &mut self,
         context: Context,
         line: u16,
-        contact: ContactId,
+        condition: &Condition,
         first: &[Statement],
     ) -> Result<bool, CompileFault>
         requires { CanCompile context self.old }
         ensures { (rest : Block) → Compiles context.entry
-            (when line contact (block_in context.entry first.now) rest) rest
+            (when line condition.now (block_in context.entry first.now) rest) rest
             self.old self.new result }
     {
         let at = self.len();
-        if let Err(fault) = self.fork(line, context.counters, Instr::Test { contact, target: 0 }) {
+        if let Err(fault) = self.fork_if(line, context.counters, *condition) {
             return Err(fault);
         }
         let falls = match self.block(context, first) {
             Ok(falls) => falls,
             Err(fault) => return Err(fault),
         };
-        self.close_if(falls, line, contact, at)
+        self.close_if(falls, line, *condition, at)
     }
 
     /// Compiles an `if` with `else`.
@@ -129,17 +129,17 @@ impl Work {
         &mut self,
         context: Context,
         line: u16,
-        contact: ContactId,
+        condition: &Condition,
         first: &[Statement],
         second: &[Statement],
     ) -> Result<bool, CompileFault>
         requires { CanCompile context self.old }
         ensures { (rest : Block) → Compiles context.entry
-            (either line contact (block_in context.entry first.now)
+            (either line condition.now (block_in context.entry first.now)
             (block_in context.entry second.now) rest) rest self.old self.new result }
     {
         let at = self.len();
-        if let Err(fault) = self.fork(line, context.counters, Instr::Test { contact, target: 0 }) {
+        if let Err(fault) = self.fork_if(line, context.counters, *condition) {
             return Err(fault);
         }
         let first_falls = match self.block(context, first) {
@@ -147,7 +147,7 @@ impl Work {
             Err(fault) => return Err(fault),
         };
         let jump = self.len();
-        if let Err(fault) = self.start_else(first_falls, line, context.counters, contact, at) {
+        if let Err(fault) = self.start_else(first_falls, line, context.counters, *condition, at) {
             return Err(fault);
         }
         let second_falls = match self.block(context, second) {

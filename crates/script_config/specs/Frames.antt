@@ -2,7 +2,7 @@
 use Rattle.std.specs.Prelude.{ℕ, ◌-◌, ◌≤◌, Bool, true, false, if◌then◌else◌, List, [], ◌∷◌}
 use Rattle.mux_config.specs.declared.edit.Edit.{Edit}
 use Rattle.script_front.specs.declared.tree.Act.{Act}
-use Rattle.script_front.specs.declared.tree.Act.TheVariants.{Edit as Edits, Wait, WaitContact, Until, Join}
+use Rattle.script_front.specs.declared.tree.Act.TheVariants.{Edit as Edits, Wait, WaitContact, Until, WaitAny, Join}
 
 -- the edits among acts, in order
 abbrev pub edits_in : List Act → List Edit
@@ -14,7 +14,8 @@ edits_in (_ ∷ acts) = edits_in acts
 abbrev pub ends_frame : Act → Bool
 ends_frame (Wait frames) = true
 ends_frame (WaitContact contact closed) = true
-ends_frame (Until second) = true
+ends_frame (Until moment) = true
+ends_frame (WaitAny alternatives) = true
 ends_frame Join = true
 ends_frame _ = false
 

@@ -1,7 +1,7 @@
 -- The printed lines of a script have its tokens.
 use Rattle.std.proofs.Common.{◌≡◌, ℕ, suc, ◌+◌, ◌-◌, ◌<◌, ◌≤◌, Bool, true, false, List, [], ◌∷◌, ◌++◌, length, refl, sym, ap, ◌∙◌, append_assoc, subst, arith}
 use Rattle.std.specs.Fmt.{decimal}
-use Rattle.std.specs.List.{All}
+use Rattle.std.specs.List.{All, AllByRecursion}
 use Rattle.mux_config.specs.declared.edit.Edit.{Edit}
 use Rattle.mux_config.specs.declared.edit.Edit.TheVariants.{AddSub, DropSub, MoveSub, RateSub, AddService, DropService, AddComponent, DropComponent, AddPacket, DropPacket}
 use Rattle.mux_types.specs.declared.parts.Carrier.{Carrier}
@@ -17,18 +17,25 @@ use Rattle.fib_codec.specs.declared.modes.Mode.{Mode}
 use Rattle.fib_codec.specs.declared.modes.Mode.TheVariants.{I, II, III, IV}
 use Rattle.plan_code.specs.Program.{IsEdit, IsCarrier}
 use Rattle.script_front.specs.declared.tree.Act.{Act}
-use Rattle.script_front.specs.declared.tree.Act.TheVariants.{Edit as Edits, Wait, WaitContact, Until, CommitIn, CommitAt, Join, Settle}
+use Rattle.script_front.specs.declared.tree.Condition.{Condition}
+use Rattle.script_front.specs.declared.tree.Condition.TheVariants.{Contact, Time}
+use Rattle.script_front.specs.declared.moment.MomentForm.{MomentForm as Moment}
+use Rattle.script_front.specs.declared.moment.MomentForm.TheVariants.{At, Early}
+use Rattle.script_front.specs.declared.alternatives.Alternative.{Alternative}
+use Rattle.script_front.specs.declared.alternatives.Alternative.TheVariants.{Contact as OfContact, Until as OfMoment, Frames as OfFrames}
+use Rattle.script_front.specs.Waits.{IsMoment, IsAlternative}
+use Rattle.script_front.specs.declared.tree.Act.TheVariants.{Edit as Edits, Wait, WaitContact, Until, WaitAny, CommitIn, CommitAt, Join, Settle}
 use Rattle.plan_code.specs.declared.plan.Plan.{Plan}
 use Rattle.script_front.specs.declared.tree.Item.{Item}
 use Rattle.script_front.specs.declared.tree.Statement.{Statement}
 use Rattle.script_tokens.specs.declared.keyword.Keyword.TheVariants as the
 use Rattle.script_tokens.specs.Keywords.{letters, IsName}
 use Rattle.script_front.specs.Block.{Block, nothing, basic, stop, when, either, repeat, forever, apply, block_of}
-use Rattle.script_front.specs.Tree.{Tree, IsAct, IsItem, IsScript, IsInBounds, AllFit}
+use Rattle.script_front.specs.Tree.{Tree, IsAct, IsCondition, IsItem, IsScript, IsInBounds, AllFit}
 use Rattle.plan_code.specs.Program.{IsPlan}
 use Rattle.script_tokens.specs.Spelling.{hex_text, level_text}
-use Rattle.script_front.specs.Spelled.{carrier_lexemes, within_lexemes, groups_text, edit_lexemes, act_lexemes, name_at, block_lexemes, mode_lexemes, reserve_lexemes, limits_lexemes, header_lexemes, items_lexemes, defined_lexemes, tree_lexemes}
-use Rattle.script_front.specs.Printing.{Line, line, text_of_lines, closing, block_lines, header_lines, items_lines, defined_lines, tree_lines}
+use Rattle.script_front.specs.Spelled.{carrier_lexemes, within_lexemes, groups_text, edit_lexemes, moment_lexemes, alternative_lexemes, or_lexemes, alternatives_lexemes, act_lexemes, condition_lexemes, name_at, block_lexemes, mode_lexemes, reserve_lexemes, limits_lexemes, header_lexemes, items_lexemes, defined_lexemes, tree_lexemes}
+use Rattle.script_front.specs.Printing.{Line, line, text_of_lines, closing, if_lexemes, block_lines, header_lines, items_lines, defined_lines, tree_lines}
 use Rattle.script_front.specs.Denoting.{HasLexemes, Denotes}
 use Rattle.script_front.proofs.Lined.{IsLine, AreLines, all_words, lines_have}
 use Rattle.script_tokens.proofs.Wording.{IsWord, AreWords, decimal_word, hex_word_word, sid_word_word, profile_word_word, time_word_word, keyword_text, name_word}
@@ -72,11 +79,33 @@ level_are : (closed : Bool) → IsWord (level_text closed)
 level_are true = keyword_text the.Closed
 level_are false = keyword_text the.Open
 
+moment_are : (m : Moment) → IsMoment m → AreWords (moment_lexemes m)
+moment_are (At time) h = (time_word_word time h, tt)
+moment_are (Early time frames) h = (time_word_word time h.0, (keyword_text the.Early, (decimal_word frames (omega (arith, h.2)), tt)))
+
+alternative_are : (a : Alternative) → IsAlternative a → AreWords (alternative_lexemes a)
+alternative_are (OfContact contact closed) h = (keyword_text the.Contact, (decimal_word contact (omega (arith, h)), (level_are closed, tt)))
+alternative_are (OfMoment moment) h = (keyword_text the.Until, moment_are moment h)
+alternative_are (OfFrames frames) h = (decimal_word frames (omega (arith, h.1)), tt)
+
+or_are : (all : List Alternative) → AllByRecursion IsAlternative all → AreWords (or_lexemes all)
+or_are [] h = tt
+or_are (a ∷ others) h = (keyword_text the.Or, both_words (alternative_lexemes a) (or_lexemes others) (alternative_are a h.0) (or_are others h.1))
+
+alternatives_are : (all : List Alternative) → AllByRecursion IsAlternative all → AreWords (alternatives_lexemes all)
+alternatives_are [] h = tt
+alternatives_are (a ∷ others) h = both_words (alternative_lexemes a) (or_lexemes others) (alternative_are a h.0) (or_are others h.1)
+
+condition_are : (c : Condition) → IsCondition c → AreWords (condition_lexemes c)
+condition_are (Contact contact) h = (keyword_text the.Contact, (decimal_word contact (omega (arith, h)), tt))
+condition_are (Time from to) h = (keyword_text the.Time, (time_word_word from h.0, (keyword_text the.To, (time_word_word to h.1, tt))))
+
 act_are : (a : Act) → IsAct a → IsLine (act_lexemes a)
 act_are (Edits e) h = edit_are e h
 act_are (Wait frames) h = (keyword_text the.Wait, (decimal_word frames (omega (arith, h.1)), tt))
 act_are (WaitContact contact closed) h = (keyword_text the.Wait, (keyword_text the.Contact, (decimal_word contact (omega (arith, h)), (level_are closed, tt))))
-act_are (Until second) h = (keyword_text the.Until, (time_word_word second h, tt))
+act_are (Until moment) h = (keyword_text the.Until, moment_are moment h)
+act_are (WaitAny all) h = (keyword_text the.Wait, alternatives_are all h.each)
 act_are (CommitIn delay) h = (keyword_text the.Commit, (keyword_text the.In, (decimal_word delay (omega (arith, h.1)), tt)))
 act_are (CommitAt count) h = (keyword_text the.Commit, (keyword_text the.At, (decimal_word count (omega (arith, h)), tt)))
 act_are Join h = (keyword_text the.Join, tt)
@@ -98,12 +127,12 @@ block_are : (names : List (List ℕ)) (known depth d : ℕ) → known ≤ length
 block_are names known depth d le are nothing h = tt
 block_are names known depth d le are (basic n act rest) h = (act_are act h.0, block_are names known depth d le are rest h.1)
 block_are names known depth d le are (stop n rest) h = ((keyword_text the.End, tt), block_are names known depth d le are rest h)
-block_are names known depth d le are (when n contact first rest) h = (
-  (keyword_text the.If, (keyword_text the.Contact, (decimal_word contact (omega (arith, h.1)), (keyword_text the.OpenBrace, tt)))),
+block_are names known depth d le are (when n condition first rest) h = (
+  (keyword_text the.If, both_words (condition_lexemes condition) _ (condition_are condition h.1) (keyword_text the.OpenBrace, tt)),
   lines_both (block_lines names (d + 1) first) _ (block_are names known (depth - 1) (d + 1) le are first h.2) (closing_are d, block_are names known depth d le are rest h.3),
 )
-block_are names known depth d le are (either n contact first second rest) h = (
-  (keyword_text the.If, (keyword_text the.Contact, (decimal_word contact (omega (arith, h.1)), (keyword_text the.OpenBrace, tt)))),
+block_are names known depth d le are (either n condition first second rest) h = (
+  (keyword_text the.If, both_words (condition_lexemes condition) _ (condition_are condition h.1) (keyword_text the.OpenBrace, tt)),
   lines_both (block_lines names (d + 1) first) _ (block_are names known (depth - 1) (d + 1) le are first h.2) (
     (keyword_text the.CloseBrace, (keyword_text the.Else, (keyword_text the.OpenBrace, tt))),
     lines_both (block_lines names (d + 1) second) _ (block_are names known (depth - 1) (d + 1) le are second h.3) (closing_are d, block_are names known depth d le are rest h.4),
@@ -127,15 +156,20 @@ all_both (x ∷ xs) ys = ap (λ (ws : Spelled). x.lexemes ++ ws) (all_both xs ys
 body_all : (body rest : List Line) (b r : Spelled) (d : ℕ) → all_words body ≡ b → all_words rest ≡ r → all_words (body ++ closing d ∷ rest) ≡ b ++ letters the.CloseBrace ∷ r
 body_all body rest b r d e f = all_both body (closing d ∷ rest) ∙ ap (λ (ws : Spelled). ws ++ letters the.CloseBrace ∷ all_words rest) e ∙ ap (λ (ws : Spelled). b ++ letters the.CloseBrace ∷ ws) f
 
+-- the first line of `if`, and what follows it
+tested : (condition : Condition) (us ws : Spelled) → us ≡ ws → if_lexemes condition ++ us ≡ letters the.If ∷ (condition_lexemes condition ++ letters the.OpenBrace ∷ ws)
+tested condition us ws e =
+    ap (λ (ts : Spelled). letters the.If ∷ ts) (append_assoc (condition_lexemes condition) (letters the.OpenBrace ∷ []) us ∙ ap (λ (ts : Spelled). condition_lexemes condition ++ letters the.OpenBrace ∷ ts) e)
+
 block_all : (names : List (List ℕ)) (d : ℕ) (b : Block) → all_words (block_lines names d b) ≡ block_lexemes names b
 block_all names d nothing = refl
 block_all names d (basic n act rest) = ap (λ (ws : Spelled). act_lexemes act ++ ws) (block_all names d rest)
 block_all names d (stop n rest) = ap (λ (ws : Spelled). letters the.End ∷ ws) (block_all names d rest)
-block_all names d (when n contact first rest) =
-    ap (λ (ws : Spelled). letters the.If ∷ letters the.Contact ∷ decimal contact ∷ letters the.OpenBrace ∷ ws)
+block_all names d (when n condition first rest) =
+    tested condition _ _
     (body_all (block_lines names (d + 1) first) (block_lines names d rest) _ _ d (block_all names (d + 1) first) (block_all names d rest))
-block_all names d (either n contact first second rest) =
-    ap (λ (ws : Spelled). letters the.If ∷ letters the.Contact ∷ decimal contact ∷ letters the.OpenBrace ∷ ws)
+block_all names d (either n condition first second rest) =
+    tested condition _ _
     (all_both (block_lines names (d + 1) first) _ ∙ ap (λ (ws : Spelled). ws ++ letters the.CloseBrace ∷ letters the.Else ∷ letters the.OpenBrace ∷ all_words (block_lines names (d + 1) second ++ closing d ∷ block_lines names d rest)) (block_all names (d + 1) first)
     ∙ ap (λ (ws : Spelled). block_lexemes names first ++ letters the.CloseBrace ∷ letters the.Else ∷ letters the.OpenBrace ∷ ws)
     (body_all (block_lines names (d + 1) second) (block_lines names d rest) _ _ d (block_all names (d + 1) second) (block_all names d rest)))

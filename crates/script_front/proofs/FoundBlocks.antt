@@ -6,11 +6,15 @@ use Rattle.script_tokens.specs.declared.keyword.Keyword.{Keyword}
 use Rattle.script_tokens.specs.declared.keyword.Keyword.TheVariants as the
 use Rattle.script_tokens.specs.declared.first_keyword.StatementKeyword.TheVariants as statement
 use Rattle.script_tokens.specs.Reading.{is_next}
-use Rattle.script_front.specs.Readers.{act_from}
+use Rattle.script_front.specs.Readers.{act_from, condition_at}
+use Rattle.script_front.specs.declared.tree.Condition.{Condition}
+use Rattle.script_front.specs.Spelled.{condition_lexemes}
+use Rattle.script_front.specs.Tree.{IsCondition}
+use Rattle.script_front.proofs.ReadingWaits.{IsPast, condition_law}
 use Rattle.script_front.specs.BlockReader.{stops, open_at, body_at, applied_at, branch_at, statement_from, begun_at, block_at}
 use Rattle.script_front.proofs.Words.{unlined, Before, Block, apply, basic, before, block_of, either, forever, nothing, repeat, statement_step, stop, when, whole, Passage, Statements, put, BlockOn, act_lexemes, block_lexemes, braced, name_at, IsInBounds, counted, Act, Statement, other_next, keyword_again, statement_found, after_itself, next_itself, values_are_read, act_keyword, statement_keyword, statement_of, IsName, letters, Spelled, keyed, line_of, number_at, ActKeyword, StatementKeyword, bytes_eq-Decides, position_or_len, None, Some, position, bytes_eq}
 use Rattle.script_front.proofs.Readings.{act_first, act_rest, act_begins, act_law}
-use Rattle.script_front.proofs.ReadingBlocks.{not_zero, Names, Agree, passed, contact_law, times_law, braced_then}
+use Rattle.script_front.proofs.ReadingBlocks.{not_zero, Names, Agree, passed, times_law, braced_then}
 
 -- ---- names
 
@@ -53,11 +57,11 @@ abbrev pub lined : Names → List ℕ → Block → Spelled → Block
 lined names lines nothing after = nothing
 lined names lines (basic line act rest) after = basic (line_of lines (block_lexemes names (basic line act rest) ++ after)) act (lined names lines rest after)
 lined names lines (stop line rest) after = stop (line_of lines (block_lexemes names (stop line rest) ++ after)) (lined names lines rest after)
-lined names lines (when line contact first rest) after =
-    when (line_of lines (block_lexemes names (when line contact first rest) ++ after)) contact
+lined names lines (when line condition first rest) after =
+    when (line_of lines (block_lexemes names (when line condition first rest) ++ after)) condition
     (lined names lines first (letters the.CloseBrace ∷ (block_lexemes names rest ++ after))) (lined names lines rest after)
-lined names lines (either line contact first second rest) after =
-    either (line_of lines (block_lexemes names (either line contact first second rest) ++ after)) contact
+lined names lines (either line condition first second rest) after =
+    either (line_of lines (block_lexemes names (either line condition first second rest) ++ after)) condition
     (lined names lines first (letters the.CloseBrace ∷ letters the.Else ∷ (braced (block_lexemes names second) (block_lexemes names rest) ++ after)))
     (lined names lines second (letters the.CloseBrace ∷ (block_lexemes names rest ++ after))) (lined names lines rest after)
 lined names lines (repeat line times body rest) after =
@@ -74,9 +78,9 @@ pub lined_unlined : (names : Names) (lines : List ℕ) (b : Block) (after : Spel
 lined_unlined names lines nothing after = refl
 lined_unlined names lines (basic line act rest) after = let r = lined_unlined names lines rest after in cc
 lined_unlined names lines (stop line rest) after = let r = lined_unlined names lines rest after in cc
-lined_unlined names lines (when line contact first rest) after =
+lined_unlined names lines (when line condition first rest) after =
     let a = lined_unlined names lines first (letters the.CloseBrace ∷ (block_lexemes names rest ++ after)) in let r = lined_unlined names lines rest after in cc
-lined_unlined names lines (either line contact first second rest) after =
+lined_unlined names lines (either line condition first second rest) after =
     let a = lined_unlined names lines first (letters the.CloseBrace ∷ letters the.Else ∷ (braced (block_lexemes names second) (block_lexemes names rest) ++ after)) in
     let b = lined_unlined names lines second (letters the.CloseBrace ∷ (block_lexemes names rest ++ after)) in let r = lined_unlined names lines rest after in cc
 lined_unlined names lines (repeat line times body rest) after =
@@ -90,8 +94,8 @@ abbrev pub IsPlain : Block → Type 0
 IsPlain nothing = Unit {0}
 IsPlain (basic line act rest) = IsPlain rest
 IsPlain (stop line rest) = IsPlain rest
-IsPlain (when line contact first rest) = IsPlain first × IsPlain rest
-IsPlain (either line contact first second rest) = IsPlain first × IsPlain second × IsPlain rest
+IsPlain (when line condition first rest) = IsPlain first × IsPlain rest
+IsPlain (either line condition first second rest) = IsPlain first × IsPlain second × IsPlain rest
 IsPlain (repeat line times body rest) = IsPlain body × IsPlain rest
 IsPlain (forever line body rest) = IsPlain body × IsPlain rest
 IsPlain (apply line number named rest) = (named ≡ nothing) × IsPlain rest
@@ -101,9 +105,9 @@ pub lined_is : (names : Names) (lines : List ℕ) (b : Block) (after : Spelled) 
 lined_is names lines nothing after p o = refl
 lined_is names lines (basic line act rest) after p o = let r = lined_is names lines rest after p o.1 in let l = o.0 in cc
 lined_is names lines (stop line rest) after p o = let r = lined_is names lines rest after p o.1 in let l = o.0 in cc
-lined_is names lines (when line contact first rest) after p o =
+lined_is names lines (when line condition first rest) after p o =
     let a = lined_is names lines first _ p.0 o.1 in let r = lined_is names lines rest after p.1 o.2 in let l = o.0 in cc
-lined_is names lines (either line contact first second rest) after p o =
+lined_is names lines (either line condition first second rest) after p o =
     let a = lined_is names lines first _ p.0 o.1 in let b = lined_is names lines second _ p.1 o.2 in let r = lined_is names lines rest after p.2 o.3 in let l = o.0 in cc
 lined_is names lines (repeat line times body rest) after p o =
     let a = lined_is names lines body _ p.0 o.1 in let r = lined_is names lines rest after p.1 o.2 in let l = o.0 in cc
@@ -127,8 +131,8 @@ layer_plain : (y : Statement-F ((s : Statement) × IsPlainStatement s))
     → StaysPlain (statement_step [] (map-Statement Statement Before (before []) (map-Statement ((s : Statement) × IsPlainStatement s) Statement (λ e. e.0) y)))
 layer_plain (Statement-F.Act line act) rest h = h
 layer_plain (Statement-F.End line) rest h = h
-layer_plain (Statement-F.If line contact first) rest h = (whole_plain first.items, h)
-layer_plain (Statement-F.IfElse line contact first second) rest h = (whole_plain first.items, whole_plain second.items, h)
+layer_plain (Statement-F.If line condition first) rest h = (whole_plain first.items, h)
+layer_plain (Statement-F.IfElse line condition first second) rest h = (whole_plain first.items, whole_plain second.items, h)
 layer_plain (Statement-F.Repeat line times body) rest h = (whole_plain body.items, h)
 layer_plain (Statement-F.Forever line body) rest h = (whole_plain body.items, h)
 layer_plain (Statement-F.Apply line block) rest h = (refl, h)
@@ -159,24 +163,31 @@ body_found : (go : Statements) (depth left mid : ℕ) (b : Block) (body rest : S
 unfolding body_at open_at
 body_found go depth left mid b body rest room e = rw (not_zero depth room, after_itself the.OpenBrace (body ++ letters the.CloseBrace ∷ rest), e, after_itself the.CloseBrace rest) refl
 
--- tokens that end here begin no `else`
-ends_so : (ws : Spelled) → stops ws ≡ true → is_next the.Else ws ≡ false
+-- tokens that end here do not begin with a keyword that begins no statement
+ends_so : (j : Keyword) (ws : Spelled) → (the.CloseBrace ≡ j → ⊥) → stops ws ≡ true → is_next j ws ≡ false
 unfolding stops is_next
-ends_so [] h = refl
-ends_so (w ∷ ws) h = let is = (bytes_eq-Decides w (letters the.CloseBrace)).0 h in rw (is) (other_next the.CloseBrace the.Else ws (λ e. cc))
+ends_so j [] other h = refl
+ends_so j (w ∷ ws) other h = let is = (bytes_eq-Decides w (letters the.CloseBrace)).0 h in rw (is) (other_next the.CloseBrace j ws other)
 
 -- nor does a block in front of them
-no_else : (names : Names) (b : Block) (rest : Spelled) → stops rest ≡ true → is_next the.Else (block_lexemes names b ++ rest) ≡ false
-no_else names nothing rest h = ends_so rest h
-no_else names (basic line act r) rest h =
+never_next : (j : Keyword) (names : Names) (b : Block) (rest : Spelled) → statement_of j ≡ None → (the.CloseBrace ≡ j → ⊥) → stops rest ≡ true → is_next j (block_lexemes names b ++ rest) ≡ false
+never_next j names nothing rest none other h = ends_so j rest other h
+never_next j names (basic line act r) rest none other h =
     let e = append_assoc (act_lexemes act) (block_lexemes names r) rest ∙ ap (λ (us : Spelled). us ++ (block_lexemes names r ++ rest)) (act_begins act) in
-    rw (e) (other_next (statement_keyword (statement.Act (act_first act))) the.Else _ (differs (statement.Act (act_first act)) the.Else refl))
-no_else names (stop line r) rest h = other_next the.End the.Else _ (λ e. cc)
-no_else names (when line contact first r) rest h = other_next the.If the.Else _ (λ e. cc)
-no_else names (either line contact first second r) rest h = other_next the.If the.Else _ (λ e. cc)
-no_else names (repeat line times body r) rest h = other_next the.Repeat the.Else _ (λ e. cc)
-no_else names (forever line body r) rest h = other_next the.Forever the.Else _ (λ e. cc)
-no_else names (apply line number named r) rest h = other_next the.Apply the.Else _ (λ e. cc)
+    rw (e) (other_next (statement_keyword (statement.Act (act_first act))) j _ (differs (statement.Act (act_first act)) j none))
+never_next j names (stop line r) rest none other h = other_next the.End j _ (differs statement.End j none)
+never_next j names (when line condition first r) rest none other h = other_next the.If j _ (differs statement.If j none)
+never_next j names (either line condition first second r) rest none other h = other_next the.If j _ (differs statement.If j none)
+never_next j names (repeat line times body r) rest none other h = other_next the.Repeat j _ (differs statement.Repeat j none)
+never_next j names (forever line body r) rest none other h = other_next the.Forever j _ (differs statement.Forever j none)
+never_next j names (apply line number named r) rest none other h = other_next the.Apply j _ (differs statement.Apply j none)
+
+no_else : (names : Names) (b : Block) (rest : Spelled) → stops rest ≡ true → is_next the.Else (block_lexemes names b ++ rest) ≡ false
+no_else names b rest h = never_next the.Else names b rest refl (λ e. cc) h
+
+-- neither `early` nor `or` follows an act
+is_past : (names : Names) (b : Block) (rest : Spelled) → stops rest ≡ true → IsPast (block_lexemes names b ++ rest)
+is_past names b rest h = (never_next the.Early names b rest refl (λ e. cc) h, never_next the.Or names b rest refl (λ e. cc) h)
 
 pub closing_stops : (ws : Spelled) → stops (letters the.CloseBrace ∷ ws) ≡ true
 unfolding stops
@@ -203,19 +214,31 @@ pub after_repeat : (go : Statements) (names : Names) (line depth left : ℕ) (ws
 unfolding statement_from
 after_repeat go names line depth left ws times vs body e f = rw (e, f) refl
 
-pub after_if : (go : Statements) (names : Names) (line depth left : ℕ) (ws : Spelled) (contact : ℕ) (vs : Spelled) (first : Passage) → keyed the.Contact (number_at 0 15) ws ≡ Some (contact, vs) → body_at go depth left vs ≡ Some first
-    → statement_from go names line depth left statement.If ws ≡ branch_at go line depth contact first
+pub after_if : (go : Statements) (names : Names) (line depth left : ℕ) (ws : Spelled) (condition : Condition) (vs : Spelled) (first : Passage) → condition_at ws ≡ Some (condition, vs) → body_at go depth left vs ≡ Some first
+    → statement_from go names line depth left statement.If ws ≡ branch_at go line depth condition first
 unfolding statement_from
-after_if go names line depth left ws contact vs first e f = rw (e, f) refl
+after_if go names line depth left ws condition vs first e f = rw (e, f) refl
 
-pub alone : (go : Statements) (line depth contact : ℕ) (first : Passage) → is_next the.Else first.rest ≡ false → branch_at go line depth contact first ≡ put (when line contact first.block) (go depth first.left first.rest)
-unfolding branch_at
-alone go line depth contact first e = rw (e) refl
+-- `if` and its condition, where its first block is read after them
+if_begins : (fuel depth left : ℕ) (names : Names) (lines : List ℕ) (condition : Condition) (body rest : Spelled) (first : Passage) → IsCondition condition
+    → body_at (block_at fuel names lines) depth left (body ++ rest) ≡ Some first
+    → block_at (suc fuel) names lines depth (suc left) ((letters the.If ∷ (condition_lexemes condition ++ body)) ++ rest)
+    ≡ branch_at (block_at fuel names lines) (line_of lines ((letters the.If ∷ (condition_lexemes condition ++ body)) ++ rest)) depth condition first
+if_begins fuel depth left names lines condition body rest first is read =
+    let ws : Spelled = condition_lexemes condition ++ (body ++ rest) in
+    let spelled : (letters the.If ∷ (condition_lexemes condition ++ body)) ++ rest ≡ letters the.If ∷ ws = ap (λ (us : Spelled). letters the.If ∷ us) (append_assoc (condition_lexemes condition) body rest) in
+    ap (block_at (suc fuel) names lines depth (suc left)) spelled ∙ begun_found fuel depth left names lines statement.If ws
+    ∙ after_if (block_at fuel names lines) names (line_of lines (letters the.If ∷ ws)) depth left ws condition (body ++ rest) first (condition_law.found condition (body ++ rest) is) read
+    ∙ ap (λ (us : Spelled). branch_at (block_at fuel names lines) (line_of lines us) depth condition first) (sym spelled)
 
-pub with_else : (go : Statements) (line depth contact : ℕ) (first second : Passage) → is_next the.Else first.rest ≡ true → body_at go depth first.left (drop 1 first.rest) ≡ Some second
-    → branch_at go line depth contact first ≡ put (either line contact first.block second.block) (go depth second.left second.rest)
+pub alone : (go : Statements) (line depth : ℕ) (condition : Condition) (first : Passage) → is_next the.Else first.rest ≡ false → branch_at go line depth condition first ≡ put (when line condition first.block) (go depth first.left first.rest)
 unfolding branch_at
-with_else go line depth contact first second e f = rw (e, f) refl
+alone go line depth condition first e = rw (e) refl
+
+pub with_else : (go : Statements) (line depth : ℕ) (condition : Condition) (first second : Passage) → is_next the.Else first.rest ≡ true → body_at go depth first.left (drop 1 first.rest) ≡ Some second
+    → branch_at go line depth condition first ≡ put (either line condition first.block second.block) (go depth second.left second.rest)
+unfolding branch_at
+with_else go line depth condition first second e f = rw (e, f) refl
 
 module _ (all names : Names) (lines : List ℕ) (agree : Agree (length names) names all) (apart : AreApart (length names) names) (named : (n : ℕ) → n < length names → IsName (name_at names n)) where
   pub in_braces : (go : Statements) (depth left mid : ℕ) (b body : Block) (tail rest : Spelled) → 1 ≤ depth
@@ -236,7 +259,7 @@ module _ (all names : Names) (lines : List ℕ) (agree : Agree (length names) na
       let ws : Spelled = act_rest act ++ (block_lexemes all r ++ rest) in
       let spelled : (act_lexemes act ++ block_lexemes all r) ++ rest ≡ letters (act_keyword (act_first act)) ∷ ws =
       append_assoc (act_lexemes act) (block_lexemes all r) rest ∙ ap (λ (us : Spelled). us ++ (block_lexemes all r ++ rest)) (act_begins act) in
-      let here = (act_law (act_first act)).found act (block_lexemes all r ++ rest) (f.0, refl) in
+      let here = (act_law (act_first act)).found act (block_lexemes all r ++ rest) (f.0, refl) (is_past all r rest h) in
       ap (block_at (suc fuel) names lines depth (suc left)) spelled ∙ begun_found fuel depth left names lines k ws ∙ after_act (block_at fuel names lines) names (line_of lines (letters (act_keyword (act_first act)) ∷ ws)) depth left (act_first act) ws act (block_lexemes all r ++ rest) here
       ∙ ap (λ (us : Spelled). put (basic (line_of lines us) act) (block_at fuel names lines depth left (block_lexemes all r ++ rest))) (sym spelled)
       ∙ ap (put (basic (line_of lines ((act_lexemes act ++ block_lexemes all r) ++ rest)) act)) later
@@ -265,16 +288,16 @@ module _ (all names : Names) (lines : List ℕ) (agree : Agree (length names) na
       let later = block_found r fuel depth mid new rest f.4 refl (omega (arith, c, lt)) h in
       begun_found fuel depth left names lines statement.Repeat _ ∙ after_repeat (block_at fuel names lines) names _ depth left _ times _ _ (times_law.found times _ (f.1, f.2)) (in_braces (block_at fuel names lines) depth left mid _ body (block_lexemes all r) rest f.0 one)
       ∙ ap (put (repeat _ times _)) later
-  block_found (when line contact first r) (suc fuel) depth zero new rest f c lt h = absurd (omega (arith, c))
-  block_found (when line contact first r) (suc fuel) depth (suc left) new rest f c lt h =
+  block_found (when line condition first r) (suc fuel) depth zero new rest f c lt h = absurd (omega (arith, c))
+  block_found (when line condition first r) (suc fuel) depth (suc left) new rest f c lt h =
       let vs : Spelled = block_lexemes all r ++ rest in
       let mid : ℕ = counted r + new in
       let one = block_found first fuel (depth - 1) left mid (letters the.CloseBrace ∷ vs) f.2 (omega (arith, c)) (omega (arith, lt)) (closing_stops vs) in
       let later = block_found r fuel depth mid new rest f.3 refl (omega (arith, c, lt)) h in
-      begun_found fuel depth left names lines statement.If _ ∙ after_if (block_at fuel names lines) names _ depth left _ contact _ _ (contact_law.found contact _ f.1) (in_braces (block_at fuel names lines) depth left mid _ first (block_lexemes all r) rest f.0 one)
-      ∙ alone (block_at fuel names lines) _ depth contact _ (no_else all r rest h) ∙ ap (put (when _ contact _)) later
-  block_found (either line contact first second r) (suc fuel) depth zero new rest f c lt h = absurd (omega (arith, c))
-  block_found (either line contact first second r) (suc fuel) depth (suc left) new rest f c lt h =
+      if_begins fuel depth left names lines condition (braced (block_lexemes all first) (block_lexemes all r)) rest _ f.1 (in_braces (block_at fuel names lines) depth left mid _ first (block_lexemes all r) rest f.0 one)
+      ∙ alone (block_at fuel names lines) _ depth condition _ (no_else all r rest h) ∙ ap (put (when _ condition _)) later
+  block_found (either line condition first second r) (suc fuel) depth zero new rest f c lt h = absurd (omega (arith, c))
+  block_found (either line condition first second r) (suc fuel) depth (suc left) new rest f c lt h =
       let vs : Spelled = block_lexemes all r ++ rest in
       let tail : Spelled = letters the.Else ∷ braced (block_lexemes all second) (block_lexemes all r) in
       let mid : ℕ = counted r + new in
@@ -282,5 +305,5 @@ module _ (all names : Names) (lines : List ℕ) (agree : Agree (length names) na
       let one = block_found first fuel (depth - 1) left half (letters the.CloseBrace ∷ (tail ++ rest)) f.2 (omega (arith, c)) (omega (arith, lt)) (closing_stops (tail ++ rest)) in
       let two = block_found second fuel (depth - 1) half mid (letters the.CloseBrace ∷ vs) f.3 refl (omega (arith, c, lt)) (closing_stops vs) in
       let later = block_found r fuel depth mid new rest f.4 refl (omega (arith, c, lt)) h in
-      begun_found fuel depth left names lines statement.If _ ∙ after_if (block_at fuel names lines) names _ depth left _ contact _ _ (contact_law.found contact _ f.1) (in_braces (block_at fuel names lines) depth left half _ first tail rest f.0 one)
-      ∙ with_else (block_at fuel names lines) _ depth contact _ _ (next_itself the.Else _) (in_braces (block_at fuel names lines) depth half mid _ second (block_lexemes all r) rest f.0 two) ∙ ap (put (either _ contact _ _)) later
+      if_begins fuel depth left names lines condition (braced (block_lexemes all first) tail) rest _ f.1 (in_braces (block_at fuel names lines) depth left half _ first tail rest f.0 one)
+      ∙ with_else (block_at fuel names lines) _ depth condition _ _ (next_itself the.Else _) (in_braces (block_at fuel names lines) depth half mid _ second (block_lexemes all r) rest f.0 two) ∙ ap (put (either _ condition _ _)) later

@@ -1,3 +1,4 @@
+mod Beside
 mod Denoted
 mod Denoting
 mod FoundBlocks
@@ -5,12 +6,14 @@ mod Lined
 mod Listing
 mod Naming
 mod Printed
+mod PrintedWaits
 mod ReadingBlocks
 mod ReadingDefinitions
 mod ReadingHeaders
 mod ReadingItems
 mod ReadingOn
 mod ReadingScripts
+mod ReadingWaits
 mod Readings
 mod Vectors
 mod Words

@@ -13,8 +13,8 @@ pub more_known : (known more depth : ℕ) (b : Block) → known ≤ more → IsI
 more_known known more depth nothing le h = tt
 more_known known more depth (basic line act rest) le h = (h.0, more_known known more depth rest le h.1)
 more_known known more depth (stop line rest) le h = more_known known more depth rest le h
-more_known known more depth (when line contact first rest) le h = (h.0, h.1, more_known known more (depth - 1) first le h.2, more_known known more depth rest le h.3)
-more_known known more depth (either line contact first second rest) le h = (h.0, h.1, more_known known more (depth - 1) first le h.2, more_known known more (depth - 1) second le h.3, more_known known more depth rest le h.4)
+more_known known more depth (when line condition first rest) le h = (h.0, h.1, more_known known more (depth - 1) first le h.2, more_known known more depth rest le h.3)
+more_known known more depth (either line condition first second rest) le h = (h.0, h.1, more_known known more (depth - 1) first le h.2, more_known known more (depth - 1) second le h.3, more_known known more depth rest le h.4)
 more_known known more depth (repeat line times body rest) le h = (h.0, h.1, h.2, more_known known more (depth - 1) body le h.3, more_known known more depth rest le h.4)
 more_known known more depth (forever line body rest) le h = (h.0, more_known known more (depth - 1) body le h.1, more_known known more depth rest le h.2)
 more_known known more depth (apply line number named rest) le h = (omega (arith, h.0, le), more_known known more depth rest le h.1)

@@ -12,19 +12,19 @@ use Rattle.mux_types.specs.declared.parts.Component.TheVariants.{Sound, Stream, 
 use Rattle.mux_types.specs.declared.parts.Carrier.{Carrier}
 use Rattle.mux_config.specs.declared.edit.Edit.TheVariants.{AddComponent, DropComponent}
 use Rattle.script_front.specs.declared.tree.Act.{Act}
-use Rattle.script_front.specs.declared.tree.Act.TheVariants.{Until}
+use Rattle.script_front.specs.declared.tree.Condition.{Condition}
 use Rattle.fib_codec.specs.Layouts.{layout_mode}
 use Rattle.plan_code.specs.declared.plan.Plan.{Plan}
 use Rattle.script_front.specs.declared.tree.Item.{Item}
 use Rattle.script_front.specs.declared.tree.Statement.{Statement}
 use Rattle.script_tokens.specs.declared.keyword.Keyword.TheVariants as the
 use Rattle.script_tokens.specs.Keywords.{letters}
-use Rattle.script_tokens.specs.Spelling.{hex_byte, hex_text, time_text}
+use Rattle.script_tokens.specs.Spelling.{hex_byte, hex_text}
 use Rattle.script_front.specs.Block.{Block, Before, nothing, basic, stop, when, either, repeat, forever, apply, before, block_of}
 use Rattle.script_front.specs.Spelled.{carried_lexemes, carrier_lexemes, within_lexemes, edit_lexemes, act_lexemes, name_at, mode_lexemes, reserve_lexemes, limits_lexemes}
 use Rattle.script_front.specs.Tree.{Tree}
 use Rattle.script_front.specs.Parsing.{bodies}
-use Rattle.script_front.specs.Printing.{Line, line, indent, each_after, spaced, line_text, text_of_lines, closing, block_lines, limits_line, header_lines, items_lines, definition_lines, defined_lines, tree_lines, IsPut}
+use Rattle.script_front.specs.Printing.{Line, line, indent, if_lexemes, each_after, spaced, line_text, text_of_lines, closing, block_lines, limits_line, header_lines, items_lines, definition_lines, defined_lines, tree_lines, IsPut}
 use Rattle.script_tokens.specs.Reading.{Spelled}
 
 -- ---- tokens
@@ -35,7 +35,7 @@ printed_byte n small = shown_byte true n small
 pub digit : (n : ℕ) → n < 10 → decimal n ≡ (48 + n) ∷ []
 digit n small = decimal_digit n small
 
-behind_both : (xs ys : Spelled) → each_after (xs ++ ys) ≡ each_after xs ++ each_after ys
+pub behind_both : (xs ys : Spelled) → each_after (xs ++ ys) ≡ each_after xs ++ each_after ys
 behind_both [] ys = refl
 behind_both (w ∷ xs) ys = ap (λ (t : List ℕ). 32 ∷ (w ++ t)) (behind_both xs ys) ∙ ap (λ (t : List ℕ). 32 ∷ t) (sym (append_assoc w (each_after xs) (each_after ys)))
 
@@ -101,10 +101,9 @@ body_put names old one two new d l body rest e f g =
     line_then two new (closing d) rest g ∙ lines_then one two (block_lines names (d + 1) body) (closing d ∷ rest) f
     ∙ line_then old one l (block_lines names (d + 1) body ++ closing d ∷ rest) e
 
-pub when_put : (names : List (List ℕ)) (old one two new : List ℕ) (d n contact : ℕ) (first : Block) (added : Before)
-    → one ≡ old ++ line_text (line d (letters the.If ∷ letters the.Contact ∷ decimal contact ∷ letters the.OpenBrace ∷ []))
-    → two ≡ one ++ text_of_lines (block_lines names (d + 1) first) → new ≡ two ++ (indent d ++ codes "}\n") → ((b : Block) → added b ≡ when n contact first b) → IsPut names d added old new
-when_put names old one two new d n contact first added e f g is = record { before = λ b. rw (is b) (body_put names old one two new d _ first (block_lines names d b) e f g) }
+pub when_put : (names : List (List ℕ)) (old one two new : List ℕ) (d n : ℕ) (condition : Condition) (first : Block) (added : Before) → one ≡ old ++ line_text (line d (if_lexemes condition))
+    → two ≡ one ++ text_of_lines (block_lines names (d + 1) first) → new ≡ two ++ (indent d ++ codes "}\n") → ((b : Block) → added b ≡ when n condition first b) → IsPut names d added old new
+when_put names old one two new d n condition first added e f g is = record { before = λ b. rw (is b) (body_put names old one two new d _ first (block_lines names d b) e f g) }
 
 pub repeat_put : (names : List (List ℕ)) (old one two new : List ℕ) (d n times : ℕ) (body : Block) (added : Before)
     → one ≡ old ++ line_text (line d (letters the.Repeat ∷ decimal times ∷ letters the.OpenBrace ∷ []))
@@ -117,19 +116,19 @@ unfolding letters
 forever_put names old one two new d n body added e f g is =
     record { before = λ b. rw (is b) (body_put names old one two new d (line d (letters the.Forever ∷ letters the.OpenBrace ∷ [])) body (block_lines names d b) e f g) }
 
-pub either_put : (names : List (List ℕ)) (old one two three four new : List ℕ) (d n contact : ℕ) (first second : Block) (added : Before)
-    → one ≡ old ++ line_text (line d (letters the.If ∷ letters the.Contact ∷ decimal contact ∷ letters the.OpenBrace ∷ []))
+pub either_put : (names : List (List ℕ)) (old one two three four new : List ℕ) (d n : ℕ) (condition : Condition) (first second : Block) (added : Before)
+    → one ≡ old ++ line_text (line d (if_lexemes condition))
     → two ≡ one ++ text_of_lines (block_lines names (d + 1) first) → three ≡ two ++ (indent d ++ codes "} else {\n")
     → four ≡ three ++ text_of_lines (block_lines names (d + 1) second) → new ≡ four ++ (indent d ++ codes "}\n")
-    → ((b : Block) → added b ≡ either n contact first second b) → IsPut names d added old new
+    → ((b : Block) → added b ≡ either n condition first second b) → IsPut names d added old new
 unfolding letters
-either_put names old one two three four new d n contact first second added e f g h i is = record {
+either_put names old one two three four new d n condition first second added e f g h i is = record {
   before = λ b. (
       let turn : Line = line d (letters the.CloseBrace ∷ letters the.Else ∷ letters the.OpenBrace ∷ []) in
       let later : List Line = block_lines names (d + 1) second ++ closing d ∷ block_lines names d b in
       let here = body_put names two three four new d turn second (block_lines names d b) g h i in
       rw (is b) (here ∙ lines_then one two (block_lines names (d + 1) first) (turn ∷ later) f
-      ∙ line_then old one (line d (letters the.If ∷ letters the.Contact ∷ decimal contact ∷ letters the.OpenBrace ∷ [])) (block_lines names (d + 1) first ++ turn ∷ later) e)
+      ∙ line_then old one (line d (if_lexemes condition)) (block_lines names (d + 1) first ++ turn ∷ later) e)
       );
 }
 
@@ -228,10 +227,6 @@ definitions_all names old out bs i long h =
     let e : out ++ [] ≡ old ++ text_of_lines (defined_lines names 0 (bodies bs)) = rw (drop_all i bs long) at h.whole in sym (append-nil out) ∙ e
 
 -- ---- texts put in several steps
-
-pub until_put : (old one new : List ℕ) (t : ℕ) → one ≡ old ++ codes "until " → new ≡ one ++ time_text t → new ≡ old ++ spaced (act_lexemes (Until t))
-unfolding letters
-until_put old one new t e f = f ∙ ap (λ (x : List ℕ). x ++ time_text t) e ∙ append_assoc old (codes "until ") (time_text t)
 
 pub limits_put : (old one two new : List ℕ) (h : Plan) → one ≡ old ++ spaced (limits_lexemes h []) → two ≡ one ++ each_after (reserve_lexemes h.layout) → new ≡ two ++ 10 ∷ []
     → new ≡ old ++ line_text (limits_line h)

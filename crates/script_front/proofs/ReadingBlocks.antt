@@ -4,7 +4,11 @@ use Rattle.std.proofs.lemmas.Bool.Decides.{nat_tests}
 use Rattle.script_tokens.specs.declared.keyword.Keyword.TheVariants as the
 use Rattle.script_tokens.specs.declared.first_keyword.StatementKeyword.TheVariants as statement
 use Rattle.script_tokens.specs.Reading.{is_next}
-use Rattle.script_front.specs.Readers.{act_from}
+use Rattle.script_front.specs.Readers.{act_from, condition_at}
+use Rattle.script_front.specs.declared.tree.Condition.{Condition}
+use Rattle.script_front.specs.Spelled.{condition_lexemes}
+use Rattle.script_front.specs.Tree.{IsCondition}
+use Rattle.script_front.proofs.ReadingWaits.{condition_law}
 use Rattle.script_front.specs.BlockReader.{stops, open_at, body_at, applied_at, branch_at, statement_from, begun_at, block_at}
 use Rattle.script_front.proofs.Words.{Block, either, nothing, when, Passage, Statements, put, BlockOn, act_lexemes, block_lexemes, braced, name_at, IsInBounds, counted, below, finish, from_one, keyed_law, statement_given, after_begins, bind_some, next_begins, values_are_read, act_keyword, statement_keyword, letters, ReadsAsSpelled, Spelled, after, first_statement, keyed, line_of, ◌>>=◌, name_next, number_at, StatementKeyword, position-Some, bytes_eq-Decides, decimal, None, Option, Some, position, bytes_eq}
 use Rattle.script_front.proofs.Readings.{act_first, act_begins, act_law}
@@ -20,9 +24,6 @@ abbrev pub passed : Block → ℕ → Spelled → Passage
 passed b left rest = record { block = b; left = left; rest = rest }
 
 -- ---- fields
-
-pub contact_law : ReadsAsSpelled (keyed the.Contact (number_at 0 15)) (λ n. n < 16) (λ n. letters the.Contact ∷ decimal n ∷ [])
-contact_law = keyed_law the.Contact (number_at 0 15) (λ n. n < 16) (λ n. decimal n ∷ []) (below 16 15 refl (omega arith))
 
 pub times_law : ReadsAsSpelled (number_at 1 65535) (λ n. (1 ≤ n) × (n < 65536)) (λ n. decimal n ∷ [])
 times_law = from_one 65536 65535 refl (omega arith)
@@ -108,20 +109,25 @@ module _ (all names : Names) (lines : List ℕ) (agree : Agree (length names) na
   pub behind : (b : Block) (vs us : Spelled) → vs ≡ us → BlockOn all lines b (letters the.CloseBrace ∷ vs) → BlockOn all lines b (letters the.CloseBrace ∷ us)
   behind b vs us e h = subst (λ (ts : Spelled). BlockOn all lines b (letters the.CloseBrace ∷ ts)) e h
 
-  branch_given : (line depth left contact : ℕ) (first p : Passage) (ws vs : Spelled) → branch_at go line depth contact first ≡ Some p → contact < 16
-      → ws ≡ letters the.If ∷ letters the.Contact ∷ decimal contact ∷ vs → IsBodyRead all (length names) depth left lines vs first → line ≡ line_of lines ws
+  -- what follows the condition of `if`, and the tokens after it
+  tested : (condition : Condition) (vs us rest : Spelled) → vs ≡ us ++ rest → letters the.If ∷ (condition_lexemes condition ++ vs) ≡ (letters the.If ∷ (condition_lexemes condition ++ us)) ++ rest
+  tested condition vs us rest e =
+      ap (λ (ts : Spelled). letters the.If ∷ (condition_lexemes condition ++ ts)) e ∙ ap (λ (ts : Spelled). letters the.If ∷ ts) (sym (append_assoc (condition_lexemes condition) us rest))
+
+  branch_given : (line depth left : ℕ) (condition : Condition) (first p : Passage) (ws vs : Spelled) → branch_at go line depth condition first ≡ Some p → IsCondition condition
+      → ws ≡ letters the.If ∷ (condition_lexemes condition ++ vs) → IsBodyRead all (length names) depth left lines vs first → line ≡ line_of lines ws
       → IsBlockRead all (length names) depth (suc left) lines ws p
   unfolding branch_at
-  branch_given line depth left contact first p ws vs e small begins h at = chosen (is_next the.Else first.rest) refl e
+  branch_given line depth left condition first p ws vs e small begins h at = chosen (is_next the.Else first.rest) refl e
     where
       chosen : (b : Bool) → is_next the.Else first.rest ≡ b
-          → if◌then◌else◌ {A = Option Passage} b (body_at go depth first.left (drop 1 first.rest) >>= λ second. put (either line contact first.block second.block) (go depth second.left second.rest))
-          (put (when line contact first.block) (go depth first.left first.rest)) ≡ Some p
+          → if◌then◌else◌ {A = Option Passage} b (body_at go depth first.left (drop 1 first.rest) >>= λ second. put (either line condition first.block second.block) (go depth second.left second.rest))
+          (put (when line condition first.block) (go depth first.left first.rest)) ≡ Some p
           → IsBlockRead all (length names) depth (suc left) lines ws p
       chosen false is f = (
           let q = put_some _ _ p f in
           let g = given depth first.left first.rest q.more q.read in
-          let whole = begins ∙ ap (λ (us : Spelled). letters the.If ∷ letters the.Contact ∷ decimal contact ∷ us) (closed _ (block_lexemes all q.more.block) q.more.rest _ vs h.spelled g.spelled) in
+          let whole = begins ∙ tested condition _ _ q.more.rest (closed _ (block_lexemes all q.more.block) q.more.rest _ vs h.spelled g.spelled) in
           finish (IsBlockRead all (length names) depth (suc left) lines ws) _ p q.is (record {
             fits = (h.room, small, h.fits, g.fits);
             counts = (let c = h.counts in let d = g.counts in omega (arith, c, d));
@@ -137,7 +143,7 @@ module _ (all names : Names) (lines : List ℕ) (agree : Agree (length names) na
           let g = given depth a.x.left a.x.rest q.more q.read in
           let tail : Spelled = letters the.Else ∷ braced (block_lexemes all a.x.block) (block_lexemes all q.more.block) in
           let later : first.rest ≡ tail ++ q.more.rest = next_begins the.Else first.rest is ∙ ap (λ (us : Spelled). letters the.Else ∷ us) (closed _ (block_lexemes all q.more.block) q.more.rest _ _ s.spelled g.spelled) in
-          let whole = begins ∙ ap (λ (us : Spelled). letters the.If ∷ letters the.Contact ∷ decimal contact ∷ us) (closed _ tail q.more.rest _ vs h.spelled later) in
+          let whole = begins ∙ tested condition _ _ q.more.rest (closed _ tail q.more.rest _ vs h.spelled later) in
           finish (IsBlockRead all (length names) depth (suc left) lines ws) _ p q.is (record {
             fits = (h.room, small, h.fits, s.fits, g.fits);
             counts = (let c = h.counts in let d = s.counts in let f = g.counts in omega (arith, c, d, f));
@@ -157,8 +163,8 @@ module _ (all names : Names) (lines : List ℕ) (agree : Agree (length names) na
       finish (IsBlockRead all (length names) depth (suc left) lines ws) _ p q.is
       (record { fits = g.fits; counts = (let c = g.counts in omega (arith, c)); spelled = whole; lined = (at ∙ ap (line_of lines) whole, g.lined); stops = g.stops })
   after_given statement.If line depth left vs ws p e begins at =
-      let a = bind_some (keyed the.Contact (number_at 0 15) vs) _ p e in
-      let f = contact_law.given vs a.x a.first in
+      let a = bind_some (condition_at vs) _ p e in
+      let f = condition_law.given vs a.x a.first in
       let b = bind_some (body_at go depth left a.x.1) _ p a.second in
       branch_given line depth left a.x.0 b.x p ws a.x.1 b.second f.0 (begins ∙ ap (λ (us : Spelled). letters the.If ∷ us) f.1) (body_given depth left a.x.1 b.x b.first) at
   after_given statement.Repeat line depth left vs ws p e begins at =

@@ -15,11 +15,11 @@ use Rattle.script_tokens.specs.declared.first_keyword.ItemKeyword.TheVariants as
 use Rattle.script_tokens.specs.declared.first_keyword.EditKeyword.{EditKeyword}
 use Rattle.script_tokens.specs.declared.first_keyword.EditKeyword.TheVariants as edit
 use Rattle.script_tokens.specs.declared.first_keyword.ActKeyword.TheVariants as act
-use Rattle.script_tokens.proofs.Keys.{no_decimal}
-use Rattle.script_front.specs.declared.tree.Act.TheVariants.{Edit as Edits, Wait, WaitContact, Until, CommitIn, CommitAt, Join, Settle}
-use Rattle.script_front.specs.Readers.{sub_at, service_at, groups_at, new_sub_at, new_packet_at, typed_sub_at, component_from, item_from, carrier_at, dropped_at, moved_at, rated_at, edit_from, waiting_at, committing_at, act_from}
-use Rattle.script_tokens.specs.Reading.{either}
-use Rattle.script_front.proofs.Words.{Edit, AddComponent, AddPacket, AddService, AddSub, DropComponent, DropPacket, DropService, DropSub, MoveSub, RateSub, IsCarrier, IsEdit, IsNewPacket, IsNewSub, dropping, packet_of, sub_of, act_lexemes, carried_lexemes, carrier_lexemes, edit_lexemes, groups_text, within_lexemes, Adds, IsAct, Act, below, both_law, either_given, finish, from_one, keyed_given, keyed_law, made_found, made_given, other_next, after_itself, next_itself, not_next, values_are_read, act_keyword, component_keyword, edit_keyword, letters, ReadsAsSpelled, Spelled, both, keyed, built, level_text, profile_text, sid_text, level_at, number_at, profile_at, sid_at, ActKeyword, ItemKeyword, decimal, Some}
+use Rattle.script_front.specs.declared.tree.Act.TheVariants.{Edit as Edits, Wait, WaitContact, Until, WaitAny, CommitIn, CommitAt, Join, Settle}
+use Rattle.script_front.specs.Readers.{sub_at, service_at, groups_at, new_sub_at, new_packet_at, typed_sub_at, component_from, item_from, carrier_at, dropped_at, moved_at, rated_at, edit_from, moment_at, committing_at, act_from}
+use Rattle.script_tokens.specs.Reading.{either, giving}
+use Rattle.script_front.proofs.ReadingWaits.{IsPast, IsWait, wait_rest, moment_given, moment_found, wait_given, wait_found, contact_found, any_found}
+use Rattle.script_front.proofs.Words.{Edit, AddComponent, AddPacket, AddService, AddSub, DropComponent, DropPacket, DropService, DropSub, MoveSub, RateSub, IsCarrier, IsEdit, IsNewPacket, IsNewSub, dropping, packet_of, sub_of, act_lexemes, carried_lexemes, carrier_lexemes, edit_lexemes, groups_text, within_lexemes, Adds, IsAct, Act, below, both_law, either_given, finish, from_one, keyed_given, keyed_law, made_found, made_given, other_next, after_itself, next_itself, bind_some, values_are_read, act_keyword, component_keyword, edit_keyword, letters, ReadsAsSpelled, Spelled, both, keyed, built, level_text, profile_text, sid_text, level_at, number_at, profile_at, sid_at, ActKeyword, ItemKeyword, decimal, Some}
 
 -- ---- fields
 
@@ -266,7 +266,8 @@ abbrev pub act_first : Act → ActKeyword
 act_first (Edits e) = act.Edit (edit_first e)
 act_first (Wait frames) = act.Wait
 act_first (WaitContact contact closed) = act.Wait
-act_first (Until second) = act.Until
+act_first (Until moment) = act.Until
+act_first (WaitAny alternatives) = act.Wait
 act_first (CommitIn delay) = act.Commit
 act_first (CommitAt count) = act.Commit
 act_first Join = act.Join
@@ -283,24 +284,28 @@ act_begins a = refl
 abbrev pub IsActOf : ActKeyword → Act → Type 0
 IsActOf k a = IsAct a × (act_first a ≡ k)
 
-contact_law : ReadsAsSpelled (both (number_at 0 15) level_at) (λ p. (p.0 < 16) × Unit {0}) (λ p. decimal p.0 ∷ level_text p.1 ∷ [])
-contact_law = both_law _ _ _ _ _ _ (below 16 15 refl (omega arith)) values_are_read.levels
-
-frames_law : ReadsAsSpelled (number_at 1 65535) (λ n. (1 ≤ n) × (n < 65536)) (λ n. decimal n ∷ [])
-frames_law = from_one 65536 65535 refl (omega arith)
-
 delay_law : ReadsAsSpelled (number_at 1 60000) (λ n. (1 ≤ n) × (n ≤ 60000)) (λ n. decimal n ∷ [])
 delay_law = values_are_read.numbers 1 60000 (omega arith)
 
+-- the acts that begin with `wait`
+begins_so : (a : Act) → IsWait a → act_first a ≡ act.Wait
+begins_so (Wait frames) h = refl
+begins_so (WaitContact contact closed) h = refl
+begins_so (WaitAny all) h = refl
+begins_so a h = absurd h
+
+rests_so : (a : Act) → IsWait a → wait_rest a ≡ act_rest a
+rests_so (Wait frames) h = refl
+rests_so (WaitContact contact closed) h = refl
+rests_so (WaitAny all) h = refl
+rests_so a h = absurd h
+
 act_given : (k : ActKeyword) (ws : Spelled) (x : Act × Spelled) → act_from k ws ≡ Some x → IsActOf k x.0 × (ws ≡ act_rest x.0 ++ x.1)
-unfolding act_from waiting_at committing_at
-act_given act.Wait ws x e = elim (either_given the.Contact (built (λ p. WaitContact p.0 p.1) (both (number_at 0 15) level_at)) (built Wait (number_at 1 65535)) ws x e) [
-  | inl h ↦ (
-      let g = made_given _ _ _ contact_law (λ p. WaitContact p.0 p.1) (IsActOf act.Wait) act_rest (letters the.Contact ∷ []) (λ a is. (is.0, refl)) (λ a h. refl) _ x h.1 in (g.0, h.0 ∙ g.1)
-      )
-  | inr h ↦ made_given _ _ _ frames_law Wait (IsActOf act.Wait) act_rest [] (λ a is. (is, refl)) (λ a h. refl) ws x h.1
-]
-act_given act.Until ws x e = made_given _ _ _ values_are_read.times Until (IsActOf act.Until) act_rest [] (λ a h. (h, refl)) (λ a h. refl) ws x e
+unfolding act_from committing_at
+act_given act.Wait ws x e = let g = wait_given ws x e in ((g.0, begins_so x.0 g.1), g.2 ∙ ap (λ (us : Spelled). us ++ x.1) (rests_so x.0 g.1))
+act_given act.Until ws x e =
+    let m = bind_some (moment_at ws) (giving Until) x e in
+    let g = moment_given ws m.x m.first in finish (λ y. IsActOf act.Until y.0 × (ws ≡ act_rest y.0 ++ y.1)) (Until m.x.0, m.x.1) x m.second ((g.0, refl), g.1)
 act_given act.Commit ws x e = elim (either_given the.In (built CommitIn (number_at 1 60000)) (keyed the.At (built CommitAt (number_at 0 65535))) ws x e) [
   | inl h ↦ (let g = made_given _ _ _ delay_law CommitIn (IsActOf act.Commit) act_rest (letters the.In ∷ []) (λ a is. (is, refl)) (λ a h. refl) _ x h.1 in (g.0, h.0 ∙ g.1))
   | inr h ↦ (
@@ -312,22 +317,24 @@ act_given act.Join ws x e = finish (λ y. IsActOf act.Join y.0 × (ws ≡ act_re
 act_given act.Settle ws x e = finish (λ y. IsActOf act.Settle y.0 × (ws ≡ act_rest y.0 ++ y.1)) (Settle, ws) x e ((tt, refl), refl)
 act_given (act.Edit k) ws x e = made_given _ _ _ (edit_law k) Edits (IsActOf (act.Edit k)) act_rest [] (λ a h. (h.0, ap (λ j. act.Edit j) h.1)) (λ a h. refl) ws x e
 
-no_contact : (frames : ℕ) (rest : Spelled) → (1 ≤ frames) × (frames < 65536) → waiting_at (decimal frames ∷ rest) ≡ built Wait (number_at 1 65535) (decimal frames ∷ rest)
-unfolding waiting_at
-no_contact frames rest is = rw (not_next the.Contact (decimal frames) rest (no_decimal frames (let small = is.1 in omega (arith, small)))) refl
-
-act_found : (a : Act) (rest : Spelled) → IsAct a → act_from (act_first a) (act_rest a ++ rest) ≡ Some (a, rest)
-unfolding act_from waiting_at committing_at
-act_found (Edits e) rest is = made_found _ _ _ (edit_law (edit_first e)) Edits e rest (is, refl)
-act_found (Wait frames) rest is = no_contact frames rest is ∙ made_found _ _ _ frames_law Wait frames rest is
-act_found (WaitContact contact closed) rest is =
-    rw (next_itself the.Contact (decimal contact ∷ level_text closed ∷ rest)) (made_found _ _ _ contact_law (λ p. WaitContact p.0 p.1) (contact, closed) rest (is, tt))
-act_found (Until second) rest is = made_found _ _ _ values_are_read.times Until second rest is
-act_found (CommitIn delay) rest is = rw (next_itself the.In (decimal delay ∷ rest)) (made_found _ _ _ delay_law CommitIn delay rest is)
-act_found (CommitAt count) rest is =
+act_found : (a : Act) (rest : Spelled) → IsAct a → IsPast rest → act_from (act_first a) (act_rest a ++ rest) ≡ Some (a, rest)
+unfolding act_from committing_at
+act_found (Edits e) rest is past = made_found _ _ _ (edit_law (edit_first e)) Edits e rest (is, refl)
+act_found (Wait frames) rest is past = wait_found frames rest is past
+act_found (WaitContact contact closed) rest is past = contact_found contact closed rest is past
+act_found (Until moment) rest is past = rw (moment_found moment rest is past.0) refl
+act_found (WaitAny all) rest is past = any_found all rest is past
+act_found (CommitIn delay) rest is past = rw (next_itself the.In (decimal delay ∷ rest)) (made_found _ _ _ delay_law CommitIn delay rest is)
+act_found (CommitAt count) rest is past =
     rw (other_next the.At the.In (decimal count ∷ rest) (λ e. cc), after_itself the.At (decimal count ∷ rest)) (made_found _ _ _ sixteen CommitAt count rest is)
-act_found Join rest is = refl
-act_found Settle rest is = refl
+act_found Join rest is past = refl
+act_found Settle rest is past = refl
 
-pub act_law : (k : ActKeyword) → ReadsAsSpelled (act_from k) (IsActOf k) act_rest
-act_law k = record { given = act_given k; found = λ a rest is. subst (λ j. act_from j (act_rest a ++ rest) ≡ Some (a, rest)) is.1 (act_found a rest is.0) }
+-- the law of acts: what is read is in range, and spelled so; and what is spelled so is read, where neither `early` nor
+-- `or` follows
+pub record ActsAreRead (k : ActKeyword) : Type 0 where
+  pub given : (ws : Spelled) (x : Act × Spelled) → act_from k ws ≡ Some x → IsActOf k x.0 × (ws ≡ act_rest x.0 ++ x.1)
+  pub found : (a : Act) (rest : Spelled) → IsActOf k a → IsPast rest → act_from k (act_rest a ++ rest) ≡ Some (a, rest)
+
+pub act_law : (k : ActKeyword) → ActsAreRead k
+act_law k = record { given = act_given k; found = λ a rest is past. subst (λ j. act_from j (act_rest a ++ rest) ≡ Some (a, rest)) is.1 (act_found a rest is.0 past) }

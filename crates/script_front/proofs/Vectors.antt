@@ -6,7 +6,12 @@ use Rattle.fib_codec.specs.Layouts.{reserved_fibs}
 use Rattle.fib_codec.specs.declared.frame_layout.FrameLayout.{FrameLayout}
 use Rattle.fib_codec.specs.declared.frame_layout.FrameLayout.TheVariants.{Whole, ReserveOne, ReserveTwo}
 use Rattle.fib_codec.specs.declared.modes.Mode.TheVariants.{I}
-use Rattle.script_front.specs.declared.tree.Act.TheVariants.{Wait}
+use Rattle.script_front.specs.declared.tree.Act.TheVariants.{Wait, WaitAny}
+use Rattle.script_front.specs.declared.tree.Condition.TheVariants.{Time}
+use Rattle.script_front.specs.declared.moment.MomentForm.TheVariants.{At, Early}
+use Rattle.script_front.specs.declared.alternatives.Alternative.{Alternative}
+use Rattle.script_front.specs.declared.alternatives.Alternative.TheVariants.{Contact as OfContact, Until as OfMoment, Frames as OfFrames}
+use Rattle.script_front.specs.Waits.{moment_frame, AreAlternatives, may_follow}
 use Rattle.plan_code.specs.declared.plan.Plan.{Plan}
 use Rattle.script_front.specs.Block.{nothing, basic, block_of}
 use Rattle.script_front.specs.Tree.{Tree, IsScript}
@@ -15,12 +20,13 @@ use Rattle.script_tokens.specs.declared.keyword.Keyword.TheVariants as the
 use Rattle.script_tokens.specs.Keywords.{letters}
 use Rattle.script_tokens.specs.Reading.{is_next, after}
 use Rattle.script_tokens.proofs.Combining.{other_next, not_after}
-use Rattle.script_front.specs.Spelled.{reserve_lexemes, header_lexemes, tree_lexemes}
-use Rattle.script_front.specs.Readers.{header_at}
+use Rattle.script_front.specs.Spelled.{alternative_lexemes, alternatives_lexemes, condition_lexemes, reserve_lexemes, header_lexemes, tree_lexemes}
+use Rattle.script_front.specs.Readers.{header_at, waiting_at, condition_at}
 use Rattle.script_front.specs.BlockReader.{stops, content_of, script_at}
 use Rattle.script_front.specs.Alike.{unlined}
 use Rattle.script_front.specs.Denoting.{IsScriptOf}
 use Rattle.script_front.proofs.FoundBlocks.{closing_stops}
+use Rattle.script_front.proofs.ReadingWaits.{IsPast, one_found, any_found, condition_law}
 use Rattle.script_front.proofs.ReadingHeaders.{header_found}
 use Rattle.script_front.proofs.ReadingScripts.{scripts_are_read, scripts_alike, one_script}
 
@@ -115,6 +121,52 @@ script_is_read = scripts_are_read.found _ (brief 4 0) (brief_is 4 0 (omega arith
 nothing_is_read : script_at (record { lexemes = []; lines = [] }) ≡ None
 unfolding script_at header_at after is_next
 nothing_is_read = refl
+
+-- ---- moments, alternatives and conditions
+
+-- 250 frames before ten in the evening, 42 frames before the first second ends, and one frame before midnight
+before_ten : moment_frame (Early 79200 250) ≡ 3299750
+before_ten = refl
+
+at_midnight : moment_frame (Early 1 42) ≡ 0
+at_midnight = refl
+
+over_midnight : moment_frame (Early 0 1) ≡ 3599999
+over_midnight = refl
+
+-- `contact 3 closed or until 00:00:01 or 750`
+abbrev three : List Alternative
+three = OfContact 3 true ∷ OfMoment (At 1) ∷ OfFrames 750 ∷ []
+
+three_are : AreAlternatives three
+three_are = record { several = omega arith; few = omega arith; each = (omega arith, (omega arith, ((omega arith, omega arith), tt))); one_moment = omega arith; one_number = omega arith }
+
+-- one alternative is too few, and two moments are too many
+one_is_not : AreAlternatives (OfFrames 5 ∷ []) → ⊥
+one_is_not h = let e = h.several in omega (arith, e)
+
+two_moments_are_not : AreAlternatives (OfMoment (At 1) ∷ OfMoment (At 2) ∷ []) → ⊥
+two_moments_are_not h = let e = h.one_moment in omega (arith, e)
+
+no_more : IsPast (letters the.End ∷ [])
+no_more = (other_next the.End the.Early [] (λ e. cc), other_next the.End the.Or [] (λ e. cc))
+
+-- they are read in their order; a moment alone is not, and neither is a second number
+three_are_read : waiting_at (alternatives_lexemes three ++ letters the.End ∷ []) ≡ Some (WaitAny three, letters the.End ∷ [])
+three_are_read = any_found three (letters the.End ∷ []) three_are no_more
+
+alone_is_not_read : waiting_at (alternative_lexemes (OfMoment (At 1)) ++ letters the.End ∷ []) ≡ None
+alone_is_not_read = one_found (OfMoment (At 1)) (letters the.End ∷ []) (omega arith) no_more
+
+second_number : may_follow (OfFrames 5 ∷ []) (OfFrames 6) ≡ false
+second_number = refl
+
+a_number_and_a_contact : may_follow (OfFrames 5 ∷ []) (OfContact 3 true) ≡ true
+a_number_and_a_contact = refl
+
+-- `time 22:00:00 to 06:00:00`
+a_window_is_read : condition_at (condition_lexemes (Time 79200 21600) ++ letters the.OpenBrace ∷ []) ≡ Some (Time 79200 21600, letters the.OpenBrace ∷ [])
+a_window_is_read = condition_law.found (Time 79200 21600) (letters the.OpenBrace ∷ []) (omega arith, omega arith)
 
 -- and so does another wait
 of_other_waits : (s t : Tree) → IsScript s → IsScript t → block_of [] s.statements ≡ basic 3 (Wait 1) nothing → block_of [] t.statements ≡ basic 3 (Wait 2) nothing → tree_lexemes s ≢ tree_lexemes t

@@ -14,8 +14,8 @@ abbrev pub unlined : Block → Block
 unlined nothing = nothing
 unlined (basic line act rest) = basic 0 act (unlined rest)
 unlined (stop line rest) = stop 0 (unlined rest)
-unlined (when line contact first rest) = when 0 contact (unlined first) (unlined rest)
-unlined (either line contact first second rest) = either 0 contact (unlined first) (unlined second) (unlined rest)
+unlined (when line condition first rest) = when 0 condition (unlined first) (unlined rest)
+unlined (either line condition first second rest) = either 0 condition (unlined first) (unlined second) (unlined rest)
 unlined (repeat line times body rest) = repeat 0 times (unlined body) (unlined rest)
 unlined (forever line body rest) = forever 0 (unlined body) (unlined rest)
 unlined (apply line number named rest) = apply 0 number nothing (unlined rest)

@@ -2,6 +2,7 @@
 -- number of a block, and that block where its meaning is known.
 use Rattle.std.specs.Prelude.{ℕ, List, [], ◌∷◌, ◌++◌, map, slice_index_or}
 use Rattle.script_front.specs.declared.tree.Act.{Act}
+use Rattle.script_front.specs.declared.tree.Condition.{Condition}
 use Rattle.script_front.specs.declared.tree.Statement.{Statement}
 use Rattle.script_front.specs.declared.tree.Statement.TheOpen.{Statement-F}
 use Rattle.script_front.specs.declared.tree.Statement.TheFolds.{fold-Statement}
@@ -10,8 +11,8 @@ pub data Block : Type 0 where
   nothing : Block
   basic : (line : ℕ) → (act : Act) → (rest : Block) → Block
   stop : (line : ℕ) → (rest : Block) → Block
-  when : (line contact : ℕ) → (first rest : Block) → Block
-  either : (line contact : ℕ) → (first second rest : Block) → Block
+  when : (line : ℕ) → (condition : Condition) → (first rest : Block) → Block
+  either : (line : ℕ) → (condition : Condition) → (first second rest : Block) → Block
   repeat : (line times : ℕ) → (body rest : Block) → Block
   forever : (line : ℕ) → (body rest : Block) → Block
   apply : (line number : ℕ) → (named rest : Block) → Block
@@ -35,9 +36,9 @@ named_at table number = slice_index_or table number nothing
 abbrev pub statement_step : List Block → Statement-F Before → Before
 statement_step table (Statement-F.Act line act) rest = basic line act rest
 statement_step table (Statement-F.End line) rest = stop line rest
-statement_step table (Statement-F.If line contact first) rest = when line contact (whole first.items) rest
-statement_step table (Statement-F.IfElse line contact first second) rest =
-    either line contact (whole first.items) (whole second.items) rest
+statement_step table (Statement-F.If line condition first) rest = when line condition (whole first.items) rest
+statement_step table (Statement-F.IfElse line condition first second) rest =
+    either line condition (whole first.items) (whole second.items) rest
 statement_step table (Statement-F.Repeat line times body) rest = repeat line times (whole body.items) rest
 statement_step table (Statement-F.Forever line body) rest = forever line (whole body.items) rest
 statement_step table (Statement-F.Apply line block) rest = apply line block (named_at table block) rest

@@ -7,11 +7,12 @@ use Rattle.plan_code.specs.declared.plan.Plan.{Plan}
 use Rattle.script_tokens.specs.declared.keyword.Keyword.TheVariants as the
 use Rattle.script_tokens.specs.declared.first_keyword.StatementKeyword.{StatementKeyword}
 use Rattle.script_tokens.specs.declared.first_keyword.StatementKeyword.TheVariants as statement
-use Rattle.script_tokens.specs.Reading.{Spelled, Input, Reads, ◌>>=◌, is_next, first_statement, after, keyed, line_of, line_of_left}
+use Rattle.script_tokens.specs.Reading.{Spelled, Input, Reads, ◌>>=◌, is_next, first_statement, after, line_of, line_of_left}
 use Rattle.script_tokens.specs.Taking.{number_at, name_next}
+use Rattle.script_front.specs.declared.tree.Condition.{Condition}
 use Rattle.script_front.specs.declared.tree.Item.{Item}
 use Rattle.script_front.specs.Block.{Block, nothing, basic, stop, when, either, repeat, forever, apply, block_of}
-use Rattle.script_front.specs.Readers.{act_from, header_at, items_at}
+use Rattle.script_front.specs.Readers.{act_from, condition_at, header_at, items_at}
 use Rattle.script_front.specs.Tree.{Tree}
 
 -- ---- statements
@@ -53,16 +54,16 @@ unfoldable pub applied_at : List (List ℕ) → Spelled → Reads ℕ
 applied_at names ws = name_next ws >>= λ name. (position (bytes_eq name.0) names >>= λ number. Some (number, name.1))
 
 -- after the first block of `if`
-unfoldable pub branch_at : Statements → (line depth contact : ℕ) → Passage → Option Passage
-branch_at go line depth contact first =
-    if is_next the.Else first.rest then (body_at go depth first.left (drop 1 first.rest) >>= λ second. put (either line contact first.block second.block) (go depth second.left second.rest))
-    else put (when line contact first.block) (go depth first.left first.rest)
+unfoldable pub branch_at : Statements → (line depth : ℕ) → Condition → Passage → Option Passage
+branch_at go line depth condition first =
+    if is_next the.Else first.rest then (body_at go depth first.left (drop 1 first.rest) >>= λ second. put (either line condition first.block second.block) (go depth second.left second.rest))
+    else put (when line condition first.block) (go depth first.left first.rest)
 
 -- a statement, after its first keyword, and those after it
 unfoldable pub statement_from : Statements → List (List ℕ) → (line depth left : ℕ) → StatementKeyword → Spelled → Option Passage
 statement_from go names line depth left statement.End ws = put (stop line) (go depth left ws)
 statement_from go names line depth left statement.If ws =
-    keyed the.Contact (number_at 0 15) ws >>= λ contact. (body_at go depth left contact.1 >>= branch_at go line depth contact.0)
+    condition_at ws >>= λ condition. (body_at go depth left condition.1 >>= branch_at go line depth condition.0)
 statement_from go names line depth left statement.Repeat ws =
     number_at 1 65535 ws >>= λ times. (body_at go depth left times.1 >>= λ body. put (repeat line times.0 body.block) (go depth body.left body.rest))
 statement_from go names line depth left statement.Forever ws =

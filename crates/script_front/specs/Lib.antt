@@ -5,8 +5,10 @@ pub mod Denoting
 pub mod Parsing
 pub mod Printing
 pub mod Readers
+pub mod Slots
 pub mod Spelled
 pub mod Tree
+pub mod Waits
 pub use Rattle.script_tokens.specs.Bytes
 pub use Rattle.script_tokens.specs.First
 pub use Rattle.script_tokens.specs.Lexing

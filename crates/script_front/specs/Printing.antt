@@ -3,6 +3,7 @@ use Rattle.std.specs.Prelude.{◌≡◌, ℕ, zero, suc, ◌+◌, List, [], ◌�
 use Rattle.std.specs.Fmt.{decimal}
 use Rattle.fib_codec.specs.Layouts.{layout_mode}
 use Rattle.plan_code.specs.declared.plan.Plan.{Plan}
+use Rattle.script_front.specs.declared.tree.Condition.{Condition}
 use Rattle.script_front.specs.declared.tree.Item.{Item}
 use Rattle.script_front.specs.declared.tree.Statement.{Statement}
 use Rattle.script_tokens.specs.declared.keyword.Keyword.TheVariants as the
@@ -10,7 +11,7 @@ use Rattle.script_tokens.specs.Keywords.{letters}
 use Rattle.script_tokens.specs.Spelling.{hex_text}
 use Rattle.script_front.specs.Block.{Block, Before, nothing, basic, stop, when, either, repeat, forever, apply, block_of}
 use Rattle.script_front.specs.Tree.{Tree}
-use Rattle.script_front.specs.Spelled.{edit_lexemes, act_lexemes, name_at, mode_lexemes, reserve_lexemes, limits_lexemes}
+use Rattle.script_front.specs.Spelled.{edit_lexemes, act_lexemes, condition_lexemes, name_at, mode_lexemes, reserve_lexemes, limits_lexemes}
 use Rattle.script_tokens.specs.Reading.{Spelled}
 
 -- the tokens of a line, and the number of braces around it
@@ -45,15 +46,18 @@ text_of_lines (l ∷ ls) = line_text l ++ text_of_lines ls
 abbrev pub closing : ℕ → Line
 closing d = line d (letters the.CloseBrace ∷ [])
 
+-- the first line of `if`
+abbrev pub if_lexemes : Condition → Spelled
+if_lexemes condition = letters the.If ∷ (condition_lexemes condition ++ letters the.OpenBrace ∷ [])
+
 abbrev pub block_lines : List (List ℕ) → ℕ → Block → List Line
 block_lines names d nothing = []
 block_lines names d (basic n act rest) = line d (act_lexemes act) ∷ block_lines names d rest
 block_lines names d (stop n rest) = line d (letters the.End ∷ []) ∷ block_lines names d rest
-block_lines names d (when n contact first rest) =
-    line d (letters the.If ∷ letters the.Contact ∷ decimal contact ∷ letters the.OpenBrace ∷ [])
-    ∷ (block_lines names (d + 1) first ++ closing d ∷ block_lines names d rest)
-block_lines names d (either n contact first second rest) =
-    line d (letters the.If ∷ letters the.Contact ∷ decimal contact ∷ letters the.OpenBrace ∷ [])
+block_lines names d (when n condition first rest) =
+    line d (if_lexemes condition) ∷ (block_lines names (d + 1) first ++ closing d ∷ block_lines names d rest)
+block_lines names d (either n condition first second rest) =
+    line d (if_lexemes condition)
     ∷ (block_lines names (d + 1) first ++ line d (letters the.CloseBrace ∷ letters the.Else ∷ letters the.OpenBrace ∷ [])
     ∷ (block_lines names (d + 1) second ++ closing d ∷ block_lines names d rest))
 block_lines names d (repeat n times body rest) =

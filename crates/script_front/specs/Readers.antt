@@ -1,6 +1,6 @@
 -- Reading the parts of a script from the front of the remaining tokens: what is read, and the tokens after it; None
 -- where they do not begin with such a part. The relation that these functions meet is `SpellsTree` of specs/Parsing.antt.
-use Rattle.std.specs.Prelude.{ℕ, zero, suc, ◌-◌, ◌++◌, Bool, true, false, List, [], ◌∷◌, drop, Some, None, Option}
+use Rattle.std.specs.Prelude.{ℕ, zero, suc, ◌-◌, ◌++◌, Bool, true, false, if◌then◌else◌, List, [], ◌∷◌, drop, Some, None, Option}
 use Rattle.mux_config.specs.declared.edit.Edit.{Edit}
 use Rattle.mux_config.specs.declared.edit.Edit.TheVariants.{AddSub, DropSub, MoveSub, RateSub, AddService, DropService, AddComponent, DropComponent, AddPacket, DropPacket}
 use Rattle.mux_eep.specs.Sizes.{Profile}
@@ -30,7 +30,14 @@ use Rattle.script_tokens.specs.declared.first_keyword.ActKeyword.TheVariants as 
 use Rattle.script_tokens.specs.Reading.{Spelled, Reads, ◌>>=◌, first_item, keyed, both, built, either, line_of}
 use Rattle.script_tokens.specs.Taking.{number_at, eid_at, sid_at, profile_at, time_at, level_at}
 use Rattle.script_front.specs.declared.tree.Act.{Act}
-use Rattle.script_front.specs.declared.tree.Act.TheVariants.{Edit as Edits, Wait, WaitContact, Until, CommitIn, CommitAt, Join, Settle}
+use Rattle.script_front.specs.declared.tree.Act.TheVariants.{Edit as Edits, Wait, WaitContact, Until, WaitAny, CommitIn, CommitAt, Join, Settle}
+use Rattle.script_front.specs.declared.tree.Condition.{Condition}
+use Rattle.script_front.specs.declared.tree.Condition.TheVariants.{Contact, Time}
+use Rattle.script_front.specs.declared.moment.MomentForm.{MomentForm as Moment}
+use Rattle.script_front.specs.declared.moment.MomentForm.TheVariants.{At, Early}
+use Rattle.script_front.specs.declared.alternatives.Alternative.{Alternative}
+use Rattle.script_front.specs.declared.alternatives.Alternative.TheVariants.{Contact as OfContact, Until as OfMoment, Frames as OfFrames}
+use Rattle.script_front.specs.Waits.{may_follow}
 use Rattle.script_front.specs.declared.tree.Item.{Item}
 
 -- ---- edits, after their first keyword
@@ -102,19 +109,59 @@ edit_from (edit.Item k) ws = item_from k ws
 
 -- ---- statements without a block, after their first keyword
 
+-- `TIME`, or `TIME early N`
+unfoldable pub moment_at : Spelled → Reads Moment
+moment_at ws = time_at ws >>= λ time. either the.Early (built (Early time.0) (number_at 1 65535)) (λ vs. Some (At time.0, vs)) time.1
+
+-- `contact C closed` or `open`, `until MOMENT`, or a number of frames
+unfoldable pub alternative_at : Spelled → Reads Alternative
+alternative_at ws =
+    either the.Contact (built (λ p. OfContact p.0 p.1) (both (number_at 0 15) level_at))
+    (either the.Until (built OfMoment moment_at) (built OfFrames (number_at 1 65535))) ws
+
+-- an alternative that can be beside those before it
+abbrev pub allowed : List Alternative → Alternative × Spelled → Reads Alternative
+allowed before a = if may_follow before a.0 then Some a else None
+
+unfoldable pub allowed_at : List Alternative → Spelled → Reads Alternative
+allowed_at before ws = alternative_at ws >>= allowed before
+
+-- these alternatives, and at most `room` more, each after `or`
+unfoldable pub alternatives_from : (room : ℕ) → List Alternative → Spelled → Reads (List Alternative)
+alternatives_from zero before ws = either the.Or (λ vs. None) (λ vs. Some (before, vs)) ws
+alternatives_from (suc room) before ws =
+    either the.Or (λ vs. allowed_at before vs >>= λ a. alternatives_from room (before ++ a.0 ∷ []) a.1) (λ vs. Some (before, vs)) ws
+
+-- the `wait` for these alternatives; a moment alone has none
+abbrev pub wait_for : List Alternative → Option Act
+wait_for (OfContact contact closed ∷ []) = Some (WaitContact contact closed)
+wait_for (OfMoment moment ∷ []) = None
+wait_for (OfFrames frames ∷ []) = Some (Wait frames)
+wait_for alternatives = Some (WaitAny alternatives)
+
+abbrev pub waiting : List Alternative × Spelled → Reads Act
+waiting all = wait_for all.0 >>= λ act. Some (act, all.1)
+
 unfoldable pub waiting_at : Spelled → Reads Act
-waiting_at ws = either the.Contact (built (λ p. WaitContact p.0 p.1) (both (number_at 0 15) level_at)) (built Wait (number_at 1 65535)) ws
+waiting_at ws = allowed_at [] ws >>= λ first. (alternatives_from 7 (first.0 ∷ []) first.1 >>= waiting)
 
 unfoldable pub committing_at : Spelled → Reads Act
 committing_at ws = either the.In (built CommitIn (number_at 1 60000)) (keyed the.At (built CommitAt (number_at 0 65535))) ws
 
 unfoldable pub act_from : ActKeyword → Spelled → Reads Act
 act_from act.Wait ws = waiting_at ws
-act_from act.Until ws = built Until time_at ws
+act_from act.Until ws = built Until moment_at ws
 act_from act.Commit ws = committing_at ws
 act_from act.Join ws = Some (Join, ws)
 act_from act.Settle ws = Some (Settle, ws)
 act_from (act.Edit k) ws = built Edits (edit_from k) ws
+
+-- ---- the condition of an `if`
+
+-- `contact C`, or `time A to B`
+unfoldable pub condition_at : Spelled → Reads Condition
+condition_at ws =
+    either the.Time (built (λ p. Time p.0 p.1) (both time_at (keyed the.To time_at))) (keyed the.Contact (built Contact (number_at 0 15))) ws
 
 -- ---- the header
 

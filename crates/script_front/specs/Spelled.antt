@@ -14,7 +14,13 @@ use Rattle.fib_codec.specs.Layouts.{layout_mode}
 use Rattle.fib_codec.specs.declared.modes.Mode.{Mode}
 use Rattle.fib_codec.specs.declared.modes.Mode.TheVariants.{I, II, III, IV}
 use Rattle.script_front.specs.declared.tree.Act.{Act}
-use Rattle.script_front.specs.declared.tree.Act.TheVariants.{Edit as Edits, Wait, WaitContact, Until, CommitIn, CommitAt, Join, Settle}
+use Rattle.script_front.specs.declared.tree.Act.TheVariants.{Edit as Edits, Wait, WaitContact, Until, WaitAny, CommitIn, CommitAt, Join, Settle}
+use Rattle.script_front.specs.declared.tree.Condition.{Condition}
+use Rattle.script_front.specs.declared.tree.Condition.TheVariants.{Contact, Time}
+use Rattle.script_front.specs.declared.moment.MomentForm.{MomentForm as Moment}
+use Rattle.script_front.specs.declared.moment.MomentForm.TheVariants.{At, Early}
+use Rattle.script_front.specs.declared.alternatives.Alternative.{Alternative}
+use Rattle.script_front.specs.declared.alternatives.Alternative.TheVariants.{Contact as OfContact, Until as OfMoment, Frames as OfFrames}
 use Rattle.plan_code.specs.declared.plan.Plan.{Plan}
 use Rattle.script_front.specs.declared.tree.Item.{Item}
 use Rattle.script_front.specs.declared.tree.Statement.{Statement}
@@ -61,15 +67,39 @@ edit_lexemes (DropPacket scid) = letters the.Drop ∷ letters the.Packet ∷ dec
 
 -- ---- statements
 
+abbrev pub moment_lexemes : Moment → Spelled
+moment_lexemes (At time) = time_text time ∷ []
+moment_lexemes (Early time frames) = time_text time ∷ letters the.Early ∷ decimal frames ∷ []
+
+abbrev pub alternative_lexemes : Alternative → Spelled
+alternative_lexemes (OfContact contact closed) = letters the.Contact ∷ decimal contact ∷ level_text closed ∷ []
+alternative_lexemes (OfMoment moment) = letters the.Until ∷ moment_lexemes moment
+alternative_lexemes (OfFrames frames) = decimal frames ∷ []
+
+-- alternatives, each after `or`
+abbrev pub or_lexemes : List Alternative → Spelled
+or_lexemes [] = []
+or_lexemes (a ∷ others) = letters the.Or ∷ (alternative_lexemes a ++ or_lexemes others)
+
+-- alternatives in their order, with `or` between each two
+abbrev pub alternatives_lexemes : List Alternative → Spelled
+alternatives_lexemes [] = []
+alternatives_lexemes (a ∷ others) = alternative_lexemes a ++ or_lexemes others
+
 abbrev pub act_lexemes : Act → Spelled
 act_lexemes (Edits edit) = edit_lexemes edit
 act_lexemes (Wait frames) = letters the.Wait ∷ decimal frames ∷ []
 act_lexemes (WaitContact contact closed) = letters the.Wait ∷ letters the.Contact ∷ decimal contact ∷ level_text closed ∷ []
-act_lexemes (Until second) = letters the.Until ∷ time_text second ∷ []
+act_lexemes (Until moment) = letters the.Until ∷ moment_lexemes moment
+act_lexemes (WaitAny alternatives) = letters the.Wait ∷ alternatives_lexemes alternatives
 act_lexemes (CommitIn delay) = letters the.Commit ∷ letters the.In ∷ decimal delay ∷ []
 act_lexemes (CommitAt count) = letters the.Commit ∷ letters the.At ∷ decimal count ∷ []
 act_lexemes Join = letters the.Join ∷ []
 act_lexemes Settle = letters the.Settle ∷ []
+
+abbrev pub condition_lexemes : Condition → Spelled
+condition_lexemes (Contact contact) = letters the.Contact ∷ decimal contact ∷ []
+condition_lexemes (Time from to) = letters the.Time ∷ time_text from ∷ letters the.To ∷ time_text to ∷ []
 
 -- the name of the block with this number
 abbrev pub name_at : List (List ℕ) → ℕ → List ℕ
@@ -84,11 +114,11 @@ abbrev pub block_lexemes : List (List ℕ) → Block → Spelled
 block_lexemes names nothing = []
 block_lexemes names (basic line act rest) = act_lexemes act ++ block_lexemes names rest
 block_lexemes names (stop line rest) = letters the.End ∷ block_lexemes names rest
-block_lexemes names (when line contact first rest) =
-    letters the.If ∷ letters the.Contact ∷ decimal contact ∷ braced (block_lexemes names first) (block_lexemes names rest)
-block_lexemes names (either line contact first second rest) =
-    letters the.If ∷ letters the.Contact ∷ decimal contact ∷ braced (block_lexemes names first) (
-    letters the.Else ∷ braced (block_lexemes names second) (block_lexemes names rest))
+block_lexemes names (when line condition first rest) =
+    letters the.If ∷ (condition_lexemes condition ++ braced (block_lexemes names first) (block_lexemes names rest))
+block_lexemes names (either line condition first second rest) =
+    letters the.If ∷ (condition_lexemes condition ++ braced (block_lexemes names first) (
+    letters the.Else ∷ braced (block_lexemes names second) (block_lexemes names rest)))
 block_lexemes names (repeat line times body rest) =
     letters the.Repeat ∷ decimal times ∷ braced (block_lexemes names body) (block_lexemes names rest)
 block_lexemes names (forever line body rest) = letters the.Forever ∷ braced (block_lexemes names body) (block_lexemes names rest)
@@ -150,11 +180,11 @@ BlockOn names lines nothing after = Unit {0}
 BlockOn names lines (basic line act rest) after =
     (line ≡ line_of lines (block_lexemes names (basic line act rest) ++ after)) × BlockOn names lines rest after
 BlockOn names lines (stop line rest) after = (line ≡ line_of lines (block_lexemes names (stop line rest) ++ after)) × BlockOn names lines rest after
-BlockOn names lines (when line contact first rest) after =
-    (line ≡ line_of lines (block_lexemes names (when line contact first rest) ++ after))
+BlockOn names lines (when line condition first rest) after =
+    (line ≡ line_of lines (block_lexemes names (when line condition first rest) ++ after))
     × BlockOn names lines first (letters the.CloseBrace ∷ (block_lexemes names rest ++ after)) × BlockOn names lines rest after
-BlockOn names lines (either line contact first second rest) after =
-    (line ≡ line_of lines (block_lexemes names (either line contact first second rest) ++ after))
+BlockOn names lines (either line condition first second rest) after =
+    (line ≡ line_of lines (block_lexemes names (either line condition first second rest) ++ after))
     × BlockOn names lines first (letters the.CloseBrace ∷ letters the.Else ∷ (braced (block_lexemes names second) (block_lexemes names rest) ++ after))
     × BlockOn names lines second (letters the.CloseBrace ∷ (block_lexemes names rest ++ after)) × BlockOn names lines rest after
 BlockOn names lines (repeat line times body rest) after =

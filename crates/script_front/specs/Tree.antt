@@ -5,11 +5,14 @@ use Rattle.mux_config.specs.declared.edit.Edit.{Edit}
 use Rattle.mux_config.specs.declared.edit.Edit.TheVariants.{AddSub, AddService, AddComponent, AddPacket}
 use Rattle.plan_code.specs.Program.{IsPlan, IsEdit}
 use Rattle.script_front.specs.declared.tree.Act.{Act}
-use Rattle.script_front.specs.declared.tree.Act.TheVariants.{Edit as Edits, Wait, WaitContact, Until, CommitIn, CommitAt, Join, Settle}
+use Rattle.script_front.specs.declared.tree.Act.TheVariants.{Edit as Edits, Wait, WaitContact, Until, WaitAny, CommitIn, CommitAt, Join, Settle}
+use Rattle.script_front.specs.declared.tree.Condition.{Condition}
+use Rattle.script_front.specs.declared.tree.Condition.TheVariants.{Contact, Time}
 use Rattle.plan_code.specs.declared.plan.Plan.{Plan}
 use Rattle.script_front.specs.declared.tree.Item.{Item}
 use Rattle.script_front.specs.declared.tree.Statement.{Statement}
 use Rattle.script_front.specs.Block.{Block, nothing, basic, stop, when, either, repeat, forever, apply, block_of}
+use Rattle.script_front.specs.Waits.{IsMoment, AreAlternatives}
 use Rattle.script_tokens.specs.Keywords.{IsName}
 
 pub record Tree : Type 0 where
@@ -30,11 +33,16 @@ abbrev pub IsAct : Act → Type 0
 IsAct (Edits edit) = IsEdit edit
 IsAct (Wait frames) = (1 ≤ frames) × (frames < 65536)
 IsAct (WaitContact contact closed) = contact < 16
-IsAct (Until second) = second < 86400
+IsAct (Until moment) = IsMoment moment
+IsAct (WaitAny alternatives) = AreAlternatives alternatives
 IsAct (CommitIn delay) = (1 ≤ delay) × (delay ≤ 60000)
 IsAct (CommitAt count) = count < 65536
 IsAct Join = Unit {0}
 IsAct Settle = Unit {0}
+
+abbrev pub IsCondition : Condition → Type 0
+IsCondition (Contact contact) = contact < 16
+IsCondition (Time from to) = (from < 86400) × (to < 86400)
 
 -- an edit that adds
 abbrev pub Adds : Edit → Type 0
@@ -59,10 +67,10 @@ abbrev pub IsInBounds : (known depth : ℕ) → Block → Type 0
 IsInBounds known depth nothing = Unit {0}
 IsInBounds known depth (basic line act rest) = IsAct act × IsInBounds known depth rest
 IsInBounds known depth (stop line rest) = IsInBounds known depth rest
-IsInBounds known depth (when line contact first rest) =
-    (1 ≤ depth) × (contact < 16) × IsInBounds known (depth - 1) first × IsInBounds known depth rest
-IsInBounds known depth (either line contact first second rest) =
-    (1 ≤ depth) × (contact < 16) × IsInBounds known (depth - 1) first × IsInBounds known (depth - 1) second × IsInBounds known depth rest
+IsInBounds known depth (when line condition first rest) =
+    (1 ≤ depth) × IsCondition condition × IsInBounds known (depth - 1) first × IsInBounds known depth rest
+IsInBounds known depth (either line condition first second rest) =
+    (1 ≤ depth) × IsCondition condition × IsInBounds known (depth - 1) first × IsInBounds known (depth - 1) second × IsInBounds known depth rest
 IsInBounds known depth (repeat line times body rest) =
     (1 ≤ depth) × (1 ≤ times) × (times < 65536) × IsInBounds known (depth - 1) body × IsInBounds known depth rest
 IsInBounds known depth (forever line body rest) = (1 ≤ depth) × IsInBounds known (depth - 1) body × IsInBounds known depth rest
@@ -78,8 +86,8 @@ abbrev pub counted : Block → ℕ
 counted nothing = 0
 counted (basic line act rest) = 1 + counted rest
 counted (stop line rest) = 1 + counted rest
-counted (when line contact first rest) = 1 + (counted first + counted rest)
-counted (either line contact first second rest) = 1 + (counted first + (counted second + counted rest))
+counted (when line condition first rest) = 1 + (counted first + counted rest)
+counted (either line condition first second rest) = 1 + (counted first + (counted second + counted rest))
 counted (repeat line times body rest) = 1 + (counted body + counted rest)
 counted (forever line body rest) = 1 + (counted body + counted rest)
 counted (apply line number named rest) = 1 + counted rest

@@ -4,18 +4,17 @@ ghost use Rattle.std.specs.Prelude.{◌≡◌, ℕ, ◌≢◌, true, false, None
 ghost use Rattle.script_tokens.specs.declared.fault.ScriptFault.TheVariants.{Memory};
 ghost use Rattle.script_tokens.specs.declared.first_keyword.ItemKeyword.TheVariants as the;
 ghost use Rattle.script_tokens.specs.Reading.{Takes, first_item};
-ghost use Rattle.script_front.specs.Readers.{sub_at, service_at, new_sub_at, new_packet_at, groups_at, typed_sub_at, component_from, item_from, carrier_at, dropping, dropped_at, moved_at, rated_at, edit_from, waiting_at, committing_at, act_from, items_at};
+ghost use Rattle.script_front.specs.Readers.{sub_at, service_at, new_sub_at, new_packet_at, groups_at, typed_sub_at, component_from, item_from, carrier_at, dropping, dropped_at, moved_at, rated_at, edit_from, committing_at, act_from, items_at};
 ghost use Rattle.script_front.specs.Parsing.{ReadsItems, HasMore};
 
 use crate::tree::{Act, Item};
+use crate::waits::{moment, waiting};
 use mux_config::{Carrier, Component, Edit, NewSub, Packet, ScTy, Sid, SubId};
 use script_tokens::fault::ScriptFault;
 use script_tokens::first_keyword::{ActKeyword, ComponentKeyword, EditKeyword, ItemKeyword};
 use script_tokens::keyword::Keyword;
 use script_tokens::token_reader::TokenReader;
-use script_tokens::values::{
-    any_u16, contact, delay, frames, level, profile, sc_id, sc_ty, sid, start, sub_id, time,
-};
+use script_tokens::values::{any_u16, delay, profile, sc_id, sc_ty, sid, start, sub_id};
 use std::alloc::Global;
 
 /// `sub ID`
@@ -227,21 +226,6 @@ fn edit(reader: &mut TokenReader, first: EditKeyword) -> Result<Edit, ScriptFaul
     }
 }
 
-/// The rest of a statement after `wait`
-#[tactic(auto, unfolding(crate::specs::Readers::waiting_at))]
-fn waiting(reader: &mut TokenReader) -> Result<Act, ScriptFault>
-    ensures { Takes (waiting_at reader.old.lexemes) result reader.old reader.new }
-{
-    if reader.is_next(Keyword::Contact) {
-        reader.advance();
-        let contact = contact(reader)?;
-        let closed = level(reader)?;
-        return Ok(Act::WaitContact { contact, closed });
-    }
-    let frames = frames(reader)?;
-    Ok(Act::Wait(frames))
-}
-
 /// `in K` or `at COUNT`, after `commit`
 #[tactic(auto, unfolding(crate::specs::Readers::committing_at))]
 fn committing(reader: &mut TokenReader) -> Result<Act, ScriptFault>
@@ -265,8 +249,8 @@ pub fn act(reader: &mut TokenReader, first: ActKeyword) -> Result<Act, ScriptFau
     match first {
         ActKeyword::Wait => waiting(reader),
         ActKeyword::Until => {
-            let time = time(reader)?;
-            Ok(Act::Until(time))
+            let moment = moment(reader)?;
+            Ok(Act::Until(moment))
         }
         ActKeyword::Commit => committing(reader),
         ActKeyword::Join => Ok(Act::Join),

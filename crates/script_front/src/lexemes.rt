@@ -1,19 +1,21 @@
 //! Printing the header, items and statements without a block; items and statements without indentation and line end.
 
-ghost use Rattle.std.specs.Prelude.{◌≡◌, ◌++◌, ◌<◌, [], OnOk, string_bytes};
+ghost use Rattle.std.specs.Prelude.{◌≡◌, ◌++◌, [], OnOk, string_bytes};
 ghost use Rattle.std.specs.Fmt.{decimal};
 ghost use Rattle.mux_config.specs.declared.edit.Edit.TheVariants.{AddSub, AddPacket, AddComponent, DropComponent};
-ghost use Rattle.script_front.specs.declared.tree.Act.TheVariants.{Until, WaitContact};
-ghost use Rattle.script_tokens.specs.Spelling.{hex_byte, hex_text, sid_text, profile_text, two_digits, time_text};
+ghost use Rattle.script_front.specs.declared.tree.Act.TheVariants.{Until, WaitAny, WaitContact};
+ghost use Rattle.script_tokens.specs.Spelling.{hex_byte, hex_text, sid_text, profile_text};
 ghost use Rattle.script_front.specs.Spelled.{carried_lexemes, carrier_lexemes, within_lexemes, edit_lexemes, act_lexemes, mode_lexemes, reserve_lexemes, limits_lexemes};
 ghost use Rattle.script_front.specs.Printing.{spaced, each_after, limits_line, header_lines, line_text, text_of_lines};
 
+use crate::alternatives::Alternatives;
+use crate::moment::Moment;
 use crate::tree::Act;
+use crate::wait_lexemes::{put_alternatives, put_moment};
 use fib_codec::{FrameLayout, Mode};
 use mux_config::{Carrier, Component, Edit, NewSub, Packet, ScTy, Sid, SubId};
 use mux_eep::{EepSet, Protection};
 use plan_code::{ContactId, Plan};
-use script_tokens::time::TimeOfDay;
 use std::alloc::AllocError;
 use std::fmt::Write;
 
@@ -216,38 +218,25 @@ pub fn put_edit(out: &mut String, edit: Edit) -> Result<(), AllocError>
     }
 }
 
-/// Two decimal digits.
-#[tactic(auto, using(crate::proofs::Printed::digit))]
-fn put_two(out: &mut String, number: u32) -> Result<(), AllocError>
-    requires { number < 100 }
-    ensures { OnOk result (string_bytes out.new ≡ string_bytes out.old ++ two_digits number) }
+/// `until MOMENT`
+#[tactic(auto, using(crate::proofs::PrintedWaits::until_put))]
+fn put_until(out: &mut String, moment: Moment) -> Result<(), AllocError>
+    ensures { OnOk result (string_bytes out.new ≡ string_bytes out.old ++ spaced (act_lexemes (Until
+        moment))) }
 {
-    let tens = number / 10;
-    let ones = number % 10;
-    write!(out, "{tens}{ones}")
-}
-
-/// A time of day, `HH:MM:SS`.
-fn put_time(out: &mut String, time: TimeOfDay) -> Result<(), AllocError>
-    ensures { OnOk result (string_bytes out.new ≡ string_bytes out.old ++ time_text time) }
-{
-    let seconds = time.seconds();
-    put_two(out, seconds / 3600)?;
-    out.push_str(":")?;
-    put_two(out, seconds / 60 % 60)?;
-    out.push_str(":")?;
-    put_two(out, seconds % 60)?;
+    out.push_str("until")?;
+    put_moment(out, moment)?;
     Ok(())
 }
 
-/// `until TIME`
-#[tactic(auto, unfolding(script_tokens::specs::Keywords::letters))]
-fn put_until(out: &mut String, time: TimeOfDay) -> Result<(), AllocError>
-    ensures { OnOk result (string_bytes out.new ≡ string_bytes out.old ++ spaced (act_lexemes (Until
-        time))) }
+/// `wait ALT or ALT ..`
+#[tactic(auto, using(crate::proofs::PrintedWaits::any_put))]
+fn put_any(out: &mut String, alternatives: &Alternatives) -> Result<(), AllocError>
+    ensures { OnOk result (string_bytes out.new ≡ string_bytes out.old ++ spaced (act_lexemes
+        (WaitAny alternatives.now))) }
 {
-    out.push_str("until ")?;
-    put_time(out, time)?;
+    out.push_str("wait")?;
+    put_alternatives(out, alternatives)?;
     Ok(())
 }
 
@@ -278,7 +267,8 @@ pub fn put_act(out: &mut String, act: Act) -> Result<(), AllocError>
             write!(out, "wait {frames}")
         }
         Act::WaitContact { contact, closed } => put_waiting(out, contact, closed),
-        Act::Until(time) => put_until(out, time),
+        Act::Until(moment) => put_until(out, moment),
+        Act::WaitAny(alternatives) => put_any(out, &alternatives),
         Act::CommitIn(delay) => {
             let delay = delay.get();
             write!(out, "commit in {delay}")

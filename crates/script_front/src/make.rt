@@ -4,8 +4,8 @@ ghost use Rattle.std.specs.Prelude.{◌≡◌, []};
 ghost use Rattle.script_front.specs.Block.{Block, basic, stop, when, either, repeat, forever, apply, before, block_of};
 ghost use Rattle.script_front.specs.Block.{nothing};
 
-use crate::tree::{Act, BlockId, Statement};
-use plan_code::{ContactId, Times};
+use crate::tree::{Act, BlockId, Condition, Statement};
+use plan_code::Times;
 
 /// A statement without a block.
 pub fn acting(line: u16, act: Act) -> Statement
@@ -22,12 +22,12 @@ pub fn ending(line: u16) -> Statement
 }
 
 /// `if` without `else`
-pub fn conditional(line: u16, contact: ContactId, first: Vec<Statement>) -> Statement
-    ensures { (b : Block) → before [] result b ≡ when line contact (block_of [] first.items) b }
+pub fn conditional(line: u16, condition: Condition, first: Vec<Statement>) -> Statement
+    ensures { (b : Block) → before [] result b ≡ when line condition (block_of [] first.items) b }
 {
     Statement::If {
         line,
-        contact,
+        condition,
         first,
     }
 }
@@ -35,16 +35,16 @@ pub fn conditional(line: u16, contact: ContactId, first: Vec<Statement>) -> Stat
 /// `if` with `else`
 pub fn choosing(
     line: u16,
-    contact: ContactId,
+    condition: Condition,
     first: Vec<Statement>,
     second: Vec<Statement>,
 ) -> Statement
-    ensures { (b : Block) → before [] result b ≡ either line contact (block_of [] first.items)
+    ensures { (b : Block) → before [] result b ≡ either line condition (block_of [] first.items)
         (block_of [] second.items) b }
 {
     Statement::IfElse {
         line,
-        contact,
+        condition,
         first,
         second,
     }

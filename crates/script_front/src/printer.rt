@@ -8,14 +8,15 @@ ghost use Rattle.script_front.specs.Block.{before, nothing, block_of};
 ghost use Rattle.script_front.specs.Tree.{IsInBounds, AllFit};
 ghost use Rattle.script_front.specs.Parsing.{bodies};
 ghost use Rattle.script_front.specs.Spelled.{act_lexemes, edit_lexemes, name_at};
-ghost use Rattle.script_front.specs.Printing.{IsPut, line, indent, line_text, text_of_lines, block_lines, items_lines, definition_lines, defined_lines, tree_lines};
+ghost use Rattle.script_front.specs.Printing.{IsPut, line, indent, if_lexemes, line_text, text_of_lines, block_lines, items_lines, definition_lines, defined_lines, tree_lines};
 ghost use Rattle.script_front.specs.Denoting.{Denotes};
 
 use crate::lexemes::{put_act, put_edit, put_header};
 use crate::names::Names;
 use crate::script::Script;
-use crate::tree::{Act, BlockId, Item, Statement};
-use plan_code::{ContactId, Times};
+use crate::tree::{Act, BlockId, Condition, Item, Statement};
+use crate::wait_lexemes::put_condition;
+use plan_code::Times;
 use std::alloc::{AllocError, Global};
 use std::fmt::Write;
 
@@ -99,15 +100,15 @@ fn put_name(out: &mut String, names: &Names, index: usize) -> Result<(), AllocEr
 }
 
 /// The first line of `if`.
-#[tactic(auto, unfolding(script_tokens::specs::Keywords::letters))]
-fn put_if(out: &mut String, contact: ContactId, depth: u8) -> Result<(), AllocError>
-    ensures { OnOk result (string_bytes out.new ≡ string_bytes out.old
-        ++ line_text (line depth (letters the.If ∷ letters the.Contact ∷ decimal contact ∷ letters
-        the.OpenBrace ∷ []))) }
+#[tactic(auto, using(crate::proofs::PrintedWaits::if_put))]
+fn put_if(out: &mut String, condition: Condition, depth: u8) -> Result<(), AllocError>
+    ensures { OnOk result (string_bytes out.new ≡ string_bytes out.old ++ line_text (line depth
+        (if_lexemes condition))) }
 {
-    let contact = contact.get();
-    put_indent(out, depth)?;
-    write!(out, "if contact {contact} {{\n")
+    put_line(out, depth, "if")?;
+    put_condition(out, condition)?;
+    out.push_str(" {\n")?;
+    Ok(())
 }
 
 /// The first line of `repeat`.
@@ -146,19 +147,23 @@ fn put_statement(
             put_line(out, depth, "end\n")?;
             Ok(())
         }
-        Statement::If { contact, first, .. } => {
-            put_if(out, *contact, depth)?;
+        Statement::If {
+            condition,
+            first,
+            ..
+        } => {
+            put_if(out, *condition, depth)?;
             put_statements(out, names, first.as_slice(), depth + 1, left - 1)?;
             put_line(out, depth, "}\n")?;
             Ok(())
         }
         Statement::IfElse {
-            contact,
+            condition,
             first,
             second,
             ..
         } => {
-            put_if(out, *contact, depth)?;
+            put_if(out, *condition, depth)?;
             put_statements(out, names, first.as_slice(), depth + 1, left - 1)?;
             put_line(out, depth, "} else {\n")?;
             put_statements(out, names, second.as_slice(), depth + 1, left - 1)?;

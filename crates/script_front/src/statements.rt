@@ -12,11 +12,12 @@ use crate::items::act;
 use crate::make::{acting, applying, choosing, conditional, ending, looping, repeating};
 use crate::names::Names;
 use crate::tree::{BlockId, Statement};
+use crate::waits::condition;
 use script_tokens::fault::ScriptFault;
 use script_tokens::first_keyword::StatementKeyword;
 use script_tokens::keyword::Keyword;
 use script_tokens::token_reader::TokenReader;
-use script_tokens::values::{contact, name, times};
+use script_tokens::values::{name, times};
 use std::alloc::Global;
 
 /// A statement; `left` is how many more items and statements the script may have, and `depth` how many more braces may
@@ -175,15 +176,14 @@ fn choice(
     ensures none { IfErr result (λ e. e ≢ Memory → ReadsNoneAfter the.If names.now line depth
         left.old reader.old) }
 {
-    reader.expect(Keyword::Contact)?;
-    let contact = contact(reader)?;
+    let condition = condition(reader)?;
     let first = block(alloc, reader, names, left, depth)?;
     if !reader.is_next(Keyword::Else) {
-        return Ok(conditional(line, contact, first));
+        return Ok(conditional(line, condition, first));
     }
     reader.advance();
     let second = block(alloc, reader, names, left, depth)?;
-    Ok(choosing(line, contact, first, second))
+    Ok(choosing(line, condition, first, second))
 }
 
 /// The rest of a statement after `repeat`.

@@ -2,6 +2,8 @@
 
 ghost use Rattle.std.specs.Prelude.{◌≡◌, ◌<◌, ◌↔◌, IsSome, IfSome};
 
+use crate::alternatives::Alternatives;
+use crate::moment::Moment;
 use mux_config::Edit;
 use plan_code::{ContactId, Delay, Frames, Times};
 use script_tokens::time::TimeOfDay;
@@ -63,8 +65,10 @@ pub enum Act {
     Wait(Frames),
     /// `wait contact C closed` or `open`: suspends until the contact has this level in a later frame.
     WaitContact { contact: ContactId, closed: bool },
-    /// `until TIME`: suspends until a later frame is the first one at this time of day.
-    Until(TimeOfDay),
+    /// `until MOMENT`: suspends until a later frame is the one of this moment of the day.
+    Until(Moment),
+    /// `wait ALT or ALT ..`: suspends until the first later frame in which one of the alternatives is there.
+    WaitAny(Alternatives),
     /// `commit in K`: commits the next configuration; the swap falls after this many frames, or in the first frame
     /// after that whose CIF count is a multiple of the mode's step.
     CommitIn(Delay),
@@ -75,6 +79,16 @@ pub enum Act {
     Join,
     /// `settle`: if a swap is pending, suspends until it has been made.
     Settle,
+}
+
+/// What an `if` tests.
+#[derive(Clone, Copy, Debug, PartialEq, Eq)]
+pub enum Condition {
+    /// `contact C`: whether the contact is closed.
+    Contact(ContactId),
+    /// `time A to B`: whether the frame of the day is at A or later, and before B; over midnight where B is before A,
+    /// and never where they are equal.
+    Time { from: TimeOfDay, to: TimeOfDay },
 }
 
 /// A statement, with the line of its first token, 1 to 65,535. Blocks in braces are lists of statements.
@@ -89,16 +103,16 @@ pub enum Statement {
     End {
         line: u16,
     },
-    /// `if contact C { .. }`: the block, if the contact is closed.
+    /// `if contact C { .. }` or `if time A to B { .. }`: the block, if the condition holds.
     If {
         line: u16,
-        contact: ContactId,
+        condition: Condition,
         first: Vec<Statement>,
     },
-    /// `if contact C { .. } else { .. }`: the first block if the contact is closed, the second if it is open.
+    /// The same with `else { .. }`: the first block if the condition holds, the second if it does not.
     IfElse {
         line: u16,
-        contact: ContactId,
+        condition: Condition,
         first: Vec<Statement>,
         second: Vec<Statement>,
     },

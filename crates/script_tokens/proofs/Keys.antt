@@ -12,7 +12,7 @@ use Rattle.std.proofs.lemmas.Fmt.{digits_decimal}
 use Rattle.script_tokens.proofs.Digits.{own}
 use Rattle.std.specs.Fmt.{decimal}
 use Rattle.script_tokens.specs.declared.keyword.Keyword.{Keyword}
-use Rattle.script_tokens.specs.declared.keyword.Keyword.TheVariants.{Ensemble, Mode, Period, Notice, Budget, Reserve, Define, Begin, Sub, At, Eep, Service, Audio, In, Data, Carry, Packet, Groups, Raw, TypeWord, Address, Drop, Component, Move, Rate, Wait, Contact, Closed, Open, Until, Commit, Join, Settle, End, If, Else, Repeat, Forever, Apply, OpenBrace, CloseBrace}
+use Rattle.script_tokens.specs.declared.keyword.Keyword.TheVariants.{Ensemble, Mode, Period, Notice, Budget, Reserve, Define, Begin, Sub, At, Eep, Service, Audio, In, Data, Carry, Packet, Groups, Raw, TypeWord, Address, Drop, Component, Move, Rate, Wait, Contact, Closed, Open, Until, Early, Or, Time, To, Commit, Join, Settle, End, If, Else, Repeat, Forever, Apply, OpenBrace, CloseBrace}
 use Rattle.script_tokens.specs.Keywords.{the, text, letters, head_keywords, item_keywords, packet_keywords, change_keywords, wait_keywords, flow_keywords, keywords, lexeme_among, word_of, IsNoneOf, IsNoKeyword}
 use Rattle.script_tokens.specs.Reading.{Spelled}
 use Rattle.script_tokens.specs.Spelling.{level_text}
@@ -49,6 +49,10 @@ word_the Contact = refl
 word_the Closed = refl
 word_the Open = refl
 word_the Until = refl
+word_the Early = refl
+word_the Or = refl
+word_the Time = refl
+word_the To = refl
 word_the Commit = refl
 word_the Join = refl
 word_the Settle = refl
@@ -85,9 +89,9 @@ pub word_text : (w : List ℕ) → IsNoKeyword w → word_of w ≡ text w
 unfolding word_of
 word_text w h = none_among keywords w h
 
-pub no_decimal : (n : ℕ) → n < 1000000000 → decimal n ≢ letters Contact
-unfolding letters
-no_decimal n small e = let digits : all_ascii_digits (letters Contact) ≡ true = subst (λ (w : List ℕ). all_ascii_digits w ≡ true) e (digits_decimal own n (omega arith)) in false≢true digits
+pub no_decimal : (k : Keyword) (n : ℕ) → n < 1000000000 → all_ascii_digits (letters k) ≡ false → decimal n ≢ letters k
+no_decimal k n small none e =
+    let digits : all_ascii_digits (letters k) ≡ true = subst (λ (w : List ℕ). all_ascii_digits w ≡ true) e (digits_decimal own n (omega arith)) in false≢true (sym none ∙ digits)
 
 -- a keyword is equal to itself
 pub itself : (j k : Keyword) → Some j ≡ Some k → sameb the_type j k ≡ false → ⊥

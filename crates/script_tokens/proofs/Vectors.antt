@@ -85,6 +85,15 @@ no_name : name_next (letters the.Sub ∷ []) ≡ None
 unfolding name_next letters word_of
 no_name = refl
 
+-- nor is a keyword of the waits and the times of day
+or_is_no_name : name_next (letters the.Or ∷ []) ≡ None
+unfolding name_next letters word_of
+or_is_no_name = refl
+
+early_is_no_name : name_next (letters the.Early ∷ []) ≡ None
+unfolding name_next letters word_of
+early_is_no_name = refl
+
 a_name : name_next ((97 ∷ []) ∷ []) ≡ Some (97 ∷ [], [])
 unfolding name_next letters word_of
 a_name = refl

@@ -3,7 +3,7 @@ use Rattle.std.specs.Prelude.{◌≡◌, ◌≢◌, ℕ, ◌≤◌, ◌||◌, �
 use Rattle.std.specs.List.{list_all, AllByRecursion}
 use Rattle.std.specs.Str.{bytes_eq}
 use Rattle.script_tokens.specs.declared.keyword.Keyword.{Keyword}
-use Rattle.script_tokens.specs.declared.keyword.Keyword.TheVariants.{Ensemble, Mode, Period, Notice, Budget, Reserve, Define, Begin, Sub, At, Eep, Service, Audio, In, Data, Carry, Packet, Groups, Raw, TypeWord, Address, Drop, Component, Move, Rate, Wait, Contact, Closed, Open, Until, Commit, Join, Settle, End, If, Else, Repeat, Forever, Apply, OpenBrace, CloseBrace}
+use Rattle.script_tokens.specs.declared.keyword.Keyword.TheVariants.{Ensemble, Mode, Period, Notice, Budget, Reserve, Define, Begin, Sub, At, Eep, Service, Audio, In, Data, Carry, Packet, Groups, Raw, TypeWord, Address, Drop, Component, Move, Rate, Wait, Contact, Closed, Open, Until, Early, Or, Time, To, Commit, Join, Settle, End, If, Else, Repeat, Forever, Apply, OpenBrace, CloseBrace}
 
 unfoldable pub letters : Keyword → List ℕ
 letters Ensemble = codes "ensemble"
@@ -36,6 +36,10 @@ letters Contact = codes "contact"
 letters Closed = codes "closed"
 letters Open = codes "open"
 letters Until = codes "until"
+letters Early = codes "early"
+letters Or = codes "or"
+letters Time = codes "time"
+letters To = codes "to"
 letters Commit = codes "commit"
 letters Join = codes "join"
 letters Settle = codes "settle"
@@ -53,7 +57,8 @@ pub data Lexeme : Type 0 where
   the : (keyword : Keyword) → Lexeme
   text : (bytes : List ℕ) → Lexeme
 
--- the keywords by subject: the head of a script, its items, packet components, changes, waiting, and control flow
+-- the keywords by subject: the head of a script, its items, packet components, changes, waiting and times, and control
+-- flow
 abbrev pub head_keywords : List Keyword
 head_keywords = Ensemble ∷ Mode ∷ Period ∷ Notice ∷ Budget ∷ Reserve ∷ Define ∷ Begin ∷ []
 
@@ -67,7 +72,7 @@ abbrev pub change_keywords : List Keyword
 change_keywords = Drop ∷ Component ∷ Move ∷ Rate ∷ Commit ∷ Join ∷ Settle ∷ []
 
 abbrev pub wait_keywords : List Keyword
-wait_keywords = Wait ∷ Contact ∷ Closed ∷ Open ∷ Until ∷ []
+wait_keywords = Wait ∷ Contact ∷ Closed ∷ Open ∷ Until ∷ Early ∷ Or ∷ Time ∷ To ∷ []
 
 abbrev pub flow_keywords : List Keyword
 flow_keywords = End ∷ If ∷ Else ∷ Repeat ∷ Forever ∷ Apply ∷ OpenBrace ∷ CloseBrace ∷ []

@@ -112,6 +112,10 @@ impl Keyword {
             | Keyword::Contact
             | Keyword::Closed
             | Keyword::Open
+            | Keyword::Early
+            | Keyword::Or
+            | Keyword::Time
+            | Keyword::To
             | Keyword::Else
             | Keyword::OpenBrace
             | Keyword::CloseBrace => None,

@@ -66,6 +66,14 @@ pub enum Keyword {
     Open,
     /// `until`
     Until,
+    /// `early`
+    Early,
+    /// `or`
+    Or,
+    /// `time`
+    Time,
+    /// `to`
+    To,
     /// `commit`
     Commit,
     /// `join`
@@ -193,7 +201,7 @@ fn find_change(bytes: &[u8]) -> Option<Keyword>
     }
 }
 
-/// The keyword that these bytes spell, if it is one of the waits.
+/// The keyword that these bytes spell, if it is one of the waits and the times of day.
 #[tactic(auto, unfolding(crate::specs::Keywords::letters))]
 fn find_wait(bytes: &[u8]) -> Option<Keyword>
     ensures found { IfSome result (λ k. bytes.now ≡ letters k) }
@@ -205,6 +213,10 @@ fn find_wait(bytes: &[u8]) -> Option<Keyword>
         b"closed" => Some(Keyword::Closed),
         b"open" => Some(Keyword::Open),
         b"until" => Some(Keyword::Until),
+        b"early" => Some(Keyword::Early),
+        b"or" => Some(Keyword::Or),
+        b"time" => Some(Keyword::Time),
+        b"to" => Some(Keyword::To),
         _ => None,
     }
 }

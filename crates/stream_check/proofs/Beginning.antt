@@ -27,6 +27,7 @@ at_first step period = record {
   rows = 0;
   since = 0;
   parts = 0;
+  noted = [];
 }
 
 pub knows_nothing : (step period : ℕ) → Knows step period [] (at_first step period)

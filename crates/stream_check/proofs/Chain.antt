@@ -1,4 +1,4 @@
--- Hearing entries one after the other.
+-- Hearing what is sent, one after the other.
 use Rattle.std.proofs.Common.{◌≡◌, ◌≤◌, ℕ, nat_le, length, arith, Bool, true, false, cond, List, [], ◌∷◌, ◌++◌, map, refl, sym, ap, ◌∙◌, subst}
 use Rattle.std.proofs.lemmas.Bool.{false≢true, leb-false, lt-leb}
 use Rattle.std.proofs.lemmas.List.{append_assoc, append-nil, map-append, length-append}
@@ -7,11 +7,13 @@ use Rattle.stream_check.specs.declared.finding.What.{What}
 use Rattle.stream_check.specs.declared.reporting.FrameAt.{FrameAt}
 use Rattle.stream_check.specs.declared.checker_state.CheckerState.{CheckerState}
 use Rattle.stream_check.specs.Reporting.{in_frame}
-use Rattle.stream_check.specs.History.{Item, Moment, Said, said}
-use Rattle.stream_check.specs.Rules.{known_of, findings_at, has_no_room}
-use Rattle.stream_check.specs.Stream.{findings_at_items, runs_full}
+use Rattle.stream_check.specs.declared.contradiction.Contradiction.{Contradiction}
+use Rattle.stream_check.specs.History.{Moment, said}
+use Rattle.stream_check.specs.Sent.{Sent, items_in, noted_after}
+use Rattle.stream_check.specs.Stream.{findings_at_sent}
 use Rattle.stream_check.specs.CheckerState.{Knows}
-use Rattle.stream_check.specs.Hearing.{Hears}
+use Rattle.stream_check.specs.Hearing.{IsHeard, Hears}
+use Rattle.stream_check.proofs.Sending.{noted_append, said_sent, full_sent, full_sent_stays, findings_append, findings_stay}
 use Rattle.stream_check.specs.Reported.{Reported, Unknown, All, AtMost, kept, with_more}
 
 -- more findings than are kept stay more
@@ -62,76 +64,47 @@ more_pair at r a b xs ys one two =
     ∙ more_twice r (map (in_frame at) xs) (map (in_frame at) ys)
     ∙ ap (with_more r) (sym (map-append (in_frame at) xs ys))
 
-pub said_append : (xs ys : List Item) (past : List Moment) → said (xs ++ ys) past ≡ said ys (said xs past)
-said_append [] ys past = refl
-said_append (x ∷ xs) ys past = said_append xs ys (Said x ∷ past)
-
-full_append : (step period : ℕ) (xs ys : List Item) (past : List Moment) → runs_full step period past xs ≡ false → runs_full step period past (xs ++ ys) ≡ runs_full step period (said xs past) ys
-full_append step period [] ys past e = refl
-full_append step period (x ∷ xs) ys past e = elim (has_no_room (known_of step period past) x) as (λ t. cond t true (runs_full step period (Said x ∷ past) xs) ≡ false → cond t true (runs_full step period (Said x ∷ past) (xs ++ ys)) ≡ runs_full step period (said xs (Said x ∷ past)) ys) [
-  | true ↦ λ h. absurd (false≢true (sym h))
-  | false ↦ λ h. full_append step period xs ys (Said x ∷ past) h
-] e
-
-full_stays : (step period : ℕ) (xs ys : List Item) (past : List Moment) → runs_full step period past xs ≡ true → runs_full step period past (xs ++ ys) ≡ true
-full_stays step period [] ys past e = absurd (false≢true e)
-full_stays step period (x ∷ xs) ys past e = elim (has_no_room (known_of step period past) x) as (λ t. cond t true (runs_full step period (Said x ∷ past) xs) ≡ true → cond t true (runs_full step period (Said x ∷ past) (xs ++ ys)) ≡ true) [
-  | true ↦ λ h. refl
-  | false ↦ λ h. full_stays step period xs ys (Said x ∷ past) h
-] e
-
-findings_append : (step period : ℕ) (xs ys : List Item) (past : List Moment) → runs_full step period past xs ≡ false
-    → findings_at_items step period past (xs ++ ys) ≡ findings_at_items step period past xs ++ findings_at_items step period (said xs past) ys
-findings_append step period [] ys past e = refl
-findings_append step period (x ∷ xs) ys past e = elim (has_no_room (known_of step period past) x) as (λ t. cond t true (runs_full step period (Said x ∷ past) xs) ≡ false
-    → cond t [] (findings_at (known_of step period past) x ++ findings_at_items step period (Said x ∷ past) (xs ++ ys))
-    ≡ cond t [] (findings_at (known_of step period past) x ++ findings_at_items step period (Said x ∷ past) xs) ++ findings_at_items step period (said xs (Said x ∷ past)) ys) [
-      | true ↦ λ h. absurd (false≢true (sym h))
-      | false ↦ λ h. ap (λ fs. findings_at (known_of step period past) x ++ fs) (findings_append step period xs ys (Said x ∷ past) h)
-          ∙ sym (append_assoc (findings_at (known_of step period past) x) (findings_at_items step period (Said x ∷ past) xs) (findings_at_items step period (said xs (Said x ∷ past)) ys))
-    ] e
-
-findings_stay : (step period : ℕ) (xs ys : List Item) (past : List Moment) → runs_full step period past xs ≡ true → findings_at_items step period past (xs ++ ys) ≡ findings_at_items step period past xs
-findings_stay step period [] ys past e = absurd (false≢true e)
-findings_stay step period (x ∷ xs) ys past e = elim (has_no_room (known_of step period past) x) as (λ t. cond t true (runs_full step period (Said x ∷ past) xs) ≡ true
-    → cond t [] (findings_at (known_of step period past) x ++ findings_at_items step period (Said x ∷ past) (xs ++ ys)) ≡ cond t [] (findings_at (known_of step period past) x ++ findings_at_items step period (Said x ∷ past) xs)) [
-      | true ↦ λ h. refl
-      | false ↦ λ h. ap (λ fs. findings_at (known_of step period past) x ++ fs) (findings_stay step period xs ys (Said x ∷ past) h)
-    ] e
-
--- no entries
+-- nothing
 pub hears_nothing : (at : FrameAt) (m : CheckerState) (reported : Reported) → Hears at [] m reported m reported false
 hears_nothing at m reported past k = record {
   findings = more_none reported;
   room = refl;
   knows = λ e. subst (λ (s : ℕ). Knows s m.period past m) refl k;
+  noted = λ e. refl;
 }
 
--- some entries, and then others
-pub hears_more : (at : FrameAt) (xs ys : List Item) (old mid new : CheckerState) (before reported after : Reported) (full : Bool)
+-- something, and then something else
+pub hears_more : (at : FrameAt) (xs ys : List Sent) (old mid new : CheckerState) (before reported after : Reported) (full : Bool)
     → mid.step ≡ old.step → mid.period ≡ old.period → Hears at xs old before mid reported false → Hears at ys mid reported new after full → Hears at (xs ++ ys) old before new after full
 hears_more at xs ys old mid new before reported after full same page_index h g past k =
     let one = h past k in
-    let known : Knows mid.step mid.period (said xs past) mid =
-    subst (λ (s : ℕ). Knows s mid.period (said xs past) mid) (sym same) (subst (λ (p : ℕ). Knows old.step p (said xs past) mid) (sym page_index) (one.knows refl)) in
-    let two = g (said xs past) known in
+    let then = said (items_in xs) past in
+    let noted = noted_after old.period past old.noted xs in
+    let known : Knows mid.step mid.period then mid =
+    subst (λ (s : ℕ). Knows s mid.period then mid) (sym same) (subst (λ (p : ℕ). Knows old.step p then mid) (sym page_index) (one.knows refl)) in
+    let two : IsHeard at old.step old.period then noted ys reported after new full =
+    subst (λ (n : List Contradiction). IsHeard at old.step old.period then n ys reported after new full) (one.noted refl)
+    (subst (λ (p : ℕ). IsHeard at old.step p then mid.noted ys reported after new full) page_index
+    (subst (λ (s : ℕ). IsHeard at s mid.period then mid.noted ys reported after new full) same (g then known))) in
+    let first = findings_at_sent old.step old.period past old.noted xs in
+    let rest = findings_at_sent old.step old.period then noted ys in
     record {
-      findings = two.findings ∙ ap (λ t. with_more t (map (in_frame at) (findings_at_items mid.step mid.period (said xs past) ys))) one.findings
-          ∙ more_twice before (map (in_frame at) (findings_at_items old.step old.period past xs)) (map (in_frame at) (findings_at_items mid.step mid.period (said xs past) ys))
-          ∙ ap (λ fs. with_more before (map (in_frame at) (findings_at_items old.step old.period past xs) ++ fs)) (ap (λ s. map (in_frame at) (findings_at_items s mid.period (said xs past) ys)) same ∙ ap (λ p. map (in_frame at) (findings_at_items old.step p (said xs past) ys)) page_index)
-          ∙ ap (with_more before) (sym (map-append (in_frame at) (findings_at_items old.step old.period past xs) (findings_at_items old.step old.period (said xs past) ys)))
-          ∙ ap (λ fs. with_more before (map (in_frame at) fs)) (sym (findings_append old.step old.period xs ys past one.room));
-      room = full_append old.step old.period xs ys past one.room ∙ sym (ap (λ s. runs_full s mid.period (said xs past) ys) same ∙ ap (λ p. runs_full old.step p (said xs past) ys) page_index) ∙ two.room;
-      knows = λ e. subst (λ (l : List Moment). Knows old.step old.period l new) (sym (said_append xs ys past))
-          (subst (λ (s : ℕ). Knows s old.period (said ys (said xs past)) new) same (subst (λ (p : ℕ). Knows mid.step p (said ys (said xs past)) new) page_index (two.knows e)));
+      findings = two.findings ∙ ap (λ t. with_more t (map (in_frame at) rest)) one.findings
+          ∙ more_twice before (map (in_frame at) first) (map (in_frame at) rest)
+          ∙ ap (with_more before) (sym (map-append (in_frame at) first rest))
+          ∙ ap (λ fs. with_more before (map (in_frame at) fs)) (sym (findings_append old.step old.period xs ys past old.noted one.room));
+      room = full_sent old.step old.period xs ys past one.room ∙ two.room;
+      knows = λ e. subst (λ (l : List Moment). Knows old.step old.period l new) (sym (said_sent xs ys past)) (two.knows e);
+      noted = λ e. two.noted e ∙ sym (noted_append old.period xs ys past old.noted);
     }
 
--- entries after one for which there was no room
-pub hears_full : (at : FrameAt) (xs ys : List Item) (old new : CheckerState) (before after : Reported) → Hears at xs old before new after true → Hears at (xs ++ ys) old before new after true
+-- something after an entry for which there was no room
+pub hears_full : (at : FrameAt) (xs ys : List Sent) (old new : CheckerState) (before after : Reported) → Hears at xs old before new after true → Hears at (xs ++ ys) old before new after true
 hears_full at xs ys old new before after h past k =
     let one = h past k in
     record {
-      findings = one.findings ∙ ap (λ fs. with_more before (map (in_frame at) fs)) (sym (findings_stay old.step old.period xs ys past one.room));
-      room = full_stays old.step old.period xs ys past one.room;
+      findings = one.findings ∙ ap (λ fs. with_more before (map (in_frame at) fs)) (sym (findings_stay old.step old.period xs ys past old.noted one.room));
+      room = full_sent_stays old.step old.period xs ys past one.room;
       knows = λ e. absurd (false≢true (sym e));
+      noted = λ e. absurd (false≢true (sym e));
     }

@@ -7,16 +7,17 @@ use Rattle.fib_codec.specs.Modes.{fib_count, count_step}
 use Rattle.fib_codec.specs.declared.modes.Mode.{Mode}
 use Rattle.fib_codec.specs.declared.modes.Mode.TheVariants.{I, II, III, IV}
 use Rattle.stream_check.specs.declared.checker_state.CheckerState.{CheckerState}
+use Rattle.stream_check.specs.declared.contradiction.Contradiction.{Contradiction}
 use Rattle.stream_check.specs.Frames.{Fib, Reading, first_in, opening, is_there, begins_with_ensemble, holds_ensemble, IsOneFrame, AreFrames, HoldsFirst, IsFramed, damaged_in}
 use Rattle.stream_check.specs.History.{Item, Moment, Said, said, frame_items, frames_ended}
-use Rattle.stream_check.specs.Stream.{findings_in, after_frame, findings_of, after_frames}
+use Rattle.stream_check.specs.Stream.{findings_in, after_frame, findings_of, noted_in_frames, after_frames}
 use Rattle.stream_check.specs.CheckerState.{Knows}
 use Rattle.stream_check.specs.Hearing.{IsFrameHeard, HearsFrame}
 use Rattle.mux_types.specs.Entries.{EnsembleInformation}
 use Rattle.stream_check.specs.declared.checker.Summary.{Summary}
 use Rattle.stream_check.specs.Following.{Checking, Follows, EndsFull, Adds, FollowsFib, IsSummary, is_begun, is_empty}
 use Rattle.stream_check.proofs.Chain.{more_twice, more_none}
-use Rattle.stream_check.proofs.Framing.{flat, one_more, held_of, skips_more, goes_on, after_more, full_more, findings_more, damaged_append}
+use Rattle.stream_check.proofs.Framing.{flat, one_more, held_of, skips_more, goes_on, after_more, full_more, noted_more, findings_more, damaged_append}
 use Rattle.stream_check.specs.Reported.{Reported, Unknown, with_more}
 
 -- ---- the number of frames
@@ -62,6 +63,7 @@ follows_skip r mode period stream start reported c fib none empty silent f =
       damages = f.damages;
       room = f.room;
       knows = f.knows;
+      noted = f.noted;
       findings = f.findings;
     } in
     (g, (refl, nothing))
@@ -127,6 +129,7 @@ follows_hold r mode period stream start reported c fib next later short f =
       damages = f.damages;
       room = f.room;
       knows = f.knows;
+      noted = f.noted;
       findings = f.findings;
     } in
     (g, (refl, refl))
@@ -140,13 +143,14 @@ record Ends (r : Reading) (mode : Mode) (stream : List Fib) (c : Checking) (fib 
 flat_one : (frames : List (List Fib)) (frame : List Fib) → flat (frames ++ frame ∷ []) ≡ flat frames ++ frame
 flat_one frames frame = flat_map-append (λ g. g) frames (frame ∷ []) ∙ ap (λ l. flat frames ++ l) (append-nil frame)
 
-heard_same : (mode : Mode) (c : Checking) (frame : List Fib) (reported after : Reported) (new : CheckerState) (full : Bool) (period : ℕ) (past : List Moment) → c.size ≡ fib_count mode → Knows (count_step mode) period past c.state
-    → HearsFrame c.size frame c.state reported new after full → IsFrameHeard (fib_count mode) (count_step mode) period past frame reported after new full
-heard_same mode c frame reported after new full period past size k h =
-    subst (λ (n : ℕ). IsFrameHeard n (count_step mode) period past frame reported after new full) size
-    (subst (λ (s : ℕ). IsFrameHeard c.size s period past frame reported after new full) k.mode
-    (subst (λ (p : ℕ). IsFrameHeard c.size c.state.step p past frame reported after new full) k.page_index
-    (h past (subst (λ (s : ℕ). Knows s c.state.period past c.state) (sym k.mode) (subst (λ (p : ℕ). Knows (count_step mode) p past c.state) (sym k.page_index) k)))))
+heard_same : (mode : Mode) (c : Checking) (frame : List Fib) (reported after : Reported) (new : CheckerState) (full : Bool) (period : ℕ) (past : List Moment) (noted : List Contradiction) → c.size ≡ fib_count mode → Knows (count_step mode) period past c.state → c.state.noted ≡ noted
+    → HearsFrame c.size frame c.state reported new after full → IsFrameHeard (fib_count mode) (count_step mode) period past noted frame reported after new full
+heard_same mode c frame reported after new full period past noted size k same h =
+    subst (λ (l : List Contradiction). IsFrameHeard (fib_count mode) (count_step mode) period past l frame reported after new full) same
+    (subst (λ (n : ℕ). IsFrameHeard n (count_step mode) period past c.state.noted frame reported after new full) size
+    (subst (λ (s : ℕ). IsFrameHeard c.size s period past c.state.noted frame reported after new full) k.mode
+    (subst (λ (p : ℕ). IsFrameHeard c.size c.state.step p past c.state.noted frame reported after new full) k.page_index
+    (h past (subst (λ (s : ℕ). Knows s c.state.period past c.state) (sym k.mode) (subst (λ (p : ℕ). Knows (count_step mode) p past c.state) (sym k.page_index) k))))))
 
 pub follows_frame : (r : Reading) (mode : Mode) (period : ℕ) (stream : List Fib) (start reported after : Reported) (c new : Checking) (frame : List Fib) (fib : List ℕ) → (f : Follows r mode period stream start reported c)
     → IsFramed (fib_count mode) (stream ++ r.read fib ∷ []) f.skipped (f.frames ++ frame ∷ []) (map r.read new.held) → HearsFrame c.size frame c.state reported new.state after false
@@ -154,7 +158,8 @@ pub follows_frame : (r : Reading) (mode : Mode) (period : ℕ) (stream : List Fi
     → (g : Follows r mode period (stream ++ r.read fib ∷ []) start after new) × ((g.frames ≡ f.frames ++ frame ∷ []) × (g.skipped ≡ f.skipped))
 follows_frame r mode period stream start reported after c new frame fib f framed h size skips damages =
     let past = after_frames (count_step mode) [] f.frames in
-    let all = heard_same mode c frame reported after new.state false period past f.size f.knows h in
+    let noted = noted_in_frames (count_step mode) period [] [] f.frames in
+    let all = heard_same mode c frame reported after new.state false period past noted f.size f.knows f.noted h in
     let more = damaged_append (flat f.frames) frame in
     let g : Follows r mode period (stream ++ r.read fib ∷ []) start after new = record {
       skipped = f.skipped;
@@ -165,9 +170,10 @@ follows_frame r mode period stream start reported after c new frame fib f framed
       damages = damages ∙ ap (λ n. n + damaged_in frame) f.damages ∙ sym more ∙ ap damaged_in (sym (flat_one f.frames frame));
       room = full_more (count_step mode) period [] f.frames frame f.room ∙ all.room;
       knows = subst (λ (p : List Moment). Knows (count_step mode) period p new.state) (sym (after_more (count_step mode) [] f.frames frame)) (all.knows refl);
-      findings = all.findings ∙ ap (λ t. with_more t (findings_in (fib_count mode) (count_step mode) period past frame)) f.findings
-          ∙ more_twice start (findings_of (fib_count mode) (count_step mode) period [] f.frames) (findings_in (fib_count mode) (count_step mode) period past frame)
-          ∙ ap (with_more start) (sym (findings_more (fib_count mode) (count_step mode) period [] f.frames frame f.room));
+      noted = all.noted refl ∙ sym (noted_more (count_step mode) period [] [] f.frames frame);
+      findings = all.findings ∙ ap (λ t. with_more t (findings_in (fib_count mode) (count_step mode) period past noted frame)) f.findings
+          ∙ more_twice start (findings_of (fib_count mode) (count_step mode) period [] f.frames) (findings_in (fib_count mode) (count_step mode) period past noted frame)
+          ∙ ap (with_more start) (sym (findings_more (fib_count mode) (count_step mode) period [] [] f.frames frame f.room));
     } in
     (g, (refl, refl))
 
@@ -176,16 +182,17 @@ pub ends_frame : (r : Reading) (mode : Mode) (period : ℕ) (stream : List Fib) 
     → (g : EndsFull r mode period (stream ++ r.read fib ∷ []) start after) × ((g.frames ≡ f.frames ++ frame ∷ []) × (g.skipped ≡ f.skipped))
 ends_frame r mode period stream start reported after c new frame rest fib f framed h =
     let past = after_frames (count_step mode) [] f.frames in
-    let all = heard_same mode c frame reported after new true period past f.size f.knows h in
+    let noted = noted_in_frames (count_step mode) period [] [] f.frames in
+    let all = heard_same mode c frame reported after new true period past noted f.size f.knows f.noted h in
     let g : EndsFull r mode period (stream ++ r.read fib ∷ []) start after = record {
       skipped = f.skipped;
       frames = f.frames ++ frame ∷ [];
       rest = rest;
       framed = framed;
       full = full_more (count_step mode) period [] f.frames frame f.room ∙ all.room;
-      findings = all.findings ∙ ap (λ t. with_more t (findings_in (fib_count mode) (count_step mode) period past frame)) f.findings
-          ∙ more_twice start (findings_of (fib_count mode) (count_step mode) period [] f.frames) (findings_in (fib_count mode) (count_step mode) period past frame)
-          ∙ ap (with_more start) (sym (findings_more (fib_count mode) (count_step mode) period [] f.frames frame f.room));
+      findings = all.findings ∙ ap (λ t. with_more t (findings_in (fib_count mode) (count_step mode) period past noted frame)) f.findings
+          ∙ more_twice start (findings_of (fib_count mode) (count_step mode) period [] f.frames) (findings_in (fib_count mode) (count_step mode) period past noted frame)
+          ∙ ap (with_more start) (sym (findings_more (fib_count mode) (count_step mode) period [] [] f.frames frame f.room));
     } in
     (g, (refl, refl))
 
@@ -207,7 +214,7 @@ adds_hold r mode period stream reported c fib next later short f =
 unkept : (size : ℕ) (frame : List Fib) (old new : CheckerState) (reported after : Reported) (full : Bool) → HearsFrame size frame old reported new after full → HearsFrame size frame old Unknown new Unknown full
 unkept size frame old new reported after full h past k =
     let all = h past k in
-    record { findings = refl; room = all.room; knows = all.knows }
+    record { findings = refl; room = all.room; knows = all.knows; noted = all.noted }
 
 pub adds_frame : (r : Reading) (mode : Mode) (period : ℕ) (stream : List Fib) (reported after : Reported) (c new : Checking) (frame : List Fib) (fib : List ℕ) (f : Follows r mode period stream Unknown Unknown c)
     → IsFramed (fib_count mode) (stream ++ r.read fib ∷ []) f.skipped (f.frames ++ frame ∷ []) (map r.read new.held) → HearsFrame c.size frame c.state reported new.state after false
@@ -216,7 +223,7 @@ pub adds_frame : (r : Reading) (mode : Mode) (period : ℕ) (stream : List Fib) 
     × Adds (fib_count mode) (count_step mode) period true f.skipped g.skipped f.frames g.frames reported after
 adds_frame r mode period stream reported after c new frame fib f framed h size skips damages =
     let t = follows_frame r mode period stream Unknown Unknown Unknown c new frame fib f framed (unkept c.size frame c.state new.state reported after false h) size skips damages in
-    let all = heard_same mode c frame reported after new.state false period (after_frames (count_step mode) [] f.frames) f.size f.knows h in
+    let all = heard_same mode c frame reported after new.state false period (after_frames (count_step mode) [] f.frames) (noted_in_frames (count_step mode) period [] [] f.frames) f.size f.knows f.noted h in
     (t.0, (frame, t.1.0, t.1.1, all.findings))
 
 pub ends_at : (r : Reading) (mode : Mode) (period : ℕ) (stream : List Fib) (reported after : Reported) (c : Checking) (new : CheckerState) (frame rest : List Fib) (fib : List ℕ) (f : Follows r mode period stream Unknown Unknown c)
@@ -225,7 +232,7 @@ pub ends_at : (r : Reading) (mode : Mode) (period : ℕ) (stream : List Fib) (re
     × Adds (fib_count mode) (count_step mode) period true f.skipped g.skipped f.frames g.frames reported after
 ends_at r mode period stream reported after c new frame rest fib f framed h =
     let t = ends_frame r mode period stream Unknown Unknown Unknown c new frame rest fib f framed (unkept c.size frame c.state new reported after true h) in
-    let all = heard_same mode c frame reported after new true period (after_frames (count_step mode) [] f.frames) f.size f.knows h in
+    let all = heard_same mode c frame reported after new true period (after_frames (count_step mode) [] f.frames) (noted_in_frames (count_step mode) period [] [] f.frames) f.size f.knows f.noted h in
     (t.0, (frame, t.1.0, t.1.1, all.findings))
 
 -- the buffered FIBs are a frame, as the next FIB begins with a FIG 0/0
@@ -317,9 +324,9 @@ later_where r c fib o is e some = ap is_there (sym is) ∙ chosen (is_there o) c
 
 -- ---- before the first FIB, and after the last
 
-pub follows_nothing : (r : Reading) (mode : Mode) (period : ℕ) (start : Reported) (c : Checking) → c.size ≡ fib_count mode → c.held ≡ [] → c.skipped ≡ 0 → c.damaged ≡ 0 → Knows (count_step mode) period [] c.state
+pub follows_nothing : (r : Reading) (mode : Mode) (period : ℕ) (start : Reported) (c : Checking) → c.size ≡ fib_count mode → c.held ≡ [] → c.skipped ≡ 0 → c.damaged ≡ 0 → Knows (count_step mode) period [] c.state → c.state.noted ≡ []
     → 0 < fib_count mode → Follows r mode period [] start start c
-follows_nothing r mode period start c size held skips damages k some = record {
+follows_nothing r mode period start c size held skips damages k none some = record {
   skipped = [];
   frames = [];
   framed = subst (λ (h : List Fib). IsFramed (fib_count mode) [] [] [] h) (sym (ap (map r.read) held)) (record { whole = refl; before = tt; begun = tt; cut = tt });
@@ -328,6 +335,7 @@ follows_nothing r mode period start c size held skips damages k some = record {
   damages = damages;
   room = refl;
   knows = k;
+  noted = none;
   findings = more_none start;
 }
 

@@ -12,14 +12,16 @@ use Rattle.stream_check.specs.declared.checker_state.CheckerState.{CheckerState}
 use Rattle.stream_check.specs.Reporting.{in_frame, when}
 use Rattle.stream_check.specs.Pictures.{Heard, heard_since, raws, key_of}
 use Rattle.stream_check.specs.Frames.{Fib, Reading}
-use Rattle.stream_check.specs.History.{Moment, Ended, said, frame_items, frames_ended, due, has_begun, row_at_hand, rows, last_heard}
+use Rattle.stream_check.specs.History.{Item, Moment, Ended, said, frame_items, frames_ended, due, has_begun, row_at_hand, rows, last_heard}
+use Rattle.stream_check.specs.Sent.{frame_sent}
 use Rattle.stream_check.specs.Rules.{name_of, is_silent, silence, silent_findings}
-use Rattle.stream_check.specs.Stream.{frame_findings, findings_at_items, frame_at, last_findings, count_of_frame}
+use Rattle.stream_check.specs.Stream.{frame_findings, findings_at_sent, runs_full, frame_at, last_findings, count_of_frame}
 use Rattle.stream_check.specs.CheckerState.{listener_in, with_row, with_frame, IsLastHeard, HasNotice, Knows, IsSane, is_quiet, quiet_findings, silent_in}
 use Rattle.stream_check.specs.Hearing.{IsLater, Hears, HearsFrame}
 use Rattle.stream_check.proofs.Notice.{notice_closed, notice_open}
 use Rattle.stream_check.proofs.Members.{after_is}
 use Rattle.stream_check.proofs.Chain.{more_twice}
+use Rattle.stream_check.proofs.Sending.{frame_has_items}
 use Rattle.stream_check.specs.Reported.{Reported, with_more}
 
 -- ---- the frames of the notice
@@ -149,6 +151,14 @@ case_sane false whole m count s = record { mode = s.mode; page_index = s.page_in
 pub sane_frame : (m : CheckerState) (count : ℕ) → IsSane m → IsSane (with_frame count m)
 sane_frame m count s = case_sane m.has_begun (heard_since m.since m.next) m count s
 
+pub frame_noted : (m : CheckerState) (count : ℕ) → (with_frame count m).noted ≡ m.noted
+frame_noted m count = by m.has_begun (heard_since m.since m.next)
+  where
+    by : (begun whole : Bool) → (row_state begun whole m).noted ≡ m.noted
+    by true true = refl
+    by true false = refl
+    by false whole = refl
+
 -- ---- silent entries
 
 pub quiet_is : (last period now : ℕ) → last ≤ now → (now - last == period) ≡ (last + period == now)
@@ -203,14 +213,15 @@ frame_len r fibs = length-map fibs r.read
 -- all entries of the frame were heard, and the silent ones were reported
 pub frame_done : (size : ℕ) (frame : List Fib) (at : FrameAt) (old mid : CheckerState) (before reported one two : Reported)
     → at ≡ record { frame = old.frames; count = count_of_frame old.step old.due frame }
-    → one ≡ with_more before (map (in_frame at) (frame_findings size old.step old.due frame)) → Hears at (frame_items frame) old one mid two false → IsLater old mid
+    → one ≡ with_more before (map (in_frame at) (frame_findings size old.step old.due frame)) → Hears at (frame_sent frame) old one mid two false → IsLater old mid
     → reported ≡ with_more two (map (in_frame at) (silent_in mid)) → HearsFrame size frame old before (with_frame (count_of_frame old.step old.due frame) mid) reported false
 frame_done size frame at old mid before reported one two place first h l last past k =
     let all = h past k in
-    let known = all.knows refl in
+    let room = ap (runs_full old.step old.period past) (sym (frame_has_items frame)) ∙ all.room in
+    let known = subst (λ (is : List Item). Knows old.step old.period (said is past) mid) (frame_has_items frame) (all.knows refl) in
     let same : at ≡ frame_at old.step past frame = place ∙ ap (λ n. at_of n (count_of_frame old.step old.due frame)) k.frames ∙ ap (λ d. at_of (frames_ended past) (count_of_frame old.step d frame)) k.due in
     let silent = silent_is old.step old.period (said (frame_items frame) past) mid known in
-    let items = findings_at_items old.step old.period past (frame_items frame) in
+    let items = findings_at_sent old.step old.period past old.noted (frame_sent frame) in
     let rest = silent_findings old.period (said (frame_items frame) past) in
     record {
       findings = last ∙ ap (λ t. with_more t (map (in_frame at) (silent_in mid))) (all.findings ∙ ap (λ t. with_more t (map (in_frame at) items)) first)
@@ -218,10 +229,11 @@ frame_done size frame at old mid before reported one two place first h l last pa
           ∙ three at before (frame_findings size old.step old.due frame) items rest
           ∙ ap (λ a. with_more before (map (in_frame a) (frame_findings size old.step old.due frame ++ (items ++ rest)))) same
           ∙ ap (λ d. with_more before (map (in_frame (frame_at old.step past frame)) (frame_findings size old.step d frame ++ (items ++ rest)))) k.due
-          ∙ ap (λ b. with_more before (map (in_frame (frame_at old.step past frame)) (frame_findings size old.step (due past) frame ++ (items ++ last_findings b old.period (said (frame_items frame) past))))) (sym all.room);
-      room = all.room;
+          ∙ ap (λ b. with_more before (map (in_frame (frame_at old.step past frame)) (frame_findings size old.step (due past) frame ++ (items ++ last_findings b old.period (said (frame_items frame) past))))) (sym room);
+      room = room;
       knows = λ e. subst (λ (d : Option ℕ). Knows old.step old.period (Ended (count_of_frame old.step d frame) ∷ said (frame_items frame) past) (with_frame (count_of_frame old.step old.due frame) mid)) k.due
           (knows_frame old.step old.period (said (frame_items frame) past) mid (count_of_frame old.step old.due frame) known);
+      noted = λ e. frame_noted mid (count_of_frame old.step old.due frame) ∙ all.noted refl;
     }
   where
     at_of : ℕ → ℕ → FrameAt
@@ -236,19 +248,21 @@ frame_done size frame at old mid before reported one two place first h l last pa
 -- there was no room for one of its entries
 pub frame_full : (size : ℕ) (frame : List Fib) (at : FrameAt) (old mid : CheckerState) (before reported one : Reported)
     → at ≡ record { frame = old.frames; count = count_of_frame old.step old.due frame }
-    → one ≡ with_more before (map (in_frame at) (frame_findings size old.step old.due frame)) → Hears at (frame_items frame) old one mid reported true → HearsFrame size frame old before mid reported true
+    → one ≡ with_more before (map (in_frame at) (frame_findings size old.step old.due frame)) → Hears at (frame_sent frame) old one mid reported true → HearsFrame size frame old before mid reported true
 frame_full size frame at old mid before reported one place first h past k =
     let all = h past k in
+    let room = ap (runs_full old.step old.period past) (sym (frame_has_items frame)) ∙ all.room in
     let same : at ≡ frame_at old.step past frame = place ∙ ap (λ n. at_of n (count_of_frame old.step old.due frame)) k.frames ∙ ap (λ d. at_of (frames_ended past) (count_of_frame old.step d frame)) k.due in
-    let items = findings_at_items old.step old.period past (frame_items frame) in
+    let items = findings_at_sent old.step old.period past old.noted (frame_sent frame) in
     record {
       findings = all.findings ∙ ap (λ t. with_more t (map (in_frame at) items)) first
           ∙ two at before (frame_findings size old.step old.due frame) items
           ∙ ap (λ a. with_more before (map (in_frame a) (frame_findings size old.step old.due frame ++ (items ++ [])))) same
           ∙ ap (λ d. with_more before (map (in_frame (frame_at old.step past frame)) (frame_findings size old.step d frame ++ (items ++ [])))) k.due
-          ∙ ap (λ b. with_more before (map (in_frame (frame_at old.step past frame)) (frame_findings size old.step (due past) frame ++ (items ++ last_findings b old.period (said (frame_items frame) past))))) (sym all.room);
-      room = all.room;
+          ∙ ap (λ b. with_more before (map (in_frame (frame_at old.step past frame)) (frame_findings size old.step (due past) frame ++ (items ++ last_findings b old.period (said (frame_items frame) past))))) (sym room);
+      room = room;
       knows = λ e. absurd (false≢true (sym e));
+      noted = λ e. absurd (false≢true (sym e));
     }
   where
     at_of : ℕ → ℕ → FrameAt

@@ -4,9 +4,10 @@ use Rattle.std.specs.List.{AllByRecursion}
 use Rattle.std.proofs.lemmas.Bool.{false≢true}
 use Rattle.std.proofs.lemmas.List.{append_assoc, append-nil}
 use Rattle.std.proofs.lemmas.List.Concat.{flat_map-append}
+use Rattle.stream_check.specs.declared.contradiction.Contradiction.{Contradiction}
 use Rattle.stream_check.specs.Frames.{Fib, begins_with_ensemble, holds_ensemble, IsOneFrame, BeginsAnew, AreFrames, HoldsFirst, IsFramed, damaged_in}
 use Rattle.stream_check.specs.History.{Moment, frame_items}
-use Rattle.stream_check.specs.Stream.{runs_full, findings_in, after_frame, findings_of, after_frames, frames_full}
+use Rattle.stream_check.specs.Stream.{runs_full, findings_in, noted_in, after_frame, findings_from, noted_in_frames, after_frames, frames_full}
 
 abbrev pub flat : List (List Fib) → List Fib
 flat frames = flat_map (λ f. f) frames
@@ -96,19 +97,29 @@ full_more step period past (g ∷ gs) f e = elim (runs_full step period past (fr
       | false ↦ λ h. full_more step period (after_frame step past g) gs f h
     ] e
 
-pub findings_more : (size step period : ℕ) (past : List Moment) (frames : List (List Fib)) (f : List Fib) → frames_full step period past frames ≡ false
-    → findings_of size step period past (frames ++ f ∷ []) ≡ findings_of size step period past frames ++ findings_in size step period (after_frames step past frames) f
-findings_more size step period past [] f e = chosen (runs_full step period past (frame_items f)) ∙ append-nil (findings_in size step period past f)
+pub noted_more : (step period : ℕ) (past : List Moment) (noted : List Contradiction) (frames : List (List Fib)) (f : List Fib)
+    → noted_in_frames step period past noted (frames ++ f ∷ []) ≡ noted_in period (after_frames step past frames) (noted_in_frames step period past noted frames) f
+noted_more step period past noted [] f = refl
+noted_more step period past noted (g ∷ gs) f = noted_more step period (after_frame step past g) (noted_in period past noted g) gs f
+
+pub findings_more : (size step period : ℕ) (past : List Moment) (noted : List Contradiction) (frames : List (List Fib)) (f : List Fib) → frames_full step period past frames ≡ false
+    → findings_from size step period past noted (frames ++ f ∷ [])
+    ≡ findings_from size step period past noted frames ++ findings_in size step period (after_frames step past frames) (noted_in_frames step period past noted frames) f
+findings_more size step period past noted [] f e = chosen (runs_full step period past (frame_items f)) ∙ append-nil (findings_in size step period past noted f)
   where
-    chosen : (t : Bool) → findings_in size step period past f ++ cond t [] [] ≡ findings_in size step period past f ++ []
+    chosen : (t : Bool) → findings_in size step period past noted f ++ cond t [] [] ≡ findings_in size step period past noted f ++ []
     chosen true = refl
     chosen false = refl
-findings_more size step period past (g ∷ gs) f e = elim (runs_full step period past (frame_items g)) as (λ t. cond t true (frames_full step period (after_frame step past g) gs) ≡ false
-    → findings_in size step period past g ++ cond t [] (findings_of size step period (after_frame step past g) (gs ++ f ∷ []))
-    ≡ (findings_in size step period past g ++ cond t [] (findings_of size step period (after_frame step past g) gs)) ++ findings_in size step period (after_frames step (after_frame step past g) gs) f) [
+findings_more size step period past noted (g ∷ gs) f e =
+    let here = findings_in size step period past noted g in
+    let now = noted_in period past noted g in
+    let last = findings_in size step period (after_frames step (after_frame step past g) gs) (noted_in_frames step period (after_frame step past g) now gs) f in
+    elim (runs_full step period past (frame_items g)) as (λ t. cond t true (frames_full step period (after_frame step past g) gs) ≡ false
+    → here ++ cond t [] (findings_from size step period (after_frame step past g) now (gs ++ f ∷ []))
+    ≡ (here ++ cond t [] (findings_from size step period (after_frame step past g) now gs)) ++ last) [
       | true ↦ λ h. absurd (false≢true (sym h))
-      | false ↦ λ h. ap (λ l. findings_in size step period past g ++ l) (findings_more size step period (after_frame step past g) gs f h)
-          ∙ sym (append_assoc (findings_in size step period past g) (findings_of size step period (after_frame step past g) gs) (findings_in size step period (after_frames step (after_frame step past g) gs) f))
+      | false ↦ λ h. ap (λ l. here ++ l) (findings_more size step period (after_frame step past g) now gs f h)
+          ∙ sym (append_assoc here (findings_from size step period (after_frame step past g) now gs) last)
     ] e
 
 pub damaged_append : (xs ys : List Fib) → damaged_in (xs ++ ys) ≡ damaged_in xs + damaged_in ys

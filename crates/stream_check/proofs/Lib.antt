@@ -11,8 +11,14 @@ pub mod Notice
 pub mod Knowing
 pub mod Ensembles
 pub mod Beginning
+pub mod Saying
+pub mod Sending
+pub mod Agreement
+mod NotedOnce
 pub mod Chain
 pub mod Steps
+pub mod Mentioned
+pub mod Parting
 pub mod Loops
 pub mod FrameEnd
 pub mod Framing
@@ -21,3 +27,4 @@ pub mod Followed
 pub mod Waiting
 pub mod FrameSeen
 mod Vectors
+mod VectorsOfMentions

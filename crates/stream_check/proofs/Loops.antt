@@ -1,26 +1,26 @@
--- Hearing entries in a loop: those heard so far, and the rest.
+-- Hearing what is sent in a loop: what was heard so far, and the rest.
 use Rattle.std.proofs.Common.{◌≡◌, true, false, List, [], ◌++◌, refl, sym, ap, ◌∙◌, subst}
 use Rattle.std.proofs.lemmas.List.{append_assoc, append-nil}
 use Rattle.stream_check.specs.declared.reporting.FrameAt.{FrameAt}
 use Rattle.stream_check.specs.declared.checker_state.CheckerState.{CheckerState}
-use Rattle.stream_check.specs.History.{Item}
+use Rattle.stream_check.specs.Sent.{Sent}
 use Rattle.stream_check.specs.CheckerState.{IsSane}
 use Rattle.stream_check.specs.Hearing.{IsLater, Hears}
 use Rattle.stream_check.proofs.Chain.{hears_nothing, hears_more, hears_full}
 use Rattle.stream_check.proofs.Steps.{later_itself, later_twice}
 use Rattle.stream_check.specs.Reported.{Reported}
 
--- of all entries, these remain
-pub record IsOnItsWay (at : FrameAt) (all left : List Item) (old : CheckerState) (before : Reported) (now : CheckerState) (reported : Reported) : Type 0 where
-  pub done : List Item
+-- of all that is sent, this remains
+pub record IsOnItsWay (at : FrameAt) (all left : List Sent) (old : CheckerState) (before : Reported) (now : CheckerState) (reported : Reported) : Type 0 where
+  pub done : List Sent
   pub whole : done ++ left ≡ all
   pub later : IsLater old now
   pub heard : Hears at done old before now reported false
 
-pub sets_out : (at : FrameAt) (all : List Item) (old : CheckerState) (before : Reported) → IsSane old → IsOnItsWay at all all old before old before
+pub sets_out : (at : FrameAt) (all : List Sent) (old : CheckerState) (before : Reported) → IsSane old → IsOnItsWay at all all old before old before
 sets_out at all old before s = record { done = []; whole = refl; later = later_itself old s; heard = hears_nothing at old before }
 
-pub goes_on : (at : FrameAt) (all left some rest : List Item) (old now new : CheckerState) (before reported after : Reported) → left ≡ some ++ rest → IsLater now new → Hears at some now reported new after false
+pub goes_on : (at : FrameAt) (all left some rest : List Sent) (old now new : CheckerState) (before reported after : Reported) → left ≡ some ++ rest → IsLater now new → Hears at some now reported new after false
     → IsOnItsWay at all left old before now reported → IsOnItsWay at all rest old before new after
 goes_on at all left some rest old now new before reported after e l h w = record {
   done = w.done ++ some;
@@ -29,12 +29,12 @@ goes_on at all left some rest old now new before reported after e l h w = record
   heard = hears_more at w.done some old now new before reported after false w.later.step w.later.period w.heard h;
 }
 
-pub breaks_off : (at : FrameAt) (all left some rest : List Item) (old now new : CheckerState) (before reported after : Reported) → left ≡ some ++ rest → Hears at some now reported new after true
+pub breaks_off : (at : FrameAt) (all left some rest : List Sent) (old now new : CheckerState) (before reported after : Reported) → left ≡ some ++ rest → Hears at some now reported new after true
     → IsOnItsWay at all left old before now reported → Hears at all old before new after true
 breaks_off at all left some rest old now new before reported after e h w =
-    subst (λ (is : List Item). Hears at is old before new after true) (append_assoc w.done some rest ∙ ap (λ r. w.done ++ r) (sym e) ∙ w.whole)
+    subst (λ (is : List Sent). Hears at is old before new after true) (append_assoc w.done some rest ∙ ap (λ r. w.done ++ r) (sym e) ∙ w.whole)
     (hears_full at (w.done ++ some) rest old new before after (hears_more at w.done some old now new before reported after true w.later.step w.later.period w.heard h))
 
-pub arrives : (at : FrameAt) (all left : List Item) (old now : CheckerState) (before reported : Reported) → left ≡ [] → IsOnItsWay at all left old before now reported → Hears at all old before now reported false
+pub arrives : (at : FrameAt) (all left : List Sent) (old now : CheckerState) (before reported : Reported) → left ≡ [] → IsOnItsWay at all left old before now reported → Hears at all old before now reported false
 arrives at all left old now before reported e w =
-    subst (λ (is : List Item). Hears at is old before now reported false) (sym (append-nil w.done) ∙ ap (λ r. w.done ++ r) (sym e) ∙ w.whole) w.heard
+    subst (λ (is : List Sent). Hears at is old before now reported false) (sym (append-nil w.done) ∙ ap (λ r. w.done ++ r) (sym e) ∙ w.whole) w.heard

@@ -15,7 +15,7 @@ use Rattle.stream_check.specs.Parts.{most_parts}
 use Rattle.stream_check.specs.History.{Item, Moment, Said, items_of, frames_ended, listener_after, due, last_eid, has_ensemble, has_begun, began_early, times_announced, last_flags, is_cut_off, rows}
 use Rattle.stream_check.specs.Rules.{Known, known_of, times_heard, at_most, has_flags, makes_swap, findings_at, ensemble_findings, member_findings, current_findings, next_findings, has_no_room, finds_no_room, is_absent}
 use Rattle.stream_check.specs.CheckerState.{listener_in, known_in, with_swap, with_flags, with_ensemble, with_current, with_next, Knows, IsSane}
-use Rattle.stream_check.specs.Hearing.{IsLater, Hears}
+use Rattle.stream_check.specs.Hearing.{IsLater, HearsItems}
 use Rattle.stream_check.proofs.PartCount.{parts_counted}
 use Rattle.stream_check.proofs.Members.{after_is}
 use Rattle.stream_check.proofs.Knowing.{knows_passed, knows_current, knows_next}
@@ -84,7 +84,7 @@ one_found k i found room is = ap (λ t. cond t [] (findings_at k i ++ [])) room 
 
 -- an entry for which there is room
 pub heard_one : (at : FrameAt) (i : Item) (old new : CheckerState) (before after : Reported) → has_no_room (known_in old) i ≡ false → after ≡ with_more before (map (in_frame at) (findings_at (known_in old) i))
-    → ((past : List Moment) → Knows old.step old.period past old → Knows old.step old.period (Said i ∷ past) new) → Hears at (i ∷ []) old before new after false
+    → ((past : List Moment) → Knows old.step old.period past old → Knows old.step old.period (Said i ∷ past) new) → HearsItems at (i ∷ []) old before new after false
 heard_one at i old new before after room reported next past k =
     let same = known_same old.step old.period past old k in
     let free : has_no_room (known_of old.step old.period past) i ≡ false = ap (λ t. has_no_room t i) (sym same) ∙ room in
@@ -95,7 +95,7 @@ heard_one at i old new before after room reported next past k =
     }
 
 -- an entry for which there is no room
-pub heard_none : (at : FrameAt) (i : Item) (old new : CheckerState) (before after : Reported) → has_no_room (known_in old) i ≡ true → after ≡ before → Hears at (i ∷ []) old before new after true
+pub heard_none : (at : FrameAt) (i : Item) (old new : CheckerState) (before after : Reported) → has_no_room (known_in old) i ≡ true → after ≡ before → HearsItems at (i ∷ []) old before new after true
 heard_none at i old new before after room reported past k =
     let same = known_same old.step old.period past old k in
     let full : has_no_room (known_of old.step old.period past) i ≡ true = ap (λ t. has_no_room t i) (sym same) ∙ room in
@@ -109,7 +109,7 @@ heard_none at i old new before after room reported past k =
 pub hears_ensemble : (at : FrameAt) (first next : Bool) (raw : Raw) (old new : CheckerState) (before after : Reported) → raw.ext ≡ 0
     → after ≡ with_more before (map (in_frame at) (ensemble_findings (known_in old) first (ensemble_in raw)))
     → new ≡ with_ensemble first (ensemble_in raw) (cond (makes_swap (known_in old) (ensemble_in raw)) (with_swap old) old)
-    → Hears at (items_of first next (raw ∷ [])) old before new after false
+    → HearsItems at (items_of first next (raw ∷ [])) old before new after false
 hears_ensemble at first next raw old new before after zero reported is =
     let e : (raw.ext == 0) ≡ true = ap (λ n. n == 0) zero in
     heard_one at (record { first = first; next = next; raw = raw }) old new before after
@@ -132,7 +132,7 @@ found_of : (old : CheckerState) (first next : Bool) (raw : Raw) → (raw.ext == 
 found_of old first next raw e = ap (λ t. cond t (ensemble_findings (known_in old) first (ensemble_in raw)) (member_findings (known_in old) next raw)) e
 
 -- an entry before the first FIG 0/0
-pub hears_passed : (at : FrameAt) (first next : Bool) (raw : Raw) (old : CheckerState) (before : Reported) → raw.ext ≢ 0 → old.tuned ≡ false → Hears at (items_of first next (raw ∷ [])) old before old before false
+pub hears_passed : (at : FrameAt) (first next : Bool) (raw : Raw) (old : CheckerState) (before : Reported) → raw.ext ≢ 0 → old.tuned ≡ false → HearsItems at (items_of first next (raw ∷ [])) old before old before false
 hears_passed at first next raw old before other untuned =
     let e = not_zero raw.ext other in
     heard_one at (record { first = first; next = next; raw = raw }) old old before before
@@ -143,7 +143,7 @@ hears_passed at first next raw old before other untuned =
 -- an entry of the current configuration; below, of the next one
 pub hears_current : (at : FrameAt) (first : Bool) (raw : Raw) (old new : CheckerState) (before after : Reported) → raw.ext ≢ 0 → raw.ext < 4 → old.tuned ≡ true
     → finds_no_room (lookup_in raw (shown old.current)) ≡ false → after ≡ with_more before (map (in_frame at) (current_findings (known_in old) raw)) → new ≡ with_current raw old
-    → Hears at (items_of first false (raw ∷ [])) old before new after false
+    → HearsItems at (items_of first false (raw ∷ [])) old before new after false
 hears_current at first raw old new before after other few tuned room reported is =
     let e = not_zero raw.ext other in
     heard_one at (record { first = first; next = false; raw = raw }) old new before after
@@ -154,7 +154,7 @@ hears_current at first raw old new before after other few tuned room reported is
 
 pub hears_next : (at : FrameAt) (first : Bool) (raw : Raw) (old new : CheckerState) (before after : Reported) → raw.ext ≢ 0 → raw.ext < 4 → old.tuned ≡ true
     → finds_no_room (lookup_in raw (shown old.next)) ≡ false → after ≡ with_more before (map (in_frame at) (next_findings (known_in old) raw)) → new ≡ with_next raw old
-    → Hears at (items_of first true (raw ∷ [])) old before new after false
+    → HearsItems at (items_of first true (raw ∷ [])) old before new after false
 hears_next at first raw old new before after other few tuned room reported is =
     let e = not_zero raw.ext other in
     heard_one at (record { first = first; next = true; raw = raw }) old new before after
@@ -165,13 +165,13 @@ hears_next at first raw old new before after other few tuned room reported is =
 
 -- the same without room
 pub full_current : (at : FrameAt) (first : Bool) (raw : Raw) (old new : CheckerState) (before after : Reported) → raw.ext ≢ 0 → old.tuned ≡ true
-    → finds_no_room (lookup_in raw (shown old.current)) ≡ true → after ≡ before → Hears at (items_of first false (raw ∷ [])) old before new after true
+    → finds_no_room (lookup_in raw (shown old.current)) ≡ true → after ≡ before → HearsItems at (items_of first false (raw ∷ [])) old before new after true
 full_current at first raw old new before after other tuned room reported =
     heard_none at (record { first = first; next = false; raw = raw }) old new before after
     (room_of old first false raw true (not_zero raw.ext other) (ap (λ t. t && finds_no_room (lookup_in raw (shown old.current))) tuned ∙ room)) reported
 
 pub full_next : (at : FrameAt) (first : Bool) (raw : Raw) (old new : CheckerState) (before after : Reported) → raw.ext ≢ 0 → old.tuned ≡ true
-    → finds_no_room (lookup_in raw (shown old.next)) ≡ true → after ≡ before → Hears at (items_of first true (raw ∷ [])) old before new after true
+    → finds_no_room (lookup_in raw (shown old.next)) ≡ true → after ≡ before → HearsItems at (items_of first true (raw ∷ [])) old before new after true
 full_next at first raw old new before after other tuned room reported =
     heard_none at (record { first = first; next = true; raw = raw }) old new before after
     (room_of old first true raw true (not_zero raw.ext other) (ap (λ t. t && finds_no_room (lookup_in raw (shown old.next))) tuned ∙ room)) reported
@@ -251,12 +251,12 @@ later_next raw m s = elim (is_absent (lookup_in raw (shown m.next))) as (λ t. I
 
 pub answered_current : (b : Bool) (at : FrameAt) (first : Bool) (raw : Raw) (old new : CheckerState) (before after : Reported) → raw.ext ≢ 0 → raw.ext < 4 → old.tuned ≡ true
     → (b ≡ true → finds_no_room (lookup_in raw (shown old.current)) ≡ false) → (b ≡ true → after ≡ with_more before (map (in_frame at) (current_findings (known_in old) raw))) → (b ≡ true → new ≡ with_current raw old)
-    → (b ≡ false → finds_no_room (lookup_in raw (shown old.current)) ≡ true) → (b ≡ false → after ≡ before) → Hears at (items_of first false (raw ∷ [])) old before new after (not b)
+    → (b ≡ false → finds_no_room (lookup_in raw (shown old.current)) ≡ true) → (b ≡ false → after ≡ before) → HearsItems at (items_of first false (raw ∷ [])) old before new after (not b)
 answered_current true at first raw old new before after other few tuned room reported is full same = hears_current at first raw old new before after other few tuned (room refl) (reported refl) (is refl)
 answered_current false at first raw old new before after other few tuned room reported is full same = full_current at first raw old new before after other tuned (full refl) (same refl)
 
 pub answered_next : (b : Bool) (at : FrameAt) (first : Bool) (raw : Raw) (old new : CheckerState) (before after : Reported) → raw.ext ≢ 0 → raw.ext < 4 → old.tuned ≡ true
     → (b ≡ true → finds_no_room (lookup_in raw (shown old.next)) ≡ false) → (b ≡ true → after ≡ with_more before (map (in_frame at) (next_findings (known_in old) raw))) → (b ≡ true → new ≡ with_next raw old)
-    → (b ≡ false → finds_no_room (lookup_in raw (shown old.next)) ≡ true) → (b ≡ false → after ≡ before) → Hears at (items_of first true (raw ∷ [])) old before new after (not b)
+    → (b ≡ false → finds_no_room (lookup_in raw (shown old.next)) ≡ true) → (b ≡ false → after ≡ before) → HearsItems at (items_of first true (raw ∷ [])) old before new after (not b)
 answered_next true at first raw old new before after other few tuned room reported is full same = hears_next at first raw old new before after other few tuned (room refl) (reported refl) (is refl)
 answered_next false at first raw old new before after other few tuned room reported is full same = full_next at first raw old new before after other tuned (full refl) (same refl)

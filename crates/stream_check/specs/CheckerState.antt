@@ -5,6 +5,7 @@ use Rattle.mux_types.specs.Entries.{EnsembleInformation}
 use Rattle.fib_reader.specs.Raw.{Raw}
 use Rattle.fib_reader.specs.Listening.{Listening}
 use Rattle.stream_check.specs.declared.checker_state.CheckerState.{CheckerState}
+use Rattle.stream_check.specs.declared.contradiction.Contradiction.{Contradiction}
 use Rattle.stream_check.specs.declared.finding.Fault.TheVariants as faults
 use Rattle.stream_check.specs.declared.finding.What.{What}
 use Rattle.stream_check.specs.Reporting.{when}
@@ -64,6 +65,7 @@ with_swap m = record m {
   rows = 0;
   since = 0;
   parts = 0;
+  noted = [];
 }
 
 abbrev pub eid_after : Bool → EnsembleInformation → Option ℕ → Option ℕ
@@ -103,6 +105,9 @@ with_next raw m =
     record (with_begun (is_absent (lookup_in raw (shown m.next))) m) {
       next = picture_kept (record { raw = raw; at = m.rows + 1 }) m.next;
     }
+
+abbrev pub with_noted : List Contradiction → CheckerState → CheckerState
+with_noted noted m = record m { noted = noted }
 
 abbrev pub with_row : CheckerState → CheckerState
 with_row m =

@@ -5,7 +5,7 @@ use Rattle.fib_codec.specs.declared.modes.Mode.{Mode}
 use Rattle.stream_check.specs.declared.checker_state.CheckerState.{CheckerState}
 use Rattle.stream_check.specs.declared.checker.Summary.{Summary}
 use Rattle.stream_check.specs.Frames.{Fib, Reading, IsFramed, damaged_in}
-use Rattle.stream_check.specs.Stream.{findings_in, findings_of, after_frames, frames_full}
+use Rattle.stream_check.specs.Stream.{findings_next, findings_of, after_frames, noted_in_frames, frames_full}
 use Rattle.stream_check.specs.CheckerState.{IsSane, Knows, most}
 use Rattle.stream_check.specs.Reported.{Reported, Unknown, with_more}
 
@@ -54,6 +54,7 @@ pub record Follows (r : Reading) (mode : Mode) (period : ℕ) (stream : List Fib
   pub damages : c.damaged ≡ damaged_in (flat_map (λ f. f) frames)
   pub room : frames_full (count_step mode) period [] frames ≡ false
   pub knows : Knows (count_step mode) period (after_frames (count_step mode) [] frames) c.state
+  pub noted : c.state.noted ≡ noted_in_frames (count_step mode) period [] [] frames
   pub findings : reported ≡ with_more start (findings_of (fib_count mode) (count_step mode) period [] frames)
 
 -- or up to an entry for which there was no room: all findings before it were reported
@@ -72,7 +73,7 @@ Adds size step period false skipped later frames more reported after =
     (more ≡ frames) × ((later ≡ skipped) ⊎ (frames ≡ [])) × (after ≡ reported)
 Adds size step period true skipped later frames more reported after =
     (frame : List Fib) × (more ≡ frames ++ frame ∷ []) × (later ≡ skipped)
-    × (after ≡ with_more reported (findings_in size step period (after_frames step [] frames) frame))
+    × (after ≡ with_more reported (findings_next size step period frames frame))
 
 -- after one more FIB, from a state that follows a stream: the state follows the stream with it
 abbrev pub FollowsFib : (r : Reading) (mode : Mode) (period : ℕ) (stream : List Fib) (fib : Fib) (ends : Bool) (reported after : Reported) (old new : Checking) → Type 0

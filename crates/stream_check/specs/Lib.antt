@@ -6,6 +6,8 @@ pub mod Cutting
 pub mod Parts
 pub mod Frames
 pub mod History
+pub mod Contradictions
+pub mod Sent
 pub mod Rules
 pub mod Stream
 pub mod CheckerState

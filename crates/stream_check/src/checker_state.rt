@@ -2,6 +2,7 @@
 
 ghost use Rattle.std.specs.Prelude.{◌≡◌};
 
+use crate::noted::Noted;
 use crate::timed_picture::TimedPicture;
 use fib_codec::Mode;
 use std::mem;
@@ -49,6 +50,8 @@ pub struct CheckerState {
     pub(crate) since: u64,
     /// The number of complete parts.
     pub(crate) parts: u64,
+    /// The contradictions that were reported since the last swap.
+    pub(crate) noted: Noted,
 }
 
 impl CheckerState {
@@ -61,6 +64,7 @@ impl CheckerState {
         ensures knows { Knows (count_step mode) period [] result }
         ensures sane { IsSane result }
         ensures frames { result.frames ≡ 0 }
+        ensures noted { result.noted ≡ [] }
     {
         CheckerState {
             step: mode.step(),
@@ -83,6 +87,7 @@ impl CheckerState {
             rows: 0,
             since: 0,
             parts: 0,
+            noted: Noted::new(),
         }
     }
 
@@ -152,5 +157,6 @@ impl CheckerState {
         self.rows = 0;
         self.since = 0;
         self.parts = 0;
+        self.noted = Noted::new();
     }
 }

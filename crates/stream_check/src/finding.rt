@@ -1,5 +1,7 @@
 //! Findings in a stream: events and faults, each with its frame.
 
+use crate::contradiction::Contradiction;
+
 /// The name of an entry of FIG 0/1 to 0/3: its kind and identifier.
 #[derive(Clone, Copy, Debug, PartialEq, Eq)]
 pub enum EntryName {
@@ -65,6 +67,8 @@ pub enum Fault {
     PastEnd(u64),
     /// An entry of the current configuration has not been heard for too long.
     Silent(EntryName),
+    /// A FIG names what is not in the current configuration, or is not whole entries.
+    Contradicts(Contradiction),
 }
 
 /// An event or a fault.

@@ -1,7 +1,8 @@
 //! The entries of one extension heard of a configuration, each with the time when it was last heard.
 
 ghost use Rattle.std.specs.Prelude.{◌≡◌, ◌≤◌, ℕ, nat_lt};
-ghost use Rattle.std.specs.List.{list_all, AllByRecursion};
+ghost use Rattle.std.specs.List.{list_all, list_any, AllByRecursion};
+ghost use Rattle.fig_mentions.specs.Agreeing.{is_named};
 ghost use Rattle.stream_check.specs.Pictures.{Heard, raws};
 ghost use Rattle.fib_reader.specs.Listening.{identifier_of};
 ghost use Rattle.stream_check.specs.Lookup.{lookup};
@@ -9,6 +10,7 @@ ghost use Rattle.stream_check.specs.Rules.{are_same};
 
 use crate::heard_entry::HeardEntry;
 use fib_reader::{EntryTable, RawEntry};
+use fig_mentions::{Mention, is_named};
 use std::marker::Model;
 
 /// How an entry compares with those of a table.
@@ -46,7 +48,8 @@ impl Model for HeardTable {
 
 impl HeardTable {
     ghost use Rattle.std.specs.Prelude.{◌≡◌, ◌≢◌, ◌≤◌, [], length, nat_lt};
-    ghost use Rattle.std.specs.List.{list_all, AllByRecursion};
+    ghost use Rattle.std.specs.List.{list_all, list_any, AllByRecursion};
+    ghost use Rattle.fig_mentions.specs.Agreeing.{is_named};
     ghost use Rattle.stream_check.specs.Rules.{are_same};
     ghost use Rattle.stream_check.specs.Pictures.{Heard, heard_kept, raws};
     ghost use Rattle.stream_check.specs.Lookup.{lookup};
@@ -104,6 +107,13 @@ impl HeardTable {
         found
     }
 
+    /// Whether one of the entries is what an entry of a FIG names.
+    pub(crate) fn has(&self, mention: Mention) -> bool
+        ensures { result ≡ list_any (is_named mention) (raws self.now) }
+    {
+        has_named(mention, self.table.as_slice())
+    }
+
     /// Whether each entry was last heard after this time.
     pub(crate) fn is_heard_since(&self, since: u64) -> bool
         ensures { result ≡ list_all (λ h. nat_lt since h.at) self.now }
@@ -136,6 +146,20 @@ fn look_up(table: &EntryTable<HeardEntry>, identifier: u64, entry: &RawEntry<'_>
     } else {
         Lookup::Other
     }
+}
+
+/// Whether one of these entries is what an entry of a FIG names.
+fn has_named(mention: Mention, entries: &[HeardEntry]) -> bool
+    ensures { result ≡ list_any (is_named mention) (raws entries.now) }
+{
+    let mut rest = entries;
+    while let Some((entry, after)) = rest.split_first() {
+        if is_named(mention, &entry.as_raw_entry()) {
+            return true;
+        }
+        rest = after;
+    }
+    false
 }
 
 /// The minimum of two times.

@@ -6,11 +6,12 @@ use crate::reporting::{FrameAt, Report};
 use fib_reader::{Entries, Fig, Figs, RawEntry};
 
 impl CheckerState {
-    ghost use Rattle.std.specs.Prelude.{◌≢◌, ◌<◌, [], ◌∷◌, map, not, Bool};
+    ghost use Rattle.std.specs.Prelude.{◌≡◌, ◌≢◌, ◌<◌, [], ◌∷◌, map, not, Bool};
     ghost use Rattle.stream_check.specs.Frames.{Reading};
-    ghost use Rattle.stream_check.specs.History.{items_of, fig_items, figs_items, fib_items, frame_items};
+    ghost use Rattle.stream_check.specs.History.{items_of};
+    ghost use Rattle.stream_check.specs.Sent.{entries_sent, fig_sent, figs_sent, fib_sent, frame_sent};
     ghost use Rattle.stream_check.specs.CheckerState.{IsSane, most};
-    ghost use Rattle.stream_check.specs.Hearing.{IsLater, Hears};
+    ghost use Rattle.stream_check.specs.Hearing.{IsLater, HearsItems, Hears};
 
     /// Applies an entry of FIG 0/1 to 0/3, and reports the findings at it. Before the first FIG 0/0 it is
     /// ignored. False if there is no room for it.
@@ -26,8 +27,9 @@ impl CheckerState {
         requires sane { IsSane self.old }
         requires frames { self.old.frames < most }
         ensures later { IsLater self.old self.new }
-        ensures heard { (first : Bool) → Hears at (items_of first next (entry.now ∷ []))
+        ensures heard { (first : Bool) → HearsItems at (items_of first next (entry.now ∷ []))
             self.old (R.reported report.old) self.new (R.reported report.new) (not result) }
+        ensures noted { self.new.noted ≡ self.old.noted }
     {
         if !self.tuned {
             return true;
@@ -50,7 +52,7 @@ impl CheckerState {
         requires sane { IsSane self.old }
         requires frames { self.old.frames < most }
         ensures later { IsLater self.old self.new }
-        ensures heard { Hears at (items_of first next (entry.now ∷ []))
+        ensures heard { Hears at (entries_sent first next (entry.now ∷ []))
             self.old (R.reported report.old) self.new (R.reported report.new) (not result) }
     {
         if entry.is_ensemble() {
@@ -72,7 +74,7 @@ impl CheckerState {
         requires sane { IsSane self.old }
         requires frames { self.old.frames < most }
         ensures later { IsLater self.old self.new }
-        ensures heard { Hears at (items_of first next entries.entry)
+        ensures heard { Hears at (entries_sent first next entries.entry)
             self.old (R.reported report.old) self.new (R.reported report.new) (not result) }
     {
         while let Some(entry) = entries.next() {
@@ -94,12 +96,15 @@ impl CheckerState {
         requires sane { IsSane self.old }
         requires frames { self.old.frames < most }
         ensures later { IsLater self.old self.new }
-        ensures heard { Hears at (fig_items first fig.now)
+        ensures heard { Hears at (fig_sent first fig.now)
             self.old (R.reported report.old) self.new (R.reported report.new) (not result) }
     {
         match fig.head() {
             Some(head) => self.hear_entries(at, first, head.next, fig.entries(), report),
-            None => true,
+            None => {
+                self.hear_mentions(at, fig.bytes(), report);
+                true
+            }
         }
     }
 
@@ -114,7 +119,7 @@ impl CheckerState {
         requires sane { IsSane self.old }
         requires frames { self.old.frames < most }
         ensures later { IsLater self.old self.new }
-        ensures heard { Hears at (figs_items first figs.entry)
+        ensures heard { Hears at (figs_sent first figs.entry)
             self.old (R.reported report.old) self.new (R.reported report.new) (not result) }
     {
         let mut is_first = first;
@@ -138,7 +143,7 @@ impl CheckerState {
         requires sane { IsSane self.old }
         requires frames { self.old.frames < most }
         ensures later { IsLater self.old self.new }
-        ensures heard { (r : Reading) → Hears at (fib_items first (r.read fib.now))
+        ensures heard { (r : Reading) → Hears at (fib_sent first (r.read fib.now))
             self.old (R.reported report.old) self.new (R.reported report.new) (not result) }
     {
         match read(fib) {
@@ -157,7 +162,7 @@ impl CheckerState {
         requires sane { IsSane self.old }
         requires frames { self.old.frames < most }
         ensures later { IsLater self.old self.new }
-        ensures heard { (r : Reading) → Hears at (frame_items (map r.read fibs.now))
+        ensures heard { (r : Reading) → Hears at (frame_sent (map r.read fibs.now))
             self.old (R.reported report.old) self.new (R.reported report.new) (not result) }
     {
         let mut is_first = true;

@@ -4,6 +4,7 @@
 
 pub mod checker;
 mod checker_state;
+pub mod contradiction;
 mod ensemble_rules;
 pub mod finding;
 mod frame;
@@ -13,11 +14,14 @@ mod heard_table;
 mod hearing;
 pub mod laws;
 mod member_rules;
+mod mention_rules;
+mod noted;
 pub mod reporting;
 mod subs;
 mod swap_rules;
 mod timed_picture;
 
 pub use checker::{CheckFault, Checker, Summary};
+pub use contradiction::Contradiction;
 pub use finding::{EntryName, Fault, Finding, StreamEvent, What};
 pub use reporting::Report;

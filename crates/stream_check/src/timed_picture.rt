@@ -5,6 +5,7 @@ ghost use Rattle.std.specs.Prelude.{◌≡◌, ◌≢◌};
 use crate::heard_table::{HeardTable, Lookup};
 use fib_codec::Extension;
 use fib_reader::RawEntry;
+use fig_mentions::{Mention, is_nothing};
 use std::marker::Model;
 
 /// The entries of FIG 0/1 to 0/3 heard of one configuration, each with the time when it was last heard. There is no
@@ -31,6 +32,7 @@ impl Model for TimedPicture {
 impl TimedPicture {
     ghost use Rattle.std.specs.Prelude.{◌≡◌, ◌≢◌};
     ghost use Rattle.std.specs.List.{AllByRecursion};
+    ghost use Rattle.fig_mentions.specs.Agreeing.{is_there};
     ghost use Rattle.stream_check.specs.Pictures.{Heard, empty_picture, shown, picture_kept, heard_since};
     ghost use Rattle.stream_check.specs.Rules.{change_between};
     ghost use Rattle.stream_check.specs.Lookup.{lookup_in};
@@ -86,6 +88,19 @@ impl TimedPicture {
             Extension::Services => self.services.hear(entry, at),
             Extension::Packets => self.packets.hear(entry, at),
         }
+    }
+
+    /// Whether what an entry of a FIG names is among the entries.
+    pub(crate) fn has(&self, mention: Mention) -> bool
+        ensures { result ≡ is_there (shown self.now) mention }
+    {
+        if is_nothing(mention) {
+            return true;
+        }
+        if self.subs.has(mention) {
+            return true;
+        }
+        self.services.has(mention) || self.packets.has(mention)
     }
 
     /// Updates the times of the oldest entries, if one may have been last heard at `before` or earlier. The entries

@@ -2,14 +2,17 @@
 use Rattle.std.proofs.Common.{◌≡◌, ℕ, true, false, cond, List, [], ◌∷◌, ◌++◌, map, refl, sym, subst}
 use Rattle.std.specs.List.{AllByRecursion}
 use Rattle.std.proofs.lemmas.Bool.{false≢true}
+use Rattle.stream_check.specs.declared.contradiction.Contradiction.{Contradiction}
 use Rattle.stream_check.specs.declared.finding.What.{What}
 use Rattle.stream_check.specs.declared.finding.Finding.{Finding}
 use Rattle.stream_check.specs.declared.reporting.FrameAt.{FrameAt}
 use Rattle.stream_check.specs.Reporting.{in_frame}
 use Rattle.stream_check.specs.Frames.{Fib}
 use Rattle.stream_check.specs.History.{Item, Moment, Said, Ended, said, frame_items, due}
+use Rattle.stream_check.specs.Sent.{frame_sent}
 use Rattle.stream_check.specs.Rules.{known_of, findings_at, has_no_room}
-use Rattle.stream_check.specs.Stream.{findings_at_items, runs_full, frame_findings, frame_at, findings_in, after_frame, findings_of, after_frames, frames_full}
+use Rattle.stream_check.specs.Stream.{findings_at_items, findings_at_sent, runs_full, frame_findings, frame_at, findings_in, noted_in, after_frame, findings_from, after_frames, frames_full}
+use Rattle.stream_laws.proofs.Mentioning.{frame_holds}
 use Rattle.stream_laws.specs.Faultless.{IsNoFault, IsFaultless, IsSaidIn}
 
 pub all_left : {X : Type 0} (P : X → Type 0) (xs ys : List X) → AllByRecursion P (xs ++ ys) → AllByRecursion P xs
@@ -47,22 +50,23 @@ pub told_alone : (at : FrameAt) (ws : List What) → AllByRecursion (λ (found :
 told_alone at [] all = tt
 told_alone at (w ∷ ws) all = (all.0, told_alone at ws all.1)
 
-frames_clean : (size step period : ℕ) (frames : List (List Fib)) (past : List Moment) → frames_full step period past frames ≡ false
-    → AllByRecursion (λ (found : Finding). IsNoFault found.what) (findings_of size step period past frames) → IsClean step period past → IsClean step period (after_frames step past frames)
-frames_clean size step period [] past room plain clean = clean
-frames_clean size step period (frame ∷ frames) past room plain clean =
-    let here = told_alone (frame_at step past frame) _ (all_left (λ (found : Finding). IsNoFault found.what) (findings_in size step period past frame) _ plain) in
-    let rest = all_right (λ (found : Finding). IsNoFault found.what) (findings_in size step period past frame) _ plain in
+frames_clean : (size step period : ℕ) (frames : List (List Fib)) (past : List Moment) (noted : List Contradiction) → frames_full step period past frames ≡ false
+    → AllByRecursion (λ (found : Finding). IsNoFault found.what) (findings_from size step period past noted frames) → IsClean step period past → IsClean step period (after_frames step past frames)
+frames_clean size step period [] past noted room plain clean = clean
+frames_clean size step period (frame ∷ frames) past noted room plain clean =
+    let here = told_alone (frame_at step past frame) _ (all_left (λ (found : Finding). IsNoFault found.what) (findings_in size step period past noted frame) _ plain) in
+    let rest = all_right (λ (found : Finding). IsNoFault found.what) (findings_in size step period past noted frame) _ plain in
     elim (runs_full step period past (frame_items frame)) as (λ t. runs_full step period past (frame_items frame) ≡ t → cond t true (frames_full step period (after_frame step past frame) frames) ≡ false
-    → AllByRecursion (λ (found : Finding). IsNoFault found.what) (cond t [] (findings_of size step period (after_frame step past frame) frames)) → IsClean step period (after_frames step (after_frame step past frame) frames)) [
+    → AllByRecursion (λ (found : Finding). IsNoFault found.what) (cond t [] (findings_from size step period (after_frame step past frame) (noted_in period past noted frame) frames)) → IsClean step period (after_frames step (after_frame step past frame) frames)) [
       | true ↦ λ e r p. absurd (false≢true (sym r))
       | false ↦ λ e r p.
-          let items = all_left IsNoFault (findings_at_items step period past (frame_items frame)) _ (all_right IsNoFault (frame_findings size step (due past) frame) _ here) in
-          frames_clean size step period frames (after_frame step past frame) r p (items_clean step period (frame_items frame) past e items clean)
+          let sent = all_left IsNoFault (findings_at_sent step period past noted (frame_sent frame)) _ (all_right IsNoFault (frame_findings size step (due past) frame) _ here) in
+          let items = frame_holds IsNoFault step period frame past noted sent in
+          frames_clean size step period frames (after_frame step past frame) (noted_in period past noted frame) r p (items_clean step period (frame_items frame) past e items clean)
     ] refl room rest
 
 pub all_clean : (size step period : ℕ) (frames : List (List Fib)) → IsFaultless size step period frames → IsClean step period (after_frames step [] frames)
-all_clean size step period frames f = frames_clean size step period frames [] f.room f.plain tt
+all_clean size step period frames f = frames_clean size step period frames [] [] f.room f.plain tt
 
 -- ---- properties of the past that also held before
 

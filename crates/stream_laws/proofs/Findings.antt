@@ -6,6 +6,7 @@ use Rattle.std.proofs.lemmas.Bool.{false≢true}
 use Rattle.mux_types.specs.Entries.{EnsembleInformation}
 use Rattle.fib_reader.specs.Raw.{Raw}
 use Rattle.fib_reader.specs.Listening.{all_entries}
+use Rattle.stream_check.specs.declared.contradiction.Contradiction.{Contradiction}
 use Rattle.stream_check.specs.declared.finding.Fault.{Fault}
 use Rattle.stream_check.specs.declared.finding.Fault.TheVariants as faults
 use Rattle.stream_check.specs.declared.finding.StreamEvent.TheVariants as events
@@ -17,11 +18,13 @@ use Rattle.stream_check.specs.Reporting.{when, as_list, in_frame}
 use Rattle.stream_check.specs.Frames.{Fib, damaged_in, lacks_opening}
 use Rattle.stream_check.specs.Lookup.{lookup_in}
 use Rattle.stream_check.specs.History.{Item, Moment, Said, said, frame_items, is_ensemble, ensemble_of, listener_after, due}
+use Rattle.stream_check.specs.Sent.{frame_sent}
 use Rattle.stream_check.specs.Rules.{Known, known_of, name_of, overlap, past_end, place_faults, is_of_other_ensemble, has_other_count, is_placed, makes_swap, notice_faults, unit_faults, swap_findings, swap_or_another, announces_another, occurrence_of, announces_first, announcement, can_fall_at, has_flags, ensemble_findings, is_settled, current_findings, next_findings, member_findings, is_other_one, is_absent, has_no_room, findings_at, silence, is_silent, silent_findings, awaited_low, changes}
-use Rattle.stream_check.specs.Stream.{count_due, first_line, frame_findings, findings_at_items, runs_full, frame_at, findings_in}
+use Rattle.stream_check.specs.Stream.{count_due, first_line, frame_findings, findings_at_items, findings_at_sent, runs_full, frame_at, findings_in}
 use Rattle.plan_runs.proofs.Parts.{In}
 use Rattle.stream_laws.specs.Sorts.{is_of_period, IsFreeUnlessShort}
 use Rattle.stream_laws.proofs.Kept.{first_holds}
+use Rattle.stream_laws.proofs.OpenFrames.{IsOpenFib, found_open}
 use Rattle.stream_laws.proofs.Rows.{HasNone}
 use Rattle.stream_laws.proofs.Framing.{all_append}
 
@@ -233,17 +236,19 @@ pub record IsFrameFree (L : Type 0) (size step period : ℕ) (past : List Moment
   pub known : L → Each (IsKnown step period) past (frame_items frame)
   pub sent : L → (x : Raw) → In x (all_entries (listener_after (said (frame_items frame) past)).current)
       → is_silent period (said (frame_items frame) past) x ≡ false
+  -- each of its FIGs is one of FIG 0/0 to 0/3 of this ensemble
+  pub own : AllByRecursion IsOpenFib frame
 
 in_frame_free : (L : Type 0) (at : FrameAt) (ws : List What) → AreFree L ws → AllByRecursion (λ (found : Finding). IsFreeUnlessShort L found.what) (map (in_frame at) ws)
 in_frame_free L at [] all = tt
 in_frame_free L at (w ∷ ws) all = (all.0, in_frame_free L at ws all.1)
 
-pub found_free : (L : Type 0) (size step period : ℕ) (past : List Moment) (frame : List Fib) → IsFrameFree L size step period past frame
-    → AllByRecursion (λ (found : Finding). IsFreeUnlessShort L found.what) (findings_in size step period past frame)
-found_free L size step period past frame h =
+pub found_free : (L : Type 0) (size step period : ℕ) (past : List Moment) (noted : List Contradiction) (frame : List Fib) → IsFrameFree L size step period past frame
+    → AllByRecursion (λ (found : Finding). IsFreeUnlessShort L found.what) (findings_in size step period past noted frame)
+found_free L size step period past noted frame h =
     in_frame_free L (frame_at step past frame) _
     (both L (frame_findings size step (due past) frame) _ (frame_free L size step (due past) frame h.whole)
-    (both L (findings_at_items step period past (frame_items frame)) _
-    (items_free L step period (frame_items frame) past h.place h.word h.notice h.known)
+    (both L (findings_at_sent step period past noted (frame_sent frame)) _
+    (subst (AreFree L) (sym (found_open step period frame past noted h.own)) (items_free L step period (frame_items frame) past h.place h.word h.notice h.known))
     (either L (runs_full step period past (frame_items frame)) [] (silent_findings period (said (frame_items frame) past)) tt
     (silent_free L (is_silent period (said (frame_items frame) past)) _ h.sent))))

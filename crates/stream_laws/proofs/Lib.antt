@@ -1,3 +1,4 @@
+pub mod Mentioning
 pub mod Clean
 pub mod Kept
 pub mod Pictures
@@ -21,6 +22,7 @@ pub mod Framing
 pub mod Findings
 pub mod InPlace
 pub mod Sending
+pub mod OpenFrames
 pub mod LookedUp
 pub mod Units
 pub mod Agreeing

@@ -12,7 +12,7 @@ use Rattle.stream_check.specs.declared.finding.Finding.{Finding}
 use Rattle.fig_merge.specs.Taking.{Merging, IsMerging, nothing_taken, after_take}
 use Rattle.fig_merge.specs.Filling.{merged, carried_by, after_fill}
 use Rattle.fig_merge.specs.Steps.{Step, Take, Fill}
-use Rattle.fig_merge.specs.Passing.{with_carried, FilledIsRead, hear_fib, FilledIsHeardAlike, FilledHasTheEntries, FilledIsAsLong, AreFilled, fibs_in, sent_in, AllAreFilled, FilledIsCheckedAlike, FilledIsFullAlike, FilledIsFramedAlike}
+use Rattle.fig_merge.specs.Passing.{with_carried, FilledIsRead, hear_fib, FilledIsHeardAlike, FilledHasTheEntries, FilledIsAsLong, agreeing, AreFilled, fibs_in, sent_in, AllAreFilled, FilledIsCheckedAlike, FilledIsFullAlike, FilledIsFramedAlike}
 use Rattle.fig_merge.proofs.Carried.{merging_step}
 use Rattle.plan_runs.specs.Runs.{run, run_frames}
 use Rattle.plan_runs.specs.Listening.{fibs_of, HearsFib, HearsAll, ListenersAreRight}
@@ -128,10 +128,10 @@ fibs_read r [] = refl
 fibs_read r (Take fib ∷ calls) = fibs_read r calls
 fibs_read r (Fill fib ∷ calls) = ap (λ (fs : List Fib). r.read fib ∷ fs) (fibs_read r calls)
 
-are_filled : AllAreFilled → (r : Reading) (fibs sent : List (List ℕ)) → IsMergedOf r fibs sent → AreFilled (map r.read fibs) (map r.read sent)
+are_filled : AllAreFilled → (r : Reading) (fibs sent : List (List ℕ)) → IsMergedOf r fibs sent → AreFilled agreeing untuned (map r.read fibs) (map r.read sent)
 are_filled all r fibs sent w =
-    subst (λ (xs : List (List ℕ)). AreFilled (map r.read fibs) (map r.read xs)) w.sends
-    (subst (λ (xs : List Fib). AreFilled xs (map r.read (sent_in r w.calls nothing_taken))) (fibs_read r w.calls ∙ ap (map r.read) w.fills) (all r w.calls))
+    subst (λ (xs : List (List ℕ)). AreFilled agreeing untuned (map r.read fibs) (map r.read xs)) w.sends
+    (subst (λ (xs : List Fib). AreFilled agreeing untuned xs (map r.read (sent_in r w.calls nothing_taken))) (fibs_read r w.calls ∙ ap (map r.read) w.fills) (all r w.calls))
 
 pub merged_faultless : AllAreFilled → FilledIsFramedAlike → FilledIsCheckedAlike → FilledIsFullAlike → RunsAreFramed → FramesAreOfBytes → RunsAreFaultless → MergedRunsAreFaultless
 merged_faultless all framed checked full runs cuts faultless r p s period waiting events sent played untold on_step w =
@@ -140,7 +140,7 @@ merged_faultless all framed checked full runs cuts faultless r p s period waitin
     let fibs = fibs_of p.plan.layout (run_frames p s (waiting ++ events)) in
     let skipped = map r.read (fibs_of p.plan.layout (run_frames p s waiting)) in
     let frames = read_frames r (frames_of p.plan.layout (run_frames p (run p s waiting) events)) in
-    let a = framed size (map r.read fibs) (map r.read sent) skipped frames [] (are_filled all r fibs sent w) (runs r p s waiting events played untold on_step) in
+    let a = framed agreeing size (map r.read fibs) (map r.read sent) skipped frames [] (are_filled all r fibs sent w) (runs r p s waiting events played untold on_step) in
     let same : findings_of size step period [] a.frames_sent ≡ findings_of size step period [] frames = checked size step period frames a.frames_sent a.frames_alike in
     let cut : IsFramed size (map r.read sent) a.skipped_sent a.frames_sent [] = subst (λ (rest : List Fib). IsFramed size (map r.read sent) a.skipped_sent a.frames_sent rest) a.rest_alike a.framed in
     record {
@@ -152,7 +152,7 @@ merged_faultless all framed checked full runs cuts faultless r p s period waitin
       faultless = λ long.
           let none = faultless r p s period waiting events played on_step long in
           record {
-            room = full step period frames a.frames_sent a.frames_alike ∙ none.room;
+            room = full agreeing untuned step period frames a.frames_sent a.frames_alike ∙ none.room;
             plain = subst (λ (found : List Finding). AllByRecursion (λ f. IsNoFault f.what) found) (sym same) none.plain;
           };
     }

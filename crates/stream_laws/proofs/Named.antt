@@ -10,6 +10,10 @@ use Rattle.fib_codec.specs.Grammar.{OneList}
 use Rattle.fib_codec.specs.Modes.{count_step}
 use Rattle.fib_reader.specs.Raw.{Raw}
 use Rattle.fib_reader.specs.Listening.{Listening, is_made}
+use Rattle.stream_check.specs.declared.contradiction.Contradiction.{Contradiction}
+use Rattle.stream_check.specs.Contradictions.{contradicts, new_among, new_findings, noted_with}
+use Rattle.stream_check.specs.Sent.{Sent, EntrySent, FigSent, frame_sent, items_in, contradictions_at, noted_at}
+use Rattle.stream_check.proofs.Sending.{frame_has_items}
 use Rattle.stream_check.specs.declared.finding.Fault.{Fault}
 use Rattle.stream_check.specs.declared.finding.Fault.TheVariants as faults
 use Rattle.stream_check.specs.declared.finding.What.{What}
@@ -20,7 +24,7 @@ use Rattle.stream_check.specs.Frames.{Fib, Reading, damaged_in, lacks_opening}
 use Rattle.stream_check.specs.Lookup.{lookup_in}
 use Rattle.stream_check.specs.History.{Item, Moment, Said, said, frame_items, is_ensemble, ensemble_of as said_ensemble, frames_ended, listener_after, due}
 use Rattle.stream_check.specs.Rules.{Known as Knowledge, known_of, name_of, overlap, past_end, place_faults, is_of_other_ensemble, has_other_count, is_placed, makes_swap, notice_faults, unit_faults, swap_findings, swap_or_another, announces_another, occurrence_of, announces_first, announcement, ensemble_findings, current_findings, next_findings, member_findings, is_other_one, finds_no_room, has_no_room, findings_at, silence, silent_findings, awaited_low, changes}
-use Rattle.stream_check.specs.Stream.{count_due, first_line, frame_findings, findings_at_items, runs_full, frame_at, last_findings, findings_in, after_frame as after_read, findings_of}
+use Rattle.stream_check.specs.Stream.{count_due, first_line, frame_findings, findings_at_items, findings_at_sent, runs_full, frame_at, last_findings, findings_in, noted_in, after_frame as after_read, findings_from, findings_of}
 use Rattle.stream_check.proofs.Members.{after_is}
 use Rattle.plan_code.specs.declared.plan.Plan.{Plan}
 use Rattle.plan_code.specs.Program.{Program}
@@ -167,15 +171,37 @@ frames_both (x ∷ xs) ys = elim (names_swap x.what) as (λ t. cond t (x.frame �
 last_quiet : (full : Bool) (period : ℕ) (past : List Moment) → IsQuietly (last_findings full period past)
 last_quiet full period past = either_quiet full [] (silent_findings period past) tt (silence_quiet _)
 
+-- what a FIG contradicts is no swap
+new_quiet : (cs : List Contradiction) → IsQuietly (map contradicts cs)
+new_quiet [] = tt
+new_quiet (c ∷ cs) = (refl, new_quiet cs)
+
+sent_named : (n step period : ℕ) (sent : List Sent) (past : List Moment) (noted : List Contradiction) → named n (findings_at_sent step period past noted sent) ≡ named n (findings_at_items step period past (items_in sent))
+sent_named n step period [] past noted = refl
+sent_named n step period (FigSent fig ∷ ss) past noted =
+    let some = contradictions_at period past fig in
+    named_then n (new_findings noted some) _ (new_quiet (new_among noted some)) ∙ sent_named n step period ss past (noted_with noted some)
+sent_named n step period (EntrySent i ∷ ss) past noted =
+    let here = findings_at (known_of step period past) i in
+    let rest = findings_at_sent step period (Said i ∷ past) (noted_at past i noted) ss in
+    let items = findings_at_items step period (Said i ∷ past) (items_in ss) in
+    let same = named_both n here rest ∙ ap (λ l. named n here ++ l) (sent_named n step period ss (Said i ∷ past) (noted_at past i noted)) ∙ sym (named_both n here items) in
+    elim (has_no_room (known_of step period past) i) as (λ t. named n (cond t [] (here ++ rest)) ≡ named n (cond t [] (here ++ items))) [
+      | true ↦ refl
+      | false ↦ same
+    ]
+
 -- in a frame, from its entries
-frame_named : (size step period : ℕ) (past : List Moment) (frame : List Fib) → swap_frames (findings_in size step period past frame) ≡ named (frames_ended past) (findings_at_items step period past (frame_items frame))
-frame_named size step period past frame =
-    let items : List What = findings_at_items step period past (frame_items frame) in
+frame_named : (size step period : ℕ) (past : List Moment) (noted : List Contradiction) (frame : List Fib) → swap_frames (findings_in size step period past noted frame) ≡ named (frames_ended past) (findings_at_items step period past (frame_items frame))
+frame_named size step period past noted frame =
+    let items : List What = findings_at_sent step period past noted (frame_sent frame) in
     let last : List What = last_findings (runs_full step period past (frame_items frame)) period (said (frame_items frame) past) in
     let whole : List What = frame_findings size step (due past) frame in
     in_frame_named (frame_at step past frame) (whole ++ (items ++ last))
     ∙ named_then (frames_ended past) whole (items ++ last) (frame_quiet size step (due past) frame)
     ∙ named_first (frames_ended past) items last (last_quiet (runs_full step period past (frame_items frame)) period (said (frame_items frame) past))
+    ∙ sent_named (frames_ended past) step period (frame_sent frame) past noted
+    ∙ ap (λ is. named (frames_ended past) (findings_at_items step period past is)) (frame_has_items frame)
 
 -- ---- a frame of a run
 
@@ -295,23 +321,23 @@ ended_more : (items : List Item) (past : List Moment) → frames_ended (said ite
 ended_more [] past = refl
 ended_more (i ∷ is) past = ended_more is (Said i ∷ past)
 
-along : OneList → Laws → (r : Reading) (period : ℕ) (p : Program) (ts : List Known) → IsCode p ts → (s : State) (events : List Event) → Holds p ts s → (past : List Moment) → IsBetween p.plan past s
-    → swap_frames (findings_of (frame_fibs p.plan.layout) (count_step (layout_mode p.plan.layout)) period past (read_frames r (frames_of p.plan.layout (run_frames p s events)))) ≡ due_frames p (frames_ended past) s events
-along one laws r period p ts c s [] holds past h = refl
-along one laws r period p ts c s (Contact d closed ∷ es) holds past h =
-    along one laws r period p ts c (happens p s (Contact d closed)) es (happens_holds p ts c s (Contact d closed) holds) past (before_contact p past s d closed h)
-along one laws r period p ts c s (Frame ∷ es) holds past h =
+along : OneList → Laws → (r : Reading) (period : ℕ) (p : Program) (ts : List Known) → IsCode p ts → (s : State) (events : List Event) → Holds p ts s → (past : List Moment) (noted : List Contradiction) → IsBetween p.plan past s
+    → swap_frames (findings_from (frame_fibs p.plan.layout) (count_step (layout_mode p.plan.layout)) period past noted (read_frames r (frames_of p.plan.layout (run_frames p s events)))) ≡ due_frames p (frames_ended past) s events
+along one laws r period p ts c s [] holds past noted h = refl
+along one laws r period p ts c s (Contact d closed ∷ es) holds past noted h =
+    along one laws r period p ts c (happens p s (Contact d closed)) es (happens_holds p ts c s (Contact d closed) holds) past noted (before_contact p past s d closed h)
+along one laws r period p ts c s (Frame ∷ es) holds past noted h =
     let size : ℕ = frame_fibs p.plan.layout in
     let step : ℕ = count_step (layout_mode p.plan.layout) in
     let frame : List Fib = read_frame r p.plan.layout (frame_bytes p s) in
-    let later : List Finding = findings_of size step period (after_read step past frame) (read_frames r (frames_of p.plan.layout (run_frames p (after_frame p s) es))) in
+    let later : List Finding = findings_from size step period (after_read step past frame) (noted_in period past noted frame) (read_frames r (frames_of p.plan.layout (run_frames p (after_frame p s) es))) in
     let now = agrees_by one laws r period p ts c s holds past (inr h) in
-    let rest = along one laws r period p ts c (after_frame p s) es (frame_holds p ts c s holds) (after_read step past frame) now.after in
-    let here : swap_frames (findings_in size step period past frame) ≡ cond (is_due s.left) (frames_ended past ∷ []) [] =
-    frame_named size step period past frame ∙ items_named one laws r (frames_ended past) period p ts c s holds past h in
+    let rest = along one laws r period p ts c (after_frame p s) es (frame_holds p ts c s holds) (after_read step past frame) (noted_in period past noted frame) now.after in
+    let here : swap_frames (findings_in size step period past noted frame) ≡ cond (is_due s.left) (frames_ended past ∷ []) [] =
+    frame_named size step period past noted frame ∙ items_named one laws r (frames_ended past) period p ts c s holds past h in
     let number : frames_ended (after_read step past frame) ≡ frames_ended past + 1 = ap (λ n. n + 1) (ended_more (frame_items frame) past) in
-    frames_both (findings_in size step period past frame) _
-    ∙ ap (λ b. swap_frames (findings_in size step period past frame) ++ swap_frames (cond b [] later)) (items_room step period (frame_items frame) past now.word)
+    frames_both (findings_in size step period past noted frame) _
+    ∙ ap (λ b. swap_frames (findings_in size step period past noted frame) ++ swap_frames (cond b [] later)) (items_room step period (frame_items frame) past now.word)
     ∙ ap (λ l. l ++ swap_frames later) here
     ∙ ap (λ l. cond (is_due s.left) (frames_ended past ∷ []) [] ++ l) (rest ∙ ap (λ n. due_frames p n (after_frame p s) es) number)
     ∙ joined (is_due s.left)
@@ -345,13 +371,13 @@ from_first one laws r period p ts c s (Frame ∷ es) holds on =
     let size : ℕ = frame_fibs p.plan.layout in
     let step : ℕ = count_step (layout_mode p.plan.layout) in
     let frame : List Fib = read_frame r p.plan.layout (frame_bytes p s) in
-    let later : List Finding = findings_of size step period (after_read step [] frame) (read_frames r (frames_of p.plan.layout (run_frames p (after_frame p s) es))) in
+    let later : List Finding = findings_from size step period (after_read step [] frame) (noted_in period [] [] frame) (read_frames r (frames_of p.plan.layout (run_frames p (after_frame p s) es))) in
     let now = agrees_by one laws r period p ts c s holds [] (inl (refl, on)) in
-    let rest = along one laws r period p ts c (after_frame p s) es (frame_holds p ts c s holds) (after_read step [] frame) now.after in
-    let here : swap_frames (findings_in size step period [] frame) ≡ [] = frame_named size step period [] frame ∙ first_named one laws r period p ts c s holds on in
+    let rest = along one laws r period p ts c (after_frame p s) es (frame_holds p ts c s holds) (after_read step [] frame) (noted_in period [] [] frame) now.after in
+    let here : swap_frames (findings_in size step period [] [] frame) ≡ [] = frame_named size step period [] [] frame ∙ first_named one laws r period p ts c s holds on in
     let number : frames_ended (after_read step [] frame) ≡ 1 = ap (λ n. n + 1) (ended_more (frame_items frame) []) in
-    frames_both (findings_in size step period [] frame) _
-    ∙ ap (λ b. swap_frames (findings_in size step period [] frame) ++ swap_frames (cond b [] later)) (items_room step period (frame_items frame) [] now.word)
+    frames_both (findings_in size step period [] [] frame) _
+    ∙ ap (λ b. swap_frames (findings_in size step period [] [] frame) ++ swap_frames (cond b [] later)) (items_room step period (frame_items frame) [] now.word)
     ∙ ap (λ l. l ++ swap_frames later) here
     ∙ rest ∙ ap (λ n. due_frames p n (after_frame p s) es) number
 

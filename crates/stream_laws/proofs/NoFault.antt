@@ -4,6 +4,7 @@ use Rattle.std.specs.List.{AllByRecursion}
 use Rattle.std.proofs.lemmas.Bool.{false≢true}
 use Rattle.fib_codec.specs.Layouts.{frame_fibs}
 use Rattle.mux_types.specs.Entries.{EnsembleInformation}
+use Rattle.stream_check.specs.declared.contradiction.Contradiction.{Contradiction}
 use Rattle.stream_check.specs.declared.finding.EntryName.{EntryName}
 use Rattle.stream_check.specs.declared.finding.Fault.{Fault}
 use Rattle.stream_check.specs.declared.finding.Fault.TheVariants as faults
@@ -14,7 +15,7 @@ use Rattle.stream_check.specs.Parts.{IsTheMost}
 use Rattle.stream_check.specs.Frames.{Fib, Reading}
 use Rattle.stream_check.specs.History.{Item, Moment, Said, frame_items, ensemble_of as said_ensemble, listener_after, due, last_eid}
 use Rattle.stream_check.specs.Rules.{known_of, makes_swap}
-use Rattle.stream_check.specs.Stream.{runs_full, findings_in, after_frame as after_read, findings_of, frames_full}
+use Rattle.stream_check.specs.Stream.{runs_full, findings_in, noted_in, after_frame as after_read, findings_from, frames_full}
 use Rattle.plan_code.specs.declared.plan.Plan.{Plan}
 use Rattle.plan_code.specs.Program.{Program}
 use Rattle.plan_code.specs.Machine.{State}
@@ -32,6 +33,7 @@ use Rattle.stream_laws.specs.Faultless.{IsNoFault}
 use Rattle.stream_laws.specs.Faults.{RunsAreFaultless}
 use Rattle.stream_laws.proofs.Rows.{HasNone}
 use Rattle.stream_laws.proofs.Framing.{all_append, read_frame, right_after}
+use Rattle.stream_laws.proofs.OpenFrames.{frame_open}
 use Rattle.stream_laws.proofs.Sending.{IsHeadOf, frame_said}
 use Rattle.stream_laws.proofs.Findings.{Each, each_other, IsNoticeFine, IsWellNoticed, items_room, IsFrameFree, found_free}
 use Rattle.stream_laws.proofs.InPlace.{IsBegun, frame_right, begun_after}
@@ -154,6 +156,7 @@ next_noted most swap laws r period p ts c s holds past right n =
         notice = well_noticed most swap laws r period p ts c s holds past n;
         known = λ long. (known long).known;
         sent = λ long x inside. none_silent laws r period p ts c s holds past aging long x inside;
+        own = frame_open laws.one laws.heard r p.plan (shown p s) (airs p ts c s holds);
       };
       after = record {
         count = later.0;
@@ -169,17 +172,17 @@ next_noted most swap laws r period p ts c s holds past right n =
 
 -- ---- along a run
 
-record FreeAfter (r : Reading) (period : ℕ) (p : Program) (s : State) (events : List Event) (past : List Moment) : Type 0 where
+record FreeAfter (r : Reading) (period : ℕ) (p : Program) (s : State) (events : List Event) (past : List Moment) (noted : List Contradiction) : Type 0 where
   room : frames_full (step_of p) period past (run_read r p s events) ≡ false
-  plain : AllByRecursion (λ (found : Finding). IsFreeUnlessShort (IsLongFor p period) found.what) (findings_of (frame_fibs p.plan.layout) (step_of p) period past (run_read r p s events))
+  plain : AllByRecursion (λ (found : Finding). IsFreeUnlessShort (IsLongFor p period) found.what) (findings_from (frame_fibs p.plan.layout) (step_of p) period past noted (run_read r p s events))
 
-along : IsTheMost → SwapLaws → FrameLaws → (r : Reading) (period : ℕ) (p : Program) (ts : List Known) → IsCode p ts → (s : State) (events : List Event) → Holds p ts s → (past : List Moment) → FramesAreRight p s events → IsNoted period p past s
-    → FreeAfter r period p s events past
-along most swap laws r period p ts c s [] holds past right n = record { room = refl; plain = tt }
-along most swap laws r period p ts c s (Contact d closed ∷ es) holds past right n =
-    let rest = along most swap laws r period p ts c (happens p s (Contact d closed)) es (happens_holds p ts c s (Contact d closed) holds) past right (noted_contact period p past s d closed n) in
+along : IsTheMost → SwapLaws → FrameLaws → (r : Reading) (period : ℕ) (p : Program) (ts : List Known) → IsCode p ts → (s : State) (events : List Event) → Holds p ts s → (past : List Moment) (noted : List Contradiction) → FramesAreRight p s events → IsNoted period p past s
+    → FreeAfter r period p s events past noted
+along most swap laws r period p ts c s [] holds past noted right n = record { room = refl; plain = tt }
+along most swap laws r period p ts c s (Contact d closed ∷ es) holds past noted right n =
+    let rest = along most swap laws r period p ts c (happens p s (Contact d closed)) es (happens_holds p ts c s (Contact d closed) holds) past noted right (noted_contact period p past s d closed n) in
     record { room = rest.room; plain = rest.plain }
-along most swap laws r period p ts c s (Frame ∷ es) holds past right n =
+along most swap laws r period p ts c s (Frame ∷ es) holds past noted right n =
     let step : ℕ = step_of p in
     let size : ℕ = frame_fibs p.plan.layout in
     let frame : List Fib = read_frame r p.plan.layout (frame_bytes p s) in
@@ -187,11 +190,11 @@ along most swap laws r period p ts c s (Frame ∷ es) holds past right n =
     let P : Finding → Type 0 = λ (found : Finding). IsFreeUnlessShort (IsLongFor p period) found.what in
     let now = next_noted most swap laws r period p ts c s holds past right.0 n in
     let room : runs_full step period past (frame_items frame) ≡ false = items_room step period (frame_items frame) past now.free.word in
-    let rest = along most swap laws r period p ts c (after_frame p s) es (frame_holds p ts c s holds) (after_read step past frame) right.1 (inr now.after) in
+    let rest = along most swap laws r period p ts c (after_frame p s) es (frame_holds p ts c s holds) (after_read step past frame) (noted_in period past noted frame) right.1 (inr now.after) in
     record {
       room = ap (λ b. cond b true (frames_full step period (after_read step past frame) later)) room ∙ rest.room;
-      plain = all_append P (findings_in size step period past frame) _ (found_free (IsLongFor p period) size step period past frame now.free)
-          (subst (λ (b : Bool). AllByRecursion P (cond b [] (findings_of size step period (after_read step past frame) later))) (sym room) rest.plain);
+      plain = all_append P (findings_in size step period past noted frame) _ (found_free (IsLongFor p period) size step period past noted frame now.free)
+          (subst (λ (b : Bool). AllByRecursion P (cond b [] (findings_from size step period (after_read step past frame) (noted_in period past noted frame) later))) (sym room) rest.plain);
     }
 
 pub runs_are_free : HeadlineHolds → IsTheMost → SwapLaws → FrameLaws → RunsAreFree
@@ -199,7 +202,7 @@ runs_are_free headline most swap laws r p s period waiting events played on =
     let ts : List Known = played.typed.0 in
     let code = code_of p s played in
     let right = right_after p s waiting events (headline p s (waiting ++ events) played).right in
-    let all = along most swap laws r period p ts code (run p s waiting) events (run_holds p ts code s waiting (played_holds p s played)) [] right (inl (refl, on)) in
+    let all = along most swap laws r period p ts code (run p s waiting) events (run_holds p ts code s waiting (played_holds p s played)) [] [] right (inl (refl, on)) in
     record { room = all.room; plain = all.plain }
 
 -- ---- one sort of faults
@@ -232,6 +235,7 @@ other_sort sort h (faults.AnnouncedTimes times) is = absurd (false≢true is)
 other_sort sort h (faults.NextHeard times) is = absurd (false≢true is)
 other_sort sort h (faults.Flags flags changes) is = absurd (false≢true is)
 other_sort sort h (faults.Overlap a b) is = absurd (false≢true is)
+other_sort sort h (faults.Contradicts c) is = absurd (false≢true is)
 other_sort sort h (faults.PastEnd a) is = absurd (false≢true is)
 
 one_free : (sort : Fault → Bool) → DependsOnNoPeriod sort → (L : Type 0) (w : What) → IsFreeUnlessShort L w → IsFreeOf sort w

@@ -8,13 +8,14 @@ use Rattle.mux_types.proofs.Elements.{contains_first, contains_cases, contains_n
 use Rattle.mux_types.specs.Entries.{EnsembleInformation}
 use Rattle.fib_codec.specs.Grammar.{Fig, Open, Other, is_next}
 use Rattle.fib_reader.specs.Raw.{Raw, entries_in, ensemble_in}
+use Rattle.stream_check.specs.declared.contradiction.Contradiction.{Contradiction}
 use Rattle.stream_check.specs.declared.finding.Fault.TheVariants as faults
 use Rattle.stream_check.specs.declared.finding.Finding.{Finding}
 use Rattle.stream_check.specs.Reporting.{when}
 use Rattle.stream_check.specs.Frames.{Fib, Reading, first_raw, first_or, first_in_figs, first_in, opening, is_there, first_of_frame, first_opening, lacks_opening, damaged_in}
 use Rattle.stream_check.specs.History.{Item, Moment, Said, said, items_of, fig_items, figs_items, fib_items, fibs_items, frame_items, is_ensemble, ensemble_of, is_in_place, due, eid_of, last_eid}
 use Rattle.stream_check.specs.Rules.{Known, known_of, is_other, is_placed, is_of_other_ensemble, has_other_count, place_faults, ensemble_findings, member_findings}
-use Rattle.stream_check.specs.Stream.{count_in, count_due, placed_count, count_of_frame, first_line, size_findings, damaged_findings, frame_findings, frame_at, runs_full, findings_in, after_frame, after_frames, findings_of, frames_full}
+use Rattle.stream_check.specs.Stream.{count_in, count_due, placed_count, count_of_frame, first_line, size_findings, damaged_findings, frame_findings, frame_at, runs_full, findings_in, noted_in, after_frame, after_frames, findings_from, frames_full}
 use Rattle.stream_laws.specs.Faultless.{IsNoFault}
 use Rattle.stream_laws.specs.Notices.{AreFibBytes, read_frames, row_of}
 use Rattle.stream_laws.specs.RunningOn.{IsAtCount, RunOn, CountsRunOn}
@@ -176,18 +177,18 @@ frame_opens size step last frame some all on =
     let long : size ≤ length frame = ltb-false (length frame) size short in
     opened frame (omega (arith, some, long)) whole (and_false (count_due last frame % step == 0) (lacks_opening frame) (eq-eqb (count_due last frame % step) 0 on) missing)
 
-record IsFrameFree (size step period : ℕ) (past : List Moment) (frame : List Fib) (frames : List (List Fib)) : Type 0 where
+record IsFrameFree (size step period : ℕ) (past : List Moment) (noted : List Contradiction) (frame : List Fib) (frames : List (List Fib)) : Type 0 where
   itself : AllByRecursion IsNoFault (frame_findings size step (due past) frame)
   room : frames_full step period (after_frame step past frame) frames ≡ false
-  plain : AllByRecursion (λ (found : Finding). IsNoFault found.what) (findings_of size step period (after_frame step past frame) frames)
+  plain : AllByRecursion (λ (found : Finding). IsNoFault found.what) (findings_from size step period (after_frame step past frame) (noted_in period past noted frame) frames)
 
-frame_free : (size step period : ℕ) (past : List Moment) (frame : List Fib) (frames : List (List Fib)) → frames_full step period past (frame ∷ frames) ≡ false
-    → AllByRecursion (λ (found : Finding). IsNoFault found.what) (findings_of size step period past (frame ∷ frames)) → IsFrameFree size step period past frame frames
-frame_free size step period past frame frames room plain =
-    let here = told_alone (frame_at step past frame) _ (all_left (λ (found : Finding). IsNoFault found.what) (findings_in size step period past frame) _ plain) in
-    let rest = all_right (λ (found : Finding). IsNoFault found.what) (findings_in size step period past frame) _ plain in
+frame_free : (size step period : ℕ) (past : List Moment) (noted : List Contradiction) (frame : List Fib) (frames : List (List Fib)) → frames_full step period past (frame ∷ frames) ≡ false
+    → AllByRecursion (λ (found : Finding). IsNoFault found.what) (findings_from size step period past noted (frame ∷ frames)) → IsFrameFree size step period past noted frame frames
+frame_free size step period past noted frame frames room plain =
+    let here = told_alone (frame_at step past frame) _ (all_left (λ (found : Finding). IsNoFault found.what) (findings_in size step period past noted frame) _ plain) in
+    let rest = all_right (λ (found : Finding). IsNoFault found.what) (findings_in size step period past noted frame) _ plain in
     elim (runs_full step period past (frame_items frame)) as (λ t. cond t true (frames_full step period (after_frame step past frame) frames) ≡ false
-    → AllByRecursion (λ (found : Finding). IsNoFault found.what) (cond t [] (findings_of size step period (after_frame step past frame) frames)) → IsFrameFree size step period past frame frames) [
+    → AllByRecursion (λ (found : Finding). IsNoFault found.what) (cond t [] (findings_from size step period (after_frame step past frame) (noted_in period past noted frame) frames)) → IsFrameFree size step period past noted frame frames) [
       | true ↦ λ r p. absurd (false≢true (sym r))
       | false ↦ λ r p. record { itself = all_left IsNoFault (frame_findings size step (due past) frame) _ here; room = r; plain = p }
     ] room rest
@@ -217,13 +218,13 @@ placed_is step count (Some e) h = by (e.count % step == 0)
 
 -- ---- frames after the first
 
-along : FibLaws → (r : Reading) (size step period eid : ℕ) → 1 ≤ size → (frames : List (List (List ℕ))) (count : ℕ) (past : List Moment) → AllByRecursion AreFibBytes frames
-    → frames_full step period past (read_frames r frames) ≡ false → AllByRecursion (λ (found : Finding). IsNoFault found.what) (findings_of size step period past (read_frames r frames))
+along : FibLaws → (r : Reading) (size step period eid : ℕ) → 1 ≤ size → (frames : List (List (List ℕ))) (count : ℕ) (past : List Moment) (noted : List Contradiction) → AllByRecursion AreFibBytes frames
+    → frames_full step period past (read_frames r frames) ≡ false → AllByRecursion (λ (found : Finding). IsNoFault found.what) (findings_from size step period past noted (read_frames r frames))
     → IsClean step period (after_frames step past (read_frames r frames)) → due past ≡ Some count → last_eid step past ≡ Some eid → RunOn step eid count (map row_of frames)
-along laws r size step period eid some [] count past all room plain clean d h = tt
-along laws r size step period eid some (fibs ∷ frames) count past all room plain clean d h =
+along laws r size step period eid some [] count past noted all room plain clean d h = tt
+along laws r size step period eid some (fibs ∷ frames) count past noted all room plain clean d h =
     let frame : List Fib = map r.read fibs in
-    let free = frame_free size step period past frame (read_frames r frames) room plain in
+    let free = frame_free size step period past noted frame (read_frames r frames) room plain in
     let here : IsClean step period (said (frame_items frame) past) =
     before_frames (IsClean step period) (clean_handed step period) step (read_frames r frames) (after_frame step past frame) clean in
     let items = items_due step period eid count (frame_items frame) past here d h in
@@ -238,7 +239,7 @@ along laws r size step period eid some (fibs ∷ frames) count past all room pla
     in
     let ends : count_of_frame step (due past) frame ≡ count = ap (λ n. placed_count step n (first_opening frame)) counted ∙ placed_is step count (first_opening frame) found in (
       at_count laws r step eid count fibs all.0 items.each opens,
-      along laws r size step period eid some frames ((count + 1) % 5000) (after_frame step past frame) all.1 free.room free.plain clean (ap (λ n. Some ((n + 1) % 5000)) ends) items.after,
+      along laws r size step period eid some frames ((count + 1) % 5000) (after_frame step past frame) (noted_in period past noted frame) all.1 free.room free.plain clean (ap (λ n. Some ((n + 1) % 5000)) ends) items.after,
     )
 
 -- ---- the first frame
@@ -310,7 +311,7 @@ counts_run_on laws r size step period [] some all f = (0, 0, zero_on_step step, 
 counts_run_on laws r size step period (fibs ∷ frames) some all f =
     let frame : List Fib = map r.read fibs in
     let clean : IsClean step period (after_frames step [] (read_frames r (fibs ∷ frames))) = all_clean size step period (read_frames r (fibs ∷ frames)) f in
-    let free = frame_free size step period [] frame (read_frames r frames) f.room f.plain in
+    let free = frame_free size step period [] [] frame (read_frames r frames) f.room f.plain in
     let here : IsClean step period (said (frame_items frame) []) =
     before_frames (IsClean step period) (clean_handed step period) step (read_frames r frames) (after_frame step [] frame) clean in
     let formed : IsFormed (said (frame_items frame) []) =
@@ -326,6 +327,6 @@ counts_run_on laws r size step period (fibs ∷ frames) some all f =
       on,
       (
         at_count laws r step e.eid e.count fibs all.0 items.each (λ y. (e, x)),
-        along laws r size step period e.eid some frames ((e.count + 1) % 5000) (after_frame step [] frame) all.1 free.room free.plain clean (ap (λ n. Some ((n + 1) % 5000)) ends) items.after,
+        along laws r size step period e.eid some frames ((e.count + 1) % 5000) (after_frame step [] frame) (noted_in period [] [] frame) all.1 free.room free.plain clean (ap (λ n. Some ((n + 1) % 5000)) ends) items.after,
       ),
     )

@@ -133,7 +133,7 @@ fibs_sent : (plan : Plan) (u : State) (ns : List ℕ) → AreSentOf (is_noticed 
 fibs_sent plan u [] = tt
 fibs_sent plan u (k ∷ ks) = (fib_sent plan u k, fibs_sent plan u ks)
 
-later_count : (layout : FrameLayout) (k : ℕ) → frame_fibs layout - 1 ≡ length (later_fibs layout k) + reserved_fibs layout
+pub later_count : (layout : FrameLayout) (k : ℕ) → frame_fibs layout - 1 ≡ length (later_fibs layout k) + reserved_fibs layout
 later_count (Whole I) k = refl
 later_count (Whole II) k = refl
 later_count (Whole III) k = refl

@@ -8,12 +8,14 @@ use Rattle.mux_types.proofs.Elements.{contains_cases, contains_none, contains_fi
 use Rattle.fib_reader.specs.Raw.{Raw}
 use Rattle.fib_reader.specs.Listening.{Pictured, Listening, kept, all_entries}
 use Rattle.fib_reader.proofs.Keeping.{each_kept}
+use Rattle.stream_check.specs.declared.contradiction.Contradiction.{Contradiction}
+use Rattle.stream_check.specs.Sent.{frame_sent}
 use Rattle.stream_check.specs.declared.finding.Finding.{Finding}
 use Rattle.stream_check.specs.Pictures.{key_of}
 use Rattle.stream_check.specs.Frames.{Fib, Reading}
 use Rattle.stream_check.specs.History.{Item, Moment, Said, Ended, said, frame_items, is_ensemble, ensemble_of, is_flagged, is_swap, is_member, frames_ended, listener_after, last_heard, due}
 use Rattle.stream_check.specs.Rules.{is_silent, silence, silent_findings}
-use Rattle.stream_check.specs.Stream.{findings_at_items, runs_full, frame_findings, frame_at, findings_in, after_frame, findings_of, after_frames, frames_full, last_findings}
+use Rattle.stream_check.specs.Stream.{findings_at_sent, runs_full, frame_findings, frame_at, findings_in, noted_in, after_frame, findings_from, after_frames, frames_full, last_findings}
 use Rattle.stream_check.proofs.Ensembles.{heard_as}
 use Rattle.stream_check.proofs.Members.{member_last}
 use Rattle.stream_laws.specs.Faultless.{IsNoFault, IsFaultless}
@@ -45,19 +47,19 @@ said_vocal : (period : ℕ) (items : List Item) (past : List Moment) → IsVocal
 said_vocal period [] past v = v
 said_vocal period (i ∷ is) past v = said_vocal period is (Said i ∷ past) v
 
-frames_vocal : (size step period : ℕ) (frames : List (List Fib)) (past : List Moment) → frames_full step period past frames ≡ false
-    → AllByRecursion (λ (found : Finding). IsNoFault found.what) (findings_of size step period past frames) → IsVocal period past → IsVocal period (after_frames step past frames)
-frames_vocal size step period [] past room plain v = v
-frames_vocal size step period (frame ∷ frames) past room plain v =
-    let here = told_alone (frame_at step past frame) _ (all_left (λ (found : Finding). IsNoFault found.what) (findings_in size step period past frame) _ plain) in
-    let rest = all_right (λ (found : Finding). IsNoFault found.what) (findings_in size step period past frame) _ plain in
-    let items = all_right IsNoFault (frame_findings size step (due past) frame) _ here in
-    let last = all_right IsNoFault (findings_at_items step period past (frame_items frame)) _ items in
+frames_vocal : (size step period : ℕ) (frames : List (List Fib)) (past : List Moment) (noted : List Contradiction) → frames_full step period past frames ≡ false
+    → AllByRecursion (λ (found : Finding). IsNoFault found.what) (findings_from size step period past noted frames) → IsVocal period past → IsVocal period (after_frames step past frames)
+frames_vocal size step period [] past noted room plain v = v
+frames_vocal size step period (frame ∷ frames) past noted room plain v =
+    let here = told_alone (frame_at step past frame) _ (all_left (λ (found : Finding). IsNoFault found.what) (findings_in size step period past noted frame) _ plain) in
+    let rest = all_right (λ (found : Finding). IsNoFault found.what) (findings_in size step period past noted frame) _ plain in
+    let sent = all_right IsNoFault (frame_findings size step (due past) frame) _ here in
+    let last = all_right IsNoFault (findings_at_sent step period past noted (frame_sent frame)) _ sent in
     elim (runs_full step period past (frame_items frame)) as (λ t. cond t true (frames_full step period (after_frame step past frame) frames) ≡ false
-    → AllByRecursion (λ (found : Finding). IsNoFault found.what) (cond t [] (findings_of size step period (after_frame step past frame) frames))
+    → AllByRecursion (λ (found : Finding). IsNoFault found.what) (cond t [] (findings_from size step period (after_frame step past frame) (noted_in period past noted frame) frames))
     → AllByRecursion IsNoFault (last_findings t period (said (frame_items frame) past)) → IsVocal period (after_frames step (after_frame step past frame) frames)) [
       | true ↦ λ r p q. absurd (false≢true (sym r))
-      | false ↦ λ r p q. frames_vocal size step period frames (after_frame step past frame) r p (q, said_vocal period (frame_items frame) past v)
+      | false ↦ λ r p q. frames_vocal size step period frames (after_frame step past frame) (noted_in period past noted frame) r p (q, said_vocal period (frame_items frame) past v)
     ] room rest last
 
 none_silent : (test : Raw → Bool) (rs : List Raw) → AllByRecursion IsNoFault (map silence (filter test rs)) → AllByRecursion (λ x. test x ≡ false) rs
@@ -371,7 +373,7 @@ current_is_sent r size step period before window after raw bytes some len faultl
     let whole : List Moment = after_frames step [] (read_frames r (before ++ window)) in
     let start : List Moment = after_frames step [] (read_frames r before) in
     let clean = all_clean size step period (read_frames r (before ++ window)) plain in
-    let vocal = frames_vocal size step period (read_frames r (before ++ window)) [] plain.room plain.plain tt in
+    let vocal = frames_vocal size step period (read_frames r (before ++ window)) [] [] plain.room plain.plain tt in
     let p : Pictured = (listener_after whole).current in
     let kinds : HasKinds p = (all_kinds step period whole clean (all_formed r step (before ++ window))).current in
     let is = there p raw kinds known in

@@ -10,6 +10,7 @@ use Rattle.fib_codec.specs.Laws.{IsByte, FibHas32Bytes}
 use Rattle.fib_codec.specs.declared.modes.Mode.TheVariants.{II}
 use Rattle.fib_reader.specs.Raw.{Raw}
 use Rattle.fib_reader.specs.Listening.{blank, identifier_of}
+use Rattle.stream_check.specs.declared.contradiction.Contradiction.TheVariants.{NotWhole}
 use Rattle.stream_check.specs.declared.finding.EntryName.TheVariants as names
 use Rattle.stream_check.specs.declared.finding.Fault.TheVariants as faults
 use Rattle.stream_check.specs.declared.finding.StreamEvent.TheVariants as named_events
@@ -25,7 +26,7 @@ use Rattle.stream_laws.specs.Faultless.{IsSaidIn}
 use Rattle.stream_laws.specs.Notices.{IsFibBytes, AreFibBytes, IsCutOf}
 use Rattle.stream_laws.specs.Entries.{IsSent, IsSentWhole, AnnouncesChange}
 use Rattle.stream_laws.specs.Framing.{frames_of}
-use Rattle.stream_laws.specs.Sorts.{is_of_frame, is_of_word, is_of_times, is_of_flags, is_of_silence, is_of_appearance, is_of_repetition, is_of_period, IsFreeOf, IsFreeUnlessShort, IsLongFor, RunIsFree}
+use Rattle.stream_laws.specs.Sorts.{is_of_frame, is_of_word, is_of_times, is_of_flags, is_of_mention, is_of_silence, is_of_appearance, is_of_repetition, is_of_period, IsFreeOf, IsFreeUnlessShort, IsLongFor, RunIsFree}
 use Rattle.stream_laws.specs.Naming.{swap_frames, due_frames, due_after_first}
 use Rattle.stream_laws.proofs.NoticeRows.{AreRows}
 
@@ -147,6 +148,15 @@ other_flags = refl
 
 not_of_flags : is_of_flags (faults.AnnouncedTimes 2) ≡ false
 not_of_flags = refl
+
+absent_is_of_mention : is_of_mention (faults.Contradicts (NotWhole 8)) ≡ true
+absent_is_of_mention = refl
+
+silence_is_not_of_mention : is_of_mention (faults.Silent (names.Sub 1)) ≡ false
+silence_is_not_of_mention = refl
+
+mention_is_of_no_period : is_of_period (faults.Contradicts (NotWhole 5)) ≡ false
+mention_is_of_no_period = refl
 
 free_of_flags : IsFreeOf is_of_flags (whats.Fault (faults.NextHeard 2))
 free_of_flags = refl

@@ -70,6 +70,11 @@ abbrev pub is_of_silence : Fault → Bool
 is_of_silence (faults.Silent name) = true
 is_of_silence f = false
 
+-- a FIG that names what is not in the current configuration, or is not whole entries
+abbrev pub is_of_mention : Fault → Bool
+is_of_mention (faults.Contradicts c) = true
+is_of_mention f = false
+
 -- the faults that depend on the checker's period
 abbrev pub is_of_period : Fault → Bool
 is_of_period (faults.Appeared name) = true
@@ -156,6 +161,10 @@ RunsRepeatTheNext = HoldsOfRuns (RunIsFreeOf is_of_repetition)
 -- is in its notice
 abbrev pub RunsFlagTheChange : Type 0
 RunsFlagTheChange = HoldsOfRuns (RunIsFreeOf is_of_flags)
+
+-- the law of mentions: no FIG contradicts the current configuration
+abbrev pub RunsContradictNothing : Type 0
+RunsContradictNothing = HoldsOfRuns (RunIsFreeOf is_of_mention)
 
 -- the law of appearances: each entry of the current configuration is known once it is settled, if the period is long
 abbrev pub RunsAreKnown : Type 0

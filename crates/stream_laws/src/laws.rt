@@ -15,6 +15,7 @@ ghost use Rattle.stream_laws.specs.Naming.{SwapsAreNamed};
 ghost use Rattle.stream_laws.specs.Notices.{FramesAreOfBytes};
 ghost use Rattle.stream_laws.specs.RunningOn.{CountsRunOn};
 ghost use Rattle.stream_laws.specs.Sorts.{RunsAgree, RunsAreFree, RunsAreInPlace, RunsAreKnown};
+ghost use Rattle.stream_laws.specs.Sorts.{RunsContradictNothing};
 ghost use Rattle.stream_laws.specs.Sorts.{RunsAreNeverSilent, RunsAreTimely, RunsFlagTheChange, RunsRepeatTheNext};
 ghost use Rattle.stream_laws.specs.Staying.{CurrentIsSent, CurrentStays};
 ghost use Rattle.stream_laws.specs.Units.{SwapsKeepUnits, UnitsStayOwn};
@@ -181,6 +182,15 @@ pub fn announcements()
 /// checker finds no swap with flags other than those of its change.
 pub fn flags()
     ensures { RunsFlagTheChange }
+{
+    findings();
+}
+
+/// The law of mentions: in the frames of a run of a typed code, from one with a FIG 0/0 on, the
+/// checker finds no FIG that names what is not in the current configuration, or is not whole
+/// entries.
+pub fn mentions()
+    ensures { RunsContradictNothing }
 {
     findings();
 }

@@ -11,10 +11,11 @@ use Rattle.stream_check.proofs.Followed.{frame_count, unbegun}
 use Rattle.stream_monitor.specs.declared.ending.Ending.TheVariants as endings
 use Rattle.stream_monitor.specs.declared.line.Cause.TheVariants as causes
 use Rattle.stream_monitor.specs.declared.line.Totals.{Totals}
-use Rattle.stream_monitor.specs.declared.monitor.State.{State}
+use Rattle.stream_monitor.specs.declared.check.State.{State}
+use Rattle.stream_monitor.specs.declared.line.Line.{Line}
 use Rattle.stream_monitor.specs.declared.options.CheckOptions.{CheckOptions}
 use Rattle.stream_monitor.specs.declared.tally.Tally.{Tally}
-use Rattle.stream_monitor.specs.Frames.{is_stopped, tally_after, summary_after, totals_after, frames_text}
+use Rattle.stream_monitor.specs.Frames.{is_stopped, tally_after, summary_after, totals_after, frames_lines}
 use Rattle.stream_monitor.specs.Going.{IsAfter}
 use Rattle.stream_monitor.specs.Outcome.{HasNoEnsemble, StopsAtEnd}
 use Rattle.stream_monitor.proofs.Steps.{goes_on, summary_is}
@@ -59,7 +60,7 @@ starts r o s f tally =
       follows = f;
       tally = tally ∙ sym (ap (tally_after o) none);
       no_fault = ap (is_stopped o) none ∙ nothing o.until_fault;
-      lines = sym (ap (frames_text o f.skipped []) none);
+      lines = sym (ap (frames_lines o f.skipped []) none);
     }
   where
     nothing : (b : Bool) → b && false ≡ false
@@ -71,15 +72,15 @@ starts r o s f tally =
 abbrev pub totals_with : Summary → Tally → Totals
 totals_with summary tally = record { summary = summary; swaps = tally.swaps; faults = tally.faults }
 
-pub ends_counted : (r : Reading) (o : CheckOptions) (fibs : List (List ℕ)) (text : List ℕ) (s : State) (sum : Summary) (t : Totals) (h : IsAfter r o fibs text s) → is_begun s.checker ≡ true
+pub ends_counted : (r : Reading) (o : CheckOptions) (fibs : List (List ℕ)) (log : List Line) (s : State) (sum : Summary) (t : Totals) (h : IsAfter r o fibs log s) → is_begun s.checker ≡ true
     → IsSummary h.follows.skipped h.follows.frames (map r.read s.checker.held) sum → t ≡ totals_with sum s.tally
-    → StopsAtEnd r o fibs [] text (endings.Counted t)
-ends_counted r o fibs text s sum t h begun summary is =
+    → StopsAtEnd r o fibs [] log (endings.Counted t)
+ends_counted r o fibs log s sum t h begun summary is =
     let f = h.follows in
     let rest = map r.read s.checker.held in
     let totals : t ≡ totals_after o f.skipped f.frames rest =
     is ∙ ap (λ x. totals_with x s.tally) (summary_is f.skipped f.frames rest sum summary) ∙ ap (totals_with (summary_after f.skipped f.frames rest)) h.tally in
-    (goes_on r o fibs text s h, refl, some, totals)
+    (goes_on r o fibs log s h, refl, some, totals)
   where
     some : HasNoEnsemble (map r.read fibs) → ⊥
     some none =
@@ -91,12 +92,12 @@ ends_counted r o fibs text s sum t h begun summary is =
         let held : s.checker.held ≡ [] = none_mapped r s.checker.held empty.1 in
         false≢true (sym (ap (λ n. nat_lt 0 n || not (is_empty s.checker.held)) count ∙ ap (λ l. nat_lt 0 0 || not (is_empty l)) held) ∙ begun)
 
-pub ends_without : (r : Reading) (o : CheckOptions) (fibs : List (List ℕ)) (text : List ℕ) (s : State) → IsAfter r o fibs text s → is_begun s.checker ≡ false
-    → StopsAtEnd r o fibs [] text (endings.Refused causes.NoEnsemble)
-ends_without r o fibs text s h begun =
+pub ends_without : (r : Reading) (o : CheckOptions) (fibs : List (List ℕ)) (log : List Line) (s : State) → IsAfter r o fibs log s → is_begun s.checker ≡ false
+    → StopsAtEnd r o fibs [] log (endings.Refused causes.NoEnsemble)
+ends_without r o fibs log s h begun =
     let f = h.follows in
     let un = unbegun s.checker begun in
     let none : f.frames ≡ [] = no_frames f.frames (sym un.none ∙ frame_count (count_step o.mode) o.period f.frames s.checker.state f.knows) in
     let all : map r.read fibs ≡ f.skipped =
     sym h.read ∙ f.framed.whole ∙ ap (λ l. f.skipped ++ (flat_map (λ g. g) l ++ map r.read s.checker.held)) none ∙ ap (λ l. f.skipped ++ map r.read l) un.empty ∙ append-nil f.skipped in
-    (goes_on r o fibs text s h, refl, subst HasNoEnsemble (sym all) f.framed.before)
+    (goes_on r o fibs log s h, refl, subst HasNoEnsemble (sym all) f.framed.before)

@@ -9,7 +9,7 @@ use Rattle.stream_check.specs.declared.finding.Finding.{Finding}
 use Rattle.stream_check.proofs.Framing.{findings_more}
 use Rattle.stream_monitor.specs.declared.options.CheckOptions.{CheckOptions}
 use Rattle.stream_monitor.specs.Findings.{swaps_in, faults_in, counted}
-use Rattle.stream_monitor.specs.Frames.{found_in, found_next, is_full, tally_after, frame_text, frames_text}
+use Rattle.stream_monitor.specs.Frames.{found_in, found_next, is_full, tally_after, frame_lines, frames_lines}
 
 -- ---- numbers
 
@@ -37,7 +37,7 @@ counted_none o frames =
 pub tally_more : (o : CheckOptions) (frames : List (List Fib)) (frame : List Fib) → is_full o frames ≡ false
     → counted (tally_after o frames) (found_next o frames frame) ≡ tally_after o (frames ++ frame ∷ [])
 tally_more o frames frame room =
-    let found = findings_more (fib_count o.mode) (count_step o.mode) o.period [] frames frame room in
+    let found = findings_more (fib_count o.mode) (count_step o.mode) o.period [] [] frames frame room in
     let s : u64_saturate (u64_saturate (swaps_in (found_in o frames)) + swaps_in (found_next o frames frame)) ≡ u64_saturate (swaps_in (found_in o (frames ++ frame ∷ []))) =
     saturated (swaps_in (found_in o frames)) (swaps_in (found_next o frames frame))
     ∙ ap u64_saturate (sym (swaps_append (found_in o frames) (found_next o frames frame)) ∙ ap swaps_in (sym found)) in
@@ -59,16 +59,16 @@ findings_are found (x ∷ xs) e = chosen (nat_le (length (x ∷ xs)) 1024) e
 -- ---- lines
 
 pub text_more : (o : CheckOptions) (skipped : List Fib) (before frames : List (List Fib)) (frame : List Fib)
-    → frames_text o skipped before (frames ++ frame ∷ []) ≡ frames_text o skipped before frames ++ frame_text o skipped (before ++ frames) frame
-text_more o skipped before [] frame = append-nil (frame_text o skipped before frame) ∙ ap (λ l. frame_text o skipped l frame) (sym (append-nil before))
+    → frames_lines o skipped before (frames ++ frame ∷ []) ≡ frames_lines o skipped before frames ++ frame_lines o skipped (before ++ frames) frame
+text_more o skipped before [] frame = append-nil (frame_lines o skipped before frame) ∙ ap (λ l. frame_lines o skipped l frame) (sym (append-nil before))
 text_more o skipped before (f ∷ fs) frame =
-    let front = frame_text o skipped before f in
+    let front = frame_lines o skipped before f in
     ap (λ l. front ++ l) (text_more o skipped (before ++ f ∷ []) fs frame)
-    ∙ sym (append_assoc front (frames_text o skipped (before ++ f ∷ []) fs) (frame_text o skipped ((before ++ f ∷ []) ++ fs) frame))
-    ∙ ap (λ l. (front ++ frames_text o skipped (before ++ f ∷ []) fs) ++ frame_text o skipped l frame) (append_assoc before (f ∷ []) fs)
+    ∙ sym (append_assoc front (frames_lines o skipped (before ++ f ∷ []) fs) (frame_lines o skipped ((before ++ f ∷ []) ++ fs) frame))
+    ∙ ap (λ l. (front ++ frames_lines o skipped (before ++ f ∷ []) fs) ++ frame_lines o skipped l frame) (append_assoc before (f ∷ []) fs)
 
 -- a FIB that is skipped comes before all frames
 pub text_kept : (o : CheckOptions) (skipped later : List Fib) (frames more : List (List Fib)) → more ≡ frames → (later ≡ skipped) ⊎ (frames ≡ [])
-    → frames_text o skipped [] frames ≡ frames_text o later [] more
-text_kept o skipped later frames more same (inl e) = ap (λ s. frames_text o s [] frames) (sym e) ∙ ap (frames_text o later []) (sym same)
-text_kept o skipped later frames more same (inr none) = ap (frames_text o skipped []) none ∙ sym (ap (frames_text o later []) none) ∙ ap (frames_text o later []) (sym same)
+    → frames_lines o skipped [] frames ≡ frames_lines o later [] more
+text_kept o skipped later frames more same (inl e) = ap (λ s. frames_lines o s [] frames) (sym e) ∙ ap (frames_lines o later []) (sym same)
+text_kept o skipped later frames more same (inr none) = ap (frames_lines o skipped []) none ∙ sym (ap (frames_lines o later []) none) ∙ ap (frames_lines o later []) (sym same)

@@ -3,10 +3,12 @@ use Rattle.std.proofs.Common.{◌≡◌, ℕ, ◌+◌, ◌<◌, ◌≤◌, ◌&&
 use Rattle.std.proofs.lemmas.Bool.{false≢true, cases_lt}
 use Rattle.std.proofs.lemmas.List.{length-append}
 use Rattle.fib_codec.specs.Modes.{fib_count, count_step}
+use Rattle.stream_check.specs.declared.contradiction.Contradiction.{Contradiction}
+use Rattle.stream_check.specs.declared.finding.Finding.{Finding}
 use Rattle.stream_check.specs.Frames.{Fib, AreFrames, IsFramed, is_damaged, damaged_in}
 use Rattle.stream_check.specs.History.{Moment, frame_items}
 use Rattle.stream_check.specs.CheckerState.{most}
-use Rattle.stream_check.specs.Stream.{runs_full, findings_in, findings_of, after_frame}
+use Rattle.stream_check.specs.Stream.{runs_full, findings_in, findings_from, noted_in, after_frame}
 use Rattle.stream_monitor.specs.declared.options.CheckOptions.{CheckOptions}
 use Rattle.stream_monitor.specs.Findings.{faults_in}
 use Rattle.stream_monitor.specs.Frames.{found_in, is_full, is_stopped}
@@ -17,18 +19,21 @@ use Rattle.stream_check.proofs.Fronts.{room_before}
 
 -- ---- no frame of a front ends the check
 
-faults_before : (size step period : ℕ) (past : List Moment) (f more : List (List Fib)) → faults_in (findings_of size step period past f) ≤ faults_in (findings_of size step period past (f ++ more))
-faults_before size step period past [] more = omega arith
-faults_before size step period past (g ∷ gs) more =
-    let here = findings_in size step period past g in
-    let a = faults_append here (cond (runs_full step period past (frame_items g)) [] (findings_of size step period (after_frame step past g) gs)) in
-    let b = faults_append here (cond (runs_full step period past (frame_items g)) [] (findings_of size step period (after_frame step past g) (gs ++ more))) in
-    let c = chosen (faults_before size step period (after_frame step past g) gs more) (runs_full step period past (frame_items g)) in
+faults_before : (size step period : ℕ) (past : List Moment) (noted : List Contradiction) (f more : List (List Fib))
+    → faults_in (findings_from size step period past noted f) ≤ faults_in (findings_from size step period past noted (f ++ more))
+faults_before size step period past noted [] more = omega arith
+faults_before size step period past noted (g ∷ gs) more =
+    let here = findings_in size step period past noted g in
+    let front = findings_from size step period (after_frame step past g) (noted_in period past noted g) gs in
+    let whole = findings_from size step period (after_frame step past g) (noted_in period past noted g) (gs ++ more) in
+    let a = faults_append here (cond (runs_full step period past (frame_items g)) [] front) in
+    let b = faults_append here (cond (runs_full step period past (frame_items g)) [] whole) in
+    let c = chosen front whole (faults_before size step period (after_frame step past g) (noted_in period past noted g) gs more) (runs_full step period past (frame_items g)) in
     omega (arith, a, b, c)
   where
-    chosen : faults_in (findings_of size step period (after_frame step past g) gs) ≤ faults_in (findings_of size step period (after_frame step past g) (gs ++ more)) → (t : Bool) → faults_in (cond t [] (findings_of size step period (after_frame step past g) gs)) ≤ faults_in (cond t [] (findings_of size step period (after_frame step past g) (gs ++ more)))
-    chosen rest true = omega arith
-    chosen rest false = rest
+    chosen : (front whole : List Finding) → faults_in front ≤ faults_in whole → (t : Bool) → faults_in (cond t [] front) ≤ faults_in (cond t [] whole)
+    chosen front whole rest true = omega arith
+    chosen front whole rest false = rest
 
 pub full_before : (o : CheckOptions) (f more : List (List Fib)) → is_full o (f ++ more) ≡ false → is_full o f ≡ false
 full_before o f more e = room_before (count_step o.mode) o.period [] f more e
@@ -40,7 +45,7 @@ stopped_before o f more e = chosen o.until_fault e
     chosen false h = refl
     chosen true h = elim (cases_lt 0 (faults_in (found_in o f))) [
       | inl some ↦
-          let less = faults_before (fib_count o.mode) (count_step o.mode) o.period [] f more in
+          let less = faults_before (fib_count o.mode) (count_step o.mode) o.period [] [] f more in
           let later : 0 < faults_in (found_in o (f ++ more)) = omega (arith, some, less) in
           absurd (false≢true (sym h ∙ lt-ltb 0 (faults_in (found_in o (f ++ more))) later))
       | inr none ↦ le-ltb 0 (faults_in (found_in o f)) none

@@ -1,18 +1,13 @@
-mod Appending
 mod Counting
 mod Frames
+mod Logs
 mod Steps
 mod Endings
-mod Pieces
-mod Requests
+mod Running
 mod Framings
 mod Fronts
 mod OneOutcome
 mod Stopping
-mod Unfinished
-mod Beginnings
-mod Vectors
+mod Taking
 mod VectorsOfChecks
-mod VectorsOfUnfinished
-pub mod Hinted
-mod VectorsOfHints
+mod VectorsOfLogs

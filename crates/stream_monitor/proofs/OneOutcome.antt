@@ -1,4 +1,4 @@
--- A check of a stream prints one text, and ends in one way.
+-- A check of a stream prints one log, and ends in one way.
 use Rattle.std.proofs.Common.{◌≡◌, ℕ, ◌<◌, ◌≤◌, true, List, [], ◌∷◌, ◌++◌, length, map, inl, inr, ◌⊎◌, refl, sym, ap, ◌∙◌, arith, subst}
 use Rattle.std.proofs.lemmas.Bool.{false≢true}
 use Rattle.std.proofs.lemmas.List.{append_assoc, length-append, length-map, map-append}
@@ -9,8 +9,9 @@ use Rattle.stream_check.specs.CheckerState.{most}
 use Rattle.stream_monitor.specs.declared.ending.Ending.{Ending}
 use Rattle.stream_monitor.specs.declared.ending.Ending.TheVariants as endings
 use Rattle.stream_monitor.specs.declared.line.Cause.TheVariants as causes
+use Rattle.stream_monitor.specs.declared.line.Line.{Line}
 use Rattle.stream_monitor.specs.declared.options.CheckOptions.{CheckOptions}
-use Rattle.stream_monitor.specs.Frames.{is_full, is_stopped, totals_after, frames_text}
+use Rattle.stream_monitor.specs.Frames.{is_full, is_stopped, totals_after, frames_lines}
 use Rattle.stream_monitor.specs.Outcome.{HasFibSize, GoesOn, EndsFrame, IsTooLong, StopsWithFib, StopsAtEnd}
 use Rattle.stream_monitor.specs.Outcomes.{AreFramedAlike, AreSame, OneOutcome}
 use Rattle.stream_monitor.proofs.Framings.{one_framing}
@@ -62,15 +63,15 @@ few_fibs : (fibs : List (List ℕ)) → AllByRecursion HasFibSize fibs → lengt
 few_fibs [] all = omega arith
 few_fibs (x ∷ xs) all = let rest = few_fibs xs all.1 in let len = length-append x (concat xs) in omega (arith, rest, len, all.0)
 
-pub short_enough : (r : Reading) (o : CheckOptions) (fibs : List (List ℕ)) (text : List ℕ) (g : GoesOn r o fibs text) → length (concat fibs) < most → IsTooLong g.skipped g.frames → ⊥
-short_enough r o fibs text g short long =
+pub short_enough : (r : Reading) (o : CheckOptions) (fibs : List (List ℕ)) (log : List Line) (g : GoesOn r o fibs log) → length (concat fibs) < most → IsTooLong g.skipped g.frames → ⊥
+short_enough r o fibs log g short long =
     let few = few_fibs fibs g.sizes in
     let len = length-map fibs r.read in
     not_long (fib_count o.mode) (map r.read fibs) g.skipped g.frames g.rest g.framed (omega (arith, few, len, short)) long
 
-ends_there : (r : Reading) (o : CheckOptions) (fibs : List (List ℕ)) (fib text other : List ℕ) (zs : List (List ℕ)) (skipped : List Fib) (frames : List (List Fib))
-    → EndsFrame r o fibs fib text skipped frames → (is_full o frames ≡ true) ⊎ (is_stopped o frames ≡ true) → GoesOn r o (fibs ++ fib ∷ zs) other → ⊥
-ends_there r o fibs fib text other zs skipped frames e why g =
+ends_there : (r : Reading) (o : CheckOptions) (fibs : List (List ℕ)) (fib : List ℕ) (log other : List Line) (zs : List (List ℕ)) (skipped : List Fib) (frames : List (List Fib))
+    → EndsFrame r o fibs fib log skipped frames → (is_full o frames ≡ true) ⊎ (is_stopped o frames ≡ true) → GoesOn r o (fibs ++ fib ∷ zs) other → ⊥
+ends_there r o fibs fib log other zs skipped frames e why g =
     let whole : map r.read (fibs ++ fib ∷ zs) ≡ map r.read (fibs ++ fib ∷ []) ++ map r.read zs =
     ap (map r.read) (sym (append_assoc fibs (fib ∷ []) zs)) ∙ map-append r.read (fibs ++ fib ∷ []) zs in
     let framed = subst (λ (l : List Fib). IsFramed (fib_count o.mode) l g.skipped g.frames g.rest) whole g.framed in
@@ -80,159 +81,159 @@ ends_there r o fibs fib text other zs skipped frames e why g =
       | inr stops ↦ false≢true (sym (stopped_before o frames more.0 (ap (is_stopped o) (sym more.1) ∙ g.no_fault)) ∙ stops)
     ]
 
-pub stopped_not : (r : Reading) (o : CheckOptions) (fibs : List (List ℕ)) (fib text other : List ℕ) (zs : List (List ℕ)) (e : Ending) → length (concat fibs) < most
-    → StopsWithFib r o fibs fib text e → GoesOn r o (fibs ++ fib ∷ zs) other → ⊥
-stopped_not r o fibs fib text other zs (endings.Counted totals) short h g = ends_there r o fibs fib text other zs h.0 h.1 h.2 (inr h.4) g
-stopped_not r o fibs fib text other zs (endings.Refused causes.Full) short h g = ends_there r o fibs fib text other zs h.0 h.1 h.2 (inl h.3) g
-stopped_not r o fibs fib text other zs (endings.Refused causes.TooLong) short h g = short_enough r o fibs text h.0 short h.2
-stopped_not r o fibs fib text other zs (endings.Refused causes.NotWhole) short h g = h
-stopped_not r o fibs fib text other zs (endings.Refused causes.NoEnsemble) short h g = h
+pub stopped_not : (r : Reading) (o : CheckOptions) (fibs : List (List ℕ)) (fib : List ℕ) (log other : List Line) (zs : List (List ℕ)) (e : Ending) → length (concat fibs) < most
+    → StopsWithFib r o fibs fib log e → GoesOn r o (fibs ++ fib ∷ zs) other → ⊥
+stopped_not r o fibs fib log other zs (endings.Counted totals) short h g = ends_there r o fibs fib log other zs h.0 h.1 h.2 (inr h.4) g
+stopped_not r o fibs fib log other zs (endings.Refused causes.Full) short h g = ends_there r o fibs fib log other zs h.0 h.1 h.2 (inl h.3) g
+stopped_not r o fibs fib log other zs (endings.Refused causes.TooLong) short h g = short_enough r o fibs log h.0 short h.2
+stopped_not r o fibs fib log other zs (endings.Refused causes.NotWhole) short h g = h
+stopped_not r o fibs fib log other zs (endings.Refused causes.NoEnsemble) short h g = h
 
 -- ---- the parts of an outcome
 
-pub goes_at_end : (r : Reading) (o : CheckOptions) (fibs : List (List ℕ)) (part text : List ℕ) (e : Ending) → StopsAtEnd r o fibs part text e → GoesOn r o fibs text × (length part < 32)
-goes_at_end r o fibs part text (endings.Counted totals) h = let len = ap length h.1 in (h.0, omega (arith, len))
-goes_at_end r o fibs part text (endings.Refused causes.Full) h = absurd h
-goes_at_end r o fibs part text (endings.Refused causes.TooLong) h = absurd h
-goes_at_end r o fibs part text (endings.Refused causes.NotWhole) h = (h.0, h.2)
-goes_at_end r o fibs part text (endings.Refused causes.NoEnsemble) h = let len = ap length h.1 in (h.0, omega (arith, len))
+pub goes_at_end : (r : Reading) (o : CheckOptions) (fibs : List (List ℕ)) (part : List ℕ) (log : List Line) (e : Ending) → StopsAtEnd r o fibs part log e → GoesOn r o fibs log × (length part < 32)
+goes_at_end r o fibs part log (endings.Counted totals) h = let len = ap length h.1 in (h.0, omega (arith, len))
+goes_at_end r o fibs part log (endings.Refused causes.Full) h = absurd h
+goes_at_end r o fibs part log (endings.Refused causes.TooLong) h = absurd h
+goes_at_end r o fibs part log (endings.Refused causes.NotWhole) h = (h.0, h.2)
+goes_at_end r o fibs part log (endings.Refused causes.NoEnsemble) h = let len = ap length h.1 in (h.0, omega (arith, len))
 
-pub goes_before : (r : Reading) (o : CheckOptions) (fibs : List (List ℕ)) (fib text : List ℕ) (e : Ending) → StopsWithFib r o fibs fib text e → (so_far : List ℕ) × GoesOn r o fibs so_far × HasFibSize fib
-goes_before r o fibs fib text (endings.Counted totals) h = (h.2.text_before, h.2.before, h.2.size)
-goes_before r o fibs fib text (endings.Refused causes.Full) h = (h.2.text_before, h.2.before, h.2.size)
-goes_before r o fibs fib text (endings.Refused causes.TooLong) h = (text, h.0, h.1)
-goes_before r o fibs fib text (endings.Refused causes.NotWhole) h = absurd h
-goes_before r o fibs fib text (endings.Refused causes.NoEnsemble) h = absurd h
+pub goes_before : (r : Reading) (o : CheckOptions) (fibs : List (List ℕ)) (fib : List ℕ) (log : List Line) (e : Ending) → StopsWithFib r o fibs fib log e → (so_far : List Line) × GoesOn r o fibs so_far × HasFibSize fib
+goes_before r o fibs fib log (endings.Counted totals) h = (h.2.log_before, h.2.before, h.2.size)
+goes_before r o fibs fib log (endings.Refused causes.Full) h = (h.2.log_before, h.2.before, h.2.size)
+goes_before r o fibs fib log (endings.Refused causes.TooLong) h = (log, h.0, h.1)
+goes_before r o fibs fib log (endings.Refused causes.NotWhole) h = absurd h
+goes_before r o fibs fib log (endings.Refused causes.NoEnsemble) h = absurd h
 
 -- ---- two outcomes of the same FIBs
 
-alike : (r : Reading) (o : CheckOptions) (fibs : List (List ℕ)) (text other : List ℕ) (g : GoesOn r o fibs text) (h : GoesOn r o fibs other) → AreFramedAlike g.skipped h.skipped g.frames h.frames g.rest h.rest
-alike r o fibs text other g h = one_framing (fib_count o.mode) (map r.read fibs) g.skipped h.skipped g.frames h.frames g.rest h.rest g.framed h.framed
+alike : (r : Reading) (o : CheckOptions) (fibs : List (List ℕ)) (log other : List Line) (g : GoesOn r o fibs log) (h : GoesOn r o fibs other) → AreFramedAlike g.skipped h.skipped g.frames h.frames g.rest h.rest
+alike r o fibs log other g h = one_framing (fib_count o.mode) (map r.read fibs) g.skipped h.skipped g.frames h.frames g.rest h.rest g.framed h.framed
 
-same_text : (o : CheckOptions) (s t : List Fib) (f g : List (List Fib)) → s ≡ t → f ≡ g → frames_text o s [] f ≡ frames_text o t [] g
-same_text o s t f g a b = ap (λ x. frames_text o x [] f) a ∙ ap (frames_text o t []) b
+same_text : (o : CheckOptions) (s t : List Fib) (f g : List (List Fib)) → s ≡ t → f ≡ g → frames_lines o s [] f ≡ frames_lines o t [] g
+same_text o s t f g a b = ap (λ x. frames_lines o x [] f) a ∙ ap (frames_lines o t []) b
 
 same_totals : (o : CheckOptions) (s t : List Fib) (f g : List (List Fib)) (p q : List Fib) → s ≡ t → f ≡ g → p ≡ q → totals_after o s f p ≡ totals_after o t g q
 same_totals o s t f g p q a b c = ap (λ x. totals_after o x f p) a ∙ ap (λ x. totals_after o t x p) b ∙ ap (totals_after o t g) c
 
-texts_are : (r : Reading) (o : CheckOptions) (fibs : List (List ℕ)) (text other : List ℕ) → GoesOn r o fibs text → GoesOn r o fibs other → text ≡ other
-texts_are r o fibs text other g h = let a = alike r o fibs text other g h in g.lines ∙ same_text o g.skipped h.skipped g.frames h.frames a.skips a.frames_are ∙ sym h.lines
+texts_are : (r : Reading) (o : CheckOptions) (fibs : List (List ℕ)) (log other : List Line) → GoesOn r o fibs log → GoesOn r o fibs other → log ≡ other
+texts_are r o fibs log other g h = let a = alike r o fibs log other g h in g.lines ∙ same_text o g.skipped h.skipped g.frames h.frames a.skips a.frames_are ∙ sym h.lines
 
-ends_alike : (r : Reading) (o : CheckOptions) (fibs : List (List ℕ)) (part text other : List ℕ) (e d : Ending) → StopsAtEnd r o fibs part text e → StopsAtEnd r o fibs part other d → AreSame text other e d
-ends_alike r o fibs part text other (endings.Counted t) (endings.Counted u) g h =
-    let a = alike r o fibs text other g.0 h.0 in
+ends_alike : (r : Reading) (o : CheckOptions) (fibs : List (List ℕ)) (part : List ℕ) (log other : List Line) (e d : Ending) → StopsAtEnd r o fibs part log e → StopsAtEnd r o fibs part other d → AreSame log other e d
+ends_alike r o fibs part log other (endings.Counted t) (endings.Counted u) g h =
+    let a = alike r o fibs log other g.0 h.0 in
     record {
-      texts = texts_are r o fibs text other g.0 h.0;
+      logs = texts_are r o fibs log other g.0 h.0;
       endings = ap (λ x. endings.Counted x) (g.3 ∙ same_totals o g.0.skipped h.0.skipped g.0.frames h.0.frames g.0.rest h.0.rest a.skips a.frames_are a.rests ∙ sym h.3);
     }
-ends_alike r o fibs part text other (endings.Counted t) (endings.Refused causes.Full) g h = absurd h
-ends_alike r o fibs part text other (endings.Counted t) (endings.Refused causes.TooLong) g h = absurd h
-ends_alike r o fibs part text other (endings.Counted t) (endings.Refused causes.NotWhole) g h = let len = ap length g.1 in absurd (omega (arith, len, h.1))
-ends_alike r o fibs part text other (endings.Counted t) (endings.Refused causes.NoEnsemble) g h = absurd (g.2 h.2)
-ends_alike r o fibs part text other (endings.Refused causes.Full) d g h = absurd g
-ends_alike r o fibs part text other (endings.Refused causes.TooLong) d g h = absurd g
-ends_alike r o fibs part text other (endings.Refused causes.NotWhole) (endings.Counted u) g h = let len = ap length h.1 in absurd (omega (arith, len, g.1))
-ends_alike r o fibs part text other (endings.Refused causes.NotWhole) (endings.Refused causes.Full) g h = absurd h
-ends_alike r o fibs part text other (endings.Refused causes.NotWhole) (endings.Refused causes.TooLong) g h = absurd h
-ends_alike r o fibs part text other (endings.Refused causes.NotWhole) (endings.Refused causes.NotWhole) g h = record { texts = texts_are r o fibs text other g.0 h.0; endings = refl }
-ends_alike r o fibs part text other (endings.Refused causes.NotWhole) (endings.Refused causes.NoEnsemble) g h = let len = ap length h.1 in absurd (omega (arith, len, g.1))
-ends_alike r o fibs part text other (endings.Refused causes.NoEnsemble) (endings.Counted u) g h = absurd (h.2 g.2)
-ends_alike r o fibs part text other (endings.Refused causes.NoEnsemble) (endings.Refused causes.Full) g h = absurd h
-ends_alike r o fibs part text other (endings.Refused causes.NoEnsemble) (endings.Refused causes.TooLong) g h = absurd h
-ends_alike r o fibs part text other (endings.Refused causes.NoEnsemble) (endings.Refused causes.NotWhole) g h = let len = ap length g.1 in absurd (omega (arith, len, h.1))
-ends_alike r o fibs part text other (endings.Refused causes.NoEnsemble) (endings.Refused causes.NoEnsemble) g h = record { texts = texts_are r o fibs text other g.0 h.0; endings = refl }
+ends_alike r o fibs part log other (endings.Counted t) (endings.Refused causes.Full) g h = absurd h
+ends_alike r o fibs part log other (endings.Counted t) (endings.Refused causes.TooLong) g h = absurd h
+ends_alike r o fibs part log other (endings.Counted t) (endings.Refused causes.NotWhole) g h = let len = ap length g.1 in absurd (omega (arith, len, h.1))
+ends_alike r o fibs part log other (endings.Counted t) (endings.Refused causes.NoEnsemble) g h = absurd (g.2 h.2)
+ends_alike r o fibs part log other (endings.Refused causes.Full) d g h = absurd g
+ends_alike r o fibs part log other (endings.Refused causes.TooLong) d g h = absurd g
+ends_alike r o fibs part log other (endings.Refused causes.NotWhole) (endings.Counted u) g h = let len = ap length h.1 in absurd (omega (arith, len, g.1))
+ends_alike r o fibs part log other (endings.Refused causes.NotWhole) (endings.Refused causes.Full) g h = absurd h
+ends_alike r o fibs part log other (endings.Refused causes.NotWhole) (endings.Refused causes.TooLong) g h = absurd h
+ends_alike r o fibs part log other (endings.Refused causes.NotWhole) (endings.Refused causes.NotWhole) g h = record { logs = texts_are r o fibs log other g.0 h.0; endings = refl }
+ends_alike r o fibs part log other (endings.Refused causes.NotWhole) (endings.Refused causes.NoEnsemble) g h = let len = ap length h.1 in absurd (omega (arith, len, g.1))
+ends_alike r o fibs part log other (endings.Refused causes.NoEnsemble) (endings.Counted u) g h = absurd (h.2 g.2)
+ends_alike r o fibs part log other (endings.Refused causes.NoEnsemble) (endings.Refused causes.Full) g h = absurd h
+ends_alike r o fibs part log other (endings.Refused causes.NoEnsemble) (endings.Refused causes.TooLong) g h = absurd h
+ends_alike r o fibs part log other (endings.Refused causes.NoEnsemble) (endings.Refused causes.NotWhole) g h = let len = ap length g.1 in absurd (omega (arith, len, h.1))
+ends_alike r o fibs part log other (endings.Refused causes.NoEnsemble) (endings.Refused causes.NoEnsemble) g h = record { logs = texts_are r o fibs log other g.0 h.0; endings = refl }
 
 -- with the same FIB
-frames_alike : (r : Reading) (o : CheckOptions) (fibs : List (List ℕ)) (fib text other : List ℕ) (s t : List Fib) (f g : List (List Fib)) (a : EndsFrame r o fibs fib text s f) (b : EndsFrame r o fibs fib other t g)
+frames_alike : (r : Reading) (o : CheckOptions) (fibs : List (List ℕ)) (fib : List ℕ) (log other : List Line) (s t : List Fib) (f g : List (List Fib)) (a : EndsFrame r o fibs fib log s f) (b : EndsFrame r o fibs fib other t g)
     → AreFramedAlike s t f g a.rest b.rest
-frames_alike r o fibs fib text other s t f g a b = one_framing (fib_count o.mode) (map r.read (fibs ++ fib ∷ [])) s t f g a.rest b.rest a.framed b.framed
+frames_alike r o fibs fib log other s t f g a b = one_framing (fib_count o.mode) (map r.read (fibs ++ fib ∷ [])) s t f g a.rest b.rest a.framed b.framed
 
-frame_texts : (r : Reading) (o : CheckOptions) (fibs : List (List ℕ)) (fib text other : List ℕ) (s t : List Fib) (f g : List (List Fib)) → EndsFrame r o fibs fib text s f → EndsFrame r o fibs fib other t g → text ≡ other
-frame_texts r o fibs fib text other s t f g a b = let same = frames_alike r o fibs fib text other s t f g a b in a.lines ∙ same_text o s t f g same.skips same.frames_are ∙ sym b.lines
+frame_texts : (r : Reading) (o : CheckOptions) (fibs : List (List ℕ)) (fib : List ℕ) (log other : List Line) (s t : List Fib) (f g : List (List Fib)) → EndsFrame r o fibs fib log s f → EndsFrame r o fibs fib other t g → log ≡ other
+frame_texts r o fibs fib log other s t f g a b = let same = frames_alike r o fibs fib log other s t f g a b in a.lines ∙ same_text o s t f g same.skips same.frames_are ∙ sym b.lines
 
-stops_alike : (r : Reading) (o : CheckOptions) (fibs : List (List ℕ)) (fib text other : List ℕ) (e d : Ending) → length (concat fibs) < most → StopsWithFib r o fibs fib text e → StopsWithFib r o fibs fib other d → AreSame text other e d
-stops_alike r o fibs fib text other (endings.Counted t) (endings.Counted u) short g h =
-    let a = frames_alike r o fibs fib text other g.0 h.0 g.1 h.1 g.2 h.2 in
+stops_alike : (r : Reading) (o : CheckOptions) (fibs : List (List ℕ)) (fib : List ℕ) (log other : List Line) (e d : Ending) → length (concat fibs) < most → StopsWithFib r o fibs fib log e → StopsWithFib r o fibs fib other d → AreSame log other e d
+stops_alike r o fibs fib log other (endings.Counted t) (endings.Counted u) short g h =
+    let a = frames_alike r o fibs fib log other g.0 h.0 g.1 h.1 g.2 h.2 in
     record {
-      texts = frame_texts r o fibs fib text other g.0 h.0 g.1 h.1 g.2 h.2;
+      logs = frame_texts r o fibs fib log other g.0 h.0 g.1 h.1 g.2 h.2;
       endings = ap (λ x. endings.Counted x) (g.5 ∙ same_totals o g.0 h.0 g.1 h.1 [] [] a.skips a.frames_are refl ∙ sym h.5);
     }
-stops_alike r o fibs fib text other (endings.Counted t) (endings.Refused causes.Full) short g h =
-    let a = frames_alike r o fibs fib text other g.0 h.0 g.1 h.1 g.2 h.2 in absurd (false≢true (sym g.3 ∙ ap (is_full o) a.frames_are ∙ h.3))
-stops_alike r o fibs fib text other (endings.Counted t) (endings.Refused causes.TooLong) short g h = absurd (short_enough r o fibs other h.0 short h.2)
-stops_alike r o fibs fib text other (endings.Counted t) (endings.Refused causes.NotWhole) short g h = absurd h
-stops_alike r o fibs fib text other (endings.Counted t) (endings.Refused causes.NoEnsemble) short g h = absurd h
-stops_alike r o fibs fib text other (endings.Refused causes.Full) (endings.Counted u) short g h =
-    let a = frames_alike r o fibs fib text other g.0 h.0 g.1 h.1 g.2 h.2 in absurd (false≢true (sym h.3 ∙ ap (is_full o) (sym a.frames_are) ∙ g.3))
-stops_alike r o fibs fib text other (endings.Refused causes.Full) (endings.Refused causes.Full) short g h = record { texts = frame_texts r o fibs fib text other g.0 h.0 g.1 h.1 g.2 h.2; endings = refl }
-stops_alike r o fibs fib text other (endings.Refused causes.Full) (endings.Refused causes.TooLong) short g h = absurd (short_enough r o fibs other h.0 short h.2)
-stops_alike r o fibs fib text other (endings.Refused causes.Full) (endings.Refused causes.NotWhole) short g h = absurd h
-stops_alike r o fibs fib text other (endings.Refused causes.Full) (endings.Refused causes.NoEnsemble) short g h = absurd h
-stops_alike r o fibs fib text other (endings.Refused causes.TooLong) d short g h = absurd (short_enough r o fibs text g.0 short g.2)
-stops_alike r o fibs fib text other (endings.Refused causes.NotWhole) d short g h = absurd g
-stops_alike r o fibs fib text other (endings.Refused causes.NoEnsemble) d short g h = absurd g
+stops_alike r o fibs fib log other (endings.Counted t) (endings.Refused causes.Full) short g h =
+    let a = frames_alike r o fibs fib log other g.0 h.0 g.1 h.1 g.2 h.2 in absurd (false≢true (sym g.3 ∙ ap (is_full o) a.frames_are ∙ h.3))
+stops_alike r o fibs fib log other (endings.Counted t) (endings.Refused causes.TooLong) short g h = absurd (short_enough r o fibs other h.0 short h.2)
+stops_alike r o fibs fib log other (endings.Counted t) (endings.Refused causes.NotWhole) short g h = absurd h
+stops_alike r o fibs fib log other (endings.Counted t) (endings.Refused causes.NoEnsemble) short g h = absurd h
+stops_alike r o fibs fib log other (endings.Refused causes.Full) (endings.Counted u) short g h =
+    let a = frames_alike r o fibs fib log other g.0 h.0 g.1 h.1 g.2 h.2 in absurd (false≢true (sym h.3 ∙ ap (is_full o) (sym a.frames_are) ∙ g.3))
+stops_alike r o fibs fib log other (endings.Refused causes.Full) (endings.Refused causes.Full) short g h = record { logs = frame_texts r o fibs fib log other g.0 h.0 g.1 h.1 g.2 h.2; endings = refl }
+stops_alike r o fibs fib log other (endings.Refused causes.Full) (endings.Refused causes.TooLong) short g h = absurd (short_enough r o fibs other h.0 short h.2)
+stops_alike r o fibs fib log other (endings.Refused causes.Full) (endings.Refused causes.NotWhole) short g h = absurd h
+stops_alike r o fibs fib log other (endings.Refused causes.Full) (endings.Refused causes.NoEnsemble) short g h = absurd h
+stops_alike r o fibs fib log other (endings.Refused causes.TooLong) d short g h = absurd (short_enough r o fibs log g.0 short g.2)
+stops_alike r o fibs fib log other (endings.Refused causes.NotWhole) d short g h = absurd g
+stops_alike r o fibs fib log other (endings.Refused causes.NoEnsemble) d short g h = absurd g
 
 -- ---- two outcomes of one stream
 
 pub front_short : (stream front rest : List ℕ) → stream ≡ front ++ rest → length stream < most → length front < most
 front_short stream front rest e short = let len = ap length e ∙ length-append front rest in omega (arith, len, short)
 
-flip : (text other : List ℕ) (e d : Ending) → AreSame other text d e → AreSame text other e d
-flip text other e d h = record { texts = sym h.texts; endings = sym h.endings }
+flip : (log other : List Line) (e d : Ending) → AreSame other log d e → AreSame log other e d
+flip log other e d h = record { logs = sym h.logs; endings = sym h.endings }
 
 -- one at the end, the other with a FIB before it
-end_and_fib : (r : Reading) (o : CheckOptions) (fibs others : List (List ℕ)) (part fib more text other : List ℕ) (e d : Ending) → length (concat others) < most → concat fibs ++ part ≡ concat others ++ (fib ++ more)
-    → StopsAtEnd r o fibs part text e → StopsWithFib r o others fib other d → ⊥
-end_and_fib r o fibs others part fib more text other e d short same a b =
-    let x = goes_at_end r o fibs part text e a in
+end_and_fib : (r : Reading) (o : CheckOptions) (fibs others : List (List ℕ)) (part fib more : List ℕ) (log other : List Line) (e d : Ending) → length (concat others) < most → concat fibs ++ part ≡ concat others ++ (fib ++ more)
+    → StopsAtEnd r o fibs part log e → StopsWithFib r o others fib other d → ⊥
+end_and_fib r o fibs others part fib more log other e d short same a b =
+    let x = goes_at_end r o fibs part log e a in
     let y = goes_before r o others fib other d b in
     chosen (compare_fibs fibs others part (fib ++ more) x.0.sizes y.1.sizes same)
   where
     chosen : Compared fibs others part (fib ++ more) → ⊥
     chosen (Equal s t) =
-        let few = (goes_at_end r o fibs part text e a).1 in
+        let few = (goes_at_end r o fibs part log e a).1 in
         let size = (goes_before r o others fib other d b).2 in
         let len = ap length t ∙ length-append fib more in
         absurd (omega (arith, few, size, len))
     chosen (Longer z zs s t size) =
-        let few = (goes_at_end r o fibs part text e a).1 in
+        let few = (goes_at_end r o fibs part log e a).1 in
         let len = ap length t ∙ length-append z (concat zs ++ (fib ++ more)) in
         absurd (omega (arith, few, size, len))
     chosen (Shorter z zs s t size) =
         let front = take_front 32 fib z more (concat zs ++ part) (goes_before r o others fib other d b).2 size t in
-        let goes = subst (λ (l : List (List ℕ)). GoesOn r o l text) (s ∙ ap (λ f. others ++ f ∷ zs) (sym front.same)) (goes_at_end r o fibs part text e a).0 in
-        stopped_not r o others fib other text zs d short b goes
+        let goes = subst (λ (l : List (List ℕ)). GoesOn r o l log) (s ∙ ap (λ f. others ++ f ∷ zs) (sym front.same)) (goes_at_end r o fibs part log e a).0 in
+        stopped_not r o others fib other log zs d short b goes
 
-fib_and_fib : (r : Reading) (o : CheckOptions) (fibs others : List (List ℕ)) (fib more last rest text other : List ℕ) (e d : Ending) → length (concat fibs) < most → length (concat others) < most
-    → concat fibs ++ (fib ++ more) ≡ concat others ++ (last ++ rest) → StopsWithFib r o fibs fib text e → StopsWithFib r o others last other d → AreSame text other e d
-fib_and_fib r o fibs others fib more last rest text other e d short few same a b =
-    chosen (compare_fibs fibs others (fib ++ more) (last ++ rest) (goes_before r o fibs fib text e a).1.sizes (goes_before r o others last other d b).1.sizes same)
+fib_and_fib : (r : Reading) (o : CheckOptions) (fibs others : List (List ℕ)) (fib more last rest : List ℕ) (log other : List Line) (e d : Ending) → length (concat fibs) < most → length (concat others) < most
+    → concat fibs ++ (fib ++ more) ≡ concat others ++ (last ++ rest) → StopsWithFib r o fibs fib log e → StopsWithFib r o others last other d → AreSame log other e d
+fib_and_fib r o fibs others fib more last rest log other e d short few same a b =
+    chosen (compare_fibs fibs others (fib ++ more) (last ++ rest) (goes_before r o fibs fib log e a).1.sizes (goes_before r o others last other d b).1.sizes same)
   where
-    chosen : Compared fibs others (fib ++ more) (last ++ rest) → AreSame text other e d
+    chosen : Compared fibs others (fib ++ more) (last ++ rest) → AreSame log other e d
     chosen (Equal s t) =
-        let front = take_front 32 fib last more rest (goes_before r o fibs fib text e a).2 (goes_before r o others last other d b).2 t in
+        let front = take_front 32 fib last more rest (goes_before r o fibs fib log e a).2 (goes_before r o others last other d b).2 t in
         let moved = subst (λ (l : List (List ℕ)). StopsWithFib r o l last other d) (sym s) b in
-        stops_alike r o fibs fib text other e d short a (subst (λ (l : List ℕ). StopsWithFib r o fibs l other d) (sym front.same) moved)
+        stops_alike r o fibs fib log other e d short a (subst (λ (l : List ℕ). StopsWithFib r o fibs l other d) (sym front.same) moved)
     chosen (Longer z zs s t size) =
-        let front = take_front 32 fib z more (concat zs ++ (last ++ rest)) (goes_before r o fibs fib text e a).2 size t in
+        let front = take_front 32 fib z more (concat zs ++ (last ++ rest)) (goes_before r o fibs fib log e a).2 size t in
         let y = goes_before r o others last other d b in
-        absurd (stopped_not r o fibs fib text y.0 zs e short a (subst (λ (l : List (List ℕ)). GoesOn r o l y.0) (s ∙ ap (λ f. fibs ++ f ∷ zs) (sym front.same)) y.1))
+        absurd (stopped_not r o fibs fib log y.0 zs e short a (subst (λ (l : List (List ℕ)). GoesOn r o l y.0) (s ∙ ap (λ f. fibs ++ f ∷ zs) (sym front.same)) y.1))
     chosen (Shorter z zs s t size) =
         let front = take_front 32 last z rest (concat zs ++ (fib ++ more)) (goes_before r o others last other d b).2 size t in
-        let y = goes_before r o fibs fib text e a in
+        let y = goes_before r o fibs fib log e a in
         absurd (stopped_not r o others last other y.0 zs d few b (subst (λ (l : List (List ℕ)). GoesOn r o l y.0) (s ∙ ap (λ f. others ++ f ∷ zs) (sym front.same)) y.1))
 
-end_and_end : (r : Reading) (o : CheckOptions) (fibs others : List (List ℕ)) (part last text other : List ℕ) (e d : Ending) → concat fibs ++ part ≡ concat others ++ last
-    → StopsAtEnd r o fibs part text e → StopsAtEnd r o others last other d → AreSame text other e d
-end_and_end r o fibs others part last text other e d same a b =
-    chosen (compare_fibs fibs others part last (goes_at_end r o fibs part text e a).0.sizes (goes_at_end r o others last other d b).0.sizes same)
+end_and_end : (r : Reading) (o : CheckOptions) (fibs others : List (List ℕ)) (part last : List ℕ) (log other : List Line) (e d : Ending) → concat fibs ++ part ≡ concat others ++ last
+    → StopsAtEnd r o fibs part log e → StopsAtEnd r o others last other d → AreSame log other e d
+end_and_end r o fibs others part last log other e d same a b =
+    chosen (compare_fibs fibs others part last (goes_at_end r o fibs part log e a).0.sizes (goes_at_end r o others last other d b).0.sizes same)
   where
-    chosen : Compared fibs others part last → AreSame text other e d
+    chosen : Compared fibs others part last → AreSame log other e d
     chosen (Equal s t) =
         let moved = subst (λ (l : List (List ℕ)). StopsAtEnd r o l last other d) (sym s) b in
-        ends_alike r o fibs part text other e d a (subst (λ (l : List ℕ). StopsAtEnd r o fibs l other d) (sym t) moved)
+        ends_alike r o fibs part log other e d a (subst (λ (l : List ℕ). StopsAtEnd r o fibs l other d) (sym t) moved)
     chosen (Longer z zs s t size) =
-        let few = (goes_at_end r o fibs part text e a).1 in
+        let few = (goes_at_end r o fibs part log e a).1 in
         let len = ap length t ∙ length-append z (concat zs ++ last) in
         absurd (omega (arith, few, size, len))
     chosen (Shorter z zs s t size) =
@@ -241,10 +242,10 @@ end_and_end r o fibs others part last text other e d same a b =
         absurd (omega (arith, few, size, len))
 
 pub one_outcome : OneOutcome
-one_outcome r o stream text other e d short (inl a) (inl b) = end_and_end r o a.0 b.0 a.1 b.1 text other e d (sym a.2 ∙ b.2) a.3 b.3
-one_outcome r o stream text other e d short (inl a) (inr b) =
-    absurd (end_and_fib r o a.0 b.0 a.1 b.1 b.2 text other e d (front_short stream (concat b.0) (b.1 ++ b.2) b.3 short) (sym a.2 ∙ b.3) a.3 b.4)
-one_outcome r o stream text other e d short (inr a) (inl b) =
-    absurd (end_and_fib r o b.0 a.0 b.1 a.1 a.2 other text d e (front_short stream (concat a.0) (a.1 ++ a.2) a.3 short) (sym b.2 ∙ a.3) b.3 a.4)
-one_outcome r o stream text other e d short (inr a) (inr b) =
-    fib_and_fib r o a.0 b.0 a.1 a.2 b.1 b.2 text other e d (front_short stream (concat a.0) (a.1 ++ a.2) a.3 short) (front_short stream (concat b.0) (b.1 ++ b.2) b.3 short) (sym a.3 ∙ b.3) a.4 b.4
+one_outcome r o stream log other e d short (inl a) (inl b) = end_and_end r o a.0 b.0 a.1 b.1 log other e d (sym a.2 ∙ b.2) a.3 b.3
+one_outcome r o stream log other e d short (inl a) (inr b) =
+    absurd (end_and_fib r o a.0 b.0 a.1 b.1 b.2 log other e d (front_short stream (concat b.0) (b.1 ++ b.2) b.3 short) (sym a.2 ∙ b.3) a.3 b.4)
+one_outcome r o stream log other e d short (inr a) (inl b) =
+    absurd (end_and_fib r o b.0 a.0 b.1 a.1 a.2 other log d e (front_short stream (concat a.0) (a.1 ++ a.2) a.3 short) (sym b.2 ∙ a.3) b.3 a.4)
+one_outcome r o stream log other e d short (inr a) (inr b) =
+    fib_and_fib r o a.0 b.0 a.1 a.2 b.1 b.2 log other e d (front_short stream (concat a.0) (a.1 ++ a.2) a.3 short) (front_short stream (concat b.0) (b.1 ++ b.2) b.3 short) (sym a.3 ∙ b.3) a.4 b.4

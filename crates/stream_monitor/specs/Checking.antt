@@ -1,5 +1,5 @@
 -- Where a check ends, and what it has read then.
-use Rattle.std.specs.Prelude.{◌≡◌, ℕ, ◌%◌, ◌<◌, true, false, List, length, Option}
+use Rattle.std.specs.Prelude.{◌≡◌, ℕ, true, false, List, Option}
 use Rattle.std.specs.Io.KnownBytes.{IsAtEnd}
 use Rattle.stream_monitor.specs.declared.line.Cause.TheVariants as causes
 use Rattle.stream_monitor.specs.declared.options.CheckOptions.{CheckOptions}
@@ -13,14 +13,6 @@ StopsAtFib o (endings.Refused causes.Full) = Unit {0}
 StopsAtFib o (endings.Refused causes.TooLong) = Unit {0}
 StopsAtFib o (endings.Refused causes.NotWhole) = ⊥
 StopsAtFib o (endings.Refused causes.NoEnsemble) = ⊥
-
--- with a piece: with one of its FIBs, or where it ends within a FIB
-abbrev pub StopsAtPiece : CheckOptions → List ℕ → Ending → Type 0
-StopsAtPiece o piece (endings.Counted totals) = o.until_fault ≡ true
-StopsAtPiece o piece (endings.Refused causes.Full) = Unit {0}
-StopsAtPiece o piece (endings.Refused causes.TooLong) = Unit {0}
-StopsAtPiece o piece (endings.Refused causes.NotWhole) = 0 < length piece % 32
-StopsAtPiece o piece (endings.Refused causes.NoEnsemble) = ⊥
 
 -- a check that ends neither with a fault nor with a refusal has read the whole input
 abbrev pub HasReadAll : CheckOptions → Ending → Option (List ℕ) → Type 0

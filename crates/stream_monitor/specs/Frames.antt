@@ -1,18 +1,18 @@
--- What a check finds in frames, and what it prints for them.
-use Rattle.std.specs.Prelude.{ℕ, ◌&&◌, Bool, not, if◌then◌else◌, nat_lt, List, [], ◌∷◌, ◌++◌, length, flat_map}
+-- What a check finds in frames, and its lines for them.
+use Rattle.std.specs.Prelude.{◌&&◌, Bool, not, if◌then◌else◌, nat_lt, List, [], ◌∷◌, ◌++◌, length, flat_map}
 use Rattle.std.specs.Io.Iter.{u64_saturate}
 use Rattle.fib_codec.specs.Modes.{fib_count, count_step}
 use Rattle.stream_check.specs.Frames.{Fib, damaged_in}
-use Rattle.stream_check.specs.Stream.{findings_in, findings_of, after_frames, frames_full}
+use Rattle.stream_check.specs.Stream.{findings_next, findings_of, frames_full}
 use Rattle.stream_check.specs.declared.checker.Summary.{Summary}
 use Rattle.stream_check.specs.declared.finding.Finding.{Finding}
+use Rattle.stream_monitor.specs.declared.line.Line.{Line}
 use Rattle.stream_monitor.specs.declared.line.Line.TheVariants as lines
 use Rattle.stream_monitor.specs.declared.line.Totals.{Totals}
 use Rattle.stream_monitor.specs.declared.options.CheckOptions.{CheckOptions}
 use Rattle.stream_monitor.specs.declared.tally.Tally.{Tally}
-use Rattle.stream_monitor.specs.Decided.{finding_lines, is_due}
 use Rattle.stream_monitor.specs.Findings.{swaps_in, faults_in}
-use Rattle.stream_monitor.specs.Lines.{line_of}
+use Rattle.stream_monitor.specs.Lines.{finding_lines, is_due}
 
 -- ---- what is found
 
@@ -22,7 +22,8 @@ found_in o frames = findings_of (fib_count o.mode) (count_step o.mode) o.period 
 
 -- in the frame after these
 abbrev pub found_next : CheckOptions → List (List Fib) → List Fib → List Finding
-found_next o before frame = findings_in (fib_count o.mode) (count_step o.mode) o.period (after_frames (count_step o.mode) [] before) frame
+found_next o before frame =
+    findings_next (fib_count o.mode) (count_step o.mode) o.period before frame
 
 -- whether there is no room for an entry of these frames
 abbrev pub is_full : CheckOptions → List (List Fib) → Bool
@@ -60,15 +61,18 @@ totals_after o skipped frames rest = record {
 -- ---- lines
 
 -- the totals after these frames, where they are due; none where a frame has no room
-abbrev pub alive_text : CheckOptions → (skipped : List Fib) (frames : List (List Fib)) → List ℕ
-alive_text o skipped frames =
-    if not (is_full o frames) && is_due o.every (length frames) then line_of o.form (lines.Alive (totals_after o skipped frames [])) else []
+abbrev pub alive_lines : CheckOptions → (skipped : List Fib) (frames : List (List Fib)) → List Line
+alive_lines o skipped frames =
+    if not (is_full o frames) && is_due o.every (length frames)
+    then lines.Alive (totals_after o skipped frames []) ∷ [] else []
 
--- the lines of the frame after these: those of its findings, and then the totals
-abbrev pub frame_text : CheckOptions → (skipped : List Fib) (before : List (List Fib)) (frame : List Fib) → List ℕ
-frame_text o skipped before frame = finding_lines o.form (found_next o before frame) ++ alive_text o skipped (before ++ frame ∷ [])
+-- of the frame after these: its findings, and then the totals
+abbrev pub frame_lines : CheckOptions → (skipped : List Fib) (before : List (List Fib)) (frame : List Fib) → List Line
+frame_lines o skipped before frame =
+    finding_lines (found_next o before frame) ++ alive_lines o skipped (before ++ frame ∷ [])
 
--- the lines of the frames after these, frame by frame
-abbrev pub frames_text : CheckOptions → (skipped : List Fib) (before frames : List (List Fib)) → List ℕ
-frames_text o skipped before [] = []
-frames_text o skipped before (frame ∷ frames) = frame_text o skipped before frame ++ frames_text o skipped (before ++ frame ∷ []) frames
+-- of the frames after these, frame by frame
+abbrev pub frames_lines : CheckOptions → (skipped : List Fib) (before frames : List (List Fib)) → List Line
+frames_lines o skipped before [] = []
+frames_lines o skipped before (frame ∷ frames) =
+    frame_lines o skipped before frame ++ frames_lines o skipped (before ++ frame ∷ []) frames

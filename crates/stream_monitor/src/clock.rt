@@ -1,7 +1,6 @@
 //! The time of day of a frame.
 
-ghost use Rattle.std.specs.Prelude.{◌≡◌, ◌<◌, ◌+◌, ◌%◌};
-ghost use Rattle.stream_monitor.specs.Clock.{time_of, clock_text, digit};
+use std::fmt::{self, Display, Formatter, Write};
 
 /// Frames per day: they last 24 ms.
 const FRAMES: u64 = 3_600_000;
@@ -9,44 +8,28 @@ const FRAMES: u64 = 3_600_000;
 /// Milliseconds per day.
 const DAY: u64 = 86_400_000;
 
-/// The time of day of a frame in ms, where frame 0 is at this second of the day.
-pub fn time_of(start: u32, frame: u64) -> u64
-    ensures { result ≡ time_of start frame }
-{
-    (u64::from(start) * 1000 + (frame % FRAMES) * 24) % DAY
+/// A time of day, printed as `HH:MM:SS.mmm`.
+#[derive(Clone, Copy, Debug, PartialEq, Eq)]
+pub(crate) struct Clock {
+    /// In milliseconds, 0 to 86,399,999.
+    ms: u64,
 }
 
-/// The last decimal digit of a number.
-fn digit(number: u64) -> u8
-    ensures { result ≡ digit number }
-{
-    b'0' + (number % 10) as u8
+impl Clock {
+    /// The time of day of a frame, where frame 0 is at this second of the day.
+    pub(crate) fn at(start: u32, frame: u64) -> Self {
+        Clock {
+            ms: (u64::from(start) * 1000 + (frame % FRAMES) * 24) % DAY,
+        }
+    }
 }
 
-/// A time of day, given in ms, as `HH:MM:SS.mmm`.
-pub fn clock_of(ms: u64) -> [u8; 12]
-    ensures { result ≡ clock_text ms }
-{
-    [
-        digit(ms / 36_000_000),
-        digit(ms / 3_600_000),
-        b':',
-        digit(ms / 600_000 % 6),
-        digit(ms / 60_000),
-        b':',
-        digit(ms / 10_000 % 6),
-        digit(ms / 1000),
-        b'.',
-        digit(ms / 100),
-        digit(ms / 10),
-        digit(ms),
-    ]
-}
-
-/// The time of day of a frame as `HH:MM:SS.mmm`, where frame 0 is at this second of the day.
-pub fn clock_at(start: u32, frame: u64) -> [u8; 12]
-    ensures { result ≡ clock_text (time_of start frame) }
-{
-    let ms = time_of(start, frame);
-    clock_of(ms)
+impl Display for Clock {
+    fn fmt<W: Write>(&self, f: &mut Formatter<W>) -> fmt::Result {
+        let hours = self.ms / 3_600_000;
+        let minutes = self.ms / 60_000 % 60;
+        let seconds = self.ms / 1000 % 60;
+        let ms = self.ms % 1000;
+        write!(f, "{hours:02}:{minutes:02}:{seconds:02}.{ms:03}")
+    }
 }

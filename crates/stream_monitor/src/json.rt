@@ -1,44 +1,40 @@
-//! Lines of JSON.
-//!
-//! Each contract gives the exact bytes printed, defined in `specs/Json.antt`, if the writer reports its bytes.
+//! Lines of JSON: one object each, without blanks outside of strings.
 
-ghost use Rattle.std.specs.Prelude.{◌≡◌, ◌++◌, OnOk, codes};
-ghost use Rattle.std.specs.Fmt.{decimal};
-ghost use Rattle.std.specs.Io.KnownBytes.{Appends};
-ghost use Rattle.console.specs.Digits.{hex_of_u16};
-ghost use Rattle.stream_check.specs.declared.finding.EntryName.TheVariants.{Service, LongService};
-ghost use Rattle.stream_monitor.specs.Json.{entry_json, fault_json, kind_json, event_json, what_json, time_json, finding_json, totals_json, numbers_json, frames_json, counts_json, left_json, found_json, refusal_json};
-ghost use Rattle.stream_monitor.specs.Text.{cause_text};
-
-use crate::line::{Cause, Totals};
-use crate::text::{cause_text, print_clock, print_digits, print_long, print_short};
+use crate::clock::Clock;
+use crate::line::{Line, Totals};
+use crate::sid::Sid;
+use fig_mentions::Mention;
+use std::fmt::{self, Display, Formatter};
 use std::io::{self, Write};
-use stream_check::{EntryName, Fault, Finding, StreamEvent, What};
+use stream_check::{Contradiction, EntryName, Fault, Finding, StreamEvent, What};
 
-/// Prints a finding: its kind, frame and count, and what was found.
-pub(crate) fn print_json_finding<W: Write>(
-    start: Option<u32>,
-    finding: &Finding,
-    out: &mut W,
-) -> io::Result<()>
-    ensures { OnOk result
-        (Appends (W.contents out.old) (W.contents out.new) (finding_json start finding.now)) }
-{
-    let frame = finding.frame;
-    let count = finding.count;
-    out.write_all(b"{\"kind\":\"")?;
-    out.write_all(kind_of(finding.what).as_bytes())?;
-    out.write_all(b"\",")?;
-    print_time(start, frame, out)?;
+/// Prints a line of JSON.
+pub(crate) fn print_json<W: Write>(start: Option<u32>, line: &Line, out: &mut W) -> io::Result<()> {
+    match line {
+        Line::Found(finding) => print_finding(start, finding, out),
+        Line::Alive(totals) => print_totals("alive", totals, out),
+        Line::Ended(totals) => print_totals("summary", totals, out),
+        Line::Refused(cause) => { writeln!(out, "{{\"kind\":\"refused\",\"cause\":\"{cause}\"}}") }
+    }
+}
+
+/// Prints a finding: its kind, its time, if that of frame 0 is given, its frame and count, and what
+/// was found.
+fn print_finding<W: Write>(start: Option<u32>, finding: &Finding, out: &mut W) -> io::Result<()> {
+    let Finding { frame, count, what } = *finding;
+    write!(out, "{{\"kind\":\"{}\",", kind_of(what))?;
+    if let Some(start) = start {
+        write!(out, "\"time\":\"{}\",", Clock::at(start, frame))?;
+    }
     write!(out, "\"frame\":{frame},\"count\":{count}")?;
-    print_what(finding.what, out)?;
-    out.write_all(b"}\n")
+    match what {
+        What::Event(event) => writeln!(out, "{}}}", EventFields(event)),
+        What::Fault(fault) => writeln!(out, ",\"fault\":\"{}}}", FaultFields(fault)),
+    }
 }
 
 /// The kind of a finding.
-fn kind_of(what: What) -> &'static str
-    ensures { result.now ≡ kind_json what }
-{
+fn kind_of(what: What) -> &'static str {
     match what {
         What::Event(StreamEvent::Ensemble(_)) => "ensemble",
         What::Event(StreamEvent::Announced(_, _)) => "announced",
@@ -47,235 +43,114 @@ fn kind_of(what: What) -> &'static str
     }
 }
 
-/// Prints the time of a frame, if that of frame 0 is given.
-fn print_time<W: Write>(start: Option<u32>, frame: u64, out: &mut W) -> io::Result<()>
-    ensures { OnOk result
-        (Appends (W.contents out.old) (W.contents out.new) (time_json start frame)) }
-{
-    match start {
-        Some(start) => {
-            out.write_all(b"\"time\":\"")?;
-            print_clock(start, frame, out)?;
-            out.write_all(b"\",")
-        }
-        None => Ok(()),
-    }
-}
+/// The fields of an event.
+#[derive(Clone, Copy)]
+struct EventFields(StreamEvent);
 
-/// Prints the fields of what was found.
-fn print_what<W: Write>(what: What, out: &mut W) -> io::Result<()>
-    ensures { OnOk result (Appends (W.contents out.old) (W.contents out.new) (what_json what)) }
-{
-    match what {
-        What::Event(event) => print_event(event, out),
-        What::Fault(fault) => {
-            out.write_all(b",\"fault\":\"")?;
-            print_fault(fault, out)
+impl Display for EventFields {
+    fn fmt<W: fmt::Write>(&self, f: &mut Formatter<W>) -> fmt::Result {
+        match self.0 {
+            StreamEvent::Ensemble(eid) => write!(f, ",\"eid\":\"{eid:04X}\""),
+            StreamEvent::Announced(change, low) => {
+                write!(f, ",\"change\":{change},\"low\":{low}")
+            }
+            StreamEvent::Swap => Ok(()),
         }
     }
 }
 
-/// Prints the fields of an event.
-fn print_event<W: Write>(event: StreamEvent, out: &mut W) -> io::Result<()>
-    ensures { OnOk result (Appends (W.contents out.old) (W.contents out.new) (event_json event)) }
-{
-    match event {
-        StreamEvent::Ensemble(eid) => print_eid(b",\"eid\":\"", eid, out),
-        StreamEvent::Announced(change, low) => write!(out, ",\"change\":{change},\"low\":{low}"),
-        StreamEvent::Swap => Ok(()),
-    }
-}
+/// The name of a fault, to the end of its string, and its fields.
+#[derive(Clone, Copy)]
+struct FaultFields(Fault);
 
-/// Prints these bytes, and the four digits of an EId, to the end of a string.
-fn print_eid<W: Write>(before: &[u8], eid: u16, out: &mut W) -> io::Result<()>
-    ensures { OnOk result (Appends (W.contents out.old) (W.contents out.new)
-        (before.now ++ (hex_of_u16 eid ++ codes "\""))) }
-{
-    out.write_all(before)?;
-    print_quoted(eid, out)
-}
-
-/// Prints four digits, and the end of their string.
-fn print_quoted<W: Write>(eid: u16, out: &mut W) -> io::Result<()>
-    ensures { OnOk result (Appends (W.contents out.old) (W.contents out.new)
-        (hex_of_u16 eid ++ codes "\"")) }
-{
-    print_digits(eid, out)?;
-    out.write_all(b"\"")
-}
-
-/// Prints the name of a fault, and its fields.
-fn print_fault<W: Write>(fault: Fault, out: &mut W) -> io::Result<()>
-    ensures { OnOk result (Appends (W.contents out.old) (W.contents out.new) (fault_json fault)) }
-{
-    match fault {
-        Fault::ShortFrame(fibs) => write!(out, "short-frame\",\"fibs\":{fibs}"),
-        Fault::Damaged(fibs) => write!(out, "damaged\",\"fibs\":{fibs}"),
-        Fault::NoEnsemble => out.write_all(b"no-ensemble\""),
-        Fault::OtherEnsemble(eid) => print_eid(b"other-ensemble\",\"eid\":\"", eid, out),
-        Fault::Count(due) => write!(out, "count\",\"due\":{due}"),
-        Fault::OutOfPlace => out.write_all(b"out-of-place\""),
-        Fault::AnnouncedAgain(change, low) => {
-            write!(out, "announced-again\",\"change\":{change},\"low\":{low}")
+impl Display for FaultFields {
+    fn fmt<W: fmt::Write>(&self, f: &mut Formatter<W>) -> fmt::Result {
+        match self.0 {
+            Fault::ShortFrame(fibs) => write!(f, "short-frame\",\"fibs\":{fibs}"),
+            Fault::Damaged(fibs) => write!(f, "damaged\",\"fibs\":{fibs}"),
+            Fault::NoEnsemble => f.write_str("no-ensemble\""),
+            Fault::OtherEnsemble(eid) => write!(f, "other-ensemble\",\"eid\":\"{eid:04X}\""),
+            Fault::Count(due) => write!(f, "count\",\"due\":{due}"),
+            Fault::OutOfPlace => f.write_str("out-of-place\""),
+            Fault::AnnouncedAgain(change, low) => {
+                write!(f, "announced-again\",\"change\":{change},\"low\":{low}")
+            }
+            Fault::NoSwapAt(low) => write!(f, "no-swap-at\",\"low\":{low}"),
+            Fault::NextUnannounced => f.write_str("next-unannounced\""),
+            Fault::Changed(name) => write!(f, "changed\"{}", NameField(name)),
+            Fault::NextChanged(name) => write!(f, "next-changed\"{}", NameField(name)),
+            Fault::Appeared(name) => write!(f, "appeared\"{}", NameField(name)),
+            Fault::AnnouncedFor(low) => write!(f, "announced-for\",\"low\":{low}"),
+            Fault::AnnouncedTimes(times) => write!(f, "announced-times\",\"times\":{times}"),
+            Fault::NextHeard(times) => write!(f, "next-heard\",\"times\":{times}"),
+            Fault::Flags(change, changes) => {
+                write!(f, "flags\",\"change\":{change},\"changes\":{changes}")
+            }
+            Fault::Overlap(one, other) => write!(f, "overlap\",\"subs\":[{one},{other}]"),
+            Fault::PastEnd(sub) => write!(f, "past-end\",\"sub\":{sub}"),
+            Fault::Silent(name) => write!(f, "silent\"{}", NameField(name)),
+            Fault::Contradicts(Contradiction::NotThere(ext, mention)) => {
+                write!(
+                    f,
+                    "not-there\",\"extension\":{ext}{}",
+                    MentionFields(mention)
+                )
+            }
+            Fault::Contradicts(Contradiction::NotWhole(ext)) => {
+                write!(f, "not-whole\",\"extension\":{ext}")
+            }
         }
-        Fault::NoSwapAt(low) => write!(out, "no-swap-at\",\"low\":{low}"),
-        Fault::NextUnannounced => out.write_all(b"next-unannounced\""),
-        Fault::Changed(name) => print_named("changed\"", name, out),
-        Fault::NextChanged(name) => print_named("next-changed\"", name, out),
-        Fault::Appeared(name) => print_named("appeared\"", name, out),
-        Fault::AnnouncedFor(low) => write!(out, "announced-for\",\"low\":{low}"),
-        Fault::AnnouncedTimes(times) => write!(out, "announced-times\",\"times\":{times}"),
-        Fault::NextHeard(times) => write!(out, "next-heard\",\"times\":{times}"),
-        Fault::Flags(change, changes) => print_flags(change, changes, out),
-        Fault::Overlap(one, other) => print_overlap(one, other, out),
-        Fault::PastEnd(sub) => write!(out, "past-end\",\"sub\":{sub}"),
-        Fault::Silent(name) => print_named("silent\"", name, out),
     }
 }
 
-/// Prints change flags, and those that the configurations require.
-fn print_flags<W: Write>(change: u8, changes: u8, out: &mut W) -> io::Result<()>
-    ensures { OnOk result (Appends (W.contents out.old) (W.contents out.new)
-        (codes "flags\",\"change\":" ++ (decimal change
-        ++ (codes ",\"changes\":" ++ decimal changes)))) }
-{
-    write!(out, "flags\",\"change\":{change},\"changes\":{changes}")
-}
+/// What an entry of a FIG names, as fields.
+#[derive(Clone, Copy)]
+struct MentionFields(Mention);
 
-/// Prints two sub-channels that overlap.
-fn print_overlap<W: Write>(one: u64, other: u64, out: &mut W) -> io::Result<()>
-    ensures { OnOk result (Appends (W.contents out.old) (W.contents out.new)
-        (codes "overlap\",\"subs\":[" ++ (decimal one
-        ++ (codes "," ++ (decimal other ++ codes "]"))))) }
-{
-    write!(out, "overlap\",\"subs\":[{one},{other}]")
-}
-
-/// Prints a text, and the name of an entry as a field.
-fn print_named<W: Write>(text: &str, name: EntryName, out: &mut W) -> io::Result<()>
-    ensures { OnOk result
-        (Appends (W.contents out.old) (W.contents out.new) (text.now ++ entry_json name)) }
-{
-    out.write_all(text.as_bytes())?;
-    print_entry(name, out)
-}
-
-/// Prints the name of an entry as a field.
-fn print_entry<W: Write>(name: EntryName, out: &mut W) -> io::Result<()>
-    ensures { OnOk result (Appends (W.contents out.old) (W.contents out.new) (entry_json name)) }
-{
-    match name {
-        EntryName::Sub(id) => write!(out, ",\"sub\":{id}"),
-        EntryName::Service(sid) => print_service(sid, out),
-        EntryName::LongService(sid) => print_long_service(sid, out),
-        EntryName::Packet(scid) => write!(out, ",\"packet\":{scid}"),
+impl Display for MentionFields {
+    fn fmt<W: fmt::Write>(&self, f: &mut Formatter<W>) -> fmt::Result {
+        match self.0 {
+            Mention::Nothing => Ok(()),
+            Mention::Sub(sub) => write!(f, ",\"sub\":{sub}"),
+            Mention::Packet(scid) => write!(f, ",\"packet\":{scid}"),
+            Mention::OnSub(sid, sub) => write!(f, ",\"sub\":{sub},\"service\":\"{}\"", Sid(sid)),
+            Mention::ByPacket(sid, scid) => {
+                write!(f, ",\"packet\":{scid},\"service\":\"{}\"", Sid(sid))
+            }
+        }
     }
 }
 
-/// Prints a service with an SId of 16 bits as a field.
-fn print_service<W: Write>(sid: u64, out: &mut W) -> io::Result<()>
-    ensures { OnOk result
-        (Appends (W.contents out.old) (W.contents out.new) (entry_json (Service sid))) }
-{
-    out.write_all(b",\"service\":\"")?;
-    print_short(sid, out)?;
-    out.write_all(b"\"")
-}
+/// The name of an entry as a field.
+#[derive(Clone, Copy)]
+struct NameField(EntryName);
 
-/// Prints a service with an SId of 32 bits as a field.
-fn print_long_service<W: Write>(sid: u64, out: &mut W) -> io::Result<()>
-    ensures { OnOk result
-        (Appends (W.contents out.old) (W.contents out.new) (entry_json (LongService sid))) }
-{
-    out.write_all(b",\"service\":\"")?;
-    print_long(sid, out)?;
-    out.write_all(b"\"")
+impl Display for NameField {
+    fn fmt<W: fmt::Write>(&self, f: &mut Formatter<W>) -> fmt::Result {
+        match self.0 {
+            EntryName::Sub(id) => write!(f, ",\"sub\":{id}"),
+            EntryName::Service(sid) => write!(f, ",\"service\":\"{:04X}\"", sid % (1 << 16)),
+            EntryName::LongService(sid) => write!(f, ",\"service\":\"{:08X}\"", sid % (1 << 32)),
+            EntryName::Packet(scid) => write!(f, ",\"packet\":{scid}"),
+        }
+    }
 }
 
 /// Prints totals of this kind.
-pub(crate) fn print_json_totals<W: Write>(
-    kind: &str,
-    totals: &Totals,
-    out: &mut W,
-) -> io::Result<()>
-    ensures { OnOk result
-        (Appends (W.contents out.old) (W.contents out.new) (totals_json kind.now totals.now)) }
-{
-    print_kind(kind, out)?;
-    print_json_numbers(totals, out)
-}
-
-/// Prints the kind of an object, from its beginning.
-fn print_kind<W: Write>(kind: &str, out: &mut W) -> io::Result<()>
-    ensures { OnOk result (Appends (W.contents out.old) (W.contents out.new)
-        (codes "{\"kind\":\"" ++ kind.now)) }
-{
-    out.write_all(b"{\"kind\":\"")?;
-    out.write_all(kind.as_bytes())
-}
-
-/// Prints all totals, to the end of the object.
-fn print_json_numbers<W: Write>(totals: &Totals, out: &mut W) -> io::Result<()>
-    ensures { OnOk result
-        (Appends (W.contents out.old) (W.contents out.new) (numbers_json totals.now)) }
-{
-    print_json_frames(totals, out)?;
-    print_json_counts(totals, out)
-}
-
-/// Prints the numbers of frames and of skipped FIBs.
-fn print_json_frames<W: Write>(totals: &Totals, out: &mut W) -> io::Result<()>
-    ensures { OnOk result
-        (Appends (W.contents out.old) (W.contents out.new) (frames_json totals.now)) }
-{
-    let frames = totals.summary.frames;
-    let skipped = totals.summary.skipped;
-    write!(out, "\",\"frames\":{frames},\"skipped\":{skipped}")
-}
-
-/// Prints the other totals, to the end of the object.
-fn print_json_counts<W: Write>(totals: &Totals, out: &mut W) -> io::Result<()>
-    ensures { OnOk result
-        (Appends (W.contents out.old) (W.contents out.new) (counts_json totals.now)) }
-{
-    print_json_left(totals, out)?;
-    print_json_found(totals, out)
-}
-
-/// Prints how many FIBs were left over and damaged.
-fn print_json_left<W: Write>(totals: &Totals, out: &mut W) -> io::Result<()>
-    ensures { OnOk result
-        (Appends (W.contents out.old) (W.contents out.new) (left_json totals.now)) }
-{
-    let left_over = totals.summary.left_over;
-    let damaged = totals.summary.damaged;
-    write!(out, ",\"left_over\":{left_over},\"damaged\":{damaged}")
-}
-
-/// Prints how many swaps and faults were found, to the end of the object.
-fn print_json_found<W: Write>(totals: &Totals, out: &mut W) -> io::Result<()>
-    ensures { OnOk result
-        (Appends (W.contents out.old) (W.contents out.new) (found_json totals.now)) }
-{
-    let swaps = totals.swaps;
-    let faults = totals.faults;
-    writeln!(out, ",\"swaps\":{swaps},\"faults\":{faults}}}")
-}
-
-/// Prints a refusal.
-pub(crate) fn print_json_refusal<W: Write>(cause: Cause, out: &mut W) -> io::Result<()>
-    ensures { OnOk result
-        (Appends (W.contents out.old) (W.contents out.new) (refusal_json cause)) }
-{
-    out.write_all(b"{\"kind\":\"refused\",\"cause\":\"")?;
-    print_json_cause(cause, out)
-}
-
-/// Prints a cause, to the end of the object.
-fn print_json_cause<W: Write>(cause: Cause, out: &mut W) -> io::Result<()>
-    ensures { OnOk result
-        (Appends (W.contents out.old) (W.contents out.new) (cause_text cause ++ codes "\"}\n")) }
-{
-    out.write_all(cause_text(cause).as_bytes())?;
-    out.write_all(b"\"}\n")
+fn print_totals<W: Write>(kind: &str, totals: &Totals, out: &mut W) -> io::Result<()> {
+    let Totals {
+        summary,
+        swaps,
+        faults,
+    } = *totals;
+    let (frames, skipped) = (summary.frames, summary.skipped);
+    let (left_over, damaged) = (summary.left_over, summary.damaged);
+    write!(
+        out,
+        "{{\"kind\":\"{kind}\",\"frames\":{frames},\"skipped\":{skipped},\"left_over\":{left_over}"
+    )?;
+    writeln!(
+        out,
+        ",\"damaged\":{damaged},\"swaps\":{swaps},\"faults\":{faults}}}"
+    )
 }

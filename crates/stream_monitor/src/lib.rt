@@ -1,30 +1,33 @@
-//! Monitors a stream of FIBs: checks it as its bytes come, and prints each finding as a line of text or of JSON.
+//! Monitors a stream of FIBs: checks it as its bytes come, and tells each finding at once, as a
+//! line of text or of JSON.
 //!
-//! The lines are defined in `specs/Text.antt` and `specs/Json.antt`, what a check prints and how it ends in
-//! `specs/Outcome.antt`, what it has printed before it reads on in `specs/Requests.antt`, and why it
-//! gives up, and what it has printed then, in `specs/Unfinished.antt`.
+//! What a check finds and how it ends is defined in `specs/Outcome.antt`, and what it has told
+//! before it reads on in `specs/Log.antt`. The lines that are printed of this have no contract:
+//! they are tested.
 #![tactic(auto)]
 
-pub mod clock;
-pub mod ending;
-pub mod file_fibs;
-pub mod hint;
-pub mod json;
+mod advice;
+mod check;
+mod clock;
+mod ending;
+mod fibs;
+mod file_monitor;
+mod hint;
+mod json;
 pub mod laws;
-pub mod line;
-pub mod monitor;
-pub mod options;
-pub mod printer;
-pub mod source;
-pub mod stash;
-pub mod tally;
-pub mod text;
+mod line;
+mod monitor;
+mod options;
+mod sid;
+mod stash;
+mod tally;
+mod text;
 
+pub use check::{CheckFailure, check_stream};
 pub use ending::Ending;
-pub use file_fibs::FileFibs;
-pub use hint::{Hint, HintLine, Hints};
+pub use fibs::{FileFibs, Next};
+pub use file_monitor::FileMonitor;
+pub use hint::Hints;
 pub use line::{Cause, Form, Line, Totals, print_line};
-pub use monitor::{CheckFailure, check_stream};
+pub use monitor::Monitor;
 pub use options::CheckOptions;
-pub use printer::LinePrinter;
-pub use source::{CheckStart, FibSource};

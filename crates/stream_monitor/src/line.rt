@@ -1,12 +1,8 @@
 //! The lines of a check, and their two forms.
 
-ghost use Rattle.std.specs.Prelude.{◌≡◌, ◌++◌, OnOk, codes};
-ghost use Rattle.std.specs.Io.KnownBytes.{Appends};
-ghost use Rattle.stream_monitor.specs.Lines.{line_of, text_of, json_of};
-ghost use Rattle.stream_monitor.specs.Text.{totals_text};
-
-use crate::json::{print_json_finding, print_json_refusal, print_json_totals};
-use crate::text::{print_finding, print_refusal, print_totals};
+use crate::json::print_json;
+use crate::text::print_text;
+use std::fmt::{self, Display, Formatter};
 use std::io::{self, Write};
 use stream_check::{Finding, Summary};
 
@@ -15,7 +11,8 @@ use stream_check::{Finding, Summary};
 pub struct Form {
     /// As JSON, one object a line, instead of text.
     pub is_json: bool,
-    /// The time of day of frame 0, in seconds, 0 to 86,399; findings are printed without a time if `None`.
+    /// The time of day of frame 0, in seconds, 0 to 86,399; findings are printed without a time if
+    /// `None`.
     pub start: Option<u32>,
 }
 
@@ -43,6 +40,18 @@ pub enum Cause {
     NoEnsemble = 4,
 }
 
+impl Display for Cause {
+    /// The cause as it is printed.
+    fn fmt<W: fmt::Write>(&self, f: &mut Formatter<W>) -> fmt::Result {
+        f.write_str(match self {
+            Cause::Full => "Full",
+            Cause::TooLong => "too long",
+            Cause::NotWhole => "not whole FIBs",
+            Cause::NoEnsemble => "no ensemble",
+        })
+    }
+}
+
 /// A line of a check.
 #[derive(Clone, Copy, Debug, PartialEq, Eq)]
 pub enum Line {
@@ -57,48 +66,10 @@ pub enum Line {
 }
 
 /// Prints a line.
-pub fn print_line<W: Write>(form: Form, line: &Line, out: &mut W) -> io::Result<()>
-    ensures { OnOk result
-        (Appends (W.contents out.old) (W.contents out.new) (line_of form line.now)) }
-{
+pub fn print_line<W: Write>(form: Form, line: &Line, out: &mut W) -> io::Result<()> {
     if form.is_json {
         print_json(form.start, line, out)
     } else {
         print_text(form.start, line, out)
-    }
-}
-
-/// Prints a line of text.
-fn print_text<W: Write>(start: Option<u32>, line: &Line, out: &mut W) -> io::Result<()>
-    ensures { OnOk result (Appends (W.contents out.old) (W.contents out.new)
-        (text_of start line.now)) }
-{
-    match line {
-        Line::Found(finding) => print_finding(start, finding, out),
-        Line::Alive(totals) => print_alive(totals, out),
-        Line::Ended(totals) => print_totals(totals, out),
-        Line::Refused(cause) => print_refusal(*cause, out),
-    }
-}
-
-/// Prints totals as a sign of life.
-fn print_alive<W: Write>(totals: &Totals, out: &mut W) -> io::Result<()>
-    ensures { OnOk result (Appends (W.contents out.old) (W.contents out.new)
-        (codes "alive " ++ totals_text totals.now)) }
-{
-    out.write_all(b"alive ")?;
-    print_totals(totals, out)
-}
-
-/// Prints a line of JSON.
-fn print_json<W: Write>(start: Option<u32>, line: &Line, out: &mut W) -> io::Result<()>
-    ensures { OnOk result (Appends (W.contents out.old) (W.contents out.new)
-        (json_of start line.now)) }
-{
-    match line {
-        Line::Found(finding) => print_json_finding(start, finding, out),
-        Line::Alive(totals) => print_json_totals("alive", totals, out),
-        Line::Ended(totals) => print_json_totals("summary", totals, out),
-        Line::Refused(cause) => print_json_refusal(*cause, out),
     }
 }

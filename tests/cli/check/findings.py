@@ -231,6 +231,89 @@ def faults_table():
            [begun, swapped, (28, 28, "fault: past the end: 1", ',"fault":"past-end","sub":1')], (40, 0, 1))
 
 
+# ---- FIGs that name what is not there
+
+# FIGs of each form that contradict sub-channel 1, service C221 with audio on it, and packet component 5, with what is
+# reported of them, as text and as fields. Of FIG 0/4: SubChId, CAOrg; of 0/5: SubChId or SCId, language; of 0/8: SId, Ext
+# and SCIdS, SubChId or SCId, Rfa; of 0/14: SubChId and scheme; of 0/19: cluster, ASw, SubChId, region.
+CONTRADICTING = (
+    ("04 04 02 00 00", "FIG 0/4 names sub 2, which is not there", "not-there", ',"extension":4,"sub":2'),
+    ("03 05 02 0F", "FIG 0/5 names sub 2, which is not there", "not-there", ',"extension":5,"sub":2'),
+    ("04 05 80 07 0F", "FIG 0/5 names packet 7, which is not there", "not-there", ',"extension":5,"packet":7'),
+    ("05 08 C2 21 00 02", "FIG 0/8 names sub 2 of service C221, which is not there", "not-there",
+     ',"extension":8,"sub":2,"service":"C221"'),
+    ("06 08 C2 21 80 02 00", "FIG 0/8 names sub 2 of service C221, which is not there", "not-there",
+     ',"extension":8,"sub":2,"service":"C221"'),
+    ("05 08 C2 22 00 01", "FIG 0/8 names sub 1 of service C222, which is not there", "not-there",
+     ',"extension":8,"sub":1,"service":"C222"'),
+    ("06 08 C2 21 00 80 05", "FIG 0/8 names packet 5 of service C221, which is not there", "not-there",
+     ',"extension":8,"packet":5,"service":"C221"'),
+    ("07 28 E1 C2 00 01 00 01", "FIG 0/8 names sub 1 of service E1C20001, which is not there", "not-there",
+     ',"extension":8,"sub":1,"service":"E1C20001"'),
+    # The byte behind Ext is no entry: the second one is read behind it.
+    ("0B 08 C2 21 80 01 00 C2 21 01 02 FF", "FIG 0/8 is not whole entries", "not-whole", ',"extension":8'),
+    ("0A 08 C2 21 80 01 00 C2 21 01 02", "FIG 0/8 names sub 2 of service C221, which is not there", "not-there",
+     ',"extension":8,"sub":2,"service":"C221"'),
+    ("02 0E 09", "FIG 0/14 names sub 2, which is not there", "not-there", ',"extension":14,"sub":2'),
+    ("05 13 01 00 20 02", "FIG 0/19 names sub 2, which is not there", "not-there", ',"extension":19,"sub":2'),
+    ("06 13 01 00 20 42 05", "FIG 0/19 names sub 2, which is not there", "not-there", ',"extension":19,"sub":2'),
+    ("04 08 C2 21 00", "FIG 0/8 is not whole entries", "not-whole", ',"extension":8'),
+    ("01 0E", "FIG 0/14 is not whole entries", "not-whole", ',"extension":14'),
+)
+
+# Others that do not: what they name is there, is a channel of the FIC, or is of another ensemble; or they name nothing.
+AGREEING = ("04 04 01 00 00", "04 04 42 00 00", "03 05 01 0F", "03 05 42 0F", "04 05 80 05 0F", "05 08 C2 21 00 01",
+            "05 08 C2 21 00 42", "06 08 C2 21 80 01 00", "05 48 C2 21 00 02", "05 88 C2 21 00 01", "02 0E 05", "02 4E 09",
+            "05 13 01 00 20 01", "06 13 01 00 20 41 05", "02 0A 09")
+
+
+def sent_with(others, frames=8):
+    """Frames of sub-channel 1, service C221 and packet component 5, with other FIGs in the second FIB of each."""
+    return air(frames, lambda count, usual: (usual, others(count)), (AT_128, RADIO, PACKET))
+
+
+def contradictions(rows):
+    """FIGs that name what is not there, from the frame on in which all should be known; and others."""
+    for data, text, name, fields in CONTRADICTING:
+        for json in (False, True):
+            found = (4, 4, "fault: " + text, f',"fault":"{name}"{fields}')
+            rows.answers("check x.fib --period 4" + (" --json" if json else ""), 3,
+                         line_of(FIRST, json) + line_of(found, json) + totals(8, 0, 0, 1, json),
+                         {"x.fib": sent_with(lambda count, data=data: [data])})
+    for data in AGREEING:
+        rows.answers("check x.fib --period 4", 0, line_of(FIRST, False) + totals(8, 0, 0, 0, False),
+                     {"x.fib": sent_with(lambda count, data=data: [data])})
+    # With the usual period nothing is expected to be known in so few frames.
+    rows.answers("check x.fib", 0, line_of(FIRST, False) + totals(8, 0, 0, 0, False),
+                 {"x.fib": sent_with(lambda count: ["02 0E 09"])})
+
+
+def reported_once(rows):
+    """A contradiction is reported once between two swaps, and again after one; at most 64 are."""
+    names = [f"fault: FIG 0/14 names sub {sub}, which is not there" for sub in range(64) if sub != 1]
+    entries = [f"{sub << 2:02X}" for sub in range(64) if sub != 1]
+    figs = [" ".join(["16 0E", *entries[at:at + 21]]) for at in (0, 21, 42)]
+    wanted = [FIRST, *((4 + at // 21, 4 + at // 21, text, "") for at, text in enumerate(names)),
+              (7, 7, "fault: FIG 0/4 names sub 2, which is not there", "")]
+    sent = sent_with(lambda count: [figs[count - 4]] if count in (4, 5, 6) else ["07 04 02 00 00 03 00 00"] if count > 6 else [], 12)
+    rows.answers("check x.fib --period 4", 3, "".join(line_of(found, False) for found in wanted) + totals(12, 0, 0, 64, False),
+                 {"x.fib": sent})
+    # At the swap sub-channel 1 becomes sub-channel 2. The FIGs are sent in the third FIB of each frame.
+    moved = run(40, flags=3, after=("01 08 00 88 48", "02 C2 21 01 3F 0A"))
+    for others, findings in (
+        ("02 0E 05", [(28, "sub 1")]),
+        ("02 0E 09", [(4, "sub 2")]),
+        ("03 0E 05 0D", [(4, "sub 3"), (28, "sub 1"), (28, "sub 3")]),
+    ):
+        data = b"".join(moved[at:at + 64] + stream(others + " FF") for at in range(0, len(moved), 96))
+        lines = [FIRST, (4, 4, "announced 3 swap at low 28", "")]
+        faults = [(count, count, f"fault: FIG 0/14 names {text}, which is not there", "") for count, text in findings]
+        swap = [(28, 28, "swap", "")]
+        lines += [found for found in faults if found[0] < 28] + swap + [found for found in faults if found[0] >= 28]
+        rows.answers("check x.fib --period 4", 3, "".join(line_of(found, False) for found in lines)
+                     + totals(40, 0, 1, len(faults), False), {"x.fib": data})
+
+
 def line_of(found, json):
     """A finding as a line of text or JSON."""
     number, count, text, fields = found
@@ -289,7 +372,7 @@ def options(rows):
     # The same stream of mode IV in mode I: its FIG 0/0 at counts 2 and 6 are out of place.
     rows.answers("check x.fib --mode 1", 3, "".join(line_of(found, False) for found in (
         FIRST, (2, 2, "fault: FIG 0/0 out of place", ""), (6, 6, "fault: FIG 0/0 out of place", ""))) + totals(8, 0, 0, 2, False),
-        {"x.fib": data})
+        {"x.fib": data}, messages="x.fib: FIG 0/0 in every second frame: --mode 4?\n")
     # With a longer period the same entry is not silent yet.
     silent = air(8, entries_from(2, [SECOND]), [SECOND, AT_128])
     rows.answers("check x.fib --period 7", 0, line_of(FIRST, False) + totals(8, 0, 0, 0, False), {"x.fib": silent})
@@ -312,7 +395,7 @@ def full(rows):
 def hints(rows):
     """Files that are no streams of FIBs: a line on standard error, once, whatever is printed."""
     plain = "x.fib: no whole FIB: 32 bytes each are expected"
-    eti = " (ETI: its FIC is taken out by examples/bridge)"
+    eti = " (ETI: dabplan-bridge fic takes out its FIBs)"
     for data, hint in (
         (b"\0" * 32, plain), (b"\0" * 100, plain), (b"\0", plain),
         (bytes([255]) + hexadecimal("073AB6") + b"\0" * 60, plain + eti), (b"\0" * 3 + hexadecimal("F8C549") + b"\0" * 60, plain + eti),
@@ -328,13 +411,13 @@ def hints(rows):
 
 def json_refusals(rows):
     """Refusals and failures as JSON."""
-    for words, wanted, files in (
-        ("check x.fib --json", '{"kind":"refused","cause":"no ensemble"}\n', {"x.fib": b""}),
-        ("check x.fib --json", '{"kind":"refused","cause":"not whole FIBs"}\n', {"x.fib": stream("FF") + b"\0"}),
-        (["check", 'a"b\\c', "--json"], '{"kind":"refused","cause":"cannot read a\\"b\\\\c"}\n', {}),
-        (["check", "a\n\t\x01\x7f\u00e9", "--json"], '{"kind":"refused","cause":"cannot read a\\n\\t\\u0001\x7f\u00e9"}\n', {}),
+    rows.answers("check x.fib --json", 1, '{"kind":"refused","cause":"no ensemble"}\n', {"x.fib": b""})
+    rows.answers("check x.fib --json", 1, '{"kind":"refused","cause":"not whole FIBs"}\n', {"x.fib": stream("FF") + b"\0"})
+    for path, wanted in (
+        ('a"b\\c', '{"kind":"refused","cause":"cannot read a\\"b\\\\c"}\n'),
+        ("a\n\t\x01\x7f\u00e9", '{"kind":"refused","cause":"cannot read a\\n\\t\\u0001\x7f\u00e9"}\n'),
     ):
-        rows.answers(words, 1, wanted, files)
+        rows.answers(["check", path, "--json"], 1, wanted)
 
 
 def lines_as_they_come(rows):
@@ -364,5 +447,5 @@ def lines_as_they_come(rows):
 
 
 if __name__ == "__main__":
-    rows.main([good_streams, broken_announcements, each_fault, options, full, refusals, json_refusals, hints, lines_as_they_come,
-               a_real_stream])
+    rows.main([good_streams, broken_announcements, each_fault, contradictions, reported_once, options, full, refusals, json_refusals,
+               hints, lines_as_they_come, a_real_stream])

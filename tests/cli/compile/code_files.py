@@ -40,7 +40,8 @@ def commits_that_are_refused(rows):
 def files_that_cannot_be_had(rows):
     """A script that is not text or doesn't exist, and a file that can't be created."""
     rows.answers("compile x.plan x.code", 1, "cannot read x.plan\n", {"x.plan": b"\xff"})
-    rows.answers("compile y.plan x.code", 1, "cannot read y.plan\n", {"x.plan": RATES})
+    rows.answers("compile y.plan x.code", 1, "cannot read y.plan\n", {"x.plan": RATES},
+                 messages="y.plan: error: No such file or directory\n")
     rows.answers("compile x.plan y/x.code", 1, "cannot write y/x.code\n", {"x.plan": RATES})
 
 

@@ -50,7 +50,7 @@ def faults(rows):
          "    until 06:00", "          ^", "hint: write '06:00:00'; then it is accepted"),
         (after("rate sub 01 96"), "7:10: Number", "x.plan:7:10: expected a SubChId, 0 to 63; found '01'",
          "    rate sub 01 96", "             ^", "hint: write '1'; then it is accepted"),
-        (after("wait 70000"), "7:6: Number", "x.plan:7:6: expected a number of frames, 1 to 65535 or 'contact'; found '70000'",
+        (after("wait 70000"), "7:6: Number", "x.plan:7:6: expected a number of frames, 1 to 65535, 'contact' or 'until'; found '70000'",
          "    wait 70000", "         ^"),
         ("ensemble E1C5\nnotice 240 period 4 budget 20\nbegin\n", "2:1: Expected",
          "x.plan:2:1: expected 'mode' or 'period'; found 'notice'", "    notice 240 period 4 budget 20", "    ^", ORDER),
@@ -64,8 +64,11 @@ def faults(rows):
         (after("comit in 250"), "7:1: Expected", "x.plan:7:1: expected a statement or the end of the script; found 'comit'",
          "    comit in 250", "    ^", "hint: write 'commit'"),
         (after("forever {\n  wait 5"), "9:1: Expected",
-         "x.plan:9:1: expected a statement or '}'; the script ends here", "    ", "    ^",
+         "x.plan:9:1: expected a statement or '}'; the script ends here", "    forever {", "            ^",
          "hint: the brace opened in line 7 is not closed"),
+        (after("forever {\n  if contact 3 {\n    wait 5\n  wait 6\n}"), "12:1: Expected",
+         "x.plan:12:1: expected a statement, 'else' or '}'; the script ends here", "    forever {", "            ^",
+         "hint: the brace opened in line 7 is not closed; by its indentation, the block of line 8 ends before line 10"),
         (after("wait contact 5 on"), "7:16: Expected",
          "x.plan:7:16: expected 'closed' or 'open'; found 'on'", "    wait contact 5 on", "                   ^",
          "hint: write 'closed' where the input's circuit is closed, 'open' where it is not"),
@@ -100,6 +103,57 @@ def faults(rows):
          "hint: put an inner block into a 'define' and 'apply' it"),
         (after("apply " + "a" * 33), "7:7: Limit", "x.plan:7:7: a token of 33 bytes; the longest has 32",
          "    apply " + "a" * 33, "          ^"),
+    ):
+        explained(rows, script, first, *rest)
+
+
+def meant(rows):
+    """Common mistakes, of which it is said what was meant."""
+    frames = "a number of frames, 1 to 65535, 'contact' or 'until'"
+    for script, first, *rest in (
+        (f"ensemble E1C5 mode 1\nperiod 4 notice 240 budget 20\nbegin\n", "1:20: Number",
+         "x.plan:1:20: expected a transmission mode, 2 to 4; found '1': mode I is the default", "    ensemble E1C5 mode 1",
+         "                       ^", "hint: leave out 'mode 1' in line 1; then it is accepted"),
+        (after("wait 3s"), "7:6: Number",
+         f"x.plan:7:6: expected {frames}; found '3s': a frame is 24 ms, so 3 s are 125 frames", "    wait 3s", "         ^",
+         "hint: write '125'; then it is accepted"),
+        (after("rate sub 1 96\ncommit in 6s"), "8:11: Number",
+         "x.plan:8:11: expected a number of frames, 1 to 60000; found '6s': a frame is 24 ms, so 6 s are 250 frames",
+         "    commit in 6s", "              ^", "hint: write '250'; then it is accepted"),
+        (after("rate sub 1 96\ncommit at 22:00:00"), "8:11: Number",
+         "x.plan:8:11: expected a CIF count, 0 to 65535; found '22:00:00': a commit is at a CIF count, and 'until' waits for a"
+         " time of day", "    commit at 22:00:00", "              ^",
+         "hint: write 'until 22:00:00; commit in 240' in place of 'commit at 22:00:00' in line 8; then it is accepted"),
+        (after("wait until 06:00:00"), "8:1: Expected",
+         "x.plan:8:1: expected 'or' or 'early' to go on from line 7; the script ends here", "    wait until 06:00:00", "               ^",
+         "hint: write 'until 06:00:00' in place of 'wait until 06:00:00' in line 7; then it is accepted"),
+        (after("wait until 06:00:00 early 250\nwait 1"), "8:1: Expected",
+         "x.plan:8:1: expected 'or' to go on from line 7; found 'wait'", "    wait 1", "    ^",
+         "hint: write 'until 06:00:00 early 250' in place of 'wait until 06:00:00 early 250' in line 7; then it is accepted"),
+        (after("wait 5 or x"), "7:11: Expected", "x.plan:7:11: expected 'contact' or 'until'; found 'x'",
+         "    wait 5 or x", "              ^"),
+        (after("if time 22:00:00 { }"), "7:18: Expected", "x.plan:7:18: expected 'to'; found '{'",
+         "    if time 22:00:00 { }", "                     ^"),
+        (after("until 22:00:00 early 0"), "7:22: Number",
+         "x.plan:7:22: expected a number of frames, 1 to 65535; found '0'", "    until 22:00:00 early 0", "                         ^"),
+        (after("if x"), "7:4: Expected", "x.plan:7:4: expected 'contact' or 'time'; found 'x'", "    if x", "       ^"),
+        (after("rate sub 1 96\ncommit 250"), "8:8: Expected", "x.plan:8:8: expected 'at' or 'in'; found '250'",
+         "    commit 250", "           ^", "hint: put 'in' before '250' in line 8; then it is accepted"),
+        (after("rate sub 1 to 96"), "7:12: Number", "x.plan:7:12: expected a rate in kbit/s, 0 to 65535; found 'to'",
+         "    rate sub 1 to 96", "               ^", "hint: leave out 'to' in line 7; then it is accepted"),
+        (after("rate sub 1 96kbps"), "7:12: Number", "x.plan:7:12: expected a rate in kbit/s, 0 to 65535; found '96kbps'",
+         "    rate sub 1 96kbps", "               ^", "hint: write '96'; then it is accepted"),
+        (f"{HEAD}sub 2 at 96 uep 3 64\nbegin\n", "6:13: Expected",
+         "x.plan:6:13: expected 'eep'; found 'uep': plans have equal error protection only", "    sub 2 at 96 uep 3 64",
+         "                ^", "hint: write 'eep'"),
+        ("\ufeff" + after("wait 1"), "1:1: Byte", "x.plan:1:1: a byte-order mark of UTF-8 stands before the text",
+         "hint: save it without one"),
+        (f"{HEAD}packet 3 groups type 5 sub 9 address 7\nbegin\n", "refused line 7: Config Orphan",
+         "x.plan:7: packet 3 groups type 5 sub 9 address 7 names sub 9, which is not there",
+         "hint: leave out 'packet 3 groups type 5 sub 9 address 7' in line 6; then it is accepted"),
+        (HEAD.replace("service C221\naudio 63 sub 1 in C221\n", "audio 63 sub 1 in C221\nservice C221\n") + "begin\n",
+         "refused line 4: Edit IdAbsent", "x.plan:4: service C221 is not there; it comes in line 5",
+         "hint: move line 4 behind line 5; then it is accepted"),
     ):
         explained(rows, script, first, *rest)
 
@@ -177,7 +231,7 @@ def configurations(rows):
         (after("sub 2 at 96 eep 3-A 64\nif contact 1 {\nmove sub 2 at 90\n} else {\nmove sub 2 at 90\n}\ncommit in 250"),
          "refused line 13: Config Overlap 1 2",
          "x.plan:13: sub 1 at 0 eep 3-A 128 has CU 0 to 95, sub 2 at 90 eep 3-A 64 has CU 90 to 137: they share CU 90 to 95;"
-         " line 11 changed sub 2 on one path",
+         " line 11 changes sub 2",
          "hint: put 'move sub 2 at 96' before line 13; then it is accepted"),
         (after("drop sub 1\ncommit in 250"), "refused line 8: Config Orphan",
          "x.plan:8: service C221 has a component on sub 1, which is not there; line 7 dropped it",
@@ -279,11 +333,11 @@ def branches(rows):
          "x.plan:12: sub 2 at 200 eep 3-A 64 is there already; line 6 added it",
          "hint: put 'drop sub 2' before line 12"),
         (after("if contact 3 {\n  sub 2 at 200 eep 3-A 64\n  drop sub 2\n}\ndrop sub 2"), "refused line 11: Edit IdAbsent",
-         "x.plan:11: sub 2 is not there; line 9 dropped it on one path",
+         "x.plan:11: sub 2 is not there; line 9 drops it",
          "hint: leave out 'drop sub 2' in line 11; then it is accepted"),
         (after("if contact 3 {\n  drop sub 2\n  sub 2 at 200 eep 3-A 64\n}\nsub 2 at 200 eep 3-A 64", two),
          "refused line 12: Edit IdUsed",
-         "x.plan:12: sub 2 at 200 eep 3-A 64 is there already; line 10 added it on one path",
+         "x.plan:12: sub 2 at 200 eep 3-A 64 is there already; line 10 adds it",
          "hint: leave out 'sub 2 at 200 eep 3-A 64' in line 12; then it is accepted"),
     ):
         explained(rows, script, first, *rest)
@@ -356,7 +410,7 @@ def further(rows):
     for script, first, *rest in (
         ("ensemble E1C5\nperiod 4 notice 240 budget 20\nsub 70 at 0 eep 3-A 128\nsub 2 at 1100 eep 3-A 64\nbegin\n", "3:5: Number",
          "x.plan:3:5: expected a SubChId, 0 to 63; found '70'", "    sub 70 at 0 eep 3-A 128", "        ^",
-         "x.plan:4:10: expected a start address in capacity units, 0 to 1023; found '1100'", "    sub 2 at 1100 eep 3-A 64", "             ^"),
+         "x.plan:4:10: expected a start address in capacity units, 0 to 863; found '1100'", "    sub 2 at 1100 eep 3-A 64", "             ^"),
         (f"{HEAD}sub 1 at 200 eep 3-A 64\nsub 3 at 300 eep 3-A 100\nservice C333\nbegin\n", "refused line 6: Edit IdUsed",
          "x.plan:6: sub 1 at 0 eep 3-A 128 is there already; line 3 added it",
          "hint: write 'sub 0 at 200 eep 3-A 64' in place of 'sub 1 at 200 eep 3-A 64' in line 6",
@@ -419,7 +473,7 @@ def first_mistakes(rows):
          "hint: put 'drop service C223' before line 15; then it is accepted"),
         (night.replace("period 4 notice 240", "notice 240 period 4"), "2:1: Expected",
          "x.plan:2:1: expected 'mode' or 'period'; found 'notice'", "    notice 240 period 4 budget 20", "    ^", ORDER),
-        (night.replace("05:59:54", "06:00"), "12:9: Number",
+        (night.replace("06:00:00 early 250", "06:00"), "12:9: Number",
          "x.plan:12:9: expected a time HH:MM:SS, 00:00:00 to 23:59:59; found '06:00'",
          "      until 06:00", "            ^", "hint: write '06:00:00'; then it is accepted"),
         (without("regional_opt_out.plan", "wait contact 3 open", 5), "refused line 7: Mismatch",
@@ -441,13 +495,13 @@ def jumps_back():
     return (
         (code(f"{add}, test 3 6, drop sub 2, {add}, wait 1, jump 1, {add}, end",
               "0 of 0 0 cost 19, 1 of 0 1 cost 15, 6 of 0 1 cost 5", [PROGRAMME, wide]),
-         "refused at 6 line 7: Edit IdUsed", f"x.code:7: {there}; line 1 added it on one path", hint),
+         "refused at 6 line 7: Edit IdUsed", f"x.code:7: {there}; line 4 adds it", hint),
         (code(f"{add}, set 0 3, wait 1, loop 0 2, {add}, end",
               "0 of 0 0 cost 19, 2 of 0 1 counters 01 cost 15", [PROGRAMME, wide]),
-         "refused at 4 line 5: Edit IdUsed", f"x.code:5: {there}; line 1 added it on one path", hint),
+         "refused at 4 line 5: Edit IdUsed", f"x.code:5: {there}; line 1 adds it", hint),
         (code(f"set 0 3, wait 1, loop 0 1, {add}, {add}, end",
               "0 of 0 0 cost 19, 1 of 0 0 counters 01 cost 15", [PROGRAMME]),
-         "refused at 4 line 5: Edit IdUsed", f"x.code:5: {there}; line 4 added it", hint),
+         "refused at 4 line 5: Edit IdUsed", f"x.code:5: {there}; line 4 adds it", hint),
         (code("rate sub 1 64, commit in 24, test 3 11, settle, rate sub 1 128, commit in 24, join, rate sub 1 64, commit in 24, "
               "wait 1, jump 2, rate sub 1 32, end",
               "0 of 0 0 cost 19, 2 of 0 1 perhaps 60 cost 9, 11 of 0 1 perhaps 60 cost 3", [PROGRAMME, AT_64]),
@@ -491,4 +545,4 @@ def accepted(rows):
 
 
 if __name__ == "__main__":
-    rows.main([faults, edits, configurations, swaps, ways, branches, loops, costs, further, limits, first_mistakes, codes, accepted])
+    rows.main([faults, meant, edits, configurations, swaps, ways, branches, loops, costs, further, limits, first_mistakes, codes, accepted])

@@ -24,7 +24,9 @@ move sub 1 at 10
 rate sub 1 96
 wait contact 3 closed
 wait contact 3 open
-until 06:00:00
+until 06:00:00 early 5
+wait contact 3 open or until 07:00:00
+if time 06:00:00 to 07:00:00 { wait 1 }
 commit in 60
 join
 if contact 3 { end } else { apply other }
@@ -34,6 +36,9 @@ forever { wait 1 }
 
 # The keywords that begin a statement and no item: 'a statement' stands for them.
 STATEMENTS = ("drop", "move", "rate", "wait", "until", "commit", "join", "settle", "end", "if", "repeat", "forever", "apply")
+
+# The keywords that may go on with a statement that could end there, too: what is expected is named without them.
+GOING_ON = ("or", "early")
 
 
 def keywords():
@@ -54,7 +59,7 @@ def exchanged(word):
 def each_keyword(rows):
     """Each keyword, at each of its places, is expected there; and suggested."""
     words = keywords()
-    rows.tally.hold(len(words) == 39, f"39 keywords: {words}")
+    rows.tally.hold(len(words) == 43, f"43 keywords: {words}")
     for word in words:
         places = list(re.finditer(rf"\b{word}\b", TEXT))
         rows.tally.hold(len(places) > 0, f"the text has {word}")
@@ -67,7 +72,7 @@ def each_keyword(rows):
             column = place.start() - (text.rfind("\n", 0, place.start()) + 1) + 1
             is_here = first in (f"{line}:{column}: Expected", f"{line}:{column}: Number")
             rows.tally.hold(ended.status == 1 and is_here, f"{wrong}, line {line}, column {column}: {ended.status} {first}")
-            named = f"'{word}'" in rest[0] or (word in STATEMENTS and "a statement" in rest[0])
+            named = f"'{word}'" in rest[0] or (word in STATEMENTS + GOING_ON and "a statement" in rest[0])
             rows.tally.hold(named, f"{wrong}, line {line}: {rest[0]}")
             rows.tally.hold(any(f"write '{word}'" in each for each in rest), f"{wrong}, line {line}: {rest}")
 

@@ -4,7 +4,7 @@ failed'."""
 import rows
 from codes import AT_64, PROGRAMME, SMALL_SUBS, code
 from rows import hexadecimal
-from scripts import HEAD, OPENED, compiled
+from texts import HEAD, OPENED, compiled
 
 # A plan that adds a programme, up to its commit, in three lines.
 ADDED = ("ensemble E1C5 period 4 notice 24 budget 20 begin sub 1 at 0 eep 3-A 128\nservice C221\n"

@@ -5,13 +5,7 @@ import re
 
 import rows
 from codes import PROGRAMME, code
-
-# A header, without `begin`.
-HEAD = "ensemble E1C5 period 4 notice 24 budget 20\n"
-
-# The first six lines of a script with one programme.
-OPENED = f"ensemble E1C5\nperiod 4 notice 24 budget 20\n{PROGRAMME.replace(', ', chr(10))}\nbegin\n"
-
+from texts import HEAD, OPENED, compiled
 
 def faults(rows, head, table):
     """Texts after a head have these faults; an empty fault means no fault of a text."""
@@ -83,12 +77,6 @@ def limits(rows):
         (most + "forever { }", ""), (most + "forever { end", "8194:11: Limit"), (most + "join audio", "8194:6: Limit"),
         ("begin\n" + "join\n" * 8192 + "sound", "8195:1: Expected"), ("service C221\n" * 8193, "8194:1: Limit"),
     ))
-
-
-def compiled(rows, script, wanted):
-    """A script is compiled to this code file."""
-    ended = rows.run("compile x.plan x.code", {"x.plan": script})
-    rows.tally.same(f"compile {script[-60:]}", (0, wanted), (ended.status, rows.made("x.code")))
 
 
 def headers(rows):

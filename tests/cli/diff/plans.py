@@ -89,7 +89,7 @@ def refusals(rows):
         (good, other.replace("budget 20", "budget 1"), "refused: Cost\n"),
     ):
         files = {name: text for name, text in (("a.plan", old), ("b.plan", new)) if text is not None}
-        rows.answers("diff a.plan b.plan", 1, wanted, files)
+        rows.refuses("diff a.plan b.plan", wanted, files)
 
 
 def full(kind):
@@ -126,7 +126,7 @@ def limits(rows):
         files = {"a.plan": script(old, header), "b.plan": script(new, header)}
         ended = rows.run("diff a.plan b.plan", files)
         rows.tally.same("diff at a limit", (0, b""), (ended.lines()[0], ended.messages))
-        made = rows.run("compile c.plan c.code", {"c.plan": ended.lines()[1]})
+        made = rows.run("compile c.plan c.code --quiet", {"c.plan": ended.lines()[1]})
         rows.tally.same("compile of a plan at a limit", (0, b""), (made.lines()[0], made.messages))
 
 

@@ -33,6 +33,8 @@ def records(rows):
         (ONE_PACKET_SERVICE, "--count 1", carried),
     ):
         rows.answers(f"frame - --ensemble E1C5 {options}", 0, first + 2 * EMPTY_FIB, stdin=hexadecimal(record))
+        ended = rows.run(f"frame - --ensemble E1C5 {options} --raw", stdin=hexadecimal(record))
+        rows.tally.same(f"frame {options} --raw", (0, hexadecimal(first + 2 * EMPTY_FIB)), (ended.status, ended.printed))
 
 
 def modes(rows):

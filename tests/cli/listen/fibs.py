@@ -111,7 +111,7 @@ def no_configuration(rows):
         "08 02 C2 21 02 3F 06 45 04", "08 03 00 11 3C 14 01 00 00", "06 03 00 10 3C 14 00",
     ):
         ended = rows.run("listen x.fib --script", {"x.fib": stream(f"{TUNED} {data} FF")})
-        rows.tally.hold(ended.status == 1 and ended.printed.startswith(b"refused: "), f"{data}: {ended.printed[:90]}")
+        rows.tally.hold(ended.lines() == (1, b"") and ended.messages.startswith(b"refused: "), f"{data}: {ended.messages[:90]}")
 
 
 def a_full_picture(rows):

@@ -43,6 +43,20 @@ def all_forms(rows):
         "packet 7 raw type 60 sub 5 address 1\npacket 8 groups type 60 sub 5 address 1023\nnext\nno swap\n"
     )
     rows.answers("listen x.fib", 0, wanted, {"x.fib": stream(*data)})
+    wanted = (
+        '{"fibs":3,"damaged":0,"current":[{"sub":1,"start":0,"size":96,"option":2,"level":3},'
+        '{"sub":2,"start":96,"size":30,"protection":"4-B","kbits":64},'
+        '{"service":"C221","components":[{"data":5,"sub":63,"primary":false},{"other":"8ABC"},{"packet":7,"primary":true}]},'
+        '{"service":"E1C20001","components":[{"audio":63,"sub":1,"primary":true}]},'
+        '{"packet":7,"transport":"raw","type":60,"sub":5,"address":1},'
+        '{"packet":8,"transport":"groups","type":60,"sub":5,"address":1023}],"next":[],"swap_at":null}\n'
+    )
+    rows.answers("listen x.fib --json", 0, wanted, {"x.fib": stream(*data)})
+    # The short form of a sub-channel, and one of 97 capacity units, a size that no rate has.
+    data = ("05 00 E1 C5 00 00 08 01 04 00 05 08 61 88 61 FF",)
+    wanted = ('{"fibs":1,"damaged":0,"current":[{"sub":1,"start":0,"switch":0,"table":5},'
+              '{"sub":2,"start":97,"size":97,"protection":"3-A"}],"next":[],"swap_at":null}\n')
+    rows.answers("listen x.fib --json", 0, wanted, {"x.fib": stream(*data)})
 
 
 def a_reconfiguration(rows):
@@ -57,6 +71,11 @@ def a_reconfiguration(rows):
     rows.answers("listen x.fib", 0, f"fibs 2 damaged 0\ncurrent\n{at_128}next\n{at_96}swap at low 28\n",
                  {"x.fib": stream(*data[:2])})
     rows.answers("listen x.fib", 0, f"fibs 3 damaged 0\ncurrent\n{at_96}next\nno swap\n", {"x.fib": stream(*data)})
+    sub = '{{"sub":1,"start":0,"size":{},"protection":"3-A","kbits":{}}}'
+    service = '{"service":"C221","components":[{"audio":63,"sub":1,"primary":true}]}'
+    current, following = (f"[{sub.format(size, rate)},{service}]" for size, rate in ((96, 128), (72, 96)))
+    rows.answers("listen x.fib --json", 0, f'{{"fibs":2,"damaged":0,"current":{current},"next":{following},"swap_at":28}}\n',
+                 {"x.fib": stream(*data[:2])})
 
 
 def full_pictures(rows):
@@ -64,6 +83,7 @@ def full_pictures(rows):
     for are_packets in (False, True):
         whole = sixty_five(are_packets)
         rows.answers("listen x.fib", 1, "refused: Full\n", {"x.fib": whole})
+        rows.answers("listen x.fib --json", 1, '{"kind":"refused","cause":"Full"}\n', {"x.fib": whole})
         ended = rows.run("listen x.fib", {"x.fib": whole[:65 * 32]})
         rows.tally.same("64 have room", (0, b"fibs 65 damaged 0"), (ended.status, ended.printed.split(b"\n")[0]))
 
@@ -73,6 +93,7 @@ def refused_files(rows):
     whole = sixty_five(False)
     for part in (whole[:65], whole[:-1]):
         rows.answers("listen x.fib", 1, "refused: not whole FIBs\n", {"x.fib": part})
+        rows.answers("listen x.fib --json", 1, '{"kind":"refused","cause":"not whole FIBs"}\n', {"x.fib": part})
         rows.answers("listen -", 1, "refused: not whole FIBs\n", stdin=part)
     rows.answers("listen x.fib", 1, "cannot read x.fib\n")
 

@@ -50,10 +50,37 @@ def refused_streams(rows):
         (("05 00 E1 C5 00 00 06 02 C2 21 01 80 01 04 01 04 00 05 FF",),
          "refused: cannot be written: sub 1 at 0 switch 0 table 5\n"),
     ):
-        rows.answers("listen x.fib --script", 1, wanted, {"x.fib": stream(*data)})
-    rows.answers("listen x.fib --script", 1, "refused: not whole FIBs\n", {"x.fib": stream(short)[:31]},
-                 messages=f"x.fib: {NO_FIB}\n")
-    rows.answers("listen x.fib --script", 1, "cannot read x.fib\n")
+        rows.refuses("listen x.fib --script", wanted, {"x.fib": stream(*data)})
+    rows.refuses("listen x.fib --script", f"x.fib: {NO_FIB}\nrefused: not whole FIBs\n", {"x.fib": stream(short)[:31]})
+    rows.refuses("listen x.fib --script", "cannot read x.fib\n")
+
+
+def announced(rows):
+    """While a swap is announced the current configuration is the one before it, and the next one the one after it."""
+    now = "05 00 E1 C5 00 00 05 01 04 00 88 60 06 02 C2 21 01 3F 06 FF"
+    notice = "06 00 E1 C5 40 04 1C 05 81 04 00 88 48 06 82 C2 21 01 3F 06 FF"
+    text = "ensemble E1C5\nperiod 4 notice 240 budget 20\nsub 1 at 0 eep 3-A {}\nservice C221\naudio 63 sub 1 in C221\nbegin\n"
+    files = {"x.fib": stream(now, notice)}
+    rows.answers("listen x.fib --script", 0, text.format(128), files,
+                 messages="x.fib: swap announced, at low 28: this is the configuration before it\n")
+    rows.answers("listen x.fib --script --next", 0, text.format(96), files)
+    # The swap is made: nothing is announced any more.
+    made = {"x.fib": stream(now, notice, "05 00 E1 C5 00 1C FF")}
+    rows.answers("listen x.fib --script", 0, text.format(96), made)
+    rows.refuses("listen x.fib --script --next", "refused: no swap is announced\n", made)
+    rows.refuses("listen x.fib --script --next", "refused: no swap is announced\n", {"x.fib": stream(now)})
+
+
+def several_pieces(rows):
+    """A stream of more than the 262,144 bytes that are read at once, from a file and through a pipe, whose last FIB counts."""
+    now = "05 00 E1 C5 00 00 05 01 04 00 88 60 06 02 C2 21 01 3F 06 FF"
+    data = stream(now) + 9000 * stream("FF") + stream("09 01 04 00 88 48 08 00 88 18 FF")
+    text = ("ensemble E1C5\nperiod 4 notice 240 budget 20\nsub 1 at 0 eep 3-A 96\nsub 2 at 0 eep 3-A 32\nservice C221\n"
+            "audio 63 sub 1 in C221\nbegin\n")
+    rows.tally.hold(len(data) > 262_144, f"{len(data)} bytes")
+    rows.answers("listen x.fib --script", 0, text, {"x.fib": data})
+    rows.answers("listen - --script", 0, text, stdin=data)
+    rows.refuses("listen x.fib --script", "refused: not whole FIBs\n", {"x.fib": data[:-1]})
 
 
 def frames(rows):
@@ -81,8 +108,9 @@ def refused_frames(rows):
         (HEADER + "service C221\nbegin", "--count 0", "refused: EmptyService\n"),
         (SCRIPT, "--count 0 --page 1", "refused: no such page\n"),
     ):
-        rows.answers(f"frame s.plan --script {options}", 1, wanted, {"s.plan": script})
-    rows.answers("frame s.plan --script --count 0", 1, "cannot read s.plan\n")
+        rows.refuses(f"frame s.plan --script {options}", wanted, {"s.plan": script})
+        rows.refuses(f"frame s.plan --raw --script {options}", wanted, {"s.plan": script})
+    rows.refuses("frame s.plan --script --count 0", "cannot read s.plan\n")
 
 
 def heard_again(rows):
@@ -102,7 +130,7 @@ def heard_again(rows):
 
 def command_lines(rows):
     """The options of a script belong to '--script', and its header to the script."""
-    for line in ("listen x.fib --mode 1", "listen x.fib --period 4", "listen x.fib --notice 24", "listen x.fib --budget 20",
+    for line in ("listen x.fib --next", "listen x.fib --json --next", "listen x.fib --mode 1", "listen x.fib --period 4", "listen x.fib --notice 24", "listen x.fib --budget 20",
                  "listen x.fib --json --mode 1", "listen x.fib --json --period 4", "listen x.fib --json --notice 24",
                  "listen x.fib --json --budget 20", "listen x.fib --script --period 0", "listen x.fib --script --period 61", "listen x.fib --script --notice 11",
                  "listen x.fib --script --notice 249", "listen x.fib --script --budget 0",
@@ -113,4 +141,4 @@ def command_lines(rows):
 
 
 if __name__ == "__main__":
-    rows.main([scripts, refused_streams, frames, refused_frames, heard_again, command_lines])
+    rows.main([scripts, refused_streams, announced, several_pieces, frames, refused_frames, heard_again, command_lines])

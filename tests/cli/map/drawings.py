@@ -68,6 +68,72 @@ def rows_of_plans(rows):
                  {"x.plan": "ensemble E1C5 period 4 notice 24 budget 20 begin"})
 
 
+def headings(rows, script):
+    """The headings of the rows of a script's map, without the number of free units."""
+    ended = rows.run("map x.plan --quiet", {"x.plan": script})
+    return [line.rsplit(":", 1)[0] for line in ended.printed.decode().splitlines() if line.startswith(("begin ", "commit "))]
+
+
+HEAD = "ensemble E1C5\nperiod 4 notice 24 budget 20\nsub 1 at 0 eep 3-A 128\nservice C221\naudio 63 sub 1 in C221\n"
+LOW = "rate sub 1 96; commit in 24; join"
+HIGH = "rate sub 1 128; commit in 24; join"
+
+
+def blocks_by_place(rows):
+    """A commit is in the block that has its statement, wherever the lines of the text begin."""
+    text = HEAD + f"define low {{ {LOW} }} define high {{ {HIGH} }}\nbegin\napply low\napply high\n{LOW}\n"
+    rows.tally.same("two blocks in one line",
+                    ["begin 7", "commit 6 in low (begin)", "commit 6 in high (join)", "commit 10 (join)"], headings(rows, text))
+    rows.tally.same("a script in one line",
+                    ["begin 1", "commit 1 in low (begin)", "commit 1 in high (join)", "commit 1 (join)"],
+                    headings(rows, text.replace("\n", " ")))
+    text = HEAD + f"define low {{ {LOW} }} define both {{ apply low; if contact 1 {{ wait 5 }} {HIGH}; apply low; {HIGH} }} begin\n"
+    text += f"{LOW}\nrepeat 2 {{ {HIGH}; apply both; {LOW} }}\n"
+    rows.tally.same("a block in a block, and in braces",
+                    ["begin 6", "commit 7 (begin)", "commit 8 (join)", "commit 6 in low (join)", "commit 6 in both",
+                     "commit 6 in low (join)", "commit 6 in both (join)", "commit 8 (join)"], headings(rows, text))
+
+
+def leads_of_paths(rows):
+    """What leads to a commit, if that is the same on each path there."""
+    for statements, lead in (
+        ("if contact 3 { wait 5 } else { wait 9; end }", " (wait 5)"),
+        ("if contact 3 { wait 9; end } else { wait 5 }", " (wait 5)"),
+        ("if contact 3 { wait 9; end }", " (contact 3 open)"),
+        ("if contact 3 { end } else { wait 65535 }", " (wait 65535)"),
+        ("if contact 3 { } else { end }", " (contact 3 closed)"),
+        ("if contact 3 { wait 5 } else { wait 5 }", " (wait 5)"),
+        ("if contact 3 { wait 5 } else { wait 6 }", ""),
+        ("if contact 3 { wait 5 }", ""),
+        ("if contact 3 { }", ""),
+        ("if contact 3 { until 22:00:00 } else { until 22:00:00 }", " (until 22:00:00)"),
+        ("if contact 3 { until 22:00:00 } else { until 22:00:01 }", ""),
+        ("if contact 3 { wait contact 4 open } else { wait contact 4 open }", " (contact 4 open)"),
+        ("if contact 3 { wait contact 4 open } else { wait contact 4 closed }", ""),
+        ("if contact 3 { wait contact 4 open } else { wait contact 5 open }", ""),
+        ("if contact 3 { wait 5 } else { until 00:00:05 }", ""),
+        ("if contact 3 { settle } else { settle }", " (settle)"),
+        ("if contact 3 { if contact 4 { wait 5 } else { wait 5 } } else { wait 7; wait 5 }", " (wait 5)"),
+        ("if contact 3 { if contact 4 { wait 5 } else { wait 6 } } else { wait 5 }", ""),
+        ("if contact 3 { if contact 4 { wait 5 } else { forever { wait 1 } } } else { wait 5 }", " (wait 5)"),
+        ("repeat 3 { wait 5 }", " (wait 5)"),
+        ("wait contact 2 open or until 08:59:54", " (contact 2 open or until 08:59:54)"),
+        ("wait contact 3 open or 750", " (contact 3 open or 750 frames)"),
+        ("wait 5 or until 22:00:00 early 250 or contact 15 closed or contact 0 open or contact 0 closed",
+         " (contact 0 closed or contact 0 open or contact 15 closed or until 21:59:54 or 5 frames)"),
+        ("wait contact 2 open or contact 2 open", " (contact 2 open)"),
+        ("until 22:00:00 early 250", " (until 21:59:54)"),
+        ("if time 22:00:00 to 06:00:00 { } else { end }", " (time 22:00:00 to 06:00:00)"),
+        ("if time 22:00:00 to 06:00:00 { end }", " (time 06:00:00 to 22:00:00)"),
+        ("if time 22:00:00 to 22:00:00 { end }", " (any time)"),
+        ("if time 22:00:00 to 06:00:00 { wait 5 or contact 1 open } else { wait contact 1 open or 5 }", " (contact 1 open or 5 frames)"),
+        ("if contact 3 { wait 5 or contact 1 open } else { wait 5 or contact 1 closed }", ""),
+        ("if contact 3 { wait 5 or contact 1 open } else { wait 6 or contact 1 open }", ""),
+        ("if contact 3 { if time 22:00:00 to 06:00:00 { } else { end } } else { if time 22:00:00 to 06:00:01 { } else { end } }", ""),
+    ):
+        rows.tally.same(statements, ["begin 6", f"commit 8{lead}"], headings(rows, HEAD + f"begin\n{statements}\n{LOW}\n"))
+
+
 # Services that move, are added, dropped and changed; packet components; each kind of what leads to a commit.
 PARTS = """\
 ensemble E1C5
@@ -229,15 +295,15 @@ def colours_of_all(rows):
 def refused(rows):
     """Scripts that are refused, as `compile` does, and inaccessible files; no drawing is created."""
     pending = RATES.replace("join\n", "", 1)
-    for line, script, wanted in (
+    for line, script, wanted, *messages in (
         ("map x.plan --svg x.svg", "ensemble e1c5", "1:10: Number\n"),
         ("map x.plan --svg x.svg", pending, "refused line 12: Pending\n"),
-        ("map y.plan --svg x.svg", RATES, "cannot read y.plan\n"),
+        ("map y.plan --svg x.svg", RATES, "cannot read y.plan\n", "y.plan: error: No such file or directory\n"),
         ("map x.plan --svg y/x.svg", RATES, "cannot write y/x.svg\n"),
     ):
-        rows.answers(line, 1, wanted, {"x.plan": script})
+        rows.answers(line, 1, wanted, {"x.plan": script}, messages="".join(messages))
         rows.tally.same("no drawing is made", None, rows.made("x.svg"))
 
 
 if __name__ == "__main__":
-    rows.main([rows_of_plans, parts_are_marked, layouts, drawings, moves_are_framed, colours_of_all, refused])
+    rows.main([rows_of_plans, blocks_by_place, leads_of_paths, parts_are_marked, layouts, drawings, moves_are_framed, colours_of_all, refused])

@@ -20,9 +20,9 @@ def frame(*fibs, size=3):
     return b"".join(fib(each) for each in (*fibs, *["FF"] * (size - len(fibs))))
 
 
-def told(frames, carried, waiting=0, dropped=0, damaged=0):
+def told(frames, carried, waiting=0, dropped=0, damaged=0, stale=0):
     """The last line."""
-    return f"frames {frames} carried {carried} waiting {waiting} dropped {dropped} damaged {damaged}\n"
+    return f"frames {frames} carried {carried} waiting {waiting} dropped {dropped} stale {stale} damaged {damaged}\n"
 
 
 def merged(rows, plan, other, wanted, messages, status=0, options=""):
@@ -49,9 +49,35 @@ def figs_are_left_out(rows):
                  "03 07 04 01", "03 87 04 01", "03 27 04 01", "01 07"):
         merged(rows, frame("FF"), frame(data + "FF"), frame("FF"), told(1, 0))
         merged(rows, frame("FF"), frame(SHORT + data + MIDDLE + "FF"), frame(SHORT + MIDDLE + "FF"), told(1, 2))
-    for data in ("05 40 E1 C5 00 00", "05 41 04 00 88 60", "03 47 04 01", "03 C7 04 01", "03 05 01 09", "03 08 01 09",
-                 "03 04 01 09", "03 1F 01 09", "02 06 01", "23 07 04 01", "E1 07", "20", "E0"):
+    for data in ("05 40 E1 C5 00 00", "05 41 04 00 88 60", "03 47 04 01", "03 C7 04 01", "03 45 01 09", "03 06 01 09",
+                 "03 44 01 09", "03 1F 01 09", "02 06 01", "23 07 04 01", "E1 07", "20", "E0"):
         merged(rows, frame("FF"), frame(data + "FF"), frame(data + "FF"), told(1, 1))
+
+
+# Sub-channel 1; service C221 with audio on it and packet component 7; packet component 7. There is room for 2 bytes more.
+CURRENT = TUNED + "05 01 04 00 88 60" + "08 02 C2 21 02 3F 06 C0 1C" + "06 03 00 70 3C 14 01"
+ARE_THERE = ("04 04 01 00 00", "04 04 42 00 00", "03 05 01 09", "03 05 42 09", "04 05 80 07 09", "05 08 C2 21 00 01",
+             "05 88 C2 21 00 01", "06 08 C2 21 80 01 00", "06 08 C2 21 00 80 07", "05 08 AB CD 00 41", "02 0E 05",
+             "05 13 01 00 01 01", "06 13 01 00 01 41 03", "08 05 01 09 80 07 09 01 08", "05 48 C2 21 00 02", "03 45 02 09")
+ARE_NOT = ("04 04 02 00 00", "03 05 02 09", "04 05 80 08 09", "05 08 C2 21 00 02", "05 88 C2 21 00 02", "05 08 C2 22 00 01",
+           "07 28 00 00 C2 21 00 01", "06 08 C2 21 80 02 00", "06 08 C2 21 00 80 08", "02 0E 09", "05 13 01 00 01 02",
+           "06 13 01 00 01 42 03", "05 05 01 09 02 09", "01 04", "03 04 01 00", "04 05 01 09 01", "05 08 C2 21 80 01")
+
+
+def those_that_contradict(rows):
+    """FIGs that name sub-channels or packet components: those that the plan has, not others, which take no room."""
+    plan = frame(CURRENT + "FF")
+    for data in ARE_THERE:
+        merged(rows, plan, frame(data + "FF"), frame(CURRENT + "FF", data + "FF"), told(1, 1))
+    for data in ARE_NOT:
+        merged(rows, plan, frame(data + SHORT + "FF"), frame(CURRENT + "FF", SHORT + "FF"), told(1, 1, stale=1))
+    # judged by what was heard up to the FIB that is filled, when one that fits has its turn
+    late = frame("FF", CURRENT + "FF")
+    merged(rows, late, frame("03 05 01 09 FF"), late, told(1, 0, stale=1))
+    full, left = frame(FULL, FULL, FULL), frame(CURRENT + "FF", FULL, FULL)
+    merged(rows, left, frame("03 05 02 09 FF"), left, told(1, 0, 1))
+    merged(rows, full + plan, frame("03 05 01 09 FF"), full + frame(CURRENT + "FF", "03 05 01 09 FF"), told(2, 1))
+    merged(rows, full + plan, frame("03 05 02 09" + SHORT + "FF"), full + frame(CURRENT + "FF", SHORT + "FF"), told(2, 1, stale=1))
 
 
 def figs_wait(rows):
@@ -159,5 +185,5 @@ def in_lock_step(rows):
 
 
 if __name__ == "__main__":
-    rows.main([figs_are_carried, figs_are_left_out, figs_wait, at_most_256_wait, damaged_fibs, lengths, refusals, standard_input,
-               in_lock_step])
+    rows.main([figs_are_carried, figs_are_left_out, those_that_contradict, figs_wait, at_most_256_wait, damaged_fibs, lengths,
+               refusals, standard_input, in_lock_step])

@@ -44,7 +44,7 @@ def installed(tally, program, folder):
     tally.same("its version", version, run([program, "--version"], folder))
     changes = (TOP / "CHANGELOG.md").read_text(encoding="utf-8")
     tally.same("the version of CHANGELOG.md", f"dabplan {re.search(r'(?m)^## ([0-9.]+)$', changes)[1]}\n", version[1])
-    compiled = run(["dabplan", "compile", "examples/night_rate.plan", "../../../night.code"], here / "share/dabplan", PATH=path)
+    compiled = run(["dabplan", "compile", "examples/night_rate.plan", "../../../night.code", "--quiet"], here / "share/dabplan", PATH=path)
     tally.same("a script compiled there", (0, "instructions 9 labels 1 configurations 1\n", ""), compiled)
     clock = run([here / "share/dabplan/examples/live_clock.py", "night.code", "log", "--frames", "5"], folder, PATH=path)
     tally.same("live_clock.py there", (0, ""), (clock[0], clock[2]))

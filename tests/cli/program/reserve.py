@@ -146,7 +146,7 @@ def diffs(rows):
         if wanted is None:
             rows.tally.same("diff of many", 0, ended.status)
         else:
-            rows.tally.same("diff of many", (status, wanted.encode()), (ended.status, ended.printed))
+            rows.tally.same("diff of many", (status, b"", wanted.encode()), (*ended.lines(), ended.messages))
 
 
 def played(rows):
@@ -175,15 +175,15 @@ def explained(rows):
     many = reserving(HEADER.format("", "") + SUBS) + "begin\n"
     rows.answers("compile x.plan x.code --explain", 1,
                  "refused line 67: Round\n"
-                 "x.plan:67: the configuration takes 6 pages, a frame each; the period is 4 frames\n"
-                 "'reserve 1' leaves 2 of the 3 FIBs of a frame; without it the configuration takes 4 pages\n"
+                 "x.plan:67: the configuration takes 6 pages, a frame each; the period is 4 frames; 'reserve 1' leaves 2 of the 3 "
+                 "FIBs of a frame: without it the configuration takes 4 pages\n"
                  "hint: write 'period 6' in place of 'period 4' in line 2; then it is accepted\n", {"x.plan": many})
     change = many.replace("period 4", "period 6") + "".join(f"drop sub {n}\n" for n in range(60, 64)) + "commit in 250\n"
     rows.answers("compile x.plan x.code --explain", 1,
                  "refused line 72: Round\n"
                  "x.plan:72: the current configuration takes 6 pages, a frame each, the next 5, and both together, in the "
-                 "notice, 11; the period is 6 frames and the notice 24\n"
-                 "'reserve 1' leaves 2 of the 3 FIBs of a frame; without it they take 4, 4 and 7 pages\n"
+                 "notice, 11; the period is 6 frames and the notice 24; 'reserve 1' leaves 2 of the 3 FIBs of a frame: without it "
+                 "they take 4, 4 and 7 pages\n"
                  "hint: write 'period 11' in place of 'period 6' in line 2, and write 'notice 33' in place of 'notice 24' in "
                  "line 2; then it is accepted\n",
                  {"x.plan": change})

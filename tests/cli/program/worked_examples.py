@@ -31,10 +31,10 @@ class Moment(typing.NamedTuple):
     steps: int
     # The CIF count of the next frame, and the frames until the swap.
     count: int
-    remaining: int | None
+    remaining: typing.Optional[int]
     # The listing of the current configuration, and of the next one if it is announced.
     current: str
-    announced: str | None = None
+    announced: typing.Optional[str] = None
     # The change of contact 3 before these frames.
     contact: str = ""
 

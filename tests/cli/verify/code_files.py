@@ -83,7 +83,7 @@ def fields_of_a_programme_and_its_instructions(rows):
         (32, 0x40, "Field 32"),
         # the instructions: contact, level, sub-channel, delay
         (49, 0x10, "Field 49"), (50, 0x02, "Field 50"), (54, 0x40, "Field 54"), (61, 0x00, "Field 60"),
-        (60, 0xEB, "Field 60"), (64, 0x09, "Field 64"), (86, 0x24, "Field 86"),
+        (60, 0xEB, "Field 60"), (64, 0x0A, "Field 64"), (86, 0x25, "Field 86"),
     ))
 
 
@@ -136,7 +136,7 @@ def fields_of_labels(rows):
         # the cost
         (85, 0x00, "Field 85"), (98, 0x00, "Field 98"),
         # the opcode
-        (101, 0x09, "Field 101"),
+        (101, 0x0A, "Field 101"),
     ))
     one_byte_is_changed(rows, SETTLED, (
         # the kind of the swap; the least bound, which is 0; the greatest, which is 1 or more
@@ -204,7 +204,7 @@ def files_that_are_cut_at_a_fault(rows):
         (22, 0x01, 23, "Field 21"), (24, 0x01, 25, "Field 23"), (25, 0x03, 26, "Field 25"), (25, 0x02, 30, "Field 28"),
         # the least bound, before the greatest
         (25, 0x01, 28, "Field 26"), (27, 0x01, 28, "Field 26"), (29, 0x01, 30, "Field 28"), (31, 0x00, 32, "Field 31"),
-        (34, 0x00, 35, "Field 34"), (34, 0x24, 35, "Field 34"),
+        (34, 0x00, 35, "Field 34"), (34, 0x25, 35, "Field 34"),
     ):
         file = changed(NOTHING_CODE, place, byte)
         judged(rows, file[:end], wanted)
@@ -257,7 +257,7 @@ def operands_past_their_limits(rows):
 
 def opcodes_that_are_none(rows):
     """The opcodes of instructions, which here have no operands, and all other bytes."""
-    opcodes = [*range(0x01, 0x09), *range(0x10, 0x1A), *range(0x20, 0x24)]
+    opcodes = [*range(0x01, 0x0A), *range(0x10, 0x1A), *range(0x20, 0x25)]
     for byte in range(256):
         found = fault(rows, of_one_line(f"00 01 {byte:02X}"))
         rows.tally.same(f"opcode {byte:02X}", byte not in opcodes, found == "Field 34")

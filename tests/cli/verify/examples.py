@@ -64,7 +64,7 @@ def files_of_no_code(rows):
         (0, 0x45, 1, "code: Magic\n"),
         (4, 4, 1, "code: Version\n"),
         (7, 61, 1, "code: Field 7\n"),
-        (34, 9, 1, "code: Field 34\n"),
+        (34, 10, 1, "code: Field 34\n"),
         (10, 2, 1, "code: Limit\n"),
     ):
         changed = bytearray(NOTHING_CODE)

@@ -1,12 +1,5 @@
 //! The command line of `check`.
 
-ghost use Rattle.std.specs.Prelude.{◌≡◌, IfErr, IfOk, codes, pos, None, Some};
-ghost use Rattle.cli.specs.Given.{rows_in};
-ghost use Rattle.cli.specs.Grammar.{Describes, number, rule_for, text};
-ghost use Rattle.cli.specs.Program.{only, check};
-ghost use Rattle.cli.specs.Refusals.{RefusesCheck, RefusesTime};
-ghost use Rattle.cli.specs.Requests.{Asks, HasOptionalTime};
-
 use crate::args::parser::{Argument, Grammar, Kind, Page, Rule, Values};
 use crate::args::shared::{file, flag, mode, number, some_mode};
 use crate::args::start::second_at;
@@ -30,7 +23,8 @@ The file has FIBs of 32 bytes, one after another, as any multiplexer may have wr
 the announcements, the swaps and the faults, each with its frame and CIF count. A fault is a swap
 that was not announced in time, or comes at another count or with other flags; a next configuration
 that could not be received three times before its swap; an entry that changed, appeared or fell
-silent without a swap; a jump of the CIF count; a FIG 0/0 out of place; a damaged or missing FIB.";
+silent without a swap; a jump of the CIF count; a FIG 0/0 out of place; a damaged or missing FIB;
+another FIG that names a sub-channel or component that is not there.";
 
 const USAGE: &str = "\
 dabplan check <FILE> [--mode <M>] [--period <N>] [--every <N>] [--time <HH:MM:SS>]
@@ -62,6 +56,11 @@ The faults of a frame:
   next changed: ENTRY           an entry of the next configuration changed
   appeared: ENTRY               the current configuration did not have this entry
   silent: ENTRY                 an entry of the current one was not sent for --period frames
+  FIG 0/E names ENTRY, which is not there
+                                FIG 0/4, 0/5, 0/8, 0/14 or 0/19 names a sub-channel or component
+                                that the current configuration does not have; reported once between
+                                two swaps, from frame --period on
+  FIG 0/E is not whole entries  one of these FIGs ends within an entry, or has none
 The faults of a swap:
   announced for low O           the swap was announced for another CIF count
   announced N times             fewer than three FIG 0/0 with change flags came before it
@@ -69,7 +68,7 @@ The faults of a swap:
   flags B, but D changes        the flags announced B, and what changes is D
   overlap A B                   sub-channels A and B of the new configuration share a capacity unit
   past the end: A               sub-channel A of the new configuration ends past capacity unit 863
-ENTRY is 'sub 1', 'service C221' or 'packet 7'. A frame has three FIBs, in mode 3 four, or fewer
+ENTRY is 'sub 1', 'service C221', 'packet 7', or in FIG 0/8 'sub 1 of service C221'. A frame has three FIBs, in mode 3 four, or fewer
 where the next FIB begins with a FIG 0/0.
 
 The file is read as it comes, and all lines that its bytes decide are written before more is read,
@@ -85,8 +84,13 @@ The line of a refusal, in place of the last line:
   refused: no ensemble          there is no FIG 0/0
   refused: Full                 a configuration has more than 64 services or packet components
 
-A line on standard error, 'FILE: no whole FIB: 32 bytes each are expected', says that the file has
-no FIBs, and what it looks like, if that is known.
+Hints on standard error, each once at most:
+  day.fib: no whole FIB: ..     the file has no FIBs; what it looks like follows, if that is known
+  day.fib: FIG 0/0 in every frame: --mode 2 or 3?
+                                FIG 0/0 has the steps of another mode than that of --mode
+  day.fib: FIBs are damaged from byte 960 on: ..
+                                30 FIBs in a row are damaged; where the stream goes on follows, if
+                                that is known
 
 Example: the frames of a plan, with a change of rate that is announced and made
   printf 'frames 1 contact 3 closed frames 300' > day.events
@@ -100,9 +104,7 @@ Exit status:
   3  there is a fault";
 
 /// The command `check`.
-pub(crate) fn grammar<'a>(alloc: Global) -> Result<Grammar<'a>, AllocError>
-    ensures { IfOk result (λ g. Describes g.command (only check)) }
-{
+pub(crate) fn grammar<'a>(alloc: Global) -> Result<Grammar<'a>, AllocError> {
     let file_help = "The file of FIBs, or '-' for standard input";
     let until_help = "Ends with the first frame that has a fault, with status 3";
     let json_help = "Prints each line as a JSON object";
@@ -117,25 +119,19 @@ pub(crate) fn grammar<'a>(alloc: Global) -> Result<Grammar<'a>, AllocError>
 }
 
 /// The option for the period.
-fn period() -> Argument
-    ensures { rule_for result ≡ number (codes "period") (pos 1) (pos 60000) (Some (codes "250")) }
-{
+fn period() -> Argument {
     let help = "Every entry must come at least once in this many frames of 24 ms, 1 to 60000";
     number("period", "N", 1, 60000, Some("250"), help)
 }
 
 /// The option for totals so far.
-fn every() -> Argument
-    ensures { rule_for result ≡ number (codes "every") (pos 1) (pos 4294967295) None }
-{
+fn every() -> Argument {
     let help = "Prints the totals so far after every N frames, 1 to 4294967295";
     number("every", "N", 1, 4294967295, None, help)
 }
 
 /// The option for the time of day.
-fn time() -> Argument
-    ensures { rule_for result ≡ text (codes "time") None }
-{
+fn time() -> Argument {
     Argument {
         name: "time",
         value_name: "HH:MM:SS",
@@ -146,10 +142,7 @@ fn time() -> Argument
 }
 
 /// Reads the arguments of `check`.
-pub(crate) fn request<'a>(values: &Values<'_, 'a>) -> Result<Request<'a>, UsageError<'a>>
-    ensures asked { IfOk result (Asks (codes "check") (rows_in values.now)) }
-    ensures refused { IfErr result (RefusesCheck (rows_in values.now)) }
-{
+pub(crate) fn request<'a>(values: &Values<'_, 'a>) -> Result<Request<'a>, UsageError<'a>> {
     let file = values.some_text("file")?;
     let mode = some_mode(values)?;
     let period = values.some_u16("period")?;
@@ -168,10 +161,7 @@ pub(crate) fn request<'a>(values: &Values<'_, 'a>) -> Result<Request<'a>, UsageE
 }
 
 /// The second of the day of frame 0.
-fn start_of<'a>(values: &Values<'_, 'a>) -> Result<Option<u32>, UsageError<'a>>
-    ensures time { IfOk result (HasOptionalTime (rows_in values.now)) }
-    ensures refused { IfErr result (RefusesTime (rows_in values.now)) }
-{
+fn start_of<'a>(values: &Values<'_, 'a>) -> Result<Option<u32>, UsageError<'a>> {
     match values.text("time") {
         Some(text) => match second_at(text) {
             Some(second) => Ok(Some(second)),

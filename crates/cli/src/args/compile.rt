@@ -1,14 +1,7 @@
 //! The command line of `compile`.
 
-ghost use Rattle.std.specs.Prelude.{IfErr, IfOk, codes};
-ghost use Rattle.cli.specs.Given.{rows_in};
-ghost use Rattle.cli.specs.Grammar.{Describes};
-ghost use Rattle.cli.specs.Program.{only, compile};
-ghost use Rattle.cli.specs.Refusals.{RefusesCompile};
-ghost use Rattle.cli.specs.Requests.{Asks};
-
-use crate::args::parser::{Grammar, Page, Values};
-use crate::args::shared::{check_output, file, flag};
+use crate::args::parser::{Grammar, Page, Rule, Values};
+use crate::args::shared::{explain, explanation, file, quiet, with_rule};
 use crate::args::{Request, UsageError};
 use cli_scripts::compile::CompileRequest;
 use std::alloc::{AllocError, Global};
@@ -28,7 +21,7 @@ A script is the text of a plan of reconfigurations: the configuration that it be
 changes when. The code file is what 'verify', 'play', 'debug' and 'live' read. Every plan that is
 compiled is one that 'dabplan verify' accepts.";
 
-const USAGE: &str = "dabplan compile <SCRIPT> <OUT> [--explain]";
+const USAGE: &str = "dabplan compile <SCRIPT> <OUT> [--explain | --quiet]";
 
 const AFTER: &str = "\
 A script:
@@ -67,21 +60,24 @@ The line:
   refused: Limit                the code has too many instructions, labels, configurations or
                                 nested repeats
 
-With --explain a refusal is followed by what is wrong, with objects and numbers, and by a line that
-begins with 'hint:' and says how to correct it:
-  night.plan:7: ..              line 7 of the script
-  night.plan:1:10: ..           line 1, column 10; the line follows, with a caret below the column
-
-With --explain the warnings of 'dabplan help map' follow on standard error where the script is
-accepted; the status stays as it is:
+Standard error says what is wrong, with objects and numbers, in the form that editors read, and how
+to correct it; and of an accepted script the warnings of 'dabplan help map'. The status stays as is:
+  night.plan:7: error: ..       line 7 of the script
+  night.plan:1:10: error: ..    line 1, column 10; the line follows, with a caret below the column
+  night.plan:7: hint: ..        what to do
   night.plan:9: warning: no component names sub 3
+With --explain the explanation of a refusal is on standard output, behind its line; --quiet leaves
+all of this out.
 
-OUT is created last: where the script is refused it stays as it was. '-' is standard output, and the
-lines then go to standard error.
+OUT is written last, and as a whole: where the script is refused, or OUT can't be written, it stays
+as it was. '-' is standard output, and the lines then go to standard error.
 
 Example: a lower rate at night
   dabplan compile examples/night_rate.plan night.code
   dabplan verify night.code
+
+Example: the plan that leads from one configuration to another
+  dabplan diff examples/contact_rate.plan examples/on_air.plan | dabplan compile - change.code
 
 Exit status:
   0  OUT holds the code file
@@ -89,29 +85,21 @@ Exit status:
   2  the command line is wrong";
 
 /// The command `compile`.
-pub(crate) fn grammar<'a>(alloc: Global) -> Result<Grammar<'a>, AllocError>
-    ensures { IfOk result (λ g. Describes g.command (only compile)) }
-{
+pub(crate) fn grammar<'a>(alloc: Global) -> Result<Grammar<'a>, AllocError> {
     Grammar::of_command(alloc, PAGE)
-        .argument(file("script", "SCRIPT", "The script"))?
+        .argument(file("script", "SCRIPT", "The script, or '-' for standard input"))?
         .argument(file("out", "OUT", "The code file to write"))?
-        .argument(flag(
-            "explain",
-            "Explains a refusal, and how to correct it; reports the warnings about an accepted script",
-        ))
+        .argument(explain())?
+        .argument(with_rule(quiet(), Rule::Excludes("explain")))
 }
 
 /// Reads the arguments of `compile`.
-pub(crate) fn request<'a>(values: &Values<'_, 'a>) -> Result<Request<'a>, UsageError<'a>>
-    ensures asked { IfOk result (Asks (codes "compile") (rows_in values.now)) }
-    ensures refused { IfErr result (RefusesCompile (rows_in values.now)) }
-{
+pub(crate) fn request<'a>(values: &Values<'_, 'a>) -> Result<Request<'a>, UsageError<'a>> {
     let script = values.some_text("script")?;
     let out = values.some_text("out")?;
-    check_output("OUT", out, "SCRIPT", script)?;
     Ok(Request::Compile(CompileRequest {
         script,
         out,
-        explain: values.flag("explain"),
+        explanation: explanation(values),
     }))
 }

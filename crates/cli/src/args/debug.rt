@@ -1,12 +1,5 @@
 //! The command line of `debug`.
 
-ghost use Rattle.std.specs.Prelude.{IfErr, IfOk, codes};
-ghost use Rattle.cli.specs.Given.{rows_in};
-ghost use Rattle.cli.specs.Grammar.{Describes};
-ghost use Rattle.cli.specs.Program.{only, debug};
-ghost use Rattle.cli.specs.Refusals.{RefusesDebug};
-ghost use Rattle.cli.specs.Requests.{Asks};
-
 use crate::args::parser::{Grammar, Page, Values};
 use crate::args::shared::file;
 use crate::args::start::{contacts, count, day, start_options, time};
@@ -63,8 +56,6 @@ The line of a refusal:
   start: Count         --count is 5000 or more; 'start: Day': --day is 3600000 or more
   commands 1:5: Number line 1, column 5 of COMMANDS has no number in range; 'Expected': another
                        word is expected there; 'Byte': a character that no command file has
-  commands changed     COMMANDS is read twice, and was another text the second time; this comes
-                       behind the lines of the commands that were carried out
 
 Example: a plan stopped at line 9, then stepped through the swap that contact 3 causes
   printf 'break 9 run 100 contact 3 closed run 2 next' > day.commands
@@ -76,9 +67,7 @@ Exit status:
   2  the command line is wrong";
 
 /// The command `debug`.
-pub(crate) fn grammar<'a>(alloc: Global) -> Result<Grammar<'a>, AllocError>
-    ensures { IfOk result (λ g. Describes g.command (only debug)) }
-{
+pub(crate) fn grammar<'a>(alloc: Global) -> Result<Grammar<'a>, AllocError> {
     Grammar::of_command(alloc, PAGE)
         .argument(file("code", "CODE", "The code file"))?
         .argument(file("commands", "COMMANDS", "The command file"))?
@@ -89,10 +78,7 @@ pub(crate) fn grammar<'a>(alloc: Global) -> Result<Grammar<'a>, AllocError>
 }
 
 /// Reads the arguments of `debug`.
-pub(crate) fn request<'a>(values: &Values<'_, 'a>) -> Result<Request<'a>, UsageError<'a>>
-    ensures asked { IfOk result (Asks (codes "debug") (rows_in values.now)) }
-    ensures refused { IfErr result (RefusesDebug (rows_in values.now)) }
-{
+pub(crate) fn request<'a>(values: &Values<'_, 'a>) -> Result<Request<'a>, UsageError<'a>> {
     let start = start_options(values)?;
     Ok(Request::Debug(DebugRequest {
         code: values.some_text("code")?,

@@ -1,14 +1,7 @@
 //! The command line of `diff`.
 
-ghost use Rattle.std.specs.Prelude.{IfErr, IfOk, codes};
-ghost use Rattle.cli.specs.Given.{rows_in};
-ghost use Rattle.cli.specs.Grammar.{Describes};
-ghost use Rattle.cli.specs.Program.{only, diff};
-ghost use Rattle.cli.specs.Refusals.{RefusesDiff};
-ghost use Rattle.cli.specs.Requests.{Asks};
-
 use crate::args::parser::{Grammar, Page, Values};
-use crate::args::shared::file;
+use crate::args::shared::{explanation_on_error, file, quiet};
 use crate::args::{Request, UsageError};
 use cli_scripts::diff::DiffRequest;
 use std::alloc::{AllocError, Global};
@@ -28,13 +21,15 @@ FROM and TO are scripts, of which only the configurations that they begin with a
 plan begins with that of FROM and reaches that of TO by one reconfiguration: the edits between them,
 a commit and a join. 'dabplan compile' accepts it.";
 
-const USAGE: &str = "dabplan diff <FROM> <TO>";
+const USAGE: &str = "dabplan diff <FROM> <TO> [--quiet]";
 
 const AFTER: &str = "\
 The plan has the header of TO, its reserve included, and announces the swap for the notice of TO. No
 frame has more instructions than the budget of TO.
 
-The line of a refusal:
+The line of a refusal goes to standard error, and so does that of a mistake in the command line:
+standard output has a plan or nothing. What is wrong with a script follows there, as with 'compile',
+unless --quiet leaves it out:
   now.plan:7:7: NameUnknown     line 7, column 7 of FROM or TO: no script, as 'dabplan help compile'
                                 says
   now.plan: refused line 9: Edit IdUsed
@@ -60,24 +55,24 @@ Exit status:
   2  the command line is wrong";
 
 /// The command `diff`.
-pub(crate) fn grammar<'a>(alloc: Global) -> Result<Grammar<'a>, AllocError>
-    ensures { IfOk result (λ g. Describes g.command (only diff)) }
-{
+pub(crate) fn grammar<'a>(alloc: Global) -> Result<Grammar<'a>, AllocError> {
     Grammar::of_command(alloc, PAGE)
         .argument(file(
             "from",
             "FROM",
             "The script with the configuration to start from",
         ))?
-        .argument(file("to", "TO", "The script with the configuration to reach"))
+        .argument(file("to", "TO", "The script with the configuration to reach"))?
+        .argument(quiet())
 }
 
 /// Reads the arguments of `diff`.
-pub(crate) fn request<'a>(values: &Values<'_, 'a>) -> Result<Request<'a>, UsageError<'a>>
-    ensures asked { IfOk result (Asks (codes "diff") (rows_in values.now)) }
-    ensures refused { IfErr result (RefusesDiff (rows_in values.now)) }
-{
+pub(crate) fn request<'a>(values: &Values<'_, 'a>) -> Result<Request<'a>, UsageError<'a>> {
     let from = values.some_text("from")?;
     let to = values.some_text("to")?;
-    Ok(Request::Diff(DiffRequest { from, to }))
+    Ok(Request::Diff(DiffRequest {
+        from,
+        to,
+        explanation: explanation_on_error(values),
+    }))
 }

@@ -1,14 +1,9 @@
 //! The command line of `frame`, for a record or a script.
 
-ghost use Rattle.std.specs.Prelude.{◌≡◌, IfErr, IfOk, codes, true, pos, None};
-ghost use Rattle.cli.specs.Given.{HasFlag, rows_in};
-ghost use Rattle.cli.specs.Grammar.{Describes, bound, flag, number, required, rule_for, text};
-ghost use Rattle.cli.specs.Program.{only, frame};
-ghost use Rattle.cli.specs.Refusals.{RefusesFrame};
-ghost use Rattle.cli.specs.Requests.{Asks};
-
 use crate::args::parser::{Argument, Grammar, Kind, Page, Rule, Values};
-use crate::args::shared::{file, flag, layout_of, mode, number, reserve, with_rule};
+use crate::args::shared::{
+    explanation_on_error, file, flag, layout_of, mode, number, quiet, reserve, with_rule,
+};
 use crate::args::{Request, UsageError};
 use cli_scripts::frame_script::FrameScriptRequest;
 use cli_streams::frame::FrameRequest;
@@ -35,7 +30,7 @@ more than one frame, --page picks the frame.";
 const USAGE: &str = "\
 dabplan frame <CONFIG> --ensemble <HHHH> --count <N> [--page <K>] [--mode <M>]
                      [--reserve <R>] [--raw]
-       dabplan frame <SCRIPT> --script --count <N> [--page <K>] [--raw]";
+       dabplan frame <SCRIPT> --script --count <N> [--page <K>] [--raw] [--quiet]";
 
 const AFTER: &str = "\
 The record, field by field (in brackets the bytes of a field, its high byte first):
@@ -57,7 +52,8 @@ With --reserve the last FIBs of the frame stay empty, for labels and other FIGs 
 
 With --script the frame is one of the configuration that a script begins with, for the ensemble, in
 the transmission mode and with the reserve of the script. With --raw the FIBs are written as bytes,
-which 'dabplan listen -' reads.
+which 'dabplan listen -' reads. With either of them standard output has FIBs or nothing: the line of
+a refusal goes to standard error.
 
 The line of a refusal:
   record: Field 4               the field that begins at byte 4, counted from 0, is out of range;
@@ -84,9 +80,7 @@ Exit status:
   2  the command line is wrong";
 
 /// The command `frame`.
-pub(crate) fn grammar<'a>(alloc: Global) -> Result<Grammar<'a>, AllocError>
-    ensures { IfOk result (λ g. Describes g.command (only frame)) }
-{
+pub(crate) fn grammar<'a>(alloc: Global) -> Result<Grammar<'a>, AllocError> {
     let config_help = "The configuration record or script: a file, or '-' for standard input";
     let page_help = "Which frame of a configuration that needs more than one, from 0";
     Grammar::of_command(alloc, PAGE)
@@ -97,13 +91,12 @@ pub(crate) fn grammar<'a>(alloc: Global) -> Result<Grammar<'a>, AllocError>
         .argument(mode())?
         .argument(with_rule(reserve(), Rule::Excludes("script")))?
         .argument(script())?
-        .argument(flag("raw", "Writes the FIBs as bytes, not as hexadecimal digits"))
+        .argument(flag("raw", "Writes the FIBs as bytes, not as hexadecimal digits"))?
+        .argument(with_rule(quiet(), Rule::Needs("script")))
 }
 
 /// The ensemble identifier; a script has its own.
-fn ensemble() -> Argument
-    ensures { rule_for result ≡ bound (text (codes "ensemble") None) }
-{
+fn ensemble() -> Argument {
     Argument {
         name: "ensemble",
         value_name: "HHHH",
@@ -114,26 +107,19 @@ fn ensemble() -> Argument
 }
 
 /// The CIF count of the frame.
-fn count() -> Argument
-    ensures { rule_for result ≡ required (number (codes "count") (pos 0) (pos 4999) None) }
-{
+fn count() -> Argument {
     let help = "The CIF count of the frame, 0 to 4999; decides whether FIG 0/0 is in the frame";
     with_rule(number("count", "N", 0, 4999, None, help), Rule::Required)
 }
 
 /// The option that reads a script rather than a record.
-fn script() -> Argument
-    ensures { rule_for result ≡ bound (flag (codes "script")) }
-{
+fn script() -> Argument {
     let help = "CONFIG is a script, which also gives the ensemble and the mode";
     with_rule(flag("script", help), Rule::ExcludesBoth("ensemble", "mode"))
 }
 
 /// Reads the arguments of `frame`.
-pub(crate) fn request<'a>(values: &Values<'_, 'a>) -> Result<Request<'a>, UsageError<'a>>
-    ensures asked { IfOk result (Asks (codes "frame") (rows_in values.now)) }
-    ensures refused { IfErr result (RefusesFrame (rows_in values.now)) }
-{
+pub(crate) fn request<'a>(values: &Values<'_, 'a>) -> Result<Request<'a>, UsageError<'a>> {
     if values.flag("script") {
         return script_request(values);
     }
@@ -161,15 +147,12 @@ pub(crate) fn request<'a>(values: &Values<'_, 'a>) -> Result<Request<'a>, UsageE
 }
 
 /// Reads the arguments of `frame --script`.
-fn script_request<'a>(values: &Values<'_, 'a>) -> Result<Request<'a>, UsageError<'a>>
-    requires { HasFlag (rows_in values.now) (codes "script") true }
-    ensures asked { IfOk result (Asks (codes "frame") (rows_in values.now)) }
-    ensures refused { IfErr result (RefusesFrame (rows_in values.now)) }
-{
+fn script_request<'a>(values: &Values<'_, 'a>) -> Result<Request<'a>, UsageError<'a>> {
     Ok(Request::FrameScript(FrameScriptRequest {
         script: values.some_text("config")?,
         count: values.some_u16("count")?,
         page: values.some_u16("page")?,
         raw: values.flag("raw"),
+        explanation: explanation_on_error(values),
     }))
 }

@@ -1,7 +1,7 @@
 //! The help of the program as a whole.
 
 /// The version of the program, as CHANGELOG.md counts.
-pub(crate) const VERSION: &str = "0.2.0";
+pub(crate) const VERSION: &str = "0.3.0";
 
 pub(crate) const PROGRAM: &str = "\
 Generates, decodes, checks and plans DAB multiplex reconfigurations: changes of the sub-channels,
@@ -29,6 +29,8 @@ What the commands read and write:
   live     plays a code file over lines on standard input as they come, and writes the FIBs of each
            line's frames to standard output before it reads the next line
 'dabplan help COMMAND' explains a command: its options, each line that it prints, and examples.
+'dabplan help CAUSE' says what the cause of a refusal means, and what to do about it, as
+'dabplan help Pending'.
 
 Example: a plan for the night, compiled, and played for the half hour from a quarter to ten
   dabplan compile examples/night_rate.plan night.code
@@ -39,4 +41,5 @@ Example: a plan for the night, compiled, and played for the half hour from a qua
 Exit status:
   0  done, or help was asked for
   1  refused: the one line printed says what is wrong with the input, or which file can't be read
-  2  the command line is wrong";
+  2  the command line is wrong
+  3  'check' found faults in the stream";

@@ -1,12 +1,5 @@
 //! The command line of `listen`, whose result is a listing or a script.
 
-ghost use Rattle.std.specs.Prelude.{◌≡◌, IfErr, IfOk, codes, true, pos, None, Some};
-ghost use Rattle.cli.specs.Given.{HasFlag, rows_in};
-ghost use Rattle.cli.specs.Grammar.{Describes, bound, number, rule_for};
-ghost use Rattle.cli.specs.Program.{listen, mode, only};
-ghost use Rattle.cli.specs.Refusals.{RefusesListen};
-ghost use Rattle.cli.specs.Requests.{Asks};
-
 use crate::args::parser::{Argument, Grammar, Page, Rule, Values};
 use crate::args::shared::{file, flag, layout_of, number, reserve, with_rule};
 use crate::args::{Request, UsageError};
@@ -34,7 +27,7 @@ is announced.";
 const USAGE: &str = "\
 dabplan listen <FILE> [--json]
        dabplan listen <FILE> --script [--mode <M>] [--period <P>] [--notice <W>] [--budget <B>]
-                     [--reserve <R>]";
+                     [--reserve <R>] [--next]";
 
 const AFTER: &str = "\
 The lines:
@@ -57,12 +50,16 @@ kbit/s there, where it has one:
 
 With --script the current configuration is printed as a script, which 'dabplan frame --script' turns
 into FIBs again. Its EId is that of the last FIG 0/0; mode, period, notice, budget and reserve are
-those of the options.
+those of the options. Standard output has a script or nothing then: the line of a refusal goes to
+standard error. While a swap is announced, standard error says so:
+  air.fib: swap announced, at low 2: this is the configuration before it
+With --next it is the script of the configuration that the swap makes the current one.
 
 The line of a refusal:
   refused: not whole FIBs             the length of the file is not a multiple of 32 bytes
   refused: Full                       a configuration has more than 64 services or packet components
   refused: no ensemble                with --script: there is no FIG 0/0
+  refused: no swap is announced       with --next
   refused: cannot be written: sub 2 at 96 switch 0 table 35
                                       with --script: the first entry that no script can express
 
@@ -79,12 +76,12 @@ Exit status:
   2  the command line is wrong";
 
 /// The command `listen`.
-pub(crate) fn grammar<'a>(alloc: Global) -> Result<Grammar<'a>, AllocError>
-    ensures { IfOk result (λ g. Describes g.command (only listen)) }
-{
+pub(crate) fn grammar<'a>(alloc: Global) -> Result<Grammar<'a>, AllocError> {
     let file_help = "The file of FIBs, or '-' for standard input";
     let json_help = "Prints one object of JSON instead of lines";
     let script_help = "Prints the current configuration as a script";
+    let next_help =
+        "Prints the next configuration, which a swap is announced for, not the current one";
     Grammar::of_command(alloc, PAGE)
         .argument(file("file", "FILE", file_help))?
         .argument(with_rule(flag("json", json_help), Rule::Excludes("script")))?
@@ -93,13 +90,15 @@ pub(crate) fn grammar<'a>(alloc: Global) -> Result<Grammar<'a>, AllocError>
         .argument(period())?
         .argument(notice())?
         .argument(budget())?
-        .argument(with_rule(reserve(), Rule::NeedsWithout("script", "json")))
+        .argument(with_rule(reserve(), Rule::NeedsWithout("script", "json")))?
+        .argument(with_rule(
+            flag("next", next_help),
+            Rule::NeedsWithout("script", "json"),
+        ))
 }
 
 /// The transmission mode of the printed script.
-fn mode() -> Argument
-    ensures { rule_for result ≡ bound mode }
-{
+fn mode() -> Argument {
     let help = "The transmission mode of the script, 1 to 4, which FIBs do not carry";
     with_rule(
         number("mode", "M", 1, 4, Some("1"), help),
@@ -108,9 +107,7 @@ fn mode() -> Argument
 }
 
 /// The period of the printed script.
-fn period() -> Argument
-    ensures { rule_for result ≡ bound (number (codes "period") (pos 1) (pos 60) None) }
-{
+fn period() -> Argument {
     let help =
         "The period of the script in frames, 1 to 60 [default: room for two such configurations]";
     with_rule(
@@ -120,10 +117,7 @@ fn period() -> Argument
 }
 
 /// The notice of the printed script.
-fn notice() -> Argument
-    ensures { rule_for result
-        ≡ bound (number (codes "notice") (pos 12) (pos 248) (Some (codes "240"))) }
-{
+fn notice() -> Argument {
     let help = "The notice of the script in frames, 12 to 248";
     let shortest = i64::from(SHORTEST_NOTICE);
     let longest = i64::from(LONGEST_NOTICE);
@@ -134,10 +128,7 @@ fn notice() -> Argument
 }
 
 /// The budget of the printed script.
-fn budget() -> Argument
-    ensures { rule_for result
-        ≡ bound (number (codes "budget") (pos 1) (pos 255) (Some (codes "20"))) }
-{
+fn budget() -> Argument {
     let help = "The budget of the script in instructions per frame, 1 to 255";
     with_rule(
         number("budget", "B", 1, 255, Some("20"), help),
@@ -146,10 +137,7 @@ fn budget() -> Argument
 }
 
 /// Reads the arguments of `listen`.
-pub(crate) fn request<'a>(values: &Values<'_, 'a>) -> Result<Request<'a>, UsageError<'a>>
-    ensures asked { IfOk result (Asks (codes "listen") (rows_in values.now)) }
-    ensures refused { IfErr result (RefusesListen (rows_in values.now)) }
-{
+pub(crate) fn request<'a>(values: &Values<'_, 'a>) -> Result<Request<'a>, UsageError<'a>> {
     if values.flag("script") {
         return script_request(values);
     }
@@ -160,11 +148,7 @@ pub(crate) fn request<'a>(values: &Values<'_, 'a>) -> Result<Request<'a>, UsageE
 }
 
 /// Reads the arguments of `listen --script`.
-fn script_request<'a>(values: &Values<'_, 'a>) -> Result<Request<'a>, UsageError<'a>>
-    requires { HasFlag (rows_in values.now) (codes "script") true }
-    ensures asked { IfOk result (Asks (codes "listen") (rows_in values.now)) }
-    ensures refused { IfErr result (RefusesListen (rows_in values.now)) }
-{
+fn script_request<'a>(values: &Values<'_, 'a>) -> Result<Request<'a>, UsageError<'a>> {
     let file = values.some_text("file")?;
     let layout = layout_of(values)?;
     let period = match values.number("period") {
@@ -177,5 +161,6 @@ fn script_request<'a>(values: &Values<'_, 'a>) -> Result<Request<'a>, UsageError
         period,
         notice: values.some_u8("notice")?,
         budget: values.some_u8("budget")?,
+        is_next: values.flag("next"),
     }))
 }

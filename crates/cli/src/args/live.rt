@@ -1,12 +1,5 @@
 //! The command line of `live`.
 
-ghost use Rattle.std.specs.Prelude.{◌≡◌, IfErr, IfOk, codes, pos, None, Some};
-ghost use Rattle.cli.specs.Given.{rows_in};
-ghost use Rattle.cli.specs.Grammar.{Describes, number, rule_for};
-ghost use Rattle.cli.specs.Program.{only, live};
-ghost use Rattle.cli.specs.Refusals.{RefusesLive};
-ghost use Rattle.cli.specs.Requests.{AsksLive};
-
 use crate::args::UsageError;
 use crate::args::parser::{Argument, Grammar, Page, Values};
 use crate::args::shared::{file, flag, number};
@@ -82,9 +75,7 @@ Exit status:
   2  the command line is wrong";
 
 /// The command `live`.
-pub(crate) fn grammar<'a>(alloc: Global) -> Result<Grammar<'a>, AllocError>
-    ensures { IfOk result (λ g. Describes g.command (only live)) }
-{
+pub(crate) fn grammar<'a>(alloc: Global) -> Result<Grammar<'a>, AllocError> {
     let status_help =
         "Reports each notice that begins, each swap and the end of the plan on standard error";
     let json_help = "Writes each message on standard error as an object of JSON";
@@ -101,26 +92,19 @@ pub(crate) fn grammar<'a>(alloc: Global) -> Result<Grammar<'a>, AllocError>
 }
 
 /// The option for the number of frames after which one is reported.
-fn every() -> Argument
-    ensures { rule_for result ≡ number (codes "every") (pos 1) (pos 4294967295) None }
-{
+fn every() -> Argument {
     let help = "Reports on standard error the last of each N frames, 1 to 4294967295";
     number("every", "N", 1, 4294967295, None, help)
 }
 
 /// The option for the number of frames to skip.
-fn skip() -> Argument
-    ensures { rule_for result ≡ number (codes "skip") (pos 0) (pos 4294967295) (Some (codes "0")) }
-{
+fn skip() -> Argument {
     let help = "How many frames at the beginning are played but not written, 0 to 4294967295";
     number("skip", "N", 0, 4294967295, Some("0"), help)
 }
 
 /// Reads the arguments of `live`.
-pub(crate) fn request<'a>(values: &Values<'_, 'a>) -> Result<LiveRequest<'a>, UsageError<'a>>
-    ensures asked { IfOk result (AsksLive (rows_in values.now)) }
-    ensures refused { IfErr result (RefusesLive (rows_in values.now)) }
-{
+pub(crate) fn request<'a>(values: &Values<'_, 'a>) -> Result<LiveRequest<'a>, UsageError<'a>> {
     let start = start_options(values)?;
     Ok(LiveRequest {
         code: values.some_text("code")?,

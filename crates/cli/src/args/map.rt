@@ -1,14 +1,7 @@
 //! The command line of `map`.
 
-ghost use Rattle.std.specs.Prelude.{◌≡◌, IfErr, IfOk, codes, None};
-ghost use Rattle.cli.specs.Given.{rows_in};
-ghost use Rattle.cli.specs.Grammar.{Describes, rule_for, text};
-ghost use Rattle.cli.specs.Program.{only, map};
-ghost use Rattle.cli.specs.Refusals.{RefusesMap};
-ghost use Rattle.cli.specs.Requests.{Asks};
-
 use crate::args::parser::{Argument, Grammar, Kind, Page, Rule, Values};
-use crate::args::shared::{file, flag};
+use crate::args::shared::{explanation_on_error, file, flag, quiet};
 use crate::args::{Request, UsageError};
 use cli_scripts::map::MapRequest;
 use std::alloc::{AllocError, Global};
@@ -28,7 +21,7 @@ Prints the configuration that the script begins with, and that of each commit, i
 script. With --svg the same is drawn to scale, as a document that any browser shows. With --layout
 the one layout of sub-channels is printed that serves all of them.";
 
-const USAGE: &str = "dabplan map <SCRIPT> [--svg <OUT>] [--layout]";
+const USAGE: &str = "dabplan map <SCRIPT> [--svg <OUT>] [--layout] [--quiet]";
 
 const AFTER: &str = "\
 The lines (shortened here):
@@ -64,7 +57,9 @@ the script; the status stays as it is:
   night.plan:9: warning: no component names sub 3
                        also: audio under an SId of 32 bits; a commit that gives a service another
                        primary component; a plan that begins with 'until'; a block of which no
-                       statement is reached
+                       statement is reached; 'until' directly behind 'wait contact', and for a
+                       time that is past when the plan comes to it
+There it says too what is wrong with a refused script, as 'compile' does; --quiet leaves both out.
 
 In the drawing each sub-channel keeps its colour in all rows, and has its number, kbit/s and
 protection in it; what is changed from the row above is framed in red, also where a service moves
@@ -80,22 +75,19 @@ Exit status:
   2  the command line is wrong";
 
 /// The command `map`.
-pub(crate) fn grammar<'a>(alloc: Global) -> Result<Grammar<'a>, AllocError>
-    ensures { IfOk result (λ g. Describes g.command (only map)) }
-{
+pub(crate) fn grammar<'a>(alloc: Global) -> Result<Grammar<'a>, AllocError> {
     Grammar::of_command(alloc, PAGE)
-        .argument(file("script", "SCRIPT", "The script"))?
+        .argument(file("script", "SCRIPT", "The script, or '-' for standard input"))?
         .argument(drawing())?
         .argument(flag(
             "layout",
             "Prints the one layout that serves every configuration",
-        ))
+        ))?
+        .argument(quiet())
 }
 
 /// The option for the drawing.
-fn drawing() -> Argument
-    ensures { rule_for result ≡ text (codes "svg") None }
-{
+fn drawing() -> Argument {
     Argument {
         name: "svg",
         value_name: "OUT",
@@ -106,24 +98,16 @@ fn drawing() -> Argument
 }
 
 /// Reads the arguments of `map`.
-pub(crate) fn request<'a>(values: &Values<'_, 'a>) -> Result<Request<'a>, UsageError<'a>>
-    ensures asked { IfOk result (Asks (codes "map") (rows_in values.now)) }
-    ensures refused { IfErr result (RefusesMap (rows_in values.now)) }
-{
+pub(crate) fn request<'a>(values: &Values<'_, 'a>) -> Result<Request<'a>, UsageError<'a>> {
     let script = values.some_text("script")?;
     let drawing = values.text("svg");
-    if let Some(path) = drawing {
-        if path == script {
-            return Err(UsageError::SameFile {
-                input: "SCRIPT",
-                output: "--svg <OUT>",
-                path,
-            });
-        }
+    if drawing == Some("-") {
+        return Err(UsageError::DrawingOutput);
     }
     Ok(Request::Map(MapRequest {
         script,
         drawing,
         layout: values.flag("layout"),
+        explanation: explanation_on_error(values),
     }))
 }

@@ -1,12 +1,5 @@
 //! The command line of `merge`.
 
-ghost use Rattle.std.specs.Prelude.{IfErr, IfOk};
-ghost use Rattle.cli.specs.Given.{rows_in};
-ghost use Rattle.cli.specs.Grammar.{Describes};
-ghost use Rattle.cli.specs.Program.{only, merge};
-ghost use Rattle.cli.specs.Refusals.{RefusesMerge};
-ghost use Rattle.cli.specs.Requests.{AsksMerge};
-
 use crate::args::UsageError;
 use crate::args::parser::{Grammar, Page, Values};
 use crate::args::shared::{file, mode, some_mode};
@@ -32,18 +25,21 @@ each frame free for them. A receiver, and 'dabplan check', find in them what the
 
 For each frame of PLAN one of OTHER is read, as long as there is one. Its FIGs wait until there is
 room for them, the one that has waited longest first, 256 at most. FIG 0/0 to 0/3 and FIG 0/7 of
-the ensemble itself are left out, and a FIG of which a copy waits already. All frames so far are
-written before more of either file is read. All messages go to standard error.";
+the ensemble itself are left out, and a FIG of which a copy waits already. A FIG that names a
+service, a component or a sub-channel that the plan has not when its turn comes is stale, and left
+out. All frames so far are written before more of either file is read. All messages go to standard
+error.";
 
 const USAGE: &str = "dabplan merge <PLAN> <OTHER> [--mode <M>]";
 
 const AFTER: &str = "\
 The messages:
-  frames 252 carried 500 waiting 3 dropped 0 damaged 0
+  frames 252 carried 500 waiting 3 dropped 0 stale 0 damaged 0
                                the last line. carried: FIGs of OTHER that were sent; waiting: FIGs
                                for which there was no room yet; dropped: FIGs that came while 256
-                               others waited; damaged: FIBs of both that have a wrong CRC or no
-                               whole FIGs. Those of PLAN stay as they are
+                               others waited; stale: FIGs that name what the plan has not;
+                               damaged: FIBs of both that have a wrong CRC or no whole FIGs. Those
+                               of PLAN stay as they are
   mux.fic: not whole frames    the file ends within a frame. If it is PLAN, the frames before are
                                written; if it is OTHER, the run goes on without it
   cannot read mux.fic          the file can't be read. If it is OTHER, and was read so far, the run
@@ -64,9 +60,7 @@ Exit status:
   2  the command line is wrong";
 
 /// The command `merge`.
-pub(crate) fn grammar<'a>(alloc: Global) -> Result<Grammar<'a>, AllocError>
-    ensures { IfOk result (λ g. Describes g.command (only merge)) }
-{
+pub(crate) fn grammar<'a>(alloc: Global) -> Result<Grammar<'a>, AllocError> {
     let plan_help = "The file of the plan's frames, or '-' for standard input";
     let other_help = "The file of the multiplexer's frames, or '-' for standard input";
     Grammar::of_command(alloc, PAGE)
@@ -76,10 +70,7 @@ pub(crate) fn grammar<'a>(alloc: Global) -> Result<Grammar<'a>, AllocError>
 }
 
 /// Reads the arguments of `merge`.
-pub(crate) fn request<'a>(values: &Values<'_, 'a>) -> Result<MergeRequest<'a>, UsageError<'a>>
-    ensures asked { IfOk result (AsksMerge (rows_in values.now)) }
-    ensures refused { IfErr result (RefusesMerge (rows_in values.now)) }
-{
+pub(crate) fn request<'a>(values: &Values<'_, 'a>) -> Result<MergeRequest<'a>, UsageError<'a>> {
     let plan = values.some_text("plan")?;
     let other = values.some_text("other")?;
     if plan == "-" && other == "-" {

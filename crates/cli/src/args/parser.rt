@@ -1,13 +1,5 @@
 //! The command-line grammar and its parsed values. Only this file names the kit's parser, `clap`.
 
-ghost use Rattle.std.specs.Prelude.{◌≡◌, IfErr, IfOk, List, ℕ, map, option_map, false, true};
-ghost use Rattle.clap.specs.Words.{App, Rule as RuleOf, rule_of, new_app, with_rule};
-ghost use Rattle.clap.specs.Words.{HasMatchesOf, with_subcommand};
-ghost use Rattle.cli.specs.Asked.{IsAsked, IsHelpWord};
-ghost use Rattle.cli.specs.Grammar.{Describes, dependent, new_program, parser_between};
-ghost use Rattle.cli.specs.Grammar.{plain_rule, rule_for, with_default};
-ghost use Rattle.cli.specs.Refusals.{IsReported, IsUnparsed};
-
 use crate::args::UsageError;
 use clap::builder::ValueParser;
 use clap::error::ErrorKind;
@@ -56,6 +48,8 @@ pub(crate) enum Rule {
     /// It requires the first, and conflicts with the second. Where those two conflict with each other, the parser would
     /// else waive the first.
     NeedsWithout(&'static str, &'static str),
+    /// It requires this one.
+    Needs(&'static str),
     /// It conflicts with this one.
     Excludes(&'static str),
     /// It conflicts with both of these.
@@ -93,9 +87,7 @@ impl<'a> Grammar<'a> {
         about: &'static str,
         after: &'static str,
         usage: &'static str,
-    ) -> Self
-        ensures { Describes result.command (new_program name.now) }
-    {
+    ) -> Self {
         let command = Command::new(alloc, name)
             .no_binary_name(true)
             .version(version)
@@ -106,9 +98,7 @@ impl<'a> Grammar<'a> {
     }
 
     /// The grammar of a command, before its arguments are added.
-    pub fn of_command(alloc: Global, page: Page) -> Self
-        ensures { Describes result.command (new_app page.name.now) }
-    {
+    pub fn of_command(alloc: Global, page: Page) -> Self {
         let command = Command::new(alloc, page.name)
             .about(page.about)
             .long_about(page.long_about)
@@ -118,20 +108,14 @@ impl<'a> Grammar<'a> {
     }
 
     /// Adds a command.
-    pub fn command(self, other: Grammar<'a>) -> Result<Self, AllocError>
-        ensures { IfOk result (λ g. (a b : App) → Describes self.entry.command a
-            → Describes other.entry.command b → Describes g.command (with_subcommand a b.top)) }
-    {
+    pub fn command(self, other: Grammar<'a>) -> Result<Self, AllocError> {
         let alloc = self.alloc;
         let command = self.command.subcommand(other.command)?;
         Ok(Grammar { alloc, command })
     }
 
     /// Adds an argument.
-    pub fn argument(self, argument: Argument) -> Result<Self, AllocError>
-        ensures { IfOk result (λ g. (a : App) (r : RuleOf) → Describes self.entry.command a
-            → rule_for argument ≡ r → Describes g.command (with_rule a r)) }
-    {
+    pub fn argument(self, argument: Argument) -> Result<Self, AllocError> {
         let alloc = self.alloc;
         let arg = with_rule(arg_of(alloc, argument), argument.rule)?;
         let command = self.command.arg(arg)?;
@@ -139,14 +123,7 @@ impl<'a> Grammar<'a> {
     }
 
     /// Parses a command line. Help on `help` is help: `help -h` and `help help` are `help`.
-    pub fn parsed<S: AsStr>(self, args: &'a [S]) -> Result<Parsed<'a>, UsageError<'a>>
-        ensures found { IfOk result (λ p. (a : App) → Describes self.entry.command a
-            → (asked : List (List ℕ)) × IsAsked (map S.text args.entry.now) asked
-            × HasMatchesOf a asked p.matches) }
-        ensures refused { IfErr result (λ error. (a : App) → Describes self.entry.command a
-            → (asked : List (List ℕ)) × IsAsked (map S.text args.entry.now) asked
-            × IsUnparsed a asked error) }
-    {
+    pub fn parsed<S: AsStr>(self, args: &'a [S]) -> Result<Parsed<'a>, UsageError<'a>> {
         match self
             .command
             .try_get_matches_from(without_help_of_help(args))
@@ -158,9 +135,7 @@ impl<'a> Grammar<'a> {
 }
 
 /// The arguments without the last one, where it asks for help after `help`.
-fn without_help_of_help<S: AsStr>(args: &[S]) -> &[S]
-    ensures { IsAsked (map S.text args.now) (map S.text result.now) }
-{
+fn without_help_of_help<S: AsStr>(args: &[S]) -> &[S] {
     let Some((last, rest)) = args.split_last() else {
         return args;
     };
@@ -175,17 +150,12 @@ fn without_help_of_help<S: AsStr>(args: &[S]) -> &[S]
 }
 
 /// Whether this argument asks for help.
-fn asks_for_help(arg: &str) -> bool
-    ensures { result ≡ true → IsHelpWord arg.now }
-{
+fn asks_for_help(arg: &str) -> bool {
     matches!(arg, "help" | "-h" | "--help")
 }
 
 /// An argument, without its dependence on others.
-fn arg_of<'a>(alloc: Global, argument: Argument) -> Arg<'a>
-    ensures rule { rule_of result ≡ plain_rule argument.name.now argument.kind }
-    ensures local { result.global ≡ false }
-{
+fn arg_of<'a>(alloc: Global, argument: Argument) -> Arg<'a> {
     let arg = Arg::new(alloc, argument.name).help(argument.help);
     match argument.kind {
         Kind::Operand => arg.value_name(argument.value_name).required(true),
@@ -202,16 +172,12 @@ fn arg_of<'a>(alloc: Global, argument: Argument) -> Arg<'a>
 }
 
 /// What a number from the lowest to the highest has to be.
-fn between<'a>(lowest: i64, highest: i64) -> ValueParser<'a>
-    ensures { result ≡ parser_between lowest highest }
-{
+fn between<'a>(lowest: i64, highest: i64) -> ValueParser<'a> {
     value_parser!(u32).range(lowest..=highest)
 }
 
 /// Adds a default value.
-fn with_default<'a>(arg: Arg<'a>, default: Option<&'static str>) -> Arg<'a>
-    ensures { result ≡ with_default arg.entry default.entry }
-{
+fn with_default<'a>(arg: Arg<'a>, default: Option<&'static str>) -> Arg<'a> {
     match default {
         Some(default) => arg.default_value(default),
         None => arg,
@@ -219,15 +185,13 @@ fn with_default<'a>(arg: Arg<'a>, default: Option<&'static str>) -> Arg<'a>
 }
 
 /// Adds the dependence on other arguments.
-fn with_rule<'a>(arg: Arg<'a>, rule: Rule) -> Result<Arg<'a>, AllocError>
-    ensures rule { IfOk result (λ a. rule_of a ≡ dependent rule (rule_of arg.entry)) }
-    ensures local { IfOk result (λ a. a.global ≡ arg.entry.global) }
-{
+fn with_rule<'a>(arg: Arg<'a>, rule: Rule) -> Result<Arg<'a>, AllocError> {
     match rule {
         Rule::Free => Ok(arg),
         Rule::Required => Ok(arg.required(true)),
         Rule::RequiredUnless(other) => arg.required_unless_present(other),
         Rule::NeedsWithout(one, other) => arg.requires_arg(one)?.conflicts_with(other),
+        Rule::Needs(other) => arg.requires_arg(other),
         Rule::Excludes(other) => arg.conflicts_with(other),
         Rule::ExcludesBoth(one, other) => arg.conflicts_with(one)?.conflicts_with(other),
     }
@@ -240,14 +204,8 @@ pub(crate) struct Parsed<'a> {
 }
 
 impl<'a> Parsed<'a> {
-    ghost use Rattle.clap.specs.Words.{subcommand_rows_of};
-    ghost use Rattle.cli.specs.Given.{rows_in};
-
     /// Its command, with the values of the arguments; `None` if it names none.
-    pub fn command(&self) -> Option<(&'a str, Values<'_, 'a>)>
-        ensures { option_map (λ p. (p.0.now, rows_in p.1)) result
-            ≡ subcommand_rows_of self.now.matches }
-    {
+    pub fn command(&self) -> Option<(&'a str, Values<'_, 'a>)> {
         let (name, matches) = self.matches.subcommand()?;
         Some((name, Values { matches }))
     }
@@ -260,25 +218,13 @@ pub(crate) struct Values<'m, 'a> {
 }
 
 impl<'m, 'a> Values<'m, 'a> {
-    ghost use Rattle.cli.specs.Given.{HasFlag, HasNumber, HasOptionalNumber, rows_in};
-    ghost use Rattle.cli.specs.Given.{HasOptionalText, HasText};
-    ghost use Rattle.cli.specs.Refusals.{GivesText};
-    ghost use Rattle.cli.specs.declared.args.UsageError.TheVariants.{Nothing};
-    ghost use Rattle.std.specs.Prelude.{◌<◌};
-
     /// The text of an argument; `None` if it has none.
-    pub fn text(&self, name: &'static str) -> Option<&'a str>
-        ensures { HasOptionalText (rows_in self.now) name.now result }
-    {
+    pub fn text(&self, name: &'static str) -> Option<&'a str> {
         self.matches.get_str(name)
     }
 
     /// The text of an argument that is required or has a default.
-    pub fn some_text(&self, name: &'static str) -> Result<&'a str, UsageError<'a>>
-        ensures text { IfOk result (λ text. HasText (rows_in self.now) name.now text.now) }
-        ensures none { IfErr result (λ error. (error ≡ Nothing)
-            × (GivesText (rows_in self.now) name.now → ⊥)) }
-    {
+    pub fn some_text(&self, name: &'static str) -> Result<&'a str, UsageError<'a>> {
         match self.text(name) {
             Some(text) => Ok(text),
             None => Err(UsageError::Nothing),
@@ -286,18 +232,12 @@ impl<'m, 'a> Values<'m, 'a> {
     }
 
     /// The number of an argument; `None` if it has none.
-    pub fn number(&self, name: &'static str) -> Option<u32>
-        ensures { HasOptionalNumber (rows_in self.now) name.now result }
-    {
+    pub fn number(&self, name: &'static str) -> Option<u32> {
         self.matches.get_one::<u32>(name)
     }
 
     /// The number of an argument that is required or has a default.
-    pub fn some_number(&self, name: &'static str) -> Result<u32, UsageError<'a>>
-        ensures number { IfOk result (HasNumber (rows_in self.now) name.now) }
-        ensures none { IfErr result (λ error. (error ≡ Nothing)
-            × ((n : ℕ) → HasNumber (rows_in self.now) name.now n → ⊥)) }
-    {
+    pub fn some_number(&self, name: &'static str) -> Result<u32, UsageError<'a>> {
         match self.number(name) {
             Some(number) => Ok(number),
             None => Err(UsageError::Nothing),
@@ -305,15 +245,8 @@ impl<'m, 'a> Values<'m, 'a> {
     }
 
     /// [`some_number`](Self::some_number), below 65,536.
-    pub fn some_u16(&self, name: &'static str) -> Result<u16, UsageError<'a>>
-        ensures number { IfOk result (HasNumber (rows_in self.now) name.now) }
-        ensures none { IfErr result (λ error. (error ≡ Nothing)
-            × ((n : ℕ) → HasNumber (rows_in self.now) name.now n → n < 65536 → ⊥)) }
-    {
-        let number = match self.some_number(name) {
-            Ok(number) => number,
-            Err(error) => return Err(error),
-        };
+    pub fn some_u16(&self, name: &'static str) -> Result<u16, UsageError<'a>> {
+        let number = self.some_number(name)?;
         match u16::try_from(number) {
             Ok(number) => Ok(number),
             Err(_) => Err(UsageError::Nothing),
@@ -321,15 +254,8 @@ impl<'m, 'a> Values<'m, 'a> {
     }
 
     /// [`some_number`](Self::some_number), below 256.
-    pub fn some_u8(&self, name: &'static str) -> Result<u8, UsageError<'a>>
-        ensures number { IfOk result (HasNumber (rows_in self.now) name.now) }
-        ensures none { IfErr result (λ error. (error ≡ Nothing)
-            × ((n : ℕ) → HasNumber (rows_in self.now) name.now n → n < 256 → ⊥)) }
-    {
-        let number = match self.some_number(name) {
-            Ok(number) => number,
-            Err(error) => return Err(error),
-        };
+    pub fn some_u8(&self, name: &'static str) -> Result<u8, UsageError<'a>> {
+        let number = self.some_number(name)?;
         match u8::try_from(number) {
             Ok(number) => Ok(number),
             Err(_) => Err(UsageError::Nothing),
@@ -337,9 +263,7 @@ impl<'m, 'a> Values<'m, 'a> {
     }
 
     /// Whether a flag is present.
-    pub fn flag(&self, name: &'static str) -> bool
-        ensures { HasFlag (rows_in self.now) name.now result }
-    {
+    pub fn flag(&self, name: &'static str) -> bool {
         self.matches.get_flag(name)
     }
 }
@@ -357,9 +281,7 @@ impl fmt::Display for Message {
 }
 
 /// What is reported of an error of the parser.
-fn usage_error<'a>(error: clap::Error) -> UsageError<'a>
-    ensures { IsReported error result }
-{
+fn usage_error<'a>(error: clap::Error) -> UsageError<'a> {
     match error.kind() {
         ErrorKind::OutOfMemory => UsageError::Memory,
         ErrorKind::DisplayHelp => UsageError::Help(Message { error }),

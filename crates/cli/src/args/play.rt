@@ -1,14 +1,7 @@
 //! The command line of `play`.
 
-ghost use Rattle.std.specs.Prelude.{IfErr, IfOk, codes};
-ghost use Rattle.cli.specs.Given.{rows_in};
-ghost use Rattle.cli.specs.Grammar.{Describes};
-ghost use Rattle.cli.specs.Program.{only, play};
-ghost use Rattle.cli.specs.Refusals.{RefusesPlay};
-ghost use Rattle.cli.specs.Requests.{Asks};
-
 use crate::args::parser::{Grammar, Page, Values};
-use crate::args::shared::{check_output, file};
+use crate::args::shared::file;
 use crate::args::start::{contacts, count, day, start_options, time};
 use crate::args::{Request, UsageError};
 use cli_plans::play::PlayRequest;
@@ -50,10 +43,6 @@ The line:
                                 file has
   write failed after 3 frames and 40 bytes
                                 this much of OUT was written: 3 frames, and 40 bytes of the next one
-  events changed after 7281 frames
-                                EVENTS is read twice, and was another text the second time
-  cannot read day.events after 7281 frames
-                                EVENTS could not be read to its end the second time
 
 OUT is created when all of these are found to be good. Where they are refused it stays as it was,
 and is created empty if there is none. '-' is standard output; the line then goes to standard error.
@@ -69,9 +58,7 @@ Exit status:
   2  the command line is wrong";
 
 /// The command `play`.
-pub(crate) fn grammar<'a>(alloc: Global) -> Result<Grammar<'a>, AllocError>
-    ensures { IfOk result (λ g. Describes g.command (only play)) }
-{
+pub(crate) fn grammar<'a>(alloc: Global) -> Result<Grammar<'a>, AllocError> {
     Grammar::of_command(alloc, PAGE)
         .argument(file("code", "CODE", "The code file"))?
         .argument(file("events", "EVENTS", "The event file"))?
@@ -83,16 +70,11 @@ pub(crate) fn grammar<'a>(alloc: Global) -> Result<Grammar<'a>, AllocError>
 }
 
 /// Reads the arguments of `play`.
-pub(crate) fn request<'a>(values: &Values<'_, 'a>) -> Result<Request<'a>, UsageError<'a>>
-    ensures asked { IfOk result (Asks (codes "play") (rows_in values.now)) }
-    ensures refused { IfErr result (RefusesPlay (rows_in values.now)) }
-{
+pub(crate) fn request<'a>(values: &Values<'_, 'a>) -> Result<Request<'a>, UsageError<'a>> {
     let start = start_options(values)?;
     let code = values.some_text("code")?;
     let events = values.some_text("events")?;
     let out = values.some_text("out")?;
-    check_output("OUT", out, "CODE", code)?;
-    check_output("OUT", out, "EVENTS", events)?;
     Ok(Request::Play(PlayRequest {
         code,
         events,

@@ -1,14 +1,5 @@
 //! The start options of `play`, `debug` and `live`: CIF count, time of day and contacts of the first frame.
 
-ghost use Rattle.std.specs.Prelude.{◌≡◌, ◌≢◌, ◌<◌, ℕ, None, IfErr, IfOk, IfSome};
-ghost use Rattle.script_tokens.specs.Spelling.{time_text};
-ghost use Rattle.script_tokens.specs.Times.{frame_at};
-ghost use Rattle.cli.specs.Given.{rows_in};
-ghost use Rattle.cli.specs.Grammar.{rule_for};
-ghost use Rattle.cli.specs.Program.{contacts, count, day, time};
-ghost use Rattle.cli.specs.Refusals.{RefusesDay, RefusesStart};
-ghost use Rattle.cli.specs.Requests.{HasDay, HasStart};
-
 use crate::args::UsageError;
 use crate::args::parser::{Argument, Kind, Rule, Values};
 use crate::args::shared::number;
@@ -18,25 +9,19 @@ use plan_session::StartOptions;
 use script_tokens::number as numbers;
 
 /// The CIF count of the first frame.
-pub(crate) fn count() -> Argument
-    ensures { rule_for result ≡ count }
-{
+pub(crate) fn count() -> Argument {
     let help = "The CIF count of the first frame, 0 to 4999";
     number("count", "N", 0, 65535, Some("0"), help)
 }
 
 /// The first frame's index in the day.
-pub(crate) fn day() -> Argument
-    ensures { rule_for result ≡ day }
-{
+pub(crate) fn day() -> Argument {
     let help = "The time of day of the first frame, in frames since midnight, 0 to 3599999";
     number("day", "N", 0, 4294967295, Some("0"), help)
 }
 
 /// The time of day at the first frame.
-pub(crate) fn time() -> Argument
-    ensures { rule_for result ≡ time }
-{
+pub(crate) fn time() -> Argument {
     Argument {
         name: "time",
         value_name: "HH:MM:SS",
@@ -47,9 +32,7 @@ pub(crate) fn time() -> Argument
 }
 
 /// The contacts that are closed at the start.
-pub(crate) fn contacts() -> Argument
-    ensures { rule_for result ≡ contacts }
-{
+pub(crate) fn contacts() -> Argument {
     Argument {
         name: "contacts",
         value_name: "HHHH",
@@ -60,10 +43,7 @@ pub(crate) fn contacts() -> Argument
 }
 
 /// Reads the start options.
-pub(crate) fn start_options<'a>(values: &Values<'_, 'a>) -> Result<StartOptions, UsageError<'a>>
-    ensures start { IfOk result (HasStart (rows_in values.now)) }
-    ensures refused { IfErr result (RefusesStart (rows_in values.now)) }
-{
+pub(crate) fn start_options<'a>(values: &Values<'_, 'a>) -> Result<StartOptions, UsageError<'a>> {
     let digits = values.some_text("contacts")?;
     let Some(contacts) = u16_of(digits) else {
         return Err(UsageError::Digits {
@@ -81,10 +61,7 @@ pub(crate) fn start_options<'a>(values: &Values<'_, 'a>) -> Result<StartOptions,
 }
 
 /// The first frame's index in the day, from `--time` or else from `--day`.
-fn day_option<'a>(values: &Values<'_, 'a>) -> Result<u32, UsageError<'a>>
-    ensures day { IfOk result (HasDay (rows_in values.now)) }
-    ensures refused { IfErr result (RefusesDay (rows_in values.now)) }
-{
+fn day_option<'a>(values: &Values<'_, 'a>) -> Result<u32, UsageError<'a>> {
     match values.text("time") {
         Some(text) => match day_at(text) {
             Some(day) => Ok(day),
@@ -95,11 +72,7 @@ fn day_option<'a>(values: &Values<'_, 'a>) -> Result<u32, UsageError<'a>>
 }
 
 /// The second of the day of the time `HH:MM:SS`; `None` if the text is not a time from 00:00:00 to 23:59:59.
-pub(crate) fn second_at(text: &str) -> Option<u32>
-    ensures range { IfSome result (λ second. second < 86400) }
-    ensures found { IfSome result (λ second. text.now ≡ time_text second) }
-    ensures none { result ≡ None → (second : ℕ) → second < 86400 → text.now ≢ time_text second }
-{
+pub(crate) fn second_at(text: &str) -> Option<u32> {
     match numbers::time(text.as_bytes()) {
         Some(time) => Some(time.seconds()),
         _ => None,
@@ -108,11 +81,7 @@ pub(crate) fn second_at(text: &str) -> Option<u32>
 
 /// The first frame of the day, in frames of 24 ms, that begins at or after the time `HH:MM:SS`, as a script's
 /// times are counted; `None` if the text is not a time from 00:00:00 to 23:59:59.
-pub fn day_at(text: &str) -> Option<u32>
-    ensures found { IfSome result (λ day. (second : ℕ) × (second < 86400)
-        × (text.now ≡ time_text second) × (day ≡ frame_at second)) }
-    ensures none { result ≡ None → (second : ℕ) → second < 86400 → text.now ≢ time_text second }
-{
+pub fn day_at(text: &str) -> Option<u32> {
     match numbers::time(text.as_bytes()) {
         Some(time) => Some(time.frame().get()),
         None => None,

@@ -1,14 +1,7 @@
 //! The command line of `verify`.
 
-ghost use Rattle.std.specs.Prelude.{IfErr, IfOk, codes};
-ghost use Rattle.cli.specs.Given.{rows_in};
-ghost use Rattle.cli.specs.Grammar.{Describes};
-ghost use Rattle.cli.specs.Program.{only, verify};
-ghost use Rattle.cli.specs.Refusals.{RefusesVerify};
-ghost use Rattle.cli.specs.Requests.{Asks};
-
-use crate::args::parser::{Grammar, Page, Values};
-use crate::args::shared::{explain, file};
+use crate::args::parser::{Grammar, Page, Rule, Values};
+use crate::args::shared::{explain, explanation, file, quiet, with_rule};
 use crate::args::{Request, UsageError};
 use cli_scripts::verify::VerifyRequest;
 use std::alloc::{AllocError, Global};
@@ -30,7 +23,7 @@ plan is refused and why. An accepted plan never goes wrong, whatever the contact
 configuration that it commits is sound, each swap can be announced in time and comes when it was
 announced, and no frame takes more instructions than the plan's budget.";
 
-const USAGE: &str = "dabplan verify <CODE> [--explain]";
+const USAGE: &str = "dabplan verify <CODE> [--explain | --quiet]";
 
 const AFTER: &str = "\
 The line:
@@ -40,9 +33,11 @@ The line:
   code: Field 98                not a code file: the field that begins at byte 98, counted from 0,
                                 is out of its range; also Magic, Version, Truncated, Limit, Trailing
 
-With --explain a refusal is followed by what is wrong, with objects and numbers, and for most causes
-by a line that begins with 'hint:' and says how to correct it:
-  night.code:10: ..             what comes from line 10 of the script
+Standard error says what is wrong, with objects and numbers, in the form that editors read, and for
+most causes how to correct it:
+  night.code:10: error: ..      what comes from line 10 of the script
+  night.code:10: hint: ..       what to do
+With --explain this is on standard output, behind the line of the refusal; --quiet leaves it out.
 
 The causes of a refusal:
   Target         the instruction jumps to where no label is
@@ -74,21 +69,17 @@ Exit status:
   2  the command line is wrong";
 
 /// The command `verify`.
-pub(crate) fn grammar<'a>(alloc: Global) -> Result<Grammar<'a>, AllocError>
-    ensures { IfOk result (λ g. Describes g.command (only verify)) }
-{
+pub(crate) fn grammar<'a>(alloc: Global) -> Result<Grammar<'a>, AllocError> {
     Grammar::of_command(alloc, PAGE)
-        .argument(file("code", "CODE", "The code file"))?
-        .argument(explain())
+        .argument(file("code", "CODE", "The code file, or '-' for standard input"))?
+        .argument(explain())?
+        .argument(with_rule(quiet(), Rule::Excludes("explain")))
 }
 
 /// Reads the arguments of `verify`.
-pub(crate) fn request<'a>(values: &Values<'_, 'a>) -> Result<Request<'a>, UsageError<'a>>
-    ensures asked { IfOk result (Asks (codes "verify") (rows_in values.now)) }
-    ensures refused { IfErr result (RefusesVerify (rows_in values.now)) }
-{
+pub(crate) fn request<'a>(values: &Values<'_, 'a>) -> Result<Request<'a>, UsageError<'a>> {
     Ok(Request::Verify(VerifyRequest {
         code: values.some_text("code")?,
-        explain: values.flag("explain"),
+        explanation: explanation(values),
     }))
 }

@@ -1,6 +1,7 @@
 //! `diff` over files in memory: which file is which, the order of refusals, and how the command ends.
 
 use cli_scripts::diff::{DiffRequest, show_diff};
+use cli_scripts::explained::Explanation;
 use console::exit::{Failure, Status};
 use console::memory::MemoryFiles;
 use std::process::Abort;
@@ -32,6 +33,7 @@ enum End {
 const REQUEST: DiffRequest<'static> = DiffRequest {
     from: "a.plan",
     to: "b.plan",
+    explanation: Explanation::Nowhere,
 };
 
 /// Compares, and returns how it ended and what was printed.

@@ -1,6 +1,7 @@
 //! `compile` over files in memory: what is printed, what the output file holds, and how the command ends.
 
 use cli_scripts::compile::{CompileRequest, show_compile};
+use cli_scripts::explained::Explanation;
 use console::exit::{Failure, Status};
 use console::memory::MemoryFiles;
 use std::process::Abort;
@@ -31,7 +32,7 @@ enum End {
 const REQUEST: CompileRequest<'static> = CompileRequest {
     script: "x.plan",
     out: "x.code",
-    explain: false,
+    explanation: Explanation::Nowhere,
 };
 
 /// Files in memory with this script.

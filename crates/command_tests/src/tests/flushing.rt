@@ -121,6 +121,18 @@ impl<'w> Files for WatchedFiles<'w> {
         true
     }
 
+    fn is_same(&self, one: &str, other: &str) -> bool {
+        one == other
+    }
+
+    fn is_special(&self, _path: &str) -> bool {
+        false
+    }
+
+    fn obstacle(&self, _path: &str) -> Option<&'static str> {
+        None
+    }
+
     fn input(&mut self) -> Result<Self::In, FileFault> {
         Ok(self.with(self.input))
     }
@@ -130,6 +142,10 @@ impl<'w> Files for WatchedFiles<'w> {
     }
 
     fn close(&mut self, _path: &str, _file: Self::Out) -> Result<(), FileFault> {
+        Err(FileFault::Failed)
+    }
+
+    fn replace(&mut self, _path: &str, _bytes: &[u8]) -> Result<(), FileFault> {
         Err(FileFault::Failed)
     }
 
@@ -154,7 +170,8 @@ const LIVE: LiveRequest<'static> = LiveRequest {
 
 /// Plays the lines; false unless they are played to their end.
 fn is_played(alloc: Global, files: &mut WatchedFiles<'_>, output: &mut WatchedOutput<'_>) -> bool {
-    play_live(alloc, &LIVE, files, output).is_ok()
+    let (ended, _output) = play_live(alloc, &LIVE, files, output);
+    ended.is_ok()
 }
 
 /// Merges the file with the input; false unless both are read to their end.

@@ -1,5 +1,6 @@
 //! `verify` over files in memory: what is printed, and how the command ends.
 
+use cli_scripts::explained::Explanation;
 use cli_scripts::verify::{VerifyRequest, show_verdict};
 use console::exit::{Failure, Status};
 use console::memory::MemoryFiles;
@@ -33,7 +34,7 @@ enum Verdict {
 /// The request to verify `x.code`.
 const REQUEST: VerifyRequest<'static> = VerifyRequest {
     code: "x.code",
-    explain: false,
+    explanation: Explanation::Nowhere,
 };
 
 /// Verifies, and returns how it ended and what was printed.

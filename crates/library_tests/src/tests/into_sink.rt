@@ -3,7 +3,7 @@
 use super::codes::{ENDED, LOWERED, played};
 use plan_code::Contacts;
 use plan_player::{Sink, Writer};
-use plan_session::{RunFault, StartOptions, run_into};
+use plan_session::{RunFault, Session, StartOptions, StepList, play_into};
 use std::alloc::Global;
 use std::io::{self, Error, ErrorKind, Write};
 use std::test::Fail;
@@ -63,7 +63,15 @@ fn into(
     text: &str,
     writer: Narrow,
 ) -> (Result<u128, RunFault>, Writer<Narrow>) {
-    run_into(alloc, file, text, FROM_ZERO, Writer::new(writer))
+    let sink = Writer::new(writer);
+    let session = match Session::new(alloc, file, FROM_ZERO) {
+        Ok(session) => session,
+        Err(fault) => return (Err(fault), sink),
+    };
+    match StepList::new(text) {
+        Ok(mut steps) => play_into(&session, &mut steps, sink),
+        Err(fault) => (Err(RunFault::Events(fault)), sink),
+    }
 }
 
 /// An empty writer.

@@ -19,6 +19,7 @@ fn is_running(hold: Hold) -> bool
         Hold::Waits(_) => false,
         Hold::WaitsDay(_) => false,
         Hold::WaitsContact { .. } => false,
+        Hold::WaitsAny { .. } => false,
         Hold::WaitsSwap => false,
         Hold::Ended => false,
     }

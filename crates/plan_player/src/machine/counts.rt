@@ -32,6 +32,17 @@ fn hold_after_frame(hold: Hold) -> Hold
         Hold::Waits(frames) => Hold::Waits(frames.saturating_sub(1)),
         Hold::WaitsDay(frame) => Hold::WaitsDay(frame),
         Hold::WaitsContact { contact, closed } => Hold::WaitsContact { contact, closed },
+        Hold::WaitsAny {
+            closed,
+            opened,
+            until,
+            left,
+        } => Hold::WaitsAny {
+            closed,
+            opened,
+            until,
+            left: left_after_frame(left),
+        },
         Hold::WaitsSwap => Hold::WaitsSwap,
         Hold::Ended => Hold::Ended,
     }
@@ -117,6 +128,17 @@ fn hold_later(hold: Hold, frames: u16) -> Hold
         Hold::Waits(left) => Hold::Waits(left.saturating_sub(frames)),
         Hold::WaitsDay(frame) => Hold::WaitsDay(frame),
         Hold::WaitsContact { contact, closed } => Hold::WaitsContact { contact, closed },
+        Hold::WaitsAny {
+            closed,
+            opened,
+            until,
+            left,
+        } => Hold::WaitsAny {
+            closed,
+            opened,
+            until,
+            left: left_later(left, frames),
+        },
         Hold::WaitsSwap => Hold::WaitsSwap,
         Hold::Ended => Hold::Ended,
     }

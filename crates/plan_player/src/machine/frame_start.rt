@@ -1,12 +1,12 @@
 //! The first step of a frame: a due swap, and the end of a wait.
 
 ghost use Rattle.std.specs.Prelude.{◌≡◌};
-ghost use Rattle.plan_runs.specs.Frames.{is_due, is_here, hold_after_swap, with_swap, with_hold_ended, ready};
+ghost use Rattle.plan_runs.specs.Frames.{is_due, is_day, is_any_here, is_here, hold_after_swap, with_swap, with_hold_ended, ready};
 ghost use Rattle.plan_player.specs.Positions.{state_of};
 
 use super::Machine;
 use mux_config::Store;
-use plan_code::Hold;
+use plan_code::{Contacts, DayFrame, Hold};
 
 /// Whether a swap is due: one is pending, and no frame is left until it.
 pub(crate) fn is_due(left: Option<u16>) -> bool
@@ -28,6 +28,17 @@ fn hold_after_swap(hold: Hold) -> Hold
         Hold::Waits(frames) => Hold::Waits(frames),
         Hold::WaitsDay(frame) => Hold::WaitsDay(frame),
         Hold::WaitsContact { contact, closed } => Hold::WaitsContact { contact, closed },
+        Hold::WaitsAny {
+            closed,
+            opened,
+            until,
+            left,
+        } => Hold::WaitsAny {
+            closed,
+            opened,
+            until,
+            left,
+        },
         Hold::Ended => Hold::Ended,
     }
 }
@@ -42,6 +53,33 @@ fn swap<S: Store>(machine: &mut Machine<S>)
     machine.page_index = 0;
 }
 
+/// Whether it is this frame of the day, if there is one.
+fn is_day(day: u32, until: Option<DayFrame>) -> bool
+    ensures { result ≡ is_day day until }
+{
+    match until {
+        None => false,
+        Some(frame) => day == frame.get(),
+    }
+}
+
+/// Whether one of the alternatives of a wait is met.
+fn is_any_here<S: Store>(
+    machine: &Machine<S>,
+    closed: Contacts,
+    opened: Contacts,
+    until: Option<DayFrame>,
+    left: Option<u16>,
+) -> bool
+    ensures { result ≡ is_any_here (state_of S.content machine.now) closed opened until left }
+{
+    let contacts = machine.contacts;
+    contacts.any_closed(closed)
+        || contacts.any_open(opened)
+        || is_day(machine.day, until)
+        || is_due(left)
+}
+
 /// Whether the wait condition is met.
 fn is_here<S: Store>(machine: &Machine<S>) -> bool
     ensures { result ≡ is_here (state_of S.content machine.now) machine.now.hold }
@@ -51,6 +89,12 @@ fn is_here<S: Store>(machine: &Machine<S>) -> bool
         Hold::Waits(frames) => frames == 0,
         Hold::WaitsDay(frame) => machine.day == frame.get(),
         Hold::WaitsContact { contact, closed } => machine.contacts.is_closed(contact) == closed,
+        Hold::WaitsAny {
+            closed,
+            opened,
+            until,
+            left,
+        } => is_any_here(machine, closed, opened, until, left),
         Hold::WaitsSwap => false,
         Hold::Ended => false,
     }

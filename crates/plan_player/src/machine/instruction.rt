@@ -1,16 +1,18 @@
 //! Executing one instruction that doesn't trap.
 
 ghost use Rattle.std.specs.Prelude.{◌≡◌, ◌<◌};
-ghost use Rattle.plan_code.specs.Machine.{HasNoFault, IsAllowed, IsCounterSet, effect, suspend};
+ghost use Rattle.plan_code.specs.Machine.{HasNoFault, IsAllowed, IsCounterSet, frames_until, is_in_window, effect, suspend};
 ghost use Rattle.plan_code.specs.declared.plan.Plan.{Plan as AnyPlan};
-ghost use Rattle.plan_code.specs.declared.instr.Instr.TheVariants.{CommitIn, CommitAt, Settle, Edit as Edits, Test, Jump, Set, Loop, End};
+ghost use Rattle.plan_code.specs.declared.instr.Instr.TheVariants.{WaitAny, CommitIn, CommitAt, Settle, Edit as Edits, Test, TestTime, Jump, Set, Loop, End};
 ghost use Rattle.plan_player.specs.Positions.{state_of};
 
 use super::Machine;
 use super::commit::{left_at, left_in};
 use mux_config::{Edit, Store};
-use plan_code::limits::COUNTS;
-use plan_code::{ContactId, CounterId, Delay, Hold, Instr, Plan, Times};
+use plan_code::limits::{COUNTS, FRAMES_A_DAY};
+use plan_code::{
+    ContactId, Contacts, CounterId, DayFrame, Delay, Frames, Hold, Instr, Plan, Times,
+};
 
 /// Suspends; the next instruction runs when the wait has ended.
 fn suspend<S: Store>(hold: Hold, machine: &mut Machine<S>)
@@ -19,6 +21,31 @@ fn suspend<S: Store>(hold: Hold, machine: &mut Machine<S>)
 {
     machine.hold = hold;
     machine.pc += 1;
+}
+
+/// Suspends until one of the alternatives is met.
+fn wait_any<S: Store>(
+    closed: Contacts,
+    opened: Contacts,
+    until: Option<DayFrame>,
+    frames: Option<Frames>,
+    machine: &mut Machine<S>,
+)
+    requires { machine.old.pc < 65535 }
+    ensures { (plan : AnyPlan) → state_of S.content machine.new
+        ≡ effect plan (WaitAny closed opened until frames) (state_of S.content machine.old) }
+{
+    let left = match frames {
+        None => None,
+        Some(frames) => Some(frames.get()),
+    };
+    let hold = Hold::WaitsAny {
+        closed,
+        opened,
+        until,
+        left,
+    };
+    suspend(hold, machine);
 }
 
 /// Commits the next configuration, for a swap after this delay.
@@ -86,6 +113,34 @@ fn test<S: Store>(contact: ContactId, target: u16, machine: &mut Machine<S>)
     }
 }
 
+/// The number of frames from a frame of the day to the next one that is `to`.
+fn frames_until(from: DayFrame, to: u32) -> u32
+    ensures { result ≡ frames_until from to }
+{
+    let later = u64::from(to) + u64::from(FRAMES_A_DAY - from.get());
+    (later % u64::from(FRAMES_A_DAY)) as u32
+}
+
+/// Whether the frame of the day is in the window from `from` to `to`.
+fn is_in_window(from: DayFrame, to: DayFrame, day: u32) -> bool
+    ensures { result ≡ is_in_window from to day }
+{
+    frames_until(from, day) < frames_until(from, to.get())
+}
+
+/// Continues if the frame of the day is in the window, and otherwise jumps to the target.
+fn test_time<S: Store>(from: DayFrame, to: DayFrame, target: u16, machine: &mut Machine<S>)
+    requires { machine.old.pc < 65535 }
+    ensures { (plan : AnyPlan) → state_of S.content machine.new
+        ≡ effect plan (TestTime from to target) (state_of S.content machine.old) }
+{
+    if is_in_window(from, to, machine.day) {
+        machine.pc += 1;
+    } else {
+        machine.pc = target;
+    }
+}
+
 /// Jumps to the target.
 fn jump<S: Store>(target: u16, machine: &mut Machine<S>)
     ensures { (plan : AnyPlan) → state_of S.content machine.new ≡ effect plan (Jump target)
@@ -135,6 +190,12 @@ pub(crate) fn carry_out<S: Store>(plan: &Plan, instr: Instr, machine: &mut Machi
         Instr::WaitContact { contact, closed } => {
             suspend(Hold::WaitsContact { contact, closed }, machine)
         }
+        Instr::WaitAny {
+            closed,
+            opened,
+            until,
+            frames,
+        } => wait_any(closed, opened, until, frames, machine),
         Instr::CommitIn(delay) => commit_in(plan, delay, machine),
         Instr::CommitAt(count) => commit_at(plan, count, machine),
         Instr::Join => suspend(Hold::WaitsSwap, machine),
@@ -142,6 +203,7 @@ pub(crate) fn carry_out<S: Store>(plan: &Plan, instr: Instr, machine: &mut Machi
         Instr::End => end(machine),
         Instr::Edit(change) => edit(change, machine),
         Instr::Test { contact, target } => test(contact, target, machine),
+        Instr::TestTime { from, to, target } => test_time(from, to, target, machine),
         Instr::Jump(target) => jump(target, machine),
         Instr::Set { counter, times } => set(counter, times, machine),
         Instr::Loop { counter, target } => repeat(counter, target, machine),

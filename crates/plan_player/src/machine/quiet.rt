@@ -1,13 +1,13 @@
 //! Counting quiet frames, which make no swap, execute no instruction and begin no phase.
 
-ghost use Rattle.std.specs.Prelude.{◌≡◌, ◌≤◌, ◌<◌, ◌+◌};
+ghost use Rattle.std.specs.Prelude.{◌≡◌, ◌≤◌, ◌<◌, ◌+◌, IfSome};
 ghost use Rattle.plan_player.specs.Positions.{state_of};
-ghost use Rattle.plan_player.specs.Quiet.{AreQuiet, SwapIsAway, HoldIsAway};
+ghost use Rattle.plan_player.specs.Quiet.{AreQuiet, SwapIsAway, DayIsAway, AreAway, HoldIsAway};
 
 use super::Machine;
 use mux_config::Store;
 use plan_code::limits::FRAMES_A_DAY;
-use plan_code::{Code, Hold};
+use plan_code::{Code, Contacts, DayFrame, Hold};
 
 /// The number of frames before the swap and before the first frame of its notice.
 fn before_swap(notice: u8, left: Option<u16>) -> u32
@@ -39,6 +39,48 @@ fn before_day(day: u32, frame: u32) -> u32
     }
 }
 
+/// The number of frames before this frame of the day, if there is one, and before the end of the day.
+fn before_until(day: u32, until: Option<DayFrame>) -> u32
+    ensures { IfSome until (DayIsAway day result) }
+{
+    match until {
+        None => u32::MAX,
+        Some(frame) => before_day(day, frame.get()),
+    }
+}
+
+/// The number of frames that are left of a wait, if it has a number of them.
+fn before_end(left: Option<u16>) -> u32
+    ensures { IfSome left (λ k. result ≤ k) }
+{
+    match left {
+        None => u32::MAX,
+        Some(left) => u32::from(left),
+    }
+}
+
+/// The number of frames before one of the alternatives of a wait is met.
+#[tactic(auto, using(crate::proofs::Quiet::fewer_until, crate::proofs::Quiet::fewer_left))]
+fn before_any<S: Store>(
+    machine: &Machine<S>,
+    closed: Contacts,
+    opened: Contacts,
+    until: Option<DayFrame>,
+    left: Option<u16>,
+) -> u32
+    ensures { AreAway (state_of S.content machine.now) closed opened until left result }
+{
+    if machine.contacts.any_closed(closed) {
+        return 0;
+    }
+    if machine.contacts.any_open(opened) {
+        return 0;
+    }
+    let day = before_until(machine.day, until);
+    let frames = before_end(left);
+    day.min(frames)
+}
+
 /// The number of frames before the machine can resume.
 fn before_resuming<S: Store>(machine: &Machine<S>) -> u32
     ensures { HoldIsAway (state_of S.content machine.now) machine.now.hold result }
@@ -54,6 +96,12 @@ fn before_resuming<S: Store>(machine: &Machine<S>) -> u32
                 u32::MAX
             }
         }
+        Hold::WaitsAny {
+            closed,
+            opened,
+            until,
+            left,
+        } => before_any(machine, closed, opened, until, left),
         Hold::WaitsSwap => u32::MAX,
         Hold::Ended => u32::MAX,
     }

@@ -1,10 +1,7 @@
--- The pieces so far, decoded, give the result and the ensemble of a stream of their bytes, and standard error has taken
--- nothing but a hint.
+-- The pieces so far, decoded, give the result and the ensemble of a stream of their bytes.
 use Rattle.std.proofs.Common.{◌≡◌, ℕ, ◌*◌, ◌%◌, ◌≤◌, Bool, List, length, Option, None}
 use Rattle.std.specs.Io.KnownBytes.{Consumes}
-use Rattle.console.specs.World.{World}
 use Rattle.script_config.specs.Ensembles.{NamesAfter}
-use Rattle.stream_monitor.specs.Hinting.{OnlyHints}
 use Rattle.cli_streams.specs.declared.listen.Heard.{Heard}
 use Rattle.cli_streams.specs.Stream.{HearsTheStream, fibs_of_stream, unheard, ended}
 use Rattle.cli_scripts.proofs.listen_script.name_of.Given as goal
@@ -19,8 +16,4 @@ pub record NamedSoFar (before left : Option (List ℕ)) (has_room : Bool) (heard
   pub damaged : heard.damaged ≤ heard.fibs
 
 abbrev pub invariant-loop : goal.invariant-loop
-invariant-loop g l =
-    NamedSoFar l.initial.pieces.left l.pieces.left l.has_room l.heard l.eid l.counter
-    × (l.hints.path.now ≡ l.initial.hints.path.now)
-    × ((w : Option World) → OnlyHints l.initial.hints.path.now l.initial.hints.watch.is_done w (g.F.Files.world l.initial.files)
-    → OnlyHints l.initial.hints.path.now l.hints.watch.is_done w (g.F.Files.world l.files))
+invariant-loop g l = NamedSoFar l.initial.pieces.left l.pieces.left l.has_room l.heard l.eid l.counter

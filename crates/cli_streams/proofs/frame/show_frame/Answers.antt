@@ -1,29 +1,21 @@
-use Rattle.std.proofs.Common.{List, ℕ, take, ap, ◌∙◌}
-use Rattle.console.specs.Printed.{printed}
+use Rattle.std.proofs.Common.{ℕ, List, IfSome, Option, take, ap, ◌≡◌, ◌∙◌}
 use Rattle.cli_streams.specs.Frame.{frame_of, most_bytes}
-use Rattle.cli_streams.proofs.ShownFrames.{read_until, unread_until}
+use Rattle.cli_streams.proofs.Checked.{shows_fault, shows_frame}
+use Rattle.cli_streams.proofs.MergingFiles.{at_path}
 use Rattle.cli_streams.proofs.frame.show_frame.Goals as goal
 
-pub returns-in-Err-clause-input_until : goal.returns-in-Err-clause-input_until
-returns-in-Err-clause-input_until g c = λ is.
+pub returns-in-Ok-clause-success : goal.returns-in-Ok-clause-success
+returns-in-Ok-clause-success g c =
     let r = c.args.request.now in
-    unread_until r.raw (λ (l : List ℕ). frame_of r.layout r.ensemble r.page (take most_bytes l)) r.config.now (g.F.Files.known_input c.args.files.now) (printed g.W.Write.contents c.args.out.now) c.in-Err.failure c.in-Err.ensures.fault
+    let files = c.args.files.now in
+    let read_bytes = c.in_ok-record.record.items in
+    let read = at_path (g.F.Files.known files) (g.F.Files.known_input files) r.config.now (λ (x : Option (List ℕ)). IfSome x (λ bytes. read_bytes ≡ take most_bytes bytes)) c.in_ok-record.ensures.input c.in_ok-record.ensures.file in
+    shows_frame r _ _ _ read_bytes c.in-Ok.frame read (c.in-Ok.ensures ∙ ap (λ (l : List ℕ). frame_of r.layout r.ensemble r.page l) c.as_slice.ensures.value) c.in_ok-print_frame-in-Ok.ensures
 
-pub returns-in-Err-clause-file_until : goal.returns-in-Err-clause-file_until
-returns-in-Err-clause-file_until g c = λ is.
+pub returns-clause-success : goal.returns-clause-success
+returns-clause-success g c =
     let r = c.args.request.now in
-    unread_until r.raw (λ (l : List ℕ). frame_of r.layout r.ensemble r.page (take most_bytes l)) r.config.now (g.F.Files.known c.args.files.now r.config.now) (printed g.W.Write.contents c.args.out.now) c.in-Err.failure c.in-Err.ensures.fault
-
-pub returns-clause-input_until : goal.returns-clause-input_until
-returns-clause-input_until g c = λ is.
-    let r = c.args.request.now in
-    let contents = g.W.Write.contents in
-    read_until r.raw (λ (l : List ℕ). frame_of r.layout r.ensemble r.page l) (g.F.Files.known_input c.args.files.now) (printed contents c.args.out.now) (printed contents c.print_shown.new.out) c.in-Ok.record.items most_bytes
-    c.frame_of-frame.result c.print_shown.result (c.in-Ok.ensures.input is) (c.frame_of-frame.ensures ∙ ap (λ (l : List ℕ). frame_of r.layout r.ensemble r.page l) c.as_slice.ensures.value) c.print_shown.ensures.until
-
-pub returns-clause-file_until : goal.returns-clause-file_until
-returns-clause-file_until g c = λ is.
-    let r = c.args.request.now in
-    let contents = g.W.Write.contents in
-    read_until r.raw (λ (l : List ℕ). frame_of r.layout r.ensemble r.page l) (g.F.Files.known c.args.files.now r.config.now) (printed contents c.args.out.now) (printed contents c.print_shown.new.out) c.in-Ok.record.items most_bytes
-    c.frame_of-frame.result c.print_shown.result (c.in-Ok.ensures.file is) (c.frame_of-frame.ensures ∙ ap (λ (l : List ℕ). frame_of r.layout r.ensemble r.page l) c.as_slice.ensures.value) c.print_shown.ensures.until
+    let files = c.args.files.now in
+    let read_bytes = c.in_ok-record.record.items in
+    let read = at_path (g.F.Files.known files) (g.F.Files.known_input files) r.config.now (λ (x : Option (List ℕ)). IfSome x (λ bytes. read_bytes ≡ take most_bytes bytes)) c.in_ok-record.ensures.input c.in_ok-record.ensures.file in
+    shows_fault r _ _ _ read_bytes c.in-Err.fault read (c.in-Err.ensures ∙ ap (λ (l : List ℕ). frame_of r.layout r.ensemble r.page l) c.as_slice.ensures.value)

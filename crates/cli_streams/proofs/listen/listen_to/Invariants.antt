@@ -1,8 +1,6 @@
--- The pieces so far, decoded, give the result of a stream of their bytes, and standard error has taken nothing but a hint.
+-- The pieces so far, decoded, give the result of a stream of their bytes.
 use Rattle.std.proofs.Common.{◌≡◌, ℕ, ◌*◌, ◌%◌, ◌≤◌, Bool, List, length, Option}
 use Rattle.std.specs.Io.KnownBytes.{Consumes}
-use Rattle.console.specs.World.{World}
-use Rattle.stream_monitor.specs.Hinting.{OnlyHints}
 use Rattle.cli_streams.specs.declared.listen.Heard.{Heard}
 use Rattle.cli_streams.specs.Stream.{HearsTheStream, fibs_of_stream, unheard, ended}
 use Rattle.cli_streams.proofs.listen.listen_to.Given as goal
@@ -14,11 +12,6 @@ pub record HeardSoFar (before left : Option (List ℕ)) (has_room : Bool) (heard
   pub hears : HearsTheStream (fibs_of_stream stream) unheard (ended has_room heard)
   pub few : heard.fibs ≤ 8192 * pieces
   pub damaged : heard.damaged ≤ heard.fibs
-  pub long : pieces ≤ length stream
 
 abbrev pub invariant-loop : goal.invariant-loop
-invariant-loop g l =
-    HeardSoFar (g.P.FibPieces.left l.initial.pieces) (g.P.FibPieces.left l.pieces) l.has_room l.heard l.counter
-    × (l.hints.path.now ≡ l.initial.hints.path.now)
-    × ((w : Option World) → OnlyHints l.initial.hints.path.now l.initial.hints.watch.is_done w (g.F.Files.world l.initial.files)
-    → OnlyHints l.initial.hints.path.now l.hints.watch.is_done w (g.F.Files.world l.files))
+invariant-loop g l = HeardSoFar l.initial.pieces.left l.pieces.left l.has_room l.heard l.counter

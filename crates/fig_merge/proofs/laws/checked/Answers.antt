@@ -1,4 +1,5 @@
-use Rattle.fig_merge.proofs.Alike.{framed_alike, checked_alike}
+use Rattle.fig_merge.proofs.Alike.{framed_alike}
+use Rattle.fig_merge.proofs.Checked.{checked_alike}
 use Rattle.fig_merge.proofs.Heard.{full_alike}
 use Rattle.fig_merge.proofs.laws.checked.Goals as goal
 

@@ -1,72 +1,41 @@
-use Rattle.std.proofs.Common.{ℕ, ◌+◌, List, Option, refl, sym, subst, ◌∙◌}
+use Rattle.std.proofs.Common.{ℕ, List, Option, refl, sym, subst, ◌∙◌}
 use Rattle.console.specs.Lines.{GivesLine}
 use Rattle.plan_player.specs.Playing.{Playing}
-use Rattle.plan_live.specs.declared.options.Wanted.{Wanted}
-use Rattle.plan_live.specs.declared.message.LineFault.TheVariants.{Limit}
 use Rattle.plan_live.specs.Living.{Streamed, streamed, streams_at}
-use Rattle.plan_live.proofs.Lines.{going_first, line_bad, going_line, stops_line, whole_at, broken_at, prompt_first, prompt_more}
+use Rattle.plan_live.proofs.Lines.{going_first, line_bad, too_long, going_line, whole_at, prompt_first, prompt_more}
 use Rattle.plan_live.proofs.driving.drive.Goals.{in-Long, in-Line+in-Ok}
 use Rattle.plan_live.proofs.driving.drive.Goals as goal
 
 pub loop-number-init : goal.loop-number-init
 loop-number-init g c =
-    let now : Streamed = streams_at g.E.Ends.left g.E.Ends.written g.E.Ends.reported c.args.ends.now in
+    let now : Streamed = streams_at g.E.Ends.left g.E.Ends.written c.args.ends.now in
     record {
-      going = going_first c.args.options.skip c.args.options.wanted c.args.player.now now;
+      going = going_first c.args.options.skip c.args.player.now now;
       flushed = c.requires.flushed;
-      prompt = prompt_first c.args.options.skip c.args.options.wanted c.args.player.now now (g.E.Ends.moments c.args.ends.now);
+      prompt = prompt_first c.args.options.skip c.args.player.now now (g.E.Ends.moments c.args.ends.now);
     }
 
 pub returns-in-End-clause-whole : goal.returns-in-End-clause-whole
 returns-in-End-clause-whole g c =
     let left = g.E.Ends.left in
     let written = g.E.Ends.written in
-    let reported = g.E.Ends.reported in
-    let at = streams_at g.E.Ends.left g.E.Ends.written g.E.Ends.reported in
+    let at = streams_at left written in
     let old : Streamed = at c.args.ends.now in
     let now : Streamed = at c.loop-number.ends in
     let end = c.in-End.ensures.end refl in
-    whole_at c.args.options.skip c.args.options.wanted c.args.player.now c.loop-number.player c.loop-number.made c.loop-number.number old now (left c.next.new.self) (written c.next.new.self) (reported c.next.new.self)
-    c.loop-number.invariant.going end.0 end.1 c.in-End.ensures.written c.in-End.ensures.reported
-
-pub returns-in-Failed-clause-stopped : goal.returns-in-Failed-clause-stopped
-returns-in-Failed-clause-stopped g c =
-    let left = g.E.Ends.left in
-    let written = g.E.Ends.written in
-    let reported = g.E.Ends.reported in
-    let at = streams_at g.E.Ends.left g.E.Ends.written g.E.Ends.reported in
-    let old : Streamed = at c.args.ends.now in
-    let now : Streamed = at c.loop-number.ends in
-    broken_at c.args.options.skip c.args.options.wanted c.args.player.now c.loop-number.player c.loop-number.made c.loop-number.number old now (left c.next.new.self) (written c.next.new.self) (reported c.next.new.self)
-    c.loop-number.invariant.going c.in-Failed.ensures.written c.in-Failed.ensures.reported
-
-pub returns-in-Err-clause-stopped : goal.returns-in-Err-clause-stopped
-returns-in-Err-clause-stopped g c =
-    let left = g.E.Ends.left in
-    let written = g.E.Ends.written in
-    let reported = g.E.Ends.reported in
-    let at = streams_at g.E.Ends.left g.E.Ends.written g.E.Ends.reported in
-    let old : Streamed = at c.args.ends.now in
-    let now : Streamed = at c.loop-number.ends in
-    let after : Streamed = at c.take_line.new.ends in
-    let line : List ℕ = c.as_slice-line.result.now in
-    let given : GivesLine now.left line (left c.next.new.self) = subst (λ (l : List ℕ). GivesLine now.left l (left c.next.new.self)) (sym c.as_slice-line.ensures.value) (c.in-Line.ensures.line refl) in
-    stops_line c.args.options.skip c.args.options.wanted c.args.player.now c.loop-number.player c.loop-number.made c.loop-number.number line old now after (left c.next.new.self) (written c.next.new.self) (reported c.next.new.self) c.in-Err.stop
-    c.loop-number.invariant.going given c.in-Line.ensures.written c.in-Line.ensures.reported c.in-Err.ensures.taken
+    whole_at c.args.options.skip c.args.player.now c.loop-number.player c.loop-number.made old now (left c.next.new.self) (written c.next.new.self)
+    c.loop-number.invariant.going end.0 end.1 c.in-End.ensures.written
 
 pub loop-number-preserved : goal.loop-number-preserved
 loop-number-preserved g c =
     let left = g.E.Ends.left in
     let written = g.E.Ends.written in
-    let reported = g.E.Ends.reported in
-    let at = streams_at g.E.Ends.left g.E.Ends.written g.E.Ends.reported in
+    let at = streams_at left written in
     let moments = g.E.Ends.moments in
     let skip : ℕ = c.args.options.skip in
-    let wanted : Wanted = c.args.options.wanted in
     let p : Playing = c.args.player.now in
     let q : Playing = c.loop-number.player in
     let m : ℕ = c.loop-number.made in
-    let number : ℕ = c.loop-number.number in
     let old : Streamed = at c.args.ends.now in
     let now : Streamed = at c.loop-number.ends in
     let rest : Option (List ℕ) = left c.next.new.self in
@@ -74,48 +43,42 @@ loop-number-preserved g c =
     elim c.match-next.branch [
       | in-Long w ↦
           let long = w.in-Long.ensures.long refl in
-          let mid : Streamed = streamed rest (written c.next.new.self) (reported c.next.new.self) in
+          let mid : Streamed = streamed rest (written c.next.new.self) in
           let after : Streamed = at w.report.new.self in
-          let bad = line_bad skip wanted q m (number + 1) long.0 Limit mid after long.1 w.report.ensures.left w.report.ensures.written w.report.ensures.reported in
+          let bad = line_bad skip q m long.0 mid after (too_long long.0 long.1) w.report.ensures.left w.report.ensures.written in
           rw (w.ends-is, w.player-is, w.made-is) (record {
-            going = going_line skip wanted p q q m m number long.0 old now after rest (written c.next.new.self) (reported c.next.new.self) going long.2 w.in-Long.ensures.written w.in-Long.ensures.reported bad;
+            going = going_line skip p q q m m long.0 old now after rest (written c.next.new.self) going long.2 w.in-Long.ensures.written bad;
             flushed = w.report.ensures.flushed ∙ w.in-Long.ensures.flushed;
-            prompt = prompt_more skip wanted p q m number old now (moments c.args.ends.now) (moments c.loop-number.ends) (moments c.next.new.self) (moments w.report.new.self) going c.loop-number.invariant.prompt w.in-Long.ensures.moments w.report.ensures.moments;
+            prompt = prompt_more skip p q m old now (moments c.args.ends.now) (moments c.loop-number.ends) (moments c.next.new.self) (moments w.report.new.self) going c.loop-number.invariant.prompt w.in-Long.ensures.moments w.report.ensures.moments;
           })
       | in-Line+in-Ok w ↦
           let line : List ℕ = w.as_slice-line.result.now in
           let after : Streamed = at w.take_line.new.ends in
           let given : GivesLine now.left line rest = subst (λ (l : List ℕ). GivesLine now.left l rest) (sym w.as_slice-line.ensures.value) (w.in-Line.ensures.line refl) in
           rw (w.ends-is, w.player-is, w.made-is) (record {
-            going = going_line skip wanted p q w.take_line.new.player m w.take_line.new.made number line old now after rest (written c.next.new.self) (reported c.next.new.self) going given w.in-Line.ensures.written w.in-Line.ensures.reported w.in-Ok.ensures.taken;
+            going = going_line skip p q w.take_line.new.player m w.take_line.new.made line old now after rest (written c.next.new.self) going given w.in-Line.ensures.written w.in-Ok.ensures.went;
             flushed = w.in-Ok.ensures.flushed;
-            prompt = prompt_more skip wanted p q m number old now (moments c.args.ends.now) (moments c.loop-number.ends) (moments c.next.new.self) (moments w.take_line.new.ends) going c.loop-number.invariant.prompt w.in-Line.ensures.moments w.take_line.ensures.moments;
+            prompt = prompt_more skip p q m old now (moments c.args.ends.now) (moments c.loop-number.ends) (moments c.next.new.self) (moments w.take_line.new.ends) going c.loop-number.invariant.prompt w.in-Line.ensures.moments w.take_line.ensures.moments;
           })
     ]
 
 pub returns-in-End-clause-prompt : goal.returns-in-End-clause-prompt
 returns-in-End-clause-prompt g c =
-    let at = streams_at g.E.Ends.left g.E.Ends.written g.E.Ends.reported in
+    let at = streams_at g.E.Ends.left g.E.Ends.written in
     let moments = g.E.Ends.moments in
-    let old : Streamed = at c.args.ends.now in
-    let now : Streamed = at c.loop-number.ends in
-    prompt_more c.args.options.skip c.args.options.wanted c.args.player.now c.loop-number.player c.loop-number.made c.loop-number.number old now (moments c.args.ends.now) (moments c.loop-number.ends) (moments c.next.new.self) (moments c.next.new.self)
+    prompt_more c.args.options.skip c.args.player.now c.loop-number.player c.loop-number.made (at c.args.ends.now) (at c.loop-number.ends) (moments c.args.ends.now) (moments c.loop-number.ends) (moments c.next.new.self) (moments c.next.new.self)
     c.loop-number.invariant.going c.loop-number.invariant.prompt c.in-End.ensures.moments refl
 
 pub returns-in-Failed-clause-prompt : goal.returns-in-Failed-clause-prompt
 returns-in-Failed-clause-prompt g c =
-    let at = streams_at g.E.Ends.left g.E.Ends.written g.E.Ends.reported in
+    let at = streams_at g.E.Ends.left g.E.Ends.written in
     let moments = g.E.Ends.moments in
-    let old : Streamed = at c.args.ends.now in
-    let now : Streamed = at c.loop-number.ends in
-    prompt_more c.args.options.skip c.args.options.wanted c.args.player.now c.loop-number.player c.loop-number.made c.loop-number.number old now (moments c.args.ends.now) (moments c.loop-number.ends) (moments c.next.new.self) (moments c.next.new.self)
+    prompt_more c.args.options.skip c.args.player.now c.loop-number.player c.loop-number.made (at c.args.ends.now) (at c.loop-number.ends) (moments c.args.ends.now) (moments c.loop-number.ends) (moments c.next.new.self) (moments c.next.new.self)
     c.loop-number.invariant.going c.loop-number.invariant.prompt c.in-Failed.ensures.moments refl
 
 pub returns-in-Err-clause-prompt : goal.returns-in-Err-clause-prompt
 returns-in-Err-clause-prompt g c =
-    let at = streams_at g.E.Ends.left g.E.Ends.written g.E.Ends.reported in
+    let at = streams_at g.E.Ends.left g.E.Ends.written in
     let moments = g.E.Ends.moments in
-    let old : Streamed = at c.args.ends.now in
-    let now : Streamed = at c.loop-number.ends in
-    prompt_more c.args.options.skip c.args.options.wanted c.args.player.now c.loop-number.player c.loop-number.made c.loop-number.number old now (moments c.args.ends.now) (moments c.loop-number.ends) (moments c.next.new.self) (moments c.take_line.new.ends)
+    prompt_more c.args.options.skip c.args.player.now c.loop-number.player c.loop-number.made (at c.args.ends.now) (at c.loop-number.ends) (moments c.args.ends.now) (moments c.loop-number.ends) (moments c.next.new.self) (moments c.take_line.new.ends)
     c.loop-number.invariant.going c.loop-number.invariant.prompt c.in-Line.ensures.moments c.take_line.ensures.moments

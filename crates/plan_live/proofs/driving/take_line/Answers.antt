@@ -1,29 +1,36 @@
-use Rattle.std.proofs.Common.{List, subst}
+use Rattle.std.proofs.Common.{List, subst, inl}
+use Rattle.plan_player.specs.Playing.{Playing}
 use Rattle.plan_session.specs.declared.step.Step.{Step}
 use Rattle.plan_session.specs.Events.{events_of}
+use Rattle.std.specs.Prelude.{OnOk, ◌≢◌}
 use Rattle.plan_live.specs.declared.line.Unread.{Unread}
-use Rattle.plan_live.specs.Going.{Plays}
-use Rattle.plan_live.specs.Lines.{IsLineFault, IsUnread}
+use Rattle.plan_live.specs.declared.line.Unread.TheVariants.{Memory}
+use Rattle.plan_live.specs.Going.{Went, LineWent}
+use Rattle.plan_live.specs.Lines.{ListsNone}
 use Rattle.plan_live.specs.Living.{Streamed, streams_at}
-use Rattle.plan_live.proofs.Lines.{line_bad, line_taken}
+use Rattle.plan_live.proofs.Going.{ok_then}
+use Rattle.plan_live.proofs.Lines.{line_bad}
 use Rattle.plan_live.proofs.driving.take_line.Goals as goal
 
-pub returns-in-Ok-clause-taken : goal.returns-in-Ok-clause-taken
-returns-in-Ok-clause-taken g c =
-    let at = streams_at g.E.Ends.left g.E.Ends.written g.E.Ends.reported in
-    let o = c.args.options in
-    let q = c.args.player.now in
+pub returns-in-Ok-clause-went : goal.returns-in-Ok-clause-went
+returns-in-Ok-clause-went g c =
+    let at = streams_at g.E.Ends.left g.E.Ends.written in
+    let skip = c.args.options.skip in
+    let q : Playing = c.args.player.now in
+    let r : Playing = c.play_line.new.player in
     let m = c.args.made.now in
+    let k = c.play_line.new.made in
     let a : Streamed = at c.args.ends.now in
     let d : Streamed = at c.play_line.new.ends in
     let steps : List Step = c.in-Ok.steps.items in
-    let plays = subst (λ (l : List Step). Plays o q m (events_of l) c.play_line.new.player c.play_line.new.made a d c.play_line.result) c.as_slice.ensures.value c.play_line.ensures.played in
-    line_taken o q c.play_line.new.player m c.play_line.new.made c.args.number c.args.line.now steps a d c.play_line.result c.in-Ok.ensures.found plays
+    let went = subst (λ (l : List Step). OnOk c.play_line.result (Went skip q m (events_of l) r k a d)) c.as_slice.ensures.value c.play_line.ensures.went in
+    ok_then c.play_line.result (Went skip q m (events_of steps) r k a d) (LineWent skip q m c.args.line.now r k a d)
+    (λ h. record { steps = steps; does = inl c.in-Ok.ensures.found; went = h }) went
 
-pub returns-in-Bad-clause-taken : goal.returns-in-Bad-clause-taken
-returns-in-Bad-clause-taken g c =
-    let at = streams_at g.E.Ends.left g.E.Ends.written g.E.Ends.reported in
+pub returns-in-Bad-clause-went : goal.returns-in-Bad-clause-went
+returns-in-Bad-clause-went g c =
+    let at = streams_at g.E.Ends.left g.E.Ends.written in
     let a : Streamed = at c.args.ends.now in
     let d : Streamed = at c.report.new.self in
-    let is : IsLineFault c.args.line.now c.in-Bad.fault = subst (λ (u : Unread). IsUnread c.args.line.now u) c.in-Bad.is c.in-Err.ensures.fault in
-    line_bad c.args.options.skip c.args.options.wanted c.args.player.now c.args.made.now c.args.number c.args.line.now c.in-Bad.fault a d is c.report.ensures.left c.report.ensures.written c.report.ensures.reported
+    let none : ListsNone c.args.line.now = subst (λ (u : Unread). u ≢ Memory → ListsNone c.args.line.now) c.in-Bad.is c.in-Err.ensures.none (λ e. absurd cc) in
+    line_bad c.args.options.skip c.args.player.now c.args.made.now c.args.line.now a d none c.report.ensures.left c.report.ensures.written

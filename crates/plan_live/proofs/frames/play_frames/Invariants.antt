@@ -8,9 +8,9 @@ use Rattle.plan_live.proofs.frames.play_frames.Given as goal
 abbrev pub invariant-loop-done : goal.invariant-loop-done
 invariant-loop-done g l = record {
   within : l.done ≤ l.count;
-  went : Went l.options.skip l.options.wanted l.initial.player l.initial.made (replicate l.done Frame) l.player l.made
-      (streams_at g.E.Ends.left g.E.Ends.written g.E.Ends.reported l.initial.ends)
-      (streams_at g.E.Ends.left g.E.Ends.written g.E.Ends.reported l.ends);
+  went : Went l.options.skip l.initial.player l.initial.made (replicate l.done Frame) l.player l.made
+      (streams_at g.E.Ends.left g.E.Ends.written l.initial.ends)
+      (streams_at g.E.Ends.left g.E.Ends.written l.ends);
   moments : g.E.Ends.moments l.ends ≡ g.E.Ends.moments l.initial.ends;
 }
 

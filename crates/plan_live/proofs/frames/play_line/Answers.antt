@@ -1,10 +1,18 @@
+use Rattle.plan_player.specs.Playing.{Playing}
 use Rattle.plan_session.specs.Events.{events_of}
-use Rattle.plan_live.specs.Living.{streams_at}
-use Rattle.plan_live.proofs.Going.{plays_flushed}
+use Rattle.plan_live.specs.Going.{Went}
+use Rattle.plan_live.specs.Living.{Streamed, streams_at}
+use Rattle.plan_live.proofs.Going.{went_flushed, ok_always}
 use Rattle.plan_live.proofs.frames.play_line.Goals as goal
 
-pub returns-in-Ok-clause-played : goal.returns-in-Ok-clause-played
-returns-in-Ok-clause-played g c =
-    let at = streams_at g.E.Ends.left g.E.Ends.written g.E.Ends.reported in
-    plays_flushed c.args.options c.args.player.now c.play_steps.new.player c.args.made.now c.play_steps.new.made (events_of c.args.steps.now) (at c.args.ends.now) (at c.play_steps.new.ends) (at c.flush_line.new.ends) c.flush_line.result c.in-Ok.ensures.played
-    c.flush_line.ensures.left c.flush_line.ensures.written c.flush_line.ensures.reported c.flush_line.ensures.fault
+pub returns-in-Ok-clause-went : goal.returns-in-Ok-clause-went
+returns-in-Ok-clause-went g c =
+    let at = streams_at g.E.Ends.left g.E.Ends.written in
+    let p : Playing = c.args.player.now in
+    let q : Playing = c.play_steps.new.player in
+    let a : Streamed = at c.args.ends.now in
+    let d : Streamed = at c.flush_line.new.ends in
+    let skip = c.args.options.skip in
+    let events = events_of c.args.steps.now in
+    ok_always c.flush_line.result (Went skip p c.args.made.now events q c.play_steps.new.made a d)
+    (went_flushed skip p q c.args.made.now c.play_steps.new.made events a (at c.play_steps.new.ends) d c.in-Ok.ensures.went c.flush_line.ensures.left c.flush_line.ensures.written)

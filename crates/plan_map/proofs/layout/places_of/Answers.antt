@@ -1,7 +1,7 @@
 use Rattle.std.proofs.Common.{◌∙◌, ap, sym, List, ◌++◌}
 use Rattle.mux_types.specs.declared.parts.Sub.{Sub}
 use Rattle.plan_map.specs.Layout.{place_of}
-use Rattle.plan_map.proofs.Printed.{cells_from_zero}
+use Rattle.plan_map.proofs.Pieces.{cells_from_zero}
 use Rattle.plan_map.proofs.layout.places_of.Goals as goal
 
 pub loop-id-preserved : goal.loop-id-preserved

@@ -1,7 +1,6 @@
 use Rattle.std.proofs.Common.{◌≡◌, drop}
-use Rattle.plan_map.specs.declared.lead.Ways.TheVariants.{Nothing}
 use Rattle.plan_map.specs.Leads.{ways_from}
 use Rattle.plan_map.proofs.lead.ways_to.Given as goal
 
-abbrev pub invariant-loop-line : goal.invariant-loop-line
-invariant-loop-line l = ways_from l.pc l.ways (drop l.line-index l.lines) ≡ ways_from l.pc Nothing l.lines
+abbrev pub invariant-loop-reached : goal.invariant-loop-reached
+invariant-loop-reached l = ways_from l.pc l.ways (drop l.reached-index l.passed) ≡ ways_from l.pc l.fn.before l.passed

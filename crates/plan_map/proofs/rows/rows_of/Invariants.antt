@@ -1,15 +1,16 @@
-use Rattle.std.proofs.Common.{◌≡◌, ℕ, List, ◌++◌, drop, Option}
+use Rattle.std.proofs.Common.{◌≡◌, ℕ, List, ◌++◌, drop}
 use Rattle.mux_types.specs.Configuration.{Configuration}
 use Rattle.plan_code.specs.Program.{Program}
 use Rattle.plan_map.specs.declared.rows.Row.{Row}
-use Rattle.plan_map.specs.declared.lead.Lead.{Lead}
+use Rattle.plan_map.specs.declared.lead.Ways.{Ways}
+use Rattle.plan_map.specs.declared.lead.Reached.{Reached}
 use Rattle.plan_map.specs.Rows.{commits_from, rows_of}
 use Rattle.plan_map.proofs.rows.rows_of.Given as goal
 
 -- the rows so far, and what follows
-pub record SoFar (begin : ℕ) (p : Program) (rows : List Row) (pc at : ℕ) (lead : Option Lead) (next : Configuration) : Type 0 where
-  pub all : rows ++ commits_from p at lead next (drop at p.lines) ≡ rows_of begin p
+pub record SoFar (begin : ℕ) (p : Program) (rows : List Row) (pc at : ℕ) (before : Ways) (passed : List Reached) (next : Configuration) : Type 0 where
+  pub all : rows ++ commits_from p at before passed next (drop at p.lines) ≡ rows_of begin p
   pub place : pc ≡ at
 
 abbrev pub invariant-loop-line : goal.invariant-loop-line
-invariant-loop-line l = SoFar l.begin_line l.code l.rows.items l.pc l.line-index l.lead l.next
+invariant-loop-line l = SoFar l.begin_line l.code l.rows.items l.pc l.line-index l.ways l.passed.items l.next

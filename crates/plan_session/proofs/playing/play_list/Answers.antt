@@ -77,12 +77,3 @@ returns-clause-done g c = λ all lists.
     let so_far = c.loop-step.invariant.delivered all lists in
     let whole : so_far.0 ≡ all = sym (so_far.2 ∙ ap (λ (l : List Step). so_far.0 ++ l) (t so_far.1 so_far.3) ∙ append-nil so_far.0) in
     subst (λ (l : List Step). Delivered c.args.player.now c.loop-step.player (events_of l) (taken c.args.sink.now) (taken c.loop-step.sink) c.loop-step.frames) whole so_far.4
-
-pub returns-in-Err-clause-few_cut : goal.returns-in-Err-clause-few_cut
-returns-in-Err-clause-few_cut g c =
-    let step : Step = c.in-Some.step in
-    let taken = g.K.Sink.taken in
-    let t : TakesStep c.loop-step.steps c.next.new.self (Some step) = subst (λ (o : Option Step). TakesStep c.loop-step.steps c.next.new.self o) c.in-Some.is c.next.ensures in
-    let few = few_stopped c.loop-step.player c.play_step.new.player (events_of_step step) (taken c.loop-step.sink) (taken c.play_step.new.sink) c.in-Err.cut.frames c.in-Err.cut.bytes c.in-Err.ensures.stopped in
-    let size = few_events step t.in_range in
-    omega (arith, few, size, c.loop-step.invariant.few, t.bytes)

@@ -10,10 +10,10 @@ pub returns-in-End : goal.returns-in-End
 returns-in-End c = λ table rest. subst (λ b. IsLine b c.in-End.line) (sym (is_end table c.args.statement.now c.in-End.line c.in-End.is rest)) refl
 
 pub returns-in-If : goal.returns-in-If
-returns-in-If c = λ table rest. subst (λ b. IsLine b c.in-If.line) (sym (is_if table c.args.statement.now c.in-If.line c.in-If.contact c.in-If.first c.in-If.is rest)) refl
+returns-in-If c = λ table rest. subst (λ b. IsLine b c.in-If.line) (sym (is_if table c.args.statement.now c.in-If.line c.in-If.condition c.in-If.first c.in-If.is rest)) refl
 
 pub returns-in-IfElse : goal.returns-in-IfElse
-returns-in-IfElse c = λ table rest. subst (λ b. IsLine b c.in-IfElse.line) (sym (is_if_else table c.args.statement.now c.in-IfElse.line c.in-IfElse.contact c.in-IfElse.first c.in-IfElse.second c.in-IfElse.is rest)) refl
+returns-in-IfElse c = λ table rest. subst (λ b. IsLine b c.in-IfElse.line) (sym (is_if_else table c.args.statement.now c.in-IfElse.line c.in-IfElse.condition c.in-IfElse.first c.in-IfElse.second c.in-IfElse.is rest)) refl
 
 pub returns-in-Repeat : goal.returns-in-Repeat
 returns-in-Repeat c = λ table rest. subst (λ b. IsLine b c.in-Repeat.line) (sym (is_repeat table c.args.statement.now c.in-Repeat.line c.in-Repeat.times c.in-Repeat.body c.in-Repeat.is rest)) refl

@@ -17,13 +17,13 @@ put_statement-returns-in_ok-put_line-in-End t c =
 
 pub put_statement-returns-in_ok-put_line-in-If : goal.put_statement-returns-in_ok-put_line-in-If
 put_statement-returns-in_ok-put_line-in-If t c =
-    when_put c.args.names.now (string_bytes c.args.out.now) (string_bytes c.put_if.new.out) (string_bytes c.put_statements.new.out) (string_bytes c.put_line-in-If.new.out) c.args.depth c.in-If.line c.in-If.contact (block_of [] c.in-If.first.items) _
+    when_put c.args.names.now (string_bytes c.args.out.now) (string_bytes c.put_if.new.out) (string_bytes c.put_statements.new.out) (string_bytes c.put_line-in-If.new.out) c.args.depth c.in-If.line c.in-If.condition (block_of [] c.in-If.first.items) _
     c.in_ok-put_if-in-If.ensures (sliced c.args.names.now _ _ c.args.depth _ _ c.as_slice.ensures.value c.in_ok-put_statements-in-If.ensures) c.in_ok-put_line-in-If.ensures
     (λ b. search (rules, the_lemmas, fold_out-Statement Before (statement_step []), fold-roll-Statement Before (statement_step [])))
 
 pub put_statement-returns-in_ok-put_line-in-IfElse-2 : goal.put_statement-returns-in_ok-put_line-in-IfElse-2
 put_statement-returns-in_ok-put_line-in-IfElse-2 t c =
-    either_put c.args.names.now (string_bytes c.args.out.now) (string_bytes c.put_if-in-IfElse.new.out) (string_bytes c.put_statements-in-IfElse.new.out) (string_bytes c.put_line-in-IfElse.new.out) (string_bytes c.put_statements-in-IfElse-2.new.out) (string_bytes c.put_line-in-IfElse-2.new.out) c.args.depth c.in-IfElse.line c.in-IfElse.contact
+    either_put c.args.names.now (string_bytes c.args.out.now) (string_bytes c.put_if-in-IfElse.new.out) (string_bytes c.put_statements-in-IfElse.new.out) (string_bytes c.put_line-in-IfElse.new.out) (string_bytes c.put_statements-in-IfElse-2.new.out) (string_bytes c.put_line-in-IfElse-2.new.out) c.args.depth c.in-IfElse.line c.in-IfElse.condition
     (block_of [] c.in-IfElse.first.items) (block_of [] c.in-IfElse.second.items) _ c.in_ok-put_if-in-IfElse.ensures (sliced c.args.names.now _ _ c.args.depth _ _ c.as_slice-in-IfElse.ensures.value c.in_ok-put_statements-in-IfElse.ensures) c.in_ok-put_line-in-IfElse.ensures
     (sliced c.args.names.now _ _ c.args.depth _ _ c.as_slice-in-IfElse-2.ensures.value c.in_ok-put_statements-in-IfElse-2.ensures) c.in_ok-put_line-in-IfElse-2.ensures
     (λ b. search (rules, the_lemmas, fold_out-Statement Before (statement_step []), fold-roll-Statement Before (statement_step [])))

@@ -1,5 +1,5 @@
 use Rattle.std.proofs.Common.{◌≤◌, length, drop, sym, ap, subst, ◌∙◌}
-use Rattle.cli_streams.specs.Buffered.{Buffered}
+use Rattle.stream_monitor.specs.Buffered.{Buffered}
 use Rattle.cli_streams.proofs.ReadingAhead.{later}
 use Rattle.cli_streams.proofs.frame_reader.FrameReader.pass.Goals as goal
 

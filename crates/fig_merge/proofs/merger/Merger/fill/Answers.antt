@@ -1,13 +1,16 @@
-use Rattle.std.proofs.Common.{◌≡◌, ◌-◌, ◌++◌, ℕ, List, Some, Ok, length, take, map, refl, ap, ap₂, sym, subst, ◌∙◌, arith}
+use Rattle.std.proofs.Common.{◌≡◌, ◌-◌, ◌++◌, ℕ, Bool, List, Some, Ok, length, take, map, refl, ap, ap₂, sym, subst, ◌∙◌, arith}
 use Rattle.std.specs.Prelude.{Result}
 use Rattle.std.specs.List.{concat}
 use Rattle.fib_codec.specs.Grammar.{Fig, IsFib, Other}
 use Rattle.fib_codec.specs.Spelling.{filled, checked}
+use Rattle.fib_reader.specs.Listening.{Listening, hear_figs}
 use Rattle.fib_reader.specs.declared.fault.FibFault.{FibFault}
+use Rattle.fig_mentions.specs.Agreeing.{fig_agrees}
 use Rattle.stream_check.specs.Frames.{Fib}
 use Rattle.stream_check.proofs.Seeing.{read_whole}
 use Rattle.fig_merge.specs.Taking.{IsPassedOver}
-use Rattle.fig_merge.specs.Filling.{data_of, room_of, carried_in, filled_fib, merged}
+use Rattle.fig_merge.specs.Filling.{after_fill, agrees_with, data_of, room_of, carried_in, filled_fib, merged}
+use Rattle.fig_merge.proofs.Hearing.{fill_is, heard_is, judges}
 use Rattle.fig_merge.proofs.Passing.{data_short, data_front, filled_is, all_left, few_left}
 use Rattle.fig_merge.proofs.merger.Merger.fill.Goals as goal
 
@@ -21,20 +24,21 @@ carry-load-requires-clause-within c =
 
 pub invariant_of-self : goal.invariant_of-self
 invariant_of-self c =
+    let ok = fig_agrees c.current.result.now in
     let room = 30 - c.data_len-used.result in
     let left = c.carry-load.ensures.left in
     record {
-      few = rw left (omega (arith, few_left room c.self.inside.queue, c.self.invariant.few));
-      passed_over = rw left (all_left IsPassedOver room c.self.inside.queue c.self.invariant.passed_over);
+      few = rw left (omega (arith, few_left ok room c.self.inside.queue, c.self.invariant.few));
+      passed_over = rw left (all_left IsPassedOver ok room c.self.inside.queue c.self.invariant.passed_over);
     }
 
 -- the bytes of the FIB, by the FIGs that were read
-pub bytes_are : (before behind sealed : List ℕ) (used room : ℕ) (figs : List Fig) (waiting : List (List ℕ)) → IsFib before figs → used ≡ length (data_of figs)
-    → behind ≡ take used before ++ concat (carried_in (30 - used) waiting) → sealed ≡ checked (filled behind) → sealed ≡ filled_fib figs waiting
-bytes_are before behind sealed used room figs waiting is size carried seals =
+pub bytes_are : (before behind sealed : List ℕ) (used : ℕ) (figs : List Fig) (l : Listening) (ok : List ℕ → Bool) (waiting : List (List ℕ)) → IsFib before figs → used ≡ length (data_of figs)
+    → ok ≡ agrees_with figs l → behind ≡ take used before ++ concat (carried_in ok (30 - used) waiting) → sealed ≡ checked (filled behind) → sealed ≡ filled_fib figs l waiting
+bytes_are before behind sealed used figs l ok waiting is size same carried seals =
     let front : take used before ≡ data_of figs = ap (λ n. take n before) size ∙ data_front before figs is in
     seals ∙ ap (λ xs. checked (filled xs))
-    (carried ∙ ap₂ (λ xs n. xs ++ concat (carried_in (30 - n) waiting)) front size)
+    (carried ∙ ap₂ (λ xs n. xs ++ concat (carried_in ok (30 - n) waiting)) front size ∙ ap (λ (k : List ℕ → Bool). data_of figs ++ concat (carried_in k (room_of figs) waiting)) same)
 
 -- the FIGs of the FIB are read in one way alone
 abbrev whole : List Fig → Result (List Fig) FibFault
@@ -45,21 +49,41 @@ ok_same one other same = cc
 
 pub returns-clause-figs : goal.returns-clause-figs
 returns-clause-figs c = λ figs is.
+    let l = c.self.inside.listener in
+    let waiting = c.self.inside.queue in
     let same : c.in-Ok.figs ≡ figs = ok_same _ _ (sym c.in-Ok.is ∙ c.check.ensures.every figs is) in
-    let here : c.end_fib.new.fib ≡ filled_fib c.in-Ok.figs c.self.inside.queue =
-    bytes_are c.args.fib.now _ c.end_fib.new.fib c.data_len-used.result 0 c.in-Ok.figs c.self.inside.queue
-    c.in-Ok.ensures.figs c.data_len-used.ensures c.carry-load.ensures.data c.end_fib.ensures in
-    let there : c.end_fib.new.fib ≡ filled_fib figs c.self.inside.queue = here ∙ ap (λ (fs : List Fig). filled_fib fs c.self.inside.queue) same in
-    rw (← c.self.view_is) (subst (λ (xs : List ℕ). IsFib xs (figs ++ map Other (carried_in (room_of figs) c.self.inside.queue))) (sym there)
-    (filled_is c.args.fib.now figs c.self.inside.queue is c.self.invariant.passed_over))
+    let heard = heard_is (hear_figs c.in-Ok.figs l) l c.hear.new.self c.hear.result (c.hear.ensures.every c.in-Ok.figs c.in-Ok.ensures.figs) in
+    let here : c.end_fib.new.fib ≡ filled_fib c.in-Ok.figs l waiting =
+    bytes_are c.args.fib.now _ c.end_fib.new.fib c.data_len-used.result c.in-Ok.figs l (fig_agrees c.current.result.now) waiting
+    c.in-Ok.ensures.figs c.data_len-used.ensures (judges c.in-Ok.figs l c.hear.new.self c.current.result.now heard c.current.ensures) c.carry-load.ensures.data c.end_fib.ensures in
+    let there : c.end_fib.new.fib ≡ filled_fib figs l waiting = here ∙ ap (λ (fs : List Fig). filled_fib fs l waiting) same in
+    rw (← c.self.view_is) (subst (λ (xs : List ℕ). IsFib xs (figs ++ map Other (carried_in (agrees_with figs l) (room_of figs) waiting))) (sym there)
+    (filled_is c.args.fib.now figs l waiting is c.self.invariant.passed_over))
 
 pub returns-clause-bytes : goal.returns-clause-bytes
 returns-clause-bytes c = λ r.
+    let l = c.self.inside.listener in
+    let waiting = c.self.inside.queue in
     let one : Some c.in-Ok.figs ≡ r.read c.args.fib.now =
     read_whole c.args.fib.now c.in-Ok.figs c.in-Ok.ensures.figs (λ fs is. sym c.in-Ok.is ∙ c.check.ensures.every fs is)
     (r.read c.args.fib.now) (r.right c.args.fib.now) in
-    let here : c.end_fib.new.fib ≡ filled_fib c.in-Ok.figs c.self.inside.queue =
-    bytes_are c.args.fib.now _ c.end_fib.new.fib c.data_len-used.result 0 c.in-Ok.figs c.self.inside.queue
-    c.in-Ok.ensures.figs c.data_len-used.ensures c.carry-load.ensures.data c.end_fib.ensures in
-    let seen : filled_fib c.in-Ok.figs c.self.inside.queue ≡ filled_fib c.in-Ok.figs c.args.self.now.waiting = rw (← c.self.view_is) refl in
+    let heard = heard_is (hear_figs c.in-Ok.figs l) l c.hear.new.self c.hear.result (c.hear.ensures.every c.in-Ok.figs c.in-Ok.ensures.figs) in
+    let here : c.end_fib.new.fib ≡ filled_fib c.in-Ok.figs l waiting =
+    bytes_are c.args.fib.now _ c.end_fib.new.fib c.data_len-used.result c.in-Ok.figs l (fig_agrees c.current.result.now) waiting
+    c.in-Ok.ensures.figs c.data_len-used.ensures (judges c.in-Ok.figs l c.hear.new.self c.current.result.now heard c.current.ensures) c.carry-load.ensures.data c.end_fib.ensures in
+    let seen : filled_fib c.in-Ok.figs l waiting ≡ filled_fib c.in-Ok.figs c.args.self.now.heard c.args.self.now.waiting = rw (← c.self.view_is) refl in
     here ∙ seen ∙ ap (λ (fib : Fib). merged c.args.fib.now fib c.args.self.now) one
+
+pub returns-clause-merger : goal.returns-clause-merger
+returns-clause-merger c = λ r.
+    let l = c.self.inside.listener in
+    let m = c.args.self.now in
+    let one : Some c.in-Ok.figs ≡ r.read c.args.fib.now =
+    read_whole c.args.fib.now c.in-Ok.figs c.in-Ok.ensures.figs (λ fs is. sym c.in-Ok.is ∙ c.check.ensures.every fs is)
+    (r.read c.args.fib.now) (r.right c.args.fib.now) in
+    let heard = heard_is (hear_figs c.in-Ok.figs l) l c.hear.new.self c.hear.result (c.hear.ensures.every c.in-Ok.figs c.in-Ok.ensures.figs) in
+    let done : _ ≡ after_fill (Some c.in-Ok.figs) m =
+    rw (← c.self.view_is) (fill_is c.in-Ok.figs _ (fig_agrees c.current.result.now) c.data_len-used.result c.carry-load.new.self c.sum-self-inside.result c.sum-self-inside-2.result
+    c.carry-load.result.figs c.carry-load.result.stale c.hear.new.self c.data_len-used.ensures (judges c.in-Ok.figs l c.hear.new.self c.current.result.now heard c.current.ensures)
+    c.carry-load.ensures.left c.carry-load.ensures.count c.carry-load.ensures.stale c.sum-self-inside.ensures c.sum-self-inside-2.ensures heard) in
+    done ∙ ap (λ (fib : Fib). after_fill fib m) one

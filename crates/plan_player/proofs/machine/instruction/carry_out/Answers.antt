@@ -1,6 +1,6 @@
 -- Answers of `carry_out` in src/machine/instruction.rt
 use Rattle.plan_code.specs.Machine.{State}
-use Rattle.plan_code.specs.declared.instr.Instr.TheVariants.{Settle, End, Edit as Edits, Test, Jump, Set, Loop}
+use Rattle.plan_code.specs.declared.instr.Instr.TheVariants.{WaitAny, Settle, End, Edit as Edits, Test, TestTime, Jump, Set, Loop}
 use Rattle.plan_player.specs.Positions.{state_of}
 use Rattle.plan_player.proofs.UnderAnyPlan.{under_this}
 use Rattle.plan_player.proofs.machine.instruction.carry_out.Goals as goal
@@ -32,6 +32,20 @@ returns-in-Test g c =
     let old : State = state_of g.S.Store.content c.args.machine.now in
     let new : State = state_of g.S.Store.content c.test.new.machine in
     under_this c.args.plan.now c.args.instr (Test c.in-Test.contact c.in-Test.target) old new c.in-Test.is c.test.ensures
+
+-- src/machine/instruction.rt:126:1
+pub returns-in-WaitAny : goal.returns-in-WaitAny
+returns-in-WaitAny g c =
+    let old : State = state_of g.S.Store.content c.args.machine.now in
+    let new : State = state_of g.S.Store.content c.wait_any.new.machine in
+    under_this c.args.plan.now c.args.instr (WaitAny c.in-WaitAny.closed c.in-WaitAny.opened c.in-WaitAny.until c.in-WaitAny.frames) old new c.in-WaitAny.is c.wait_any.ensures
+
+-- src/machine/instruction.rt:126:1
+pub returns-in-TestTime : goal.returns-in-TestTime
+returns-in-TestTime g c =
+    let old : State = state_of g.S.Store.content c.args.machine.now in
+    let new : State = state_of g.S.Store.content c.test_time.new.machine in
+    under_this c.args.plan.now c.args.instr (TestTime c.in-TestTime.from c.in-TestTime.to c.in-TestTime.target) old new c.in-TestTime.is c.test_time.ensures
 
 -- src/machine/instruction.rt:126:1
 pub returns-in-Jump : goal.returns-in-Jump

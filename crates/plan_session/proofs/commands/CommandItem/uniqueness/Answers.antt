@@ -1,9 +1,5 @@
 use Rattle.plan_session.proofs.CommandLexemes.{one_command}
-use Rattle.plan_session.proofs.ItemHeads.{command_heads}
 use Rattle.plan_session.proofs.commands.CommandItem.uniqueness.Goals as goal
 
 pub returns-clause-unique : goal.returns-clause-unique
 returns-clause-unique c = one_command
-
-pub returns-clause-once : goal.returns-clause-once
-returns-clause-once c = command_heads

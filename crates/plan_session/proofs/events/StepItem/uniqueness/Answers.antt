@@ -1,9 +1,5 @@
-use Rattle.plan_session.proofs.ItemHeads.{step_heads}
 use Rattle.plan_session.proofs.StepLexemes.{one_step}
 use Rattle.plan_session.proofs.events.StepItem.uniqueness.Goals as goal
 
 pub returns-clause-unique : goal.returns-clause-unique
 returns-clause-unique c = one_step
-
-pub returns-clause-once : goal.returns-clause-once
-returns-clause-once c = step_heads

@@ -103,7 +103,7 @@ statement-returns-in-If t c = λ rest.
     let x = c.args.context in
     let table = tables x.blocks.now in
     let line = c.in-If.line in
-    let contact = c.in-If.contact in
+    let contact = c.in-If.condition in
     compiles_as x (statement_in x c.args.statement.now rest) (when line contact (block_in x c.deref.result.now) rest) rest c.args.self.now c.when.new.self c.when.result
     (is_if table c.args.statement.now line contact c.in-If.first c.in-If.is rest ∙ ap (λ ss. when line contact (block_of table ss) rest) (sym c.deref.ensures.value)) (c.when.ensures rest)
 
@@ -112,7 +112,7 @@ statement-returns-in-IfElse t c = λ rest.
     let x = c.args.context in
     let table = tables x.blocks.now in
     let line = c.in-IfElse.line in
-    let contact = c.in-IfElse.contact in
+    let contact = c.in-IfElse.condition in
     let first = c.deref-in-IfElse in
     let second = c.deref-in-IfElse-2 in
     compiles_as x (statement_in x c.args.statement.now rest) (either line contact (block_in x first.result.now) (block_in x second.result.now) rest) rest c.args.self.now c.either.new.self c.either.result
@@ -204,39 +204,39 @@ pub when-returns-in-Err : goal.when-returns-in-Err
 when-returns-in-Err t c = λ rest.
     let x = c.args.context in
     let first = block_in x c.args.first.now in
-    fails x (when c.args.line c.args.contact first rest) c.args.self.now c.in-Err.fault c.args.line c.in-Err.ensures.limited (λ k full can. when_limited k x.plan.now x.counters c.args.line c.args.contact first c.args.self.now full rest can)
+    fails x (when c.args.line c.args.condition.now first rest) c.args.self.now c.in-Err.fault c.args.line c.in-Err.ensures.limited (λ k full can. when_limited k x.plan.now x.counters c.args.line c.args.condition.now first c.args.self.now full rest can)
 
 pub when-returns-in-Err-block : goal.when-returns-in-Err-block
 when-returns-in-Err-block t c = λ rest.
     let x = c.args.context in
     let first = block_in x c.args.first.now in
-    let w = c.fork.new.self in
+    let w = c.fork_if.new.self in
     let forks = c.in_default.ensures.forks in
     let h = c.in-Err-block.ensures in
     record {
-      refused = λ is judged. h.refused is (when_first x.plan.now x.counters c.args.line c.args.contact first rest c.args.self.now w w true forks judged);
-      why = when_body_why x.plan.now x.counters c.args.line c.args.contact first rest c.args.self.now w w true c.in-Err-block.fault forks h.why;
-      limited = limit_map c.in-Err-block.fault (λ at k full can. full (can_when_first k x.plan.now x.counters c.args.line c.args.contact first rest c.args.self.now w w true forks can)) h.limited;
+      refused = λ is judged. h.refused is (when_first x.plan.now x.counters c.args.line c.args.condition.now first rest c.args.self.now w w true forks judged);
+      why = when_body_why x.plan.now x.counters c.args.line c.args.condition.now first rest c.args.self.now w w true c.in-Err-block.fault forks h.why;
+      limited = limit_map c.in-Err-block.fault (λ at k full can. full (can_when_first k x.plan.now x.counters c.args.line c.args.condition.now first rest c.args.self.now w w true forks can)) h.limited;
     }
 
 pub when-returns : goal.when-returns
 when-returns t c = λ rest.
     let x = c.args.context in
     let first = block_in x c.args.first.now in
-    let b = when c.args.line c.args.contact first rest in
+    let b = when c.args.line c.args.condition.now first rest in
     let w0 = c.args.self.now in
-    let w2 = c.fork.new.self in
+    let w2 = c.fork_if.new.self in
     let w3 = c.block.new.self in
     let f = c.in-Ok.falls in
     let y = c.close_if.result in
     let forks = c.in_default.ensures.forks in
     let left = c.in-Ok.ensures.left in
     compiles x b w0 rest c.close_if.new.self y
-    (when_step x.plan.now x.counters c.args.line c.args.contact c.len-at.result first rest w0 w2 w3 c.close_if.new.self f y c.requires.counters c.len-at.ensures forks left c.close_if.ensures.is_reached c.close_if.ensures.closes) c.close_if.ensures.limits
+    (when_step x.plan.now x.counters c.args.line c.args.condition.now c.len-at.result first rest w0 w2 w3 c.close_if.new.self f y c.requires.counters c.len-at.ensures forks left c.close_if.ensures.is_reached c.close_if.ensures.closes) c.close_if.ensures.limits
     (err_two y (λ e h g. fails_at x b w0 e c.args.line h g
-    (λ cause r judged. r.1 w0.saved.items w0.now (left.emits.saved ∙ forks.saved) (when_agrees x.plan.now x.counters c.args.line c.args.contact first rest w0 w2 w3 f forks left judged))
-    (λ cause r. when_why x.plan.now x.counters c.args.line c.args.contact first rest w0 w2 w3 f cause forks left r)
-    (λ k full can. can_when_closed k x.plan.now x.counters c.args.line c.args.contact first rest w0 w2 w3 f forks left full can)) c.close_if.ensures.refused c.close_if.ensures.limited)
+    (λ cause r judged. r.1 w0.saved.items w0.now (left.emits.saved ∙ forks.saved) (when_agrees x.plan.now x.counters c.args.line c.args.condition.now first rest w0 w2 w3 f forks left judged))
+    (λ cause r. when_why x.plan.now x.counters c.args.line c.args.condition.now first rest w0 w2 w3 f cause forks left r)
+    (λ k full can. can_when_closed k x.plan.now x.counters c.args.line c.args.condition.now first rest w0 w2 w3 f forks left full can)) c.close_if.ensures.refused c.close_if.ensures.limited)
 
 -- ---- `if` with `else`
 
@@ -245,20 +245,20 @@ either-returns-in-Err t c = λ rest.
     let x = c.args.context in
     let first = block_in x c.args.first.now in
     let second = block_in x c.args.second.now in
-    fails x (either c.args.line c.args.contact first second rest) c.args.self.now c.in-Err.fault c.args.line c.in-Err.ensures.limited (λ k full can. either_limited k x.plan.now x.counters c.args.line c.args.contact first second c.args.self.now full rest can)
+    fails x (either c.args.line c.args.condition.now first second rest) c.args.self.now c.in-Err.fault c.args.line c.in-Err.ensures.limited (λ k full can. either_limited k x.plan.now x.counters c.args.line c.args.condition.now first second c.args.self.now full rest can)
 
 pub either-returns-in-Err-block : goal.either-returns-in-Err-block
 either-returns-in-Err-block t c = λ rest.
     let x = c.args.context in
     let first = block_in x c.args.first.now in
     let second = block_in x c.args.second.now in
-    let w = c.fork.new.self in
+    let w = c.fork_if.new.self in
     let forks = c.in_default.ensures.forks in
     let h = c.in-Err-block.ensures in
     record {
-      refused = λ is judged. h.refused is (either_first x.plan.now x.counters c.args.line c.args.contact 0 first second rest c.args.self.now w w w w true true forks judged);
-      why = either_first_why x.plan.now x.counters c.args.line c.args.contact 0 first second rest c.args.self.now w w w w true true c.in-Err-block.fault forks h.why;
-      limited = limit_map c.in-Err-block.fault (λ at k full can. full (can_either_first k x.plan.now x.counters c.args.line c.args.contact first second rest c.args.self.now w w w w true true forks can)) h.limited;
+      refused = λ is judged. h.refused is (either_first x.plan.now x.counters c.args.line c.args.condition.now 0 first second rest c.args.self.now w w w w true true forks judged);
+      why = either_first_why x.plan.now x.counters c.args.line c.args.condition.now 0 first second rest c.args.self.now w w w w true true c.in-Err-block.fault forks h.why;
+      limited = limit_map c.in-Err-block.fault (λ at k full can. full (can_either_first k x.plan.now x.counters c.args.line c.args.condition.now first second rest c.args.self.now w w w w true true forks can)) h.limited;
     }
 
 pub either-returns-in-Err-start_else : goal.either-returns-in-Err-start_else
@@ -267,7 +267,7 @@ either-returns-in-Err-start_else t c = λ rest.
     let first = block_in x c.args.first.now in
     let second = block_in x c.args.second.now in
     let w = c.start_else.new.self in
-    fails x (either c.args.line c.args.contact first second rest) c.args.self.now c.in-Err-start_else.fault c.args.line c.in-Err-start_else.ensures.limited (λ k full can. can_either_turned k x.plan.now x.counters c.args.line c.args.contact first second rest c.args.self.now c.fork.new.self c.block.new.self w w c.in-Ok.falls true c.in_default.ensures.forks c.in-Ok.ensures.left full can)
+    fails x (either c.args.line c.args.condition.now first second rest) c.args.self.now c.in-Err-start_else.fault c.args.line c.in-Err-start_else.ensures.limited (λ k full can. can_either_turned k x.plan.now x.counters c.args.line c.args.condition.now first second rest c.args.self.now c.fork_if.new.self c.block.new.self w w c.in-Ok.falls true c.in_default.ensures.forks c.in-Ok.ensures.left full can)
 
 pub either-returns-in-Err-block-2 : goal.either-returns-in-Err-block-2
 either-returns-in-Err-block-2 t c = λ rest.
@@ -281,9 +281,9 @@ either-returns-in-Err-block-2 t c = λ rest.
     let starts = c.in_default-start_else.ensures.starts_else in
     let h = c.in-Err-block-2.ensures in
     record {
-      refused = λ is judged. h.refused is (either_second x.plan.now x.counters c.args.line c.args.contact c.len-at.result first second rest w0 c.fork.new.self c.block.new.self w w c.in-Ok.falls true forks left starts judged);
-      why = either_second_why x.plan.now x.counters c.args.line c.args.contact c.len-at.result first second rest w0 c.fork.new.self c.block.new.self w w c.in-Ok.falls true c.in-Err-block-2.fault forks left starts h.why;
-      limited = limit_map c.in-Err-block-2.fault (λ at k full can. full (can_either_second k x.plan.now x.counters c.args.line c.args.contact first second rest w0 c.fork.new.self c.block.new.self w w c.in-Ok.falls true c.len-at.result forks left starts can)) h.limited;
+      refused = λ is judged. h.refused is (either_second x.plan.now x.counters c.args.line c.args.condition.now c.len-at.result first second rest w0 c.fork_if.new.self c.block.new.self w w c.in-Ok.falls true forks left starts judged);
+      why = either_second_why x.plan.now x.counters c.args.line c.args.condition.now c.len-at.result first second rest w0 c.fork_if.new.self c.block.new.self w w c.in-Ok.falls true c.in-Err-block-2.fault forks left starts h.why;
+      limited = limit_map c.in-Err-block-2.fault (λ at k full can. full (can_either_second k x.plan.now x.counters c.args.line c.args.condition.now first second rest w0 c.fork_if.new.self c.block.new.self w w c.in-Ok.falls true c.len-at.result forks left starts can)) h.limited;
     }
 
 pub either-returns : goal.either-returns
@@ -294,7 +294,7 @@ either-returns t c = λ rest.
     let first = block_in x c.args.first.now in
     let second = block_in x c.args.second.now in
     let w0 = c.args.self.now in
-    let w2 = c.fork.new.self in
+    let w2 = c.fork_if.new.self in
     let w3 = c.block.new.self in
     let w6 = c.start_else.new.self in
     let w7 = c.block-2.new.self in
@@ -305,13 +305,13 @@ either-returns t c = λ rest.
     let left = c.in-Ok.ensures.left in
     let starts = c.in_default-start_else.ensures.starts_else in
     let left2 = c.in-Ok-block.ensures.left in
-    compiles x (either line c.args.contact first second rest) w0 rest c.close_else.new.self y
-    (ok_map y (λ falls h. either_step x.plan.now x.counters line c.args.contact at c.len-jump.result first second w0 w2 w3 w6 w7 c.close_else.new.self f g falls c.requires.counters c.len-at.ensures c.len-jump.ensures forks left starts left2 h rest) c.close_else.ensures.arrives) c.close_else.ensures.limits
-    (err_two y (λ e h l. fails_at x (either line c.args.contact first second rest) w0 e line h l
-    (λ cause r judged. r.1 w0.saved.items (way f w3) (some_is f w3) (either_saved x.plan.now x.counters line c.args.contact at first second rest w0 w2 w3 w6 w7 f g forks left starts left2)
-    (either_agrees x.plan.now x.counters line c.args.contact at first second rest w0 w2 w3 w6 w7 f g forks left starts left2 judged))
-    (λ cause r. either_why x.plan.now x.counters line c.args.contact at first second rest w0 w2 w3 w6 w7 f g cause forks left starts left2 r)
-    (λ k full can. can_either_closed k x.plan.now x.counters line c.args.contact first second rest w0 w2 w3 w6 w7 f g at forks left starts left2 full can)) c.close_else.ensures.refused c.close_else.ensures.limited)
+    compiles x (either line c.args.condition.now first second rest) w0 rest c.close_else.new.self y
+    (ok_map y (λ falls h. either_step x.plan.now x.counters line c.args.condition.now at c.len-jump.result first second w0 w2 w3 w6 w7 c.close_else.new.self f g falls c.requires.counters c.len-at.ensures c.len-jump.ensures forks left starts left2 h rest) c.close_else.ensures.arrives) c.close_else.ensures.limits
+    (err_two y (λ e h l. fails_at x (either line c.args.condition.now first second rest) w0 e line h l
+    (λ cause r judged. r.1 w0.saved.items (way f w3) (some_is f w3) (either_saved x.plan.now x.counters line c.args.condition.now at first second rest w0 w2 w3 w6 w7 f g forks left starts left2)
+    (either_agrees x.plan.now x.counters line c.args.condition.now at first second rest w0 w2 w3 w6 w7 f g forks left starts left2 judged))
+    (λ cause r. either_why x.plan.now x.counters line c.args.condition.now at first second rest w0 w2 w3 w6 w7 f g cause forks left starts left2 r)
+    (λ k full can. can_either_closed k x.plan.now x.counters line c.args.condition.now first second rest w0 w2 w3 w6 w7 f g at forks left starts left2 full can)) c.close_else.ensures.refused c.close_else.ensures.limited)
 
 -- ---- `repeat`
 

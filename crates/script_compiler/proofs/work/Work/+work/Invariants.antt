@@ -11,10 +11,10 @@ abbrev pub decreases-statement : goal.decreases-statement
 decreases-statement l = 4 * weight (statement_in l.context l.statement.now nothing) + 2
 
 abbrev pub decreases-when : goal.decreases-when
-decreases-when l = 4 * weight (when l.line l.contact (block_in l.context l.first.now) nothing) + 1
+decreases-when l = 4 * weight (when l.line l.condition.now (block_in l.context l.first.now) nothing) + 1
 
 abbrev pub decreases-either : goal.decreases-either
-decreases-either l = 4 * weight (either l.line l.contact (block_in l.context l.first.now) (block_in l.context l.second.now) nothing) + 1
+decreases-either l = 4 * weight (either l.line l.condition.now (block_in l.context l.first.now) (block_in l.context l.second.now) nothing) + 1
 
 abbrev pub decreases-repeat : goal.decreases-repeat
 decreases-repeat l = 4 * weight (repeat l.line l.times (block_in l.context l.body.now) nothing) + 1

@@ -2,7 +2,8 @@ use Rattle.std.proofs.Common.{◌≡◌, if◌then◌else◌, List, [], ◌++◌
 use Rattle.std.proofs.lemmas.List.{length-set}
 use Rattle.mux_config.specs.Configuration.{Configuration}
 use Rattle.std.specs.Prelude.{slice_set}
-use Rattle.plan_code.specs.declared.instr.Instr.TheVariants.{Jump, Test}
+use Rattle.plan_code.specs.declared.instr.Instr.TheVariants.{Jump}
+use Rattle.script_compiler.specs.Alternatives.{test_of}
 use Rattle.plan_code.specs.declared.instr.Line.{Line}
 use Rattle.script_compiler.specs.declared.flow.ProgramPoint.{ProgramPoint}
 use Rattle.script_compiler.specs.Scheme.{PlacedInstr, alone, at_label, unpriced_labels, onward}
@@ -51,9 +52,9 @@ returns-clause-starts_else c =
     c.in_default.ensures.lines ∙ ap (λ (l : Lines). l.items ++ lines_of_placed (jumping f line r v)) c.restore-entry.ensures.lines ∙ ap (λ (ps : List PlacedInstr). w.lines.items ++ lines_of_placed ps) jumps in
     record {
       lines =
-          ap (λ (l : Lines). l.items) (c.unpriced_label.ensures.lines ∙ c.take.ensures.lines) ∙ c.patch.ensures.lines
-          ∙ ap (λ n. slice_set u.lines.items c.args.at (line_of_instr line (Test c.args.contact n))) c.len-target.ensures
-          ∙ ap (λ (l : List Line). slice_set l c.args.at (line_of_instr line (Test c.args.contact (length l)))) lines;
+          ap (λ (l : Lines). l.items) (c.unpriced_label.ensures.lines ∙ c.take.ensures.lines) ∙ c.patch.ensures.lines ∙ ap (λ i. slice_set u.lines.items c.args.at (line_of_instr line i)) c.test_of.ensures
+          ∙ ap (λ n. slice_set u.lines.items c.args.at (line_of_instr line (test_of c.args.condition n))) c.len-target.ensures
+          ∙ ap (λ (l : List Line). slice_set l c.args.at (line_of_instr line (test_of c.args.condition (length l)))) lines;
       unpriced =
           ap (λ (m : UnpricedTable). m.items) (c.unpriced_label.ensures.unpriced ∙ c.take.ensures.unpriced ∙ c.patch.ensures.unpriced) ∙ c.in_default.ensures.unpriced
           ∙ ap (λ (m : UnpricedTable). m.items ++ unpriced_labels (length v.lines.items) (jumping f line r v)) c.restore-entry.ensures.unpriced

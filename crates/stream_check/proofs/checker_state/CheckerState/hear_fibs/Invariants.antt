@@ -1,6 +1,6 @@
 use Rattle.std.proofs.Common.{length, map}
 use Rattle.stream_check.specs.Frames.{Reading}
-use Rattle.stream_check.specs.History.{frame_items, fibs_items}
+use Rattle.stream_check.specs.Sent.{frame_sent, fibs_sent}
 use Rattle.stream_check.specs.Hearing.{IsLater}
 use Rattle.stream_check.proofs.Loops.{IsOnItsWay}
 use Rattle.stream_check.proofs.checker_state.CheckerState.hear_fibs.Given as goal
@@ -8,7 +8,7 @@ use Rattle.stream_check.proofs.checker_state.CheckerState.hear_fibs.Given as goa
 abbrev pub invariant-loop-fib : goal.invariant-loop-fib
 invariant-loop-fib g l =
     IsLater l.initial.self l.self
-    × ((r : Reading) → IsOnItsWay l.at (frame_items (map r.read l.fibs)) (fibs_items l.is_first (map r.read l.rest)) l.initial.self (g.R.Report.reported l.initial.report) l.self (g.R.Report.reported l.report))
+    × ((r : Reading) → IsOnItsWay l.at (frame_sent (map r.read l.fibs)) (fibs_sent l.is_first (map r.read l.rest)) l.initial.self (g.R.Report.reported l.initial.report) l.self (g.R.Report.reported l.report))
 
 abbrev pub decreases-loop-fib : goal.decreases-loop-fib
 decreases-loop-fib g l = length l.rest

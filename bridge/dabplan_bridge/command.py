@@ -1,0 +1,211 @@
+"""The command line of `dabplan-bridge`."""
+from __future__ import annotations
+
+import argparse
+import os
+import pathlib
+import re
+import signal
+import sys
+import types
+from typing import Callable, List, Optional, Type
+
+from . import convert
+from .addresses import Address, address_of
+from .compact import compact
+from .faults import PROGRAM, BadCommand, Stopped, Trouble, hold_signals, say
+from .fibs import COUNTS
+from .run import Options, run
+
+FOLDER = pathlib.Path(__file__).resolve().parents[1]
+"""The folder of the bridge."""
+DESCRIPTION = """\
+Puts the FIBs of a plan into the ETI(NI) or EDI stream of a multiplexer, frame by frame.
+
+Streams are files, FIFOs, '-' (standard input or output), tcp://HOST:PORT and udp://HOST:PORT. Results go to standard output,
+messages to standard error. The program is tested, not proved."""
+STATUSES = """\
+exit status:
+  0  the stream came to its end, or SIGTERM ended the program
+  1  a file, a child or the output failed; or a frame could not be filled
+  2  the command line is invalid; nothing was touched
+  4  a count that it will not guess about
+  5  the plan does not fit the multiplexer"""
+
+
+def whole(low: int, high: int, what: str) -> Callable[[str], int]:
+    """What reads a whole number in a range from the command line."""
+    def read(text: str) -> int:
+        if not re.fullmatch(r"[0-9]{1,10}", text) or not low <= int(text) <= high:
+            raise argparse.ArgumentTypeError(f"expected {what}, {low} to {high}: {text}")
+        return int(text)
+    return read
+
+
+def decimal(low: float, high: float, what: str) -> Callable[[str], float]:
+    """What reads a number with an optional fraction in a range from the command line."""
+    def read(text: str) -> float:
+        if not re.fullmatch(r"[+-]?[0-9]{1,4}(\.[0-9]{1,6})?", text) or not low <= float(text) <= high:
+            raise argparse.ArgumentTypeError(f"expected {what}, {low:g} to {high:g}: {text}")
+        return float(text)
+    return read
+
+
+def time_of_day(text: str) -> str:
+    """A time of day from the command line."""
+    if not re.fullmatch(r"([01][0-9]|2[0-3]):[0-5][0-9]:[0-5][0-9]", text):
+        raise argparse.ArgumentTypeError(f"expected a time of day, 00:00:00 to 23:59:59: {text}")
+    return text
+
+
+def address(text: str) -> Address:
+    """An address from the command line."""
+    try:
+        return address_of(text)
+    except ValueError as fault:
+        raise argparse.ArgumentTypeError(str(fault)) from None
+
+
+def is_program(path: str) -> bool:
+    """Whether a path is that of a program; a folder is none."""
+    return os.path.isfile(path) and os.access(path, os.X_OK)
+
+
+def on_path(name: str) -> Optional[str]:
+    """The program of this name on the path; None if there is none."""
+    return next((found for found in (os.path.join(folder, name) for folder in os.get_exec_path()) if is_program(found)), None)
+
+
+def own_program() -> Optional[str]:
+    """The program `dabplan` beside the bridge, in a clone or as installed; else that on the path; None if there is none."""
+    beside = [FOLDER.parent / "dabplan", FOLDER.parents[2] / "bin" / "dabplan" if len(FOLDER.parents) > 2 else FOLDER]
+    return next((str(path) for path in beside if is_program(str(path))), on_path("dabplan"))
+
+
+def program_of(given: Optional[str]) -> str:
+    """The program `dabplan` to run; `BadCommand` if it is none."""
+    if given is None:
+        found = own_program()
+        if found is None:
+            raise BadCommand("no program dabplan: --dabplan names it")
+        return found
+    found = given if is_program(given) else on_path(given) if "/" not in given else None
+    if found is None:
+        raise BadCommand(f"--dabplan {given}: no program")
+    return found
+
+
+def options_of(words: argparse.Namespace) -> Options:
+    """What the words of `run` ask for; `BadCommand` where options exclude each other."""
+    if words.clock and words.time:
+        raise BadCommand("--time and --clock exclude each other")
+    if words.offset is not None and not words.clock:
+        raise BadCommand("--offset is an option of --clock fig")
+    if words.resume_at is not None and words.anew:
+        raise BadCommand("--resume-at and --anew exclude each other")
+    for name in ("resume_at", "anew", "every"):
+        if getattr(words, name) not in (None, False) and words.log is None:
+            raise BadCommand(f"--{name.replace('_', '-')} is an option of --log")
+    return Options(
+        code=words.code, source=words.source, sink=words.sink, program=program_of(words.dabplan), format=words.format,
+        contacts=words.contacts, time=words.time, clock_is_fig=words.clock is not None, offset=words.offset or 0.0,
+        skip=words.skip, log=words.log, every=words.every or 250, resume_at=words.resume_at, anew=words.anew,
+        tolerance=words.tolerance, monitor=words.monitor, status=words.status)
+
+
+def add_run(commands: "argparse._SubParsersAction[argparse.ArgumentParser]") -> None:
+    """The command `run` and its options."""
+    one = commands.add_parser("run", help="plays a plan into a stream")
+    one.add_argument("code", metavar="CODE", help="the code file of the plan")
+    one.add_argument("--in", metavar="IN", dest="source", type=address, required=True, help="the stream of the multiplexer")
+    one.add_argument("--out", metavar="OUT", dest="sink", type=address, required=True,
+                     help="the stream for the modulator; tcp://:PORT is a server, on the loopback address if no other is named")
+    one.add_argument("--format", choices=("eti", "edi"), help="the format; found by the first bytes where it is not given")
+    one.add_argument("--contacts", metavar="FIFO", help="lines 'contact 3 closed' and 'contact 3 open'; made if absent")
+    one.add_argument("--time", metavar="HH:MM:SS", type=time_of_day,
+                     help="the time of the plan's first frame, those skipped included")
+    one.add_argument("--clock", choices=("fig",), help="take that time from FIG 0/10 of the stream, which is in UTC")
+    one.add_argument("--offset", metavar="H", type=decimal(-24, 24, "hours"), help="the hours to be added to FIG 0/10")
+    one.add_argument("--skip", metavar="N", type=whole(0, 2 ** 32 - 1, "a number of frames"), default=0,
+                     help="begin with the frame N of the plan")
+    one.add_argument("--log", metavar="FILE", help="keep what is given to the plan; a plan with a log is resumed")
+    one.add_argument("--every", metavar="N", type=whole(1, 3_600_000, "a number of frames"),
+                     help="a line in the log each N frames [default: 250]")
+    one.add_argument("--resume-at", metavar="COUNT", type=whole(0, COUNTS - 1, "a CIF count"),
+                     help="play the log to its end, and go on in the first frame of this count")
+    one.add_argument("--anew", action="store_true", help="begin the plan anew; the log is renamed")
+    one.add_argument("--tolerance", metavar="S", type=decimal(0, 59, "seconds"), default=2.0,
+                     help="the seconds by which count and clock may differ [default: 2]")
+    one.add_argument("--monitor", metavar="FIFO", help="the FIBs of what goes out, for a monitor; made if absent")
+    one.add_argument("--status", action="store_true", help="report each notice and each swap")
+    one.add_argument("--dabplan", metavar="PROGRAM", help="the program dabplan")
+    one.set_defaults(does=lambda words: run(options_of(words)))
+
+
+def compacted(words: argparse.Namespace) -> int:
+    """The command `compact`; returns the exit status."""
+    compact(words.log)
+    return 0
+
+
+def parser() -> argparse.ArgumentParser:
+    """The command line."""
+    top = argparse.ArgumentParser(prog=PROGRAM, description=DESCRIPTION, epilog=STATUSES,
+                                  formatter_class=argparse.RawDescriptionHelpFormatter)
+    commands = top.add_subparsers(required=True, metavar="COMMAND", dest="command")
+    one = commands.add_parser("fic", help="writes the FIBs of each frame of a stream")
+    one.add_argument("source", metavar="IN", type=address, help="the stream")
+    one.add_argument("--format", choices=("eti", "edi"), help="the format; found by the first bytes where it is not given")
+    one.set_defaults(does=lambda words: convert.fic(words.source, words.format))
+    one = commands.add_parser("insert", help="writes a stream with the FIC of a file")
+    one.add_argument("source", metavar="IN", type=address, help="the stream")
+    one.add_argument("fic", metavar="FIC", help="the FIBs")
+    one.add_argument("--format", choices=("eti", "edi"), help="the format; found by the first bytes where it is not given")
+    one.set_defaults(does=lambda words: convert.insert(words.source, words.fic, words.format))
+    add_run(commands)
+    one = commands.add_parser("compact", help="rewrites a log with one line for what is past")
+    one.add_argument("log", metavar="LOG", help="the log, of a bridge that does not run")
+    one.set_defaults(does=compacted)
+    return top
+
+
+def stop(number: int, _: Optional[types.FrameType]) -> None:
+    """Ends the bridge at a signal; further ones change nothing."""
+    hold_signals()
+    raise Stopped(signal.Signals(number).name)
+
+
+def unexpected(kind: Type[BaseException], fault: BaseException, trace: Optional[types.TracebackType]) -> None:
+    """Says in one line what no other line says."""
+    while trace is not None and trace.tb_next is not None:
+        trace = trace.tb_next
+    place = f" ({os.path.basename(trace.tb_frame.f_code.co_filename)}, line {trace.tb_lineno})" if trace is not None else ""
+    say(f"{kind.__name__}: {fault}{place}".replace("\n", " "))
+
+
+def fill_standard() -> None:
+    """Puts something that fails in the place of a standard stream that is closed: else the next file would be opened as it."""
+    for descriptor, flags in enumerate((os.O_WRONLY, os.O_RDONLY, os.O_WRONLY)):
+        try:
+            os.fstat(descriptor)
+        except OSError:
+            os.set_inheritable(os.open(os.devnull, flags), True)
+
+
+def main(arguments: Optional[List[str]] = None) -> int:
+    """Runs a command line; returns the exit status."""
+    sys.excepthook = unexpected
+    fill_standard()
+    for each in (signal.SIGTERM, signal.SIGINT):
+        signal.signal(each, stop)
+    try:
+        words = parser().parse_args(arguments)
+        return int(words.does(words))
+    except Trouble as fault:
+        say(fault)
+        return fault.status
+    except Stopped:
+        return Stopped.status
+    except MemoryError:
+        say("no memory")
+        return 1

@@ -1,0 +1,65 @@
+"""A frame of a stream, of either format: where its FIC is, and what the bridge has to know beside it."""
+from __future__ import annotations
+
+from dataclasses import dataclass
+from typing import Optional, Union
+
+from .fibs import crc
+
+
+@dataclass(frozen=True)
+class Frame:
+    """A frame of 24 ms in ETI(NI), or a packet of EDI, that has a FIC."""
+
+    data: bytes
+    """All bytes of the frame."""
+    start: int
+    """The offset of the FIC."""
+    size: int
+    """The bytes of the FIC: 96, in transmission mode III 128."""
+    mode: int
+    """The transmission mode, 1 to 4."""
+    low: int
+    """The CIF count modulo 250."""
+    whole: Optional[int]
+    """The CIF count, where the frame has it outside its FIC (EDI)."""
+    stc: bytes
+    """What it says of its sub-channels, in the form of ETI."""
+    crc_from: int
+    """The offset at which the bytes under the CRC begin."""
+    crc_at: int
+    """The offset of the CRC."""
+    wrong: int
+    """The CRC that is there, exclusive or the right one: 0 if the frame is not damaged."""
+
+    def fic(self) -> bytes:
+        """The FIC of the frame."""
+        return self.data[self.start:self.start + self.size]
+
+    def with_fic(self, fic: bytes) -> bytes:
+        """The bytes of the frame with another FIC of this size. A right CRC becomes the right one, a wrong one stays wrong."""
+        before = self.data[self.crc_from:self.start]
+        covered = b"".join((before, fic, self.data[self.start + self.size:self.crc_at]))
+        check = (crc(covered) ^ self.wrong).to_bytes(2, "big")
+        return b"".join((self.data[:self.crc_from], covered, check, self.data[self.crc_at + 2:]))
+
+
+@dataclass(frozen=True)
+class NoFrame:
+    """Bytes that can't be filled, and why."""
+
+    reason: str
+    size: int
+    """How many bytes they are."""
+
+
+Item = Union[Frame, NoFrame]
+"""What a reader finds in a stream."""
+
+MODES = (4, 1, 2, 3)
+"""The transmission mode of each value of MID (ETS 300 799, 5.3.5)."""
+
+
+def wrong_by(data: bytes, first: int, at: int) -> int:
+    """The CRC at an offset, exclusive or the right one of the bytes from `first` to there."""
+    return int.from_bytes(data[at:at + 2], "big") ^ crc(data[first:at])

@@ -1,0 +1,240 @@
+//! Remarks on standard error about the files of a command that failed or refused them: why a file can't be read, and what it
+//! is where it is of another kind than the command wants.
+
+use crate::args::Request;
+use console::escaped::Escaped;
+use console::exit::{Failure, Status};
+use console::files::Files;
+use fib_codec::crc16;
+use std::alloc::Global;
+use std::io::Read;
+use std::str;
+
+/// How many bytes of a file are looked at for its kind.
+const FRONT: usize = 4096;
+
+/// How many bytes of a file are looked at for one that is no UTF-8: more than any script has.
+const MOST: usize = 1_048_581;
+
+/// What a file holds, by its first bytes.
+#[derive(Clone, Copy, Debug, PartialEq, Eq)]
+enum Kind {
+    Code,
+    Script,
+    Fibs,
+    Eti,
+    Other,
+}
+
+/// What a remark can be made on.
+#[derive(Clone, Copy)]
+pub(crate) enum Remark<'a> {
+    /// The file of this path can't be read.
+    Unread(&'a str),
+    /// The command refused its input.
+    Refused,
+    /// Nothing.
+    Nothing,
+}
+
+impl<'a> Remark<'a> {
+    /// What can be remarked on where a command ended so.
+    pub(crate) fn on(ended: &Result<Status, Failure<'a>>) -> Remark<'a> {
+        match ended {
+            Err(Failure::Read(path)) => Remark::Unread(path),
+            Ok(Status::Refused) => Remark::Refused,
+            _ => Remark::Nothing,
+        }
+    }
+}
+
+/// Reports what else can be said of the files of a request.
+pub(crate) fn make_remark<F: Files>(
+    alloc: Global,
+    request: &Request<'_>,
+    remark: Remark<'_>,
+    files: &mut F,
+) {
+    match remark {
+        Remark::Unread(path) => {
+            let is_said = match wanted_of(request) {
+                Some((input, wanted)) => input == path && remark_kind(alloc, path, wanted, files),
+                None => false,
+            };
+            if !is_said && !is_monitor(request) {
+                remark_unread(alloc, path, is_text(request, path), files);
+            }
+        }
+        Remark::Refused => {
+            if let Some((path, wanted)) = wanted_of(request) {
+                let _is_said = remark_kind(alloc, path, wanted, files);
+            }
+        }
+        Remark::Nothing => {}
+    }
+}
+
+/// Reports why the file of a path can't be read, if that is known. Of a text that is where it is none.
+fn remark_unread<F: Files>(alloc: Global, path: &str, is_text: bool, files: &mut F) {
+    if path == "-" {
+        return;
+    }
+    let shown = Escaped::in_line(path);
+    if let Some(obstacle) = files.obstacle(path) {
+        if let Ok(line) = format!(in alloc; "{shown}: error: {obstacle}") {
+            files.report(line.as_str());
+        }
+        return;
+    }
+    if !is_text || !files.can_reread(path) {
+        return;
+    }
+    let bytes = front_of(alloc, path, MOST, files);
+    let Err(error) = str::from_utf8(bytes.as_slice()) else {
+        return;
+    };
+    let at = error.valid_up_to();
+    let Some(byte) = bytes.as_slice().get(at) else {
+        return;
+    };
+    let (line, column) = place_of(&bytes.as_slice()[..at]);
+    if let Ok(line) = format!(in alloc;
+        "{shown}:{line}:{column}: error: the byte {byte:02X} is no UTF-8"
+    ) {
+        files.report(line.as_str());
+    }
+}
+
+/// The line and the column, in bytes, of what follows these bytes.
+fn place_of(before: &[u8]) -> (usize, usize) {
+    let mut line = 1usize;
+    let mut column = 1usize;
+    for byte in before {
+        if *byte == b'\n' {
+            line = line.saturating_add(1);
+            column = 1;
+        } else {
+            column = column.saturating_add(1);
+        }
+    }
+    (line, column)
+}
+
+/// The file of a request that may be of another kind, and the kind that is wanted; a record is of no kind that is known.
+fn wanted_of<'r>(request: &Request<'r>) -> Option<(&'r str, Kind)> {
+    match request {
+        Request::Compile(request) => Some((request.script, Kind::Script)),
+        Request::Map(request) => Some((request.script, Kind::Script)),
+        Request::FrameScript(request) => Some((request.script, Kind::Script)),
+        Request::Verify(request) => Some((request.code, Kind::Code)),
+        Request::Play(request) => Some((request.code, Kind::Code)),
+        Request::Debug(request) => Some((request.code, Kind::Code)),
+        Request::Frame(request) => Some((request.config, Kind::Other)),
+        _ => None,
+    }
+}
+
+/// Whether it is a command whose standard error has nothing but hints on streams.
+fn is_monitor(request: &Request<'_>) -> bool {
+    matches!(request, Request::Check(_) | Request::Listen(_))
+}
+
+/// Whether a command reads the file of this path as text.
+fn is_text(request: &Request<'_>, path: &str) -> bool {
+    match request {
+        Request::Compile(_) | Request::Map(_) | Request::FrameScript(_) | Request::Diff(_) => true,
+        Request::Play(request) => path == request.events,
+        Request::Debug(request) => path == request.commands,
+        _ => false,
+    }
+}
+
+/// Reports what a file is, if it is of another kind than this; returns whether it is.
+fn remark_kind<F: Files>(alloc: Global, path: &str, wanted: Kind, files: &mut F) -> bool {
+    if path == "-" || !files.can_reread(path) {
+        return false;
+    }
+    let bytes = front_of(alloc, path, FRONT, files);
+    let kind = kind_of(bytes.as_slice());
+    if kind == wanted {
+        return false;
+    }
+    let Some(text) = text_of(kind, wanted) else {
+        return false;
+    };
+    let shown = Escaped::in_line(path);
+    if let Ok(line) = format!(in alloc; "{shown}: error: {text}") {
+        files.report(line.as_str());
+    }
+    true
+}
+
+/// What is said of a file of one kind where another is wanted.
+fn text_of(kind: Kind, wanted: Kind) -> Option<&'static str> {
+    match (kind, wanted) {
+        (Kind::Code, Kind::Script) => Some("this is a code file: its script is wanted"),
+        (Kind::Script, Kind::Code) => Some("this is a script: compile it first"),
+        (Kind::Script, Kind::Other) => Some("this is a script: with --script"),
+        (Kind::Code, _) => Some("this is a code file"),
+        (Kind::Fibs, _) => Some("these are FIBs"),
+        (Kind::Eti, _) => Some("this is ETI"),
+        _ => None,
+    }
+}
+
+/// The first bytes of a file, at most `most`; none if it can't be read.
+fn front_of<F: Files>(alloc: Global, path: &str, most: usize, files: &mut F) -> Vec<u8> {
+    let mut bytes: Vec<u8> = Vec::new(alloc);
+    if let Ok(file) = files.open(path) {
+        let _ = file.take(most as u64).read_to_end(&mut bytes);
+    }
+    bytes
+}
+
+/// What a file with these first bytes holds.
+fn kind_of(bytes: &[u8]) -> Kind {
+    if bytes.starts_with(b"DABP") {
+        return Kind::Code;
+    }
+    if is_fib(bytes) {
+        return Kind::Fibs;
+    }
+    if is_eti(bytes) {
+        return Kind::Eti;
+    }
+    if begins_script(bytes) {
+        return Kind::Script;
+    }
+    Kind::Other
+}
+
+/// Whether bytes begin with a FIB: 30 bytes, and their CRC (EN 300 401 clause 5.2.1).
+fn is_fib(bytes: &[u8]) -> bool {
+    let Some((fib, _others)) = bytes.split_first_chunk::<32>() else {
+        return false;
+    };
+    let sum = crc16(&fib[..30]).to_be_bytes();
+    fib[30] == sum[0] && fib[31] == sum[1]
+}
+
+/// Whether bytes begin with a frame of ETI (NI): its error field, and one of its two synchronisation words (EN 300 799
+/// clause 6.2).
+fn is_eti(bytes: &[u8]) -> bool {
+    match bytes.split_first() {
+        Some((_error, rest)) => {
+            rest.starts_with(&[0x07, 0x3A, 0xB6]) || rest.starts_with(&[0xF8, 0xC5, 0x49])
+        }
+        None => false,
+    }
+}
+
+/// Whether the first word of a text, behind comments, is that of a script.
+fn begins_script(bytes: &[u8]) -> bool {
+    for line in bytes.split(|byte| *byte == b'\n') {
+        let line = line.trim_ascii_start();
+        if !line.is_empty() && line[0] != b'#' {
+            return line.starts_with(b"ensemble ");
+        }
+    }
+    false
+}

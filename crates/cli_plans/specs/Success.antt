@@ -1,0 +1,53 @@
+-- What status 0 of `play` and `live` means, over files with known bytes. Of a code file no more than the longest and a
+-- byte is read.
+use Rattle.std.specs.Prelude.{◌≡◌, ℕ, List, [], take, Option, Some, IfSome}
+use Rattle.std.specs.Io.KnownBytes.{Appends}
+use Rattle.console.specs.Lines.{lines_of}
+use Rattle.console.specs.World.{World, Becomes, HasWritten}
+use Rattle.plan_player.specs.Playing.{Playing}
+use Rattle.plan_player.specs.Delivery.{played_bytes}
+use Rattle.plan_session.specs.declared.start.StartOptions.{StartOptions}
+use Rattle.plan_session.specs.declared.step.Step.{Step}
+use Rattle.plan_session.specs.Events.{events_of}
+use Rattle.plan_session.specs.Playback.{asked_from, Begins, IsPlayback}
+use Rattle.plan_live.specs.Lines.{LinesDo}
+use Rattle.plan_live.specs.Living.{kept_bytes}
+use Rattle.cli_plans.specs.declared.live.LiveRequest.{LiveRequest}
+use Rattle.cli_plans.specs.declared.play.PlayRequest.{PlayRequest}
+
+-- the file of this path has the frames of the run of a typed code over these events, and no other file has changed
+abbrev pub IsPlayedInto : (path code text : List ℕ) → StartOptions → (before after : Option World) → Type 0
+IsPlayedInto path code text start before after =
+    (p : Playing) × (steps : List Step) × IsPlayback (asked_from code text start) p steps
+    × Becomes (HasWritten path (played_bytes p (events_of steps))) before after
+
+-- status 0 of `play CODE EVENTS OUT`
+abbrev pub Plays : PlayRequest → (List ℕ → Option (List ℕ)) → (before after : Option World) → Type 0
+Plays r file before after =
+    (code text : List ℕ) → file r.code.now ≡ Some code → file r.events.now ≡ Some text
+    → IsPlayedInto r.out.now (take 1048577 code) text r.start before after
+
+-- standard output has taken the frames of the run of a typed code over these events, and nothing else
+abbrev pub IsPlayedTo : (code text : List ℕ) → StartOptions → (before after : Option (List ℕ)) → Type 0
+IsPlayedTo code text start before after =
+    (p : Playing) × (steps : List Step) × IsPlayback (asked_from code text start) p steps
+    × Appends before after (played_bytes p (events_of steps))
+
+-- status 0 of `play CODE EVENTS -`
+abbrev pub PlaysToOutput : PlayRequest → (List ℕ → Option (List ℕ)) → (before after : Option (List ℕ)) → Type 0
+PlaysToOutput r file before after =
+    (code text : List ℕ) → file r.code.now ≡ Some code → file r.events.now ≡ Some text
+    → IsPlayedTo (take 1048577 code) text r.start before after
+
+-- standard output has taken the frames of the run of a typed code over the steps of the lines of the input, except the
+-- first ones that are skipped, and nothing else
+abbrev pub IsLiveTo : LiveRequest → List ℕ → (input before after : Option (List ℕ)) → Type 0
+IsLiveTo r code input before after =
+    (p : Playing) × (steps : List Step) × Begins (asked_from code [] r.start) p
+    × IfSome input (λ text. LinesDo (lines_of text) steps)
+    × Appends before after (kept_bytes r.skip p (events_of steps))
+
+-- status 0 of `live CODE`
+abbrev pub Lives : LiveRequest → (List ℕ → Option (List ℕ)) → (input before after : Option (List ℕ)) → Type 0
+Lives r file input before after =
+    (code : List ℕ) → file r.code.now ≡ Some code → IsLiveTo r (take 1048577 code) input before after

@@ -1,0 +1,41 @@
+-- What statuses mean, in small cases: for each definition one in which it holds, and one in which it does not.
+use Rattle.std.proofs.Common.{◌≡◌, true, [], ◌∷◌, None, Some, Ok, Err, refl, ap, length, arith}
+use Rattle.stream_monitor.specs.declared.ending.Ending.TheVariants as endings
+use Rattle.stream_monitor.specs.declared.line.Cause.TheVariants as causes
+use Rattle.stream_monitor.specs.declared.line.Totals.{Totals}
+use Rattle.console.specs.declared.exit.Status.TheVariants.{Done, Refused, Faulty}
+use Rattle.cli_streams.specs.declared.frame.FrameFault.TheVariants.{NoSuchPage}
+use Rattle.cli_streams.specs.declared.listen.StreamFault.TheVariants.{NotWhole}
+use Rattle.cli_streams.specs.Stream.{unheard}
+use Rattle.cli_streams.specs.Success.{ListensTo, PrintsFrame, check_status, listen_status}
+
+abbrev totals : Totals
+totals = record { summary = record { frames = 1; skipped = 0; left_over = 0; damaged = 1 }; swaps = 0; faults = 1 }
+
+a_fault : check_status (endings.Counted totals) ≡ Faulty
+a_fault = refl
+
+no_totals : check_status (endings.Refused causes.NoEnsemble) ≡ Refused
+no_totals = refl
+
+not_refused : listen_status (Ok unheard) ≡ Done
+not_refused = refl
+
+refused : listen_status (Err NotWhole) ≡ Refused
+refused = refl
+
+-- a stream without a FIB is decoded; a byte is none
+no_fib : ListensTo (Some []) Done
+no_fib = (Ok unheard, (refl, refl), refl)
+
+a_byte : ListensTo (Some (7 ∷ [])) Refused
+a_byte = (Err NotWhole, omega arith, refl)
+
+bytes_are_written : PrintsFrame true (Ok (7 ∷ [])) (Some []) (Some (7 ∷ [])) Done
+bytes_are_written = (refl, λ raw. refl)
+
+other_bytes_are : PrintsFrame true (Ok (7 ∷ [])) (Some []) (Some []) Done → ⊥
+other_bytes_are h = let len = ap length (h.1 refl) in absurd (omega (arith, len))
+
+no_page : PrintsFrame true (Err NoSuchPage) (Some []) None Refused
+no_page = refl

@@ -1,6 +1,0 @@
-use Rattle.std.proofs.Common.{refl}
-use Rattle.cli_streams.proofs.Appending.{then_appends}
-use Rattle.cli_streams.proofs.json.print_other.Goals as goal
-
-pub returns : goal.returns
-returns g c = then_appends _ _ _ _ _ _ _ c.in_ok-write_all.ensures.bytes c.print_whole.ensures refl

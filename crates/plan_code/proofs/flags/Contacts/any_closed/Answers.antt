@@ -1,0 +1,6 @@
+use Rattle.std.proofs.Common.{◌∙◌, arith}
+use Rattle.plan_code.proofs.Meeting.{meets}
+use Rattle.plan_code.proofs.flags.Contacts.any_closed.Goals as goal
+
+pub returns : goal.returns
+returns c = c.intersects.ensures tt ∙ meets c.args.set c.args.self (omega arith)

@@ -1,0 +1,363 @@
+//! Follows a script up to its first refusal, with the rules of plans, and keeps what is known there.
+
+use crate::stop::{Refused, Stop, copied};
+use mux_config::{Config, Store};
+use plan_code::{Instr, Plan, Swap};
+use plan_flow::{Cause, Flow, test_opening};
+use script_compiler::{instr_of, line_of};
+use script_front::{Act, Script, Statement};
+use std::alloc::{AllocError, Global};
+
+/// The most steps: more than any script takes whose code is within its limits.
+const MOST: u32 = 200_000;
+
+/// What is done at the end of a list of statements.
+#[derive(Clone, Copy)]
+enum End<'a> {
+    /// It is a defined block, or the whole script.
+    Block,
+    /// It is the block of an `if`.
+    If { line: u16 },
+    /// It is the first block of an `if` with this second one.
+    First { line: u16, second: &'a [Statement] },
+    /// It is that second one; `falls` is whether the first reaches its end.
+    Second { line: u16, falls: bool },
+    /// It is the body of a loop; `ends` is whether the loop does.
+    Loop { line: u16, ends: bool },
+}
+
+/// Statements that are still to be followed.
+#[derive(Clone, Copy)]
+struct Frame<'a> {
+    rest: &'a [Statement],
+    /// How many blocks they may apply.
+    blocks: usize,
+    /// The line of the statement before them.
+    after: u16,
+    end: End<'a>,
+}
+
+/// A script that is followed: what is known, and what is still to be followed, the innermost statements last. It needs
+/// no deeper stack for statements inside others.
+#[derive(Drop)]
+struct Walk<'a> {
+    plan: Plan,
+    blocks: &'a [Vec<Statement>],
+    /// Whether each block has no instruction.
+    silent: Vec<bool>,
+    here: Flow<Config>,
+    /// What is known at the beginning of each open loop and `if`, or at the end of its first block.
+    saved: Vec<Flow<Config>>,
+    frames: Vec<Frame<'a>>,
+    /// Whether control reaches the next statement.
+    falls: bool,
+}
+
+/// Appends to a list.
+fn push<T: Drop>(list: &mut Vec<T>, item: T) -> Result<(), AllocError> {
+    match list.push(item) {
+        Ok(()) => Ok(()),
+        Err(_full) => Err(AllocError),
+    }
+}
+
+/// Whether statements have no instruction: they apply only blocks that have none.
+fn is_silent(silent: &[bool], statements: &[Statement]) -> bool {
+    for statement in statements {
+        let Statement::Apply { block, .. } = statement else {
+            return false;
+        };
+        if silent.get(usize::from(block.get())) == Some(&false) {
+            return false;
+        }
+    }
+    true
+}
+
+/// Nothing pending, and this configuration both current and next.
+pub(crate) fn beginning(config: &Config) -> Flow<Config> {
+    Flow {
+        current: Config::from_config(config),
+        next: Config::from_config(config),
+        pending: Swap::Idle,
+    }
+}
+
+/// The act of a statement that is one.
+fn act_of(statement: &Statement) -> Option<Act> {
+    match statement {
+        Statement::Act { act, .. } => Some(*act),
+        _ => None,
+    }
+}
+
+impl<'a> Walk<'a> {
+    /// The refusal of what is in this line, where `other` is known on the other path.
+    fn stop(&self, line: u16, refused: Refused, other: &Flow<Config>) -> Option<Stop> {
+        Some(Stop {
+            line,
+            refused,
+            in_opening: false,
+            plan: self.plan,
+            here: copied(&self.here),
+            other: copied(other),
+        })
+    }
+
+    /// The refusal of a statement.
+    fn stop_here(&self, line: u16, refused: Refused) -> Option<Stop> {
+        self.stop(line, refused, &self.here)
+    }
+
+    /// Merges the path with another one; a refusal in this line if they can't be.
+    fn join(&mut self, line: u16, other: Flow<Config>) -> Option<Stop> {
+        if !self.falls {
+            self.here = other;
+            self.falls = true;
+            return None;
+        }
+        if self.here.meet(&other) {
+            return None;
+        }
+        self.stop(line, Refused::Paths, &other)
+    }
+
+    /// Ends a loop that began with this.
+    fn close_loop(&mut self, line: u16, ends: bool, entry: Flow<Config>) -> Option<Stop> {
+        let fits = self.here.fits(&entry.current, &entry.next, entry.pending);
+        if self.falls && !fits {
+            return self.stop(line, Refused::Loop, &entry);
+        }
+        self.falls = self.falls && ends;
+        None
+    }
+
+    /// Ends a first block, and begins the second with what was known before both.
+    fn turn(
+        &mut self,
+        frame: Frame<'a>,
+        line: u16,
+        second: &'a [Statement],
+        entry: Flow<Config>,
+    ) -> Result<(), AllocError> {
+        let falls = self.falls;
+        push(&mut self.saved, copied(&self.here))?;
+        self.here = entry;
+        self.falls = true;
+        let end = End::Second { line, falls };
+        push(
+            &mut self.frames,
+            Frame {
+                rest: second,
+                end,
+                ..frame
+            },
+        )
+    }
+
+    /// Ends a list of statements.
+    fn close(&mut self, frame: Frame<'a>) -> Result<Option<Stop>, AllocError> {
+        if let End::Block = frame.end {
+            return Ok(None);
+        }
+        let Some(entry) = self.saved.pop() else {
+            return Ok(None);
+        };
+        match frame.end {
+            End::Block => Ok(None),
+            End::If { line } => Ok(self.join(line, entry)),
+            End::First { line, second } => {
+                self.turn(frame, line, second, entry)?;
+                Ok(None)
+            }
+            End::Second { line, falls } => Ok(if falls { self.join(line, entry) } else { None }),
+            End::Loop { line, ends } => Ok(self.close_loop(line, ends, entry)),
+        }
+    }
+
+    /// Begins the block of a statement, and saves what is known there.
+    fn open(
+        &mut self,
+        rest: &'a [Statement],
+        blocks: usize,
+        end: End<'a>,
+    ) -> Result<(), AllocError> {
+        push(&mut self.saved, copied(&self.here))?;
+        push(
+            &mut self.frames,
+            Frame {
+                rest,
+                blocks,
+                after: 0,
+                end,
+            },
+        )
+    }
+
+    /// Begins a defined block, if it has an instruction.
+    fn apply(&mut self, number: usize, blocks: usize) -> Result<(), AllocError> {
+        if number >= blocks || self.silent.get(number) == Some(&true) {
+            return Ok(());
+        }
+        let Some(block) = self.blocks.get(number) else {
+            return Ok(());
+        };
+        push(
+            &mut self.frames,
+            Frame {
+                rest: block.as_slice(),
+                blocks: number,
+                after: 0,
+                end: End::Block,
+            },
+        )
+    }
+
+    /// Executes an act.
+    fn act(&mut self, line: u16, act: &Act) -> Option<Stop> {
+        match self.here.apply(&self.plan, instr_of(*act)) {
+            Ok(()) => None,
+            Err(cause) => self.stop_here(line, Refused::Instr(instr_of(*act), cause)),
+        }
+    }
+
+    /// Follows a statement.
+    fn statement(
+        &mut self,
+        statement: &'a Statement,
+        blocks: usize,
+    ) -> Result<Option<Stop>, AllocError> {
+        match statement {
+            Statement::Act { line, act } => return Ok(self.act(*line, act)),
+            Statement::End { .. } => self.falls = false,
+            Statement::If { line, first, .. } => {
+                self.open(first.as_slice(), blocks, End::If { line: *line })?
+            }
+            Statement::IfElse {
+                line,
+                first,
+                second,
+                ..
+            } => {
+                let end = End::First {
+                    line: *line,
+                    second: second.as_slice(),
+                };
+                self.open(first.as_slice(), blocks, end)?
+            }
+            Statement::Repeat { line, body, .. } => {
+                let end = End::Loop {
+                    line: *line,
+                    ends: true,
+                };
+                self.open(body.as_slice(), blocks, end)?
+            }
+            Statement::Forever { line, body } => {
+                let end = End::Loop {
+                    line: *line,
+                    ends: false,
+                };
+                self.open(body.as_slice(), blocks, end)?
+            }
+            Statement::Apply { block, .. } => self.apply(usize::from(block.get()), blocks)?,
+        }
+        Ok(None)
+    }
+
+    /// Follows the next statement of a list, or ends it.
+    fn step(&mut self, frame: Frame<'a>) -> Result<Option<Stop>, AllocError> {
+        let Some((statement, rest)) = frame.rest.split_first() else {
+            return self.close(frame);
+        };
+        let line = line_of(statement);
+        if !self.falls {
+            let refused = Refused::Unreached {
+                act: act_of(statement),
+                after: frame.after,
+            };
+            return Ok(self.stop_here(line, refused));
+        }
+        push(
+            &mut self.frames,
+            Frame {
+                rest,
+                after: line,
+                ..frame
+            },
+        )?;
+        self.statement(statement, frame.blocks)
+    }
+}
+
+/// Whether each of these blocks has no instruction.
+fn silent_blocks(alloc: Global, blocks: &[Vec<Statement>]) -> Result<Vec<bool>, AllocError> {
+    let mut silent = Vec::new(alloc);
+    for block in blocks {
+        let is_silent = is_silent(silent.as_slice(), block.as_slice());
+        push(&mut silent, is_silent)?;
+    }
+    Ok(silent)
+}
+
+/// A refusal among the items of a script, or of the configuration that they make.
+pub(crate) fn opening_stop(script: &Script, line: u16, refused: Refused, config: &Config) -> Stop {
+    Stop {
+        line,
+        refused,
+        in_opening: true,
+        plan: script.header(),
+        here: beginning(config),
+        other: beginning(config),
+    }
+}
+
+/// The first refusal among the items of a script, or of the configuration that they make, which is put into `opening`.
+fn first_of_opening(script: &Script, opening: &mut Config) -> Option<Stop> {
+    for item in script.items() {
+        if let Err(fault) = item.edit.apply(opening) {
+            let refused = Refused::Instr(Instr::Edit(item.edit), Cause::Edit(fault));
+            return Some(opening_stop(script, item.line, refused, opening));
+        }
+    }
+    match test_opening(&script.header(), opening) {
+        Ok(()) => None,
+        Err(cause) => {
+            let refused = Refused::Opening(cause);
+            Some(opening_stop(script, script.begin_line(), refused, opening))
+        }
+    }
+}
+
+/// The first refusal of a script, and what is known there; none if no statement is refused, or none is found in so many
+/// steps. Costs and limits are not looked at.
+pub(crate) fn follow(alloc: Global, script: &Script) -> Result<Option<Stop>, AllocError> {
+    let mut opening = Config::new();
+    if let Some(stop) = first_of_opening(script, &mut opening) {
+        return Ok(Some(stop));
+    }
+    let mut walk = Walk {
+        plan: script.header(),
+        blocks: script.blocks(),
+        silent: silent_blocks(alloc, script.blocks())?,
+        here: beginning(&opening),
+        saved: Vec::new(alloc),
+        frames: Vec::new(alloc),
+        falls: true,
+    };
+    let whole = Frame {
+        rest: script.statements(),
+        blocks: script.blocks().len(),
+        after: 0,
+        end: End::Block,
+    };
+    push(&mut walk.frames, whole)?;
+    for _step in 0..MOST {
+        let Some(frame) = walk.frames.pop() else {
+            return Ok(None);
+        };
+        if let Some(stop) = walk.step(frame)? {
+            return Ok(Some(stop));
+        }
+    }
+    Ok(None)
+}

@@ -1,0 +1,423 @@
+//! Explains why a text is not a script.
+
+use crate::expected::Expected;
+use crate::keywords::HEADER;
+use crate::note::{Note, push, put_notes};
+use crate::probe::Front;
+use crate::repair::{Wrong, attempt_until, is_close, is_level};
+use crate::source::{Source, offset_of, put_bytes, token_at};
+use crate::trial::{Refusal, TextPatch, patched, position_of};
+use crate::trier::Trier;
+use script_front::{Position, ScriptFault, parse};
+use std::alloc::{AllocError, Global};
+use std::io::{self, Write};
+
+/// Tokens one of which is valid wherever a number, an identifier or a profile is, other than a time.
+const STAND_INS: [&str; 7] = ["1", "2", "12", "8", "A1B2", "A1B2C3D4", "3-A"];
+
+/// The most numbers that are explained beside the first one.
+const MOST: u32 = 20;
+
+/// The token at a position of a text; empty past its end.
+fn token_of(text: &str, position: Position) -> &[u8] {
+    let at = offset_of(text.as_bytes(), position);
+    match text.as_bytes().get(at..) {
+        Some(rest) => token_at(rest),
+        None => b"",
+    }
+}
+
+/// Writes the token at a position, after `word`.
+fn put_found<W: Write>(text: &str, position: Position, word: &str, out: &mut W) -> io::Result<()> {
+    let token = token_of(text, position);
+    if token.is_empty() {
+        return out.write_all(b"the script ends here");
+    }
+    out.write_all(word.as_bytes())?;
+    out.write_all(b"'")?;
+    put_bytes(token, out)?;
+    out.write_all(b"'")
+}
+
+/// Whether a token is a header keyword where another one is expected.
+fn is_out_of_order(alloc: Global, front: &Front, token: &[u8]) -> Result<bool, AllocError> {
+    let mut is_header = false;
+    let mut is_wanted = false;
+    for word in HEADER {
+        if word.as_bytes() == token {
+            is_header = true;
+        } else if front.passes(alloc, word)? {
+            is_wanted = true;
+        }
+    }
+    Ok(is_header && is_wanted)
+}
+
+/// The line of the token before one at fault, if it is another one, and that token does not end an item or a statement.
+fn line_before(
+    alloc: Global,
+    source: &Source,
+    front: &Front,
+    index: usize,
+    position: Position,
+) -> Result<Option<usize>, AllocError> {
+    if index == 0 || position.line == source.line(index - 1) {
+        return Ok(None);
+    }
+    let is_in_header = match source.index_of("budget") {
+        Some(at) => index <= at.saturating_add(2),
+        None => true,
+    };
+    if is_in_header || Expected::follows_whole(alloc, front)? {
+        return Ok(None);
+    }
+    Ok(Some(source.line(index - 1)))
+}
+
+/// Writes what is expected of the token at a position, and what is found.
+fn put_expected(
+    text: &str,
+    position: Position,
+    expected: &Expected,
+    after: Option<usize>,
+    note: &mut Note,
+) -> io::Result<()> {
+    let out = &mut note.text;
+    out.write_all(b"expected ")?;
+    expected.put(out)?;
+    if let Some(line) = after {
+        write!(out, " to go on from line {line}")?;
+    }
+    out.write_all(b"; ")?;
+    put_found(text, position, "found ", out)
+}
+
+/// Says more of an invalid token than what is expected.
+fn put_more(wrong: &Wrong, note: &mut Note) -> io::Result<()> {
+    let out = &mut note.text;
+    if let Some((seconds, frames)) = wrong.frames() {
+        return write!(
+            out,
+            ": a frame is 24 ms, so {seconds} s are {frames} frames"
+        );
+    }
+    if wrong.front.last() == "mode" && wrong.token == b"1".as_slice() {
+        return out.write_all(b": mode I is the default");
+    }
+    if wrong.token == b"uep".as_slice() {
+        return out.write_all(b": plans have equal error protection only");
+    }
+    if wrong.front.last() == "at" && wrong.token.contains(&b':') {
+        return out.write_all(b": a commit is at a CIF count, and 'until' waits for a time of day");
+    }
+    Ok(())
+}
+
+/// Advises on the end of a text within braces: which brace is open, and which block ends before it by its indentation.
+fn advise_brace(source: &Source, line: usize, note: &mut Note) -> io::Result<()> {
+    write!(
+        &mut note.hint,
+        "the brace opened in line {line} is not closed"
+    )?;
+    match source.unindented() {
+        Some((first, next)) => write!(
+            &mut note.hint,
+            "; by its indentation, the block of line {first} ends before line {next}"
+        ),
+        None => Ok(()),
+    }
+}
+
+/// Tries what may have been meant by an invalid token, and else the only keyword that is expected before it.
+fn try_token(trier: &mut Trier, wrong: &Wrong, expected: &Expected) -> Result<(), AllocError> {
+    wrong.attempt_all(trier)?;
+    match expected.only_keyword() {
+        Some(keyword) => trier.put_at(wrong.spot, keyword),
+        None => Ok(()),
+    }
+}
+
+/// Advises on an invalid token: by what may have been meant, or else in words.
+fn advise_token(
+    trier: &mut Trier,
+    wrong: &Wrong,
+    expected: &Expected,
+    note: &mut Note,
+) -> io::Result<()> {
+    let alloc = trier.alloc;
+    if is_out_of_order(alloc, wrong.front, wrong.token)? {
+        return note.hint.write_all(
+            b"the header's order: 'ensemble', 'mode', which may be left out, 'period', 'notice', 'budget'",
+        );
+    }
+    if is_level(wrong.token) && wrong.front.passes(alloc, "closed")? {
+        return note.hint.write_all(
+            b"write 'closed' where the input's circuit is closed, 'open' where it is not",
+        );
+    }
+    try_token(trier, wrong, expected)?;
+    put_more(wrong, note)?;
+    trier.put_hint(&mut note.hint)
+}
+
+/// Explains an invalid token: what is valid, and what may have been meant.
+fn explain_token(alloc: Global, text: &str, position: Position, note: &mut Note) -> io::Result<()> {
+    let mut trier = Trier::new(alloc, text, Refusal::Token(position))?;
+    let index = trier.source.count_before(position);
+    let front = Front::new(alloc, &trier.source, index)?;
+    let expected = Expected::at(alloc, &front)?;
+    let after = line_before(alloc, &trier.source, &front, index, position)?;
+    put_expected(text, position, &expected, after, note)?;
+    let token = token_of(text, position);
+    attempt_until(&mut trier, index)?;
+    if !trier.is_at_loss() {
+        if token.is_empty() {
+            note.shown = trier.source.position_before(index);
+        }
+        return trier.put_hint(&mut note.hint);
+    }
+    if let Some(spot) = trier.source.spot(index, 1) {
+        let wrong = Wrong {
+            front: &front,
+            spot,
+            token,
+        };
+        return advise_token(&mut trier, &wrong, &expected, note);
+    }
+    match trier.source.open_brace() {
+        Some(brace) if token.is_empty() => {
+            note.shown = Some(brace);
+            advise_brace(&trier.source, brace.line, note)
+        }
+        _ => Ok(()),
+    }
+}
+
+/// Explains a byte that is not allowed in a script.
+fn explain_byte(text: &str, position: Position, note: &mut Note) -> io::Result<()> {
+    let at = offset_of(text.as_bytes(), position);
+    if at == 0 && text.as_bytes().starts_with(&[0xEF, 0xBB, 0xBF]) {
+        note.shown = None;
+        note.text
+            .write_all(b"a byte-order mark of UTF-8 stands before the text")?;
+        return note.hint.write_all(b"save it without one");
+    }
+    let byte = match text.as_bytes().get(at) {
+        Some(byte) => *byte,
+        None => 0,
+    };
+    write!(
+        &mut note.text,
+        "the byte {byte:02X} is not allowed in a script outside comments"
+    )?;
+    note.hint.write_all(
+        b"letters, digits, '_', ':', '-', '{', '}', blanks and ';' are allowed there; '#' begins a comment",
+    )
+}
+
+/// Tries the names of defined blocks that are like an unknown one.
+fn try_names(trier: &mut Trier, position: Position, token: &[u8]) -> Result<(), AllocError> {
+    let count = trier.source.count_before(position);
+    let Some(spot) = trier.source.spot(count, 1) else {
+        return Ok(());
+    };
+    for index in 1..count {
+        let name = trier.source.word(index);
+        let is_name = trier.source.word(index.saturating_sub(1)) == "define";
+        if is_name && is_close(name.as_bytes(), token) {
+            trier.write_token(spot, name)?;
+        }
+    }
+    Ok(())
+}
+
+/// Explains a name that is not defined before.
+fn explain_unknown(
+    alloc: Global,
+    text: &str,
+    position: Position,
+    note: &mut Note,
+) -> io::Result<()> {
+    put_found(text, position, "", &mut note.text)?;
+    note.text
+        .write_all(b" is not the name of a block that is defined before")?;
+    let mut trier = Trier::new(alloc, text, Refusal::Token(position))?;
+    try_names(&mut trier, position, token_of(text, position))?;
+    if trier.is_at_loss() {
+        return note.hint.write_all(
+            b"'define' the block above the line that applies it; a block does not apply itself",
+        );
+    }
+    trier.put_hint(&mut note.hint)
+}
+
+/// Explains a token by what is wrong with it, and a hint.
+fn explain_found(
+    text: &str,
+    position: Position,
+    what: &str,
+    hint: &str,
+    note: &mut Note,
+) -> io::Result<()> {
+    put_found(text, position, "", &mut note.text)?;
+    note.text.write_all(what.as_bytes())?;
+    note.hint.write_all(hint.as_bytes())
+}
+
+/// Explains an exceeded limit.
+fn explain_limit(text: &str, position: Position, note: &mut Note) -> io::Result<()> {
+    let token = token_of(text, position);
+    let letters = token.len();
+    let out = &mut note.text;
+    if text.len() <= 1_048_576 && position.line <= 65_535 && letters > 32 {
+        return write!(out, "a token of {letters} bytes; the longest has 32");
+    }
+    note.shown = None;
+    if text.len() > 1_048_576 {
+        return out.write_all(b"the text has more than 1048576 bytes");
+    }
+    if position.line > 65_535 {
+        return out.write_all(b"a token is after line 65535");
+    }
+    if token == b"define".as_slice() {
+        return out.write_all(b"the 65th definition; a script has 64 at most");
+    }
+    out.write_all(b"the 8193rd item or statement; a script has 8192 at most")
+}
+
+/// A text with a valid token in the place of an invalid one, if one is found.
+fn with_stand_in(
+    alloc: Global,
+    source: &Source,
+    front: &Front,
+    index: usize,
+) -> Result<Option<String>, AllocError> {
+    let Some(spot) = source.spot(index, 1) else {
+        return Ok(None);
+    };
+    for token in STAND_INS {
+        if front.passes(alloc, token)? {
+            let patch = TextPatch {
+                start: spot.start,
+                end: spot.end,
+                part: String::from_str(alloc, token)?,
+            };
+            return patched(alloc, source.text, &patch);
+        }
+    }
+    Ok(None)
+}
+
+/// The position of the first number out of range in the header and the items of a text, if it is the text's first
+/// fault.
+fn bad_number(alloc: Global, source: &Source) -> Result<Option<Position>, AllocError> {
+    let position = match parse(alloc, source.text) {
+        Err(ScriptFault::Memory) => return Err(AllocError),
+        Err(ScriptFault::Number(position)) => position,
+        _ => return Ok(None),
+    };
+    match source.index_of("begin") {
+        Some(begin) if begin < source.count_before(position) => Ok(None),
+        _ => Ok(Some(position)),
+    }
+}
+
+/// The text with a valid token in the place of its first number out of range, on which a note is appended if `is_new`;
+/// none if it has no such number first.
+fn correct_one(
+    alloc: Global,
+    original: &Source,
+    text: &str,
+    is_new: bool,
+    notes: &mut Vec<Note>,
+) -> io::Result<Option<String>> {
+    let source = Source::new(alloc, text)?;
+    let Some(position) = bad_number(alloc, &source)? else {
+        return Ok(None);
+    };
+    let index = source.count_before(position);
+    let front = Front::new(alloc, &source, index)?;
+    if let (true, Some(token)) = (is_new, original.tokens().get(index)) {
+        let expected = Expected::at(alloc, &front)?;
+        let mut note = Note::at(alloc, token.position);
+        put_expected(original.text, token.position, &expected, None, &mut note)?;
+        push(notes, note)?;
+    }
+    Ok(with_stand_in(alloc, &source, &front, index)?)
+}
+
+/// Appends a note on each number that is out of range in the header and the items of a text after its first fault: it is
+/// found with valid ones in the place of those before it.
+fn note_numbers(alloc: Global, text: &str, notes: &mut Vec<Note>) -> io::Result<()> {
+    let original = Source::new(alloc, text)?;
+    let mut corrected = String::from_str(alloc, text)?;
+    for number in 0..MOST {
+        let next = correct_one(alloc, &original, corrected.as_str(), number > 0, notes)?;
+        let Some(next) = next else {
+            return Ok(());
+        };
+        corrected = next;
+    }
+    Ok(())
+}
+
+/// Notes on why a text is not a script: the position of the fault, what is valid there and, if one is found, the token
+/// that may have been meant; and each further number of the header and the items that is out of range. None if the fault
+/// is out of memory.
+///
+/// A token that may have been meant was tried: with it the first fault of the text, if it has one, is after it; where
+/// `then it is accepted` follows, `compile` accepts the text.
+///
+/// # Errors
+///
+/// `OutOfMemory`.
+pub fn notes_on_fault(alloc: Global, text: &str, fault: ScriptFault) -> io::Result<Vec<Note>> {
+    let mut notes = Vec::new(alloc);
+    let Some(position) = position_of(fault) else {
+        return Ok(notes);
+    };
+    let mut note = Note::at(alloc, position);
+    match fault {
+        ScriptFault::Byte(at) => explain_byte(text, at, &mut note)?,
+        ScriptFault::Number(at) => explain_token(alloc, text, at, &mut note)?,
+        ScriptFault::Expected(at) => explain_token(alloc, text, at, &mut note)?,
+        ScriptFault::Depth(at) => explain_found(
+            text,
+            at,
+            " would be more than 16 braces deep",
+            "put an inner block into a 'define' and 'apply' it",
+            &mut note,
+        )?,
+        ScriptFault::NameUsed(at) => explain_found(
+            text,
+            at,
+            " is the name of a block that is defined before",
+            "give one of both another name",
+            &mut note,
+        )?,
+        ScriptFault::NameUnknown(at) => explain_unknown(alloc, text, at, &mut note)?,
+        ScriptFault::Limit(at) => explain_limit(text, at, &mut note)?,
+        ScriptFault::Memory => {}
+    }
+    push(&mut notes, note)?;
+    if let ScriptFault::Number(_) = fault {
+        note_numbers(alloc, text, &mut notes)?;
+    }
+    Ok(notes)
+}
+
+/// Writes why a text is not a script, as notes.
+///
+/// # Errors
+///
+/// Those of the writer, and `OutOfMemory`.
+pub fn explain_fault<W: Write>(
+    alloc: Global,
+    path: &str,
+    text: &str,
+    fault: ScriptFault,
+    out: &mut W,
+) -> io::Result<()> {
+    let notes = notes_on_fault(alloc, text, fault)?;
+    put_notes(path, text, notes.as_slice(), out)
+}

@@ -1,8 +1,0 @@
-use Rattle.std.proofs.Common.{take}
-use Rattle.std.specs.Io.KnownBytes.{Appends}
-use Rattle.plan_map.specs.Layout.{layout_text}
-use Rattle.plan_map.proofs.layout.print_subs.Given as goal
-
--- the lines so far
-abbrev pub invariant-loop-sub : goal.invariant-loop-sub
-invariant-loop-sub g l = Appends (g.W.Write.contents l.fn.out) (g.W.Write.contents l.out) (layout_text (take l.sub-index l.subs))

@@ -1,8 +1,0 @@
-use Rattle.std.proofs.Common.{ℕ, List}
-use Rattle.std.specs.Io.KnownBytes.{Consumes}
-use Rattle.plan_session.specs.Gathered.{IsGathered}
-use Rattle.plan_session.proofs.text_file.read_text.Given as goal
-
--- the bytes read so far were taken
-abbrev pub invariant-loop : goal.invariant-loop
-invariant-loop g l = (seen : List ℕ) × Consumes (g.R.Read.remaining l.initial.source) (g.R.Read.remaining l.source) seen × IsGathered seen l.gathering

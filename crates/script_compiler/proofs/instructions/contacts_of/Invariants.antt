@@ -1,0 +1,6 @@
+use Rattle.std.proofs.Common.{◌≡◌, drop}
+use Rattle.script_compiler.specs.Alternatives.{with_alternatives, contacts_in}
+use Rattle.script_compiler.proofs.instructions.contacts_of.Given as goal
+
+abbrev pub invariant-loop-alternative : goal.invariant-loop-alternative
+invariant-loop-alternative l = with_alternatives l.closed (drop l.alternative-index l.alternatives) l.set ≡ contacts_in l.closed l.alternatives

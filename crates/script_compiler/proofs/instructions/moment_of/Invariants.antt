@@ -1,0 +1,6 @@
+use Rattle.std.proofs.Common.{◌≡◌, drop}
+use Rattle.script_compiler.specs.Alternatives.{moment_in}
+use Rattle.script_compiler.proofs.instructions.moment_of.Given as goal
+
+abbrev pub invariant-loop-alternative : goal.invariant-loop-alternative
+invariant-loop-alternative l = moment_in (drop l.alternative-index l.alternatives) ≡ moment_in l.alternatives

@@ -1,0 +1,112 @@
+-- The contradictions of a FIG, entry by entry, and what is reported of them.
+use Rattle.std.proofs.Common.{◌≡◌, ℕ, ◌<◌, ◌≤◌, ◌-◌, Bool, true, false, cond, List, [], ◌∷◌, ◌++◌, length, drop, take, map, Option, Some, None, refl, sym, ap, ◌∙◌, subst, arith, inl, inr}
+use Rattle.std.proofs.lemmas.Bool.{cases_lt, false≢true}
+use Rattle.std.proofs.lemmas.List.{append-nil, map-append, length-drop, take_all}
+use Rattle.fib_reader.specs.Listening.{Pictured}
+use Rattle.fig_mentions.specs.declared.mention.Mention.{Mention}
+use Rattle.fig_mentions.specs.Mentions.{entry_mention, entry_size, mentions_of, with_mention}
+use Rattle.fig_mentions.proofs.Whole.{of_none, of_cut, of_more}
+use Rattle.stream_check.specs.declared.contradiction.Contradiction.{Contradiction}
+use Rattle.stream_check.specs.declared.reporting.FrameAt.{FrameAt}
+use Rattle.stream_check.specs.Reporting.{in_frame}
+use Rattle.stream_check.specs.Reported.{Reported, with_more}
+use Rattle.stream_check.specs.Contradictions.{absent, absent_among, are_whole, contradicts, is_new, new_findings, noted_with}
+use Rattle.stream_check.specs.Hearing.{AreNoted}
+use Rattle.stream_check.proofs.Chain.{more_twice, more_none}
+use Rattle.stream_check.proofs.Sending.{noted_twice, found_twice}
+
+-- ---- whole entries
+
+whole_with : (m : Mention) (ms : Option (List Mention)) → are_whole (with_mention m ms) ≡ are_whole ms
+whole_with m None = refl
+whole_with m (Some ms) = refl
+
+-- the rest as a slice
+rest_of : (size : ℕ) (rest : List ℕ) → take (length rest - size) (drop size rest) ≡ drop size rest
+rest_of size rest = take_all (length rest - size) (drop size rest) (omega (arith, length-drop size rest))
+
+pub fits_where : (ext : ℕ) (long : Bool) (rest : List ℕ) → 0 < length rest → are_whole (mentions_of ext long rest) ≡ true → entry_size ext long rest ≤ length rest
+fits_where ext long rest some whole = elim (cases_lt (length rest) (entry_size ext long rest)) [
+  | inl cut ↦ absurd (false≢true (sym (ap are_whole (of_cut ext long rest some cut)) ∙ whole))
+  | inr fits ↦ fits
+]
+
+pub whole_more : (ext : ℕ) (long : Bool) (rest : List ℕ) (size : ℕ) → 0 < length rest → size ≡ entry_size ext long rest → size ≤ length rest
+    → are_whole (mentions_of ext long (take (length rest - size) (drop size rest))) ≡ are_whole (mentions_of ext long rest)
+whole_more ext long rest size some is fits =
+    ap (λ l. are_whole (mentions_of ext long l)) (rest_of size rest ∙ ap (λ s. drop s rest) is)
+    ∙ sym (whole_with (entry_mention ext long rest) (mentions_of ext long (drop (entry_size ext long rest) rest)))
+    ∙ sym (ap are_whole (of_more ext long rest some (omega (arith, is, fits))))
+
+pub whole_cut : (ext : ℕ) (long : Bool) (rest : List ℕ) (size : ℕ) → 0 < length rest → size ≡ entry_size ext long rest → length rest < size
+    → are_whole (mentions_of ext long rest) ≡ false
+whole_cut ext long rest size some is cut = ap are_whole (of_cut ext long rest some (omega (arith, is, cut)))
+
+pub whole_none : (ext : ℕ) (long : Bool) (rest : List ℕ) → length rest ≡ 0 → are_whole (mentions_of ext long rest) ≡ true
+whole_none ext long rest none = ap are_whole (of_none ext long rest none)
+
+-- ---- what is reported
+
+pub noted_nothing : (at : FrameAt) (noted : List Contradiction) (reported : Reported) → AreNoted at [] noted reported noted reported
+noted_nothing at noted reported = record { noted = sym (append-nil noted); findings = more_none reported }
+
+pub noted_more : (at : FrameAt) (xs ys a b c : List Contradiction) (ra rb rc : Reported) → AreNoted at xs a ra b rb → AreNoted at ys b rb c rc → AreNoted at (xs ++ ys) a ra c rc
+noted_more at xs ys a b c ra rb rc one two = record {
+  noted = two.noted ∙ ap (λ n. noted_with n ys) one.noted ∙ noted_twice xs ys a;
+  findings = two.findings
+      ∙ ap (λ n. with_more rb (map (in_frame at) (new_findings n ys))) one.noted
+      ∙ ap (λ r. with_more r (map (in_frame at) (new_findings (noted_with a xs) ys))) one.findings
+      ∙ more_twice ra (map (in_frame at) (new_findings a xs)) (map (in_frame at) (new_findings (noted_with a xs) ys))
+      ∙ ap (with_more ra) (sym (map-append (in_frame at) (new_findings a xs) (new_findings (noted_with a xs) ys))
+      ∙ ap (map (in_frame at)) (found_twice xs ys a));
+}
+
+-- one contradiction, by whether it is new
+pub noted_one : (at : FrameAt) (c : Contradiction) (old new : List Contradiction) (before after : Reported) (b : Bool) → b ≡ is_new old c
+    → (b ≡ true → new ≡ old ++ c ∷ []) → (b ≡ false → new ≡ old)
+    → (b ≡ true → after ≡ with_more before (in_frame at (contradicts c) ∷ [])) → (b ≡ false → after ≡ before)
+    → AreNoted at (c ∷ []) old before new after
+noted_one at c old new before after true is noted same found nothing = record {
+  noted = noted refl ∙ ap (λ t. old ++ cond t (c ∷ []) []) is;
+  findings = found refl ∙ ap (λ t. with_more before (map (in_frame at) (map contradicts (cond t (c ∷ []) [])))) is;
+}
+noted_one at c old new before after false is noted same found nothing = record {
+  noted = same refl ∙ sym (append-nil old) ∙ ap (λ t. old ++ cond t (c ∷ []) []) is;
+  findings = nothing refl ∙ more_none before ∙ ap (λ t. with_more before (map (in_frame at) (map contradicts (cond t (c ∷ []) [])))) is;
+}
+
+-- ---- entries in a loop: what was reported so far, and the rest
+
+pub record AreLeft (at : FrameAt) (k : Pictured) (ext : ℕ) (long : Bool) (all rest : List ℕ) (old : List Contradiction) (before : Reported) (now : List Contradiction) (reported : Reported) : Type 0 where
+  pub whole : are_whole (mentions_of ext long rest) ≡ true
+  pub left : (new : List Contradiction) (after : Reported) → AreNoted at (absent_among k ext (mentions_of ext long rest)) now reported new after
+      → AreNoted at (absent_among k ext (mentions_of ext long all)) old before new after
+
+pub left_all : (at : FrameAt) (k : Pictured) (ext : ℕ) (long : Bool) (all : List ℕ) (old : List Contradiction) (before : Reported) → are_whole (mentions_of ext long all) ≡ true
+    → AreLeft at k ext long all all old before old before
+left_all at k ext long all old before whole = record { whole = whole; left = λ new after h. h }
+
+absent_with : (k : Pictured) (ext : ℕ) (m : Mention) (ms : Option (List Mention)) → are_whole ms ≡ true → absent_among k ext (with_mention m ms) ≡ absent k ext m ++ absent_among k ext ms
+absent_with k ext m None whole = absurd (false≢true whole)
+absent_with k ext m (Some ms) whole = refl
+
+pub left_more : (at : FrameAt) (k : Pictured) (ext : ℕ) (long : Bool) (all rest : List ℕ) (size : ℕ) (old now then : List Contradiction) (before reported after : Reported) → 0 < length rest → size ≡ entry_size ext long rest
+    → AreNoted at (absent k ext (entry_mention ext long rest)) now reported then after → AreLeft at k ext long all rest old before now reported
+    → AreLeft at k ext long all (take (length rest - size) (drop size rest)) old before then after
+left_more at k ext long all rest size old now then before reported after some is one h =
+    let fits = fits_where ext long rest some h.whole in
+    let same : take (length rest - size) (drop size rest) ≡ drop (entry_size ext long rest) rest = rest_of size rest ∙ ap (λ s. drop s rest) is in
+    let whole : are_whole (mentions_of ext long (drop (entry_size ext long rest) rest)) ≡ true =
+    sym (whole_with (entry_mention ext long rest) (mentions_of ext long (drop (entry_size ext long rest) rest))) ∙ sym (ap are_whole (of_more ext long rest some fits)) ∙ h.whole in
+    let cut : absent_among k ext (mentions_of ext long rest) ≡ absent k ext (entry_mention ext long rest) ++ absent_among k ext (mentions_of ext long (drop (entry_size ext long rest) rest)) =
+    ap (absent_among k ext) (of_more ext long rest some fits) ∙ absent_with k ext (entry_mention ext long rest) (mentions_of ext long (drop (entry_size ext long rest) rest)) whole in
+    subst (λ (l : List ℕ). AreLeft at k ext long all l old before then after) (sym same) (record {
+      whole = whole;
+      left = λ new last more. h.left new last (subst (λ (cs : List Contradiction). AreNoted at cs now reported new last) (sym cut)
+          (noted_more at (absent k ext (entry_mention ext long rest)) (absent_among k ext (mentions_of ext long (drop (entry_size ext long rest) rest))) now then new reported after last one more));
+    })
+
+pub left_none : (at : FrameAt) (k : Pictured) (ext : ℕ) (long : Bool) (all rest : List ℕ) (old now : List Contradiction) (before reported : Reported) → length rest ≡ 0 → AreLeft at k ext long all rest old before now reported
+    → AreNoted at (absent_among k ext (mentions_of ext long all)) old before now reported
+left_none at k ext long all rest old now before reported none h =
+    h.left now reported (subst (λ (ms : Option (List Mention)). AreNoted at (absent_among k ext ms) now reported now reported) (sym (of_none ext long rest none)) (noted_nothing at now reported))

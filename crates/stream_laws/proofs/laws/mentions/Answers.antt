@@ -1,0 +1,7 @@
+use Rattle.std.proofs.Common.{refl}
+use Rattle.stream_laws.specs.Sorts.{is_of_mention}
+use Rattle.stream_laws.proofs.NoFault.{free_runs}
+use Rattle.stream_laws.proofs.laws.mentions.Goals as goal
+
+pub returns : goal.returns
+returns c = free_runs is_of_mention (record { appeared = λ name. refl; silent = λ name. refl }) c.findings.ensures

@@ -1,0 +1,15 @@
+-- The findings so far were told.
+use Rattle.std.proofs.Common.{◌≡◌, List, ◌++◌, length}
+use Rattle.stream_monitor.specs.declared.line.Line.{Line}
+use Rattle.stream_monitor.specs.Lines.{finding_lines}
+use Rattle.stream_monitor.specs.Log.{LogsLines}
+use Rattle.stream_monitor.proofs.check.tell_findings.Given as goal
+
+abbrev pub invariant-loop-finding : goal.invariant-loop-finding
+invariant-loop-finding g l =
+    (log : List Line) × LogsLines (g.M.Monitor.log l.initial.monitor) (g.M.Monitor.log l.monitor) log
+    × (log ++ finding_lines l.rest ≡ finding_lines l.findings)
+    × (g.M.Monitor.left l.monitor ≡ g.M.Monitor.left l.initial.monitor)
+
+abbrev pub decreases-loop-finding : goal.decreases-loop-finding
+decreases-loop-finding g l = length l.rest

@@ -1,4 +1,0 @@
-use Rattle.stream_monitor.proofs.json.print_overlap.Goals as goal
-
-pub returns : goal.returns
-returns g c = c.write.ensures.bytes

@@ -1,0 +1,77 @@
+#!/usr/bin/env python3
+"""What standard error says besides of a file that can't be read, or that is of another kind than the command wants. The last line is
+'N passed, M failed'."""
+import rows
+from rows import NOTHING, NOTHING_FILE, hexadecimal
+from streams import fib
+
+CODE = hexadecimal(NOTHING_FILE)
+FIBS = fib("05 00 E1 C5 00 00 FF")
+# A frame of ETI (NI) begins with its error field and FSYNC, 073AB6 or F8C549 in turn.
+ETI = [b"\xff\x07\x3a\xb6" + bytes(60), b"\xff\xf8\xc5\x49" + bytes(60)]
+
+
+def remarks(rows, line, printed, remark, files):
+    """A command ends with status 1; its line is on standard output, or on standard error where that has a product; the remark is
+    on standard error."""
+    ended = rows.run(line, files)
+    rows.tally.same(line, 1, ended.status)
+    rows.tally.hold(printed in ended.printed + ended.messages, f"{line}: {ended.printed} {ended.messages}")
+    rows.tally.hold(remark.encode() in ended.messages.splitlines(), f"{line}: {ended.messages}")
+
+
+def unread(rows):
+    """No such file, a folder, and a path through a file."""
+    missing = "none: error: No such file or directory"
+    for line in ("compile none o", "verify none", "map none", "frame none --script --count 0", "listen none --script",
+                 "diff none none"):
+        remarks(rows, line, b"cannot read none\n", missing, {})
+    for line in ("listen none", "check none"):
+        ended = rows.run(line)
+        rows.tally.same(f"{line}, of which standard error has only hints on streams", (1, b"cannot read none\n", b""),
+                        (*ended.lines(), ended.messages))
+    remarks(rows, "play c e o", b"cannot read e\n", "e: error: No such file or directory", {"c": CODE})
+    remarks(rows, "compile / o", b"cannot read /\n", "/: error: Is a directory", {})
+    remarks(rows, "compile c/x o", b"cannot read c/x\n", "c/x: error: Not a directory", {"c": CODE})
+
+
+def no_text(rows):
+    """A byte that is no UTF-8, with its line and column."""
+    remarks(rows, "compile s o", b"cannot read s\n", "s:2:4: error: the byte E9 is no UTF-8", {"s": b"ensemble E1C5\n  p\xe9riod\n"})
+    remarks(rows, "compile s o", b"cannot read s\n", "s:1:1: error: the byte FF is no UTF-8", {"s": b"\xff"})
+    remarks(rows, "diff s s", b"cannot read s\n", "s:1:3: error: the byte C3 is no UTF-8", {"s": b"# \xc3("})
+
+
+def other_kinds(rows):
+    """Files of another kind than the command wants."""
+    for line in ("compile s o", "map s", "frame s --script --count 0"):
+        remarks(rows, line, b"", "s: error: this is a code file: its script is wanted", {"s": CODE})
+        remarks(rows, line, b"", "s: error: these are FIBs", {"s": FIBS})
+        for eti in ETI:
+            remarks(rows, line, b"", "s: error: this is ETI", {"s": eti})
+    script = f"# a comment\n\n  {NOTHING}"
+    for line in ("verify s", "play s e o", "debug s e"):
+        remarks(rows, line, b"code: ", "s: error: this is a script: compile it first", {"s": script, "e": "frames 1" if "play" in line else "run 1"})
+        remarks(rows, line, b"code: ", "s: error: these are FIBs", {"s": FIBS, "e": "frames 1" if "play" in line else "run 1"})
+    remarks(rows, "frame s --ensemble E1C5 --count 0", b"record: ", "s: error: this is a script: with --script", {"s": NOTHING})
+    remarks(rows, "frame s --ensemble E1C5 --count 0", b"record: ", "s: error: this is a code file", {"s": CODE})
+
+
+def nothing_said(rows):
+    """Of a file of the right kind, and of an unknown one, nothing more is said."""
+    for line, files in (("verify c", {"c": CODE[:-1]}), ("compile s o --quiet", {"s": NOTHING + " join"}), ("verify c", {"c": "x"})):
+        ended = rows.run(line, files)
+        rows.tally.same(line, (1, b""), (ended.status, ended.messages))
+
+
+def nothing_false(rows):
+    """Of a pipe, of which what was read is gone, nothing is said by what comes behind it."""
+    events = b"\xff\n" + 20_000 * b"frames 1\n" + b"\xe9\n"
+    ended = rows.run("play c /dev/stdin o", {"c": CODE}, stdin=events)
+    rows.tally.same("play c /dev/stdin o", (1, b"cannot read /dev/stdin\n", b""), (*ended.lines(), ended.messages))
+    ended = rows.run("verify /dev/stdin", stdin=b"x" * 70_000 + CODE)
+    rows.tally.same("verify /dev/stdin", (1, b"code: Magic\n", b""), (*ended.lines(), ended.messages))
+
+
+if __name__ == "__main__":
+    rows.main([unread, no_text, other_kinds, nothing_said, nothing_false])
