@@ -9,8 +9,8 @@ use Rattle.script_config.specs.Making.{edits_that_make}
 use Rattle.script_config.specs.Sequences.{Transform, HaveNoFault, after}
 use Rattle.plan_code.specs.declared.label.Swap.TheVariants.{Idle}
 use Rattle.plan_code.specs.declared.plan.Plan.{Plan}
-use Rattle.plan_flow.specs.Flows.{Flow}
-use Rattle.plan_flow.specs.Rules.{pages_alone}
+use Rattle.plan_verifier.specs.Flows.{Flow}
+use Rattle.plan_verifier.specs.Rules.{pages_alone}
 use Rattle.script_compiler.specs.declared.fault.CompileFault.{CompileFault}
 use Rattle.script_compiler.specs.declared.fault.CompileFault.TheVariants.{Memory}
 use Rattle.script_front.specs.Alike.{added_by}

@@ -8,8 +8,8 @@ use Rattle.mux_config.specs.Configuration.{Configuration}
 use Rattle.plan_code.specs.declared.plan.Plan.{Plan}
 use Rattle.plan_code.specs.declared.instr.Instr.{Instr}
 use Rattle.plan_code.specs.declared.instr.Instr.TheVariants.{End}
-use Rattle.plan_flow.specs.Flows.{Flow, known_at, after_instr}
-use Rattle.plan_flow.specs.Rules.{IsFine, continues, target_of, suspends}
+use Rattle.plan_verifier.specs.Flows.{Flow, known_at, after_instr}
+use Rattle.plan_verifier.specs.Rules.{IsFine, continues, target_of, suspends}
 use Rattle.script_front.specs.declared.tree.Act.{Act}
 use Rattle.script_front.specs.declared.tree.Act.TheVariants.{Edit, Wait, WaitContact, WaitAny, Until, CommitIn, CommitAt, Join, Settle}
 use Rattle.script_front.specs.Block.{nothing}

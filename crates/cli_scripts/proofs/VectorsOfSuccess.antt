@@ -6,7 +6,7 @@ use Rattle.mux_config.specs.Configuration.{Configuration}
 use Rattle.plan_code.specs.Program.{Program, IsProgram}
 use Rattle.plan_code.specs.Spelling.{code_bytes}
 use Rattle.plan_code.specs.declared.instr.Instr.TheVariants.{End}
-use Rattle.plan_flow.proofs.Samples.{label, line, line_is, code, first_is}
+use Rattle.plan_verifier.proofs.Samples.{label, line, line_is, code, first_is}
 use Rattle.plan_verifier.proofs.OneVerdict.{typed_if}
 use Rattle.script_config.specs.declared.opening.Opening.{Opening}
 use Rattle.script_tokens.specs.declared.fault.ScriptFault.TheVariants.{Byte}

@@ -1,8 +1,8 @@
 -- A flag and its negation, and the cause that a test finds.
 use Rattle.std.proofs.Common.{◌≡◌, Bool, true, false, not, Option, Some, None, Err, refl}
 use Rattle.std.proofs.lemmas.Bool.{false≢true}
-use Rattle.plan_flow.specs.declared.cause.Cause.{Cause}
-use Rattle.plan_flow.specs.Tests.{unless}
+use Rattle.plan_verifier.specs.declared.cause.Cause.{Cause}
+use Rattle.plan_verifier.specs.Tests.{unless}
 
 pub not_both : (b : Bool) → b ≡ true → not b ≡ true → ⊥
 not_both true p q = false≢true q

@@ -12,10 +12,10 @@ use Rattle.plan_code.specs.declared.flags.Counters.{Counters}
 use Rattle.plan_code.specs.declared.plan.Plan.{Plan}
 use Rattle.plan_code.specs.declared.label.Label.{Label}
 use Rattle.plan_code.specs.Program.{Program, instr_at, label_at}
-use Rattle.plan_flow.specs.Rules.{leaves, IsFine}
-use Rattle.plan_flow.specs.Flows.{Flow, flow_of, known_with, after_instr, HasItsCounter}
-use Rattle.plan_flow.specs.declared.cause.Cause.{Cause}
-use Rattle.plan_flow.proofs.Leaving.{leaves_known}
+use Rattle.plan_verifier.specs.Rules.{leaves, IsFine}
+use Rattle.plan_verifier.specs.Flows.{Flow, flow_of, known_with, after_instr, HasItsCounter}
+use Rattle.plan_verifier.specs.declared.cause.Cause.{Cause}
+use Rattle.plan_verifier.proofs.Leaving.{leaves_known}
 use Rattle.plan_verifier.specs.Typing.{Known, Declares, IsTyping}
 use Rattle.plan_verifier.proofs.Tabled.{found, unlabelled}
 use Rattle.plan_explain.specs.declared.warning.Warning.{Warning}

@@ -1,6 +1,6 @@
 -- Short texts with changes, and what changes are worth.
 use Rattle.std.proofs.Common.{◌≡◌, false, ◌∷◌, [], refl, arith}
-use Rattle.plan_flow.specs.declared.cause.Cause.TheVariants.{Pending, NoChange}
+use Rattle.plan_verifier.specs.declared.cause.Cause.TheVariants.{Pending, NoChange}
 use Rattle.script_compiler.specs.declared.fault.CompileFault.TheVariants.{Refused}
 use Rattle.plan_explain.specs.declared.trial.Outcome.TheVariants.{Accepted, NoPlan}
 use Rattle.plan_explain.specs.declared.trial.Refusal.TheVariants.{Plan}

@@ -9,9 +9,9 @@ use Rattle.mux_types.specs.declared.parts.Sub.{Sub}
 use Rattle.mux_config.specs.Configuration.{Configuration, nothing}
 use Rattle.plan_code.specs.declared.label.Swap.TheVariants.{Idle, Within}
 use Rattle.plan_code.specs.declared.instr.Instr.TheVariants.{Join}
-use Rattle.plan_flow.specs.declared.cause.Cause.TheVariants.{JoinIdle, Pending, Mismatch}
-use Rattle.plan_flow.specs.Flows.{Flow, FitsFlow}
-use Rattle.plan_flow.proofs.Samples.{plan}
+use Rattle.plan_verifier.specs.declared.cause.Cause.TheVariants.{JoinIdle, Pending, Mismatch}
+use Rattle.plan_verifier.specs.Flows.{Flow, FitsFlow}
+use Rattle.plan_verifier.proofs.Samples.{plan}
 use Rattle.script_compiler.specs.declared.fault.CompileFault.TheVariants.{Refused as IsRefusedAt}
 use Rattle.plan_explain.specs.declared.difference.Compared.TheVariants.{Current, AfterSwap}
 use Rattle.plan_explain.specs.declared.difference.Difference.TheVariants.{Sub as OfSub}

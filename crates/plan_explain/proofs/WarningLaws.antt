@@ -7,7 +7,7 @@ use Rattle.mux_types.proofs.Elements.{contains_first, contains_none}
 use Rattle.mux_types.specs.Configuration.{Configuration, nothing}
 use Rattle.plan_code.specs.declared.instr.Line.{Line}
 use Rattle.plan_code.specs.Program.{Program}
-use Rattle.plan_flow.specs.Rules.{commits}
+use Rattle.plan_verifier.specs.Rules.{commits}
 use Rattle.plan_verifier.specs.Typing.{Known, IsTyping, IsTyped}
 use Rattle.script_front.specs.Tree.{Tree}
 use Rattle.plan_explain.specs.declared.flaw.Flaw.{Flaw}

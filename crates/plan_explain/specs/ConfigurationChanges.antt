@@ -3,7 +3,7 @@ use Rattle.std.specs.Prelude.{ℕ, if◌then◌else◌, List, [], ◌∷◌, ◌
 use Rattle.std.specs.List.{flat_map}
 use Rattle.mux_types.specs.Configuration.{Configuration, nothing}
 use Rattle.plan_code.specs.declared.instr.Line.{Line}
-use Rattle.plan_flow.specs.Rules.{commits}
+use Rattle.plan_verifier.specs.Rules.{commits}
 use Rattle.plan_verifier.specs.Typing.{Known}
 use Rattle.plan_explain.specs.declared.warning.Warning.{Warning}
 use Rattle.plan_explain.specs.declared.warning.Warning.TheVariants.{Flawed, OtherPrimary}

@@ -3,8 +3,8 @@ use Rattle.std.specs.Prelude.{◌≢◌, ◌||◌, not, if◌then◌else◌}
 use Rattle.mux_config.specs.Configuration.{Configuration, nothing}
 use Rattle.mux_config.specs.Edits.{sub_at, service_at, packet_at}
 use Rattle.plan_code.specs.declared.label.Swap.{Swap}
-use Rattle.plan_flow.specs.Flows.{Flow}
-use Rattle.plan_flow.specs.Tests.{is_idle}
+use Rattle.plan_verifier.specs.Flows.{Flow}
+use Rattle.plan_verifier.specs.Tests.{is_idle}
 use Rattle.plan_explain.specs.declared.difference.Compared.{Compared}
 use Rattle.plan_explain.specs.declared.difference.Compared.TheVariants.{Current, AfterSwap, Next}
 use Rattle.plan_explain.specs.declared.difference.Difference.{Difference}

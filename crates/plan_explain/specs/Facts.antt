@@ -13,7 +13,7 @@ use Rattle.mux_config.specs.Configuration.{Configuration}
 use Rattle.mux_config.specs.Edits.{sub_at, service_at, packet_at}
 use Rattle.fib_codec.specs.declared.frame_layout.FrameLayout.{FrameLayout}
 use Rattle.fib_carousel.specs.Pages.{page_set, rounds}
-use Rattle.plan_flow.specs.Flows.{Flow, FitsFlow}
+use Rattle.plan_verifier.specs.Flows.{Flow, FitsFlow}
 use Rattle.plan_explain.specs.declared.fact.Fact.{Fact}
 use Rattle.plan_explain.specs.declared.fact.Fact.TheVariants.{HasSub, HasPacket, HasService, HasComponent as HasPart, Lacks, LacksService, LacksComponent as LacksPart, Orphan, OrphanPacket, SameAddress, Empty, Shared, Swap, Pages as TakesPages, Differ as PathsDiffer, OtherSwap}
 use Rattle.plan_explain.specs.declared.fact.Overlap.{Overlap}

@@ -1,9 +1,9 @@
 -- Where a plan is refused, and what it means that what is known there refuses it.
 use Rattle.std.specs.Prelude.{◌≡◌, Some}
-use Rattle.plan_flow.specs.declared.cause.Cause.{Cause}
-use Rattle.plan_flow.specs.declared.cause.Cause.TheVariants.{Mismatch, Table}
-use Rattle.plan_flow.specs.Flows.{Flow, known_at, merged, FitsFlow}
-use Rattle.plan_flow.specs.Tests.{flow_cause, start_cause}
+use Rattle.plan_verifier.specs.declared.cause.Cause.{Cause}
+use Rattle.plan_verifier.specs.declared.cause.Cause.TheVariants.{Mismatch, Table}
+use Rattle.plan_verifier.specs.Flows.{Flow, known_at, merged, FitsFlow}
+use Rattle.plan_verifier.specs.Tests.{flow_cause, start_cause}
 use Rattle.script_compiler.specs.declared.fault.CompileFault.{CompileFault}
 use Rattle.script_compiler.specs.declared.fault.CompileFault.TheVariants.{Refused as IsRefusedAt}
 use Rattle.plan_explain.specs.declared.stop.Refused.{Refused}

@@ -4,8 +4,8 @@ use Rattle.mux_types.specs.Configuration.{Configuration}
 use Rattle.plan_code.specs.declared.label.Label.{Label}
 use Rattle.plan_code.specs.declared.instr.Line.{Line}
 use Rattle.plan_code.specs.Program.{Program, label_at}
-use Rattle.plan_flow.specs.Flows.{Flow, flow_of}
-use Rattle.plan_flow.specs.Rules.{commits}
+use Rattle.plan_verifier.specs.Flows.{Flow, flow_of}
+use Rattle.plan_verifier.specs.Rules.{commits}
 use Rattle.plan_verifier.specs.Typing.{Known}
 use Rattle.plan_explain.specs.declared.warning.Warning.{Warning}
 use Rattle.plan_explain.specs.ConfigurationChanges.{between}

@@ -10,8 +10,8 @@ use crate::words::{put_carrier, put_name, put_sid};
 use mux_config::{Config, Edit, EditFault, Store, Sub};
 use mux_eep::{EepFault, size_of};
 use plan_code::{Instr, Swap};
-use plan_flow::Cause;
-use plan_flow::flow::is_idle;
+use plan_verifier::Cause;
+use plan_verifier::flow::is_idle;
 use std::io::{self, Write};
 
 /// The lines of a loop or an `if`: of its first token, and of its last brace.

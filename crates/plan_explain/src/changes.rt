@@ -2,8 +2,8 @@
 
 ghost use Rattle.std.specs.Prelude.{◌≡◌, ◌++◌, [], List, OnOk, map};
 ghost use Rattle.std.specs.List.{flat_map};
-ghost use Rattle.plan_flow.specs.Rules.{IsFine, leaves};
-ghost use Rattle.plan_flow.specs.Flows.{flow_of};
+ghost use Rattle.plan_verifier.specs.Rules.{IsFine, leaves};
+ghost use Rattle.plan_verifier.specs.Flows.{flow_of};
 ghost use Rattle.plan_verifier.specs.Typing.{Known, IsTyping};
 ghost use Rattle.plan_explain.specs.declared.warning.Warning.TheVariants.{Flawed, OtherPrimary};
 ghost use Rattle.plan_explain.specs.Flaws.{unless_among};
@@ -16,8 +16,8 @@ use crate::primary::{Primary, primaries_of};
 use crate::warning::Warning;
 use mux_config::Config;
 use plan_code::{Code, Instr, Line, Plan, Swap};
-use plan_flow::Flow;
-use plan_flow::properties::commits;
+use plan_verifier::Flow;
+use plan_verifier::properties::commits;
 use std::alloc::{AllocError, Global};
 
 /// Appends a flaw in a line, unless it is among others.

@@ -8,9 +8,9 @@ use crate::stop::{Refused, Stop, copied};
 use crate::words::{Sides, put_fact};
 use mux_config::{Config, Store};
 use plan_code::{Code, CounterId, Counters, Instr, Label, Plan, Swap};
-use plan_flow::flow::{is_idle, is_same};
-use plan_flow::properties::{continues, suspends, target_of};
-use plan_flow::{Cause, Flow, test_opening};
+use plan_verifier::flow::{is_idle, is_same};
+use plan_verifier::properties::{continues, suspends, target_of};
+use plan_verifier::{Cause, Flow, test_opening};
 use std::alloc::Global;
 use std::io::{self, Write};
 

@@ -2,14 +2,14 @@
 
 ghost use Rattle.std.specs.Prelude.{◌≡◌, ◌≢◌, ◌↔◌, IsTrue, Some};
 ghost use Rattle.mux_config.specs.Edits.{service_at};
-ghost use Rattle.plan_flow.specs.Flows.{FitsFlow};
+ghost use Rattle.plan_verifier.specs.Flows.{FitsFlow};
 ghost use Rattle.plan_explain.specs.Differences.{compared, Differ, with_swap};
 
 use mux_config::{Config, ScId, Service, Sid, Store, SubId};
 use mux_types::sameness::is_same_service;
 use plan_code::Swap;
-use plan_flow::Flow;
-use plan_flow::flow::is_idle;
+use plan_verifier::Flow;
+use plan_verifier::flow::is_idle;
 
 /// Which configurations of two paths are compared.
 #[derive(Clone, Copy, Debug, PartialEq, Eq)]

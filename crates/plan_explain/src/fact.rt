@@ -14,7 +14,7 @@ use fib_codec::FrameLayout;
 use mux_config::{Carrier, Config, Packet, Sid, Store, Sub};
 use mux_eep::size_of;
 use plan_code::Swap;
-use plan_flow::Flow;
+use plan_verifier::Flow;
 
 /// Two sub-channels, and the first and the last capacity unit that both have.
 #[derive(Clone, Copy)]

@@ -9,7 +9,7 @@ use crate::fact::{Fact, holds, is_missing, overlap_of, pages_of};
 use crate::stop::{Refused, Stop};
 use mux_config::{Carrier, Component, Config, ConfigFault, Edit, EditFault, Store, SubId};
 use plan_code::Instr;
-use plan_flow::Cause;
+use plan_verifier::Cause;
 use std::alloc::{AllocError, Global};
 
 /// Appends a fact.

@@ -3,7 +3,7 @@
 use crate::stop::{Refused, Stop, copied};
 use mux_config::{Config, Store};
 use plan_code::{Instr, Plan, Swap};
-use plan_flow::{Cause, Flow, test_opening};
+use plan_verifier::{Cause, Flow, test_opening};
 use script_compiler::{instr_of, line_of};
 use script_front::{Act, Script, Statement};
 use std::alloc::{AllocError, Global};

@@ -9,8 +9,8 @@ use crate::trier::{Braces, Trier};
 use mux_config::{Carrier, Component, Config, Edit, EditFault, Packet, Sid, Store, Sub, SubId};
 use mux_eep::{EepFault, EepSet, Protection, size_of};
 use plan_code::{Instr, Plan, Swap};
-use plan_flow::Cause;
-use plan_flow::flow::{is_idle, is_same};
+use plan_verifier::Cause;
+use plan_verifier::flow::{is_idle, is_same};
 use script_front::lexemes::put_edit;
 use std::alloc::{AllocError, Global};
 

@@ -18,7 +18,7 @@ use crate::trier::Trier;
 use crate::words::{Sides, put_fact};
 use mux_config::{Carrier, Config, Edit, EditFault, Sid};
 use plan_code::Instr;
-use plan_flow::Cause;
+use plan_verifier::Cause;
 use script_compiler::CompileFault;
 use script_front::lexemes::put_act;
 use script_front::{Act, Position, Script};

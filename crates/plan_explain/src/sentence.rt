@@ -12,7 +12,7 @@ use fib_codec::FrameLayout;
 use mux_config::{Carrier, Config, Edit, EditFault, Store, Sub};
 use mux_eep::{EepFault, size_of};
 use plan_code::{Code, Instr, Plan, Swap};
-use plan_flow::Cause;
+use plan_verifier::Cause;
 use std::alloc::AllocError;
 use std::io::{self, Write};
 

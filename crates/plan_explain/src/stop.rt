@@ -1,13 +1,13 @@
 //! Where a plan is refused: the statement, the cause, and what is known there.
 
 ghost use Rattle.std.specs.Prelude.{◌≡◌, IfSome, IsTrue};
-ghost use Rattle.plan_flow.specs.Flows.{known_at, FitsFlow};
-ghost use Rattle.plan_flow.specs.Tests.{flow_cause, start_cause};
+ghost use Rattle.plan_verifier.specs.Flows.{known_at, FitsFlow};
+ghost use Rattle.plan_verifier.specs.Tests.{flow_cause, start_cause};
 ghost use Rattle.plan_explain.specs.Stops.{cause_of, AgreeAtMerge, IsRefusal, IsStop};
 
 use mux_config::{Config, Store};
 use plan_code::{Instr, Plan};
-use plan_flow::{Cause, Flow, test_opening};
+use plan_verifier::{Cause, Flow, test_opening};
 use script_compiler::CompileFault;
 use script_front::Act;
 

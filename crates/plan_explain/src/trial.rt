@@ -7,7 +7,7 @@ ghost use Rattle.plan_explain.specs.declared.trial.Outcome.TheVariants.{NoScript
 ghost use Rattle.plan_explain.specs.TextChanges.{IsWith, IsChanged, IsOutcome, IsJudged, IsTried};
 
 use crate::source::{Source, is_before};
-use plan_flow::Cause;
+use plan_verifier::Cause;
 use script_compiler::{CompileFault, compile};
 use script_front::{Position, ScriptFault, parse};
 use std::alloc::{AllocError, Global};

@@ -14,7 +14,7 @@ use Rattle.plan_code.specs.declared.instr.Instr.{Instr}
 use Rattle.plan_code.specs.declared.instr.Instr.TheVariants.{Wait, Until, WaitContact, WaitAny, CommitIn, CommitAt, Join, Settle, End, Edit as Edits, Test, TestTime, Jump, Set, Loop}
 use Rattle.plan_code.specs.declared.instr.Line.{Line}
 use Rattle.plan_code.specs.Program.{Program, instr_at, label_at}
-use Rattle.plan_flow.specs.Rules.{commits}
+use Rattle.plan_verifier.specs.Rules.{commits}
 use Rattle.plan_verifier.specs.Typing.{Known, IsTyping, IsFine, leaves, known_after_swap, after_wait, perhaps_swapped, after_pause, after_settle}
 use Rattle.plan_verifier.proofs.Tabled.{found, unlabelled}
 use Rattle.plan_runs.specs.Swaps.{IsCommit}

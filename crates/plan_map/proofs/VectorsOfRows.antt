@@ -11,7 +11,7 @@ use Rattle.plan_code.specs.declared.instr.Instr.TheVariants.{CommitIn, Join, End
 use Rattle.plan_code.specs.declared.instr.Line.{Line}
 use Rattle.plan_code.specs.Program.{Program}
 use Rattle.plan_code.specs.Machine.{State}
-use Rattle.plan_flow.proofs.Samples.{plan, counters, label}
+use Rattle.plan_verifier.proofs.Samples.{plan, counters, label}
 use Rattle.plan_verifier.specs.Typing.{Known}
 use Rattle.plan_runs.specs.Frames.{ready, burst}
 use Rattle.plan_runs.proofs.Samples.{first_state}

@@ -8,7 +8,7 @@ use Rattle.plan_code.specs.declared.instr.Instr.TheVariants.{Wait, Until, WaitCo
 use Rattle.plan_code.specs.declared.instr.Line.{Line}
 use Rattle.plan_code.specs.declared.label.Label.{Label}
 use Rattle.plan_code.specs.Program.{Program, label_at}
-use Rattle.plan_flow.specs.Rules.{commits}
+use Rattle.plan_verifier.specs.Rules.{commits}
 use Rattle.plan_map.specs.declared.rows.Row.{Row}
 use Rattle.plan_map.specs.declared.rows.RowKind.TheVariants.{Begin, Commit}
 use Rattle.plan_map.specs.declared.lead.Lead.TheVariants.{Begin as Beginning}

@@ -8,7 +8,7 @@ use crate::lead::{Lead, Reached, Ways, after, lead_of, ways_to};
 use mux_config::Config;
 use mux_types::BoundedVec;
 use plan_code::{Code, Instr, Line};
-use plan_flow::properties::commits;
+use plan_verifier::properties::commits;
 use std::alloc::{AllocError, Global};
 
 /// The kind of a row.

@@ -9,7 +9,7 @@ use Rattle.plan_code.specs.declared.instr.Instr.{Instr}
 use Rattle.plan_code.specs.declared.instr.Instr.TheVariants.{Join, End}
 use Rattle.plan_code.specs.Program.{Program}
 use Rattle.plan_code.specs.Machine.{State, StepIsAllowed, IsAllowed}
-use Rattle.plan_flow.proofs.Samples.{plan, label}
+use Rattle.plan_verifier.proofs.Samples.{plan, label}
 use Rattle.plan_runs.specs.declared.event.Event.{Event}
 use Rattle.plan_runs.specs.declared.event.Event.TheVariants.{Contact, Frame}
 use Rattle.plan_runs.specs.Frames.{Executes, FrameIsAllowed, after_burst, after_frame}

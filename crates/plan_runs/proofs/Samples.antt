@@ -5,7 +5,7 @@ use Rattle.plan_code.specs.declared.flags.Contacts.{Contacts}
 use Rattle.plan_code.specs.declared.hold.Hold.TheVariants.{Running}
 use Rattle.plan_code.specs.declared.instr.Line.{Line}
 use Rattle.plan_code.specs.Machine.{State}
-pub use Rattle.plan_flow.proofs.Samples.{plan, with_sub, one_sub, many_subs, empty_is, one_sub_is, counters, label, line, line_is, code, code_from, first_from_is}
+pub use Rattle.plan_verifier.proofs.Samples.{plan, with_sub, one_sub, many_subs, empty_is, one_sub_is, counters, label, line, line_is, code, code_from, first_from_is}
 use Rattle.plan_runs.specs.declared.event.Start.{Start}
 use Rattle.plan_runs.specs.Runs.{StartIsInRange, IsStart}
 

@@ -12,7 +12,7 @@ use Rattle.plan_code.specs.declared.instr.Instr.TheVariants.{WaitContact, Commit
 use Rattle.plan_code.specs.declared.instr.Line.{Line}
 use Rattle.plan_code.specs.Program.{Program}
 use Rattle.plan_code.specs.Machine.{State, left_at}
-use Rattle.plan_flow.proofs.Samples.{plan, sub_at_rate, counters}
+use Rattle.plan_verifier.proofs.Samples.{plan, sub_at_rate, counters}
 use Rattle.plan_runs.proofs.Samples.{first_state}
 use Rattle.plan_runs.specs.declared.event.Event.{Event}
 use Rattle.plan_runs.specs.declared.event.Event.TheVariants.{Contact, Frame}

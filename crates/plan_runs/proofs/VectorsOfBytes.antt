@@ -21,7 +21,7 @@ use Rattle.plan_code.specs.declared.plan.Plan.{Plan}
 use Rattle.plan_code.specs.declared.hold.Hold.TheVariants.{Ended}
 use Rattle.plan_code.specs.Program.{Program}
 use Rattle.plan_code.specs.Machine.{State}
-use Rattle.plan_flow.proofs.Samples.{sub_at_rate, with_sub, one_sub_is, lower_is}
+use Rattle.plan_verifier.proofs.Samples.{sub_at_rate, with_sub, one_sub_is, lower_is}
 use Rattle.plan_runs.specs.declared.event.Event.TheVariants.{Frame}
 use Rattle.plan_runs.specs.Frames.{FrameIsAllowed, sent_entries, ensemble_sent, shown_bytes, after_frame, frame_bytes}
 use Rattle.plan_runs.specs.Announced.{IsHeardInSome, IsHeardWhole, HasHeader, IsHeaded, HasThreeHeaders, IsFlagged, IsAnnounced, FrameRuns, EventRuns, Runs}

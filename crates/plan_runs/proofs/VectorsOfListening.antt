@@ -36,7 +36,7 @@ use Rattle.plan_code.specs.declared.hold.Hold.TheVariants.{Ended}
 use Rattle.plan_code.specs.declared.instr.Instr.TheVariants.{CommitIn, Join, End, Edit as Edits}
 use Rattle.plan_code.specs.Program.{Program, IsProgram}
 use Rattle.plan_code.specs.Machine.{State}
-use Rattle.plan_flow.proofs.Samples.{sub_at_rate, with_sub, one_sub, one_sub_is, label, line, line_is}
+use Rattle.plan_verifier.proofs.Samples.{sub_at_rate, with_sub, one_sub, one_sub_is, label, line, line_is}
 use Rattle.plan_verifier.proofs.OneVerdict.{typed_if}
 use Rattle.plan_runs.specs.declared.event.Event.TheVariants.{Frame}
 use Rattle.plan_runs.specs.TypedRuns.{IsPlayed}

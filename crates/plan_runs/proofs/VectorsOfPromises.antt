@@ -7,7 +7,7 @@ use Rattle.mux_types.specs.declared.entry.Entry.TheVariants.{Ensemble as Ensembl
 use Rattle.fib_codec.specs.Grammar.{Fig, Open, Other}
 use Rattle.fib_codec.specs.Heard.{IsInFig}
 use Rattle.plan_code.specs.Machine.{State}
-use Rattle.plan_flow.proofs.Samples.{plan, sub_at_rate}
+use Rattle.plan_verifier.proofs.Samples.{plan, sub_at_rate}
 use Rattle.plan_runs.specs.declared.event.Event.{Event}
 use Rattle.plan_runs.specs.declared.event.Event.TheVariants.{Contact, Frame}
 use Rattle.plan_runs.specs.Frames.{IsOneBurst, ready, after_burst}

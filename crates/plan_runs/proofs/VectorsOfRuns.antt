@@ -10,8 +10,8 @@ use Rattle.plan_code.specs.declared.instr.Line.{Line}
 use Rattle.plan_code.specs.declared.instr.Instr.TheVariants.{Wait, Join, End}
 use Rattle.plan_code.specs.Program.{Program, IsProgram}
 use Rattle.plan_code.specs.Machine.{State, IsAllowed}
-use Rattle.plan_flow.specs.declared.cause.Cause.TheVariants.{JoinIdle}
-use Rattle.plan_flow.proofs.Samples.{plan, with_sub, one_sub, one_sub_is, label, line, line_is, code_from, first_from_is}
+use Rattle.plan_verifier.specs.declared.cause.Cause.TheVariants.{JoinIdle}
+use Rattle.plan_verifier.proofs.Samples.{plan, with_sub, one_sub, one_sub_is, label, line, line_is, code_from, first_from_is}
 use Rattle.plan_verifier.proofs.OneVerdict.{typed_if, refused_if, codes_have_one_verdict}
 use Rattle.plan_runs.specs.declared.event.Event.TheVariants.{Contact, Frame}
 use Rattle.plan_runs.specs.declared.event.Start.{Start}

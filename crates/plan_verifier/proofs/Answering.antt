@@ -3,14 +3,15 @@
 use Rattle.std.proofs.Common.{◌≡◌, ℕ, ◌↔◌, Bool, true, false, IsTrue, refl, sym, ap, ◌∙◌, ◌&&◌, length, Option, Some, None, IfSome}
 use Rattle.plan_code.specs.declared.label.Label.{Label}
 use Rattle.plan_code.specs.Program.{Program, IsProgram, IsLabel, label_at}
-use Rattle.plan_flow.specs.declared.indices.IndexedFlow.{IndexedFlow}
-use Rattle.plan_flow.specs.Flows.{FitsFlow, flow_of, known_at}
-use Rattle.plan_flow.specs.Indexed.{flow_at, IsWithin}
-use Rattle.plan_flow.proofs.Finding.{swap_alone}
+use Rattle.plan_verifier.specs.declared.indices.IndexedFlow.{IndexedFlow}
+use Rattle.plan_verifier.specs.Flows.{FitsFlow, flow_of, known_at}
+use Rattle.plan_verifier.specs.Indexed.{flow_at, IsWithin}
+use Rattle.plan_verifier.proofs.Finding.{swap_alone}
 use Rattle.plan_verifier.specs.Held.{flow_of_label}
 use Rattle.plan_verifier.specs.Typing.{Known}
 use Rattle.plan_verifier.specs.Walking.{includes, fits_swap, is_fit, declared_by}
-use Rattle.plan_verifier.proofs.Deciding.{Decides, is_false, decides_fits, decides_fits_swap}
+use Rattle.plan_verifier.proofs.DecidingWalks.{decides_fits}
+use Rattle.plan_verifier.proofs.DecidingFlows.{Decides, is_false, decides_fits_swap}
 use Rattle.plan_verifier.proofs.Tabled.{tabled, label_of}
 
 pub same_answer : (r b : Bool) (P : Type 0) → (IsTrue r ↔ P) → Decides b P → r ≡ b

@@ -5,14 +5,15 @@ use Rattle.plan_code.specs.declared.label.Label.{Label}
 use Rattle.plan_code.specs.declared.instr.Instr.{Instr}
 use Rattle.plan_code.specs.declared.instr.Instr.TheVariants.{Wait, Until, WaitContact, WaitAny, CommitIn, CommitAt, Join, Settle, End, Edit as Edits, Test, TestTime, Jump, Set, Loop}
 use Rattle.plan_code.specs.Program.{Program, label_at}
-use Rattle.plan_flow.specs.declared.cause.Cause.{Cause}
-use Rattle.plan_flow.specs.declared.cause.Cause.TheVariants.{Target}
-use Rattle.plan_flow.specs.Flows.{HasItsCounter}
-use Rattle.plan_flow.proofs.Finding.{decides_is_true, decides_is_false, flow_computes, flow_fine, fine_none, none_two, two_none, none_if, if_none, not_not, refuted, none_where, needed, none_unless}
+use Rattle.plan_verifier.specs.declared.cause.Cause.{Cause}
+use Rattle.plan_verifier.specs.declared.cause.Cause.TheVariants.{Target}
+use Rattle.plan_verifier.specs.Flows.{HasItsCounter}
+use Rattle.plan_verifier.proofs.Finding.{decides_is_true, decides_is_false, flow_computes, flow_fine, fine_none, none_two, two_none, none_if, if_none, not_not, refuted, none_where, needed, none_unless}
 use Rattle.plan_verifier.specs.Typing.{Known, IsFine, continues, target_of, spent, Declares, Fits, CanEnter, Reaches}
 use Rattle.plan_verifier.specs.Refusals.{FitsLabel, EntryRefused, JumpRefused, InstrRefused, KnownRefused}
 use Rattle.plan_verifier.specs.Walking.{◌first_or◌, is_fit, declared_by, entry_cause, jump_cause, flow_cause, target_cause, instr_cause, known_cause}
-use Rattle.plan_verifier.proofs.Deciding.{Decides, Computes, decides_not, decides_both, decides_lt, decides_eq, decides_fits, computes_always, computes_where, computes_orelse}
+use Rattle.plan_verifier.proofs.DecidingWalks.{decides_fits}
+use Rattle.plan_verifier.proofs.DecidingFlows.{Decides, Computes, decides_not, decides_both, decides_lt, decides_eq, computes_always, computes_where, computes_orelse}
 use Rattle.plan_verifier.proofs.Tabled.{IsTabled, declared_once}
 
 -- ---- the cause found is the one that holds, if any does

@@ -14,13 +14,13 @@ use Rattle.plan_code.specs.declared.instr.Line.{Line}
 use Rattle.plan_code.specs.declared.instr.Instr.{Instr}
 use Rattle.plan_code.specs.declared.instr.Instr.TheVariants.{Wait, Until, WaitContact, WaitAny, CommitIn, CommitAt, Join, Settle, End, Edit as Edits, Test, TestTime, Jump, Set, Loop}
 use Rattle.plan_code.specs.Program.{Program, IsProgram, IsInstr, IsEdit, instr_at, label_at}
-use Rattle.plan_flow.specs.declared.cause.Cause.{Cause}
-use Rattle.plan_flow.specs.declared.cause.Cause.TheVariants.{Table}
-use Rattle.plan_verifier.specs.declared.cause.Refusal.{Refusal}
+use Rattle.plan_verifier.specs.declared.cause.Cause.{Cause}
+use Rattle.plan_verifier.specs.declared.cause.Cause.TheVariants.{Table}
+use Rattle.plan_verifier.specs.declared.refusal.Refusal.{Refusal}
 use Rattle.plan_verifier.specs.Typing.{Known, IsFine, leaves, continues, after_wait, perhaps_swapped, after_pause, after_settle, known_after_swap, Arrives, Declares, IsOpening, IsTyping, IsTyped}
 use Rattle.plan_verifier.specs.Refusals.{IsTypingBelow, IsFirstPast, IsRefusedAt, IsRefused, CodesHaveOneVerdict, left_before}
 use Rattle.plan_verifier.specs.Walking.{whole_cause, entered, known_cause, passed_on, refused_at, past_label, walk, refusal_of}
-use Rattle.plan_verifier.proofs.Deciding.{decides_le}
+use Rattle.plan_verifier.proofs.DecidingFlows.{decides_le}
 use Rattle.plan_verifier.proofs.Causes.{IsPassed, passed_none}
 use Rattle.plan_verifier.proofs.Entries.{whole_computes, IsHere, IsEnteredAt, entered_found}
 use Rattle.plan_verifier.proofs.Tabled.{IsTabled, AreFormed, tabled, found, mapped, declared_once}

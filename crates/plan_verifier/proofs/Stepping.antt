@@ -5,10 +5,10 @@ use Rattle.plan_code.specs.declared.label.Label.{Label}
 use Rattle.plan_code.specs.declared.instr.Line.{Line}
 use Rattle.plan_code.specs.declared.instr.Instr.{Instr}
 use Rattle.plan_code.specs.Program.{Program, instr_at, label_at}
-use Rattle.plan_flow.specs.declared.cause.Cause.{Cause}
+use Rattle.plan_verifier.specs.declared.cause.Cause.{Cause}
 use Rattle.plan_verifier.specs.Typing.{Known, leaves, continues}
 use Rattle.plan_verifier.specs.Walking.{whole_cause, unless, taken, opening_cause, opening_known, known_at_pc, entered, declared_by, known_cause, passed_on, known_if_reached, instr_or_end, refused_at, PassesInstr, past_end, walk, refusal_of}
-use Rattle.plan_flow.proofs.Finding.{unless_err, unless_ok}
+use Rattle.plan_verifier.proofs.Finding.{unless_err, unless_ok}
 use Rattle.plan_verifier.proofs.Verdicts.{dropped, slice_there, stops, passes}
 
 pub entered_first : (code : Program) (pc : ℕ) (came : Option Known) → pc ≡ 0 → entered code pc came ≡ opening_known code (label_at code 0)

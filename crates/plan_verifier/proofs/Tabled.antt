@@ -10,7 +10,7 @@ use Rattle.plan_code.specs.declared.instr.Line.{Line}
 use Rattle.plan_code.specs.Program.{Program, IsProgram, IsLabel, IsInstr, IsLine, label_key, label_at, instr_at}
 use Rattle.plan_code.proofs.Ascending.{find_at}
 use Rattle.plan_verifier.specs.Typing.{Known, Declares, IsTyping, Arrives, continues, leaves}
-use Rattle.plan_flow.specs.Indexed.{configuration_at}
+use Rattle.plan_verifier.specs.Indexed.{configuration_at}
 use Rattle.plan_verifier.specs.Walking.{declared_by}
 
 -- ---- lists

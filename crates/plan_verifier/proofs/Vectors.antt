@@ -13,9 +13,9 @@ use Rattle.plan_code.specs.declared.instr.Instr.{Instr}
 use Rattle.plan_code.specs.declared.instr.Line.{Line}
 use Rattle.plan_code.specs.declared.instr.Instr.TheVariants.{Wait, Until, WaitContact, WaitAny, CommitIn, CommitAt, Join, Settle, End, Edit as Edits, TestTime, Jump, Set, Loop}
 use Rattle.plan_code.specs.Program.{Program, IsProgram, IsLine, IsInstr}
-use Rattle.plan_flow.specs.declared.cause.Cause.{Cause}
-use Rattle.plan_flow.specs.declared.cause.Cause.TheVariants.{Target, Table, Edit as OfEdit, Config as OfConfig, Pending, NoChange, Notice, Count, JoinIdle, SwapUncertain, CounterUnset, Mismatch, Cost, FallsOff}
-use Rattle.plan_flow.proofs.Samples.{plan, counters, counting, counting_is, label, label_is, line, line_is, code, code_is, first_is}
+use Rattle.plan_verifier.specs.declared.cause.Cause.{Cause}
+use Rattle.plan_verifier.specs.declared.cause.Cause.TheVariants.{Target, Table, Edit as OfEdit, Config as OfConfig, Pending, NoChange, Notice, Count, JoinIdle, SwapUncertain, CounterUnset, Mismatch, Cost, FallsOff}
+use Rattle.plan_verifier.proofs.Samples.{plan, counters, counting, counting_is, label, label_is, line, line_is, code, code_is, first_is}
 use Rattle.plan_verifier.specs.Typing.{Known, leaves, IsTyped}
 use Rattle.plan_verifier.specs.Refusals.{IsRefused}
 use Rattle.plan_verifier.proofs.OneVerdict.{typed_if, refused_if, codes_have_one_verdict}

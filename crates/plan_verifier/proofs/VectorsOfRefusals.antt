@@ -10,9 +10,9 @@ use Rattle.plan_code.specs.declared.label.Swap.TheVariants.{Idle, Within}
 use Rattle.plan_code.specs.declared.instr.Instr.{Instr}
 use Rattle.plan_code.specs.declared.instr.Instr.TheVariants.{CommitIn, Join, End, Edit as Edits, Jump}
 use Rattle.plan_code.specs.Program.{Program, IsProgram, IsLabel, IsLine, IsInstr, instr_at, label_at, label_key}
-use Rattle.plan_flow.specs.declared.cause.Cause.{Cause}
-use Rattle.plan_flow.specs.declared.cause.Cause.TheVariants.{Target, Table, Edit as OfEdit, Pending, Notice, JoinIdle, Mismatch, Cost, Round, FallsOff}
-use Rattle.plan_flow.proofs.Samples.{plan, sub, counters, label, label_is, line, code, code_is, line_is, first_is}
+use Rattle.plan_verifier.specs.declared.cause.Cause.{Cause}
+use Rattle.plan_verifier.specs.declared.cause.Cause.TheVariants.{Target, Table, Edit as OfEdit, Pending, Notice, JoinIdle, Mismatch, Cost, Round, FallsOff}
+use Rattle.plan_verifier.proofs.Samples.{plan, sub, counters, label, label_is, line, code, code_is, line_is, first_is}
 use Rattle.plan_verifier.specs.Typing.{Known, Declares, HasOpening, IsLabelTyped, IsAfter, IsSafe}
 use Rattle.plan_verifier.specs.Refusals.{Where, WhereSome, ◌orelse◌, CommitRefused, FitsLabel, EntryRefused, JumpRefused, InstrRefused, KnownRefused, TakenRefused, LabelRefused, PcRefused, OpenedRefused, OpeningRefused, IsSafeBelow, IsTypingBelow, InstructionRefused, IsFirstPast, IsRefusedAt, IsRefused, HasOneVerdict}
 use Rattle.plan_verifier.proofs.Tabled.{IsTabled, tabled, declared_once}

@@ -10,11 +10,11 @@ use Rattle.plan_code.specs.declared.plan.Plan.{Plan}
 use Rattle.plan_code.specs.declared.label.Swap.TheVariants.{Idle, Within, Perhaps}
 use Rattle.plan_code.specs.declared.instr.Instr.{Instr}
 use Rattle.plan_code.specs.declared.instr.Instr.TheVariants.{Wait, Until, WaitContact, WaitAny, CommitIn, CommitAt, Join, Settle, Edit as Edits}
-use Rattle.plan_flow.specs.declared.cause.Cause.TheVariants.{Pending, JoinIdle, Edit as OfEdit}
-use Rattle.plan_flow.proofs.Samples.{plan, one_sub, sub}
+use Rattle.plan_verifier.specs.declared.cause.Cause.TheVariants.{Pending, JoinIdle, Edit as OfEdit}
+use Rattle.plan_verifier.proofs.Samples.{plan, one_sub, sub}
 use Rattle.plan_verifier.specs.Typing.{Known, CanCommit, IsFine, FitsSwap, leaves}
 use Rattle.plan_verifier.specs.Refusals.{InstrRefused}
-use Rattle.plan_verifier.proofs.Deciding.{decides_room}
+use Rattle.plan_verifier.proofs.DecidingFlows.{decides_room}
 use Rattle.plan_verifier.proofs.VectorsOfTyping.{knows, joins, edited, committed, joined, one_sub_is_sound, not_the_current}
 
 abbrev in_mode : Mode → Plan

@@ -14,9 +14,10 @@ use Rattle.plan_code.specs.declared.label.Swap.TheVariants.{Idle, Within, Perhap
 use Rattle.plan_code.specs.declared.instr.Instr.{Instr}
 use Rattle.plan_code.specs.declared.instr.Instr.TheVariants.{Wait, CommitIn, CommitAt, Join, End, Edit as Edits, Loop}
 use Rattle.plan_code.specs.Program.{Program, instr_at, label_at}
-use Rattle.plan_flow.proofs.Samples.{plan, sub, one_sub, counters, label, line, code}
+use Rattle.plan_verifier.proofs.Samples.{plan, sub, one_sub, counters, label, line, code}
 use Rattle.plan_verifier.specs.Typing.{Known, HasRoom, CanCommit, IsCertain, IsSurelyPending, IsFine, Declares, HasConfigurationsOf, FitsSwap, Fits, CanEnter, IsInitial, IsOpening, Arrives, HasOpening, IsLabelTyped, Reaches, IsAfter, IsSafe, IsTyping, leaves, continues}
-use Rattle.plan_verifier.proofs.Deciding.{decides_room, decides_includes, decides_initial}
+use Rattle.plan_verifier.proofs.DecidingWalks.{decides_includes, decides_initial}
+use Rattle.plan_verifier.proofs.DecidingFlows.{decides_room}
 
 -- ---- values shared by these vectors: the sub-channel of the samples, added to an empty multiplex
 

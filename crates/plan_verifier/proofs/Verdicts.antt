@@ -10,13 +10,13 @@ use Rattle.plan_code.specs.declared.label.Label.{Label}
 use Rattle.plan_code.specs.declared.instr.Line.{Line}
 use Rattle.plan_code.specs.declared.instr.Instr.{Instr}
 use Rattle.plan_code.specs.Program.{Program, IsProgram, label_key, instr_at, label_at}
-use Rattle.plan_flow.specs.declared.cause.Cause.{Cause}
-use Rattle.plan_flow.specs.declared.cause.Cause.TheVariants.{Table}
-use Rattle.plan_verifier.specs.declared.cause.Refusal.{Refusal}
+use Rattle.plan_verifier.specs.declared.cause.Cause.{Cause}
+use Rattle.plan_verifier.specs.declared.cause.Cause.TheVariants.{Table}
+use Rattle.plan_verifier.specs.declared.refusal.Refusal.{Refusal}
 use Rattle.plan_verifier.specs.Typing.{Known, leaves, continues, Arrives, Declares, HasOpening, IsLabelTyped, IsAfter, IsTyping, IsTyped}
 use Rattle.plan_verifier.specs.Refusals.{InstructionRefused, IsSafeBelow, IsTypingBelow, IsFirstPast, IsRefusedAt, IsRefused, left_by, left_before}
 use Rattle.plan_verifier.specs.Walking.{whole_cause, entered, known_cause, passed_on, refused_at, on_entry, or_after, past_label, walk}
-use Rattle.plan_verifier.proofs.Deciding.{Computes, decides_le, not_true, is_false}
+use Rattle.plan_verifier.proofs.DecidingFlows.{Computes, decides_le, not_true, is_false}
 use Rattle.plan_verifier.proofs.Causes.{IsPassed, known_passed}
 use Rattle.plan_verifier.proofs.Entries.{whole_computes, IsHere, IsEnteredAt, entered_told}
 use Rattle.plan_verifier.proofs.Tabled.{IsTabled, tabled, found}

@@ -1,7 +1,7 @@
 -- What is known, with each configuration in a store. No public contract refers to it.
 use Rattle.mux_config.specs.Configuration.{Configuration}
 use Rattle.plan_code.specs.declared.label.Label.{Label}
-use Rattle.plan_flow.specs.declared.indices.IndexedFlow.{IndexedFlow}
+use Rattle.plan_verifier.specs.declared.indices.IndexedFlow.{IndexedFlow}
 use Rattle.plan_verifier.specs.declared.known.KnownState.{KnownState}
 use Rattle.plan_verifier.specs.Typing.{Known}
 

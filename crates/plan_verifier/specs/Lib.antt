@@ -1,3 +1,8 @@
+pub mod Rules
+pub mod Causes
+pub mod Flows
+pub mod Tests
+pub mod Indexed
 pub mod Held
 pub mod Refusals
 pub mod Typing

@@ -1,5 +1,5 @@
 -- Why a code is refused, and where: the first cause in the order tested, at the first instruction that has one.
-pub use Rattle.plan_flow.specs.Causes.{Where, WhereSome, ◌orelse◌, CommitRefused, FlowRefused}
+pub use Rattle.plan_verifier.specs.Causes.{Where, WhereSome, ◌orelse◌, CommitRefused, FlowRefused}
 use Rattle.std.specs.Prelude.{◌≡◌, ℕ, zero, suc, ◌+◌, ◌<◌, ◌≤◌, ◌⊎◌, true, false, if◌then◌else◌, List, length, slice_get, Contains, Option, Some, None}
 use Rattle.mux_config.specs.Sound.{first_fault}
 use Rattle.plan_code.specs.declared.plan.Plan.{Plan}
@@ -8,8 +8,8 @@ use Rattle.plan_code.specs.declared.instr.Instr.{Instr}
 use Rattle.plan_code.specs.declared.instr.Instr.TheVariants.{Test, TestTime, Jump, Loop}
 use Rattle.plan_code.specs.Flags.{is_set}
 use Rattle.plan_code.specs.Program.{Program, IsProgram, instr_at, label_at}
-use Rattle.plan_flow.specs.declared.cause.Cause.{Cause}
-use Rattle.plan_flow.specs.declared.cause.Cause.TheVariants.{Target, Table, Config as OfConfig, CounterUnset, Mismatch, Cost, Round, FallsOff}
+use Rattle.plan_verifier.specs.declared.cause.Cause.{Cause}
+use Rattle.plan_verifier.specs.declared.cause.Cause.TheVariants.{Target, Table, Config as OfConfig, CounterUnset, Mismatch, Cost, Round, FallsOff}
 use Rattle.plan_verifier.specs.Typing.{Known, pages_alone, leaves, target_of, continues, spent, Declares, Fits, IsInitial, HasOpening, IsLabelTyped, IsAfter, IsFine, Reaches, Arrives, IsTyped}
 
 -- ---- at an instruction, given what is known there

@@ -1,7 +1,7 @@
 -- Typed codes: what is known at each instruction of a code, such that the code cannot trap. What an instruction needs,
--- and what holds after it, is defined in `plan_flow` and re-exported.
-pub use Rattle.plan_flow.specs.Rules.{Known, pages_alone, notice_pages, HasRoom, CanCommit, IsCertain, IsSurelyPending, IsFine, known_after_swap}
-pub use Rattle.plan_flow.specs.Rules.{after_wait, perhaps_swapped, after_pause, after_settle, spent, rested, leaves, HasConfigurationsOf, FitsSwap, target_of, continues}
+-- and what holds after it, is defined in `Rules.antt`; its names are here too.
+pub use Rattle.plan_verifier.specs.Rules.{Known, pages_alone, notice_pages, HasRoom, CanCommit, IsCertain, IsSurelyPending, IsFine, known_after_swap}
+pub use Rattle.plan_verifier.specs.Rules.{after_wait, perhaps_swapped, after_pause, after_settle, spent, rested, leaves, HasConfigurationsOf, FitsSwap, target_of, continues}
 use Rattle.std.specs.Prelude.{◌≡◌, ℕ, ◌+◌, ◌<◌, ◌≤◌, true, List, length, slice_get, Contains, Option, Some, None}
 use Rattle.mux_config.specs.Sound.{IsSound}
 use Rattle.plan_code.specs.declared.plan.Plan.{Plan}

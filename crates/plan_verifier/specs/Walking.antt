@@ -1,5 +1,5 @@
 -- The verifier's walk over a code, as functions. No public contract refers to it.
-pub use Rattle.plan_flow.specs.Tests.{cause_if, cause_of, ◌first_or◌, unless, is_same, is_idle, fits_swap, flow_cause, start_cause}
+pub use Rattle.plan_verifier.specs.Tests.{cause_if, cause_of, ◌first_or◌, unless, is_same, is_idle, fits_swap, flow_cause, start_cause}
 use Rattle.std.specs.Prelude.{◌≡◌, ℕ, zero, suc, ◌+◌, ◌==◌, ◌&&◌, Bool, not, if◌then◌else◌, nat_lt, nat_le, List, [], ◌∷◌, length, find, Option, Some, None, Result, Ok, Err}
 use Rattle.std.specs.Int.RustNames.{bit_and}
 use Rattle.plan_code.specs.declared.plan.Plan.{Plan}
@@ -10,10 +10,10 @@ use Rattle.plan_code.specs.declared.instr.Line.{Line}
 use Rattle.plan_code.specs.declared.instr.Instr.TheVariants.{End, Test, TestTime, Jump, Loop}
 use Rattle.plan_code.specs.Flags.{is_set}
 use Rattle.plan_code.specs.Program.{Program, label_at}
-use Rattle.plan_flow.specs.declared.cause.Cause.{Cause}
-use Rattle.plan_flow.specs.declared.cause.Cause.TheVariants.{Target, Table, CounterUnset, Mismatch, Cost, FallsOff}
-use Rattle.plan_flow.specs.Indexed.{configuration_at}
-use Rattle.plan_verifier.specs.declared.cause.Refusal.{Refusal}
+use Rattle.plan_verifier.specs.declared.cause.Cause.{Cause}
+use Rattle.plan_verifier.specs.declared.cause.Cause.TheVariants.{Target, Table, CounterUnset, Mismatch, Cost, FallsOff}
+use Rattle.plan_verifier.specs.Indexed.{configuration_at}
+use Rattle.plan_verifier.specs.declared.refusal.Refusal.{Refusal}
 use Rattle.plan_verifier.specs.Typing.{Known, leaves, continues, spent}
 
 abbrev pub includes : Counters → Counters → Bool

@@ -5,7 +5,7 @@ ghost use Rattle.plan_verifier.specs.Walking.{includes};
 
 use mux_config::Store;
 use plan_code::Counters;
-use plan_flow::TrackedFlow;
+use crate::TrackedFlow;
 
 /// What is known whenever the machine reaches an instruction, with each configuration in a store.
 #[derive(Drop)]

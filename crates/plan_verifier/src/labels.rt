@@ -2,14 +2,14 @@
 
 ghost use Rattle.std.specs.Prelude.{◌≡◌, ℕ, length, IfSome};
 ghost use Rattle.plan_code.specs.Program.{IsProgram, IsLabel, label_at};
-ghost use Rattle.plan_flow.specs.Indexed.{IsTracked};
+ghost use Rattle.plan_verifier.specs.Indexed.{IsTracked};
 ghost use Rattle.plan_verifier.specs.Held.{known_of, flow_of_label};
 ghost use Rattle.plan_verifier.specs.Walking.{unless, is_fit, declared_by, entry_cause, label_cause};
 
 use crate::known::{KnownState, includes};
 use mux_config::Store;
 use plan_code::{Code, Label};
-use plan_flow::{Cause, IndexedFlow};
+use crate::{Cause, IndexedFlow};
 
 /// The label at an instruction. Its fields are within their limits.
 pub(crate) fn label_at(code: &Code, pc: u16) -> Option<Label>

@@ -3,8 +3,8 @@
 ghost use Rattle.std.specs.Prelude.{◌≡◌, ◌≤◌, ◌+◌, ◌==◌, ◌&&◌, List, OnOk, length};
 ghost use Rattle.mux_config.specs.Configuration.{Configuration};
 ghost use Rattle.plan_code.specs.Program.{instr_at, label_at};
-ghost use Rattle.plan_flow.specs.Flows.{flow_of, known_with, after_instr, set_after, left_over};
-ghost use Rattle.plan_flow.specs.Indexed.{IsTracked};
+ghost use Rattle.plan_verifier.specs.Flows.{flow_of, known_with, after_instr, set_after, left_over};
+ghost use Rattle.plan_verifier.specs.Indexed.{IsTracked};
 ghost use Rattle.plan_verifier.specs.Held.{known_of};
 ghost use Rattle.plan_verifier.specs.Typing.{leaves, spent, continues};
 ghost use Rattle.plan_verifier.specs.Walking.{unless, flow_cause, target_cause, instr_cause, known_cause, jump_cause, instr_or_end};
@@ -13,8 +13,8 @@ use crate::known::KnownState;
 use crate::labels::{label_at, test_entry};
 use mux_config::Store;
 use plan_code::{Code, Instr, Plan};
-use plan_flow::Cause;
-use plan_flow::properties::continues;
+use crate::Cause;
+use crate::properties::continues;
 
 /// Checks a jump to the label at the target. Refusals: `Target`, where there is none, `Mismatch` and `Cost`.
 fn test_jump<S: Store>(code: &Code, target: u16, state: &mut KnownState<S>) -> Result<(), Cause>

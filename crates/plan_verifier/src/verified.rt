@@ -8,7 +8,7 @@ ghost use Rattle.plan_verifier.specs.Refusals.{IsRefused};
 use crate::walk::refusal;
 use mux_config::Store;
 use plan_code::Code;
-use plan_flow::Cause;
+use crate::Cause;
 use std::marker::Model;
 
 /// A code that `verify` has accepted: it is typed. In contracts it is the program that the code represents.

@@ -2,20 +2,20 @@
 
 ghost use Rattle.std.specs.Prelude.{◌≡◌, IfErr, OnOk, Ok, Err, Some, None, length};
 ghost use Rattle.plan_code.specs.Program.{IsProgram, instr_at, label_at};
-ghost use Rattle.plan_flow.specs.Indexed.{IsTracked};
+ghost use Rattle.plan_verifier.specs.Indexed.{IsTracked};
 ghost use Rattle.plan_verifier.specs.Held.{known_of};
 ghost use Rattle.plan_verifier.specs.Typing.{leaves, continues};
 ghost use Rattle.plan_verifier.specs.Walking.{whole_cause, opening_known, known_at_pc, entered, known_if_reached, known_cause, past_end, walk, refusal_of, opening_cause, is_initial, unless, PassesInstr, instr_or_end};
 
-use crate::cause::Refusal;
+use crate::refusal::Refusal;
 use crate::known::KnownState;
 use crate::labels::{label_at, take, test_cost, test_entry};
 use crate::step::{instr_at, judge};
 use mux_config::Store;
 use plan_code::{Code, Counters, Label, Swap};
-use plan_flow::flow::{is_idle, is_same};
-use plan_flow::properties::continues;
-use plan_flow::{Cause, Flow, TrackedFlow, test_opening};
+use crate::flow::{is_idle, is_same};
+use crate::properties::continues;
+use crate::{Cause, Flow, TrackedFlow, test_opening};
 
 /// Whether a code can start in this state: equal configurations, no pending swap and no counter set.
 fn is_initial<S: Store>(state: &KnownState<S>) -> bool

@@ -6,8 +6,8 @@ use Rattle.plan_code.specs.declared.instr.Instr.TheVariants.{Wait, Until, WaitCo
 use Rattle.plan_code.specs.declared.label.Swap.{Swap}
 use Rattle.plan_code.specs.declared.label.Swap.TheVariants.{Idle, Within, Perhaps}
 use Rattle.plan_code.specs.declared.plan.Plan.{Plan}
-use Rattle.plan_flow.specs.Rules.{Known, IsFine, known_after_swap, after_wait, after_pause, perhaps_swapped, after_settle}
-use Rattle.plan_flow.specs.Flows.{Flow, known_at, after_instr, widest}
+use Rattle.plan_verifier.specs.Rules.{Known, IsFine, known_after_swap, after_wait, after_pause, perhaps_swapped, after_settle}
+use Rattle.plan_verifier.specs.Flows.{Flow, known_at, after_instr, widest}
 use Rattle.script_front.specs.Block.{Block, nothing, basic, stop, when, either, repeat, forever, apply}
 use Rattle.script_compiler.specs.declared.flow.ProgramPoint.{ProgramPoint}
 use Rattle.script_compiler.specs.Scheme.{PlacedInstr, without_label, at_label, meet, join, onward, head, point_after, placed_instr, alone, places, instr_of_act, falls_out}

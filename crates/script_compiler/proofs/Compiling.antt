@@ -5,7 +5,7 @@ use Rattle.script_front.specs.Block.{Block, nothing, apply}
 use Rattle.script_compiler.specs.Judged.{IsJudged}
 use Rattle.script_compiler.specs.Refused.{IsRefusedIn}
 use Rattle.script_compiler.specs.declared.context.Context.{Context}
-use Rattle.plan_flow.specs.declared.cause.Cause.{Cause}
+use Rattle.plan_verifier.specs.declared.cause.Cause.{Cause}
 use Rattle.script_compiler.specs.declared.fault.CodeLimit.{CodeLimit}
 use Rattle.script_compiler.specs.declared.fault.CompileFault.{CompileFault}
 use Rattle.script_compiler.specs.declared.fault.CompileFault.TheVariants.{Refused, Limit, Memory}

@@ -1,7 +1,7 @@
 -- A block has a point after it exactly if it falls out.
 use Rattle.std.proofs.Common.{◌≡◌, Bool, ◌&&◌, ◌||◌, Option, Some, None, is_some, refl, ap, ◌∙◌}
 use Rattle.plan_code.specs.declared.plan.Plan.{Plan}
-use Rattle.plan_flow.specs.Flows.{after_instr}
+use Rattle.plan_verifier.specs.Flows.{after_instr}
 use Rattle.script_front.specs.Block.{Block, nothing, basic, stop, when, either, repeat, forever, apply}
 use Rattle.script_compiler.specs.declared.flow.ProgramPoint.{ProgramPoint}
 use Rattle.script_compiler.specs.Scheme.{without_label, at_label, meet, join, onward, head, instr_of_act, falls_out, point_after}

@@ -8,7 +8,7 @@ use Rattle.plan_code.specs.declared.instr.Instr.TheVariants.{End, Jump, Set, Loo
 use Rattle.plan_code.specs.Flags.{is_closed}
 use Rattle.plan_code.specs.Program.{Program, IsInstr, instr_at}
 use Rattle.plan_code.specs.Machine.{State, effect, effect_of, step, IsAllowed, StepIsAllowed}
-use Rattle.plan_flow.specs.Flows.{after_instr}
+use Rattle.plan_verifier.specs.Flows.{after_instr}
 use Rattle.plan_runs.specs.Frames.{is_running}
 use Rattle.script_front.specs.Block.{Block, nothing, basic, stop, when, either, repeat, forever, apply}
 use Rattle.script_compiler.specs.declared.flow.ProgramPoint.{ProgramPoint}

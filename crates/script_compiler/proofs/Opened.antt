@@ -4,12 +4,12 @@ use Rattle.std.specs.Prelude.{nat_lt}
 use Rattle.mux_config.specs.Configuration.{Configuration}
 use Rattle.mux_config.specs.Sound.{first_fault}
 use Rattle.plan_code.specs.declared.plan.Plan.{Plan}
-use Rattle.plan_flow.specs.declared.cause.Cause.{Cause}
-use Rattle.plan_flow.specs.declared.cause.Cause.TheVariants.{Config as OfConfig, Round}
-use Rattle.plan_flow.specs.Causes.{Where, WhereSome}
-use Rattle.plan_flow.specs.Rules.{pages_alone}
-use Rattle.plan_flow.specs.Tests.{unless, cause_of, cause_if, start_cause}
-use Rattle.plan_flow.proofs.Deciding.{Computes, computes_some, computes_where, computes_orelse, decides_lt}
+use Rattle.plan_verifier.specs.declared.cause.Cause.{Cause}
+use Rattle.plan_verifier.specs.declared.cause.Cause.TheVariants.{Config as OfConfig, Round}
+use Rattle.plan_verifier.specs.Causes.{Where, WhereSome}
+use Rattle.plan_verifier.specs.Rules.{pages_alone}
+use Rattle.plan_verifier.specs.Tests.{unless, cause_of, cause_if, start_cause}
+use Rattle.plan_verifier.proofs.DecidingFlows.{Computes, computes_some, computes_where, computes_orelse, decides_lt}
 use Rattle.script_compiler.specs.Refused.{IsOpeningRefused}
 
 opening_computes : (plan : Plan) (c : Configuration) → Computes (start_cause plan c) (IsOpeningRefused plan c)

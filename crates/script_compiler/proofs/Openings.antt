@@ -7,7 +7,7 @@ use Rattle.plan_code.specs.declared.plan.Plan.{Plan}
 use Rattle.plan_code.specs.declared.label.Label.{Label}
 use Rattle.plan_code.specs.declared.instr.Instr.TheVariants.{End, Jump}
 use Rattle.plan_code.specs.Program.{Program, label_at}
-use Rattle.plan_flow.specs.Flows.{Flow}
+use Rattle.plan_verifier.specs.Flows.{Flow}
 use Rattle.script_front.specs.Block.{Block, nothing, basic, stop, when, either, repeat, forever, apply}
 use Rattle.script_front.specs.Tree.{Tree}
 use Rattle.script_compiler.specs.declared.flow.ProgramPoint.{ProgramPoint}

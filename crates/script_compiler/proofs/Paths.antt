@@ -5,7 +5,7 @@ use Rattle.std.proofs.lemmas.Bool.{cases_lt}
 use Rattle.std.proofs.lemmas.Option.{slice_get_past}
 use Rattle.std.proofs.lemmas.List.{get_or_past, get_or_push, get_or_append_left}
 use Rattle.plan_code.specs.declared.instr.Instr.{Instr}
-use Rattle.plan_flow.specs.Rules.{continues, target_of, suspends}
+use Rattle.plan_verifier.specs.Rules.{continues, target_of, suspends}
 use Rattle.script_compiler.specs.Need.{StepsTo, HasPath, IsWithinBudget, IsNeed}
 use Rattle.plan_code.specs.declared.instr.Line.{Line}
 use Rattle.script_compiler.specs.Compiled.{instrs_of}

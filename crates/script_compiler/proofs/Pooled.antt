@@ -4,11 +4,11 @@ use Rattle.std.specs.Prelude.{slice_get}
 use Rattle.mux_config.specs.Configuration.{Configuration}
 use Rattle.mux_types.proofs.Walking.{cut}
 use Rattle.script_compiler.specs.Fingerprint.{print_of}
-use Rattle.plan_flow.specs.Flows.{Flow}
+use Rattle.plan_verifier.specs.Flows.{Flow}
 use Rattle.script_compiler.specs.declared.flow.ProgramPoint.{ProgramPoint}
-use Rattle.plan_flow.specs.declared.indices.IndexedFlow.{IndexedFlow}
-use Rattle.plan_flow.specs.declared.tracked.TrackedFlow.{TrackedFlow}
-use Rattle.plan_flow.specs.Indexed.{flow_at, IsAt, IsTracked}
+use Rattle.plan_verifier.specs.declared.indices.IndexedFlow.{IndexedFlow}
+use Rattle.plan_verifier.specs.declared.tracked.TrackedFlow.{TrackedFlow}
+use Rattle.plan_verifier.specs.Indexed.{flow_at, IsAt, IsTracked}
 use Rattle.script_compiler.specs.declared.short.IndexedPoint.{IndexedPoint}
 use Rattle.script_compiler.specs.Unpriced.{configuration_at}
 use Rattle.script_compiler.specs.Pool.{IsDistinct, Extends, AreBelow, IsInPool, AreInPool, point_in}

@@ -3,11 +3,11 @@ use Rattle.std.proofs.Common.{◌≡◌, ◌≢◌, ℕ, ◌+◌, ◌<◌, ◌�
 use Rattle.std.specs.Prelude.{IfErr}
 use Rattle.plan_code.specs.declared.instr.Instr.{Instr}
 use Rattle.plan_code.specs.declared.plan.Plan.{Plan}
-use Rattle.plan_flow.specs.declared.cause.Cause.{Cause}
-use Rattle.plan_flow.specs.declared.cause.Cause.TheVariants.{Table, Mismatch}
-use Rattle.plan_flow.specs.Flows.{Flow, known_at}
-use Rattle.plan_flow.specs.Causes.{FlowRefused}
-use Rattle.plan_flow.specs.Rules.{pages_alone}
+use Rattle.plan_verifier.specs.declared.cause.Cause.{Cause}
+use Rattle.plan_verifier.specs.declared.cause.Cause.TheVariants.{Table, Mismatch}
+use Rattle.plan_verifier.specs.Flows.{Flow, known_at}
+use Rattle.plan_verifier.specs.Causes.{FlowRefused}
+use Rattle.plan_verifier.specs.Rules.{pages_alone}
 use Rattle.mux_config.specs.Configuration.{Configuration}
 use Rattle.mux_config.specs.Sound.{IsSound}
 use Rattle.script_front.specs.Tree.{Tree}

@@ -9,9 +9,9 @@ use Rattle.plan_code.specs.declared.label.Swap.TheVariants.{Idle, Within, Perhap
 use Rattle.plan_code.specs.declared.plan.Plan.{Plan}
 use Rattle.plan_code.specs.Flags.{is_set, without_counter}
 use Rattle.plan_code.proofs.Bits.{counters_change_alone}
-use Rattle.plan_flow.specs.Rules.{Known, IsFine, FitsSwap, continues, target_of}
-use Rattle.plan_flow.specs.Flows.{Flow, known_at, known_with, after_instr, set_after, merged, FitsFlow}
-use Rattle.plan_flow.proofs.Finding.{commit_fine}
+use Rattle.plan_verifier.specs.Rules.{Known, IsFine, FitsSwap, continues, target_of}
+use Rattle.plan_verifier.specs.Flows.{Flow, known_at, known_with, after_instr, set_after, merged, FitsFlow}
+use Rattle.plan_verifier.proofs.Finding.{commit_fine}
 use Rattle.script_front.specs.declared.tree.Act.{Act}
 use Rattle.script_front.specs.declared.tree.Act.TheVariants.{Edit as Edits, Wait as Waits, WaitContact as WaitsContact, Until as WaitsUntil, WaitAny as WaitsAny, CommitIn as CommitsIn, CommitAt as CommitsAt, Join as Joins, Settle as Settles}
 use Rattle.script_front.specs.Block.{Block, nothing, basic, stop, when, either, repeat, forever, apply}

@@ -7,9 +7,9 @@ use Rattle.plan_code.specs.declared.instr.Instr.TheVariants.{Jump}
 use Rattle.plan_code.specs.declared.label.Swap.{Swap}
 use Rattle.plan_code.specs.declared.label.Swap.TheVariants.{Idle, Within, Perhaps}
 use Rattle.plan_code.specs.declared.plan.Plan.{Plan}
-use Rattle.plan_flow.specs.declared.cause.Cause.{Cause}
-use Rattle.plan_flow.specs.Flows.{Flow, known_at, merged, FitsFlow}
-use Rattle.plan_flow.specs.Rules.{FitsSwap}
+use Rattle.plan_verifier.specs.declared.cause.Cause.{Cause}
+use Rattle.plan_verifier.specs.Flows.{Flow, known_at, merged, FitsFlow}
+use Rattle.plan_verifier.specs.Rules.{FitsSwap}
 use Rattle.script_front.specs.Block.{Block}
 use Rattle.script_compiler.specs.declared.flow.UnpricedLabel.{UnpricedLabel}
 use Rattle.script_compiler.specs.declared.flow.ProgramPoint.{ProgramPoint}

@@ -3,8 +3,8 @@ use Rattle.std.proofs.Common.{◌≡◌, ℕ, zero, suc, ◌+◌, map, take, Vec
 use Rattle.std.specs.Prelude.{IfOk, OnOk}
 use Rattle.plan_code.specs.declared.instr.Instr.TheVariants.{Jump, Set, Loop}
 use Rattle.plan_code.specs.declared.plan.Plan.{Plan}
-use Rattle.plan_flow.specs.Flows.{known_at, after_instr}
-use Rattle.plan_flow.specs.Rules.{IsFine}
+use Rattle.plan_verifier.specs.Flows.{known_at, after_instr}
+use Rattle.plan_verifier.specs.Rules.{IsFine}
 use Rattle.script_front.specs.declared.tree.Act.{Act}
 use Rattle.script_front.specs.declared.tree.Statement.{Statement}
 use Rattle.script_front.specs.Block.{Block, nothing, basic, stop, when, either, repeat, forever, apply, named_at, before, block_of}

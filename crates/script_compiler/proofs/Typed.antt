@@ -15,9 +15,9 @@ use Rattle.plan_code.specs.declared.label.Swap.TheVariants.{Idle, Within, Perhap
 use Rattle.plan_code.specs.declared.plan.Plan.{Plan}
 use Rattle.plan_code.specs.Flags.{is_set}
 use Rattle.plan_code.specs.Program.{Program, instr_at, label_at}
-use Rattle.plan_flow.specs.Rules.{Known, FitsSwap, IsFine, spent, leaves, target_of, continues, pages_alone, suspends}
-use Rattle.plan_flow.specs.Flows.{Flow, known_at, after_instr, FitsFlow, known_with, rests, left_over}
-use Rattle.plan_flow.proofs.Leaving.{leaves_known}
+use Rattle.plan_verifier.specs.Rules.{Known, FitsSwap, IsFine, spent, leaves, target_of, continues, pages_alone, suspends}
+use Rattle.plan_verifier.specs.Flows.{Flow, known_at, after_instr, FitsFlow, known_with, rests, left_over}
+use Rattle.plan_verifier.proofs.Leaving.{leaves_known}
 use Rattle.plan_verifier.specs.Typing.{Declares, CanEnter, Arrives, HasOpening, IsLabelTyped, Reaches, IsAfter, IsSafe, IsTyped}
 use Rattle.script_front.specs.Block.{Block}
 use Rattle.script_front.specs.Tree.{Tree}

@@ -8,11 +8,11 @@ use Rattle.plan_code.specs.declared.plan.Plan.{Plan}
 use Rattle.plan_code.specs.declared.instr.Instr.{Instr}
 use Rattle.plan_code.specs.declared.instr.Instr.TheVariants.{Wait, Until, WaitContact, WaitAny, CommitIn, CommitAt, Join, Settle, End, Edit as Edits, Test, TestTime, Jump, Set, Loop}
 use Rattle.plan_code.specs.declared.instr.Line.{Line}
-use Rattle.plan_flow.specs.declared.cause.Cause.{Cause}
-use Rattle.plan_flow.specs.declared.cause.Cause.TheVariants.{Edit as OfEdit, Config as OfConfig, Pending, NoChange, Notice, Count, JoinIdle, SwapUncertain, Round, Table, Mismatch, Cost}
-use Rattle.plan_flow.specs.Rules.{Known}
-use Rattle.plan_flow.specs.Flows.{known_at}
-use Rattle.plan_flow.specs.Causes.{WhereSome, CommitRefused, FlowRefused}
+use Rattle.plan_verifier.specs.declared.cause.Cause.{Cause}
+use Rattle.plan_verifier.specs.declared.cause.Cause.TheVariants.{Edit as OfEdit, Config as OfConfig, Pending, NoChange, Notice, Count, JoinIdle, SwapUncertain, Round, Table, Mismatch, Cost}
+use Rattle.plan_verifier.specs.Rules.{Known}
+use Rattle.plan_verifier.specs.Flows.{known_at}
+use Rattle.plan_verifier.specs.Causes.{WhereSome, CommitRefused, FlowRefused}
 use Rattle.script_front.specs.declared.tree.Item.{Item}
 use Rattle.script_front.specs.Block.{Block, nothing, basic, stop, when, either, repeat, forever, apply}
 use Rattle.script_compiler.specs.declared.flow.ProgramPoint.{ProgramPoint}

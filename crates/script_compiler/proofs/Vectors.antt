@@ -12,7 +12,7 @@ use Rattle.plan_code.specs.declared.instr.Instr.TheVariants.{Wait as WaitInstr, 
 use Rattle.plan_code.specs.declared.instr.Line.{Line}
 use Rattle.plan_code.specs.Program.{Program, IsProgram}
 use Rattle.plan_code.specs.Machine.{State}
-use Rattle.plan_flow.proofs.Samples.{plan, label, code as labelled, first_is}
+use Rattle.plan_verifier.proofs.Samples.{plan, label, code as labelled, first_is}
 use Rattle.plan_verifier.proofs.OneVerdict.{typed_if}
 use Rattle.plan_runs.specs.declared.event.Event.TheVariants.{Contact, Frame}
 use Rattle.plan_runs.specs.declared.event.Start.{Start}

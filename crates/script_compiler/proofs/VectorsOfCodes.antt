@@ -11,9 +11,9 @@ use Rattle.plan_code.specs.declared.instr.Instr.{Instr}
 use Rattle.plan_code.specs.declared.instr.Instr.TheVariants.{Wait, WaitAny, Settle, End, Test, TestTime, Jump, Set, Loop}
 use Rattle.plan_code.specs.Program.{Program}
 use Rattle.plan_code.specs.declared.limits.TheConstants.{MOST_CONFIGURATIONS}
-use Rattle.plan_flow.proofs.Samples.{plan, sub, one_sub}
-use Rattle.plan_flow.specs.Flows.{Flow, widest, FitsFlow}
-use Rattle.plan_flow.specs.Rules.{suspends}
+use Rattle.plan_verifier.proofs.Samples.{plan, sub, one_sub}
+use Rattle.plan_verifier.specs.Flows.{Flow, widest, FitsFlow}
+use Rattle.plan_verifier.specs.Rules.{suspends}
 use Rattle.script_front.specs.declared.tree.Act.TheVariants.{Wait as Waits, WaitAny as WaitsAny, Join as Joins, Settle as Settles}
 use Rattle.script_front.specs.declared.tree.Item.{Item}
 use Rattle.script_front.specs.declared.tree.Condition.TheVariants.{Contact as IfContact, Time as IfTime}

@@ -1,8 +1,8 @@
 -- Test vectors of the result of compiling a block, the block without statements; and of faults and limits.
 use Rattle.std.proofs.Common.{◌≡◌, ℕ, ◌+◌, ◌≤◌, true, false, [], ◌∷◌, length, Some, None, Ok, Err, refl, ap, arith}
 use Rattle.plan_code.specs.declared.instr.Instr.{Instr}
-use Rattle.plan_flow.specs.declared.cause.Cause.{Cause}
-use Rattle.plan_flow.specs.declared.cause.Cause.TheVariants.{Mismatch, Cost}
+use Rattle.plan_verifier.specs.declared.cause.Cause.{Cause}
+use Rattle.plan_verifier.specs.declared.cause.Cause.TheVariants.{Mismatch, Cost}
 use Rattle.script_front.specs.declared.tree.Statement.TheVariants.{End}
 use Rattle.script_front.specs.Block.{Block, nothing, stop}
 use Rattle.script_compiler.specs.declared.context.Context.{Context}

@@ -4,7 +4,7 @@ use Rattle.std.specs.Prelude.{slice_get}
 use Rattle.plan_code.specs.declared.instr.Instr.{Instr}
 use Rattle.plan_code.specs.declared.instr.Instr.TheVariants.{Wait, Settle, End, Jump}
 use Rattle.plan_code.specs.declared.instr.Line.{Line}
-use Rattle.plan_flow.specs.Rules.{suspends, target_of}
+use Rattle.plan_verifier.specs.Rules.{suspends, target_of}
 use Rattle.script_compiler.specs.Need.{StepsTo}
 use Rattle.script_compiler.specs.Costs.{CanReach, CanRevisit, ClosesCycle, IsOver, IsCostlyAt, HasCostAt}
 

@@ -4,7 +4,7 @@ use Rattle.std.specs.Prelude.{slice_get}
 use Rattle.plan_code.specs.declared.instr.Instr.{Instr}
 use Rattle.plan_code.specs.declared.instr.Instr.TheVariants.{Settle, End, Jump}
 use Rattle.plan_code.specs.declared.instr.Line.{Line}
-use Rattle.plan_flow.specs.Rules.{target_of}
+use Rattle.plan_verifier.specs.Rules.{target_of}
 use Rattle.script_compiler.specs.Compiled.{instrs_of}
 use Rattle.script_compiler.specs.Costs.{ClosesCycle}
 use Rattle.script_compiler.specs.Longest.{longest}

@@ -5,9 +5,9 @@ use Rattle.mux_config.specs.declared.edit.Edit.TheVariants.{AddSub}
 use Rattle.mux_config.specs.declared.fault.EditFault.TheVariants.{IdUsed}
 use Rattle.mux_config.specs.declared.fault.ConfigFault.TheVariants.{Overlap}
 use Rattle.mux_types.specs.declared.parts.Sub.{Sub}
-use Rattle.plan_flow.proofs.Samples.{plan, sub, one_sub}
-use Rattle.plan_flow.specs.declared.cause.Cause.{Cause}
-use Rattle.plan_flow.specs.declared.cause.Cause.TheVariants.{Table, Edit as OfEdit, Config as OfConfig, JoinIdle, Mismatch}
+use Rattle.plan_verifier.proofs.Samples.{plan, sub, one_sub}
+use Rattle.plan_verifier.specs.declared.cause.Cause.{Cause}
+use Rattle.plan_verifier.specs.declared.cause.Cause.TheVariants.{Table, Edit as OfEdit, Config as OfConfig, JoinIdle, Mismatch}
 use Rattle.script_front.specs.declared.tree.Act.TheVariants.{Edit as Edits, Wait as Waits, Join as Joins}
 use Rattle.script_front.specs.declared.tree.Item.{Item}
 use Rattle.script_front.specs.Block.{nothing, basic, stop, forever}

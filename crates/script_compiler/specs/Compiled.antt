@@ -11,7 +11,7 @@ use Rattle.plan_code.specs.declared.instr.Instr.{Instr}
 use Rattle.plan_code.specs.declared.instr.Line.{Line}
 use Rattle.plan_code.specs.Flags.{with_counter}
 use Rattle.plan_code.specs.Program.{Program}
-use Rattle.plan_flow.specs.Rules.{pages_alone}
+use Rattle.plan_verifier.specs.Rules.{pages_alone}
 use Rattle.script_front.specs.declared.tree.Item.{Item}
 use Rattle.script_front.specs.Block.{Block, nothing, basic, stop, when, either, repeat, forever, apply, table_of, block_of}
 use Rattle.script_front.specs.Tree.{Tree}

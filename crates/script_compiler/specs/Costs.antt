@@ -2,7 +2,7 @@
 use Rattle.std.specs.Prelude.{◌≡◌, ℕ, zero, suc, ◌<◌, ◌≤◌, ◌⊎◌, List, slice_get, Some}
 use Rattle.plan_code.specs.declared.instr.Instr.{Instr}
 use Rattle.plan_code.specs.declared.instr.Line.{Line}
-use Rattle.plan_flow.specs.Rules.{target_of}
+use Rattle.plan_verifier.specs.Rules.{target_of}
 use Rattle.script_front.specs.Tree.{Tree}
 use Rattle.script_compiler.specs.Need.{StepsTo, HasPath}
 use Rattle.script_compiler.specs.Compiled.{placed_instrs, lines_of_placed, instrs_of}

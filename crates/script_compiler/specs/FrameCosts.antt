@@ -4,7 +4,7 @@ use Rattle.mux_config.specs.Configuration.{nothing}
 use Rattle.mux_config.specs.Sound.{IsSound}
 use Rattle.plan_code.specs.declared.instr.Instr.{Instr}
 use Rattle.plan_code.specs.declared.instr.Line.{Line}
-use Rattle.plan_flow.specs.Rules.{pages_alone}
+use Rattle.plan_verifier.specs.Rules.{pages_alone}
 use Rattle.script_front.specs.Tree.{Tree}
 use Rattle.script_compiler.specs.Need.{StepsTo, HasPath, IsWithinBudget}
 use Rattle.script_compiler.specs.Costs.{ClosesCycle, IsFirst}

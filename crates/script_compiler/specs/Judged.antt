@@ -1,8 +1,8 @@
 -- Valid blocks: each statement is valid for what is known before it, paths that merge agree, and all is reachable.
 use Rattle.std.specs.Prelude.{Option, Some, None}
 use Rattle.plan_code.specs.declared.plan.Plan.{Plan}
-use Rattle.plan_flow.specs.Rules.{IsFine}
-use Rattle.plan_flow.specs.Flows.{known_at, after_instr, merged, FitsFlow}
+use Rattle.plan_verifier.specs.Rules.{IsFine}
+use Rattle.plan_verifier.specs.Flows.{known_at, after_instr, merged, FitsFlow}
 use Rattle.script_front.specs.Block.{Block, nothing, basic, stop, when, either, repeat, forever, apply}
 use Rattle.script_compiler.specs.declared.flow.ProgramPoint.{ProgramPoint}
 use Rattle.script_compiler.specs.Scheme.{at_label, without_label, meet, join, head, instr_of_act, point_after}

@@ -2,7 +2,7 @@
 use Rattle.std.specs.Prelude.{◌≡◌, ℕ, zero, suc, ◌+◌, max, if◌then◌else◌, List, slice_get, slice_index, Contains, Option, Some, None}
 use Rattle.plan_code.specs.declared.instr.Instr.{Instr}
 use Rattle.plan_code.specs.declared.label.Label.{Label}
-use Rattle.plan_flow.specs.Rules.{continues, target_of, suspends}
+use Rattle.plan_verifier.specs.Rules.{continues, target_of, suspends}
 
 abbrev pub need_to : (ℕ → ℕ) → Option ℕ → ℕ
 need_to further None = 0

@@ -1,7 +1,7 @@
 -- The need of an instruction in a code: the greatest number of instructions that can run from there in one frame.
 use Rattle.std.specs.Prelude.{◌≡◌, ℕ, zero, suc, ◌+◌, ◌≤◌, ◌⊎◌, true, false, List, slice_get, Some, IsSome}
 use Rattle.plan_code.specs.declared.instr.Instr.{Instr}
-use Rattle.plan_flow.specs.Rules.{continues, target_of, suspends}
+use Rattle.plan_verifier.specs.Rules.{continues, target_of, suspends}
 
 -- the machine can go from an instruction to this pc in the same frame
 abbrev pub StepsTo : Instr → ℕ → ℕ → Type 0

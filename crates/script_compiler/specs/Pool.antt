@@ -1,7 +1,7 @@
 -- Configurations by their numbers in a pool. Not used in public contracts.
 use Rattle.std.specs.Prelude.{◌≡◌, ℕ, ◌<◌, List, [], ◌∷◌, ◌++◌, Some, slice_get}
 use Rattle.mux_config.specs.Configuration.{Configuration}
-use Rattle.plan_flow.specs.Indexed.{flow_at, IsWithin}
+use Rattle.plan_verifier.specs.Indexed.{flow_at, IsWithin}
 use Rattle.script_compiler.specs.declared.flow.UnpricedLabel.{UnpricedLabel}
 use Rattle.script_compiler.specs.declared.flow.ProgramPoint.{ProgramPoint}
 use Rattle.script_compiler.specs.declared.short.IndexedPoint.{IndexedPoint}

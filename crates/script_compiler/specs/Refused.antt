@@ -4,11 +4,11 @@ use Rattle.mux_config.specs.Configuration.{Configuration, nothing as no_configur
 use Rattle.mux_config.specs.Edits.{edit_fault, changed}
 use Rattle.mux_config.specs.Sound.{IsSound, first_fault}
 use Rattle.plan_code.specs.declared.plan.Plan.{Plan}
-use Rattle.plan_flow.specs.declared.cause.Cause.{Cause}
-use Rattle.plan_flow.specs.declared.cause.Cause.TheVariants.{Edit as OfEdit, Config as OfConfig, Table, Mismatch, Round, Cost}
-use Rattle.plan_flow.specs.Rules.{IsFine, pages_alone}
-use Rattle.plan_flow.specs.Flows.{known_at, after_instr}
-use Rattle.plan_flow.specs.Causes.{Where, WhereSome, ◌orelse◌, FlowRefused}
+use Rattle.plan_verifier.specs.declared.cause.Cause.{Cause}
+use Rattle.plan_verifier.specs.declared.cause.Cause.TheVariants.{Edit as OfEdit, Config as OfConfig, Table, Mismatch, Round, Cost}
+use Rattle.plan_verifier.specs.Rules.{IsFine, pages_alone}
+use Rattle.plan_verifier.specs.Flows.{known_at, after_instr}
+use Rattle.plan_verifier.specs.Causes.{Where, WhereSome, ◌orelse◌, FlowRefused}
 use Rattle.script_front.specs.declared.tree.Item.{Item}
 use Rattle.script_front.specs.Block.{Block, nothing, basic, stop, when, either, repeat, forever, apply}
 use Rattle.script_front.specs.Tree.{Tree}

@@ -3,7 +3,7 @@ use Rattle.std.specs.Prelude.{ℕ, ◌+◌, Bool, true, false, if◌then◌else�
 use Rattle.plan_code.specs.declared.plan.Plan.{Plan}
 use Rattle.plan_code.specs.declared.instr.Instr.{Instr}
 use Rattle.plan_code.specs.declared.instr.Instr.TheVariants.{Wait, Until, WaitContact, WaitAny, CommitIn, CommitAt, Join, Settle, End, Edit, Jump, Set, Loop}
-use Rattle.plan_flow.specs.Flows.{Flow, after_instr, merged}
+use Rattle.plan_verifier.specs.Flows.{Flow, after_instr, merged}
 use Rattle.script_front.specs.declared.tree.Act.{Act}
 use Rattle.script_front.specs.declared.tree.Act.TheVariants.{Edit as Edits, Wait as Waits, WaitContact as WaitsContact, Until as WaitsUntil, WaitAny as WaitsAny, CommitIn as CommitsIn, CommitAt as CommitsAt, Join as Joins, Settle as Settles}
 use Rattle.script_front.specs.Block.{Block, nothing, basic, stop, when, either, repeat, forever, apply}

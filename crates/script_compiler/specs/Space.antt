@@ -2,7 +2,7 @@
 use Rattle.std.specs.Prelude.{◌≡◌, ℕ, ◌+◌, ◌≤◌, true, if◌then◌else◌, List, [], ◌∷◌, ◌++◌, length, Some}
 use Rattle.mux_config.specs.Configuration.{Configuration}
 use Rattle.plan_code.specs.declared.plan.Plan.{Plan}
-use Rattle.plan_flow.specs.Flows.{Flow}
+use Rattle.plan_verifier.specs.Flows.{Flow}
 use Rattle.script_front.specs.Block.{Block}
 use Rattle.script_compiler.specs.declared.flow.ProgramPoint.{ProgramPoint}
 use Rattle.script_compiler.specs.Scheme.{PlacedInstr, point_after, places, unpriced_labels}

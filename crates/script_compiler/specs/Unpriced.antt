@@ -1,5 +1,5 @@
 -- Unpriced labels that give their configurations by index in a table. Not used in public contracts.
-pub use Rattle.plan_flow.specs.Indexed.{configuration_at}
+pub use Rattle.plan_verifier.specs.Indexed.{configuration_at}
 use Rattle.std.specs.Prelude.{ℕ, ◌<◌, ◌≤◌, List, [], ◌∷◌, slice_index}
 use Rattle.mux_config.specs.Configuration.{Configuration}
 use Rattle.plan_code.specs.declared.label.Label.{Label}

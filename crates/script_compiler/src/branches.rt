@@ -18,7 +18,7 @@ use crate::refusal::refused;
 use crate::short::IndexedPoint;
 use crate::work::Work;
 use plan_code::Instr;
-use plan_flow::Cause;
+use plan_verifier::Cause;
 use script_front::Condition;
 
 impl Work {

@@ -3,7 +3,7 @@
 ghost use Rattle.std.specs.Prelude.{◌≡◌, ◌≢◌, ℕ, ◌+◌, ◌<◌, ◌≤◌, [], length, map, slice_get, slice_index, Some, IsOk, IfOk, IfErr};
 ghost use Rattle.script_compiler.specs.Costs.{HasCostAt, IsCostRefused};
 ghost use Rattle.script_compiler.specs.Longest.{longest};
-ghost use Rattle.plan_flow.specs.Rules.{pages_alone};
+ghost use Rattle.plan_verifier.specs.Rules.{pages_alone};
 ghost use Rattle.script_compiler.specs.Scheme.{all_places, unpriced_labels};
 ghost use Rattle.script_compiler.specs.Compiled.{lines_of_placed, body_of, beginning, opening_of, placed_instrs, instrs_of, nested, AreFine, Tabled, IsCodeOf, CostsItsNeeds, IsAccepted};
 ghost use Rattle.script_compiler.specs.Judged.{IsJudged};
@@ -12,7 +12,7 @@ ghost use Rattle.mux_config.specs.Configuration.{nothing};
 ghost use Rattle.mux_config.specs.Sound.{IsSound};
 ghost use Rattle.script_compiler.specs.Emission.{tables, facts_of};
 ghost use Rattle.script_compiler.specs.Refused.{IsRefusedIn, IsRefused};
-ghost use Rattle.plan_flow.specs.declared.cause.Cause.TheVariants.{Cost};
+ghost use Rattle.plan_verifier.specs.declared.cause.Cause.TheVariants.{Cost};
 ghost use Rattle.script_compiler.specs.Refusals.{IsRefusal, IfRefused, IfLimit};
 ghost use Rattle.script_compiler.specs.Space.{Keeps};
 ghost use Rattle.script_compiler.specs.Limits.{Passes};
@@ -32,7 +32,7 @@ use crate::refusal::refused;
 use crate::work::{Emitted, Work};
 use mux_config::Config;
 use plan_code::{Code, Line, Plan};
-use plan_flow::Cause;
+use plan_verifier::Cause;
 use script_front::{Script, Statement};
 use std::alloc::{AllocError, Global};
 

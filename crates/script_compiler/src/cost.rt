@@ -1,7 +1,7 @@
 //! Finds the instruction at which a code is refused for its cost.
 
 ghost use Rattle.std.specs.Prelude.{◌≡◌, ◌↔◌, ◌+◌, ◌<◌, ◌≤◌, ℕ, [], true, false, length, slice_get, Some, None, IsTrue, IfOk, IfSome, OnOk};
-ghost use Rattle.plan_flow.specs.Rules.{continues, target_of};
+ghost use Rattle.plan_verifier.specs.Rules.{continues, target_of};
 ghost use Rattle.script_compiler.specs.Compiled.{instrs_of};
 ghost use Rattle.script_compiler.specs.Need.{StepsTo};
 ghost use Rattle.script_compiler.specs.Costs.{ClosesCycle, CanRevisit, IsCostlyAt, IsFirst};
@@ -9,7 +9,7 @@ ghost use Rattle.script_compiler.specs.Longest.{longest};
 ghost use Rattle.script_compiler.specs.Reaching.{GrowsBy, IsAt, Searched, trues};
 
 use plan_code::{Instr, Line};
-use plan_flow::properties::{continues, suspends, target_of};
+use plan_verifier::properties::{continues, suspends, target_of};
 use std::alloc::{AllocError, Global};
 
 /// A search for reachable pcs: those reached, and those still to be expanded.

@@ -3,10 +3,10 @@
 ghost use Rattle.std.specs.Prelude.{◌≡◌, ℕ, ◌+◌, ◌<◌, ◌≤◌, true, false, [], ◌∷◌, ◌++◌, length, slice_set, List, OnOk, IfOk, IfErr};
 ghost use Rattle.plan_code.specs.declared.instr.Instr.{Instr};
 ghost use Rattle.plan_code.specs.declared.instr.Instr.TheVariants.{End};
-ghost use Rattle.plan_flow.specs.Flows.{known_at, after_instr};
-ghost use Rattle.plan_flow.specs.Rules.{IsFine};
+ghost use Rattle.plan_verifier.specs.Flows.{known_at, after_instr};
+ghost use Rattle.plan_verifier.specs.Rules.{IsFine};
 ghost use Rattle.script_compiler.specs.Scheme.{PlacedInstr, without_label, at_label, alone, onward, unpriced_labels, instr_of_act};
-ghost use Rattle.plan_flow.specs.Causes.{FlowRefused};
+ghost use Rattle.plan_verifier.specs.Causes.{FlowRefused};
 ghost use Rattle.script_compiler.specs.Pool.{Extends, IsInPool, point_in};
 ghost use Rattle.script_compiler.specs.Refusals.{IsLimitAt, IfRefused, IfLimitAt};
 ghost use Rattle.script_compiler.specs.Space.{HasSpace, LacksSpace, IsInLimits, HasTable, IsCovered, Covers};

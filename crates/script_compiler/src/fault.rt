@@ -1,6 +1,6 @@
 //! The compiler's errors: refusals, exceeded limits, out of memory.
 
-use plan_flow::Cause;
+use plan_verifier::Cause;
 use std::alloc::AllocError;
 use thiserror::Error;
 

@@ -6,7 +6,7 @@ ghost use Rattle.plan_code.specs.declared.label.Swap.TheVariants.{Idle};
 use mux_config::{Config, Store};
 use mux_tables::Tables;
 use plan_code::Swap;
-use plan_flow::Flow;
+use plan_verifier::Flow;
 
 /// What is known at an instruction of a code, and whether it has a label.
 #[derive(Drop)]

@@ -2,9 +2,9 @@
 
 ghost use Rattle.std.specs.Prelude.{◌≡◌, ◌↔◌, List, IsOk, IfErr, OnOk};
 ghost use Rattle.mux_config.specs.Configuration.{Configuration};
-ghost use Rattle.plan_flow.specs.Rules.{IsFine};
-ghost use Rattle.plan_flow.specs.Flows.{known_at, after_instr};
-ghost use Rattle.plan_flow.specs.Indexed.{IsTracked};
+ghost use Rattle.plan_verifier.specs.Rules.{IsFine};
+ghost use Rattle.plan_verifier.specs.Flows.{known_at, after_instr};
+ghost use Rattle.plan_verifier.specs.Indexed.{IsTracked};
 ghost use Rattle.script_compiler.specs.Scheme.{instr_of_act};
 ghost use Rattle.script_compiler.specs.Refusals.{IsRefusedAs};
 
@@ -13,7 +13,7 @@ use crate::instructions::wait_any;
 use crate::refusal::refused;
 use mux_tables::Tables;
 use plan_code::{Instr, Plan};
-use plan_flow::TrackedFlow;
+use plan_verifier::TrackedFlow;
 use script_front::Act;
 
 /// The instruction of a statement that compiles to one, such as an edit or a wait.

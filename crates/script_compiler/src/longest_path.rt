@@ -8,7 +8,7 @@ ghost use Rattle.script_compiler.specs.Need.{StepsTo};
 
 use crate::needs::{at, at_next};
 use plan_code::{Instr, Line};
-use plan_flow::properties::target_of;
+use plan_verifier::properties::target_of;
 
 /// A path that can run in one frame, of the most instructions.
 #[derive(Clone, Copy, Debug, PartialEq, Eq)]

@@ -3,10 +3,10 @@
 ghost use Rattle.std.specs.Prelude.{◌≡◌, ◌+◌, ◌≤◌, ◌<◌, ℕ, length, slice_get, slice_index, if◌then◌else◌, true, Some, None, IfOk, IfSome, max};
 ghost use Rattle.script_compiler.specs.Compiled.{instrs_of};
 ghost use Rattle.script_compiler.specs.Longest.{need_at, need_to, longest};
-ghost use Rattle.plan_flow.specs.Rules.{continues, target_of};
+ghost use Rattle.plan_verifier.specs.Rules.{continues, target_of};
 
 use plan_code::{Instr, Line};
-use plan_flow::properties::{continues, suspends, target_of};
+use plan_verifier::properties::{continues, suspends, target_of};
 use std::alloc::{AllocError, Global};
 
 /// The number at an index; 0 past the end.

@@ -1,15 +1,15 @@
 //! Gives numbers in the pool to the configurations of a flow.
 
 ghost use Rattle.std.specs.Prelude.{◌≡◌, ◌<◌, length, slice_get, Some, IfOk, IfErr};
-ghost use Rattle.plan_flow.specs.Indexed.{flow_at, IsAt, IsTracked, IsWithin};
+ghost use Rattle.plan_verifier.specs.Indexed.{flow_at, IsAt, IsTracked, IsWithin};
 ghost use Rattle.script_compiler.specs.Pool.{Extends};
 ghost use Rattle.script_compiler.specs.declared.fault.CompileFault.TheVariants.{Memory};
 
 use crate::fault::CompileFault;
 use crate::unpriced::UnpricedLabels;
 use mux_tables::Tables;
-use plan_flow::flow::is_same;
-use plan_flow::{IndexedFlow, TrackedFlow};
+use plan_verifier::flow::is_same;
+use plan_verifier::{IndexedFlow, TrackedFlow};
 
 /// The known number of the current configuration, or else its number in the pool, to which it is added if absent.
 fn current_number(

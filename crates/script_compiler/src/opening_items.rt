@@ -4,9 +4,9 @@ ghost use Rattle.std.specs.Prelude.{◌≡◌, ◌≤◌, ◌↔◌, None, OnOk,
 ghost use Rattle.mux_config.specs.Configuration.{nothing};
 ghost use Rattle.mux_config.specs.Edits.{changed, edit_fault};
 ghost use Rattle.mux_config.specs.Sound.{IsSound};
-ghost use Rattle.plan_flow.specs.Rules.{pages_alone};
-ghost use Rattle.plan_flow.specs.Causes.{WhereSome};
-ghost use Rattle.plan_flow.specs.declared.cause.Cause.TheVariants.{Edit as OfEdit};
+ghost use Rattle.plan_verifier.specs.Rules.{pages_alone};
+ghost use Rattle.plan_verifier.specs.Causes.{WhereSome};
+ghost use Rattle.plan_verifier.specs.declared.cause.Cause.TheVariants.{Edit as OfEdit};
 ghost use Rattle.script_compiler.specs.Compiled.{with_items, AreFine};
 ghost use Rattle.script_compiler.specs.Refused.{IsItemRefused, IsOpeningRefused};
 ghost use Rattle.script_compiler.specs.Refusals.{IfRefused, IfLimit};
@@ -15,7 +15,7 @@ use crate::fault::CompileFault;
 use crate::refusal::refused;
 use mux_config::{Config, Store};
 use plan_code::Plan;
-use plan_flow::{Cause, test_opening};
+use plan_verifier::{Cause, test_opening};
 use script_front::Item;
 
 /// Applies one item; refuses with `Edit` at its line.

@@ -9,7 +9,7 @@ use crate::fault::CompileFault;
 use crate::fingerprint::print_of;
 use mux_config::{Config, Store};
 use mux_tables::Tables;
-use plan_flow::flow::is_same;
+use plan_verifier::flow::is_same;
 use std::alloc::Global;
 use std::marker::Model;
 

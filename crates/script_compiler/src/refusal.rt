@@ -4,7 +4,7 @@ ghost use Rattle.std.specs.Prelude.{◌≡◌};
 ghost use Rattle.script_compiler.specs.declared.fault.CompileFault.TheVariants.{Refused};
 
 use crate::fault::CompileFault;
-use plan_flow::Cause;
+use plan_verifier::Cause;
 
 /// A refusal with a line and a cause.
 pub(crate) fn refused(line: u16, cause: Cause) -> CompileFault

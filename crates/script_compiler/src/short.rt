@@ -1,7 +1,7 @@
 //! Unpriced labels and program points in the form in which the compiler stores them: with indices of configurations.
 
 use plan_code::Swap;
-use plan_flow::IndexedFlow;
+use plan_verifier::IndexedFlow;
 
 /// An unpriced label and what is known there, with the configurations by their indices in a table.
 #[derive(Clone, Copy)]

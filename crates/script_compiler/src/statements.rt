@@ -11,7 +11,7 @@ use crate::fault::{CodeLimit, CompileFault};
 use crate::refusal::refused;
 use crate::work::Work;
 use plan_code::{CounterId, Instr, Times};
-use plan_flow::Cause;
+use plan_verifier::Cause;
 use script_front::{Condition, Statement};
 
 /// The line of a statement's first token, 1 to 65,535.

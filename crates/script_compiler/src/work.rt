@@ -1,8 +1,8 @@
 //! The compiler's state: the code emitted so far, and what is known at its end.
 
 ghost use Rattle.std.specs.Prelude.{◌≡◌, ◌↔◌, ◌+◌, ◌<◌, true, false, [], ◌∷◌, ◌++◌, length, Some, IsOk, IsTrue, OnOk, IfOk, IfErr};
-ghost use Rattle.plan_flow.specs.Flows.{known_at, merged, after_instr, FitsFlow};
-ghost use Rattle.plan_flow.specs.Rules.{IsFine};
+ghost use Rattle.plan_verifier.specs.Flows.{known_at, merged, after_instr, FitsFlow};
+ghost use Rattle.plan_verifier.specs.Rules.{IsFine};
 ghost use Rattle.script_compiler.specs.declared.flow.ProgramPoint.{ProgramPoint};
 ghost use Rattle.script_compiler.specs.Scheme.{without_label, meet, instr_of_act};
 ghost use Rattle.script_compiler.specs.Judged.{WaysAgree};
@@ -21,7 +21,7 @@ use crate::unpriced::UnpricedLabels;
 use mux_config::Config;
 use mux_tables::Tables;
 use plan_code::{Line, Plan};
-use plan_flow::TrackedFlow;
+use plan_verifier::TrackedFlow;
 use script_front::Act;
 use std::alloc::Global;
 use std::marker::Model;
@@ -43,7 +43,7 @@ pub(crate) struct Work {
 
 impl Model for Work {
     ghost use Rattle.std.specs.Prelude.{length, map};
-    ghost use Rattle.plan_flow.specs.Indexed.{IsTracked};
+    ghost use Rattle.plan_verifier.specs.Indexed.{IsTracked};
     ghost use Rattle.script_compiler.specs.Pool.{AreInPool, point_in};
     ghost use Rattle.script_compiler.specs.Working.{Work};
 

@@ -1,4 +1,4 @@
-use Rattle.plan_flow.specs.Tests.{start_cause}
+use Rattle.plan_verifier.specs.Tests.{start_cause}
 use Rattle.plan_explain.proofs.Flags.{found}
 use Rattle.plan_explain.proofs.stop.opening_cause.Goals as goal
 

@@ -1,5 +1,5 @@
 use Rattle.plan_verifier.proofs.Answering.{same_answer}
-use Rattle.plan_verifier.proofs.Deciding.{decides_includes}
+use Rattle.plan_verifier.proofs.DecidingWalks.{decides_includes}
 use Rattle.plan_verifier.proofs.known.includes.Goals as goal
 
 pub returns : goal.returns

@@ -1,9 +1,9 @@
 use Rattle.std.proofs.Common.{◌∙◌, ap, List}
 use Rattle.mux_config.specs.Configuration.{Configuration}
-use Rattle.plan_flow.specs.declared.indices.IndexedFlow.{IndexedFlow}
-use Rattle.plan_flow.specs.Flows.{flow_of, known_at}
-use Rattle.plan_flow.specs.Indexed.{flow_at}
-use Rattle.plan_flow.proofs.Finding.{swap_alone}
+use Rattle.plan_verifier.specs.declared.indices.IndexedFlow.{IndexedFlow}
+use Rattle.plan_verifier.specs.Flows.{flow_of, known_at}
+use Rattle.plan_verifier.specs.Indexed.{flow_at}
+use Rattle.plan_verifier.proofs.Finding.{swap_alone}
 use Rattle.plan_verifier.specs.Held.{known_of, flow_of_label}
 use Rattle.plan_verifier.specs.Typing.{Known}
 use Rattle.plan_verifier.specs.Walking.{declared_by, fits_swap}

@@ -1,7 +1,7 @@
 use Rattle.std.proofs.Common.{◌∙◌, ap}
 use Rattle.plan_verifier.specs.Held.{known_of}
 use Rattle.plan_verifier.specs.Walking.{unless}
-use Rattle.plan_flow.proofs.Finding.{flow_alone}
+use Rattle.plan_verifier.proofs.Finding.{flow_alone}
 use Rattle.plan_verifier.proofs.step.advance.Goals as goal
 
 pub returns-clause-cause : goal.returns-clause-cause

@@ -1,7 +1,7 @@
 use Rattle.std.proofs.Common.{◌∙◌, sym, ap}
 use Rattle.plan_code.specs.declared.plan.Plan.{Plan}
-use Rattle.plan_flow.specs.Flows.{flow_of, known_with, set_after, left_over}
-use Rattle.plan_flow.proofs.Leaving.{leaves_known}
+use Rattle.plan_verifier.specs.Flows.{flow_of, known_with, set_after, left_over}
+use Rattle.plan_verifier.proofs.Leaving.{leaves_known}
 use Rattle.plan_verifier.specs.Held.{known_of}
 use Rattle.plan_verifier.specs.Typing.{Known, leaves}
 use Rattle.plan_verifier.proofs.step.step.Goals as goal

@@ -1,6 +1,6 @@
 use Rattle.std.proofs.Common.{refl, sym, ◌∙◌}
 use Rattle.std.proofs.lemmas.Bool.{false≢true}
-use Rattle.plan_verifier.proofs.Deciding.{none_some}
+use Rattle.plan_verifier.proofs.DecidingFlows.{none_some}
 use Rattle.plan_verifier.proofs.OneVerdict.{typed_if, typed_passes, refused_if}
 use Rattle.plan_verifier.proofs.verified.verify.Goals as goal
 

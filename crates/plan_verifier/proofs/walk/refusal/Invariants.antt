@@ -1,6 +1,6 @@
 use Rattle.std.proofs.Common.{◌≡◌, drop}
 use Rattle.plan_code.specs.Program.{IsProgram}
-use Rattle.plan_flow.specs.Indexed.{IsTracked}
+use Rattle.plan_verifier.specs.Indexed.{IsTracked}
 use Rattle.plan_verifier.specs.Held.{known_of}
 use Rattle.plan_verifier.specs.Walking.{walk, refusal_of, known_if_reached}
 use Rattle.plan_verifier.proofs.walk.refusal.Given as goal

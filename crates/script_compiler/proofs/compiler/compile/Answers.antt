@@ -10,7 +10,7 @@ use Rattle.script_compiler.specs.Scheme.{all_places, unpriced_labels}
 use Rattle.script_compiler.specs.Judged.{IsJudged}
 use Rattle.script_compiler.specs.Need.{IsWithinBudget}
 use Rattle.script_compiler.specs.Compiled.{with_items, opening_of, body_of, beginning, placed_instrs, lines_of_placed, instrs_of, AreFine, Tabled, AreLabelsOf, IsCodeOf, CostsItsNeeds, IsAccepted}
-use Rattle.plan_flow.specs.declared.cause.Cause.TheVariants.{Cost}
+use Rattle.plan_verifier.specs.declared.cause.Cause.TheVariants.{Cost}
 use Rattle.script_compiler.specs.Costs.{HasCostAt, IsCostRefused}
 use Rattle.script_compiler.proofs.Uncosted.{in_uncosted, item_uncosted}
 use Rattle.script_compiler.specs.Longest.{longest, Priced}

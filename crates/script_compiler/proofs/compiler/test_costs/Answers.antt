@@ -1,5 +1,5 @@
 use Rattle.std.proofs.Common.{ℕ, ◌<◌, ◌≤◌, ◌+◌, arith}
-use Rattle.plan_flow.specs.declared.cause.Cause.TheVariants.{Cost}
+use Rattle.plan_verifier.specs.declared.cause.Cause.TheVariants.{Cost}
 use Rattle.script_compiler.specs.Compiled.{instrs_of}
 use Rattle.script_compiler.specs.Costs.{HasCostAt}
 use Rattle.script_compiler.specs.Longest.{longest}

@@ -1,5 +1,5 @@
 use Rattle.std.proofs.Common.{◌≡◌, ◌+◌, inl, inr, true, false, Some, sym, ◌∙◌}
-use Rattle.plan_flow.specs.Rules.{continues, suspends, target_of}
+use Rattle.plan_verifier.specs.Rules.{continues, suspends, target_of}
 use Rattle.script_compiler.specs.Need.{StepsTo}
 use Rattle.script_compiler.proofs.Cycles.{grows_both}
 use Rattle.script_compiler.proofs.Putting.{on_ok_map}

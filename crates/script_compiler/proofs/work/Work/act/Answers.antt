@@ -1,6 +1,6 @@
 use Rattle.std.proofs.Common.{Bool, ◌++◌, ◌∷◌, [], ap, ◌∙◌, subst, refl}
-use Rattle.plan_flow.specs.Rules.{IsFine}
-use Rattle.plan_flow.specs.Flows.{Flow, known_at, after_instr}
+use Rattle.plan_verifier.specs.Rules.{IsFine}
+use Rattle.plan_verifier.specs.Flows.{Flow, known_at, after_instr}
 use Rattle.plan_code.specs.declared.instr.Instr.{Instr}
 use Rattle.script_compiler.specs.declared.flow.ProgramPoint.{ProgramPoint}
 use Rattle.script_compiler.specs.Scheme.{instr_of_act}

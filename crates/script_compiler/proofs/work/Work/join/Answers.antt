@@ -1,5 +1,5 @@
 use Rattle.std.proofs.Common.{◌≡◌, Some, length, sym, ap, subst}
-use Rattle.plan_flow.specs.Flows.{Flow, merged}
+use Rattle.plan_verifier.specs.Flows.{Flow, merged}
 use Rattle.script_compiler.specs.declared.flow.ProgramPoint.{ProgramPoint}
 use Rattle.script_compiler.specs.Scheme.{at_label, meet}
 use Rattle.script_compiler.specs.Emission.{way}

@@ -1,7 +1,7 @@
 use Rattle.std.proofs.Common.{List, ap, ◌∙◌, subst}
 use Rattle.script_compiler.specs.declared.flow.ProgramPoint.{ProgramPoint}
-use Rattle.plan_flow.specs.Flows.{Flow}
-use Rattle.plan_flow.specs.Indexed.{AreAt}
+use Rattle.plan_verifier.specs.Flows.{Flow}
+use Rattle.plan_verifier.specs.Indexed.{AreAt}
 use Rattle.script_compiler.specs.Working.{Points, Work}
 use Rattle.script_compiler.proofs.Pooled.{tracked_in, all_in_pool, all_same}
 use Rattle.script_compiler.proofs.work.Work.point_here.Goals as goal

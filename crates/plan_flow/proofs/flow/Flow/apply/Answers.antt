@@ -1,6 +1,0 @@
-use Rattle.plan_flow.specs.Flows.{held, known_at}
-use Rattle.plan_flow.proofs.Finding.{answers_refused}
-use Rattle.plan_flow.proofs.flow.Flow.apply.Goals as goal
-
-pub returns-clause-refused : goal.returns-clause-refused
-returns-clause-refused g c = answers_refused c.args.plan.now c.args.instr (known_at (held g.S.Store.content c.args.self.now)) c.run.result c.run.ensures.cause

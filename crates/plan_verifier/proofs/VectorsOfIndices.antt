@@ -1,0 +1,150 @@
+-- Flows whose configurations are in a table, and the indices of configurations after an instruction: examples that hold,
+-- and examples that fail.
+use Rattle.std.proofs.Common.{◌≡◌, ℕ, true, false, List, [], ◌∷◌, length, Option, Some, None, refl, sym, ap, arith}
+use Rattle.std.proofs.lemmas.Bool.{false≢true}
+use Rattle.mux_config.specs.Configuration.{Configuration, nothing}
+use Rattle.mux_config.specs.declared.edit.Edit.TheVariants.{DropSub}
+use Rattle.plan_code.specs.declared.instr.Instr.TheVariants.{Edit as Edits, Join, Wait, Jump}
+use Rattle.plan_code.specs.declared.label.Swap.{Swap}
+use Rattle.plan_code.specs.declared.label.Swap.TheVariants.{Idle, Within, Perhaps}
+use Rattle.plan_verifier.specs.declared.fitting.Condition.TheVariants.{Never, Both, NextTwice}
+use Rattle.plan_verifier.specs.declared.indices.IndexedFlow.{IndexedFlow}
+use Rattle.plan_verifier.specs.declared.indices.Indices.{Indices}
+use Rattle.plan_verifier.specs.declared.tracked.TrackedFlow.{TrackedFlow}
+use Rattle.plan_verifier.specs.Flows.{Flow, known_at}
+use Rattle.plan_verifier.specs.Tests.{satisfies}
+use Rattle.plan_verifier.specs.Indexed.{configuration_at, flow_at, has_swapped, indices_of, swapped_indices, moved_indices, indices_after, fit_indices, AreAt, IsAt, IsTracked, IsWithin}
+
+-- a configuration of one packet component
+abbrev other : Configuration
+other = record { subs = []; services = []; packets = record { scid = 1; sub = 0; ty = 5; address = 1; dg = false } ∷ [] }
+
+differ : other ≡ nothing → ⊥
+differ e = let count : 1 ≡ 0 = ap (λ (c : Configuration). length c.packets) e in absurd (omega (arith, count))
+
+abbrev table : List Configuration
+table = nothing ∷ other ∷ []
+
+abbrev flow : Configuration → Configuration → Swap → Flow
+flow current next pending = record { current = current; next = next; pending = pending }
+
+-- a flow that goes from the first configuration of the table to the second
+abbrev indexed : IndexedFlow
+indexed = record { current = 0; next = 1; pending = Within 24 24 }
+
+its_flow : flow_at table indexed ≡ flow nothing other (Within 24 24)
+its_flow = refl
+
+not_back : flow_at table indexed ≡ flow other nothing (Within 24 24) → ⊥
+not_back e = differ (sym (ap (λ (t : Flow). t.current) e))
+
+past_the_end : configuration_at table 2 ≡ nothing
+past_the_end = refl
+
+not_the_last : configuration_at table 2 ≡ other → ⊥
+not_the_last e = differ (sym e)
+
+within : IsWithin (length table) indexed
+within = (omega arith, omega arith)
+
+not_in_a_shorter : IsWithin 1 indexed → ⊥
+not_in_a_shorter h = let lt = h.1 in omega (arith, lt)
+
+at_its_index : IsAt table (Some 1) other
+at_its_index = refl
+
+anywhere : IsAt table None other
+anywhere = tt
+
+at_no_other : IsAt table (Some 0) other → ⊥
+at_no_other e = let same : nothing ≡ other = cc in differ (sym same)
+
+abbrev indices : Indices
+indices = record { current = Some 0; next = Some 1 }
+
+both : AreAt table indices (flow nothing other (Within 24 24))
+both = (refl, refl)
+
+not_exchanged : AreAt table indices (flow other nothing (Within 24 24)) → ⊥
+not_exchanged h = at_no_other h.0
+
+abbrev tracked : Flow → TrackedFlow Configuration
+tracked t = record { flow = t; indices = indices }
+
+its_indices : IsTracked (λ c. c) table (tracked (flow nothing other Idle))
+its_indices = (refl, refl)
+
+not_its_indices : IsTracked (λ c. c) table (tracked (flow other nothing Idle)) → ⊥
+not_its_indices h = at_no_other h.0
+
+-- ---- the indices that are known then
+
+abbrev after_swap : Indices
+after_swap = record { current = Some 1; next = Some 1 }
+
+abbrev after_edit : Indices
+after_edit = record { current = Some 0; next = None }
+
+abbrev known : ℕ → Option ℕ
+known k = Some k
+
+not_none : known 1 ≡ None → ⊥
+not_none e = cc
+
+same_index : (j k : ℕ) → known j ≡ known k → j ≡ k
+same_index j k e = cc
+
+edited : indices_after (Edits (DropSub 3)) Idle Idle indices ≡ after_edit
+edited = refl
+
+an_edit_forgets : indices_after (Edits (DropSub 3)) Idle Idle indices ≡ indices → ⊥
+an_edit_forgets e = not_none (sym (ap (λ (k : Indices). k.next) e))
+
+joined : indices_after Join (Within 24 24) Idle indices ≡ after_swap
+joined = refl
+
+waited_for_it : indices_after (Wait 24) (Within 24 24) Idle indices ≡ after_swap
+waited_for_it = refl
+
+waited_before_it : indices_after (Wait 4) (Within 24 24) (Within 20 20) indices ≡ indices
+waited_before_it = refl
+
+not_swapped_before_it : moved_indices (Within 24 24) (Within 20 20) indices ≡ swapped_indices indices → ⊥
+not_swapped_before_it e = let same = same_index 0 1 (ap (λ (k : Indices). k.current) e) in omega (arith, same)
+
+a_jump_keeps_them : indices_after (Jump 7) Idle Idle indices ≡ indices
+a_jump_keeps_them = refl
+
+its_own : indices_of indexed ≡ indices
+its_own = refl
+
+fits_before_it : fit_indices (Within 24 24) indexed ≡ indices
+fits_before_it = refl
+
+abbrev perhaps : IndexedFlow
+perhaps = record { current = 0; next = 1; pending = Perhaps 3 }
+
+fits_after_it : fit_indices Idle perhaps ≡ after_swap
+fits_after_it = refl
+
+not_both_after_it : fit_indices Idle perhaps ≡ indices_of perhaps → ⊥
+not_both_after_it e = let same = same_index 1 0 (ap (λ (k : Indices). k.current) e) in omega (arith, same)
+
+made : has_swapped (Perhaps 3) Idle ≡ true
+made = refl
+
+none_made : has_swapped Idle Idle ≡ true → ⊥
+none_made e = false≢true e
+
+-- what a flow needs to fit another
+same_as_itself : satisfies Both (known_at (flow nothing other Idle)) (known_at (flow nothing other Idle)) ≡ true
+same_as_itself = refl
+
+not_before_the_swap : satisfies NextTwice (known_at (flow nothing other Idle)) (known_at (flow nothing other (Perhaps 3))) ≡ true → ⊥
+not_before_the_swap e = false≢true e
+
+swapped : satisfies NextTwice (known_at (flow other other Idle)) (known_at (flow nothing other (Perhaps 3))) ≡ true
+swapped = refl
+
+in_no_case : satisfies Never (known_at (flow nothing other Idle)) (known_at (flow nothing other Idle)) ≡ true → ⊥
+in_no_case e = false≢true e
