@@ -163,8 +163,8 @@ component to a missing sub-channel",
         name: "Pending",
         whole: "Pending",
         meaning: "\
-an edit, a commit, 'until' or 'wait contact' while a swap may still be pending: the
-next configuration is announced and can't change",
+an edit or a commit while a swap may still be pending: the next configuration is
+announced and can't change",
         advice: Some("'join' first; 'settle' if the swap may have happened already"),
         example: Some("examples/refused/pending.plan"),
     },

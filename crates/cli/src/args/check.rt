@@ -68,8 +68,8 @@ The faults of a swap:
   flags B, but D changes        the flags announced B, and what changes is D
   overlap A B                   sub-channels A and B of the new configuration share a capacity unit
   past the end: A               sub-channel A of the new configuration ends past capacity unit 863
-ENTRY is 'sub 1', 'service C221', 'packet 7', or in FIG 0/8 'sub 1 of service C221'. A frame has three FIBs, in mode 3 four, or fewer
-where the next FIB begins with a FIG 0/0.
+ENTRY is 'sub 1', 'service C221', 'packet 7', or in FIG 0/8 'sub 1 of service C221'. A frame has
+three FIBs, in mode 3 four, or fewer where the next FIB begins with a FIG 0/0.
 
 The file is read as it comes, and all lines that its bytes decide are written before more is read,
 so that a pipe can be monitored. With --every 250 there is also a line of the totals so far every
