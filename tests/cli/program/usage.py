@@ -144,8 +144,9 @@ def help_is_no_fault(rows):
 
 
 def the_names_in_the_help(rows):
-    """Each name of a fault in a help page is in the document of the commands too."""
-    document = (common.TOP / "docs/guide/COMMANDS.md").read_text(encoding="utf-8")
+    """Each name of a fault in a help page is in the guide too, or in what it says of formats."""
+    paths = [*(common.TOP / "docs/guide").glob("*.md"), common.TOP / "docs/design/FORMATS.md"]
+    document = "".join(path.read_text(encoding="utf-8") for path in paths)
     for line in ("help", *(f"help {command}" for command in COMMANDS)):
         names = set(re.findall(r"\b[A-Za-z]*[a-z][A-Z][A-Za-z]*\b", rows.run(line).printed.decode()))
         rows.tally.same(f"names in {line}", [], sorted(name for name in names if name not in document))
