@@ -47,7 +47,7 @@ The messages:
   write failed after 3 frames and 40 bytes
                                this much was written to standard output
 
-Example: the frames of a plan for a day, with the FIGs of a file of another FIC behind its own
+Example: the frames of a plan, here with its own ones in the place of a multiplexer's
   printf 'frames 1 contact 3 closed frames 300' > day.events
   dabplan play examples/contact_lowers_a_rate.code day.events day.fib
   dabplan merge day.fib day.fib > merged.fib
