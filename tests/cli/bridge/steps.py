@@ -113,24 +113,27 @@ class Steps(bridges.Case):
                 out = self.read("b")
                 self.goes_out(form, range(first), plan, out[:len(b"".join(frames[:first]))])
 
-    def test_other_steps_with_the_clock(self):
-        """300 frames are 7.2 s: after 5.4 s the clock agrees within 2 s, at once it does not."""
-        jobs = {}
+    def heard_40(self, form, log):
+        """A bridge that has heard 40 frames before a step of 300, with all its frames, their counts and the plan's FIBs."""
+        counts, frames, plan = self.stepped(form, 40, 300, 40)
+        feed = self.started(f"run moves.code --in - --out - --log {log}{form}")
+        self.assertEqual(len(b"".join(feed.through(frames[:40]))), len(b"".join(frames[:40])))
+        return feed, frames, counts, plan
+
+    def test_a_step_before_its_time(self):
+        """300 frames are 7.2 s: at once the clock does not agree."""
         for form in FORMS:
-            for wait in (0.0, 5.4):
-                counts, frames, plan = self.stepped(form, 40, 300, 40)
-                feed = self.started("run moves.code --in - --out - --log l" + f"{form}{wait}")
-                self.assertEqual(len(b"".join(feed.through(frames[:40]))), len(b"".join(frames[:40])))
-                jobs[form, wait] = (feed, frames, counts, plan)
-        for form in FORMS:
-            feed, frames, counts, plan = jobs[form, 0.0]
+            feed, frames, _, _ = self.heard_40(form, "at_once")
             feed.give(frames[40:44])
             status, rest, messages = feed.end()
             self.assertEqual((status, rest), (4, b""), messages)
-            self.assertRegex(messages, r"the count is 340, 40 was due: a step of 300, after \d\.\d s by the clock: " + TAKE_UP)
+            self.assertRegex(messages, r"the count is 340, 40 was due: a step of 300, after \d+\.\d s by the clock: " + TAKE_UP)
+
+    def test_a_step_with_the_clock(self):
+        """300 frames are 7.2 s: after 5.4 s the clock agrees within 2 s."""
+        heard = [(form, self.heard_40(form, "later")) for form in FORMS]
         time.sleep(5.4)
-        for form in FORMS:
-            feed, frames, counts, plan = jobs[form, 5.4]
+        for form, (feed, frames, counts, plan) in heard:
             found = b"".join(feed.through(frames[40:]))
             status, _, messages = feed.end()
             self.assertEqual(status, 0, messages)
