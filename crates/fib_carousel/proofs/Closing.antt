@@ -40,15 +40,6 @@ full_opens layout m p number full some next fits =
     ∙ ap (λ b. if b then opened m (p.fib + 1) else opened m (p.fib + 2)) (le-leb (2 + size_of m) (room layout (p.fib + 1)) here)
     ∙ ap (opened m) next
 
-pub full_passes : (layout : FrameLayout) (m : Marked) (p : PackState) (number : ℕ) → p.used ≡ 30 → 1 ≤ size_of m → p.fib + 1 ≡ number → room layout number < 2 + size_of m
-    → number < (placed layout m p).fib
-full_passes layout m p number full some next tight =
-    let there : room layout (p.fib + 1) < 2 + size_of m = subst (λ k. room layout k < 2 + size_of m) (sym next) tight in
-    let is : placed layout m p ≡ opened m (p.fib + 2) =
-    full_leaves layout m p full some
-    ∙ ap (λ b. if b then opened m (p.fib + 1) else opened m (p.fib + 2)) (lt-leb (2 + size_of m) (room layout (p.fib + 1)) there) in
-    omega (arith, ap (λ (q : PackState). q.fib) is, next)
-
 -- the state after it, if the room is known
 pub closed_within : (layout : FrameLayout) (s : EntryShape) (number known : ℕ) (p : PackState) (r : Option PackState) → p.used ≡ 30 → 1 ≤ s.size → p.fib + 1 ≡ number → known ≡ room layout number
     → IfSome r (λ (q : PackState). (2 + s.size ≤ known) × (q ≡ state_at s number (2 + s.size))) → IfSome r (λ (q : PackState). IsThenWithin layout s number p q)
@@ -149,12 +140,6 @@ closed_stands layout ms n c d is s passed past =
       last = ap (last_number c.state.fib) same ∙ s.last;
     } in
     subst (λ (p : Position). IsAtFib layout ms (n + 1) p) (sym is) stands
-
-pub closed_passed : (layout : FrameLayout) (ms : List Marked) (n : ℕ) (c d : Position) → d ≡ record { index = c.index; state = closed c.state } → HasPassed layout ms n c → HasPassed layout ms n d
-closed_passed layout ms n c d is h =
-    let e : Position = record { index = c.index; state = closed c.state } in
-    let passed : HasPassed layout ms n e = record { fib = h.fib; left = h.left } in
-    subst (λ (p : Position). HasPassed layout ms n p) (sym is) passed
 
 -- ---- the remaining entries, if they go past a FIB
 none_past : (layout : FrameLayout) (n : ℕ) (p : PackState) (es : List Marked) → ((m : Marked) (rest : List Marked) → es ≡ m ∷ rest → n < (placed layout m p).fib) → entries_in_fib n es (numbers_from layout p es) ≡ []

@@ -47,6 +47,3 @@ room_for_more old now cs i lt room before =
     let count : length (component_entries (take i cs)) ≡ i = length-component_entries (take i cs) ∙ length-take-le i cs (omega (arith, lt)) in
     omega (arith, long, words, count, lt, room)
 
--- the entry of a service takes its first bytes and two for each component
-pub service_room : (used sid : ℕ) (cs : List Component) → used + (sid + 1 + 2 * length (component_entries cs)) ≤ 30 → used + sid + 1 + 2 * length cs ≤ 30
-service_room used sid cs room = omega (arith, length-component_entries cs, room)

@@ -59,12 +59,6 @@ fig_length e len h =
     let all : length (figs_bytes (ensemble_figs (Some e))) ≡ 2 + entry_size (EnsembleOf e) + 0 = figs_cost (marked false (EnsembleOf e) ∷ []) in
     omega (arith, h, all)
 
-pub fig_front : (figs : List ℕ) (len : ℕ) → len ≡ length figs → len ≤ 7 → take len (checked (filled figs)) ≡ figs
-fig_front figs len h few =
-    let part : filled figs ≡ figs ++ 255 ∷ replicate (29 - length figs) 0 = filled_part figs (omega (arith, h, few)) in
-    let front : take len (filled figs) ≡ figs = ap (λ t. take len t) part ∙ take_at figs (255 ∷ replicate (29 - length figs) 0) len (sym h) in
-    take-append-le len (filled figs) _ (omega (arith, length-filled figs (omega (arith, h, few)), few)) ∙ front
-
 -- the first FIB of a kept page, with FIG 0/0
 pub with_fig : (e : EnsembleInformation) (figs : List Written) (first : List ℕ) → first ≡ fib_bytes figs → length (figs_bytes figs) ≤ 23
     → checked (figs_bytes (ensemble_figs (Some e)) ++ take (30 - length (figs_bytes (ensemble_figs (Some e)))) first) ≡ fib_bytes (ensemble_figs (Some e) ++ figs)

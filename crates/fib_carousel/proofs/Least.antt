@@ -18,10 +18,6 @@ pub cost_low : (h : Option Head) (e : Marked) → size_of e ≤ cost h e
 cost_low None e = omega arith
 cost_low (Some h) e = elim (same_head h (head_of e)) as (λ b. size_of e ≤ (if b then size_of e else 2 + size_of e)) [ true ↦ omega arith | false ↦ omega arith ]
 
-pub cost_high : (h : Option Head) (e : Marked) → cost h e ≤ 2 + size_of e
-cost_high None e = omega arith
-cost_high (Some h) e = elim (same_head h (head_of e)) as (λ b. (if b then size_of e else 2 + size_of e) ≤ 2 + size_of e) [ true ↦ omega arith | false ↦ omega arith ]
-
 -- the two values of `room`
 pub room_cases : (layout : FrameLayout) (n : ℕ) → ((n % used_fibs layout ≡ 0) × (room layout n ≡ 23)) ⊎ (((n % used_fibs layout ≡ 0) → ⊥) × (room layout n ≡ 30))
 room_cases layout n =

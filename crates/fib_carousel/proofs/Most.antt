@@ -6,7 +6,7 @@ use Rattle.fib_codec.specs.declared.frame_layout.FrameLayout.TheVariants.{Whole,
 use Rattle.fib_codec.specs.Layouts.{used_fibs}
 use Rattle.fib_carousel.specs.Most.{most_alone, most_together}
 use Rattle.std.proofs.lemmas.Bool.{ne_eqb, cases_lt}
-use Rattle.std.proofs.Math.Nat.{mul-le-mul_left}
+use Rattle.std.proofs.Math.Nat.{mul-le-mul_left, add-mod_right}
 use Rattle.std.proofs.lemmas.List.{length-map, map-append}
 use Rattle.mux_config.specs.Configuration.{Configuration, IsConfiguration, IsPlaced, IsService, IsAddressed}
 use Rattle.std.specs.List.{AllByRecursion}
@@ -44,97 +44,24 @@ cap_other w a b n h = rw (ne_eqb (n % w) 0 h) refl
 cap_low : (w a b n : ℕ) → a ≤ b → a ≤ cap w a b n
 cap_low w a b n h = elim (n % w == 0) as (λ x. a ≤ (if x then a else b)) [ true ↦ omega arith | false ↦ h ]
 
--- three successive FIBs take as much as a page, wherever they begin
-cap_three : (a b n : ℕ) → cap 3 a b n + cap 3 a b (suc n) + cap 3 a b (suc (suc n)) ≡ a + b + b
-cap_three a b n =
-    elim (cases_lt (n % 3) 1) [
-      | inl zero_left ↦
-          let x = cap_first 3 a b n (omega (arith, zero_left)) in
-          let y = cap_other 3 a b (suc n) (λ q. omega (arith, zero_left, q)) in
-          let z = cap_other 3 a b (suc (suc n)) (λ q. omega (arith, zero_left, q)) in
-          omega (arith, x, y, z)
-      | inr some_left ↦
-          let x = cap_other 3 a b n (λ q. omega (arith, some_left, q)) in
-          elim (cases_lt (n % 3) 2) [
-            | inl one_left ↦
-                let y = cap_other 3 a b (suc n) (λ q. omega (arith, some_left, one_left, q)) in
-                let z = cap_first 3 a b (suc (suc n)) (omega (arith, some_left, one_left)) in
-                omega (arith, x, y, z)
-            | inr two_left ↦
-                let y = cap_first 3 a b (suc n) (omega (arith, two_left)) in
-                let z = cap_other 3 a b (suc (suc n)) (λ q. omega (arith, two_left, q)) in
-                omega (arith, x, y, z)
-          ]
-    ]
+-- what a page takes, wherever it begins, and so many pages
+page_takes : (w a b page n : ℕ) → total w a b w ≡ page → total w a b (n + w) ≡ total w a b n + page
+page_takes w a b page zero e =
+    let same : zero + w ≡ w = omega arith in
+    ap (λ k. total w a b k) same ∙ omega (arith, e)
+page_takes w a b page (suc n) e =
+    let next : suc n + w ≡ suc (n + w) = omega arith in
+    let again : cap w a b (n + w) ≡ cap w a b n = ap (λ k. if k == 0 then a else b) (add-mod_right n w) in
+    ap (λ k. total w a b k) next ∙ omega (arith, page_takes w a b page n e, again)
 
--- and two do where a page has two, and four where it has four
-cap_two : (a b n : ℕ) → cap 2 a b n + cap 2 a b (suc n) ≡ a + b
-cap_two a b n =
-    elim (cases_lt (n % 2) 1) [
-      | inl zero_left ↦ omega (arith, cap_first 2 a b n (omega (arith, zero_left)), cap_other 2 a b (suc n) (λ q. omega (arith, zero_left, q)))
-      | inr some_left ↦ omega (arith, cap_other 2 a b n (λ q. omega (arith, some_left, q)), cap_first 2 a b (suc n) (omega (arith, some_left)))
-    ]
-
-cap_four : (a b n : ℕ) → cap 4 a b n + cap 4 a b (suc n) + cap 4 a b (suc (suc n)) + cap 4 a b (suc (suc (suc n))) ≡ a + b + b + b
-cap_four a b n =
-    elim (cases_lt (n % 4) 1) [
-      | inl zero_left ↦
-          let x = cap_first 4 a b n (omega (arith, zero_left)) in
-          let y = cap_other 4 a b (suc n) (λ q. omega (arith, zero_left, q)) in
-          let z = cap_other 4 a b (suc (suc n)) (λ q. omega (arith, zero_left, q)) in
-          let t = cap_other 4 a b (suc (suc (suc n))) (λ q. omega (arith, zero_left, q)) in
-          omega (arith, x, y, z, t)
-      | inr some_left ↦
-          let x = cap_other 4 a b n (λ q. omega (arith, some_left, q)) in
-          elim (cases_lt (n % 4) 2) [
-            | inl one_left ↦
-                let y = cap_other 4 a b (suc n) (λ q. omega (arith, some_left, one_left, q)) in
-                let z = cap_other 4 a b (suc (suc n)) (λ q. omega (arith, some_left, one_left, q)) in
-                let t = cap_first 4 a b (suc (suc (suc n))) (omega (arith, some_left, one_left)) in
-                omega (arith, x, y, z, t)
-            | inr two_left ↦
-                elim (cases_lt (n % 4) 3) [
-                  | inl at_two ↦
-                      let y = cap_other 4 a b (suc n) (λ q. omega (arith, two_left, at_two, q)) in
-                      let z = cap_first 4 a b (suc (suc n)) (omega (arith, two_left, at_two)) in
-                      let t = cap_other 4 a b (suc (suc (suc n))) (λ q. omega (arith, two_left, at_two, q)) in
-                      omega (arith, x, y, z, t)
-                  | inr at_three ↦
-                      let y = cap_first 4 a b (suc n) (omega (arith, at_three)) in
-                      let z = cap_other 4 a b (suc (suc n)) (λ q. omega (arith, at_three, q)) in
-                      let t = cap_other 4 a b (suc (suc (suc n))) (λ q. omega (arith, at_three, q)) in
-                      omega (arith, x, y, z, t)
-                ]
-          ]
-    ]
-
--- what a page takes
-abbrev Takes : ℕ → ℕ → ℕ → ℕ → Type 0
-Takes w a b page = (n : ℕ) → total w a b (n + w) ≡ total w a b n + page
-
-page_two : (a b page : ℕ) → page ≡ a + b → Takes 2 a b page
-page_two a b page e n =
-    let next : n + 2 ≡ suc (suc n) = omega arith in
-    ap (λ k. total 2 a b k) next ∙ omega (arith, cap_two a b n, e)
-
-page_three : (a b page : ℕ) → page ≡ a + b + b → Takes 3 a b page
-page_three a b page e n =
-    let next : n + 3 ≡ suc (suc (suc n)) = omega arith in
-    ap (λ k. total 3 a b k) next ∙ omega (arith, cap_three a b n, e)
-
-page_four : (a b page : ℕ) → page ≡ a + b + b + b → Takes 4 a b page
-page_four a b page e n =
-    let next : n + 4 ≡ suc (suc (suc (suc n))) = omega arith in
-    ap (λ k. total 4 a b k) next ∙ omega (arith, cap_four a b n, e)
-
-total_pages : (w a b page n t : ℕ) → Takes w a b page → total w a b (n + w * t) ≡ total w a b n + t * page
+total_pages : (w a b page n t : ℕ) → total w a b w ≡ page → total w a b (n + w * t) ≡ total w a b n + t * page
 total_pages w a b page n zero e =
     let same : n + w * 0 ≡ n = omega arith in
     let none : total w a b n ≡ total w a b n + 0 * page = omega arith in
     ap (λ k. total w a b k) same ∙ none
 total_pages w a b page n (suc t) e =
     let next : n + w * suc t ≡ n + w * t + w = omega arith in
-    ap (λ k. total w a b k) next ∙ e (n + w * t) ∙ omega (arith, total_pages w a b page n t e)
+    ap (λ k. total w a b k) next ∙ page_takes w a b page (n + w * t) e ∙ omega (arith, total_pages w a b page n t e)
 
 total_more : (w a b n k : ℕ) → total w a b n ≤ total w a b (n + k)
 total_more w a b n zero = let same : n + 0 ≡ n = omega arith in subst (λ m. total w a b n ≤ total w a b m) (sym same) (omega arith)
@@ -145,15 +72,21 @@ total_more w a b n (suc k) =
 total_mono : (w a b m n : ℕ) → m ≤ n → total w a b m ≤ total w a b n
 total_mono w a b m n h = let whole : m + (n - m) ≡ n = omega (arith, h) in subst (λ k. total w a b m ≤ total w a b k) whole (total_more w a b m (n - m))
 
-total_one : (w a b n k : ℕ) → k ≡ n + 1 → a ≤ b → total w a b n + a ≤ total w a b k
-total_one w a b n k e h =
-    let one : k ≡ suc n = omega (arith, e) in
-    subst (λ i. total w a b n + a ≤ total w a b i) (sym one) (omega (arith, cap_low w a b n h))
+-- r successive FIBs take at least a each, and two of four of a page at least a + b
+total_rest : (w a b n r : ℕ) → a ≤ b → total w a b n + r * a ≤ total w a b (n + r)
+total_rest w a b n zero h = let same : n + 0 ≡ n = omega arith in subst (λ i. total w a b n + 0 * a ≤ total w a b i) (sym same) (omega arith)
+total_rest w a b n (suc r) h =
+    let next : n + suc r ≡ suc (n + r) = omega arith in
+    subst (λ i. total w a b n + suc r * a ≤ total w a b i) (sym next) (omega (arith, total_rest w a b n r h, cap_low w a b (n + r) h))
 
-total_two : (w a b n k : ℕ) → k ≡ n + 2 → a ≤ b → total w a b n + (a + a) ≤ total w a b k
-total_two w a b n k e h =
-    let two : k ≡ suc (suc n) = omega (arith, e) in
-    subst (λ i. total w a b n + (a + a) ≤ total w a b i) (sym two) (omega (arith, cap_low w a b n h, cap_low w a b (suc n) h))
+total_pair : (a b n : ℕ) → a ≤ b → total 4 a b n + (a + b) ≤ total 4 a b (n + 2)
+total_pair a b n h =
+    let next : n + 2 ≡ suc (suc n) = omega arith in
+    subst (λ i. total 4 a b n + (a + b) ≤ total 4 a b i) (sym next)
+    (elim (cases_lt 0 (n % 4)) [
+      | inl some_left ↦ omega (arith, cap_other 4 a b n (λ q. omega (arith, some_left, q)), cap_low 4 a b (suc n) h)
+      | inr none_left ↦ omega (arith, cap_other 4 a b (suc n) (λ q. omega (arith, none_left, q)), cap_low 4 a b n h)
+    ])
 
 -- entries of one kind: no larger than s, and of one head, or so large that no two share a FIB
 abbrev IsOfKind : ℕ → ℕ → ℕ → Head → Marked → Type 0
@@ -315,93 +248,39 @@ packets_most fibs = if fibs == 2 then 15 else 14
 abbrev Suffices : FrameLayout → ℕ → ℕ → ℕ → ℕ → Type 0
 Suffices layout a b k f = total (used_fibs layout) a b (f + 1) + 64 ≤ total (used_fibs layout) a b (f + 1 + k)
 
-subs_two : (f : ℕ) → total 2 5 7 (f + 1) + 64 ≤ total 2 5 7 (f + 1 + 11)
-subs_two f =
-    let pages : total 2 5 7 (f + 1 + 10) ≡ total 2 5 7 (f + 1) + 60 = total_pages 2 5 7 12 (f + 1) 5 (page_two 5 7 12 refl) in
-    omega (arith, pages, total_one 2 5 7 (f + 1 + 10) (f + 1 + 11) (omega arith) (omega arith))
+-- so many pages and FIBs take 64
+enough_by : (w a b page n t r k : ℕ) → total w a b w ≡ page → a ≤ b → w * t + r ≡ k → 64 ≤ t * page + r * a → total w a b n + 64 ≤ total w a b (n + k)
+enough_by w a b page n t r k e h at enough =
+    let whole : n + w * t + r ≡ n + k = omega (arith, at) in
+    subst (λ i. total w a b n + 64 ≤ total w a b i) whole (omega (arith, total_pages w a b page n t e, total_rest w a b (n + w * t) r h, enough))
 
-subs_three : (f : ℕ) → total 3 5 7 (f + 1) + 64 ≤ total 3 5 7 (f + 1 + 11)
-subs_three f =
-    let pages : total 3 5 7 (f + 1 + 9) ≡ total 3 5 7 (f + 1) + 57 = total_pages 3 5 7 19 (f + 1) 3 (page_three 5 7 19 refl) in
-    omega (arith, pages, total_two 3 5 7 (f + 1 + 9) (f + 1 + 11) (omega arith) (omega arith))
-
-subs_four : (f : ℕ) → total 4 5 7 (f + 1) + 64 ≤ total 4 5 7 (f + 1 + 10)
-subs_four f =
-    let pages : total 4 5 7 (f + 1 + 8) ≡ total 4 5 7 (f + 1) + 52 = total_pages 4 5 7 26 (f + 1) 2 (page_four 5 7 26 refl) in
-    let two : total 4 5 7 (f + 1 + 8) + 12 ≤ total 4 5 7 (f + 1 + 10) = five_and_seven (f + 1 + 8) (f + 1 + 10) (omega arith) in
-    omega (arith, pages, two)
-  where
-    -- of two successive FIBs at most one is the first of a page
-    five_and_seven : (n k : ℕ) → k ≡ n + 2 → total 4 5 7 n + 12 ≤ total 4 5 7 k
-    five_and_seven n k e =
-        let next : k ≡ suc (suc n) = omega (arith, e) in
-        let low = cap_low 4 5 7 n (omega arith) in
-        let low_next = cap_low 4 5 7 (suc n) (omega arith) in
-        subst (λ i. total 4 5 7 n + 12 ≤ total 4 5 7 i) (sym next)
-        (elim (cases_lt 0 (n % 4)) [
-          | inl some_left ↦ omega (arith, cap_other 4 5 7 n (λ q. omega (arith, some_left, q)), low_next)
-          | inr none_left ↦ omega (arith, cap_other 4 5 7 (suc n) (λ q. omega (arith, none_left, q)), low)
-        ])
+enough_four : (a b page n t k : ℕ) → total 4 a b 4 ≡ page → a ≤ b → 4 * t + 2 ≡ k → 64 ≤ t * page + (a + b) → total 4 a b n + 64 ≤ total 4 a b (n + k)
+enough_four a b page n t k e h at enough =
+    let whole : n + 4 * t + 2 ≡ n + k = omega (arith, at) in
+    subst (λ i. total 4 a b n + 64 ≤ total 4 a b i) whole (omega (arith, total_pages 4 a b page n t e, total_pair a b (n + 4 * t) h, enough))
 
 subs_enough : (layout : FrameLayout) (f : ℕ) → Suffices layout 5 7 (subs_most (used_fibs layout)) f
 subs_enough layout f =
-    by_width (λ w. total w 5 7 (f + 1) + 64 ≤ total w 5 7 (f + 1 + subs_most w)) (subs_two f) (subs_three f) (subs_four f) layout
-
-services_two : (f : ℕ) → total 2 0 1 (f + 1) + 64 ≤ total 2 0 1 (f + 1 + 128)
-services_two f =
-    let pages : total 2 0 1 (f + 1 + 128) ≡ total 2 0 1 (f + 1) + 64 = total_pages 2 0 1 1 (f + 1) 64 (page_two 0 1 1 refl) in
-    omega (arith, pages)
-
-services_three : (f : ℕ) → total 3 0 1 (f + 1) + 64 ≤ total 3 0 1 (f + 1 + 96)
-services_three f =
-    let pages : total 3 0 1 (f + 1 + 96) ≡ total 3 0 1 (f + 1) + 64 = total_pages 3 0 1 2 (f + 1) 32 (page_three 0 1 2 refl) in
-    omega (arith, pages)
-
-services_four : (f : ℕ) → total 4 0 1 (f + 1) + 64 ≤ total 4 0 1 (f + 1 + 86)
-services_four f =
-    let pages : total 4 0 1 (f + 1 + 84) ≡ total 4 0 1 (f + 1) + 63 = total_pages 4 0 1 3 (f + 1) 21 (page_four 0 1 3 refl) in
-    let two : total 4 0 1 (f + 1 + 84) + 1 ≤ total 4 0 1 (f + 1 + 86) = one_of_two (f + 1 + 84) (f + 1 + 86) (omega arith) in
-    omega (arith, pages, two)
-  where
-    one_of_two : (n k : ℕ) → k ≡ n + 2 → total 4 0 1 n + 1 ≤ total 4 0 1 k
-    one_of_two n k e =
-        let next : k ≡ suc (suc n) = omega (arith, e) in
-        subst (λ i. total 4 0 1 n + 1 ≤ total 4 0 1 i) (sym next)
-        (elim (cases_lt 0 (n % 4)) [
-          | inl some_left ↦ omega (arith, cap_other 4 0 1 n (λ q. omega (arith, some_left, q)))
-          | inr none_left ↦ omega (arith, cap_other 4 0 1 (suc n) (λ q. omega (arith, none_left, q)))
-        ])
+    by_width (λ w. total w 5 7 (f + 1) + 64 ≤ total w 5 7 (f + 1 + subs_most w)) (enough_by 2 5 7 12 (f + 1) 5 1 11 refl (omega arith) refl (omega arith))
+    (enough_by 3 5 7 19 (f + 1) 3 2 11 refl (omega arith) refl (omega arith)) (enough_four 5 7 26 (f + 1) 2 10 refl (omega arith) refl (omega arith)) layout
 
 services_enough : (layout : FrameLayout) (f : ℕ) → Suffices layout 0 1 (services_most (used_fibs layout)) f
 services_enough layout f =
-    by_width (λ w. total w 0 1 (f + 1) + 64 ≤ total w 0 1 (f + 1 + services_most w)) (services_two f) (services_three f) (services_four f) layout
+    by_width (λ w. total w 0 1 (f + 1) + 64 ≤ total w 0 1 (f + 1 + services_most w)) (enough_by 2 0 1 1 (f + 1) 64 0 128 refl (omega arith) refl (omega arith))
+    (enough_by 3 0 1 2 (f + 1) 32 0 96 refl (omega arith) refl (omega arith)) (enough_four 0 1 3 (f + 1) 21 86 refl (omega arith) refl (omega arith)) layout
+
+packets_enough : (layout : FrameLayout) (f : ℕ) → Suffices layout 4 5 (packets_most (used_fibs layout)) f
+packets_enough layout f =
+    by_width (λ w. total w 4 5 (f + 1) + 64 ≤ total w 4 5 (f + 1 + packets_most w)) (enough_by 2 4 5 9 (f + 1) 7 1 15 refl (omega arith) refl (omega arith))
+    (enough_by 3 4 5 14 (f + 1) 4 2 14 refl (omega arith) refl (omega arith)) (enough_four 4 5 19 (f + 1) 3 14 refl (omega arith) refl (omega arith)) layout
 
 -- one FIB fewer with four FIBs to a page after FIB 10
 services_behind_ten : Suffices (Whole III) 0 1 85 10
 services_behind_ten =
-    let pages : total 4 0 1 (11 + 84) ≡ total 4 0 1 11 + 63 = total_pages 4 0 1 3 11 21 (page_four 0 1 3 refl) in
+    let pages : total 4 0 1 (11 + 84) ≡ total 4 0 1 11 + 63 = total_pages 4 0 1 3 11 21 refl in
     let one : cap 4 0 1 95 ≡ 1 = refl in
     let next : total 4 0 1 96 ≡ total 4 0 1 95 + cap 4 0 1 95 = refl in
     omega (arith, pages, one, next)
-
-packets_two : (f : ℕ) → total 2 4 5 (f + 1) + 64 ≤ total 2 4 5 (f + 1 + 15)
-packets_two f =
-    let pages : total 2 4 5 (f + 1 + 14) ≡ total 2 4 5 (f + 1) + 63 = total_pages 2 4 5 9 (f + 1) 7 (page_two 4 5 9 refl) in
-    omega (arith, pages, total_one 2 4 5 (f + 1 + 14) (f + 1 + 15) (omega arith) (omega arith))
-
-packets_three : (f : ℕ) → total 3 4 5 (f + 1) + 64 ≤ total 3 4 5 (f + 1 + 14)
-packets_three f =
-    let pages : total 3 4 5 (f + 1 + 12) ≡ total 3 4 5 (f + 1) + 56 = total_pages 3 4 5 14 (f + 1) 4 (page_three 4 5 14 refl) in
-    omega (arith, pages, total_two 3 4 5 (f + 1 + 12) (f + 1 + 14) (omega arith) (omega arith))
-
-packets_four : (f : ℕ) → total 4 4 5 (f + 1) + 64 ≤ total 4 4 5 (f + 1 + 14)
-packets_four f =
-    let pages : total 4 4 5 (f + 1 + 12) ≡ total 4 4 5 (f + 1) + 57 = total_pages 4 4 5 19 (f + 1) 3 (page_four 4 5 19 refl) in
-    omega (arith, pages, total_two 4 4 5 (f + 1 + 12) (f + 1 + 14) (omega arith) (omega arith))
-
-packets_enough : (layout : FrameLayout) (f : ℕ) → Suffices layout 4 5 (packets_most (used_fibs layout)) f
-packets_enough layout f =
-    by_width (λ w. total w 4 5 (f + 1) + 64 ≤ total w 4 5 (f + 1 + packets_most w)) (packets_two f) (packets_three f) (packets_four f) layout
 
 holds_by : (layout : FrameLayout) (a b s : ℕ) → 2 + s * a ≤ 23 ⊎ (a ≡ 0) → 2 + s * b ≤ 30 → Holds layout a b s
 holds_by layout a b s first other n some_left =
@@ -415,56 +294,22 @@ holds_by layout a b s first other n some_left =
       | inr c ↦ subst (λ k. 2 + s * k ≤ room layout n) (sym (cap_other (used_fibs layout) a b n c.0)) (omega (arith, other, c.1))
     ]
 
--- a phase of at most 64 entries of a kind
-phase : (layout : FrameLayout) (a b s k : ℕ) (h : Head) (ms : List Marked) (p : PackState) → Holds layout a b s → Suffices layout a b k p.fib → AllByRecursion (IsOfKind a b s h) ms → length ms ≤ 64 → (behind layout p ms).fib ≤ p.fib + k
-phase layout a b s k h ms p holds enough kinds few =
-    comes_within layout a b s p.fib (0 + length ms) k h (behind layout p ms) (comes_all layout a b s p.fib 0 h ms p holds kinds (inl refl)) (omega (arith, few)) enough
+-- a phase of at most 64 members of a kind, with the entry of each
+phase : {A : Type 0} (layout : FrameLayout) (a b s k : ℕ) (h : Head) (next : Bool) (f : A → Entry) (Q : A → Type 0) (xs : List A) (p : PackState) → Holds layout a b s → Suffices layout a b k p.fib
+    → ((x : A) → Q x → IsOfKind a b s h (marked next (f x))) → AllByRecursion Q xs → length xs ≤ 64 → (behind layout p (map (marked next) (map f xs))).fib ≤ p.fib + k
+phase layout a b s k h next f Q xs p holds enough kind formed few =
+    let ms : List Marked = map (marked next) (map f xs) in
+    let kinds : AllByRecursion (IsOfKind a b s h) ms =
+    each_map (marked next) (λ e. IsOfKind a b s h (marked next e)) (IsOfKind a b s h) (map f xs) (λ e k. k)
+    (each_map f Q (λ e. IsOfKind a b s h (marked next e)) xs kind formed) in
+    let count : length ms ≡ length xs = length-map (map f xs) (marked next) ∙ length-map xs f in
+    comes_within layout a b s p.fib (0 + length ms) k h (behind layout p ms) (comes_all layout a b s p.fib 0 h ms p holds kinds (inl refl)) (omega (arith, few, count)) enough
 
 -- the three kinds of entries
 abbrev head_ext : Bool → ℕ → Head
 head_ext next ext = record { next = next; oe = false; long = false; ext = ext }
 
-service_size : (s : Service) → IsService s → size_of (marked false (service_entry s)) ≤ 27
-service_size s h =
-    omega (arith, service_small s.sid (length s.components) h.few, length-component_entries s.components)
-
-length-marked : {A : Type 0} (next : Bool) (f : A → Entry) (xs : List A) → length (map (marked next) (map f xs)) ≡ length xs
-length-marked next f xs = length-map (map f xs) (marked next) ∙ length-map xs f
-
-subs_phase : (layout : FrameLayout) (c : Configuration) (next : Bool) (p : PackState) → IsConfiguration c → (behind layout p (map (marked next) (map sub_entry c.subs))).fib ≤ p.fib + subs_most (used_fibs layout)
-subs_phase layout c next p h =
-    let kind : (s : Sub) → IsPlaced s → IsOfKind 5 7 4 (head_ext next 1) (marked next (sub_entry s)) = λ s _. (omega arith, inl refl) in
-    let kinds : AllByRecursion (IsOfKind 5 7 4 (head_ext next 1)) (map (marked next) (map sub_entry c.subs)) =
-    each_map (marked next) (λ e. IsOfKind 5 7 4 (head_ext next 1) (marked next e)) (IsOfKind 5 7 4 (head_ext next 1)) (map sub_entry c.subs) (λ e k. k)
-    (each_map sub_entry IsPlaced (λ e. IsOfKind 5 7 4 (head_ext next 1) (marked next e)) c.subs kind h.subs_placed) in
-    phase layout 5 7 4 (subs_most (used_fibs layout)) (head_ext next 1) (map (marked next) (map sub_entry c.subs)) p (holds_by layout 5 7 4 (inl (omega arith)) (omega arith)) (subs_enough layout p.fib) kinds
-    (omega (arith, length-marked next sub_entry c.subs, h.subs_few))
-
-services_phase : (layout : FrameLayout) (c : Configuration) (next : Bool) (p : PackState) (k : ℕ) → Suffices layout 0 1 k p.fib → IsConfiguration c → (behind layout p (map (marked next) (map service_entry c.services))).fib ≤ p.fib + k
-services_phase layout c next p k enough h =
-    let Kind : Entry → Type 0 = λ e. IsOfKind 0 1 27 (head_ext next 2) (marked next e) in
-    let kind : (s : Service) → IsService s → Kind (service_entry s) = λ s k. (service_size s k, inr (omega arith, omega arith)) in
-    let kinds : AllByRecursion (IsOfKind 0 1 27 (head_ext next 2)) (map (marked next) (map service_entry c.services)) =
-    each_map (marked next) Kind (IsOfKind 0 1 27 (head_ext next 2)) (map service_entry c.services) (λ e k. k)
-    (each_map service_entry IsService Kind c.services kind h.services_formed) in
-    phase layout 0 1 27 k (head_ext next 2) (map (marked next) (map service_entry c.services)) p (holds_by layout 0 1 27 (inr refl) (omega arith)) enough kinds
-    (omega (arith, length-marked next service_entry c.services, h.services_few))
-
-packets_phase : (layout : FrameLayout) (c : Configuration) (next : Bool) (p : PackState) → IsConfiguration c → (behind layout p (map (marked next) (map packet_entry c.packets))).fib ≤ p.fib + packets_most (used_fibs layout)
-packets_phase layout c next p h =
-    let Kind : Entry → Type 0 = λ e. IsOfKind 4 5 5 (head_ext next 3) (marked next e) in
-    let kind : (k : Packet) → IsAddressed k → Kind (packet_entry k) = λ k _. (omega arith, inl refl) in
-    let kinds : AllByRecursion (IsOfKind 4 5 5 (head_ext next 3)) (map (marked next) (map packet_entry c.packets)) =
-    each_map (marked next) Kind (IsOfKind 4 5 5 (head_ext next 3)) (map packet_entry c.packets) (λ e k. k)
-    (each_map packet_entry IsAddressed Kind c.packets kind h.packets_addressed) in
-    phase layout 4 5 5 (packets_most (used_fibs layout)) (head_ext next 3) (map (marked next) (map packet_entry c.packets)) p (holds_by layout 4 5 5 (inl (omega arith)) (omega arith)) (packets_enough layout p.fib) kinds
-    (omega (arith, length-marked next packet_entry c.packets, h.packets_few))
-
-behind-append : (layout : FrameLayout) (p : PackState) (xs ys : List Marked) → behind layout p (xs ++ ys) ≡ behind layout (behind layout p xs) ys
-behind-append layout p [] ys = refl
-behind-append layout p (x ∷ xs) ys = behind-append layout (placed layout x p) xs ys
-
--- a configuration takes this many more FIBs
+-- the entries of a configuration, kind by kind
 abbrev subs_entries : Configuration → Bool → List Marked
 subs_entries c next = map (marked next) (map sub_entry c.subs)
 
@@ -474,6 +319,29 @@ services_only c next = map (marked next) (map service_entry c.services)
 abbrev packets_only : Configuration → Bool → List Marked
 packets_only c next = map (marked next) (map packet_entry c.packets)
 
+subs_phase : (layout : FrameLayout) (c : Configuration) (next : Bool) (p : PackState) → IsConfiguration c → (behind layout p (subs_entries c next)).fib ≤ p.fib + subs_most (used_fibs layout)
+subs_phase layout c next p h =
+    phase layout 5 7 4 (subs_most (used_fibs layout)) (head_ext next 1) next sub_entry IsPlaced c.subs p (holds_by layout 5 7 4 (inl (omega arith)) (omega arith)) (subs_enough layout p.fib)
+    (λ s _. (omega arith, inl refl)) h.subs_placed h.subs_few
+
+services_phase : (layout : FrameLayout) (c : Configuration) (next : Bool) (p : PackState) (k : ℕ) → Suffices layout 0 1 k p.fib → IsConfiguration c → (behind layout p (services_only c next)).fib ≤ p.fib + k
+services_phase layout c next p k enough h =
+    phase layout 0 1 27 k (head_ext next 2) next service_entry IsService c.services p (holds_by layout 0 1 27 (inr refl) (omega arith)) enough
+    (λ s i. (service_size s i, inr (omega arith, omega arith))) h.services_formed h.services_few
+  where
+    service_size : (s : Service) → IsService s → size_of (marked next (service_entry s)) ≤ 27
+    service_size s i = omega (arith, service_small s.sid (length s.components) i.few, length-component_entries s.components)
+
+packets_phase : (layout : FrameLayout) (c : Configuration) (next : Bool) (p : PackState) → IsConfiguration c → (behind layout p (packets_only c next)).fib ≤ p.fib + packets_most (used_fibs layout)
+packets_phase layout c next p h =
+    phase layout 4 5 5 (packets_most (used_fibs layout)) (head_ext next 3) next packet_entry IsAddressed c.packets p (holds_by layout 4 5 5 (inl (omega arith)) (omega arith)) (packets_enough layout p.fib)
+    (λ k _. (omega arith, inl refl)) h.packets_addressed h.packets_few
+
+behind-append : (layout : FrameLayout) (p : PackState) (xs ys : List Marked) → behind layout p (xs ++ ys) ≡ behind layout (behind layout p xs) ys
+behind-append layout p [] ys = refl
+behind-append layout p (x ∷ xs) ys = behind-append layout (placed layout x p) xs ys
+
+-- a configuration takes this many more FIBs
 facts_walk : (layout : FrameLayout) (c : Configuration) (next : Bool) (p : PackState) → behind layout p (facts_of c next) ≡ behind layout (behind layout (behind layout p (subs_entries c next)) (services_only c next)) (packets_only c next)
 facts_walk layout c next p =
     let subs : List Marked = subs_entries c next in
@@ -504,7 +372,7 @@ facts_first c h =
     let one : first.fib ≤ 0 + 10 = subs_phase (Whole III) c false start h in
     let two : second.fib ≤ 95 =
     elim (cases_lt first.fib 10) [
-      | inl lt ↦ omega (arith, lt, services_phase (Whole III) c false first 86 (services_four first.fib) h)
+      | inl lt ↦ omega (arith, lt, services_phase (Whole III) c false first 86 (services_enough (Whole III) first.fib) h)
       | inr ge ↦
           let at : first.fib ≡ 10 = omega (arith, ge, one) in
           omega (arith, at, services_phase (Whole III) c false first 85 (subst (λ f. Suffices (Whole III) 0 1 85 f) (sym at) services_behind_ten) h)

@@ -24,14 +24,6 @@ fib_written count first slot figs before after fib whole h is grown so_far =
     ∙ ap (λ xs. before ++ xs) (sym (fibs_left count first slot figs h))
     ∙ so_far
 
-pub fibs_done : (count first : ℕ) (figs : ℕ → List Written) (bytes whole : List ℕ)
-    → take (32 * count) bytes ++ flat_map fib_bytes (map figs (range_with_len (first + count) (count - count))) ≡ whole → take (32 * count) bytes ≡ whole
-fibs_done count first figs bytes whole h =
-    let none : count - count ≡ 0 = omega arith in
-    sym (append-nil (take (32 * count) bytes))
-    ∙ ap (λ n. take (32 * count) bytes ++ flat_map fib_bytes (map figs (range_with_len (first + count) n))) (sym none)
-    ∙ h
-
 -- the reserved FIBs still to be written, from this slot on
 pub reserved_written : (slot count : ℕ) (before after fib whole : List ℕ) → slot < count → fib ≡ fib_bytes [] → after ≡ before ++ fib
     → before ++ flat_map fib_bytes (replicate (count - slot) []) ≡ whole → after ++ flat_map fib_bytes (replicate (count - (slot + 1)) []) ≡ whole
@@ -44,12 +36,3 @@ reserved_written slot count before after fib whole h is grown so_far =
     ∙ ap (λ n. before ++ flat_map fib_bytes (replicate n [])) (sym more)
     ∙ so_far
 
-pub reserved_done : (count : ℕ) (bytes whole : List ℕ) → length bytes ≡ 32 * count
-    → take (32 * count) bytes ++ flat_map fib_bytes (replicate (count - count) []) ≡ whole → bytes ≡ whole
-reserved_done count bytes whole long h =
-    let none : count - count ≡ 0 = omega arith in
-    let all : take (32 * count) bytes ≡ bytes = take_all (32 * count) bytes (omega (arith, long)) in
-    sym all
-    ∙ sym (append-nil (take (32 * count) bytes))
-    ∙ ap (λ n. take (32 * count) bytes ++ flat_map fib_bytes (replicate n [])) (sym none)
-    ∙ h

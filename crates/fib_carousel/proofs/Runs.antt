@@ -71,31 +71,14 @@ run_leaves layout s fib used fit left small fits full =
 
 -- ---- counting a run
 
-step_first : (layout : FrameLayout) (s : EntryShape) (n : ℕ) (p : PackState) → 1 ≤ n → steps layout s n p ≡ steps layout s (n - 1) (step layout s p)
-step_first layout s zero p some = absurd (omega (arith, some))
-step_first layout s (suc n) p some = let less : n ≡ suc n - 1 = omega arith in ap (λ k. steps layout s k (step layout s p)) less
-
 -- a state after an entry of this shape
 pub record IsBehind (layout : FrameLayout) (s : EntryShape) (p : PackState) : Type 0 where
   pub used : p.used ≤ room layout p.fib
   pub head : p.head ≡ Some s.head
 
-step_behind : (layout : FrameLayout) (s : EntryShape) (p : PackState) → s.size ≤ 21 → IsBehind layout s (step layout s p)
-step_behind layout s p small =
-    elim (cases_lt (room layout p.fib) (p.used + shape_cost p.head s)) [
-      | inl full ↦
-          let next : 2 + s.size ≤ room layout (p.fib + 1) = omega (arith, small, room_low layout (p.fib + 1)) in
-          rw (lt-leb (p.used + shape_cost p.head s) (room layout p.fib) full, le-leb (2 + s.size) (room layout (p.fib + 1)) next) (record { used = next; head = refl })
-      | inr fits ↦ rw (le-leb (p.used + shape_cost p.head s) (room layout p.fib) fits) (record { used = fits; head = refl })
-    ]
-
 pub record Begun (layout : FrameLayout) (s : EntryShape) (n : ℕ) (p q : PackState) : Type 0 where
   pub behind : IsBehind layout s q
   pub rest : steps layout s (n - 1) q ≡ steps layout s n p
-
-pub run_begun : (layout : FrameLayout) (s : EntryShape) (n : ℕ) (p q : PackState) → s.size ≤ 21 → 1 ≤ n → q ≡ step layout s p → Begun layout s n p q
-run_begun layout s n p q small some is =
-    rw is (record { behind = step_behind layout s p small; rest = sym (step_first layout s n p some) })
 
 -- the state itself, from its fields
 as_state : (layout : FrameLayout) (s : EntryShape) (p : PackState) → IsBehind layout s p → p ≡ state_at s p.fib p.used
@@ -161,11 +144,6 @@ service_placed layout next xs i x p q shape whole there head size then_is so_far
     ≡ all_placed layout (map (λ s. marked next (service_entry s)) (drop (i + 1) xs)) (placed layout (marked next (service_entry x)) p) =
     ap (λ (ys : List Service). all_placed layout (map (λ s. marked next (service_entry s)) ys) p) (cut xs i x there) in
     ap (all_placed layout (map (λ s. marked next (service_entry s)) (drop (i + 1) xs))) (then_is (marked next (service_entry x)) head size) ∙ sym on ∙ so_far
-
-pub services_end : (layout : FrameLayout) (next : Bool) (xs : List Service) (i : ℕ) (p whole : PackState) → length xs ≤ i
-    → all_placed layout (map (λ s. marked next (service_entry s)) (drop i xs)) p ≡ whole → p ≡ whole
-services_end layout next xs i p whole past so_far =
-    sym (ap (λ (ys : List Service). all_placed layout (map (λ s. marked next (service_entry s)) ys) p) (walked xs i past)) ∙ so_far
 
 both_placed : (layout : FrameLayout) (ms ns : List Marked) (p : PackState) → all_placed layout (ms ++ ns) p ≡ all_placed layout ns (all_placed layout ms p)
 both_placed layout [] ns p = refl

@@ -72,14 +72,6 @@ pub written_figs : (ms : List Marked) → AreSendable ms → AllByRecursion IsWr
 written_figs [] h = tt
 written_figs (m ∷ ms) h = written_joined m (figs_of ms) h.0 (written_figs ms h.1)
 
--- an extension has five bits
-pub ext_of_low : (e : Entry) → ext_of e < 32
-ext_of_low (EnsembleOf e) = omega arith
-ext_of_low (SubOf s) = omega arith
-ext_of_low (ShortOf s) = omega arith
-ext_of_low (ServiceOf s) = omega arith
-ext_of_low (PacketOf p) = omega arith
-
 -- what FIG 0/0 leaves of a FIB has room for what the packing puts there
 pub fib_room : (layout : FrameLayout) (ensemble : Option EnsembleInformation) (number used size : ℕ) → used ≤ 7 → (ensemble ≡ None → used ≡ 0) → (IsSome ensemble → number % used_fibs layout ≡ 0) → size ≤ room layout number → used + size ≤ 30
 fib_room layout None number used size low none first fits = omega (arith, none refl, fits, room_high layout number)

@@ -90,9 +90,6 @@ next_side c d next count i is same le =
 pub side_takes : (all side : List Marked) (i j room : ℕ) (old : List ℕ) → OneSide all side i j → TakesRuns all i room old → TakesRuns side j room old
 side_takes all side i j room old o takes n s r fits = takes n s (o.run n s r) fits
 
-pub side_first : (all side : List Marked) (i j room : ℕ) → OneSide all side i j → ((m : Marked) → slice_get all i ≡ Some m → size_of m ≤ room) → (m : Marked) → slice_get side j ≡ Some m → size_of m ≤ room
-side_first all side i j room o first m h = first m (o.get m h)
-
 pub side_puts : (all side : List Marked) (i j room n : ℕ) (old new : List ℕ) → OneSide all side i j → j < length side → ((s : EntryShape) → IsShapeAt side j s → PutsRun side j s room n old new)
     → (s : EntryShape) → IsShapeAt all i s → PutsRun all i s room n old new
 side_puts all side i j room n old new o there puts s at =

@@ -31,10 +31,3 @@ another layout ms k p left passed =
 pub after_another : (layout : FrameLayout) (ms : List Marked) (k : ℕ) → k + 1 < rounds layout ms → page_after (rounds layout ms) k ≡ k + 1
 after_another layout ms k h = ap (λ b. if b then k + 1 else 0) (lt-ltb (k + 1) (rounds layout ms) h)
 
-pub stands_next : (layout : FrameLayout) (ms : List Marked) (k : ℕ) (p : Position) → IsAtFib layout ms (first_fib layout k + used_fibs layout) p → IsAtFib layout ms (first_fib layout (k + 1)) p
-stands_next layout ms k p h =
-    let next : first_fib layout k + used_fibs layout ≡ first_fib layout (k + 1) = sym (next_page layout k) ∙ ap (λ n. first_fib layout n) (one_more k) in
-    subst (λ n. IsAtFib layout ms n p) next h
-  where
-    one_more : (k : ℕ) → suc k ≡ k + 1
-    one_more k = omega arith

@@ -191,9 +191,6 @@ passed_by layout ms n from c q s h w =
     last_rises q.fib (numbers_from layout q (drop (c.index + 1) ms)) (numbers_rise layout q (drop (c.index + 1) ms) q.fib (omega arith)) in
     record { fib = w.low; left = inr (omega (arith, h, above, left)) }
 
-pub passed_all : (layout : FrameLayout) (ms : List Marked) (n from : ℕ) (c : Position) → length ms ≤ c.index → Walked layout ms n from c → HasPassed layout ms n c
-passed_all layout ms n from c h w = record { fib = w.low; left = inl (omega (arith, h, w.later.index)) }
-
 -- an entry advances by at most two FIBs, so there is at most one page more than entries
 last_bound : (layout : FrameLayout) (p : PackState) (ms : List Marked) → last_number p.fib (numbers_from layout p ms) ≤ p.fib + 2 * length ms
 last_bound layout p [] = omega arith
