@@ -46,4 +46,3 @@ room_for_more old now cs i lt room before =
     let words : length (components_bytes (component_entries (take i cs))) ≡ 2 * length (component_entries (take i cs)) = components_len (component_entries (take i cs)) in
     let count : length (component_entries (take i cs)) ≡ i = length-component_entries (take i cs) ∙ length-take-le i cs (omega (arith, lt)) in
     omega (arith, long, words, count, lt, room)
-

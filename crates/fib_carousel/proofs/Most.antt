@@ -12,9 +12,7 @@ use Rattle.mux_config.specs.Configuration.{Configuration, IsConfiguration, IsPla
 use Rattle.std.specs.List.{AllByRecursion}
 use Rattle.mux_types.specs.Facts.{Marked, marked, facts_of, sub_entry, service_entry, packet_entry, sub_entries, service_entries}
 use Rattle.mux_types.specs.declared.entry.Entry.{Entry}
-use Rattle.mux_types.specs.declared.parts.Sub.{Sub}
 use Rattle.mux_types.specs.declared.parts.Service.{Service}
-use Rattle.mux_types.specs.declared.parts.Packet.{Packet}
 use Rattle.fib_codec.specs.declared.head.Head.{Head}
 use Rattle.fib_codec.specs.Spelling.{head_of}
 use Rattle.fib_carousel.specs.declared.pack_state.PackState.{PackState}

@@ -1,7 +1,6 @@
 -- The FIBs of a page written one after another.
-use Rattle.std.proofs.Common.{◌≡◌, ℕ, ◌+◌, ◌-◌, ◌*◌, ◌<◌, List, [], ◌++◌, suc, replicate, length, take, map, flat_map, sym, ◌∙◌, ap, arith, append_assoc}
+use Rattle.std.proofs.Common.{◌≡◌, ℕ, ◌+◌, ◌-◌, ◌<◌, List, [], ◌++◌, suc, replicate, map, flat_map, sym, ◌∙◌, ap, arith, append_assoc}
 use Rattle.std.specs.List.{range_with_len}
-use Rattle.std.proofs.lemmas.List.{take_all, append-nil}
 use Rattle.fib_codec.specs.Spelling.{Written, fib_bytes}
 
 -- the FIBs still to be written, from this slot on
@@ -35,4 +34,3 @@ reserved_written slot count before after fib whole h is grown so_far =
     ∙ ap (λ xs. before ++ (xs ++ rest)) is
     ∙ ap (λ n. before ++ flat_map fib_bytes (replicate n [])) (sym more)
     ∙ so_far
-

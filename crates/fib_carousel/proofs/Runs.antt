@@ -1,8 +1,8 @@
 -- Entries placed one after another, and runs of entries of one head and size.
-use Rattle.std.proofs.Common.{◌≡◌, ℕ, zero, suc, ◌+◌, ◌-◌, ◌*◌, ◌/◌, ◌%◌, ◌<◌, ◌≤◌, Bool, true, false, List, [], ◌∷◌, ◌++◌, length, map, drop, slice_get, Option, Some, None, refl, sym, ap, ◌∙◌, arith, inl, inr}
+use Rattle.std.proofs.Common.{◌≡◌, ℕ, zero, suc, ◌+◌, ◌-◌, ◌*◌, ◌/◌, ◌%◌, ◌<◌, ◌≤◌, Bool, true, false, List, [], ◌∷◌, ◌++◌, length, map, drop, slice_get, Option, Some, None, refl, sym, ap, ◌∙◌, arith}
 use Rattle.std.proofs.Math.Nat.{div-mul-le_self, mod-eq-sub-div-mul, le-div_iff_mul-le, mod-lt}
-use Rattle.std.proofs.lemmas.Bool.{cases_lt, le-leb, lt-leb}
-use Rattle.mux_types.proofs.Walking.{cut, walked}
+use Rattle.std.proofs.lemmas.Bool.{le-leb, lt-leb}
+use Rattle.mux_types.proofs.Walking.{cut}
 use Rattle.mux_types.specs.declared.parts.Sub.{Sub}
 use Rattle.mux_types.specs.declared.parts.Packet.{Packet}
 use Rattle.mux_types.specs.declared.parts.Service.{Service}
@@ -75,10 +75,6 @@ run_leaves layout s fib used fit left small fits full =
 pub record IsBehind (layout : FrameLayout) (s : EntryShape) (p : PackState) : Type 0 where
   pub used : p.used ≤ room layout p.fib
   pub head : p.head ≡ Some s.head
-
-pub record Begun (layout : FrameLayout) (s : EntryShape) (n : ℕ) (p q : PackState) : Type 0 where
-  pub behind : IsBehind layout s q
-  pub rest : steps layout s (n - 1) q ≡ steps layout s n p
 
 -- the state itself, from its fields
 as_state : (layout : FrameLayout) (s : EntryShape) (p : PackState) → IsBehind layout s p → p ≡ state_at s p.fib p.used

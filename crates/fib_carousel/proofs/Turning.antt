@@ -1,5 +1,5 @@
 -- A cursor advances from page to page.
-use Rattle.std.proofs.Common.{◌≡◌, ℕ, ◌+◌, ◌-◌, ◌/◌, ◌<◌, ◌≤◌, List, suc, length, inl, inr, if◌then◌else◌, sym, ◌∙◌, ap, subst, arith, lt-ltb, le-ltb}
+use Rattle.std.proofs.Common.{◌≡◌, ℕ, ◌+◌, ◌-◌, ◌/◌, ◌<◌, ◌≤◌, List, length, inl, inr, if◌then◌else◌, ap, arith, lt-ltb, le-ltb}
 use Rattle.mux_types.specs.Facts.{Marked}
 use Rattle.fib_codec.specs.Layouts.{used_fibs}
 use Rattle.fib_codec.specs.declared.frame_layout.FrameLayout.{FrameLayout}
@@ -9,7 +9,7 @@ use Rattle.fib_carousel.specs.Greedy.{packing}
 use Rattle.fib_carousel.specs.Pages.{rounds, first_fib, page_after}
 use Rattle.fib_carousel.specs.Walk.{IsAtFib, HasPassed}
 use Rattle.fib_carousel.proofs.Walk.{last_end}
-use Rattle.fib_carousel.proofs.Widths.{next_page, last_in, last_over}
+use Rattle.fib_carousel.proofs.Widths.{last_in, last_over}
 
 -- if no entry is left, that was the last page
 pub after_last : (layout : FrameLayout) (ms : List Marked) (k : ℕ) (p : Position) → k < rounds layout ms → length ms ≤ p.index
@@ -30,4 +30,3 @@ another layout ms k p left passed =
 
 pub after_another : (layout : FrameLayout) (ms : List Marked) (k : ℕ) → k + 1 < rounds layout ms → page_after (rounds layout ms) k ≡ k + 1
 after_another layout ms k h = ap (λ b. if b then k + 1 else 0) (lt-ltb (k + 1) (rounds layout ms) h)
-

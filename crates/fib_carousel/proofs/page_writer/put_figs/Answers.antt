@@ -1,6 +1,5 @@
-use Rattle.std.proofs.Common.{◌≡◌, ◌+◌, ◌-◌, ◌*◌, ◌<◌, ◌≤◌, ◌∙◌, arith, refl, subst, sym, ap, Some, List, ℕ, slice_set, slice_index_or}
+use Rattle.std.proofs.Common.{◌≡◌, ◌+◌, ◌-◌, ◌*◌, arith, refl, subst, sym, ap, Some, List, ℕ, slice_set, slice_index_or}
 use Rattle.fib_carousel.specs.declared.pack_state.Position.{Position}
-use Rattle.fib_carousel.specs.declared.pack_state.PackState.{PackState}
 use Rattle.fib_carousel.specs.Packing.{room}
 use Rattle.fib_carousel.specs.Walk.{IsShapeAt, NextIsAfter}
 use Rattle.fib_carousel.proofs.Least.{room_high}
