@@ -37,16 +37,3 @@ typed_code_progresses p s h =
 -- the state after a frame is again one that the code reaches
 pub frame_plays : (p : Program) (s : State) → IsPlayed p s → IsPlayed p (after_frame p s)
 frame_plays p s h = record { program = h.program; typed = h.typed; reached = reached_is_kept p s (Frame ∷ []) h.reached (tt, tt) }
-
--- and so is the state after a contact is set
-pub contact_plays : (p : Program) (s : State) (c : ℕ) (closed : Bool) → c < 16 → IsPlayed p s → IsPlayed p (happens p s (Contact c closed))
-contact_plays p s c closed below h =
-    record { program = h.program; typed = h.typed; reached = reached_is_kept p s (Contact c closed ∷ []) h.reached (below, tt) }
-
--- the steps of a frame, in sequence, make the frame
-pub frame_is_made : (p : Program) (plan : Plan) (s opened run begun end : State) → plan ≡ p.plan → opened ≡ ready s → run ≡ burst p.plan.budget p opened
-    → begun ≡ with_notice_begun plan run → end ≡ with_next_counts plan begun → end ≡ after_frame p s
-frame_is_made p plan s opened run begun end same opens runs begins ends =
-    let ran : run ≡ after_burst p s = runs ∙ ap (λ (t : State). burst p.plan.budget p t) opens in
-    let here : begun ≡ shown p s = begins ∙ ap (λ (q : Plan). with_notice_begun q run) same ∙ ap (λ (t : State). with_notice_begun p.plan t) ran in
-    ends ∙ ap (λ (q : Plan). with_next_counts q begun) same ∙ ap (λ (t : State). with_next_counts p.plan t) here

@@ -162,25 +162,6 @@ room II done more le = omega (arith, le)
 room III done more le = omega (arith, le)
 room IV done more le = omega (arith, le)
 
--- ---- the change flags
-
-bits_small : (subs services : Bool) → cond subs 1 0 + cond services 2 0 < 4
-bits_small true true = omega arith
-bits_small true false = omega arith
-bits_small false true = omega arith
-bits_small false false = omega arith
-
-header_small_by : (eid change low : ℕ) (b : Bool) → change < 4
-    → (cond b (let r : Header = record { eid = eid; change = change; swap = Some low } in r) (record { eid = eid; change = 0; swap = None })).change < 4
-header_small_by eid change low true lt = lt
-header_small_by eid change low false lt = omega arith
-
-pub header_small : (plan : Plan) (s : State) (header : Header) → header ≡ header_of plan s → header.change < 4
-header_small plan s header is =
-    let change : Change = change_of s.current s.next in
-    let small = header_small_by s.eid (bits_of change) (low_of_swap s.count s.left) (is_noticed plan.notice s.left) (bits_small change.subs change.services) in
-    subst (λ (h : Header). h.change < 4) (sym is) small
-
 -- ---- in a buffer of bytes
 
 pub copied : (b : List ℕ) (offset len : ℕ) (copy : List ℕ) → len ≤ offset → offset + len ≤ length b → copy ≡ take offset b ++ (take len b ++ drop (offset + len) b)

@@ -27,6 +27,7 @@ use Rattle.plan_runs.proofs.Notice.{Links, links}
 use Rattle.plan_runs.proofs.Periods.{sends, after_goes}
 use Rattle.plan_player.proofs.Continuing.{typed_code_progresses, frame_plays}
 use Rattle.plan_player.specs.declared.phase_pages.PhasePages.{PhasePages}
+use Rattle.plan_player.specs.Playing.{Playing}
 use Rattle.plan_player.specs.Phase.{Keeps, HasChange, KeepsChange, IsFrameReady, IsGoing}
 
 -- ---- the page in turn as a phase begins
@@ -144,6 +145,11 @@ lent_goes p q s t steps made pages after e h state count keeps change =
     let state_is : t ≡ after_frame p s = state ∙ ap (λ (x : Program). after_frame x s) e in
     let count_is : made ≡ frame_steps p s = count ∙ ap (λ (x : Program). frame_steps x s) e in
     subst (λ (u : State). IsGoing p u made after) (sym state_is) (subst (λ (n : ℕ). IsGoing p (after_frame p s) n after) (sym count_is) on)
+
+-- and what holds of it holds of the player's code and state
+pub lent_holds : (P : Program → State → Type 0) (p q : Program) (s : State) (steps : ℕ) (old : Playing) → q ≡ p
+    → (let here : Playing = record { code = p; state = s; steps = steps } in here ≡ old) → P q s → P old.code old.state
+lent_holds P p q s steps old e same h = subst (λ (x : Playing). P x.code x.state) same (subst (λ (x : Program). P x s) e h)
 
 -- ---- a contact
 

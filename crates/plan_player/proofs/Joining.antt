@@ -1,6 +1,6 @@
 -- Playing events, and then more events.
 use Rattle.std.specs.Prelude.{replicate}
-use Rattle.std.proofs.Common.{◌≡◌, ℕ, zero, suc, ◌+◌, ◌<◌, ◌≤◌, List, [], ◌∷◌, ◌++◌, length, take, Option, refl, sym, ap, subst, ◌∙◌, arith, append_assoc, length-append}
+use Rattle.std.proofs.Common.{◌≡◌, ℕ, zero, suc, ◌+◌, ◌-◌, ◌<◌, ◌≤◌, List, [], ◌∷◌, ◌++◌, length, take, Option, refl, sym, ap, subst, ◌∙◌, arith, append_assoc, length-append}
 use Rattle.std.specs.Io.KnownBytes.{Appends}
 use Rattle.std.proofs.KnownBytes.{Appends-trans}
 use Rattle.plan_runs.specs.declared.event.Event.{Event}
@@ -94,11 +94,28 @@ replicate_more (suc m) n =
     let next : suc m + n ≡ suc (m + n) = omega arith in
     ap (λ (k : ℕ). replicate k Frame) next ∙ ap (λ (l : List Event). Frame ∷ l) (replicate_more m n)
 
-pub take_replicate : (n m : ℕ) → n ≤ m → take n (replicate m Frame) ≡ replicate n Frame
-take_replicate zero m le = refl
-take_replicate (suc n) zero le = absurd (omega (arith, le))
-take_replicate (suc n) (suc m) le = ap (λ (l : List Event). Frame ∷ l) (take_replicate n m (omega (arith, le)))
-
 pub length_replicate : (n : ℕ) → length (replicate n Frame) ≡ n
 length_replicate zero = refl
 length_replicate (suc n) = ap (λ (k : ℕ). suc k) (length_replicate n)
+
+-- the sink fails in the first n of m frames
+pub stopped_among : (a b : Playing) (n m : ℕ) (x y : Option (List ℕ)) (frames bytes : ℕ) → n ≤ m → Stopped a b (replicate n Frame) x y frames bytes → Stopped a b (replicate m Frame) x y frames bytes
+stopped_among a b n m x y frames bytes le s =
+    let all : n + (m - n) ≡ m = omega (arith, le) in
+    let cut : replicate n Frame ++ replicate (m - n) Frame ≡ replicate m Frame = sym (replicate_more n (m - n)) ∙ ap (λ (k : ℕ). replicate k Frame) all in
+    subst (λ (l : List Event). Stopped a b l x y frames bytes) cut (stopped_before a b (replicate n Frame) (replicate (m - n) Frame) x y frames bytes s)
+
+-- n frames were delivered, and then more of the m
+pub joined_frames : (a b c : Playing) (x y z : Option (List ℕ)) (n k : ℕ) → Delivered a b (replicate n Frame) x y n → Delivered b c (replicate k Frame) y z k → Delivered a c (replicate (n + k) Frame) x z (n + k)
+joined_frames a b c x y z n k d e =
+    subst (λ (l : List Event). Delivered a c l x z (n + k)) (sym (replicate_more n k)) (joined a b c (replicate n Frame) (replicate k Frame) x y z n k d e)
+
+pub stopped_frames : (a b c : Playing) (x y z : Option (List ℕ)) (n m frames bytes : ℕ) → n ≤ m → Delivered a b (replicate n Frame) x y n → Stopped b c (replicate (m - n) Frame) y z frames bytes
+    → Stopped a c (replicate m Frame) x z (n + frames) bytes
+stopped_frames a b c x y z n m frames bytes le d s =
+    let all : n + (m - n) ≡ m = omega (arith, le) in
+    let cut : replicate n Frame ++ replicate (m - n) Frame ≡ replicate m Frame = sym (replicate_more n (m - n)) ∙ ap (λ (k : ℕ). replicate k Frame) all in
+    subst (λ (l : List Event). Stopped a c l x z (n + frames) bytes) cut (stopped_later a b c (replicate n Frame) (replicate (m - n) Frame) x y z n frames bytes d s)
+
+pub few_frames : (a c : Playing) (m : ℕ) (x z : Option (List ℕ)) (frames bytes : ℕ) → Stopped a c (replicate m Frame) x z frames bytes → frames ≤ m
+few_frames a c m x z frames bytes s = omega (arith, few_stopped a c (replicate m Frame) x z frames bytes s, length_replicate m)

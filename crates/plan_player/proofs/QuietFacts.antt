@@ -27,6 +27,12 @@ quiet_ready p plan s steps pages e h quiet =
     let here : IsPageReady p.plan s pages = subst (λ (t : State). IsPageReady p.plan t pages) now.shows there in
     subst (λ (q : Plan). IsPageReady q s pages) (sym e) here
 
+-- and so it can for a player whose fields these are
+pub ready_in : (old : Playing) (p : Program) (plan : Plan) (s : State) (steps : ℕ) (pages : PhasePages) → (let here : Playing = record { code = p; state = s; steps = steps } in here ≡ old)
+    → plan ≡ old.code.plan → IsQuiet old.code old.state → IsGoing p s steps pages → IsPageReady plan s pages
+ready_in old p plan s steps pages same e quiet h =
+    quiet_ready p plan s steps pages (subst (λ (x : Playing). plan ≡ x.code.plan) (sym same) e) h (subst (λ (x : Playing). IsQuiet x.code x.state) (sym same) quiet)
+
 -- the state after it
 quiet_after : (p : Program) (plan : Plan) (s t : State) → plan ≡ p.plan → IsQuiet p s → t ≡ with_next_counts plan s → t ≡ after_frame p s
 quiet_after p plan s t e quiet state =

@@ -23,7 +23,7 @@ use Rattle.plan_player.proofs.Keeping.{turned}
 use Rattle.plan_player.proofs.Quiet.{stays, quiet_frames_are_copied}
 use Rattle.plan_player.proofs.QuietFacts.{quiet_ready, quiet_goes}
 use Rattle.plan_player.proofs.OneFrame.{all_frames}
-use Rattle.plan_player.proofs.Joining.{replicate_more, stopped_before}
+use Rattle.plan_player.proofs.Joining.{replicate_more, stopped_among}
 
 -- ---- fewer frames, and each of them
 
@@ -169,9 +169,7 @@ quiet_stopped p plan m n s t steps x y (Err c) e le quiet cut =
     let old : Playing = record { code = p; state = s; steps = steps } in
     let new : Playing = record { code = p; state = t; steps = 0 } in
     let here = stretch_stopped p n s t steps x y c.frames c.bytes quiet (subst (λ (q : Plan). IsCut q n s t x y c.frames c.bytes) e cut) in
-    let all : n + (m - n) ≡ m = omega (arith, le) in
-    let more : replicate n Frame ++ replicate (m - n) Frame ≡ replicate m Frame = sym (replicate_more n (m - n)) ∙ ap (λ (k : ℕ). replicate k Frame) all in
-    subst (λ (l : List Event). Stopped old new l x y c.frames c.bytes) more (stopped_before old new (replicate n Frame) (replicate (m - n) Frame) x y c.frames c.bytes here)
+    stopped_among old new n m x y c.frames c.bytes le here
 
 pub some_quiet : (m n : ℕ) (r : Result ℕ Accepted) → 1 ≤ n → n ≤ m → IfOk r (λ k. k ≡ n) → IfOk r (λ k. (1 ≤ k) × (k ≤ m))
 some_quiet m n (Err cut) some le all = tt

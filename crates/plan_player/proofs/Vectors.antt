@@ -47,9 +47,6 @@ frames n = replicate n Frame
 in_range : start_fault start ≡ None
 in_range = refl
 
-last_count_and_day : start_fault (record start { count = 4999; day = 3599999 }) ≡ None
-last_count_and_day = refl
-
 -- of two faults, that of the count is reported
 count_first : start_fault (record start { count = 5000; day = 3600000 }) ≡ Some Count
 count_first = refl
@@ -68,19 +65,10 @@ begins = record {
 begins_with_a_step : IsAtStart waits start (record fresh { steps = 1 }) → ⊥
 begins_with_a_step h = let e : 1 ≡ 0 = h.none_yet in omega (arith, e)
 
-begins_at_another_count : IsAtStart waits (record start { count = 4 }) fresh → ⊥
-begins_at_another_count h = let e : 0 ≡ 4 = h.state_is.count in omega (arith, e)
-
 -- ---- the instructions of the last frame
-
-no_frame_yet : last_steps waits first 7 (Contact 3 true ∷ []) ≡ 7
-no_frame_yet = refl
 
 waits_in_the_first : last_steps waits first 0 (frames 1) ≡ 1
 waits_in_the_first = refl
-
-ends_in_the_second : last_steps waits first 0 (frames 2) ≡ 1
-ends_in_the_second = refl
 
 none_in_the_third : last_steps waits first 0 (frames 3) ≡ 0
 none_in_the_third = refl
@@ -121,20 +109,6 @@ contacts_alone h =
     let n : 0 ≡ length (h.done ++ Frame ∷ h.rest) = ap length h.cut in
     omega (arith, n, length-append h.done (Frame ∷ h.rest))
 
--- the cut frame has been played
-frame_not_played : Stopped fresh fresh (frames 1) (Some []) (Some []) 0 0 → ⊥
-frame_not_played h =
-    let none = nothing_done h.done h.rest h.cut in
-    let count : 0 ≡ (played fresh (h.done ++ Frame ∷ [])).state.count = ap (λ (p : Playing). p.state.count) h.state in
-    let same = ap (λ (done : List Event). (played fresh (done ++ Frame ∷ [])).state.count) none in
-    omega (arith, count, same)
-
--- a frame with all bytes written was not cut
-all_bytes : Stopped fresh (played fresh (frames 1)) (frames 1) (Some []) (Some (played_bytes fresh (frames 1))) 0 96 → ⊥
-all_bytes h =
-    let same : length (next_frame (played fresh h.done)) ≡ 96 = ap (λ (done : List Event). length (next_frame (played fresh done))) (nothing_done h.done h.rest h.cut) in
-    omega (arith, same, h.part)
-
 told_of_too_many : StoppedBy fresh (played fresh (frames 1)) (frames 1) (Some []) (Some []) (Write 1 0) → ⊥
 told_of_too_many h =
     let none : 1 ≡ length (frames_of fresh h.done) = h.whole in
@@ -172,9 +146,3 @@ shows_page_0 = (kept, refl, refl)
 
 shows_no_page_1 : ShowsAs (Kept 1) (Some kept ∷ []) [] (page_bytes (Whole I) None 0 []) → ⊥
 shows_no_page_1 h = let e : None ≡ Some (Some h.0) = h.1 in absurd cc
-
-shows_what_was_made : ShowsAs Headed [] taken taken
-shows_what_was_made = refl
-
-shows_something_else : ShowsAs Headed [] [] taken → ⊥
-shows_something_else h = let n : 0 ≡ 100 = ap length h in omega (arith, n)

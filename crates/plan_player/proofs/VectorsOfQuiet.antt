@@ -25,23 +25,8 @@ at hold left = record (first_state nothing 4999) { left = left; hold = hold; day
 waiting : IsQuiet waits (at (Waits 2) None)
 waiting = record { no_swap = refl; suspended = refl; no_phase = refl }
 
-in_the_notice : IsQuiet waits (at WaitsSwap (Some 23))
-in_the_notice = record { no_swap = refl; suspended = refl; no_phase = refl }
-
 at_a_swap : IsQuiet waits (at Ended (Some 0)) → ⊥
 at_a_swap h = let e : true ≡ false = h.no_swap in absurd cc
-
-with_an_instruction : IsQuiet waits (at (Waits 0) None) → ⊥
-with_an_instruction h = let e : true ≡ false = h.suspended in absurd cc
-
-running : IsQuiet waits (at Running None) → ⊥
-running h = let e : true ≡ false = h.suspended in absurd cc
-
-at_the_frame_of_the_day : IsQuiet waits (at (WaitsDay 3599998) None) → ⊥
-at_the_frame_of_the_day h = let e : true ≡ false = h.suspended in absurd cc
-
-as_a_notice_begins : IsQuiet waits (at Ended (Some 24)) → ⊥
-as_a_notice_begins h = let e : true ≡ false = h.no_phase in absurd cc
 
 -- ---- frames one after another
 
@@ -74,42 +59,11 @@ six_before_the_notice = (omega arith, λ from. omega arith)
 no_seventh : SwapIsAway 24 (Some 30) 7 → ⊥
 no_seventh h = omega (arith, h.1 (omega arith))
 
-five_in_the_notice : SwapIsAway 24 (Some 5) 5
-five_in_the_notice = (omega arith, λ from. omega (arith, from))
-
-no_sixth : SwapIsAway 24 (Some 5) 6 → ⊥
-no_sixth h = omega (arith, h.0)
-
-none_while_running : HoldIsAway (at Running None) Running 0
-none_while_running = refl
-
-no_first_while_running : HoldIsAway (at Running None) Running 1 → ⊥
-no_first_while_running h = let e : 1 ≡ 0 = h in omega (arith, e)
-
 three_of_three : HoldIsAway (at (Waits 3) None) (Waits 3) 3
 three_of_three = omega arith
 
 no_fourth : HoldIsAway (at (Waits 3) None) (Waits 3) 4 → ⊥
 no_fourth h = omega (arith, h)
-
-one_before_it : HoldIsAway (at Ended None) (WaitsDay 3599999) 1
-one_before_it = λ some. (omega arith, λ before. omega arith)
-
-not_two : HoldIsAway (at Ended None) (WaitsDay 3599999) 2 → ⊥
-not_two h = let e = (h (omega arith)).1 (omega arith) in omega (arith, e)
-
--- days after this one are not considered
-two_to_midnight : HoldIsAway (at Ended None) (WaitsDay 7) 2
-two_to_midnight = λ some. (omega arith, λ before. omega (arith, before))
-
-not_beyond : HoldIsAway (at Ended None) (WaitsDay 7) 3 → ⊥
-not_beyond h = omega (arith, (h (omega arith)).0)
-
-open_as_long_as_it_is : HoldIsAway (at Ended None) (WaitsContact 3 true) 1000
-open_as_long_as_it_is = λ here. let e : false ≡ true = here in absurd cc
-
-is_open_now : HoldIsAway (at Ended None) (WaitsContact 3 false) 1 → ⊥
-is_open_now h = let e : 1 ≡ 0 = h refl in omega (arith, e)
 
 -- ---- alternatives: contact 3 closed, or these, with all contacts open
 
@@ -138,22 +92,5 @@ two_of_three = record {
 not_four_of_three : AreAway (at Ended None) third no_contacts None (Some 3) 4 → ⊥
 not_four_of_three h = omega (arith, h.left_away)
 
--- the day does
-not_with_the_day : AreAway (at Ended None) third no_contacts (Some 3599999) (Some 5) 2 → ⊥
-not_with_the_day h = not_its_frame h.until_away
-
--- a contact that is open does at once
-open_already : AreAway (at Ended None) no_contacts third None None 1 → ⊥
-unfolding any_closed any_open
-open_already h = let e : 1 ≡ 0 = h.opened_away refl in omega (arith, e)
-
 fewer_are_left : hold_later 2 (WaitsAny third no_contacts (Some 42) (Some 3)) ≡ WaitsAny third no_contacts (Some 42) (Some 1)
 fewer_are_left = refl
-
-while_alternatives_are_away : IsQuiet waits (at (WaitsAny third no_contacts (Some 42) (Some 1)) None)
-unfolding any_closed any_open
-while_alternatives_are_away = record { no_swap = refl; suspended = refl; no_phase = refl }
-
-as_the_frames_end : IsQuiet waits (at (WaitsAny third no_contacts (Some 42) (Some 0)) None) → ⊥
-unfolding any_closed any_open
-as_the_frames_end h = let e : true ≡ false = h.suspended in absurd cc

@@ -29,12 +29,6 @@ waits_over = refl
 not_running : hold_later 9 (Waits 5) ≡ Running → ⊥
 not_running e = absurd cc
 
-runs_on : hold_later 9 Running ≡ Running
-runs_on = refl
-
-not_ended : hold_later 9 (Waits 5) ≡ Ended → ⊥
-not_ended e = absurd cc
-
 -- ---- FIG 0/0
 
 abbrev at : State

@@ -6,33 +6,29 @@ use Rattle.fib_codec.specs.Modes.{count_step}
 use Rattle.plan_code.specs.Machine.{State}
 use Rattle.plan_player.specs.Positions.{state_of}
 use Rattle.plan_player.proofs.Cycles.{bytes_long, turn_on_turn, twice_whole, room}
+use Rattle.plan_player.proofs.stretch.repeat.Given as given
 use Rattle.plan_player.proofs.stretch.repeat.Goals as goal
+use Rattle.plan_player.proofs.stretch.repeat.Goals.{After-min-more}
+
+-- the bytes of the frames so far
+long : (g : given.Over) (c : After-min-more g) → length c.loop-done.batch ≡ c.loop-done.done * (32 * frame_fibs c.args.plan.now.layout)
+long g c =
+    ap (λ (l : List ℕ). length l) c.loop-done.invariant.bytes
+    ∙ bytes_long c.args.plan.now c.args.count c.loop-done.done (state_of g.S.Store.content c.args.machine.now) c.args.pages.now c.requires.stretch c.loop-done.invariant.within
 
 pub repeat-requires-clause-there : goal.repeat-requires-clause-there
 repeat-requires-clause-there g c =
-    let plan = c.args.plan.now in
-    let s : State = state_of g.S.Store.content c.args.machine.now in
-    let done : ℕ = c.loop-done.done in
-    let more : ℕ = c.min-more.result in
-    let size : ℕ = 32 * frame_fibs plan.layout in
-    let long : length c.loop-done.batch ≡ done * size =
-    ap (λ (l : List ℕ). length l) c.loop-done.invariant.bytes ∙ bytes_long plan c.args.count done s c.args.pages.now c.requires.stretch c.loop-done.invariant.within in
-    let few : more ≤ done = omega (arith, c.min-more.ensures) in
-    let most : more * size ≤ done * size = mul-le-mul_right size few in
-    omega (arith, long, most)
+    let size : ℕ = 32 * frame_fibs c.args.plan.now.layout in
+    let few : c.min-more.result ≤ c.loop-done.done = omega (arith, c.min-more.ensures) in
+    let most : c.min-more.result * size ≤ c.loop-done.done * size = mul-le-mul_right size few in
+    omega (arith, long g (goal.at.repeat-requires-clause-there g c).After-min-more, most)
 
 pub repeat-requires-clause-room : goal.repeat-requires-clause-room
 repeat-requires-clause-room g c =
-    let plan = c.args.plan.now in
-    let s : State = state_of g.S.Store.content c.args.machine.now in
-    let done : ℕ = c.loop-done.done in
-    let more : ℕ = c.min-more.result in
-    let size : ℕ = 32 * frame_fibs plan.layout in
-    let long : length c.loop-done.batch ≡ done * size =
-    ap (λ (l : List ℕ). length l) c.loop-done.invariant.bytes ∙ bytes_long plan c.args.count done s c.args.pages.now c.requires.stretch c.loop-done.invariant.within in
-    let all : done + more ≤ 128 = omega (arith, c.min-more.ensures, c.loop-done-test.true, c.requires.few) in
-    let most : done * size + more * size ≤ 16384 = room (layout_mode plan.layout) done more all in
-    omega (arith, long, most)
+    let all : c.loop-done.done + c.min-more.result ≤ 128 = omega (arith, c.min-more.ensures, c.loop-done-test.true, c.requires.few) in
+    let size : ℕ = 32 * frame_fibs c.args.plan.now.layout in
+    let most : c.loop-done.done * size + c.min-more.result * size ≤ 16384 = room (layout_mode c.args.plan.now.layout) c.loop-done.done c.min-more.result all in
+    omega (arith, long g (goal.at.repeat-requires-clause-room g c).After-min-more, most)
 
 pub loop-done-preserved : goal.loop-done-preserved
 loop-done-preserved g c =

@@ -6,8 +6,20 @@ use Rattle.plan_runs.specs.RightBytes.{FrameIsRight, IsHeardEachPeriod}
 use Rattle.plan_runs.specs.Headline.{KeepsCount}
 use Rattle.plan_player.specs.Playing.{Playing}
 use Rattle.plan_player.specs.Positions.{state_of}
-use Rattle.plan_player.proofs.FrameFacts.{lent_ready, lent_goes}
+use Rattle.plan_player.specs.Phase.{IsGoing}
+use Rattle.plan_player.proofs.FrameFacts.{lent_ready, lent_goes, lent_holds}
+use Rattle.plan_player.proofs.player.Player.frame.Given as given
 use Rattle.plan_player.proofs.player.Player.frame.Goals as goal
+use Rattle.plan_player.proofs.player.Player.frame.Goals.{After-make_frame-self-inside}
+
+-- the player after the frame
+goes : (g : given.Over) (c : After-make_frame-self-inside g)
+    → IsGoing c.self.inside.code.now (state_of g.S.Store.content c.make_frame-self-inside.new.machine) c.make_frame-self-inside.result c.make_frame-self-inside.new.pages
+goes g c =
+    let i = c.self.inside in
+    let made = c.make_frame-self-inside in
+    lent_goes i.code.now c.code-code.result.now (state_of g.S.Store.content i.machine) (state_of g.S.Store.content made.new.machine) i.steps made.result i.pages made.new.pages
+    c.code-code.ensures.value c.self.invariant made.ensures.state made.ensures.steps made.ensures.keeps made.ensures.change
 
 pub make_frame-self-inside-requires : goal.make_frame-self-inside-requires
 make_frame-self-inside-requires g c =
@@ -15,46 +27,25 @@ make_frame-self-inside-requires g c =
     record { ready = lent_ready i.code.now c.code-code.result.now (state_of g.S.Store.content i.machine) i.steps i.pages c.code-code.ensures.value c.self.invariant }
 
 pub invariant_of-self : goal.invariant_of-self
-invariant_of-self g c =
-    let i = c.self.inside in
-    let made = c.make_frame-self-inside in
-    lent_goes i.code.now c.code-code.result.now (state_of g.S.Store.content i.machine) (state_of g.S.Store.content made.new.machine) i.steps made.result i.pages made.new.pages
-    c.code-code.ensures.value c.self.invariant made.ensures.state made.ensures.steps made.ensures.keeps made.ensures.change
+invariant_of-self g c = goes g (goal.at.invariant_of-self g c).After-make_frame-self-inside
 
 pub returns-clause-played : goal.returns-clause-played
-returns-clause-played g c =
-    let i = c.self.inside in
-    let made = c.make_frame-self-inside in
-    (lent_goes i.code.now c.code-code.result.now (state_of g.S.Store.content i.machine) (state_of g.S.Store.content made.new.machine) i.steps made.result i.pages made.new.pages
-    c.code-code.ensures.value c.self.invariant made.ensures.state made.ensures.steps made.ensures.keeps made.ensures.change).played
+returns-clause-played g c = (goes g (goal.at.returns-clause-played g c).After-make_frame-self-inside).played
 
 pub returns-clause-bytes : goal.returns-clause-bytes
 returns-clause-bytes g c =
-    let s = state_of g.S.Store.content c.self.inside.machine in
     c.frame.ensures _ c.make_frame-self-inside.ensures.bytes
-    ∙ ap (λ (p : Program). frame_bytes p s) c.code-code.ensures.value
+    ∙ ap (λ (p : Program). frame_bytes p (state_of g.S.Store.content c.self.inside.machine)) c.code-code.ensures.value
     ∙ ap (λ (x : Playing). frame_bytes x.code x.state) c.self.view_is
 
 pub returns-clause-announced : goal.returns-clause-announced
-returns-clause-announced g c =
-    let s = state_of g.S.Store.content c.self.inside.machine in
-    let here = subst (λ (p : Program). FrameRuns p s (heard_of p.plan s)) c.code-code.ensures.value c.promise.ensures.announced in
-    subst (λ (x : Playing). FrameRuns x.code x.state (heard_of x.code.plan x.state)) c.self.view_is here
+returns-clause-announced g c = lent_holds (λ p s. FrameRuns p s (heard_of p.plan s)) _ _ (state_of g.S.Store.content c.self.inside.machine) _ _ c.code-code.ensures.value c.self.view_is c.promise.ensures.announced
 
 pub returns-clause-right : goal.returns-clause-right
-returns-clause-right g c =
-    let s = state_of g.S.Store.content c.self.inside.machine in
-    let here = subst (λ (p : Program). FrameIsRight p s) c.code-code.ensures.value c.promise.ensures.right in
-    subst (λ (x : Playing). FrameIsRight x.code x.state) c.self.view_is here
+returns-clause-right g c = lent_holds FrameIsRight _ _ (state_of g.S.Store.content c.self.inside.machine) _ _ c.code-code.ensures.value c.self.view_is c.promise.ensures.right
 
 pub returns-clause-whole : goal.returns-clause-whole
-returns-clause-whole g c =
-    let s = state_of g.S.Store.content c.self.inside.machine in
-    let here = subst (λ (p : Program). IsHeardEachPeriod p s) c.code-code.ensures.value c.promise.ensures.whole in
-    subst (λ (x : Playing). IsHeardEachPeriod x.code x.state) c.self.view_is here
+returns-clause-whole g c = lent_holds IsHeardEachPeriod _ _ (state_of g.S.Store.content c.self.inside.machine) _ _ c.code-code.ensures.value c.self.view_is c.promise.ensures.whole
 
 pub returns-clause-counted : goal.returns-clause-counted
-returns-clause-counted g c = λ events.
-    let s = state_of g.S.Store.content c.self.inside.machine in
-    let here = subst (λ (p : Program). KeepsCount p s events) c.code-code.ensures.value (c.promise.ensures.counted events) in
-    subst (λ (x : Playing). KeepsCount x.code x.state events) c.self.view_is here
+returns-clause-counted g c = λ events. lent_holds (λ p s. KeepsCount p s events) _ _ (state_of g.S.Store.content c.self.inside.machine) _ _ c.code-code.ensures.value c.self.view_is (c.promise.ensures.counted events)

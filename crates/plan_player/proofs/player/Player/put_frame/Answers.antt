@@ -6,7 +6,17 @@ use Rattle.plan_player.specs.Playing.{Playing}
 use Rattle.plan_player.specs.Delivery.{next_frame}
 use Rattle.plan_player.proofs.FrameFacts.{lent_ready, lent_goes}
 use Rattle.plan_player.specs.Positions.{state_of}
+use Rattle.plan_player.proofs.player.Player.put_frame.Given as given
 use Rattle.plan_player.proofs.player.Player.put_frame.Goals as goal
+use Rattle.plan_player.proofs.player.Player.put_frame.Goals.{After-bytes}
+
+-- the bytes of the frame
+sent : (g : given.Over) (c : After-bytes g) → c.bytes.result.now ≡ next_frame c.args.self.now
+sent g c =
+    c.bytes.ensures.value
+    ∙ c.frame.ensures _ c.make_frame-self-inside.ensures.bytes
+    ∙ ap (λ (p : Program). frame_bytes p (state_of g.S.Store.content c.self.inside.machine)) c.code-code.ensures.value
+    ∙ ap (λ (x : Playing). frame_bytes x.code x.state) c.self.view_is
 
 pub make_frame-self-inside-requires : goal.make_frame-self-inside-requires
 make_frame-self-inside-requires g c =
@@ -22,27 +32,12 @@ invariant_of-self g c =
 
 pub returns-clause-bytes : goal.returns-clause-bytes
 returns-clause-bytes g c =
-    let is : c.bytes.result.now ≡ next_frame c.args.self.now =
-    c.bytes.ensures.value
-    ∙ c.frame.ensures _ c.make_frame-self-inside.ensures.bytes
-    ∙ ap (λ (p : Program). frame_bytes p (state_of g.S.Store.content c.self.inside.machine)) c.code-code.ensures.value
-    ∙ ap (λ (x : Playing). frame_bytes x.code x.state) c.self.view_is in
-    subst (λ (bs : List ℕ). OnOk c.put_all.result (Appends (g.K.Sink.taken c.args.sink.now) (g.K.Sink.taken c.put_all.new.sink) bs)) is c.put_all.ensures.all
+    subst (λ (bs : List ℕ). OnOk c.put_all.result (Appends (g.K.Sink.taken c.args.sink.now) (g.K.Sink.taken c.put_all.new.sink) bs)) (sent g (goal.at.returns-clause-bytes g c).After-bytes) c.put_all.ensures.all
 
 pub returns-clause-bound : goal.returns-clause-bound
 returns-clause-bound g c =
-    let is : c.bytes.result.now ≡ next_frame c.args.self.now =
-    c.bytes.ensures.value
-    ∙ c.frame.ensures _ c.make_frame-self-inside.ensures.bytes
-    ∙ ap (λ (p : Program). frame_bytes p (state_of g.S.Store.content c.self.inside.machine)) c.code-code.ensures.value
-    ∙ ap (λ (x : Playing). frame_bytes x.code x.state) c.self.view_is in
-    subst (λ (bs : List ℕ). IfErr c.put_all.result (λ n. n < length bs)) is c.put_all.ensures.bound
+    subst (λ (bs : List ℕ). IfErr c.put_all.result (λ n. n < length bs)) (sent g (goal.at.returns-clause-bound g c).After-bytes) c.put_all.ensures.bound
 
 pub returns-clause-part : goal.returns-clause-part
 returns-clause-part g c =
-    let is : c.bytes.result.now ≡ next_frame c.args.self.now =
-    c.bytes.ensures.value
-    ∙ c.frame.ensures _ c.make_frame-self-inside.ensures.bytes
-    ∙ ap (λ (p : Program). frame_bytes p (state_of g.S.Store.content c.self.inside.machine)) c.code-code.ensures.value
-    ∙ ap (λ (x : Playing). frame_bytes x.code x.state) c.self.view_is in
-    subst (λ (bs : List ℕ). IfErr c.put_all.result (λ n. Appends (g.K.Sink.taken c.args.sink.now) (g.K.Sink.taken c.put_all.new.sink) (take n bs))) is c.put_all.ensures.part
+    subst (λ (bs : List ℕ). IfErr c.put_all.result (λ n. Appends (g.K.Sink.taken c.args.sink.now) (g.K.Sink.taken c.put_all.new.sink) (take n bs))) (sent g (goal.at.returns-clause-part g c).After-bytes) c.put_all.ensures.part

@@ -7,9 +7,26 @@ use Rattle.plan_player.specs.Delivery.{Delivered, Stopped}
 use Rattle.plan_player.specs.Positions.{state_of}
 use Rattle.plan_player.specs.Quiet.{AreQuiet}
 use Rattle.plan_player.proofs.OneFrame.{one_delivered, one_stopped, first_quiet}
-use Rattle.plan_player.proofs.Joining.{stopped_before, replicate_more}
+use Rattle.plan_player.proofs.Joining.{stopped_among}
 use Rattle.plan_player.proofs.Stretches.{fewer_quiet, stretch, quiet_done, quiet_stopped, some_quiet, goes_quiet}
+use Rattle.plan_player.proofs.player.Player.put_quiet.Given as given
 use Rattle.plan_player.proofs.player.Player.put_quiet.Goals as goal
+use Rattle.plan_player.proofs.player.Player.put_quiet.Goals.{After-min-count}
+
+-- the plan, the pages and the quiet frames, of the player's own fields
+plan_is : (g : given.Over) (c : After-min-count g) → c.args.plan.now ≡ c.self.inside.code.now.plan
+plan_is g c = subst (λ (x : Playing). c.args.plan.now ≡ x.code.plan) (sym c.self.view_is) c.requires.plan
+
+few : (g : given.Over) (c : After-min-count g) → c.min-count.result ≤ c.args.most
+few g c = omega (arith, c.min-count.ensures)
+
+whole : (g : given.Over) (c : After-min-count g) → c.self.inside.pages.is_whole ≡ true
+whole g c = grind (arith, c.if-not-self.false)
+
+quiet : (g : given.Over) (c : After-min-count g) → AreQuiet c.self.inside.code.now c.min-count.result (state_of g.S.Store.content c.self.inside.machine)
+quiet g c =
+    fewer_quiet c.self.inside.code.now c.args.most c.min-count.result (state_of g.S.Store.content c.self.inside.machine) (few g c)
+    (subst (λ (x : Playing). AreQuiet x.code c.args.most x.state) (sym c.self.view_is) c.requires.quiet)
 
 pub same-self : goal.same-self
 same-self g c = refl
@@ -47,16 +64,11 @@ returns-in-Err-clause-code g c = ap (λ (x : Playing). x.code) c.in-Err.ensures.
 
 pub returns-in-Err-clause-stopped : goal.returns-in-Err-clause-stopped
 returns-in-Err-clause-stopped g c =
-    let taken = g.K.Sink.taken in
     let h = c.in-Err.ensures in
-    let old : Playing = c.args.self.now in
-    let new : Playing = c.put_quiet_frame.new.self in
-    let left : ℕ = c.args.most - 1 in
-    let all : 1 + left ≡ c.args.most = omega (arith, c.requires.one) in
-    let cut : replicate 1 Frame ++ replicate left Frame ≡ replicate c.args.most Frame = sym (replicate_more 1 left) ∙ ap (λ (m : ℕ). replicate m Frame) all in
-    let one = one_stopped old new (taken c.args.sink.now) (taken c.put_quiet_frame.new.sink) c.in-Err.bytes h.state h.bound h.part in
-    subst (λ (l : List Event). Stopped old new l (taken c.args.sink.now) (taken c.put_quiet_frame.new.sink) 0 c.in-Err.bytes) cut
-    (stopped_before old new (replicate 1 Frame) (replicate left Frame) (taken c.args.sink.now) (taken c.put_quiet_frame.new.sink) 0 c.in-Err.bytes one)
+    let x = g.K.Sink.taken c.args.sink.now in
+    let y = g.K.Sink.taken c.put_quiet_frame.new.sink in
+    stopped_among c.args.self.now c.put_quiet_frame.new.self 1 c.args.most x y 0 c.in-Err.bytes c.requires.one
+    (one_stopped c.args.self.now c.put_quiet_frame.new.self x y c.in-Err.bytes h.state h.bound h.part)
 
 pub returns-in-Err-clause-fails : goal.returns-in-Err-clause-fails
 returns-in-Err-clause-fails g c = c.in-Err.ensures.fails
@@ -76,51 +88,33 @@ put_stretch-requires-clause-working g c = c.requires.working
 pub put_stretch-requires-clause-stretch : goal.put_stretch-requires-clause-stretch
 put_stretch-requires-clause-stretch g c =
     let i = c.self.inside in
-    let n : ℕ = c.min-count.result in
-    let s : State = state_of g.S.Store.content i.machine in
-    let quiet = subst (λ (x : Playing). AreQuiet x.code c.args.most x.state) (sym c.self.view_is) c.requires.quiet in
-    let plan = subst (λ (x : Playing). c.args.plan.now ≡ x.code.plan) (sym c.self.view_is) c.requires.plan in
-    let few : n ≤ c.args.most = omega (arith, c.min-count.ensures) in
-    let whole : i.pages.is_whole ≡ true = grind (arith, c.if-not-self.false) in
-    stretch i.code.now c.args.plan.now n s i.steps i.pages plan whole c.self.invariant (fewer_quiet i.code.now c.args.most n s few quiet)
+    let here = (goal.at.put_stretch-requires-clause-stretch g c).After-min-count in
+    stretch i.code.now c.args.plan.now c.min-count.result (state_of g.S.Store.content i.machine) i.steps i.pages (plan_is g here) (whole g here) c.self.invariant (quiet g here)
 
 pub invariant_of-self : goal.invariant_of-self
 invariant_of-self g c =
     let i = c.self.inside in
-    let n : ℕ = c.min-count.result in
-    let s : State = state_of g.S.Store.content i.machine in
-    let t : State = state_of g.S.Store.content c.put_stretch.new.machine in
-    let quiet = subst (λ (x : Playing). AreQuiet x.code c.args.most x.state) (sym c.self.view_is) c.requires.quiet in
-    let plan = subst (λ (x : Playing). c.args.plan.now ≡ x.code.plan) (sym c.self.view_is) c.requires.plan in
-    let few : n ≤ c.args.most = omega (arith, c.min-count.ensures) in
-    let whole : i.pages.is_whole ≡ true = grind (arith, c.if-not-self.false) in
+    let here = (goal.at.invariant_of-self g c).After-min-count in
     let counted = c.put_stretch.ensures.counted in
-    goes_quiet i.code.now c.args.plan.now n counted.0 s t i.steps i.pages plan counted.1 whole c.self.invariant (fewer_quiet i.code.now c.args.most n s few quiet) counted.2
+    goes_quiet i.code.now c.args.plan.now c.min-count.result counted.0 (state_of g.S.Store.content i.machine) (state_of g.S.Store.content c.put_stretch.new.machine) i.steps i.pages
+    (plan_is g here) counted.1 (whole g here) c.self.invariant (quiet g here) counted.2
 
 pub returns-clause-done : goal.returns-clause-done
 returns-clause-done g c =
     let i = c.self.inside in
-    let n : ℕ = c.min-count.result in
-    let s : State = state_of g.S.Store.content i.machine in
+    let here = (goal.at.returns-clause-done g c).After-min-count in
+    let x = g.K.Sink.taken c.args.sink.now in
+    let y = g.K.Sink.taken c.put_stretch.new.sink in
     let t : State = state_of g.S.Store.content c.put_stretch.new.machine in
-    let taken = g.K.Sink.taken in
-    let x = taken c.args.sink.now in
-    let y = taken c.put_stretch.new.sink in
-    let quiet = subst (λ (x : Playing). AreQuiet x.code c.args.most x.state) (sym c.self.view_is) c.requires.quiet in
-    let plan = subst (λ (x : Playing). c.args.plan.now ≡ x.code.plan) (sym c.self.view_is) c.requires.plan in
-    let few : n ≤ c.args.most = omega (arith, c.min-count.ensures) in
-    let some : 1 ≤ n = omega (arith, c.min-count.ensures, c.requires.one, c.from.ensures) in
     let new : Playing = record { code = i.code.now; state = t; steps = 0 } in
     let e = c.put_stretch.ensures in
-    let here = quiet_done i.code.now c.args.plan.now n s t i.steps x y c.put_stretch.result plan some (fewer_quiet i.code.now c.args.most n s few quiet) e.all e.state e.bytes in
-    subst (λ (old : Playing). IfOk c.put_stretch.result (λ k. Delivered old new (replicate k Frame) x y k)) c.self.view_is here
+    let some : 1 ≤ c.min-count.result = omega (arith, c.min-count.ensures, c.requires.one, c.from.ensures) in
+    subst (λ (old : Playing). IfOk c.put_stretch.result (λ k. Delivered old new (replicate k Frame) x y k)) c.self.view_is
+    (quiet_done i.code.now c.args.plan.now c.min-count.result (state_of g.S.Store.content i.machine) t i.steps x y c.put_stretch.result (plan_is g here) some (quiet g here) e.all e.state e.bytes)
 
 pub returns-clause-some : goal.returns-clause-some
 returns-clause-some g c =
-    let n : ℕ = c.min-count.result in
-    let few : n ≤ c.args.most = omega (arith, c.min-count.ensures) in
-    let some : 1 ≤ n = omega (arith, c.min-count.ensures, c.requires.one, c.from.ensures) in
-    some_quiet c.args.most n c.put_stretch.result some few c.put_stretch.ensures.all
+    some_quiet c.args.most c.min-count.result c.put_stretch.result (omega (arith, c.min-count.ensures, c.requires.one, c.from.ensures)) (few g (goal.at.returns-clause-some g c).After-min-count) c.put_stretch.ensures.all
 
 pub returns-clause-code : goal.returns-clause-code
 returns-clause-code g c = ap (λ (x : Playing). x.code) c.self.view_is
@@ -131,18 +125,13 @@ returns-clause-works g c = c.put_stretch.ensures.works
 pub returns-clause-stopped : goal.returns-clause-stopped
 returns-clause-stopped g c =
     let i = c.self.inside in
-    let n : ℕ = c.min-count.result in
-    let s : State = state_of g.S.Store.content i.machine in
+    let here = (goal.at.returns-clause-stopped g c).After-min-count in
+    let x = g.K.Sink.taken c.args.sink.now in
+    let y = g.K.Sink.taken c.put_stretch.new.sink in
     let t : State = state_of g.S.Store.content c.put_stretch.new.machine in
-    let taken = g.K.Sink.taken in
-    let x = taken c.args.sink.now in
-    let y = taken c.put_stretch.new.sink in
-    let quiet = subst (λ (x : Playing). AreQuiet x.code c.args.most x.state) (sym c.self.view_is) c.requires.quiet in
-    let plan = subst (λ (x : Playing). c.args.plan.now ≡ x.code.plan) (sym c.self.view_is) c.requires.plan in
-    let few : n ≤ c.args.most = omega (arith, c.min-count.ensures) in
     let new : Playing = record { code = i.code.now; state = t; steps = 0 } in
-    let here = quiet_stopped i.code.now c.args.plan.now c.args.most n s t i.steps x y c.put_stretch.result plan few (fewer_quiet i.code.now c.args.most n s few quiet) c.put_stretch.ensures.cut in
-    subst (λ (old : Playing). IfErr c.put_stretch.result (λ cut. Stopped old new (replicate c.args.most Frame) x y cut.frames cut.bytes)) c.self.view_is here
+    subst (λ (old : Playing). IfErr c.put_stretch.result (λ cut. Stopped old new (replicate c.args.most Frame) x y cut.frames cut.bytes)) c.self.view_is
+    (quiet_stopped i.code.now c.args.plan.now c.args.most c.min-count.result (state_of g.S.Store.content i.machine) t i.steps x y c.put_stretch.result (plan_is g here) (few g here) (quiet g here) c.put_stretch.ensures.cut)
 
 pub returns-clause-fails : goal.returns-clause-fails
 returns-clause-fails g c = c.put_stretch.ensures.fails
