@@ -10,7 +10,7 @@ use Rattle.mux_types.specs.Configuration.{Configuration, IsConfiguration, IsServ
 use Rattle.mux_types.specs.Sameness.{is_same_packet}
 use Rattle.mux_config.specs.Edits.{sub_at, service_at, packet_at}
 use Rattle.script_config.specs.Differences.{is_same_profile, after_common, service_gone, service_cut, packet_gone, sub_gone, start_altered, rate_altered, alterations, sub_altered, sub_new, packet_new, service_grown, edits_between}
-use Rattle.script_config.proofs.Counting.{few_each, each_any, chosen, behind_few, dropped_length, added_length, service_few}
+use Rattle.script_config.proofs.Counting.{few_each, each_any, chosen, behind_few, dropped_length, added_length, added_few, service_few}
 
 -- two kinds of edits for each member
 both_few : {T : Type 0} (P : T → Type 0) (f g : T → List Edit) (most : ℕ) → ((x : T) → P x → length (f x) + length (g x) ≤ most) → (xs : List T) → AllByRecursion P xs
@@ -36,10 +36,7 @@ less_few (Some t) s h =
     omega (arith, few, less, same)
 
 grown_few : (o : Option Service) (t : Service) → IsService t → length (service_grown o t) ≤ 13
-grown_few None t h =
-    let few = service_few t h in
-    let same = added_length t.sid t.components in
-    omega (arith, few, same)
+grown_few None t h = added_few t h
 grown_few (Some s) t h =
     let few = service_few t h in
     let less = behind_few t.components s.components in
@@ -115,3 +112,6 @@ few_between from to f t =
     let n5 = t.packets_few in
     let n6 = t.subs_few in
     omega (arith, b1, b3, b4, b6, b7, b8, l1, l2, l3, l4, l5, l6, l7, n1, n2, n3, n4, n5, n6)
+
+pub between_few : (from to : Configuration) → IsConfiguration from → IsConfiguration to → length (edits_between from to) ≤ 2048
+between_few from to f t = omega (arith, few_between from to f t)

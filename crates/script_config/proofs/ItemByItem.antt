@@ -29,17 +29,5 @@ made_leads (item ∷ items) c d e = leads_by item items c d (edit_fault item.edi
 cut : (items : List Item) (i : ℕ) (item : Item) → i < length items → item ≡ get_or items i item → drop i items ≡ item ∷ drop (i + 1) items
 cut items i item lt same = drop_more items i item lt ∙ ap (λ (x : Item). x ∷ drop (i + 1) items) (sym same)
 
-pub one_made : (items : List Item) (i : ℕ) (item : Item) (c d : Configuration) (r : Result Configuration ItemFault) → i < length items → item ≡ get_or items i item
-    → edit_fault item.edit c ≡ None → d ≡ changed item.edit c → made_by (drop i items) c ≡ r → made_by (drop (i + 1) items) d ≡ r
-one_made items i item c d r lt same fine is so_far =
-    let step : made_by (item ∷ drop (i + 1) items) c ≡ made_by (drop (i + 1) items) (changed item.edit c) = rw fine refl in
-    ap (made_by (drop (i + 1) items)) is ∙ sym step ∙ sym (ap (λ (is : List Item). made_by is c) (cut items i item lt same)) ∙ so_far
-
-pub one_refused : (items : List Item) (i : ℕ) (item : Item) (c : Configuration) (fault : EditFault) (r : Result Configuration ItemFault) → i < length items → item ≡ get_or items i item
-    → edit_fault item.edit c ≡ Some fault → made_by (drop i items) c ≡ r → Err (record { line = item.line; fault = fault }) ≡ r
-one_refused items i item c fault r lt same bad so_far =
-    let step : made_by (item ∷ drop (i + 1) items) c ≡ Err (record { line = item.line; fault = fault }) = rw bad refl in
-    sym step ∙ sym (ap (λ (is : List Item). made_by is c) (cut items i item lt same)) ∙ so_far
-
 pub all_made : (items : List Item) (i : ℕ) (c : Configuration) (r : Result Configuration ItemFault) → length items ≤ i → made_by (drop i items) c ≡ r → Ok c ≡ r
 all_made items i c r past so_far = sym (ap (λ (is : List Item). made_by is c) (drop_all i items past)) ∙ so_far

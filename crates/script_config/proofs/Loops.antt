@@ -18,14 +18,6 @@ pub record IsUnderWay (all left : List Edit) (c d : Configuration) : Type 0 wher
   pub fine : HaveNoFault left d
   pub arrives : after left d ≡ after all c
 
--- the next edit has no fault, and the invariant holds after it
-pub next_fine : (all : List Edit) (i : ℕ) (e : Edit) (c d : Configuration) → i < length all → e ≡ get_or all i e
-    → IsUnderWay all (drop i all) c d → edit_fault e d ≡ None
-next_fine all i e c d lt same h =
-    let cut : drop i all ≡ e ∷ drop (i + 1) all = drop_more all i e lt ∙ ap (λ (x : Edit). x ∷ drop (i + 1) all) (sym same) in
-    let fine : HaveNoFault (e ∷ drop (i + 1) all) d = subst (λ (es : List Edit). HaveNoFault es d) cut h.fine in
-    fine.0
-
 pub one_on : (all : List Edit) (i : ℕ) (e : Edit) (c d f : Configuration) → i < length all → e ≡ get_or all i e → f ≡ changed e d
     → IsUnderWay all (drop i all) c d → IsUnderWay all (drop (i + 1) all) c f
 one_on all i e c d f lt same is h =
@@ -36,35 +28,11 @@ one_on all i e c d f lt same is h =
       arrives = ap (after (drop (i + 1) all)) is ∙ sym (ap (λ (es : List Edit). after es d) cut) ∙ h.arrives;
     }
 
-pub all_out : (all : List Edit) (i : ℕ) (c d : Configuration) → length all ≤ i → IsUnderWay all (drop i all) c d → d ≡ after all c
-all_out all i c d past h = sym (ap (λ (es : List Edit). after es d) (drop_all i all past)) ∙ h.arrives
-
 -- ---- dropping components, the last one first
 
 pub record AreDropped (sid : Sid) (ms : List Component) (place : ℕ) (old out : List Edit) : Type 0 where
   pub placed : place ≤ length ms
   pub so_far : out ≡ old ++ components_dropped sid (drop place ms)
-
-pub none_dropped : (sid : Sid) (ms : List Component) (old : List Edit) → AreDropped sid ms (length ms) old old
-none_dropped sid ms old = record {
-  placed = omega arith;
-  so_far = sym (ap (λ (ns : List Component). old ++ components_dropped sid ns) (drop_all (length ms) ms (omega arith)) ∙ append-nil old);
-}
-
-pub one_dropped : (sid : Sid) (ms : List Component) (place i : ℕ) (m : Component) (old out new : List Edit) → place ≡ i + 1 → m ≡ get_or ms i m
-    → new ≡ out ++ DropComponent sid (carrier_of m) ∷ [] → AreDropped sid ms place old out → AreDropped sid ms i old new
-one_dropped sid ms place i m old out new at same put h =
-    let lt : i < length ms = let p = h.placed in omega (arith, at, p) in
-    let cut : drop i ms ≡ m ∷ drop (i + 1) ms = drop_more ms i m lt ∙ ap (λ (x : Component). x ∷ drop (i + 1) ms) (sym same) in
-    let left : drop place ms ≡ drop (i + 1) ms = ap (λ (n : ℕ). drop n ms) at in
-    let last : List Edit = DropComponent sid (carrier_of m) ∷ [] in
-    record {
-      placed = omega (arith, lt);
-      so_far =
-          put ∙ ap (λ (es : List Edit). es ++ last) (h.so_far ∙ ap (λ (ns : List Component). old ++ components_dropped sid ns) left)
-          ∙ append_assoc old (components_dropped sid (drop (i + 1) ms)) last
-          ∙ sym (ap (λ (ns : List Component). old ++ components_dropped sid ns) cut);
-    }
 
 -- ---- the longest common prefix
 
@@ -72,33 +40,9 @@ pub record IsCommon (ms ns : List Component) (place : ℕ) : Type 0 where
   pub placed : place ≤ length ms
   pub same : after_common (drop place ms) (drop place ns) ≡ after_common ms ns
 
-pub common_more : (ms ns : List Component) (place : ℕ) (m n : Component) → place < length ms → place < length ns → m ≡ get_or ms place m → n ≡ get_or ns place n
-    → is_same_component m n ≡ true → IsCommon ms ns place → IsCommon ms ns (place + 1)
-common_more ms ns place m n lt less one other same h =
-    let cut : drop place ms ≡ m ∷ drop (place + 1) ms = drop_more ms place m lt ∙ ap (λ (x : Component). x ∷ drop (place + 1) ms) (sym one) in
-    let slice : drop place ns ≡ n ∷ drop (place + 1) ns = drop_more ns place n less ∙ ap (λ (x : Component). x ∷ drop (place + 1) ns) (sym other) in
-    let step : after_common (m ∷ drop (place + 1) ms) (n ∷ drop (place + 1) ns) ≡ after_common (drop (place + 1) ms) (drop (place + 1) ns) = rw same refl in
-    record {
-      placed = omega (arith, lt);
-      same = sym step ∙ sym (ap (λ (xs : List Component). after_common xs (n ∷ drop (place + 1) ns)) cut) ∙ sym (ap (λ (xs : List Component). after_common (drop place ms) xs) slice) ∙ h.same;
-    }
-
-pub common_ends : (ms ns : List Component) (place : ℕ) (m n : Component) → place < length ms → place < length ns → m ≡ get_or ms place m → n ≡ get_or ns place n
-    → is_same_component m n ≡ false → IsCommon ms ns place → drop place ms ≡ after_common ms ns
-common_ends ms ns place m n lt less one other differ h =
-    let cut : drop place ms ≡ m ∷ drop (place + 1) ms = drop_more ms place m lt ∙ ap (λ (x : Component). x ∷ drop (place + 1) ms) (sym one) in
-    let slice : drop place ns ≡ n ∷ drop (place + 1) ns = drop_more ns place n less ∙ ap (λ (x : Component). x ∷ drop (place + 1) ns) (sym other) in
-    let stop : after_common (m ∷ drop (place + 1) ms) (n ∷ drop (place + 1) ns) ≡ m ∷ drop (place + 1) ms = rw differ refl in
-    cut ∙ sym stop ∙ sym (ap (λ (xs : List Component). after_common xs (n ∷ drop (place + 1) ns)) cut) ∙ sym (ap (λ (xs : List Component). after_common (drop place ms) xs) slice) ∙ h.same
-
 behind_nothing : (ms : List Component) → after_common ms [] ≡ ms
 behind_nothing [] = refl
 behind_nothing (m ∷ ms) = refl
-
-pub common_here : (ms ns : List Component) (place : ℕ) → length ms ≤ place → IsCommon ms ns place → drop place ms ≡ after_common ms ns
-common_here ms ns place past h =
-    let gone : drop place ms ≡ [] = drop_all place ms past in
-    gone ∙ sym (ap (λ (xs : List Component). after_common xs (drop place ns)) gone) ∙ h.same
 
 pub common_there : (ms ns : List Component) (place : ℕ) → length ns ≤ place → IsCommon ms ns place → drop place ms ≡ after_common ms ns
 common_there ms ns place past h =

@@ -26,6 +26,3 @@ pub damaged_more : (fibs : List (List ℕ)) (i : ℕ) (before now : Option ℕ) 
     → LeadsOn (drop i fibs) now fibs before → LeadsOn (drop (i + 1) fibs) now fibs before
 damaged_more fibs i before now fault lt wrong on after h =
     on after (subst (λ (fs : List (List ℕ)). NamesAfter fs now after) (sym (fib_by_fib fibs i lt)) (inr (fault, wrong, h)))
-
-pub all_named : (fibs : List (List ℕ)) (i : ℕ) (before now : Option ℕ) → length fibs ≤ i → LeadsOn (drop i fibs) now fibs before → NamesAfter fibs before now
-all_named fibs i before now past on = on now (subst (λ (fs : List (List ℕ)). NamesAfter fs now now) (sym (drop_all i fibs past)) refl)

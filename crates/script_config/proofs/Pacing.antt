@@ -15,7 +15,7 @@ use Rattle.plan_code.specs.Program.{IsPlan}
 use Rattle.mux_types.specs.Configuration.{Configuration, IsConfiguration}
 use Rattle.script_config.specs.Differences.{edits_between}
 use Rattle.script_config.specs.Sequences.{Transform}
-use Rattle.script_config.proofs.Counting.{between_few}
+use Rattle.script_config.proofs.FewEdits.{between_few}
 use Rattle.script_config.proofs.Members.{both, each_at}
 use Rattle.script_config.proofs.Ranged.{between_formed}
 use Rattle.script_config.specs.Plan.{pause_after, paced, committed, plan_acts}
@@ -37,9 +37,6 @@ pub record PacedSoFar (full : ℕ) (es : List Edit) (i now : ℕ) (out : List Ac
   pub number : now ≡ i + 1
   pub so_far : out ≡ paced full 1 (take i es)
 
-pub none_paced : (full : ℕ) (es : List Edit) → PacedSoFar full es 0 1 []
-none_paced full es = record { number = refl; so_far = refl }
-
 pub one_paced : (full : ℕ) (es : List Edit) (i now : ℕ) (e : Edit) (out : List Act) → i < length es → e ≡ get_or es i e → PacedSoFar full es i now out
     → PacedSoFar full es (i + 1) (now + 1) (out ++ (Edits e ∷ pause_after full now))
 one_paced full es i now e out lt same h =
@@ -52,9 +49,6 @@ one_paced full es i now e out lt same h =
       so_far = sym (ap (paced full 1) more ∙ paced_more full 1 (take i es) e ∙ ap (λ (k : ℕ). paced full 1 (take i es) ++ (Edits e ∷ pause_after full k)) long
           ∙ ap (λ (acts : List Act). acts ++ (Edits e ∷ pause_after full now)) (sym h.so_far));
     }
-
-pub all_paced : (full : ℕ) (es : List Edit) (i now : ℕ) (out : List Act) → length es ≤ i → PacedSoFar full es i now out → out ≡ paced full 1 es
-all_paced full es i now out past h = h.so_far ∙ ap (paced full 1) (take_all i es past)
 
 -- ---- their edits
 

@@ -85,9 +85,6 @@ act_on line now acts i a out s lt same is h =
           ∙ ap (λ (n : ℕ). acts_from line (take i acts) (basic n a b)) long ∙ sym (acts_pushed line (take i acts) a b) ∙ sym (ap (λ (xs : List Act). acts_from line xs b) more);
     }
 
-pub acts_done : (line now : ℕ) (acts : List Act) (i : ℕ) (out : List Statement) → length acts ≤ i → AreActsFrom line now acts i out → (b : Block) → and_then [] out b ≡ acts_from line acts b
-acts_done line now acts i out past h b = h.so_far b ∙ ap (λ (xs : List Act). acts_from line xs b) (take_all i acts past)
-
 -- ---- the edits of items
 
 pub added_again : (line : ℕ) (es : List Edit) → added_by (items_from line es) ≡ es

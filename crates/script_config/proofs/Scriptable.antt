@@ -161,9 +161,6 @@ pub record SoFarSaid (rest whole : List Raw) : Type 0 where
 pub none_yet : (whole : List Raw) → SoFarSaid whole whole
 none_yet whole = record { all = λ h. h; first = λ raw h. h }
 
-pub one_said : (raw : Raw) (rest whole : List Raw) → IsSaid raw → SoFarSaid (raw ∷ rest) whole → SoFarSaid rest whole
-one_said raw rest whole said so_far = record { all = λ h. so_far.all (said, h); first = λ other h. so_far.first other (inl (said, h)) }
-
 pub one_unsaid : (raw : Raw) (rest whole : List Raw) → (IsSaid raw → ⊥) → SoFarSaid (raw ∷ rest) whole → IsFirstUnsaid whole raw
 one_unsaid raw rest whole none so_far = so_far.first raw (inr (refl, none))
 

@@ -13,6 +13,7 @@ use Rattle.mux_config.proofs.Keeping.{entry_holds, entry_key}
 use Rattle.script_config.specs.Making.{edits_that_make}
 use Rattle.script_config.specs.Differences.{service_gone, service_cut, packet_gone, sub_gone, sub_altered, sub_new, packet_new, service_grown, edits_between}
 use Rattle.script_config.specs.Sequences.{after, HaveNoFault, Transform}
+use Rattle.script_config.proofs.Counting.{each_any}
 use Rattle.script_config.proofs.Lookups.{same_found}
 use Rattle.script_config.proofs.Walks.{after_both, fine_both, walk}
 use Rattle.script_config.proofs.Passage.{all_left, is_all_left, left_awaited, less_left, new_awaited, arrived, left_among, IsLeft}
@@ -20,22 +21,12 @@ use Rattle.script_config.proofs.SubTurns as subs
 use Rattle.script_config.proofs.PacketSteps as packets
 use Rattle.script_config.proofs.ServiceTurns as services
 
-each_any : {T : Type 0} (xs : List T) → AllByRecursion (λ x. Unit {0}) xs
-each_any [] = tt
-each_any (x ∷ xs) = (tt, each_any xs)
-
 -- ---- sub-channels
 
 -- a configuration with the sub-channels that are left, and the other sets unchanged
 pub record SubsLeft (left : Option Sub → Sub → Option Sub) (from to c d : Configuration) : Type 0 where
   pub kept : subs.SubsKept c.services c.packets d
   pub is : IsLeft sub_key from.subs to.subs left sub_at d
-
-subs_begin : (from to c : Configuration) → IsConfiguration c → c.subs ≡ from.subs → SubsLeft all_left from to c c
-subs_begin from to c h same = record {
-  kept = record { formed = h; services = refl; packets = refl };
-  is = is_all_left sub_key from.subs to.subs sub_at c (λ k. ap (λ (xs : List Sub). entry_at sub_key k xs) same);
-}
 
 subs_go : (from to c d : Configuration) → IsConfiguration from → SubsLeft all_left from to c d
     → let es = flat_map (λ s. sub_gone (sub_at s.id to) s) from.subs in HaveNoFault es d × SubsLeft subs.sub_kept from to c (after es d)
@@ -78,12 +69,6 @@ pub record PacketsLeft (left : Option Packet → Packet → Option Packet) (from
   pub kept : packets.PacketsKept c.subs c.services d
   pub is : IsLeft packet_key from.packets to.packets left packet_at d
 
-packets_begin : (from to c : Configuration) → IsConfiguration c → c.packets ≡ from.packets → PacketsLeft all_left from to c c
-packets_begin from to c h same = record {
-  kept = record { formed = h; subs = refl; services = refl };
-  is = is_all_left packet_key from.packets to.packets packet_at c (λ k. ap (λ (xs : List Packet). entry_at packet_key k xs) same);
-}
-
 packets_go : (from to c d : Configuration) → IsConfiguration from → PacketsLeft all_left from to c d
     → let es = flat_map (λ p. packet_gone (packet_at p.scid to) p) from.packets in HaveNoFault es d × PacketsLeft packets.packet_kept from to c (after es d)
 packets_go from to c d f h =
@@ -118,12 +103,6 @@ packets_come from to c d t h =
 pub record ServicesLeft (left : Option Service → Service → Option Service) (from to c d : Configuration) : Type 0 where
   pub kept : services.ServicesKept c.subs c.packets d
   pub is : IsLeft service_key from.services to.services left services.at_key d
-
-services_begin : (from to c : Configuration) → IsConfiguration c → c.services ≡ from.services → ServicesLeft all_left from to c c
-services_begin from to c h same = record {
-  kept = record { formed = h; subs = refl; packets = refl };
-  is = is_all_left service_key from.services to.services services.at_key c (λ k. ap (λ (xs : List Service). entry_at service_key k xs) same);
-}
 
 services_go : (from to c d : Configuration) → IsConfiguration from → ServicesLeft all_left from to c d
     → let es = flat_map (λ s. service_gone (service_at s.sid to) s) from.services in HaveNoFault es d × ServicesLeft services.service_kept from to c (after es d)
@@ -204,10 +183,10 @@ leads grow from to f t =
     let c5 : Configuration = after e5 c4 in
     let c6 : Configuration = after e6 c5 in
     let c7 : Configuration = after e7 c6 in
-    let v1 = services_go from to from from f (services_begin from to from f refl) in
+    let v1 = services_go from to from from f (services_as all_left from to from from f refl (is_all_left service_key from.services to.services services.at_key from (λ k. refl))) in
     let v2 = services_stay from to from c1 f v1.1 in
-    let p3 = packets_go from to c2 c2 f (packets_begin from to c2 v2.1.kept.formed v2.1.kept.packets) in
-    let s4 = subs_go from to c3 c3 f (subs_begin from to c3 p3.1.kept.formed (p3.1.kept.subs ∙ v2.1.kept.subs)) in
+    let p3 = packets_go from to c2 c2 f (packets_as all_left from to from c2 v2.1.kept.formed v2.1.kept.packets (is_all_left packet_key from.packets to.packets packet_at from (λ k. refl))) in
+    let s4 = subs_go from to c3 c3 f (subs_as all_left from to from c3 p3.1.kept.formed (p3.1.kept.subs ∙ v2.1.kept.subs) (is_all_left sub_key from.subs to.subs sub_at from (λ k. refl))) in
     let s5 = subs_stay grow from to c3 c4 f t s4.1 in
     let s6 = subs_come from to c3 c5 t s5.1 in
     let p7 = packets_come from to c6 c6 t (packets_as packets.packet_kept from to c3 c6 s6.1.formed s6.1.packets p3.1.is) in

@@ -57,9 +57,6 @@ out_of_range h = let from = h.headed.budget_from in absurd (omega (arith, from))
 another : IsInTheWay (empty 1 20) (empty 2 20) AnotherEnsemble
 another h = let same = h.eid in absurd (omega (arith, same))
 
-the_same : IsInTheWay (empty 1 20) (empty 1 20) NoChange
-the_same = (record { eid = refl; mode = refl }, refl)
-
 not_another : IsInTheWay (empty 1 20) (empty 1 20) AnotherEnsemble → ⊥
 not_another h = h (record { eid = refl; mode = refl })
 

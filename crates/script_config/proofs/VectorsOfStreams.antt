@@ -24,9 +24,6 @@ the_last = refl
 not_the_first : named_by_entries (ensemble 5 ∷ ensemble 6 ∷ []) None ≢ Some 5
 not_the_first e = absurd (cc)
 
-none_named : named_by_entries (short ∷ []) None ≡ None
-none_named = refl
-
 no_more : NamesAfter [] (Some 7) (Some 7)
 no_more = refl
 
@@ -42,12 +39,6 @@ none_unsaid raw h = h
 of_one_page : usual_period 1 ≡ 4
 of_one_page = refl
 
-of_two_pages : usual_period 2 ≡ 5
-of_two_pages = refl
-
-of_many_pages : usual_period 30 ≡ 60
-of_many_pages = refl
-
 not_twice : usual_period 29 ≢ 58
 not_twice e = absurd (omega (arith, e))
 
@@ -59,9 +50,6 @@ sent_in_every_fourth = refl
 not_in_others : steady (Whole I) 57797 5 ≡ None
 not_in_others = refl
 
-in_each_of_another_mode : steady (Whole II) 57797 5 ≢ None
-in_each_of_another_mode e = absurd (cc)
-
 a_frame_for_each_page : (c : Configuration) → length (page_frames (Whole I) 57797 0 c 3 0) ≡ 3
 a_frame_for_each_page c = refl
 
@@ -72,9 +60,6 @@ no_page_no_frame c e = absurd (let lengths : 1 ≡ 0 = ap length e in omega (ari
 
 out_of_memory : IsOpeningReason Memory → ⊥
 out_of_memory h = h
-
-out_of_memory_for_the_script : IsOpeningReason (Script NoMemory) → ⊥
-out_of_memory_for_the_script h = h refl
 
 no_script : IsOpeningReason (Script (Expected (record { line = 1; column = 1 })))
 no_script e = absurd (cc)
