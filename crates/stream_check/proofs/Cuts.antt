@@ -75,17 +75,11 @@ none_by : (wanted : List ℕ) (frames : List (List ℕ)) (parts : List (List (Li
 none_by wanted frames [] count whole = sym whole
 none_by wanted frames (p ∷ ps) count whole = absurd (omega arith)
 
-pub none_only : (wanted : List ℕ) (frames : List (List ℕ)) → IsCutInto wanted 0 frames → frames ≡ []
-none_only wanted frames c = none_by wanted frames c.parts c.count c.whole
-
 -- with fewer identifiers wanted
 each_of : (wanted other : List ℕ) → ((x : ℕ) → Contains other x → Contains wanted x) → (parts : List (List (List ℕ)))
     → AllByRecursion (IsPart wanted) parts → AllByRecursion (IsPart other) parts
 each_of wanted other less [] each = tt
 each_of wanted other less (p ∷ ps) each = ((each.0.0, λ x h. each.0.1 x (less x h)), each_of wanted other less ps each.1)
-
-pub of_less : (wanted other : List ℕ) (n : ℕ) (frames : List (List ℕ)) → ((x : ℕ) → Contains other x → Contains wanted x) → IsCutInto wanted n frames → IsCutInto other n frames
-of_less wanted other n frames less c = record { parts = c.parts; count = c.count; whole = c.whole; each = each_of wanted other less c.parts c.each }
 
 -- with more frames
 pub has_left : (wanted : List ℕ) (xs ys : List (List ℕ)) → HasAll wanted xs → HasAll wanted (xs ++ ys)

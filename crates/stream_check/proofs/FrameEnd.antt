@@ -1,8 +1,8 @@
 -- After the end of a frame the state still agrees with the past of the stream.
-use Rattle.std.proofs.Common.{◌≡◌, ℕ, ◌+◌, ◌-◌, ◌%◌, ◌<◌, ◌≤◌, ◌==◌, Bool, true, false, cond, List, [], ◌∷◌, ◌++◌, length, map, Option, Some, refl, sym, ap, ◌∙◌, arith, subst}
+use Rattle.std.proofs.Common.{◌≡◌, ℕ, ◌+◌, ◌%◌, ◌≤◌, ◌==◌, Bool, true, false, cond, List, [], ◌∷◌, ◌++◌, length, map, Option, Some, refl, sym, ap, ◌∙◌, arith, subst}
 use Rattle.std.specs.List.{AllByRecursion, filter}
-use Rattle.std.proofs.lemmas.Bool.{false≢true, eq-eqb, ne_eqb, eqb-true}
-use Rattle.std.proofs.lemmas.List.{append_assoc, append-nil, length-append, length-map, map-append}
+use Rattle.std.proofs.lemmas.Bool.{false≢true}
+use Rattle.std.proofs.lemmas.List.{append_assoc, append-nil, length-append, map-append}
 use Rattle.fib_reader.specs.Raw.{Raw}
 use Rattle.fib_reader.specs.Listening.{Listening, all_entries}
 use Rattle.stream_check.specs.declared.finding.What.{What}
@@ -11,12 +11,12 @@ use Rattle.stream_check.specs.declared.reporting.FrameAt.{FrameAt}
 use Rattle.stream_check.specs.declared.checker_state.CheckerState.{CheckerState}
 use Rattle.stream_check.specs.Reporting.{in_frame, when}
 use Rattle.stream_check.specs.Pictures.{Heard, heard_since, raws, key_of}
-use Rattle.stream_check.specs.Frames.{Fib, Reading}
+use Rattle.stream_check.specs.Frames.{Fib}
 use Rattle.stream_check.specs.History.{Item, Moment, Ended, said, frame_items, frames_ended, due, has_begun, row_at_hand, rows, last_heard}
 use Rattle.stream_check.specs.Sent.{frame_sent}
 use Rattle.stream_check.specs.Rules.{name_of, is_silent, silence, silent_findings}
 use Rattle.stream_check.specs.Stream.{frame_findings, findings_at_sent, runs_full, frame_at, last_findings, count_of_frame}
-use Rattle.stream_check.specs.CheckerState.{listener_in, with_row, with_frame, IsLastHeard, HasNotice, Knows, IsSane, is_quiet, quiet_findings, silent_in}
+use Rattle.stream_check.specs.CheckerState.{listener_in, with_row, with_frame, IsLastHeard, HasNotice, Knows, is_quiet, quiet_findings, silent_in}
 use Rattle.stream_check.specs.Hearing.{IsLater, Hears, HearsFrame}
 use Rattle.stream_check.proofs.Notice.{notice_closed, notice_open}
 use Rattle.stream_check.proofs.Members.{after_is}
@@ -58,71 +58,39 @@ noticed step period past m count false whole b w k =
     subst (λ (rs : List (List ℕ)). HasNotice rs [] m.rows m.since m.parts m.next m.has_begun) (idle.0 ∙ sym (rows_are past count false (sym k.has_begun ∙ b)))
     (subst (λ (r : List ℕ). HasNotice (rows past) r m.rows m.since m.parts m.next m.has_begun) idle.1 k.notice)
 
+-- whatever the rows and parts become, if the notice agrees with them
+knows_rows : (step period : ℕ) (past : List Moment) (m : CheckerState) (count r s q : ℕ) → Knows step period past m → length (rows (Ended count ∷ past)) ≤ frames_ended past + 1
+    → HasNotice (rows (Ended count ∷ past)) [] r s q m.next m.has_begun → Knows step period (Ended count ∷ past) (framed count m (record m { rows = r; parts = q; since = s }))
+knows_rows step period past m count r s q k few notice = record {
+  mode = k.mode;
+  page_index = k.page_index;
+  heard = k.heard;
+  frames = ap (λ n. n + 1) k.frames;
+  due = refl;
+  eid = k.eid;
+  has_ensemble = refl;
+  has_begun = k.has_begun;
+  began_early = k.began_early;
+  is_cut_off = k.is_cut_off;
+  flags = k.flags;
+  times = k.times;
+  settles_at = k.settles_at;
+  untuned = k.untuned;
+  few = few;
+  swapped = omega (arith, k.swapped);
+  kinds = k.kinds;
+  last = k.last;
+  notice = notice;
+}
+
 case_frame : (begun whole : Bool) (step period : ℕ) (past : List Moment) (m : CheckerState) (count : ℕ) → m.has_begun ≡ begun → heard_since m.since m.next ≡ whole → Knows step period past m
     → Knows step period (Ended count ∷ past) (framed count m (row_state begun whole m))
-case_frame true true step period past m count b w k = record {
-  mode = k.mode;
-  page_index = k.page_index;
-  heard = k.heard;
-  frames = ap (λ n. n + 1) k.frames;
-  due = refl;
-  eid = k.eid;
-  has_ensemble = refl;
-  has_begun = k.has_begun;
-  began_early = k.began_early;
-  is_cut_off = k.is_cut_off;
-  flags = k.flags;
-  times = k.times;
-  settles_at = k.settles_at;
-  untuned = k.untuned;
-  few = few_more past count true (sym k.has_begun ∙ b) k.few;
-  swapped = omega (arith, k.swapped);
-  kinds = k.kinds;
-  last = k.last;
-  notice = noticed step period past m count true true b w k;
-}
-case_frame true false step period past m count b w k = record {
-  mode = k.mode;
-  page_index = k.page_index;
-  heard = k.heard;
-  frames = ap (λ n. n + 1) k.frames;
-  due = refl;
-  eid = k.eid;
-  has_ensemble = refl;
-  has_begun = k.has_begun;
-  began_early = k.began_early;
-  is_cut_off = k.is_cut_off;
-  flags = k.flags;
-  times = k.times;
-  settles_at = k.settles_at;
-  untuned = k.untuned;
-  few = few_more past count true (sym k.has_begun ∙ b) k.few;
-  swapped = omega (arith, k.swapped);
-  kinds = k.kinds;
-  last = k.last;
-  notice = noticed step period past m count true false b w k;
-}
-case_frame false whole step period past m count b w k = record {
-  mode = k.mode;
-  page_index = k.page_index;
-  heard = k.heard;
-  frames = ap (λ n. n + 1) k.frames;
-  due = refl;
-  eid = k.eid;
-  has_ensemble = refl;
-  has_begun = k.has_begun;
-  began_early = k.began_early;
-  is_cut_off = k.is_cut_off;
-  flags = k.flags;
-  times = k.times;
-  settles_at = k.settles_at;
-  untuned = k.untuned;
-  few = few_more past count false (sym k.has_begun ∙ b) k.few;
-  swapped = omega (arith, k.swapped);
-  kinds = k.kinds;
-  last = k.last;
-  notice = noticed step period past m count false whole b w k;
-}
+case_frame true true step period past m count b w k =
+    knows_rows step period past m count (m.rows + 1) (m.rows + 1) (m.parts + 1) k (few_more past count true (sym k.has_begun ∙ b) k.few) (noticed step period past m count true true b w k)
+case_frame true false step period past m count b w k =
+    knows_rows step period past m count (m.rows + 1) m.since m.parts k (few_more past count true (sym k.has_begun ∙ b) k.few) (noticed step period past m count true false b w k)
+case_frame false whole step period past m count b w k =
+    knows_rows step period past m count m.rows m.since m.parts k (few_more past count false (sym k.has_begun ∙ b) k.few) (noticed step period past m count false whole b w k)
 
 pub knows_frame : (step period : ℕ) (past : List Moment) (m : CheckerState) (count : ℕ) → Knows step period past m → Knows step period (Ended count ∷ past) (with_frame count m)
 knows_frame step period past m count k = cases m.has_begun (heard_since m.since m.next) refl refl
@@ -133,24 +101,6 @@ knows_frame step period past m count k = cases m.has_begun (heard_since m.since 
         (subst (λ (t : Bool). Knows step period (Ended count ∷ past) (framed count m (cond b (cond t (record m { rows = m.rows + 1; parts = m.parts + 1; since = m.rows + 1 }) (record m { rows = m.rows + 1 })) m))) (sym f)
         (case_frame b w step period past m count e f k))
 
--- the numbers stay far from their limits
-case_sane : (begun whole : Bool) (m : CheckerState) (count : ℕ) → IsSane m → IsSane (framed count m (row_state begun whole m))
-case_sane true true m count s = record { mode = s.mode; page_index = s.page_index; due = below count; times = s.times; rows = omega (arith, s.rows); parts = omega (arith, s.parts) }
-  where
-    below : (n : ℕ) → (n + 1) % 5000 < 5000
-    below n = omega arith
-case_sane true false m count s = record { mode = s.mode; page_index = s.page_index; due = below count; times = s.times; rows = omega (arith, s.rows); parts = omega (arith, s.parts) }
-  where
-    below : (n : ℕ) → (n + 1) % 5000 < 5000
-    below n = omega arith
-case_sane false whole m count s = record { mode = s.mode; page_index = s.page_index; due = below count; times = s.times; rows = omega (arith, s.rows); parts = s.parts }
-  where
-    below : (n : ℕ) → (n + 1) % 5000 < 5000
-    below n = omega arith
-
-pub sane_frame : (m : CheckerState) (count : ℕ) → IsSane m → IsSane (with_frame count m)
-sane_frame m count s = case_sane m.has_begun (heard_since m.since m.next) m count s
-
 pub frame_noted : (m : CheckerState) (count : ℕ) → (with_frame count m).noted ≡ m.noted
 frame_noted m count = by m.has_begun (heard_since m.since m.next)
   where
@@ -160,15 +110,6 @@ frame_noted m count = by m.has_begun (heard_since m.since m.next)
     by false whole = refl
 
 -- ---- silent entries
-
-pub quiet_is : (last period now : ℕ) → last ≤ now → (now - last == period) ≡ (last + period == now)
-quiet_is last period now le = elim (now - last == period) as (λ t. (now - last == period) ≡ t → t ≡ (last + period == now)) [
-  | true ↦ λ e. let is : now - last ≡ period = eqb-true (now - last) period e in sym (eq-eqb (last + period) now (omega (arith, is, le)))
-  | false ↦ λ e. sym (ne_eqb (last + period) now (λ is. false≢true (sym e ∙ eq-eqb (now - last) period (omega (arith, is, le)))))
-] refl
-
-pub loud_is : (last period now : ℕ) → now < last → false ≡ (last + period == now)
-loud_is last period now lt = sym (ne_eqb (last + period) now (λ is. omega (arith, is, lt)))
 
 quiet_raws : (period : ℕ) (past : List Moment) (swapped frames : ℕ) (hs : List Heard) → frames ≡ frames_ended past → AllByRecursion (IsLastHeard past swapped) hs
     → quiet_findings swapped period frames hs ≡ map silence (filter (is_silent period past) (raws hs))
@@ -206,9 +147,6 @@ silent_is step period past m k =
     ∙ ap (λ (l : Listening). map silence (filter (is_silent period past) (all_entries l.current))) (sym (after_is past (listener_in m) k.heard))
 
 -- ---- a whole frame
-
-pub frame_len : (r : Reading) (fibs : List (List ℕ)) → length (map r.read fibs) ≡ length fibs
-frame_len r fibs = length-map fibs r.read
 
 -- all entries of the frame were heard, and the silent ones were reported
 pub frame_done : (size : ℕ) (frame : List Fib) (at : FrameAt) (old mid : CheckerState) (before reported one two : Reported)

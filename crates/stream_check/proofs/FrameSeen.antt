@@ -1,13 +1,10 @@
 -- What is known of the FIBs of a frame with one more FIB.
-use Rattle.std.proofs.Common.{◌≡◌, ℕ, ◌+◌, ◌≤◌, ◌&&◌, Bool, true, false, cond, not, List, [], ◌∷◌, ◌++◌, map, Option, None, refl, sym, ap, ◌∙◌, arith}
+use Rattle.std.proofs.Common.{◌≡◌, ℕ, ◌+◌, ◌≤◌, ◌&&◌, Bool, true, false, cond, not, List, [], ◌∷◌, ◌++◌, map, Option, sym, ap, ◌∙◌, arith}
 use Rattle.std.proofs.lemmas.List.{map-append}
 use Rattle.mux_types.specs.Entries.{EnsembleInformation}
 use Rattle.stream_check.specs.declared.frame.Sight.{Sight}
 use Rattle.stream_check.specs.Following.{is_empty}
 use Rattle.stream_check.specs.Frames.{Fib, Reading, AreSeen, IsSeen, is_damaged, is_there, damaged_in, first_opening, lacks_opening}
-
-pub nothing_seen : AreSeen 0 None false []
-nothing_seen = record { damaged_is = refl; begins_is = refl; lacks_is = refl }
 
 pub damaged_more : (frame : List Fib) (fib : Fib) → damaged_in (frame ++ fib ∷ []) ≡ damaged_in frame + cond (is_damaged fib) 1 0
 damaged_more [] fib = omega (arith)

@@ -29,10 +29,6 @@ holds_more : (xs ys : List Fib) → HoldsFirst ys → HoldsFirst xs → HoldsFir
 holds_more [] ys h g = h
 holds_more (x ∷ xs) ys h g = g
 
-holds_some : (xs ys : List Fib) → xs ≢ [] → HoldsFirst xs → HoldsFirst (xs ++ ys)
-holds_some [] ys some g = absurd (some refl)
-holds_some (x ∷ xs) ys some g = g
-
 pub all_append : {X : Type 0} (P : X → Type 0) (xs ys : List X) → AllByRecursion P xs → AllByRecursion P ys → AllByRecursion P (xs ++ ys)
 all_append P [] ys a b = b
 all_append P (x ∷ xs) ys a b = (a.0, all_append P xs ys a.1 b)
@@ -71,12 +67,6 @@ goes_on size stream skipped frames tail held rest fib e t first f =
       begun = subst HoldsFirst (sym same) first;
       cut = frames_then size frames tail held rest (fib ∷ []) e t f.cut;
     }
-
-pub still_first : (xs : List Fib) (fib : Fib) → xs ≢ [] → HoldsFirst xs → HoldsFirst (xs ++ fib ∷ [])
-still_first xs fib some h = holds_some xs (fib ∷ []) some h
-
-pub now_first : (xs : List Fib) (fib : Fib) → xs ≡ [] → holds_ensemble fib ≡ true → HoldsFirst (xs ++ fib ∷ [])
-now_first xs fib none h = subst (λ (l : List Fib). HoldsFirst (l ++ fib ∷ [])) (sym none) h
 
 -- ---- the findings in one more frame
 

@@ -3,9 +3,9 @@ use Rattle.std.proofs.Common.{◌≡◌, ◌≢◌, ℕ, zero, suc, ◌+◌, ◌
 use Rattle.std.proofs.lemmas.Bool.{cases_lt}
 use Rattle.std.specs.List.{concat}
 use Rattle.std.proofs.lemmas.List.{append_assoc, append-nil, length-append}
-use Rattle.stream_check.specs.Cutting.{HasAll, IsPart, IsCutInto, IsMostParts, IsGreedy, GreedyCloses, GreedyStays, GreedyIsMost, MostIsOne, MostIsCut, ThreeOrMore, IsCutInThree, NewBeginsAnew, FirstPartWaits}
-use Rattle.stream_check.proofs.Rows.{shorter, behind, front, heard_left}
-use Rattle.stream_check.proofs.Cuts.{last, more, none, of_less, has_left, has_right}
+use Rattle.stream_check.specs.Cutting.{HasAll, IsPart, IsCutInto, IsMostParts, IsGreedy, GreedyCloses, GreedyStays, GreedyIsMost, MostIsOne, ThreeOrMore, IsCutInThree, NewBeginsAnew}
+use Rattle.stream_check.proofs.Rows.{shorter, behind, front}
+use Rattle.stream_check.proofs.Cuts.{last, more, none, has_left, has_right}
 
 is_some : {X : Type 0} (xs ys : List X) (y : X) → xs ++ y ∷ ys ≢ []
 is_some [] ys y e = absurd cc
@@ -143,9 +143,6 @@ cut_of (suc k) frames h = h.cut (omega arith)
 cut_of zero [] h = none []
 cut_of zero (f ∷ fs) h = let one = h.most 1 (itself (concat (f ∷ fs)) f fs (λ x want. want)) in absurd (omega (arith, one))
 
-pub most_is_cut : MostIsCut
-most_is_cut n frames = (λ h. record { cut = cut_of n frames h; most = h.most }, λ h. record { cut = λ some. h.cut; most = h.most })
-
 -- ---- three parts
 
 some_right : {X : Type 0} (xs ys : List X) → ys ≢ [] → xs ++ ys ≢ []
@@ -204,23 +201,4 @@ new_begins_anew wanted x frames want new = record {
   cut = none wanted;
   most = missing wanted x frames want new;
   soonest = λ front back e c. omega arith;
-}
-
-pub first_part_waits : FirstPartWaits
-first_part_waits wanted x before after part back want new e whole =
-    elim (cases_lt (length before) (length part)) [
-      | inl lt ↦ lt
-      | inr ge ↦
-          let at = front part before back after e ge in
-          absurd (new (subst (λ (row : List (List ℕ)). Contains (concat row) x) at.is (heard_left part at.back x (whole.1 x want))))
-    ]
-
--- ---- equivalent lists of wanted identifiers
-
-pub same_wanted : (wanted other : List ℕ) (n : ℕ) (done open_frames : List (List ℕ)) → ((x : ℕ) → Contains wanted x → Contains other x)
-    → ((x : ℕ) → Contains other x → Contains wanted x) → IsGreedy wanted n done open_frames → IsGreedy other n done open_frames
-same_wanted wanted other n done open_frames to from g = record {
-  cut = of_less wanted other n done from g.cut;
-  most = λ m front back e c. g.most m front back e (of_less other wanted m front to c);
-  soonest = λ front back e c. g.soonest front back e (of_less other wanted n front to c);
 }

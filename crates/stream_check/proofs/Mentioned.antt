@@ -1,5 +1,5 @@
 -- The contradictions of a FIG, entry by entry, and what is reported of them.
-use Rattle.std.proofs.Common.{◌≡◌, ℕ, ◌<◌, ◌≤◌, ◌-◌, Bool, true, false, cond, List, [], ◌∷◌, ◌++◌, length, drop, take, map, Option, Some, None, refl, sym, ap, ◌∙◌, subst, arith, inl, inr}
+use Rattle.std.proofs.Common.{◌≡◌, ℕ, ◌<◌, ◌≤◌, ◌-◌, Bool, true, false, List, [], ◌++◌, length, drop, take, map, Option, Some, None, refl, sym, ap, ◌∙◌, subst, arith, inl, inr}
 use Rattle.std.proofs.lemmas.Bool.{cases_lt, false≢true}
 use Rattle.std.proofs.lemmas.List.{append-nil, map-append, length-drop, take_all}
 use Rattle.fib_reader.specs.Listening.{Pictured}
@@ -10,7 +10,7 @@ use Rattle.stream_check.specs.declared.contradiction.Contradiction.{Contradictio
 use Rattle.stream_check.specs.declared.reporting.FrameAt.{FrameAt}
 use Rattle.stream_check.specs.Reporting.{in_frame}
 use Rattle.stream_check.specs.Reported.{Reported, with_more}
-use Rattle.stream_check.specs.Contradictions.{absent, absent_among, are_whole, contradicts, is_new, new_findings, noted_with}
+use Rattle.stream_check.specs.Contradictions.{absent, absent_among, are_whole, new_findings, noted_with}
 use Rattle.stream_check.specs.Hearing.{AreNoted}
 use Rattle.stream_check.proofs.Chain.{more_twice, more_none}
 use Rattle.stream_check.proofs.Sending.{noted_twice, found_twice}
@@ -61,30 +61,12 @@ noted_more at xs ys a b c ra rb rc one two = record {
       ∙ ap (map (in_frame at)) (found_twice xs ys a));
 }
 
--- one contradiction, by whether it is new
-pub noted_one : (at : FrameAt) (c : Contradiction) (old new : List Contradiction) (before after : Reported) (b : Bool) → b ≡ is_new old c
-    → (b ≡ true → new ≡ old ++ c ∷ []) → (b ≡ false → new ≡ old)
-    → (b ≡ true → after ≡ with_more before (in_frame at (contradicts c) ∷ [])) → (b ≡ false → after ≡ before)
-    → AreNoted at (c ∷ []) old before new after
-noted_one at c old new before after true is noted same found nothing = record {
-  noted = noted refl ∙ ap (λ t. old ++ cond t (c ∷ []) []) is;
-  findings = found refl ∙ ap (λ t. with_more before (map (in_frame at) (map contradicts (cond t (c ∷ []) [])))) is;
-}
-noted_one at c old new before after false is noted same found nothing = record {
-  noted = same refl ∙ sym (append-nil old) ∙ ap (λ t. old ++ cond t (c ∷ []) []) is;
-  findings = nothing refl ∙ more_none before ∙ ap (λ t. with_more before (map (in_frame at) (map contradicts (cond t (c ∷ []) [])))) is;
-}
-
 -- ---- entries in a loop: what was reported so far, and the rest
 
 pub record AreLeft (at : FrameAt) (k : Pictured) (ext : ℕ) (long : Bool) (all rest : List ℕ) (old : List Contradiction) (before : Reported) (now : List Contradiction) (reported : Reported) : Type 0 where
   pub whole : are_whole (mentions_of ext long rest) ≡ true
   pub left : (new : List Contradiction) (after : Reported) → AreNoted at (absent_among k ext (mentions_of ext long rest)) now reported new after
       → AreNoted at (absent_among k ext (mentions_of ext long all)) old before new after
-
-pub left_all : (at : FrameAt) (k : Pictured) (ext : ℕ) (long : Bool) (all : List ℕ) (old : List Contradiction) (before : Reported) → are_whole (mentions_of ext long all) ≡ true
-    → AreLeft at k ext long all all old before old before
-left_all at k ext long all old before whole = record { whole = whole; left = λ new after h. h }
 
 absent_with : (k : Pictured) (ext : ℕ) (m : Mention) (ms : Option (List Mention)) → are_whole ms ≡ true → absent_among k ext (with_mention m ms) ≡ absent k ext m ++ absent_among k ext ms
 absent_with k ext m None whole = absurd (false≢true whole)

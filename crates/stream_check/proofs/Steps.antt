@@ -13,7 +13,7 @@ use Rattle.stream_check.specs.Pictures.{Heard, HeardPicture, key_of, keys, keys_
 use Rattle.stream_check.specs.Lookup.{lookup_in}
 use Rattle.stream_check.specs.Parts.{most_parts}
 use Rattle.stream_check.specs.History.{Item, Moment, Said, items_of, frames_ended, listener_after, due, last_eid, has_ensemble, has_begun, began_early, times_announced, last_flags, is_cut_off, rows}
-use Rattle.stream_check.specs.Rules.{Known, known_of, times_heard, at_most, has_flags, makes_swap, findings_at, ensemble_findings, member_findings, current_findings, next_findings, has_no_room, finds_no_room, is_absent}
+use Rattle.stream_check.specs.Rules.{Known, known_of, times_heard, at_most, has_flags, makes_swap, findings_at, ensemble_findings, member_findings, current_findings, next_findings, has_no_room, finds_no_room}
 use Rattle.stream_check.specs.CheckerState.{listener_in, known_in, with_swap, with_flags, with_ensemble, with_current, with_next, Knows, IsSane}
 use Rattle.stream_check.specs.Hearing.{IsLater, HearsItems}
 use Rattle.stream_check.proofs.PartCount.{parts_counted}
@@ -190,14 +190,6 @@ later_itself m s = record { step = refl; period = refl; frames = refl; sane = s 
 pub later_twice : (a b c : CheckerState) → IsLater a b → IsLater b c → IsLater a c
 later_twice a b c x y = record { step = y.step ∙ x.step; period = y.period ∙ x.period; frames = y.frames ∙ x.frames; sane = y.sane }
 
-later_swap : (m : CheckerState) → IsSane m → IsLater m (with_swap m)
-later_swap m s = record {
-  step = refl;
-  period = refl;
-  frames = refl;
-  sane = record { mode = s.mode; page_index = s.page_index; due = s.due; times = omega arith; rows = omega arith; parts = omega arith };
-}
-
 later_flags : (e : EnsembleInformation) (m : CheckerState) → IsSane m → IsLater m (with_flags e m)
 later_flags e m s = elim (has_flags e) as (λ t. IsLater m (cond t (record m { is_cut_off = m.is_cut_off || not m.tuned; awaited = e.occurrence; flags = e.change; times = at_most 3 (m.times + 1); has_begun = true }) m)) [
   | true ↦ record {
@@ -218,34 +210,6 @@ later_noted first e m s =
       frames = f.frames;
       sane = record { mode = f.sane.mode; page_index = f.sane.page_index; due = f.sane.due; times = f.sane.times; rows = f.sane.rows; parts = f.sane.parts };
     }
-
-pub later_ensemble : (first : Bool) (e : EnsembleInformation) (m : CheckerState) (b : Bool) → IsSane m → IsLater m (with_ensemble first e (cond b (with_swap m) m))
-later_ensemble first e m true s = later_twice m (with_swap m) (with_ensemble first e (with_swap m)) (later_swap m s) (later_noted first e (with_swap m) (later_swap m s).sane)
-later_ensemble first e m false s = later_noted first e m s
-
-pub later_current : (raw : Raw) (m : CheckerState) → IsSane m → IsLater m (with_current raw m)
-later_current raw m s = record {
-  step = refl;
-  period = refl;
-  frames = refl;
-  sane = record { mode = s.mode; page_index = s.page_index; due = s.due; times = s.times; rows = s.rows; parts = s.parts };
-}
-
-pub later_next : (raw : Raw) (m : CheckerState) → IsSane m → IsLater m (with_next raw m)
-later_next raw m s = elim (is_absent (lookup_in raw (shown m.next))) as (λ t. IsLater m (record (with_next raw m) { since = cond t 0 m.since; parts = cond t 0 m.parts })) [
-  | true ↦ record {
-    step = refl;
-    period = refl;
-    frames = refl;
-    sane = record { mode = s.mode; page_index = s.page_index; due = s.due; times = s.times; rows = s.rows; parts = omega arith };
-  }
-  | false ↦ record {
-    step = refl;
-    period = refl;
-    frames = refl;
-    sane = record { mode = s.mode; page_index = s.page_index; due = s.due; times = s.times; rows = s.rows; parts = s.parts };
-  }
-]
 
 -- ---- by the result of a call
 

@@ -14,9 +14,6 @@ use Rattle.stream_check.specs.Rules.{known_of, can_fall_at, share_unit, overlap,
 two_parts : most_parts (5 ∷ 9 ∷ []) ((5 ∷ []) ∷ (9 ∷ []) ∷ (9 ∷ 5 ∷ []) ∷ []) ≡ 2
 two_parts = refl
 
-one_part : most_parts (5 ∷ 9 ∷ []) ((5 ∷ []) ∷ (5 ∷ []) ∷ (9 ∷ []) ∷ (5 ∷ []) ∷ []) ≡ 1
-one_part = refl
-
 no_part : most_parts (5 ∷ 9 ∷ []) ((5 ∷ []) ∷ (5 ∷ []) ∷ []) ≡ 0
 no_part = refl
 
@@ -27,12 +24,6 @@ falls_in_mode_one = refl
 
 odd_in_mode_one : can_fall_at 4 29 ≡ false
 odd_in_mode_one = refl
-
-odd_in_mode_two : can_fall_at 1 29 ≡ true
-odd_in_mode_two = refl
-
-too_high : can_fall_at 1 250 ≡ false
-too_high = refl
 
 -- ---- sub-channels: 1 has the units 0 to 95, 2 starts at 95, 3 starts at 96, 4 ends past the last unit
 

@@ -3,7 +3,7 @@
 use Rattle.std.proofs.Common.{◌≡◌, ℕ, true, false, List, [], ◌∷◌, replicate, Some, None, refl}
 use Rattle.fib_codec.specs.Grammar.{Open, Other}
 use Rattle.fib_reader.specs.Raw.{Raw}
-use Rattle.fib_reader.specs.Listening.{Pictured, blank}
+use Rattle.fib_reader.specs.Listening.{Pictured}
 use Rattle.fig_mentions.specs.declared.mention.Mention.TheVariants.{Nothing, Sub, Packet, OnSub}
 use Rattle.fig_mentions.specs.Mentions.{mentions_in}
 use Rattle.stream_check.specs.declared.contradiction.Contradiction.{Contradiction}
@@ -47,26 +47,9 @@ stale_does_not : contradictions_in current stale ≡ NotThere 8 (OnSub 49697 2) 
 unfolding mentions_in
 stale_does_not = refl
 
-each_entry : contradictions_in current schemes ≡ NotThere 14 (Sub 2) ∷ NotThere 14 (Sub 3) ∷ []
-unfolding mentions_in
-each_entry = refl
-
 not_whole : contradictions_in current cut ≡ NotWhole 4 ∷ []
 unfolding mentions_in
 not_whole = refl
-
-without_entries : contradictions_in current (1 ∷ 5 ∷ []) ≡ NotWhole 5 ∷ []
-without_entries = refl
-
-of_another_ensemble : contradictions_in current (5 ∷ 72 ∷ 194 ∷ 33 ∷ 0 ∷ 2 ∷ []) ≡ []
-of_another_ensemble = refl
-
-of_another_extension : contradictions_in current (2 ∷ 10 ∷ 9 ∷ []) ≡ []
-of_another_extension = refl
-
-nothing_is_there : contradictions_in blank own ≡ NotThere 8 (OnSub 49697 1) ∷ []
-unfolding mentions_in
-nothing_is_there = refl
 
 a_channel_of_the_fic : absent current 4 Nothing ≡ []
 a_channel_of_the_fic = refl
@@ -90,9 +73,6 @@ same_mention = refl
 
 other_service : is_same_mention (OnSub 49697 2) (OnSub 49698 2) ≡ false
 other_service = refl
-
-other_kind : is_same_mention (Sub 2) (Packet 2) ≡ false
-other_kind = refl
 
 same_contradiction : is_same (NotThere 4 (Sub 2)) (NotThere 4 (Sub 2)) ≡ true
 same_contradiction = refl
@@ -123,9 +103,6 @@ not_again = refl
 not_behind_sixty_four : is_new (replicate 64 three) two ≡ false
 not_behind_sixty_four = refl
 
-behind_sixty_three : is_new (replicate 63 three) two ≡ true
-behind_sixty_three = refl
-
 twice_in_a_fig : new_among [] (two ∷ two ∷ three ∷ []) ≡ two ∷ three ∷ []
 twice_in_a_fig = refl
 
@@ -148,9 +125,6 @@ header flags count low = record { first = true; next = false; raw = record { ext
 
 abbrev first_frame : List Moment
 first_frame = Ended 0 ∷ Said (of_current service) ∷ Said (of_current sub) ∷ Said (header 0 0 []) ∷ []
-
-not_in_the_first_frame : contradictions_at 1 (Said (of_current service) ∷ Said (of_current sub) ∷ Said (header 0 0 []) ∷ []) stale ≡ []
-not_in_the_first_frame = refl
 
 in_the_second : contradictions_at 1 first_frame stale ≡ NotThere 8 (OnSub 49697 2) ∷ []
 unfolding mentions_in
