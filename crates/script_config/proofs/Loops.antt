@@ -1,13 +1,11 @@
 -- Loop invariants.
-use Rattle.std.proofs.Common.{◌≡◌, ℕ, ◌+◌, ◌<◌, ◌≤◌, true, false, List, [], ◌∷◌, ◌++◌, length, get_or, drop, None, refl, sym, ap, ◌∙◌, subst, arith}
-use Rattle.std.proofs.lemmas.List.{append-nil, append_assoc, drop_more, drop_all}
+use Rattle.std.proofs.Common.{◌≡◌, ℕ, ◌+◌, ◌<◌, ◌≤◌, List, [], ◌∷◌, ◌++◌, length, get_or, drop, refl, sym, ap, ◌∙◌, subst}
+use Rattle.std.proofs.lemmas.List.{append_assoc, drop_more, drop_all}
 use Rattle.mux_config.specs.declared.edit.Edit.{Edit}
-use Rattle.mux_config.specs.declared.edit.Edit.TheVariants.{DropComponent}
 use Rattle.mux_types.specs.declared.numbers.Sid.{Sid}
 use Rattle.mux_types.specs.declared.parts.Component.{Component}
-use Rattle.mux_types.specs.Configuration.{Configuration, carrier_of}
-use Rattle.mux_types.specs.Sameness.{is_same_component}
-use Rattle.mux_config.specs.Edits.{edit_fault, changed}
+use Rattle.mux_types.specs.Configuration.{Configuration}
+use Rattle.mux_config.specs.Edits.{changed}
 use Rattle.script_config.specs.Sequences.{HaveNoFault, after}
 use Rattle.script_config.specs.Differences.{after_common, components_dropped}
 

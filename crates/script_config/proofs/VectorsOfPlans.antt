@@ -9,7 +9,7 @@ use Rattle.fib_codec.specs.declared.modes.Mode.TheVariants.{I, II}
 use Rattle.script_front.specs.declared.tree.Act.TheVariants.{Edit as Edits, Wait, CommitIn, Join}
 use Rattle.plan_code.specs.declared.plan.Plan.{Plan}
 use Rattle.script_config.specs.declared.opening.Opening.{Opening}
-use Rattle.script_config.specs.declared.refusal.DiffFault.TheVariants.{AnotherEnsemble, NoChange}
+use Rattle.script_config.specs.declared.refusal.DiffFault.TheVariants.{AnotherEnsemble}
 use Rattle.script_config.specs.Frames.{edits_in, FitFrames}
 use Rattle.script_config.specs.Openings.{IsOpening}
 use Rattle.script_config.specs.Plan.{pause_after, paced}

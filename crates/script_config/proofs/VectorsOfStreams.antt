@@ -1,10 +1,10 @@
 -- Test vectors: small streams for which each definition holds, and for which it fails.
 use Rattle.std.proofs.Common.{◌≡◌, ◌≢◌, ℕ, false, [], ◌∷◌, length, Some, None, refl, ap, arith, inr}
 use Rattle.fib_codec.specs.declared.frame_layout.FrameLayout.TheVariants.{Whole}
-use Rattle.fib_codec.specs.declared.modes.Mode.TheVariants.{I, II}
+use Rattle.fib_codec.specs.declared.modes.Mode.TheVariants.{I}
 use Rattle.fib_reader.specs.Raw.{Raw}
 use Rattle.mux_config.specs.Configuration.{Configuration}
-use Rattle.script_tokens.specs.declared.fault.ScriptFault.TheVariants.{Expected, Memory as NoMemory}
+use Rattle.script_tokens.specs.declared.fault.ScriptFault.TheVariants.{Expected}
 use Rattle.script_config.specs.declared.opening.OpeningFault.TheVariants.{Script, Memory}
 use Rattle.script_config.specs.Ensembles.{named_by_entries, NamesAfter}
 use Rattle.script_config.specs.HeardAgain.{steady, page_frames}
