@@ -1,20 +1,19 @@
 -- Progress: a typed code can always continue.
-use Rattle.std.proofs.Common.{◌≡◌, ℕ, ◌<◌, ◌≤◌, Bool, true, false, cond, [], ◌∷◌, Option, Some, None, refl, ap, ◌∙◌, arith}
+use Rattle.std.proofs.Common.{◌≡◌, ℕ, ◌≤◌, Bool, true, false, cond, [], ◌∷◌, Option, Some, None, refl, arith}
 use Rattle.mux_config.specs.Configuration.{Configuration}
 use Rattle.fib_carousel.specs.Pages.{page_set, rounds}
 use Rattle.plan_code.specs.declared.plan.Plan.{Plan}
 use Rattle.plan_code.specs.Program.{Program, IsPlan}
 use Rattle.plan_code.specs.Machine.{State}
-use Rattle.plan_runs.specs.declared.event.Event.TheVariants.{Contact, Frame}
-use Rattle.plan_runs.specs.Frames.{ready, burst, after_burst, shown, is_noticed, with_next_counts, after_frame}
-use Rattle.plan_runs.specs.Runs.{happens}
+use Rattle.plan_runs.specs.declared.event.Event.TheVariants.{Frame}
+use Rattle.plan_runs.specs.Frames.{after_burst, shown, is_noticed, after_frame}
 use Rattle.plan_runs.specs.TypedRuns.{IsPlayed}
 use Rattle.plan_runs.proofs.Knowledge.{IsOnAir, CommittedBy}
 use Rattle.plan_runs.proofs.Facts.{airs, code_of, played_holds}
 use Rattle.plan_runs.proofs.Reached.{reached_is_kept}
 use Rattle.plan_runs.proofs.TypedRuns.{typed_code_runs}
 use Rattle.plan_runs.proofs.Headline.{frames_can_be_sent}
-use Rattle.plan_player.specs.Positions.{Progress, with_notice_begun}
+use Rattle.plan_player.specs.Positions.{Progress}
 
 -- what is sent takes at most the period
 few_by : (plan : Plan) (left : Option ℕ) (c n : Configuration) → IsPlan plan → IsOnAir plan c → CommittedBy plan left c n

@@ -1,13 +1,11 @@
 -- Quiet frames that come whole cycles after others, and differ from these in the count alone.
-use Rattle.std.proofs.Common.{◌≡◌, ℕ, zero, suc, ◌+◌, ◌-◌, ◌*◌, ◌%◌, ◌<◌, ◌≤◌, ◌==◌, Bool, true, false, cond, List, ◌∷◌, ◌++◌, length, take, drop, Option, Some, None, refl, sym, ap, ap₂, subst, ◌∙◌, arith, length-append, length-drop, length-take-le}
+use Rattle.std.proofs.Common.{◌≡◌, ℕ, zero, suc, ◌+◌, ◌-◌, ◌*◌, ◌%◌, ◌<◌, ◌≤◌, ◌==◌, Bool, cond, List, ◌∷◌, ◌++◌, length, take, drop, Option, Some, None, refl, sym, ap, ap₂, subst, ◌∙◌, arith, length-append, length-drop, length-take-le}
 use Rattle.std.specs.List.{concat, copy_within}
 use Rattle.std.proofs.lemmas.List.{take_at, drop_at, drop-take, take-append-le, take-append-drop}
 use Rattle.std.proofs.lemmas.List.Edits.{take-paste}
 use Rattle.std.proofs.Math.Seq.{paste, take-append-add}
 use Rattle.std.proofs.Math.Nat.{suc-mul, mod-add-mod}
 use Rattle.fib_codec.specs.Layouts.{layout_mode, frame_fibs}
-use Rattle.mux_config.specs.declared.flags.Change.{Change}
-use Rattle.mux_config.specs.Change.{change_of, bits_of}
 use Rattle.mux_types.specs.declared.limits.TheConstants.{COUNTS}
 use Rattle.fib_codec.specs.Modes.{fib_count, count_step}
 use Rattle.fib_codec.specs.declared.modes.Mode.{Mode}
@@ -15,7 +13,7 @@ use Rattle.fib_codec.specs.declared.modes.Mode.TheVariants.{I, II, III, IV}
 use Rattle.fib_carousel.specs.Pages.{page_set}
 use Rattle.plan_code.specs.declared.plan.Plan.{Plan}
 use Rattle.plan_code.specs.Machine.{State}
-use Rattle.plan_runs.specs.Frames.{is_noticed, low_of_swap, shown_bytes, sent_entries, with_next_counts}
+use Rattle.plan_runs.specs.Frames.{is_noticed, shown_bytes, sent_entries, with_next_counts}
 use Rattle.plan_runs.specs.Announced.{notice_frames}
 use Rattle.plan_player.specs.declared.phase_pages.PhasePages.{PhasePages}
 use Rattle.plan_player.specs.declared.machine.sending.Header.{Header}

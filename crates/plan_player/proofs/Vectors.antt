@@ -1,6 +1,6 @@
 -- The state of a player and what a sink receives, for a code that waits for a frame and ends: examples that hold and
 -- examples that fail for each definition.
-use Rattle.std.proofs.Common.{◌≡◌, ℕ, List, [], ◌∷◌, ◌++◌, length, take, replicate, Some, None, true, refl, ap, arith}
+use Rattle.std.proofs.Common.{◌≡◌, ℕ, List, [], ◌∷◌, ◌++◌, length, take, replicate, Some, None, refl, ap, arith}
 use Rattle.std.proofs.lemmas.List.{length-append}
 use Rattle.fib_codec.specs.declared.frame_layout.FrameLayout.TheVariants.{Whole}
 use Rattle.mux_config.specs.Configuration.{nothing}
@@ -12,14 +12,14 @@ use Rattle.plan_code.specs.declared.instr.Instr.TheVariants.{Wait, End}
 use Rattle.plan_code.specs.Program.{Program}
 use Rattle.plan_code.specs.Machine.{State}
 use Rattle.plan_runs.specs.declared.event.Event.{Event}
-use Rattle.plan_runs.specs.declared.event.Event.TheVariants.{Contact, Frame}
+use Rattle.plan_runs.specs.declared.event.Event.TheVariants.{Frame}
 use Rattle.plan_runs.specs.declared.event.Start.{Start}
 use Rattle.plan_runs.proofs.Samples.{label, code, start_at, first_state, it_starts}
 use Rattle.plan_player.specs.declared.fault.StartFault.TheVariants.{Count, Day}
 use Rattle.plan_player.specs.declared.fault.PlayFault.TheVariants.{Write}
 use Rattle.plan_player.specs.Playing.{Playing, start_fault, IsAtStart, last_steps, played}
 use Rattle.plan_player.specs.Delivery.{frames_of, played_bytes, next_frame, Stopped, StoppedBy}
-use Rattle.plan_player.specs.declared.phase_pages.Sent.TheVariants.{Kept, Headed}
+use Rattle.plan_player.specs.declared.phase_pages.Sent.TheVariants.{Kept}
 use Rattle.plan_player.specs.Phase.{HasPage, ShowsAs, HasChange, KeepsChange}
 
 -- ---- values shared by these vectors: an empty multiplex

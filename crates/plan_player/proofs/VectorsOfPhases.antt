@@ -15,7 +15,7 @@ use Rattle.plan_code.specs.declared.instr.Instr.TheVariants.{Wait, End}
 use Rattle.plan_code.specs.Program.{Program, IsProgram}
 use Rattle.plan_code.specs.Machine.{State}
 use Rattle.plan_verifier.proofs.OneVerdict.{typed_if}
-use Rattle.plan_runs.proofs.Samples.{plan, with_sub, one_sub, one_sub_is, many_subs, label, line, line_is, code_from, first_from_is, start_at, in_range, first_state, it_starts}
+use Rattle.plan_runs.proofs.Samples.{plan, with_sub, one_sub, one_sub_is, label, line, line_is, code_from, first_from_is, start_at, in_range, first_state, it_starts}
 use Rattle.plan_runs.specs.declared.event.Event.TheVariants.{Frame}
 use Rattle.plan_runs.specs.declared.event.Start.{Start}
 use Rattle.plan_runs.specs.Frames.{after_frame}

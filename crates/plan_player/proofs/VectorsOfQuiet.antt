@@ -3,7 +3,7 @@ use Rattle.std.proofs.Common.{◌≡◌, ℕ, zero, suc, true, false, [], ◌∷
 use Rattle.mux_config.specs.Configuration.{nothing}
 use Rattle.plan_code.specs.declared.flags.Contacts.{Contacts}
 use Rattle.plan_code.specs.declared.hold.Hold.{Hold}
-use Rattle.plan_code.specs.declared.hold.Hold.TheVariants.{Running, Waits, WaitsDay, WaitsContact, WaitsAny, WaitsSwap, Ended}
+use Rattle.plan_code.specs.declared.hold.Hold.TheVariants.{Waits, WaitsAny, Ended}
 use Rattle.plan_code.specs.declared.instr.Instr.TheVariants.{Wait, End}
 use Rattle.plan_code.specs.Flags.{any_closed, any_open}
 use Rattle.plan_code.specs.Program.{Program}

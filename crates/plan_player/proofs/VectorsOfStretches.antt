@@ -3,7 +3,7 @@ use Rattle.std.proofs.Common.{◌≡◌, ℕ, zero, suc, ◌<◌, false, true, L
 use Rattle.std.specs.List.{concat}
 use Rattle.fib_carousel.specs.Carried.{IsPageable}
 use Rattle.fib_codec.specs.declared.modes.Mode.TheVariants.{I}
-use Rattle.plan_code.specs.declared.hold.Hold.TheVariants.{Running, Waits, Ended}
+use Rattle.plan_code.specs.declared.hold.Hold.TheVariants.{Running, Waits}
 use Rattle.plan_code.specs.Machine.{State}
 use Rattle.plan_runs.specs.Frames.{shown, ensemble_sent, shown_bytes, sent_entries}
 use Rattle.plan_runs.specs.Announced.{notice_frames}

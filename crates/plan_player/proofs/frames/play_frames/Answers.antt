@@ -1,4 +1,4 @@
-use Rattle.std.proofs.Common.{◌-◌, ◌+◌, ◌≤◌, ℕ, replicate, subst, sym, arith}
+use Rattle.std.proofs.Common.{◌-◌, ◌≤◌, ℕ, replicate, subst, sym, arith}
 use Rattle.plan_runs.specs.declared.event.Event.TheVariants.{Frame}
 use Rattle.plan_player.specs.Delivery.{Stopped}
 use Rattle.plan_player.proofs.Joining.{joined_frames, stopped_frames, few_frames}

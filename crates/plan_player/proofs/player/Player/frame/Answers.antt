@@ -1,4 +1,4 @@
-use Rattle.std.proofs.Common.{ap, subst, ◌∙◌}
+use Rattle.std.proofs.Common.{ap, ◌∙◌}
 use Rattle.plan_code.specs.Program.{Program}
 use Rattle.plan_runs.specs.Frames.{frame_bytes}
 use Rattle.plan_runs.specs.Announced.{FrameRuns, heard_of}
