@@ -136,7 +136,7 @@ pub(crate) fn run<'a, F: Files, W: Write>(
         Request::Check(request) => check::show_check(alloc, request, files, out),
         Request::Compile(request) => compile::show_compile(alloc, request, files, out),
         Request::Verify(request) => verify::show_verdict(alloc, request, files, out),
-        Request::Play(request) => play::show_play(alloc, request, files, out),
+        Request::Play(request) => play::run_play(alloc, request, files, out),
         Request::Debug(request) => debug::show_debug(alloc, request, files, out),
         Request::Map(request) => map::show_map(alloc, request, files, out),
     }

@@ -34,7 +34,7 @@ pub struct PlayRequest<'a> {
 /// The file is created, or truncated, when the code, the start and the events were found to be
 /// good. Where they are refused an empty file is created if there is none; a file that is there
 /// keeps its bytes, as it does where the code or the events can't be read.
-pub fn show_play<'a, F: Files, W: Write>(
+pub fn run_play<'a, F: Files, W: Write>(
     alloc: Global,
     request: &PlayRequest<'a>,
     files: &mut F,
@@ -103,7 +103,7 @@ fn refuse<'a, F: Files>(
 }
 
 /// Runs `play` with standard output in place of the file: the frames go to `out`, which is
-/// returned, and the line to `lines`. The failures are those of [`show_play`], but that no file is
+/// returned, and the line to `lines`. The failures are those of [`run_play`], but that no file is
 /// created.
 pub fn stream_play<'a, F: Files, W: Write, L: Write>(
     alloc: Global,

@@ -4,7 +4,7 @@ ghost use Rattle.std.specs.Prelude.{◌≡◌, codes, Some, IfOk, IfSome};
 ghost use Rattle.console.specs.Versions.{world_of};
 ghost use Rattle.command_tests.specs.Playing.{HoldsRun};
 
-use cli_plans::play::{PlayRequest, show_play};
+use cli_plans::play::{PlayRequest, run_play};
 use console::exit::Status;
 use console::memory::MemoryFiles;
 use plan_session::StartOptions;
@@ -52,7 +52,7 @@ pub fn played(
         start,
     };
     let mut lines = Vec::new(alloc);
-    match show_play(alloc, &request, &mut files, &mut lines) {
+    match run_play(alloc, &request, &mut files, &mut lines) {
         Ok(Status::Done) => Ok(Some(files)),
         Ok(_) => Ok(None),
         Err(_) => Ok(None),

@@ -28,7 +28,7 @@ impl Model for Queue {
 
 /// What was carried in a FIB.
 #[derive(Clone, Copy)]
-pub(crate) struct Load {
+pub(crate) struct Carried {
     /// The number of data bytes of the FIB, with those of the FIGs that are carried.
     pub(crate) used: usize,
     /// The number of FIGs that are carried.
@@ -93,7 +93,7 @@ impl Queue {
     /// Moves FIGs into a FIB, behind its first `front` data bytes: from the one that has waited longest on, each that
     /// fits into what is left of the thirty data bytes, and agrees with a configuration. One that fits and does not
     /// agree is let go.
-    pub(crate) fn carry(&mut self, fib: &mut [u8], front: usize, current: &Picture) -> Load
+    pub(crate) fn carry(&mut self, fib: &mut [u8], front: usize, current: &Picture) -> Carried
         requires whole { length fib.old ≡ 32 }
         requires within { front ≤ 30 }
         ensures data { take result.used fib.new ≡ take front fib.old
@@ -124,6 +124,6 @@ impl Queue {
                 }
             }
         }
-        Load { used, figs, stale }
+        Carried { used, figs, stale }
     }
 }

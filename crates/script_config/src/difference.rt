@@ -4,10 +4,10 @@ ghost use Rattle.std.specs.Prelude.{◌≡◌, ◌≤◌, length, IfOk};
 ghost use Rattle.script_config.specs.Differences.{edits_between};
 ghost use Rattle.script_config.specs.Sequences.{Transform};
 
-use crate::coming::{grow_services, new_packets, new_subs};
-use crate::going::{cut_services, drop_packets, drop_services, drop_subs};
+use crate::additions::{grow_services, new_packets, new_subs};
+use crate::removals::{cut_services, drop_packets, drop_services, drop_subs};
 use crate::laws;
-use crate::staying::alter_subs;
+use crate::alterations::alter_subs;
 use mux_config::{Config, Edit};
 use std::alloc::{AllocError, Global};
 

@@ -18,10 +18,10 @@
 //! refusals in `specs/Refusals.antt`, and what is heard again in `specs/HeardAgain.antt`.
 #![tactic(auto)]
 
-pub mod coming;
+pub mod additions;
+pub mod alterations;
 pub mod difference;
 pub mod ensembles;
-pub mod going;
 pub mod heard;
 pub mod items;
 pub mod laws;
@@ -31,7 +31,7 @@ pub mod opening;
 pub mod plain;
 pub mod plan;
 pub mod refusal;
-pub mod staying;
+pub mod removals;
 pub mod text;
 
 pub use difference::edits_between;

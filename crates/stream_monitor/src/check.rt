@@ -17,7 +17,7 @@ use crate::fibs::Next;
 use crate::line::{Cause, Totals};
 use crate::monitor::Monitor;
 use crate::options::CheckOptions;
-use crate::stash::Stash;
+use crate::frame_findings::FrameFindings;
 use crate::tally::{Tally, counted, no_tally};
 use console::files::FileFault;
 use stream_check::{CheckFault, Checker, Finding, Summary};
@@ -80,12 +80,12 @@ pub fn check_stream<M: Monitor>(
     ensures all { IfOk result (λ ending. HasReadAll options ending (M.left monitor.new)) }
 {
     let mut state = start(options);
-    let mut stash = Stash::new();
+    let mut frame = FrameFindings::new();
     monitor.start(options);
     for _ in 0..u64::MAX {
         match monitor.next()? {
             Next::Fib(fib) => {
-                if let Some(ending) = check_fib(options, &mut state, &mut stash, &fib, monitor)? {
+                if let Some(ending) = check_fib(options, &mut state, &mut frame, &fib, monitor)? {
                     return Ok(ending);
                 }
             }
@@ -101,7 +101,7 @@ pub fn check_stream<M: Monitor>(
 fn check_fib<M: Monitor>(
     options: CheckOptions,
     state: &mut State,
-    stash: &mut Stash,
+    frame: &mut FrameFindings,
     fib: &[u8; 32],
     monitor: &mut M,
 ) -> Result<Option<Ending>, CheckFailure>
@@ -110,9 +110,9 @@ fn check_fib<M: Monitor>(
     ensures ended { IfOk result (λ e. IfSome e (StopsAtFib options)) }
     ensures left { M.left monitor.new ≡ M.left monitor.old }
 {
-    stash.clear();
-    let heard = state.checker.hear(fib, stash);
-    let Some(findings) = stash.findings() else {
+    frame.clear();
+    let heard = state.checker.hear(fib, frame);
+    let Some(findings) = frame.findings() else {
         return Err(CheckFailure::Memory);
     };
     tell_findings(findings, monitor)?;

@@ -12,6 +12,7 @@ mod clock;
 mod ending;
 mod fibs;
 mod file_monitor;
+mod frame_findings;
 mod hint;
 mod json;
 pub mod laws;
@@ -19,7 +20,6 @@ mod line;
 mod monitor;
 mod options;
 mod sid;
-mod stash;
 mod tally;
 mod text;
 

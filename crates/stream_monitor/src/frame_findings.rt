@@ -6,12 +6,12 @@ use stream_check::{Finding, Report};
 
 /// The findings in the frame that one FIB ends: up to 1,024.
 #[derive(Drop)]
-pub struct Stash {
+pub struct FrameFindings {
     items: ArrayVec<Finding, 1024>,
     has_more: bool,
 }
 
-impl Model for Stash {
+impl Model for FrameFindings {
     ghost use Rattle.std.specs.Prelude.{if◌then◌else◌};
     ghost use Rattle.stream_check.specs.Reported.{Reported, Unknown, AtMost};
 
@@ -20,7 +20,7 @@ impl Model for Stash {
     ghost view = { λ s. if s.has_more then Unknown else AtMost 1024 s.items.items };
 }
 
-impl Stash {
+impl FrameFindings {
     ghost use Rattle.std.specs.Prelude.{◌≡◌, [], IfSome, IfNone};
     ghost use Rattle.stream_check.specs.Reported.{Unknown, AtMost};
 
@@ -28,7 +28,7 @@ impl Stash {
     pub fn new() -> Self
         ensures { result ≡ AtMost 1024 [] }
     {
-        Stash {
+        FrameFindings {
             items: ArrayVec::new(),
             has_more: false,
         }
@@ -55,7 +55,7 @@ impl Stash {
     }
 }
 
-impl Report for Stash {
+impl Report for FrameFindings {
     ghost reported = { λ s. s };
 
     fn note(&mut self, finding: Finding) {

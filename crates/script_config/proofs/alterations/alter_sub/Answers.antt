@@ -1,7 +1,7 @@
 use Rattle.std.proofs.Common.{sym}
 use Rattle.mux_types.specs.Configuration.{IsPlaced, sub_key}
 use Rattle.mux_config.proofs.Keeping.{entry_holds}
-use Rattle.script_config.proofs.staying.alter_sub.Goals as goal
+use Rattle.script_config.proofs.alterations.alter_sub.Goals as goal
 
 pub alter-requires : goal.alter-requires
 alter-requires c = entry_holds IsPlaced sub_key _ _ _ c.sub.ensures.configuration.subs_placed (sym c.in-Some.ensures.value)

@@ -1,6 +1,6 @@
 use Rattle.std.proofs.Common.{◌-◌, length}
 use Rattle.script_config.proofs.Loops.{IsCommon}
-use Rattle.script_config.proofs.going.common.Given as goal
+use Rattle.script_config.proofs.removals.common.Given as goal
 
 abbrev pub invariant-loop-place : goal.invariant-loop-place
 invariant-loop-place l = IsCommon l.components l.others l.place

@@ -1,5 +1,5 @@
 use Rattle.script_config.proofs.Loops.{AreDropped}
-use Rattle.script_config.proofs.going.drop_components.Given as goal
+use Rattle.script_config.proofs.removals.drop_components.Given as goal
 
 abbrev pub invariant-loop-place : goal.invariant-loop-place
 invariant-loop-place l = AreDropped l.sid l.components l.place l.initial.edits.items l.edits.items

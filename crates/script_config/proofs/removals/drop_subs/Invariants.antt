@@ -2,7 +2,7 @@ use Rattle.std.proofs.Common.{◌≡◌, ◌++◌, take}
 use Rattle.std.specs.List.{flat_map}
 use Rattle.script_config.specs.Differences.{sub_gone}
 use Rattle.mux_config.specs.Edits.{sub_at}
-use Rattle.script_config.proofs.going.drop_subs.Given as goal
+use Rattle.script_config.proofs.removals.drop_subs.Given as goal
 
 abbrev pub invariant-loop-sub : goal.invariant-loop-sub
 invariant-loop-sub l = (l.edits.items ≡ l.initial.edits.items ++ flat_map (λ s. sub_gone (sub_at s.id l.to) s) (take l.sub-index l.subs))

@@ -1,7 +1,7 @@
 use Rattle.std.proofs.Common.{◌≡◌, List, ℕ, take, subst, sym}
 use Rattle.cli_plans.specs.Success.{IsPlayedInto, Plays}
 use Rattle.cli_plans.proofs.Playbacks.{still_known, read_is, known_is, played_before, done_so}
-use Rattle.cli_plans.proofs.play.show_play.Goals as goal
+use Rattle.cli_plans.proofs.play.run_play.Goals as goal
 
 pub returns-in-Ok-write_playback : goal.returns-in-Ok-write_playback
 returns-in-Ok-write_playback g c =

@@ -2,7 +2,7 @@ use Rattle.std.proofs.Common.{◌≡◌, ◌++◌, take}
 use Rattle.std.specs.List.{flat_map}
 use Rattle.script_config.specs.Differences.{service_gone}
 use Rattle.mux_config.specs.Edits.{service_at}
-use Rattle.script_config.proofs.going.drop_services.Given as goal
+use Rattle.script_config.proofs.removals.drop_services.Given as goal
 
 abbrev pub invariant-loop-service : goal.invariant-loop-service
 invariant-loop-service l = (l.edits.items ≡ l.initial.edits.items ++ flat_map (λ s. service_gone (service_at s.sid l.to) s) (take l.service-index l.services))
