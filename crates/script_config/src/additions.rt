@@ -6,8 +6,8 @@ ghost use Rattle.mux_config.specs.Configuration.{IsPlaced};
 ghost use Rattle.mux_config.specs.Edits.{sub_at, service_at, packet_at};
 ghost use Rattle.script_config.specs.Differences.{sub_new, packet_new, service_grown};
 
-use crate::removals::{common, has_same_profile};
 use crate::making::{add_components, add_packet, add_service, add_sub};
+use crate::removals::{common, has_same_profile};
 use mux_config::{Config, Edit, Packet, Service, Store, Sub};
 use mux_types::sameness::is_same_packet;
 use std::alloc::AllocError;

@@ -6,8 +6,8 @@ ghost use Rattle.mux_config.specs.Configuration.{IsPlaced};
 ghost use Rattle.mux_config.specs.Edits.{sub_at};
 ghost use Rattle.script_config.specs.Differences.{start_altered, rate_altered, alterations, sub_altered};
 
-use crate::removals::has_same_profile;
 use crate::making::put;
+use crate::removals::has_same_profile;
 use mux_config::{Config, Edit, StartAddress, Store, Sub};
 use std::alloc::AllocError;
 

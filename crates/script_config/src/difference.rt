@@ -5,9 +5,9 @@ ghost use Rattle.script_config.specs.Differences.{edits_between};
 ghost use Rattle.script_config.specs.Sequences.{Transform};
 
 use crate::additions::{grow_services, new_packets, new_subs};
-use crate::removals::{cut_services, drop_packets, drop_services, drop_subs};
-use crate::laws;
 use crate::alterations::alter_subs;
+use crate::laws;
+use crate::removals::{cut_services, drop_packets, drop_services, drop_subs};
 use mux_config::{Config, Edit};
 use std::alloc::{AllocError, Global};
 
