@@ -26,7 +26,7 @@ use Rattle.plan_verifier.specs.Typing.{Known}
 use Rattle.plan_runs.specs.Frames.{is_due, is_noticed, is_first_noticed, shown, shown_bytes, frame_bytes, ensemble_sent, sent_entries, sent_rounds, left_after_frame, after_frame, begins_phase}
 use Rattle.plan_runs.proofs.Tracked.{SwapsOn, split_le, some_rounds, page_after_below, turn_is_page}
 use Rattle.plan_runs.proofs.Carries.{LeftBy}
-use Rattle.plan_runs.proofs.Passing.{not_due}
+use Rattle.plan_runs.proofs.Passing.{not_due, some_is}
 use Rattle.plan_runs.proofs.Periods.{Goes, after_goes, sends, sent_period}
 use Rattle.plan_runs.proofs.Right.{pageable}
 use Rattle.plan_runs.proofs.Facts.{Holds, IsCode, airs}
@@ -40,9 +40,11 @@ use Rattle.stream_laws.proofs.Sending.{IsHeadOf, frame_said}
 use Rattle.stream_laws.proofs.AgreeingRuns.{IsBetween}
 use Rattle.stream_laws.proofs.AgreeingFrames.{IsBefore, agrees_by, is_sent, not_sent, SinceFirst, before_of}
 use Rattle.stream_laws.proofs.Named.{made_where_due}
-use Rattle.stream_laws.proofs.Timely.{tuned_by}
+use Rattle.stream_laws.proofs.Timely.{tuned_by, no_counts}
 use Rattle.stream_laws.proofs.NoticeFrames.{due_left}
-use Rattle.stream_laws.proofs.LastHeard.{said_ended, last_grows, last_stays, some_before, at_tuned, last_member, IsSaidOf, row_said}
+use Rattle.stream_laws.proofs.LastHeard.{last_grows, last_stays, some_before, at_tuned, last_member, IsSaidOf, row_said}
+use Rattle.stream_laws.proofs.Following.{begun_left}
+use Rattle.stream_laws.proofs.Clean.{said_ended}
 
 -- ---- how many frames later a page is in turn
 
@@ -230,22 +232,12 @@ aged_after laws r p ts c s holds past before after all bound from to outside old
 abbrev pub IsAging : Plan → List Moment → State → Type 0
 IsAging plan past s = SinceFirst plan past s (AreAged plan past s)
 
-pub begun_left : (notice : ℕ) (left : Option ℕ) → is_first_noticed notice left ≡ true → left ≡ Some notice
-begun_left notice None e = absurd cc
-begun_left notice (Some l) e = ap (λ (k : ℕ). Some k) (eqb-true l notice e)
-
-no_left : {X : Type 0} (k : ℕ) → None ≡ Some k → X
-no_left k e = absurd cc
-
-inner : (a b : ℕ) → Some a ≡ Some b → a ≡ b
-inner a b e = cc
-
 -- no notice had begun before one begins
 pub none_before : (plan : Plan) (count : ℕ) (before left : Option ℕ) (n m : Configuration) → LeftBy plan count before n left m → left ≡ Some plan.notice → (k : ℕ) → before ≡ Some k → k < plan.notice → ⊥
-none_before plan count None left n m g is k e below = no_left k e
+none_before plan count None left n m g is k e below = no_counts k e
 none_before plan count (Some j) left n m g is k e below =
-    let one : j ≡ plan.notice = inner j plan.notice (sym g.0 ∙ is) in
-    let two : j ≡ k = inner j k e in
+    let one : j ≡ plan.notice = some_is j plan.notice (sym g.0 ∙ is) in
+    let two : j ≡ k = some_is j k e in
     omega (arith, one, two, below)
 
 pub left_on : (plan : Plan) (count k : ℕ) (before left : Option ℕ) (n m : Configuration) → before ≡ Some k → LeftBy plan count before n left m → left ≡ Some k

@@ -1,7 +1,7 @@
 -- The entries and the announcements of a run are as the checker requires.
 use Rattle.std.proofs.Common.{◌≡◌, ℕ, ◌==◌, ◌&&◌, ◌||◌, Bool, true, false, cond, not, List, [], ◌∷◌, Option, Some, None, refl, sym, ap, ◌∙◌, subst, inl, inr, ◌⊎◌}
 use Rattle.std.specs.List.{AllByRecursion}
-use Rattle.std.proofs.lemmas.Bool.{false≢true}
+use Rattle.std.proofs.lemmas.Bool.{false≢true, or_left}
 use Rattle.mux_config.specs.Configuration.{Configuration, IsConfiguration}
 use Rattle.mux_config.specs.Change.{change_of, bits_of}
 use Rattle.mux_types.specs.Facts.{Marked}
@@ -54,10 +54,6 @@ sent_ext on c n m (inr h) = no_ensemble (raw_entry m.entry) (whole_of n) (entry_
 pub one_heard : (o : Option Listening) (a : Listening) → where_heard o (hear_marked []) ≡ Some a → o ≡ Some a
 one_heard None a e = e
 one_heard (Some l) a e = e
-
-begins_or : (a b : Bool) → a ≡ true → (a || b) ≡ true
-begins_or true b e = refl
-begins_or false b e = absurd (false≢true e)
 
 pub none_or_some : (o : Option ℕ) → (o ≡ None) ⊎ ((low : ℕ) × (o ≡ Some low))
 none_or_some None = inl refl
@@ -120,8 +116,8 @@ member_fine step period plan u awaited past i h s is_c is_n =
         heard = hears.after;
         is = member_heard past i l h.is ∙ ap (λ b. hear_entry b i.raw l) s.next ∙ ap (λ x. hear_entry s.m.next x l) s.raw ∙ heard;
         knows = tuned_weaker on u.current u.next (Or Nothing (SaidIn false (s.m ∷ []))) Nothing (Or Nothing (SaidIn true (s.m ∷ []))) Nothing awaited hears.after (λ x no_entry. absurd no_entry) (λ x no_entry. absurd no_entry) hears.knows;
-        begun = λ has is_on. member_has_begun past i e ∙ begins_or (has_begun past) _ (h.begun (has_before has) is_on);
-        pending = λ low is. member_has_begun past i e ∙ begins_or (has_begun past) _ (h.pending low is);
+        begun = λ has is_on. member_has_begun past i e ∙ or_left (has_begun past) _ (h.begun (has_before has) is_on);
+        pending = λ low is. member_has_begun past i e ∙ or_left (has_begun past) _ (h.pending low is);
         early = λ is. elim (early_after ((listener_after past).tuned && i.next) (has_begun past) (not (has_ensemble past)) (began_early past) (sym (member_began_early past i e) ∙ is)) [
           | inl now ↦ (not_awaited now.1, sent_next on u.current u.next s.m s.sent (sym s.next ∙ second_holds (listener_after past).tuned i.next now.0))
           | inr before ↦ h.early before

@@ -35,7 +35,8 @@ use Rattle.stream_laws.proofs.Framing.{read_frame}
 use Rattle.stream_laws.proofs.Sending.{IsHeadOf, IsFrameSaid, frame_said}
 use Rattle.stream_laws.proofs.Agreeing.{IsInside, members_fine}
 use Rattle.stream_laws.proofs.Findings.{IsHeadFine, Each, Agrees}
-use Rattle.stream_laws.proofs.AgreeingRuns.{IsBetween, IsHeadOk, head_ok, head_falls, flags_on, none_by, still, on_by, left_of, no_some, zero_or_some, awaits_by}
+use Rattle.stream_laws.proofs.AgreeingRuns.{IsBetween, IsHeadOk, head_ok, head_falls, flags_on, none_by, still, on_by, left_of, zero_or_some, awaits_by}
+use Rattle.stream_laws.proofs.Tracking.{no_some}
 
 -- ---- a FIG 0/0
 

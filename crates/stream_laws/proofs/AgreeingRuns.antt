@@ -30,6 +30,7 @@ use Rattle.plan_runs.proofs.Knowing.{Waits, KnowsBy, WaitsBy}
 use Rattle.plan_runs.proofs.HeardFrames.{KnowsAt, Nothing}
 use Rattle.stream_laws.proofs.Units.{units_fine}
 use Rattle.stream_laws.proofs.Agreeing.{none_or_some}
+use Rattle.stream_laws.proofs.Tracking.{no_some}
 
 -- ---- between two frames
 
@@ -41,9 +42,6 @@ pub record IsBetween (plan : Plan) (past : List Moment) (s : State) : Type 0 whe
   pub pending : (low : ℕ) → heard.awaited ≡ Some low → has_begun past ≡ true
   pub early : began_early past ≡ true → (heard.awaited ≡ None) × (k : ℕ) × (s.left ≡ Some k) × (k < plan.notice)
   pub flags : (low : ℕ) → heard.awaited ≡ Some low → last_flags past ≡ bits_of (change_of s.current s.next)
-
-pub no_some : {X : Type 0} (low : ℕ) (o : Option ℕ) → o ≡ None → o ≡ Some low → X
-no_some low o none some = absurd cc
 
 -- a swap is awaited
 pub record Awaits (plan : Plan) (left : Option ℕ) (n : Configuration) (count low : ℕ) (l : Listening) : Type 0 where

@@ -29,17 +29,19 @@ use Rattle.stream_laws.specs.Faultless.{IsSaidIn}
 use Rattle.stream_laws.specs.Keeping.{entry_like}
 use Rattle.stream_laws.specs.Notices.{AreFibBytes, read_frames, row_of, last_of}
 use Rattle.stream_laws.specs.Announcing.{SwapsAreAnnounced}
-use Rattle.stream_laws.proofs.Clean.{all_left, all_right, IsHanded, after_entry, entry_clean}
+use Rattle.stream_laws.proofs.Clean.{all_left, all_right, IsHanded, after_entry, entry_clean, said_ended}
 use Rattle.stream_laws.proofs.Kept.{first_holds}
 use Rattle.stream_laws.proofs.Rows.{at_hand, notice_rows, hand_after, as_many, EndsWith, ends_with, none_between}
 use Rattle.stream_laws.proofs.Tracking.{IsFormed, AllAnnounce, flagged_rows}
 use Rattle.stream_laws.proofs.Saying.{IsSaidAmong, RowsAreSaid}
 use Rattle.stream_laws.proofs.Formed.{all_formed}
-use Rattle.stream_laws.proofs.Bytes.{map_contains, contains_map}
 use Rattle.stream_laws.proofs.Headers.{FibLaws, header_heard, entry_heard, header_said}
 use Rattle.stream_laws.proofs.Swapping.{IsNoticed, swap_noticed, flagged_at, get_later, get_map, split_rows, in_part}
 use Rattle.stream_laws.proofs.PictureKinds.{all_kinds}
 use Rattle.stream_laws.proofs.Shown.{shows_kinds, entry_shown, flags_of_change}
+use Rattle.mux_types.proofs.Walking.{each_at}
+use Rattle.mux_types.proofs.Members.{mapped_from, mapped_to}
+use Rattle.stream_laws.proofs.Bytes.{each_take}
 
 -- the laws that are used
 pub record Laws : Type 0 where
@@ -74,17 +76,17 @@ one_found x y p few small keys one two =
 part_whole : (r : Reading) (part : List (List (List ℕ))) (rs : List (List ℕ)) (p : Pictured) (c : Configuration) → AllByRecursion AreFibBytes part → IsConfiguration c → ShowsEach p c → Shows p c
     → RowsAreSaid p (map (items_in r) part) rs → HasAll (map key_of (all_entries p)) rs → IsHeardWhole c true (map row_of part)
 part_whole r part rs p c bytes is each shows s all m inside =
-    let fact = map_contains (marked true) (sub_entries c ++ service_entries c) m inside in
+    let fact = mapped_to (marked true) (sub_entries c ++ service_entries c) m inside in
     let e : Entry = fact.0 in
     let shown = entry_shown p c is each e fact.1 in
-    let raw_in : Contains (all_entries p) (raw_entry e) = subst (λ (xs : List Raw). Contains xs (raw_entry e)) (sym shows) (contains_map raw_entry (sub_entries c ++ service_entries c) e fact.1) in
-    let key_in : Contains (map key_of (all_entries p)) (key_of (raw_entry e)) = contains_map key_of (all_entries p) (raw_entry e) raw_in in
+    let raw_in : Contains (all_entries p) (raw_entry e) = subst (λ (xs : List Raw). Contains xs (raw_entry e)) (sym shows) (mapped_from raw_entry (sub_entries c ++ service_entries c) e fact.1) in
+    let key_in : Contains (map key_of (all_entries p)) (key_of (raw_entry e)) = mapped_from key_of (all_entries p) (raw_entry e) raw_in in
     let found = in_part (items_in r) p part rs (key_of (raw_entry e)) s (all (key_of (raw_entry e)) key_in) in
     let among : IsSaidAmong p (items_in r found.0) (key_of (raw_entry e)) = found.2 in
     let same : among.item.raw ≡ raw_entry e = one_found among.item.raw (raw_entry e) p among.small shown.small among.key among.found shown.found in
     let fibs : AreFibBytes found.0 = each_contains AreFibBytes part found.0 bytes found.1 in
     let heard : IsHeardInRow (row_of found.0) (marked true e) = entry_heard r found.0 among.item (marked true e) fibs among.inside same among.marked shown.some shown.within in
-    (row_of found.0, contains_map row_of part found.0 found.1, subst (IsHeardInRow (row_of found.0)) fact.2 heard)
+    (row_of found.0, mapped_from row_of part found.0 found.1, subst (IsHeardInRow (row_of found.0)) fact.2 heard)
 
 -- ---- the frames of the notice
 
@@ -92,12 +94,8 @@ pub frames_counted : (step : ℕ) (frames : List (List Fib)) (past : List Moment
 frames_counted step [] past = omega arith
 frames_counted step (frame ∷ frames) past =
     let rest = frames_counted step frames (after_frame step past frame) in
-    let one : frames_ended (after_frame step past frame) ≡ frames_ended past + 1 = ap (λ n. n + 1) (said_counted (frame_items frame) past) in
+    let one : frames_ended (after_frame step past frame) ≡ frames_ended past + 1 = ap (λ n. n + 1) (said_ended (frame_items frame) past) in
     omega (arith, rest, one)
-  where
-    said_counted : (items : List Item) (past : List Moment) → frames_ended (said items past) ≡ frames_ended past
-    said_counted [] past = refl
-    said_counted (i ∷ is) past = said_counted is (Said i ∷ past)
 
 -- a swap is the first entry of its frame
 pub begins_frame : (step : ℕ) (frames : List (List Fib)) (past : List Moment) (i : Item) (s : IsSaidIn step frames past i) → at_hand past ≡ [] → past ≡ after_frames step [] s.before
@@ -133,11 +131,6 @@ notice_is r step frames past i s hand =
     last_by (map r.read) (take (frames_ended past) frames) ends.earlier ends.notice (length (rows past)) (taken ∙ ends.whole) many in
     sym (map_twice frame_items (map r.read) (last_of (length (rows past)) (take (frames_ended past) frames))) ∙ ap (map frame_items) last ∙ ends.are
 
-pub each_take : {X : Type 0} (P : X → Type 0) (n : ℕ) (xs : List X) → AllByRecursion P xs → AllByRecursion P (take n xs)
-each_take P zero xs all = tt
-each_take P (suc n) [] all = tt
-each_take P (suc n) (x ∷ xs) all = (all.0, each_take P n xs all.1)
-
 pub each_drop : {X : Type 0} (P : X → Type 0) (n : ℕ) (xs : List X) → AllByRecursion P xs → AllByRecursion P (drop n xs)
 each_drop P zero xs all = all
 each_drop P (suc n) [] all = tt
@@ -152,18 +145,13 @@ flagged_in (i ∷ is) e = elim (is_flagged i) as (λ t. is_flagged i ≡ t → (
   | false ↦ λ f any. (let rest = flagged_in is any in (rest.0, contains_later i is rest.0 rest.1, rest.2))
 ] refl e
 
-each_got : {X : Type 0} (P : X → Type 0) (xs : List X) (n : ℕ) (x : X) → AllByRecursion P xs → slice_get xs n ≡ Some x → P x
-each_got P [] n x all h = absurd cc
-each_got P (y ∷ ys) zero x all h = (let same : y ≡ x = cc in subst P same all.0)
-each_got P (y ∷ ys) (suc n) x all h = each_got P ys n x all.1 h
-
 headed : (laws : FibLaws) (r : Reading) (notice : List (List (List ℕ))) (place : ℕ) (fibs : List (List ℕ)) → AllByRecursion AreFibBytes notice → slice_get notice place ≡ Some fibs
     → list_any is_flagged (items_in r fibs) ≡ true → IsHeaded (map row_of notice) place
 headed laws r notice place fibs all got has =
     let found = flagged_in (items_in r fibs) has in (
       row_of fibs,
       get_map row_of notice place fibs got,
-      (found.0.next, ensemble_of found.0, header_heard laws r fibs found.0 (each_got AreFibBytes notice place fibs all got) found.2 found.1),
+      (found.0.next, ensemble_of found.0, header_heard laws r fibs found.0 (each_at AreFibBytes notice place fibs all got) found.2 found.1),
     )
 
 pub three_headers : (laws : FibLaws) (r : Reading) (notice : List (List (List ℕ))) → AllByRecursion AreFibBytes notice → 3 ≤ flagged_rows (map (items_in r) notice) → HasThreeHeaders (map row_of notice)
@@ -221,12 +209,12 @@ announced laws r notice past count now next all n are is_now is_next shows_now s
       whole_in_third = part_whole r ends.right three.third p next (all_right AreFibBytes (begins.left ++ begins.right) ends.right bytes) is_next shows_each shows ends.second three.whole_in_third.1;
       headers = three_headers laws.fibs r notice all (subst (λ (is : List (List Item)). 3 ≤ flagged_rows is) (sym are) n.flagged);
       flagged = λ frame mark e inside heard.
-          let here = map_contains row_of notice frame inside in
+          let here = mapped_to row_of notice frame inside in
           let fibs : AreFibBytes here.0 = each_contains AreFibBytes notice here.0 all here.1 in
           let header = header_said laws.fibs r here.0 mark e fibs (subst (λ (b : List ℕ). IsEnsembleHeardInRow b mark e) (sym here.2) heard) in
           let row : AllAnnounce (last_flags past) (count % 250) (items_in r here.0) =
           each_contains (AllAnnounce (last_flags past) (count % 250)) (map (items_in r) notice) (items_in r here.0)
-          (subst (AllByRecursion (AllAnnounce (last_flags past) (count % 250))) (sym are) n.announced) (contains_map (items_in r) notice here.0 here.1) in
+          (subst (AllByRecursion (AllAnnounce (last_flags past) (count % 250))) (sym are) n.announced) (mapped_from (items_in r) notice here.0 here.1) in
           let says = each_contains (λ j. is_ensemble j ≡ true → ((ensemble_of j).change ≡ last_flags past) × ((ensemble_of j).occurrence ≡ Some (count % 250))) (items_in r here.0) header.item row header.inside header.ensemble in
           (ap (λ (x : EnsembleInformation). x.change) (sym header.says) ∙ says.0 ∙ flags, ap (λ (x : EnsembleInformation). x.occurrence) (sym header.says) ∙ says.1);
     }

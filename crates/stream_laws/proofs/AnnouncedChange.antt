@@ -24,11 +24,12 @@ use Rattle.stream_laws.proofs.Rows.{notice_rows}
 use Rattle.stream_laws.proofs.Tracking.{IsFormed, AllAnnounce, flagged_rows}
 use Rattle.stream_laws.proofs.Saying.{IsSaidAmong, RowsAreSaid}
 use Rattle.stream_laws.proofs.Formed.{all_formed}
-use Rattle.stream_laws.proofs.Bytes.{map_contains, contains_map, at_place, item_from, read_fib}
+use Rattle.stream_laws.proofs.Bytes.{at_place, item_from, read_fib, each_take}
 use Rattle.stream_laws.proofs.Headers.{FibLaws, header_said}
 use Rattle.stream_laws.proofs.Swapping.{IsNoticed, swap_noticed, split_rows, in_part}
 use Rattle.stream_laws.proofs.PictureKinds.{HasKinds, all_kinds}
-use Rattle.stream_laws.proofs.Announced.{items_in, one_found, notice_is, each_take, each_drop, three_headers, three_parts, formed_handed}
+use Rattle.stream_laws.proofs.Announced.{items_in, one_found, notice_is, each_drop, three_headers, three_parts, formed_handed}
+use Rattle.mux_types.proofs.Members.{mapped_from, mapped_to}
 
 -- ---- an entry of a picture
 
@@ -75,18 +76,18 @@ sent r next fibs i all h marked =
       is_fib = subst (λ (b : List ℕ). IsFib b from.figs) (sym here) (read_fib r from.fib from.figs from.read);
       inside = from.fig_in;
       tagged = from.next_is ∙ marked;
-      there = subst (λ (x : Raw). Contains (entries_in (Open from.second from.es)) x) from.raw_is (contains_map (raw_of (from.second % 32) (is_long from.second)) from.es from.bytes from.entry_in);
+      there = subst (λ (x : Raw). Contains (entries_in (Open from.second from.es)) x) from.raw_is (mapped_from (raw_of (from.second % 32) (is_long from.second)) from.es from.bytes from.entry_in);
     }
 
 part_sent : (r : Reading) (part : List (List (List ℕ))) (rs : List (List ℕ)) (p : Pictured) → AllByRecursion AreFibBytes part → HasKinds p
     → RowsAreSaid p (map (items_in r) part) rs → HasAll (map key_of (all_entries p)) rs → IsSentWhole p (map row_of part)
 part_sent r part rs p bytes k s all raw known =
     let is = there p raw k known in
-    let found = in_part (items_in r) p part rs (key_of raw) s (all (key_of raw) (contains_map key_of (all_entries p) raw is.inside)) in
+    let found = in_part (items_in r) p part rs (key_of raw) s (all (key_of raw) (mapped_from key_of (all_entries p) raw is.inside)) in
     let among : IsSaidAmong p (items_in r found.0) (key_of raw) = found.2 in
     let same : among.item.raw ≡ raw = one_found among.item.raw raw p among.small is.small among.key among.found known in (
       row_of found.0,
-      contains_map row_of part found.0 found.1,
+      mapped_from row_of part found.0 found.1,
       subst (IsSent true (row_of found.0)) same (sent r true found.0 among.item (each_contains AreFibBytes part found.0 bytes found.1) among.inside among.marked),
     )
 
@@ -113,12 +114,12 @@ reported laws r notice past count all n are kinds =
       whole_in_third = part_sent r ends.right three.third p (all_right AreFibBytes (begins.left ++ begins.right) ends.right bytes) kinds ends.second three.whole_in_third.1;
       headers = three_headers laws r notice all (subst (λ (is : List (List Item)). 3 ≤ flagged_rows is) (sym are) n.flagged);
       flagged = λ frame mark e inside heard.
-          let here = map_contains row_of notice frame inside in
+          let here = mapped_to row_of notice frame inside in
           let fibs : AreFibBytes here.0 = each_contains AreFibBytes notice here.0 all here.1 in
           let header = header_said laws r here.0 mark e fibs (subst (λ (b : List ℕ). IsEnsembleHeardInRow b mark e) (sym here.2) heard) in
           let row : AllAnnounce (last_flags past) (count % 250) (items_in r here.0) =
           each_contains (AllAnnounce (last_flags past) (count % 250)) (map (items_in r) notice) (items_in r here.0)
-          (subst (AllByRecursion (AllAnnounce (last_flags past) (count % 250))) (sym are) n.announced) (contains_map (items_in r) notice here.0 here.1) in
+          (subst (AllByRecursion (AllAnnounce (last_flags past) (count % 250))) (sym are) n.announced) (mapped_from (items_in r) notice here.0 here.1) in
           let says = each_contains (λ j. is_ensemble j ≡ true → ((ensemble_of j).change ≡ last_flags past) × ((ensemble_of j).occurrence ≡ Some (count % 250))) (items_in r here.0) header.item row header.inside header.ensemble in
           (ap (λ (x : EnsembleInformation). x.change) (sym header.says) ∙ says.0 ∙ n.right.flags, ap (λ (x : EnsembleInformation). x.occurrence) (sym header.says) ∙ says.1);
     }

@@ -38,10 +38,10 @@ use Rattle.stream_laws.proofs.AgreeingRuns.{IsBetween}
 use Rattle.stream_laws.proofs.AgreeingFrames.{SinceFirst}
 use Rattle.stream_laws.proofs.Findings.{Each, IsKnown}
 use Rattle.stream_laws.proofs.NoticeFrames.{due_left, next_whole}
-use Rattle.stream_laws.proofs.LastHeard.{said_ended}
-use Rattle.stream_laws.proofs.Following.{Had, Follows, fibs_heard}
-use Rattle.stream_laws.proofs.Ages.{ComesIn, comes_in, comes_before, FrameLaws, current_inside, begun_left, none_before, left_on}
+use Rattle.stream_laws.proofs.Following.{Had, Follows, fibs_heard, begun_left}
+use Rattle.stream_laws.proofs.Ages.{ComesIn, comes_in, comes_before, FrameLaws, current_inside, none_before, left_on}
 use Rattle.stream_laws.proofs.Settling.{Enters, frame_settled, headed_settles, swap_where_due, still_settles}
+use Rattle.stream_laws.proofs.Clean.{said_ended}
 
 -- ---- which entries are known
 

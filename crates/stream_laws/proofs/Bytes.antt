@@ -15,6 +15,7 @@ use Rattle.stream_check.specs.Frames.{Fib, Reads, Reading}
 use Rattle.stream_check.specs.History.{Item, items_of, fig_items, figs_items, fib_items, fibs_items, frame_items}
 use Rattle.stream_laws.specs.Notices.{IsFibBytes, AreFibBytes, row_of}
 use Rattle.stream_laws.proofs.Clean.{all_left, all_right}
+use Rattle.mux_types.proofs.Members.{mapped_from, mapped_to}
 
 -- ---- the FIBs of a row
 
@@ -49,20 +50,6 @@ in_row size fibs place figs all is = elim (cases_lt place (length fibs)) [
 
 -- ---- maps
 
-pub contains_map : {X Y : Type 0} (f : X → Y) (xs : List X) (x : X) → Contains xs x → Contains (map f xs) (f x)
-contains_map f [] x h = absurd (contains_none x h)
-contains_map f (y ∷ ys) x h = elim (contains_cases y ys x h) [
-  | inl same ↦ subst (λ z. Contains (map f (y ∷ ys)) (f z)) same (contains_first (f y) (map f ys))
-  | inr more ↦ contains_later (f y) (map f ys) (f x) (contains_map f ys x more)
-]
-
-pub map_contains : {X Y : Type 0} (f : X → Y) (xs : List X) (y : Y) → Contains (map f xs) y → (x : X) × Contains xs x × (f x ≡ y)
-map_contains f [] y h = absurd (contains_none y h)
-map_contains f (x ∷ xs) y h = elim (contains_cases (f x) (map f xs) y h) [
-  | inl same ↦ (x, contains_first x xs, same)
-  | inr more ↦ (let there = map_contains f xs y more in (there.0, contains_later x xs there.0 there.1, there.2))
-]
-
 -- ---- an entry, and the FIB that has it
 
 pub record IsFrom (r : Reading) (fibs : List (List ℕ)) (i : Item) : Type 0 where
@@ -95,8 +82,8 @@ item_of first next raw = record { first = first; next = next; raw = raw }
 
 in_fig : (first : Bool) (f : Fig) (fs : List Fig) (i : Item) → Contains (fig_items first f) i → InFigs (f ∷ fs) i
 in_fig first (Open second es) fs i h =
-    let one = map_contains (item_of first (is_next second)) (entries_in (Open second es)) i h in
-    let two = map_contains (raw_of (second % 32) (is_long second)) es one.0 one.1 in
+    let one = mapped_to (item_of first (is_next second)) (entries_in (Open second es)) i h in
+    let two = mapped_to (raw_of (second % 32) (is_long second)) es one.0 one.1 in
     record {
       second = second;
       es = es;
@@ -140,7 +127,7 @@ read_fib r fib figs e = subst (Reads fib) e (r.right fib)
 -- ---- an entry of a FIB is an entry of the frame
 
 fig_said : (first next : Bool) (raw : Raw) (raws : List Raw) → Contains raws raw → Contains (items_of first next raws) (item_of first next raw)
-fig_said first next raw raws h = contains_map (item_of first next) raws raw h
+fig_said first next raw raws h = mapped_from (item_of first next) raws raw h
 
 figs_said : (first : Bool) (figs : List Fig) (second : ℕ) (es : List (List ℕ)) (bytes : List ℕ) → Contains figs (Open second es) → Contains es bytes
     → (b : Bool) × Contains (figs_items first figs) (item_of b (is_next second) (raw_of (second % 32) (is_long second) bytes))
@@ -150,7 +137,7 @@ figs_said first (f ∷ fs) second es bytes h e = elim (contains_cases f fs (Open
     first,
     subst (λ (g : Fig). Contains (fig_items first g ++ figs_items false fs) (item_of first (is_next second) (raw_of (second % 32) (is_long second) bytes))) (sym same)
         (Contains-append_left (fig_items first (Open second es)) (figs_items false fs) (item_of first (is_next second) (raw_of (second % 32) (is_long second) bytes))
-        (fig_said first (is_next second) (raw_of (second % 32) (is_long second) bytes) (entries_in (Open second es)) (contains_map (raw_of (second % 32) (is_long second)) es bytes e))),
+        (fig_said first (is_next second) (raw_of (second % 32) (is_long second) bytes) (entries_in (Open second es)) (mapped_from (raw_of (second % 32) (is_long second)) es bytes e))),
   )
   | inr more ↦ (let there = figs_said false fs second es bytes more e in
       (there.0, Contains-append_right (fig_items first f) (figs_items false fs) (item_of there.0 (is_next second) (raw_of (second % 32) (is_long second) bytes)) there.1))
@@ -171,9 +158,12 @@ fibs_said r first (g ∷ gs) fib figs second es bytes inside read f e = elim (co
       (there.0, Contains-append_right (fib_items first (r.read g)) (fibs_items false (map r.read gs)) (item_of there.0 (is_next second) (raw_of (second % 32) (is_long second) bytes)) there.1))
 ]
 
-same_figs : OneList → (r : Reading) (fib : List ℕ) (figs : List Fig) → IsFib fib figs → (read : Fib) → r.read fib ≡ read → Reads fib read → r.read fib ≡ Some figs
-same_figs one r fib figs is None e h = absurd (h figs is)
-same_figs one r fib figs is (Some found) e h = e ∙ ap Some (one fib found figs h is)
+read_as : OneList → (r : Reading) (bytes : List ℕ) (figs : List Fig) → IsFib bytes figs → (read : Fib) → r.read bytes ≡ read → Reads bytes read → r.read bytes ≡ Some figs
+read_as one r bytes figs is None e h = absurd (h figs is)
+read_as one r bytes figs is (Some found) e h = e ∙ ap Some (one bytes found figs h is)
+
+pub is_read : OneList → (r : Reading) (bytes : List ℕ) (figs : List Fig) → IsFib bytes figs → r.read bytes ≡ Some figs
+is_read one r bytes figs is = read_as one r bytes figs is (r.read bytes) refl (r.right bytes)
 
 -- an entry in a FIB of the row
 pub said_in : FibHas32Bytes → OneList → (r : Reading) (fibs : List (List ℕ)) (place : ℕ) (figs : List Fig) (second : ℕ) (es : List (List ℕ)) (bytes : List ℕ) → AreFibBytes fibs
@@ -181,11 +171,11 @@ pub said_in : FibHas32Bytes → OneList → (r : Reading) (fibs : List (List ℕ
     → (b : Bool) × Contains (frame_items (map r.read fibs)) (item_of b (is_next second) (raw_of (second % 32) (is_long second) bytes))
 said_in size one r fibs place figs second es bytes all is f e =
     let fib : List ℕ = fib_at (row_of fibs) place in
-    fibs_said r true fibs fib figs second es bytes (in_row size fibs place figs all is) (same_figs one r fib figs is (r.read fib) refl (r.right fib)) f e
+    fibs_said r true fibs fib figs second es bytes (in_row size fibs place figs all is) (is_read one r fib figs is) f e
 
 -- ---- a FIG, and an entry of it
 
-each_take : {X : Type 0} (P : X → Type 0) (n : ℕ) (xs : List X) → AllByRecursion P xs → AllByRecursion P (take n xs)
+pub each_take : {X : Type 0} (P : X → Type 0) (n : ℕ) (xs : List X) → AllByRecursion P xs → AllByRecursion P (take n xs)
 each_take P zero xs all = tt
 each_take P (suc n) [] all = tt
 each_take P (suc n) (x ∷ xs) all = (all.0, each_take P n xs all.1)

@@ -1,19 +1,22 @@
 -- Streams without a fault, entry by entry.
-use Rattle.std.proofs.Common.{◌≡◌, ℕ, true, false, cond, List, [], ◌∷◌, ◌++◌, map, refl, sym, subst}
+use Rattle.std.proofs.Common.{ℕ, true, false, cond, List, [], ◌∷◌, ◌++◌, subst, ◌≡◌, map, refl, sym}
 use Rattle.std.specs.List.{AllByRecursion}
-use Rattle.std.proofs.lemmas.Bool.{false≢true}
 use Rattle.stream_check.specs.declared.contradiction.Contradiction.{Contradiction}
 use Rattle.stream_check.specs.declared.finding.What.{What}
+use Rattle.stream_check.specs.Contradictions.{new_findings, noted_with}
+use Rattle.stream_check.specs.Frames.{Fib}
+use Rattle.stream_check.specs.History.{Item, Moment, Said, frame_items, Ended, said, due, frames_ended}
+use Rattle.stream_check.specs.Rules.{known_of, findings_at, has_no_room}
+use Rattle.stream_check.specs.Sent.{Sent, EntrySent, FigSent, frame_sent, items_in, contradictions_at, noted_at}
+use Rattle.stream_check.specs.Stream.{findings_at_items, findings_at_sent, runs_full, frame_findings, frame_at, findings_in, noted_in, after_frame, findings_from, after_frames, frames_full}
+use Rattle.stream_check.proofs.Sending.{frame_has_items}
+use Rattle.stream_check.proofs.Framing.{all_append}
+use Rattle.std.proofs.lemmas.Bool.{false≢true}
 use Rattle.stream_check.specs.declared.finding.Finding.{Finding}
 use Rattle.stream_check.specs.declared.reporting.FrameAt.{FrameAt}
 use Rattle.stream_check.specs.Reporting.{in_frame}
-use Rattle.stream_check.specs.Frames.{Fib}
-use Rattle.stream_check.specs.History.{Item, Moment, Said, Ended, said, frame_items, due}
-use Rattle.stream_check.specs.Sent.{frame_sent}
-use Rattle.stream_check.specs.Rules.{known_of, findings_at, has_no_room}
-use Rattle.stream_check.specs.Stream.{findings_at_items, findings_at_sent, runs_full, frame_findings, frame_at, findings_in, noted_in, after_frame, findings_from, after_frames, frames_full}
-use Rattle.stream_laws.proofs.Mentioning.{frame_holds}
 use Rattle.stream_laws.specs.Faultless.{IsNoFault, IsFaultless, IsSaidIn}
+use Rattle.stream_check.proofs.Saying.{said_append}
 
 pub all_left : {X : Type 0} (P : X → Type 0) (xs ys : List X) → AllByRecursion P (xs ++ ys) → AllByRecursion P xs
 all_left P [] ys all = tt
@@ -22,6 +25,27 @@ all_left P (x ∷ xs) ys all = (all.0, all_left P xs ys all.1)
 pub all_right : {X : Type 0} (P : X → Type 0) (xs ys : List X) → AllByRecursion P (xs ++ ys) → AllByRecursion P ys
 all_right P [] ys all = all
 all_right P (x ∷ xs) ys all = all_right P xs ys all.1
+
+-- what holds of all findings holds of those at entries
+items_hold : (P : What → Type 0) (step period : ℕ) (sent : List Sent) (past : List Moment) (noted : List Contradiction)
+    → AllByRecursion P (findings_at_sent step period past noted sent) → AllByRecursion P (findings_at_items step period past (items_in sent))
+items_hold P step period [] past noted all = tt
+items_hold P step period (FigSent fig ∷ ss) past noted all =
+    let some = contradictions_at period past fig in
+    items_hold P step period ss past (noted_with noted some) (all_right P (new_findings noted some) _ all)
+items_hold P step period (EntrySent i ∷ ss) past noted all =
+    let here = findings_at (known_of step period past) i in
+    let now = noted_at past i noted in
+    elim (has_no_room (known_of step period past) i) as (λ t. AllByRecursion P (cond t [] (here ++ findings_at_sent step period (Said i ∷ past) now ss))
+    → AllByRecursion P (cond t [] (here ++ findings_at_items step period (Said i ∷ past) (items_in ss)))) [
+      | true ↦ λ a. tt
+      | false ↦ λ a. all_append P here _ (all_left P here _ a) (items_hold P step period ss (Said i ∷ past) now (all_right P here _ a))
+    ] all
+
+pub frame_holds : (P : What → Type 0) (step period : ℕ) (frame : List Fib) (past : List Moment) (noted : List Contradiction)
+    → AllByRecursion P (findings_at_sent step period past noted (frame_sent frame)) → AllByRecursion P (findings_at_items step period past (frame_items frame))
+frame_holds P step period frame past noted all =
+    subst (λ (is : List Item). AllByRecursion P (findings_at_items step period past is)) (frame_has_items frame) (items_hold P step period (frame_sent frame) past noted all)
 
 -- ---- each entry
 
@@ -87,9 +111,9 @@ pub frames_twice : (step : ℕ) (xs ys : List (List Fib)) (past : List Moment) �
 frames_twice step [] ys past = refl
 frames_twice step (x ∷ xs) ys past = frames_twice step xs ys (after_frame step past x)
 
-pub said_twice : (xs ys : List Item) (past : List Moment) → said (xs ++ ys) past ≡ said ys (said xs past)
-said_twice [] ys past = refl
-said_twice (x ∷ xs) ys past = said_twice xs ys (Said x ∷ past)
+pub said_ended : (items : List Item) (past : List Moment) → frames_ended (said items past) ≡ frames_ended past
+said_ended [] past = refl
+said_ended (i ∷ is) past = said_ended is (Said i ∷ past)
 
 -- such a property holds after each entry
 pub after_entry : (P : List Moment → Type 0) → IsHanded P → (step : ℕ) (frames : List (List Fib)) (past : List Moment) (i : Item) → IsSaidIn step frames past i
@@ -100,7 +124,7 @@ after_entry P h step frames past i s p =
     subst P (frames_twice step s.before (s.frame ∷ s.after) []) (subst (λ (fs : List (List Fib)). P (after_frames step [] fs)) s.frames_are p) in
     let framed : P (said (frame_items s.frame) start) = h.by_frame _ (said (frame_items s.frame) start) (before_frames P h step s.after (after_frame step start s.frame) whole) in
     let split : P (said (s.front ++ i ∷ s.back) start) = subst (λ (is : List Item). P (said is start)) s.items_are framed in
-    let parted : P (said s.back (Said i ∷ said s.front start)) = subst P (said_twice s.front (i ∷ s.back) start) split in
+    let parted : P (said s.back (Said i ∷ said s.front start)) = subst P (said_append s.front (i ∷ s.back) start) split in
     subst (λ (l : List Moment). P (Said i ∷ l)) (sym s.past_is) (before_said P h s.back (Said i ∷ said s.front start) parted)
 
 pub clean_handed : (step period : ℕ) → IsHanded (IsClean step period)

@@ -30,10 +30,11 @@ use Rattle.stream_laws.specs.Framing.{frames_of}
 use Rattle.stream_laws.specs.Notices.{read_frames}
 use Rattle.stream_laws.specs.Delivered.{RunsAreCleared}
 use Rattle.stream_laws.proofs.Clean.{all_right}
-use Rattle.stream_laws.proofs.Framing.{IsQuiet, later_fibs, first_of_fibs, later_quiet, all_quiet, all_append, none_held, are_frames, begins, flat_read}
+use Rattle.stream_laws.proofs.Framing.{IsQuiet, later_fibs, first_of_fibs, later_quiet, all_quiet, none_held, are_frames, begins, flat_read}
 use Rattle.stream_check.proofs.Fronts.{front_framing}
 use Rattle.stream_laws.proofs.Fronts.{faultless_before}
 use Rattle.stream_laws.proofs.Pieces.{piece_of_run}
+use Rattle.stream_check.proofs.Framing.{all_append}
 
 -- ---- a run, from any of its FIBs on
 
@@ -164,7 +165,7 @@ end_framed one heard plain r p s period rest played long h = by h.begun
 
 -- ---- a checker of a piece
 
-all_of : (xs ys : List Finding) → All xs ≡ All ys → xs ≡ ys
+pub all_of : (xs ys : List Finding) → All xs ≡ All ys → xs ≡ ys
 all_of xs ys e = cc
 
 pub runs_are_cleared : OneList → EnsembleIsHeard → HeadlineHolds → RunsAreFaultless → RunsAreCleared

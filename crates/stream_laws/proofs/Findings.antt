@@ -26,7 +26,7 @@ use Rattle.stream_laws.specs.Sorts.{is_of_period, IsFreeUnlessShort}
 use Rattle.stream_laws.proofs.Kept.{first_holds}
 use Rattle.stream_laws.proofs.OpenFrames.{IsOpenFib, found_open}
 use Rattle.stream_laws.proofs.Rows.{HasNone}
-use Rattle.stream_laws.proofs.Framing.{all_append}
+use Rattle.stream_check.proofs.Framing.{all_append}
 
 abbrev pub AreFree : (IsLong : Type 0) → List What → Type 0
 AreFree L ws = AllByRecursion (IsFreeUnlessShort L) ws

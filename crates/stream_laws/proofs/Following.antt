@@ -35,14 +35,15 @@ use Rattle.plan_runs.proofs.Knowing.{InFrame, Still, knows_after}
 use Rattle.plan_runs.proofs.HeardFrame.{zero_or_not, RowSaid, fibs_in, frame_heard, enters, enters_swap, enters_untuned}
 use Rattle.plan_runs.proofs.HeardFrames.{KnowsAt, Nothing, knows_weaker}
 use Rattle.plan_runs.proofs.CurrentKnown.{SomeSaid, none_said}
-use Rattle.stream_laws.proofs.Clean.{said_twice}
 use Rattle.stream_laws.proofs.Noting.{ensemble_made}
-use Rattle.stream_laws.proofs.Framing.{is_read, read_frame}
+use Rattle.stream_laws.proofs.Framing.{read_frame}
 use Rattle.stream_laws.proofs.Sending.{IsHeadOf, frame_said}
 use Rattle.stream_laws.proofs.AgreeingRuns.{IsBetween, on_air}
 use Rattle.stream_laws.proofs.AgreeingFrames.{is_sent, not_sent, SinceFirst}
 use Rattle.stream_laws.proofs.Named.{none_of, made_where_due}
 use Rattle.stream_laws.proofs.Timely.{said_cut, cut_is, flagged_where, tuned_by}
+use Rattle.stream_check.proofs.Saying.{said_append}
+use Rattle.stream_laws.proofs.Bytes.{is_read}
 
 -- ---- hearing the entries of FIBs one after another
 
@@ -71,7 +72,7 @@ fig_heard first (Other given) past = nothing_more (listening past) (hear_fig (Ot
 figs_heard : (first : Bool) (figs : List Fig) (past : List Moment) → listening (said (figs_items first figs) past) ≡ where_heard (listening past) (hear_figs figs)
 figs_heard first [] past = nothing_more (listening past) (hear_figs []) (λ l. refl)
 figs_heard first (f ∷ fs) past =
-    ap listening (said_twice (fig_items first f) (figs_items false fs) past)
+    ap listening (said_append (fig_items first f) (figs_items false fs) past)
     ∙ figs_heard false fs (said (fig_items first f) past)
     ∙ ap (λ o. where_heard o (hear_figs fs)) (fig_heard first f past)
     ∙ then_joined (listening past) (hear_fig f) (hear_figs fs) (hear_figs (f ∷ fs)) (λ l. refl)
@@ -83,13 +84,13 @@ fibs_heard one r first (f ∷ fs) past l after (between, here, rest) is =
     let read : r.read f ≡ Some here.0 = is_read one r f here.0 here.1 in
     let now : listening (said (fib_items first (r.read f)) past) ≡ Some between =
     ap (λ (fib : Fib). listening (said (fib_items first fib) past)) read ∙ figs_heard first here.0 past ∙ ap (λ o. where_heard o (hear_figs here.0)) is ∙ here.2 in
-    ap listening (said_twice (fib_items first (r.read f)) (fibs_items false (map r.read fs)) past)
+    ap listening (said_append (fib_items first (r.read f)) (fibs_items false (map r.read fs)) past)
     ∙ fibs_heard one r false fs (said (fib_items first (r.read f)) past) between after rest now
 
 -- ---- what was heard of the notice, one frame later
 
-said_append : (xs ys : List (List ℕ)) (flag : Bool) (x : Raw) → SomeSaid (xs ++ ys) flag x → SomeSaid xs flag x ⊎ SomeSaid ys flag x
-said_append xs ys flag x (e, is, (f, inside, heard)) =
+said_of_two : (xs ys : List (List ℕ)) (flag : Bool) (x : Raw) → SomeSaid (xs ++ ys) flag x → SomeSaid xs flag x ⊎ SomeSaid ys flag x
+said_of_two xs ys flag x (e, is, (f, inside, heard)) =
     elim (Contains-append_cases xs ys f inside) [
       | inl here ↦ inl (e, is, (f, here, heard))
       | inr there ↦ inr (e, is, (f, there, heard))
@@ -99,7 +100,7 @@ said_one : (frame : List ℕ) (flag : Bool) (x : Raw) → SomeSaid (frame ∷ []
 said_one frame flag x (e, is, (f, (zero, lt, same), heard)) = (e, is, subst (λ (b : List ℕ). IsHeardInRow b (marked flag e)) (sym same) heard)
 said_one frame flag x (e, is, (f, (suc k, lt, same), heard)) = absurd (omega (arith, lt))
 
-begun_left : (notice : ℕ) (left : Option ℕ) → is_first_noticed notice left ≡ true → left ≡ Some notice
+pub begun_left : (notice : ℕ) (left : Option ℕ) → is_first_noticed notice left ≡ true → left ≡ Some notice
 begun_left notice None e = absurd cc
 begun_left notice (Some l) e = ap (λ (k : ℕ). Some k) (eqb-true l notice e)
 
@@ -123,7 +124,7 @@ swap_heard true heard frame flag x h = said_one frame flag x h
 swap_heard false heard frame flag x h = absurd (none_said flag x h)
 
 still_heard : (on : Bool) (heard : List (List ℕ)) (frame : List ℕ) (flag : Bool) (x : Raw) → SomeSaid (more_heard on false heard frame) flag x → SomeSaid heard flag x ⊎ RowSaid frame flag x
-still_heard true heard frame flag x h = elim (said_append heard (frame ∷ []) flag x h) [ inl old ↦ inl old | inr now ↦ inr (said_one frame flag x now) ]
+still_heard true heard frame flag x h = elim (said_of_two heard (frame ∷ []) flag x h) [ inl old ↦ inl old | inr now ↦ inr (said_one frame flag x now) ]
 still_heard false heard frame flag x h = inl h
 
 -- what was heard before belongs to a notice that continues

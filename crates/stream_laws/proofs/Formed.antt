@@ -2,7 +2,7 @@
 use Rattle.std.proofs.Common.{◌≡◌, ℕ, ◌<◌, ◌%◌, ◌/◌, ◌==◌, ◌&&◌, Bool, true, false, nat_lt, List, [], ◌∷◌, ◌++◌, Some, None, refl, sym, ◌∙◌, subst, inl, inr}
 use Rattle.std.specs.Prelude.{map}
 use Rattle.std.specs.List.{AllByRecursion}
-use Rattle.std.proofs.lemmas.Bool.{false≢true, ltb-true}
+use Rattle.std.proofs.lemmas.Bool.{false≢true, ltb-true, and_right}
 use Rattle.std.proofs.lemmas.Bool.Decides.{eqb_tells}
 use Rattle.fib_codec.specs.Grammar.{Fig, Open, Other, IsFig, AreFigs, is_next, is_open, is_long}
 use Rattle.fib_reader.specs.Raw.{raw_of}
@@ -11,6 +11,8 @@ use Rattle.stream_check.specs.History.{Item, Moment, Said, said, items_of, fig_i
 use Rattle.stream_check.specs.Stream.{after_frame, after_frames}
 use Rattle.stream_laws.proofs.Rows.{at_hand}
 use Rattle.stream_laws.proofs.Tracking.{IsFormed}
+use Rattle.stream_check.proofs.Framing.{all_append}
+use Rattle.stream_laws.proofs.Kept.{second_holds}
 
 -- an entry outside of the first FIG, or other than FIG 0/0
 abbrev IsLater : Item → Type 0
@@ -24,13 +26,9 @@ later_ordered : (is : List Item) → AllByRecursion IsLater is → AreOrdered is
 later_ordered [] all = tt
 later_ordered (i ∷ is) all = (all.0.0, all.1)
 
-pub both_all : {X : Type 0} (P : X → Type 0) (xs ys : List X) → AllByRecursion P xs → AllByRecursion P ys → AllByRecursion P (xs ++ ys)
-both_all P [] ys p q = q
-both_all P (x ∷ xs) ys p q = (p.0, both_all P xs ys p.1 q)
-
 ordered_more : (xs ys : List Item) → AreOrdered xs → AllByRecursion IsLater ys → AreOrdered (xs ++ ys)
 ordered_more [] ys a all = later_ordered ys all
-ordered_more (x ∷ xs) ys a all = (a.0, both_all IsLater xs ys a.1 all)
+ordered_more (x ∷ xs) ys a all = (a.0, all_append IsLater xs ys a.1 all)
 
 -- ---- of a FIG
 
@@ -40,21 +38,13 @@ not_first next long ext (e ∷ es) small = ((small, refl), not_first next long e
 
 no_ensemble : (first next long : Bool) (ext : ℕ) (es : List (List ℕ)) → ext < 4 → (ext == 0) ≡ false → AllByRecursion IsLater (items_of first next (map (raw_of ext long) es))
 no_ensemble first next long ext [] small other = tt
-no_ensemble first next long ext (e ∷ es) small other = ((small, never first (ext == 0) other), no_ensemble first next long ext es small other)
-  where
-    never : (a b : Bool) → b ≡ false → (a && b) ≡ false
-    never true b e = e
-    never false b e = refl
+no_ensemble first next long ext (e ∷ es) small other = ((small, and_right first (ext == 0) other), no_ensemble first next long ext es small other)
 
 one_alone : (next long : Bool) (ext : ℕ) (e : List ℕ) → ext < 4 → AreOrdered (items_of true next (map (raw_of ext long) (e ∷ [])))
 one_alone next long ext e small = (small, tt)
 
-second_true : (a b : Bool) → (a && b) ≡ true → b ≡ true
-second_true true b h = h
-second_true false b h = absurd (false≢true h)
-
 pub open_small : (second : ℕ) → is_open second ≡ true → second % 32 < 4
-open_small second h = ltb-true (second % 32) 4 (second_true (second / 64 % 2 == 0) (nat_lt (second % 32) 4) h)
+open_small second h = ltb-true (second % 32) 4 (second_holds (second / 64 % 2 == 0) (nat_lt (second % 32) 4) h)
 
 fig_later : (bytes : List ℕ) (f : Fig) → IsFig bytes f → AllByRecursion IsLater (fig_items false f)
 fig_later bytes (Open second es) h = not_first (is_next second) (is_long second) (second % 32) es (open_small second h.3)
@@ -74,7 +64,7 @@ fig_ordered bytes (Other given) h = tt
 
 figs_later : (bytes : List ℕ) (fs : List Fig) → AreFigs bytes fs → AllByRecursion IsLater (figs_items false fs)
 figs_later bytes [] h = tt
-figs_later bytes (f ∷ fs) h = both_all IsLater (fig_items false f) (figs_items false fs) (fig_later h.0 f h.3) (figs_later h.1 fs h.4)
+figs_later bytes (f ∷ fs) h = all_append IsLater (fig_items false f) (figs_items false fs) (fig_later h.0 f h.3) (figs_later h.1 fs h.4)
 
 figs_ordered : (bytes : List ℕ) (fs : List Fig) → AreFigs bytes fs → AreOrdered (figs_items true fs)
 figs_ordered bytes [] h = tt
@@ -90,7 +80,7 @@ IsRead (Some figs) = (bytes : List ℕ) × AreFigs bytes figs
 fibs_later : (fibs : List Fib) → AllByRecursion IsRead fibs → AllByRecursion IsLater (fibs_items false fibs)
 fibs_later [] all = tt
 fibs_later (None ∷ fibs) all = fibs_later fibs all.1
-fibs_later (Some figs ∷ fibs) all = both_all IsLater (figs_items false figs) (fibs_items false fibs) (figs_later all.0.0 figs all.0.1) (fibs_later fibs all.1)
+fibs_later (Some figs ∷ fibs) all = all_append IsLater (figs_items false figs) (fibs_items false fibs) (figs_later all.0.0 figs all.0.1) (fibs_later fibs all.1)
 
 pub frame_ordered : (frame : List Fib) → AllByRecursion IsRead frame → AreOrdered (frame_items frame)
 frame_ordered [] all = tt

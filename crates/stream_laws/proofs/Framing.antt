@@ -12,14 +12,14 @@ use Rattle.mux_types.proofs.Elements.{contains_cases, contains_none}
 use Rattle.mux_types.specs.Entries.{EnsembleInformation}
 use Rattle.mux_types.specs.Facts.{marked}
 use Rattle.mux_types.specs.declared.entry.Entry.TheVariants.{Ensemble as EnsembleOf}
-use Rattle.fib_codec.specs.Grammar.{Fig, Open, Other, IsFib, IsFig, OneList, is_next, is_long}
+use Rattle.fib_codec.specs.Grammar.{Fig, Open, Other, IsFig, OneList, is_next, is_long}
 use Rattle.fib_codec.specs.Heard.{IsInFig, fib_at}
 use Rattle.fib_codec.specs.declared.modes.Mode.{Mode}
 use Rattle.fib_codec.specs.declared.modes.Mode.TheVariants.{I, II, III, IV}
 use Rattle.fib_codec.specs.Modes.{fib_count, count_step}
 use Rattle.fib_reader.specs.Raw.{raw_of, entries_in, ensemble_in}
 use Rattle.fib_reader.specs.Laws.{EnsembleIsHeard}
-use Rattle.stream_check.specs.Frames.{Fib, Reads, Reading, is_damaged, first_raw, first_or, first_in_figs, first_in, opening_in_figs, opening, is_there, begins_with_ensemble, holds_ensemble, IsOneFrame, AreFrames, HoldsFirst}
+use Rattle.stream_check.specs.Frames.{Fib, Reading, is_damaged, first_raw, first_or, first_in_figs, first_in, opening_in_figs, opening, is_there, begins_with_ensemble, holds_ensemble, IsOneFrame, AreFrames, HoldsFirst}
 use Rattle.stream_check.specs.History.{Item, items_of, fig_items, figs_items, fib_items, fibs_items}
 use Rattle.plan_code.specs.declared.plan.Plan.{Plan}
 use Rattle.plan_code.specs.Program.{Program}
@@ -36,6 +36,8 @@ use Rattle.plan_runs.specs.Announced.{RunsJoin}
 use Rattle.stream_laws.specs.Notices.{read_frames}
 use Rattle.stream_laws.specs.Framing.{frames_of, RunsAreFramed}
 use Rattle.stream_laws.proofs.Rows.{HasNone}
+use Rattle.stream_check.proofs.Framing.{all_append}
+use Rattle.stream_laws.proofs.Bytes.{is_read}
 
 -- ---- a FIB
 
@@ -54,13 +56,6 @@ figs_unheaded (f ∷ fs) all = ap (λ o. first_or o (first_in_figs fs)) (fig_unh
 opening_unheaded : (figs : List Fig) → AllByRecursion IsNoHeader figs → opening_in_figs figs ≡ None
 opening_unheaded [] all = refl
 opening_unheaded (f ∷ fs) all = fig_unheaded f all.0
-
-read_as : OneList → (r : Reading) (bytes : List ℕ) (figs : List Fig) → IsFib bytes figs → (read : Fib) → r.read bytes ≡ read → Reads bytes read → r.read bytes ≡ Some figs
-read_as one r bytes figs is None e h = absurd (h figs is)
-read_as one r bytes figs is (Some found) e h = e ∙ ap Some (one bytes found figs h is)
-
-pub is_read : OneList → (r : Reading) (bytes : List ℕ) (figs : List Fig) → IsFib bytes figs → r.read bytes ≡ Some figs
-is_read one r bytes figs is = read_as one r bytes figs is (r.read bytes) refl (r.right bytes)
 
 -- a FIB without a FIG 0/0
 pub record IsQuiet (fib : Fib) : Type 0 where
@@ -207,10 +202,6 @@ pub all_quiet : OneList → (r : Reading) (plan : Plan) (u : State) (frame : Lis
 all_quiet one r plan u frame h off =
     subst (λ (fs : List (List ℕ)). AllByRecursion IsQuiet (map r.read fs)) (sym (first_of_fibs plan.layout frame))
     (quiet_fib one r (fib_at frame 0) (h.unheaded off), later_quiet one r plan u frame h)
-
-pub all_append : {X : Type 0} (P : X → Type 0) (xs ys : List X) → AllByRecursion P xs → AllByRecursion P ys → AllByRecursion P (xs ++ ys)
-all_append P [] ys a b = b
-all_append P (x ∷ xs) ys a b = (a.0, all_append P xs ys a.1 b)
 
 -- ---- frames of a run
 

@@ -9,7 +9,7 @@ use Rattle.stream_check.specs.Stream.{runs_full, findings_in, noted_in, after_fr
 use Rattle.stream_check.proofs.Fronts.{room_before}
 use Rattle.stream_laws.specs.Faultless.{IsNoFault, IsFaultless}
 use Rattle.stream_laws.proofs.Clean.{all_left, all_right}
-use Rattle.stream_laws.proofs.Formed.{both_all}
+use Rattle.stream_check.proofs.Framing.{all_append}
 
 abbrev AreNoFaults : List Finding → Type 0
 AreNoFaults fs = AllByRecursion (λ found. IsNoFault found.what) fs
@@ -20,7 +20,7 @@ plain_before size step period past noted (g ∷ gs) more all =
     let here = findings_in size step period past noted g in
     let then = after_frame step past g in
     let now = noted_in period past noted g in
-    both_all (λ found. IsNoFault found.what) here _
+    all_append (λ found. IsNoFault found.what) here _
     (all_left (λ found. IsNoFault found.what) here _ all)
     (chosen (findings_from size step period then now (gs ++ more)) (findings_from size step period then now gs) (plain_before size step period then now gs more) (runs_full step period past (frame_items g)) (all_right (λ found. IsNoFault found.what) here _ all))
   where

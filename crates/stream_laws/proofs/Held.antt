@@ -3,7 +3,7 @@
 use Rattle.std.proofs.Common.{◌≡◌, ℕ, ◌+◌, ◌<◌, ◌%◌, ◌==◌, ◌&&◌, Bool, true, false, cond, not, List, [], ◌∷◌, ◌++◌, length, take, flat_map, Option, Some, None, refl, sym, ap, ◌∙◌, subst, arith, inl, inr, ◌⊎◌}
 use Rattle.std.specs.Prelude.{map}
 use Rattle.std.specs.List.{AllByRecursion}
-use Rattle.std.proofs.lemmas.Bool.{false≢true, eqb-true, eq-eqb}
+use Rattle.std.proofs.lemmas.Bool.{false≢true, eqb-true, eq-eqb, not-false, not-true}
 use Rattle.mux_types.proofs.Elements.{each_contains}
 use Rattle.mux_types.specs.Entries.{EnsembleInformation}
 use Rattle.fib_codec.specs.Grammar.{Fig, Open, Other, is_next}
@@ -23,17 +23,19 @@ use Rattle.stream_laws.specs.Notices.{AreFibBytes, read_frames, row_of, last_of}
 use Rattle.stream_laws.specs.Faultless.{IsSaidIn}
 use Rattle.stream_laws.specs.Staying.{last_swap}
 use Rattle.stream_laws.specs.Held.{BeginsUnflagged, WholeNoticesAreHeld, CountsAreHeld}
-use Rattle.stream_laws.proofs.Clean.{all_left, IsClean, entry_clean, after_entry, said_twice, frames_twice}
-use Rattle.stream_laws.proofs.Kept.{no_fault, first_holds, second_holds, is_not}
+use Rattle.stream_laws.proofs.Clean.{all_left, IsClean, entry_clean, after_entry, frames_twice}
+use Rattle.stream_laws.proofs.Kept.{no_fault, first_holds, second_holds}
 use Rattle.stream_laws.proofs.Noting.{with_member, after_member, after_heard, ensemble_made, plain_ensemble}
 use Rattle.stream_laws.proofs.Rows.{notice_rows}
 use Rattle.stream_laws.proofs.Tracking.{IsFormed, AllAnnounce, alone_first, all_tracked}
 use Rattle.stream_laws.proofs.Formed.{all_formed}
-use Rattle.stream_laws.proofs.Bytes.{map_contains, contains_map}
 use Rattle.stream_laws.proofs.Headers.{FibLaws, header_said}
-use Rattle.stream_laws.proofs.Swapping.{awaited_is, not_false}
-use Rattle.stream_laws.proofs.Announced.{items_in, notice_is, each_take, each_drop, formed_handed}
+use Rattle.stream_laws.proofs.Swapping.{awaited_is}
+use Rattle.stream_laws.proofs.Announced.{items_in, notice_is, each_drop, formed_handed}
 use Rattle.stream_laws.proofs.AnnouncedChange.{changes_are_announced}
+use Rattle.stream_check.proofs.Saying.{said_append}
+use Rattle.mux_types.proofs.Members.{mapped_from, mapped_to}
+use Rattle.stream_laws.proofs.Bytes.{each_take}
 
 -- ---- the first FIG 0/0 of all that was sent
 
@@ -71,7 +73,7 @@ fig_oldest first (Other given) past = sym (or_none (oldest past))
 figs_oldest : (first : Bool) (fs : List Fig) (past : List Moment) → oldest (said (figs_items first fs) past) ≡ first_or (oldest past) (first_in_figs fs)
 figs_oldest first [] past = sym (or_none (oldest past))
 figs_oldest first (f ∷ fs) past =
-    ap oldest (said_twice (fig_items first f) (figs_items false fs) past)
+    ap oldest (said_append (fig_items first f) (figs_items false fs) past)
     ∙ figs_oldest false fs (said (fig_items first f) past)
     ∙ ap (λ o. first_or o (first_in_figs fs)) (fig_oldest first f past)
     ∙ or_twice (oldest past) (first_raw (entries_in f)) (first_in_figs fs)
@@ -83,7 +85,7 @@ fib_oldest first (Some figs) past = figs_oldest first figs past
 fibs_oldest : (first : Bool) (fibs : List Fib) (past : List Moment) → oldest (said (fibs_items first fibs) past) ≡ first_or (oldest past) (first_of_frame fibs)
 fibs_oldest first [] past = sym (or_none (oldest past))
 fibs_oldest first (f ∷ fs) past =
-    ap oldest (said_twice (fib_items first f) (fibs_items false fs) past)
+    ap oldest (said_append (fib_items first f) (fibs_items false fs) past)
     ∙ fibs_oldest false fs (said (fib_items first f) past)
     ∙ ap (λ o. first_or o (first_of_frame fs)) (fib_oldest first f past)
     ∙ or_twice (oldest past) (first_in f) (first_of_frame fs)
@@ -114,7 +116,7 @@ first_of_stream : (e : EnsembleInformation) (step : ℕ) (frames : List (List Fi
 first_of_stream e step frames past i s h =
     let start : List Moment = after_frames step [] s.before in
     let items : oldest (said (frame_items s.frame) start) ≡ Some e =
-    ap (λ is. oldest (said is start)) s.items_are ∙ ap oldest (said_twice s.front (i ∷ s.back) start)
+    ap (λ is. oldest (said is start)) s.items_are ∙ ap oldest (said_append s.front (i ∷ s.back) start)
     ∙ said_first e (i ∷ s.back) (said s.front start) (ap oldest (sym s.past_is) ∙ h) in
     let whole : oldest (after_frames step [] (s.before ++ s.frame ∷ s.after)) ≡ Some e =
     ap oldest (frames_twice step s.before (s.frame ∷ s.after) []) ∙ frames_first e step s.after (after_frame step start s.frame) items in
@@ -173,11 +175,11 @@ was_missed step period (Said i ∷ past) c cut = by (is_swap past i) refl (is_en
     by true sw d first h before = absurd (false≢true h)
     by false sw true first h before =
         let e = first_holds (is_ensemble i) (not (listener_after past).tuned) first in
-        let none = had_none step period past c.2 (is_not (listener_after past).tuned (second_holds (is_ensemble i) (not (listener_after past).tuned) first)) in
+        let none = had_none step period past c.2 (not-true (listener_after past).tuned (second_holds (is_ensemble i) (not (listener_after past).tuned) first)) in
         record {
           information = ensemble_of i;
           first = ap (λ o. first_or o (said_by i)) none.first ∙ ap (λ t. cond t (Some (ensemble_of i)) None) e;
-          flagged = is_not ((ensemble_of i).change == 0) (second_holds (is_ensemble i) (not ((ensemble_of i).change == 0)) h);
+          flagged = not-true ((ensemble_of i).change == 0) (second_holds (is_ensemble i) (not ((ensemble_of i).change == 0)) h);
           swap = same_swap past i sw ∙ none.swap;
         }
     by false sw false first h before =
@@ -211,7 +213,7 @@ awaited_at step period past i c sw =
     let made : is_made (listener_after past).awaited (ensemble_of i) ≡ true = sym (ensemble_made past i e) ∙ sw in
     let all = (plain_ensemble step period past i c e).swap made in
     let none = no_fault (not ((ensemble_of i).count % 250 == awaited_low k)) (faults.AnnouncedFor (awaited_low k)) (all_left _ (when (not ((ensemble_of i).count % 250 == awaited_low k)) (faults.AnnouncedFor (awaited_low k))) (notice_faults k ++ unit_faults k) all.1) in
-    let low : ((ensemble_of i).count % 250 == awaited_low k) ≡ true = not_false ((ensemble_of i).count % 250 == awaited_low k) none in
+    let low : ((ensemble_of i).count % 250 == awaited_low k) ≡ true = not-false ((ensemble_of i).count % 250 == awaited_low k) none in
     awaited_is (listener_after past).awaited (ensemble_of i) ((ensemble_of i).count % 250) made (eqb-true ((ensemble_of i).count % 250) (awaited_low k) low)
 
 pub counts_are_held : FibLaws → CountsAreHeld
@@ -224,12 +226,12 @@ counts_are_held laws r size step period frames past i bytes faultless s sw frame
     let notice : List (List (List ℕ)) = last_of (length (rows past)) (take (frames_ended past) frames) in
     let all : AllByRecursion AreFibBytes notice = each_drop AreFibBytes _ (take (frames_ended past) frames) (each_take AreFibBytes (frames_ended past) frames bytes) in
     let are : map (items_in r) notice ≡ notice_rows past = notice_is r step frames past i s (alone_first step period past i clean formed is_one) in
-    let here = map_contains row_of notice frame inside in
+    let here = mapped_to row_of notice frame inside in
     let fibs : AreFibBytes here.0 = each_contains AreFibBytes notice here.0 all here.1 in
     let header = header_said laws r here.0 next e fibs (subst (λ (b : List ℕ). IsEnsembleHeardInRow b next e) (sym here.2) heard) in
     let row : AllAnnounce (last_flags past) low (items_in r here.0) =
     each_contains (AllAnnounce (last_flags past) low) (map (items_in r) notice) (items_in r here.0)
-    (subst (AllByRecursion (AllAnnounce (last_flags past) low)) (sym are) a.rows) (contains_map (items_in r) notice here.0 here.1) in
+    (subst (AllByRecursion (AllAnnounce (last_flags past) low)) (sym are) a.rows) (mapped_from (items_in r) notice here.0 here.1) in
     let says = each_contains (λ j. is_ensemble j ≡ true → ((ensemble_of j).change ≡ last_flags past) × ((ensemble_of j).occurrence ≡ Some low)) (items_in r here.0) header.item row header.inside header.ensemble in
     let flags : e.change ≡ last_flags past = ap (λ (x : EnsembleInformation). x.change) (sym header.says) ∙ says.0 in
     let some = a.flags in

@@ -2,7 +2,7 @@
 use Rattle.std.proofs.Common.{◌≡◌, ◌≢◌, ℕ, zero, suc, ◌+◌, ◌%◌, ◌==◌, ◌&&◌, Bool, true, false, cond, not, List, [], ◌∷◌, length, Option, Some, None, refl, sym, ap, ◌∙◌, subst, arith, inl, inr, ◌⊎◌}
 use Rattle.std.specs.Prelude.{map}
 use Rattle.std.specs.List.{AllByRecursion}
-use Rattle.std.proofs.lemmas.Bool.{false≢true, eq-eqb, ne_eqb, le-ltb}
+use Rattle.std.proofs.lemmas.Bool.{false≢true, eq-eqb, ne_eqb, le-ltb, and_right}
 use Rattle.std.proofs.lemmas.Bool.Decides.{eqb_tells}
 use Rattle.fib_codec.specs.Layouts.{layout_mode, frame_fibs}
 use Rattle.mux_types.specs.Entries.{EnsembleInformation}
@@ -26,7 +26,9 @@ use Rattle.plan_runs.specs.RightBytes.{IsHeadedBy, IsRight}
 use Rattle.plan_runs.proofs.Clock.{shown_count}
 use Rattle.stream_laws.proofs.Rows.{HasNone}
 use Rattle.stream_laws.proofs.Findings.{IsFrameFine, IsPlaceFine, Each, each_other, IsWellPlaced}
-use Rattle.stream_laws.proofs.Framing.{is_read, IsQuiet, header_of, heading_fib, figs_none, fibs_none, later_fibs, first_of_fibs, later_quiet, read_frame, frame_size, all_quiet, all_append}
+use Rattle.stream_laws.proofs.Framing.{IsQuiet, header_of, heading_fib, figs_none, fibs_none, later_fibs, first_of_fibs, later_quiet, read_frame, frame_size, all_quiet}
+use Rattle.stream_check.proofs.Framing.{all_append}
+use Rattle.stream_laws.proofs.Bytes.{is_read}
 
 -- ---- the EId of a run does not change
 
@@ -85,7 +87,7 @@ pub record IsHeaded (frame : List Fib) (e : EnsembleInformation) : Type 0 where
   pub lacks : lacks_opening frame ≡ false
   pub opens : first_opening frame ≡ Some e
 
-none_damaged : (fibs : List Fib) → AllByRecursion IsQuiet fibs → damaged_in fibs ≡ 0
+pub none_damaged : (fibs : List Fib) → AllByRecursion IsQuiet fibs → damaged_in fibs ≡ 0
 none_damaged [] all = refl
 none_damaged (f ∷ fs) all = ap (λ b. cond b 1 0 + damaged_in fs) all.0.whole ∙ ap (λ n. 0 + n) (none_damaged fs all.1)
 
@@ -122,10 +124,6 @@ not_other : (n m : ℕ) (o : Option ℕ) → (o ≡ None) ⊎ (o ≡ Some m) →
 not_other n m o (inl none) e = ap (is_other n) none
 not_other n m o (inr some) e = ap (is_other n) some ∙ ap not (eq-eqb n m e)
 
-and_not : (a b : Bool) → b ≡ false → (a && b) ≡ false
-and_not true b e = e
-and_not false b e = refl
-
 -- FIG 0/0 in place
 placed : (step period : ℕ) (past : List Moment) (s : State) (first : Bool) (e : EnsembleInformation) → IsDue step past s → first ≡ true → e.count ≡ s.count → e.eid ≡ s.eid → s.count % step ≡ 0
     → IsPlaceFine (known_of step period past) first e
@@ -135,8 +133,8 @@ placed step period past s first e known one count eid on =
     let last : (due past ≡ None) ⊎ (due past ≡ Some s.count) = elim known [ inl none ↦ inl none.0 | inr some ↦ inr some.0 ] in
     let ensemble : (last_eid step past ≡ None) ⊎ (last_eid step past ≡ Some s.eid) = elim known [ inl none ↦ inl none.1 | inr some ↦ inr some.1 ] in
     record {
-      eid = and_not (is_placed k first e) _ (not_other e.eid s.eid (last_eid step past) ensemble eid);
-      count = and_not (is_placed k first e) _ (not_other e.count s.count (due past) last count);
+      eid = and_right (is_placed k first e) _ (not_other e.eid s.eid (last_eid step past) ensemble eid);
+      count = and_right (is_placed k first e) _ (not_other e.count s.count (due past) last count);
       placed = ap (λ b. b && (e.count % step == 0)) one ∙ on_step;
     }
 
@@ -180,7 +178,7 @@ with_header size step period past s frame e len h known count eid on =
     let place = placed step period past s h.head.first (ensemble_of h.head) known h.first head_count head_same on in
     let ensemble : (last_eid step past ≡ None) ⊎ (last_eid step past ≡ Some s.eid) = elim known [ inl none ↦ inl none.1 | inr some ↦ inr some.1 ] in
     record {
-      whole = whole_frame size step (due past) frame len h.whole (and_not (count_due (due past) frame % step == 0) (lacks_opening frame) h.lacks);
+      whole = whole_frame size step (due past) frame len h.whole (and_right (count_due (due past) frame % step == 0) (lacks_opening frame) h.lacks);
       place = subst (λ (is : List Item). Each (IsWellPlaced step period) past is) (sym h.are)
           ((λ ens. place), none_placed step period h.rest (Said h.head ∷ past) h.none);
       counted = ap (placed_count step (count_due (due past) frame)) h.opens

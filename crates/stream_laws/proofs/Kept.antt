@@ -1,7 +1,7 @@
 -- Without a fault, entries agree with the picture.
 use Rattle.std.proofs.Common.{◌≡◌, ℕ, ◌&&◌, Bool, true, false, cond, not, nat_lt, List, [], ◌∷◌, length, Option, Some, None, refl, sym, ap, ◌∙◌, subst}
 use Rattle.std.specs.List.{AllByRecursion}
-use Rattle.std.proofs.lemmas.Bool.{false≢true, le-leb}
+use Rattle.std.proofs.lemmas.Bool.{false≢true, le-leb, not-true}
 use Rattle.fib_reader.specs.Raw.{Raw}
 use Rattle.fib_reader.specs.Listening.{Pictured}
 use Rattle.stream_check.specs.declared.finding.Fault.{Fault}
@@ -27,10 +27,6 @@ first_holds false b h = absurd (false≢true h)
 pub second_holds : (a b : Bool) → (a && b) ≡ true → b ≡ true
 second_holds true b h = h
 second_holds false b h = absurd (false≢true h)
-
-pub is_not : (b : Bool) → not b ≡ true → b ≡ false
-is_not true h = absurd (false≢true h)
-is_not false h = refl
 
 -- ---- how an entry compares with the picture
 
@@ -62,7 +58,7 @@ there raw p settled so room none = there_by raw (length (list_for raw p)) (entry
 -- ---- an entry of FIG 0/1 to 0/3
 
 pub member_parts : (past : List Moment) (i : Item) → is_member past i ≡ true → (is_ensemble i ≡ false) × ((listener_after past).tuned ≡ true)
-member_parts past i m = (is_not (is_ensemble i) (first_holds (not (is_ensemble i)) (listener_after past).tuned m), second_holds (not (is_ensemble i)) (listener_after past).tuned m)
+member_parts past i m = (not-true (is_ensemble i) (first_holds (not (is_ensemble i)) (listener_after past).tuned m), second_holds (not (is_ensemble i)) (listener_after past).tuned m)
 
 pub member_found : (step period : ℕ) (past : List Moment) (i : Item) → is_ensemble i ≡ false → (listener_after past).tuned ≡ true
     → findings_at (known_of step period past) i ≡ cond i.next (next_findings (known_of step period past) i.raw) (current_findings (known_of step period past) i.raw)

@@ -21,8 +21,10 @@ use Rattle.stream_check.specs.Pictures.{key_of}
 use Rattle.stream_check.specs.History.{Item, Moment, Said, Ended, said, frame_items, is_ensemble, is_swap, is_member, frames_ended, listening, listener_after, last_heard}
 use Rattle.stream_check.proofs.Members.{after_is, member_heard, member_last}
 use Rattle.plan_runs.specs.Listening.{fibs_from}
-use Rattle.stream_laws.proofs.Framing.{is_read, read_frame}
-use Rattle.stream_laws.proofs.Bytes.{fibs_said}
+use Rattle.stream_laws.proofs.Framing.{read_frame}
+use Rattle.stream_laws.proofs.Bytes.{fibs_said, is_read}
+use Rattle.plan_runs.proofs.Passing.{some_is}
+use Rattle.stream_laws.proofs.Clean.{said_ended}
 
 -- ---- the time never decreases, and is at most the current frame
 
@@ -34,10 +36,6 @@ last_at_most key (Said i ∷ past) =
       | false ↦ last_at_most key past
     ]
 last_at_most key (Ended count ∷ past) = let before = last_at_most key past in omega (arith, before)
-
-pub said_ended : (items : List Item) (past : List Moment) → frames_ended (said items past) ≡ frames_ended past
-said_ended [] past = refl
-said_ended (i ∷ is) past = said_ended is (Said i ∷ past)
 
 pub last_grows : (key : ℕ) (items : List Item) (past : List Moment) → last_heard key past ≤ last_heard key (said items past)
 last_grows key [] past = omega arith
@@ -81,24 +79,21 @@ at_tuned e l =
     let x : Listening = record { tuned = true; current = r.current; next = r.next; awaited = r.awaited } in
     awaiting_tuned (e.change == 0) e x refl
 
-some_same : (a b : Listening) → Some a ≡ Some b → a ≡ b
-some_same a b e = cc e
-
 into_tuned : (next : Bool) (l : Listening) (o : Option Pictured) (m : Listening) → l.tuned ≡ true → into next l o ≡ Some m → m.tuned ≡ true
 into_tuned true l None m t e = absurd cc
 into_tuned false l None m t e = absurd cc
 into_tuned true l (Some p) m t e =
     let a : Listening = record { tuned = l.tuned; current = l.current; next = p; awaited = l.awaited } in
-    sym (ap (λ (x : Listening). x.tuned) (some_same a m e)) ∙ t
+    sym (ap (λ (x : Listening). x.tuned) (some_is a m e)) ∙ t
 into_tuned false l (Some p) m t e =
     let a : Listening = record { tuned = l.tuned; current = p; next = l.next; awaited = l.awaited } in
-    sym (ap (λ (x : Listening). x.tuned) (some_same a m e)) ∙ t
+    sym (ap (λ (x : Listening). x.tuned) (some_is a m e)) ∙ t
 
 stays_by : (b t : Bool) (next : Bool) (raw : Raw) (l m : Listening) → l.tuned ≡ true
     → cond b (Some (at_ensemble (ensemble_in raw) l)) (cond t (into next l (pictured raw (picture_of next l))) (Some l)) ≡ Some m → m.tuned ≡ true
-stays_by true t next raw l m is e = sym (ap (λ (x : Listening). x.tuned) (some_same (at_ensemble (ensemble_in raw) l) m e)) ∙ at_tuned (ensemble_in raw) l
+stays_by true t next raw l m is e = sym (ap (λ (x : Listening). x.tuned) (some_is (at_ensemble (ensemble_in raw) l) m e)) ∙ at_tuned (ensemble_in raw) l
 stays_by false true next raw l m is e = into_tuned next l (pictured raw (picture_of next l)) m is e
-stays_by false false next raw l m is e = sym (ap (λ (x : Listening). x.tuned) (some_same l m e)) ∙ is
+stays_by false false next raw l m is e = sym (ap (λ (x : Listening). x.tuned) (some_is l m e)) ∙ is
 
 pub stays_tuned : (next : Bool) (raw : Raw) (l m : Listening) → l.tuned ≡ true → hear_entry next raw l ≡ Some m → m.tuned ≡ true
 stays_tuned next raw l m is e = stays_by (raw.ext == 0) l.tuned next raw l m is e

@@ -1,4 +1,3 @@
-pub mod Mentioning
 pub mod Clean
 pub mod Kept
 pub mod Pictures
@@ -55,5 +54,3 @@ pub mod Whole
 pub mod Merging
 mod Vectors
 mod VectorsOfLaws
-mod VectorsOfPresence
-mod VectorsOfBytes

@@ -14,7 +14,7 @@ use Rattle.plan_runs.proofs.Pictures.{whole_of, IsOf, IsPartial, whole_is_set}
 
 -- ---- one list
 
-in_full : (known : ℕ → Bool) (full : List Raw) (x : Raw) → In x (partly known full) → In x full
+pub in_full : (known : ℕ → Bool) (full : List Raw) (x : Raw) → In x (partly known full) → In x full
 in_full known [] x h = absurd h
 in_full known (y ∷ ys) x h = elim (known (identifier_of y)) as (λ t. In x (cond t (y ∷ partly known ys) (partly known ys)) → In x (y ∷ ys)) [
   | true ↦ λ c. elim c [ inl same ↦ inl same | inr more ↦ inr (in_full known ys x more) ]

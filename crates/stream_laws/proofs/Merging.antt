@@ -2,7 +2,7 @@
 use Rattle.std.proofs.Common.{◌≡◌, ◌↔◌, ℕ, List, [], ◌∷◌, ◌++◌, map, flat_map, refl, sym, ap, subst, ◌∙◌, arith}
 use Rattle.std.specs.Prelude.{Some, None}
 use Rattle.std.specs.List.{AllByRecursion}
-use Rattle.fib_codec.specs.Grammar.{Fig, Other, IsFib, OneList}
+use Rattle.fib_codec.specs.Grammar.{Fig, Other, OneList}
 use Rattle.fib_codec.specs.Layouts.{layout_mode, frame_fibs}
 use Rattle.fib_codec.specs.Modes.{count_step}
 use Rattle.fib_reader.specs.Listening.{Listening, untuned, hear_figs}
@@ -22,12 +22,9 @@ use Rattle.stream_laws.specs.Faults.{RunsAreFaultless}
 use Rattle.stream_laws.specs.Framing.{frames_of, RunsAreFramed}
 use Rattle.stream_laws.specs.Merging.{filled_in, IsMergedOf, HaveSameEntries, MergedHaveTheEntries, MergedAreHeardAlike, MergedListenersAreRight, MergedRunsAreFaultless, MergedSwapsAreAnnounced}
 use Rattle.stream_laws.specs.Notices.{IsFibBytes, AreFibBytes, read_frames, FramesAreOfBytes}
+use Rattle.stream_laws.proofs.Bytes.{is_read}
 
 -- ---- one FIB
-
-read_as : (bytes : List ℕ) (figs : List Fig) → OneList → IsFib bytes figs → (fib : Fib) → Reads bytes fib → fib ≡ Some figs
-read_as bytes figs one is None damaged = absurd (damaged figs is)
-read_as bytes figs one is (Some others) read = ap (λ (fs : List Fig). Some fs) (one bytes others figs read is)
 
 -- a listener hears a FIB as it is read
 record HearsRead (r : Reading) (bytes : List ℕ) (old new : Listening) : Type 0 where
@@ -36,7 +33,7 @@ record HearsRead (r : Reading) (bytes : List ℕ) (old new : Listening) : Type 0
   heard : hear_figs figs old ≡ Some new
 
 heard_read : OneList → (r : Reading) (bytes : List ℕ) (old new : Listening) → HearsFib bytes old new → HearsRead r bytes old new
-heard_read one r bytes old new h = record { figs = h.0; is = read_as bytes h.0 one h.1 (r.read bytes) (r.right bytes); heard = h.2 }
+heard_read one r bytes old new h = record { figs = h.0; is = is_read one r bytes h.0 h.1; heard = h.2 }
 
 read_heard : (r : Reading) (bytes : List ℕ) (old new : Listening) → HearsRead r bytes old new → HearsFib bytes old new
 read_heard r bytes old new h = (h.figs, subst (λ (f : Fib). Reads bytes f) h.is (r.right bytes), h.heard)

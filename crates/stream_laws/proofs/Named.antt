@@ -2,7 +2,7 @@
 use Rattle.std.proofs.Common.{◌≡◌, ◌≢◌, ℕ, zero, suc, ◌+◌, ◌<◌, ◌≤◌, ◌%◌, ◌==◌, ◌&&◌, ◌||◌, Bool, true, false, cond, not, nat_lt, List, [], ◌∷◌, ◌++◌, length, Option, Some, None, refl, sym, ap, ◌∙◌, subst, arith, inl, inr, ◌⊎◌}
 use Rattle.std.specs.Prelude.{map, unwrap_or}
 use Rattle.std.specs.List.{AllByRecursion}
-use Rattle.std.proofs.lemmas.Bool.{false≢true, eq-eqb, ne_eqb}
+use Rattle.std.proofs.lemmas.Bool.{false≢true, eq-eqb, ne_eqb, or_right}
 use Rattle.std.proofs.lemmas.List.{append-nil}
 use Rattle.fib_codec.specs.Layouts.{layout_mode, frame_fibs}
 use Rattle.mux_types.specs.Entries.{EnsembleInformation}
@@ -44,12 +44,15 @@ use Rattle.stream_laws.specs.Notices.{read_frames}
 use Rattle.stream_laws.specs.Framing.{frames_of}
 use Rattle.stream_laws.specs.Naming.{names_swap, swap_frames, due_frames, due_after_first, SwapsAreNamed}
 use Rattle.stream_laws.proofs.Rows.{HasNone}
-use Rattle.stream_laws.proofs.Framing.{all_append, read_frame}
+use Rattle.stream_laws.proofs.Framing.{read_frame}
 use Rattle.stream_laws.proofs.Sending.{IsSentItem, IsHeadOf, frame_said}
 use Rattle.stream_laws.proofs.Agreeing.{sent_ext, none_or_some}
 use Rattle.stream_laws.proofs.AgreeingRuns.{IsBetween, on_air, flags_on, still, on_by, zero_or_some, awaits_by, due_awaits, due_low}
 use Rattle.stream_laws.proofs.AgreeingFrames.{agrees_by, is_sent, not_sent, before_contact}
 use Rattle.stream_laws.proofs.Findings.{items_room}
+use Rattle.stream_check.proofs.Framing.{all_append}
+use Rattle.stream_laws.proofs.Clean.{said_ended}
+use Rattle.plan_runs.proofs.Passing.{some_is}
 
 -- ---- findings other than a swap
 
@@ -237,10 +240,6 @@ made_where_due p ts c s holds past h = by (none_or_some h.heard.awaited) (due_or
     count : (ensemble_of p.plan (shown p s)).count ≡ s.count
     count = (ensemble_right p.plan (shown p s)).count ∙ (links p ts c s holds).count
 
-    or_last : (a b : Bool) → b ≡ true → (a || b) ≡ true
-    or_last true b e = refl
-    or_last false b e = e
-
     both_false : (a b : Bool) → not a ≡ true → b ≡ false → (a || b) ≡ false
     both_false true b x y = absurd (false≢true x)
     both_false false b x y = y
@@ -250,12 +249,9 @@ made_where_due p ts c s holds past h = by (none_or_some h.heard.awaited) (due_or
     by (inl none) (inr apart) = ap (λ o. is_made o (ensemble_of p.plan (shown p s))) none ∙ sym apart
     by (inr (low, some)) (inl now) =
         let w = awaits_by p.plan s.left s.current s.next s.count h.heard low h.knows some in
-        let zero_left : w.k ≡ 0 = inner w.k 0 (sym w.is ∙ now) in
+        let zero_left : w.k ≡ 0 = some_is w.k 0 (sym w.is ∙ now) in
         let at : s.count % 250 ≡ low = due_low s.count low w.k holds.tracked.count zero_left w.low_is in
-        made_low low some ∙ or_last ((ensemble_of p.plan (shown p s)).change == 0) _ (eq-eqb ((ensemble_of p.plan (shown p s)).count % 250) low (ap (λ n. n % 250) count ∙ at)) ∙ sym (ap is_due now)
-      where
-        inner : (a b : ℕ) → Some a ≡ Some b → a ≡ b
-        inner a b e = cc
+        made_low low some ∙ or_right ((ensemble_of p.plan (shown p s)).change == 0) _ (eq-eqb ((ensemble_of p.plan (shown p s)).count % 250) low (ap (λ n. n % 250) count ∙ at)) ∙ sym (ap is_due now)
     by (inr (low, some)) (inr apart) =
         let w = awaits_by p.plan s.left s.current s.next s.count h.heard low h.knows some in
         let more : 1 ≤ w.k = elim (zero_or_some w.k) [
@@ -317,10 +313,6 @@ items_named one laws r n period p ts c s holds past h =
 
 -- ---- along a run
 
-ended_more : (items : List Item) (past : List Moment) → frames_ended (said items past) ≡ frames_ended past
-ended_more [] past = refl
-ended_more (i ∷ is) past = ended_more is (Said i ∷ past)
-
 along : OneList → Laws → (r : Reading) (period : ℕ) (p : Program) (ts : List Known) → IsCode p ts → (s : State) (events : List Event) → Holds p ts s → (past : List Moment) (noted : List Contradiction) → IsBetween p.plan past s
     → swap_frames (findings_from (frame_fibs p.plan.layout) (count_step (layout_mode p.plan.layout)) period past noted (read_frames r (frames_of p.plan.layout (run_frames p s events)))) ≡ due_frames p (frames_ended past) s events
 along one laws r period p ts c s [] holds past noted h = refl
@@ -335,7 +327,7 @@ along one laws r period p ts c s (Frame ∷ es) holds past noted h =
     let rest = along one laws r period p ts c (after_frame p s) es (frame_holds p ts c s holds) (after_read step past frame) (noted_in period past noted frame) now.after in
     let here : swap_frames (findings_in size step period past noted frame) ≡ cond (is_due s.left) (frames_ended past ∷ []) [] =
     frame_named size step period past noted frame ∙ items_named one laws r (frames_ended past) period p ts c s holds past h in
-    let number : frames_ended (after_read step past frame) ≡ frames_ended past + 1 = ap (λ n. n + 1) (ended_more (frame_items frame) past) in
+    let number : frames_ended (after_read step past frame) ≡ frames_ended past + 1 = ap (λ n. n + 1) (said_ended (frame_items frame) past) in
     frames_both (findings_in size step period past noted frame) _
     ∙ ap (λ b. swap_frames (findings_in size step period past noted frame) ++ swap_frames (cond b [] later)) (items_room step period (frame_items frame) past now.word)
     ∙ ap (λ l. l ++ swap_frames later) here
@@ -375,7 +367,7 @@ from_first one laws r period p ts c s (Frame ∷ es) holds on =
     let now = agrees_by one laws r period p ts c s holds [] (inl (refl, on)) in
     let rest = along one laws r period p ts c (after_frame p s) es (frame_holds p ts c s holds) (after_read step [] frame) (noted_in period [] [] frame) now.after in
     let here : swap_frames (findings_in size step period [] [] frame) ≡ [] = frame_named size step period [] [] frame ∙ first_named one laws r period p ts c s holds on in
-    let number : frames_ended (after_read step [] frame) ≡ 1 = ap (λ n. n + 1) (ended_more (frame_items frame) []) in
+    let number : frames_ended (after_read step [] frame) ≡ 1 = ap (λ n. n + 1) (said_ended (frame_items frame) []) in
     frames_both (findings_in size step period [] [] frame) _
     ∙ ap (λ b. swap_frames (findings_in size step period [] [] frame) ++ swap_frames (cond b [] later)) (items_room step period (frame_items frame) [] now.word)
     ∙ ap (λ l. l ++ swap_frames later) here

@@ -1,7 +1,7 @@
 -- What was heard of the next configuration, along the entries of a frame.
-use Rattle.std.proofs.Common.{◌≡◌, ℕ, ◌&&◌, ◌||◌, Bool, true, false, cond, List, [], ◌∷◌, ◌++◌, Contains, Some, refl, sym, ap, ◌∙◌, subst, inl, inr}
+use Rattle.std.proofs.Common.{◌≡◌, ℕ, ◌&&◌, ◌||◌, true, false, cond, List, [], ◌∷◌, ◌++◌, Contains, Some, refl, sym, ap, ◌∙◌, subst, inl, inr}
 use Rattle.std.specs.List.{AllByRecursion}
-use Rattle.std.proofs.lemmas.Bool.{false≢true}
+use Rattle.std.proofs.lemmas.Bool.{or_parts}
 use Rattle.std.proofs.lemmas.List.Elements.{Contains-append_left, Contains-append_right}
 use Rattle.mux_types.proofs.Elements.{contains_cases, contains_first, contains_none}
 use Rattle.fib_reader.specs.Listening.{Listening, hear_entry}
@@ -13,17 +13,13 @@ use Rattle.stream_laws.proofs.LastHeard.{some_before, stays_tuned}
 
 -- ---- a notice that has not begun
 
-neither : (a b : Bool) → (a || b) ≡ false → (a ≡ false) × (b ≡ false)
-neither true b h = absurd (false≢true (sym h))
-neither false b h = (refl, h)
-
 -- it has no frames
 pub begun_rows : (past : List Moment) → has_begun past ≡ false → rows past ≡ []
 begun_rows [] e = refl
 begun_rows (Said i ∷ past) e =
     elim (is_swap past i) as (λ t. cond t (is_flagged i) (has_begun past || begins_notice past i) ≡ false → cond t [] (rows past) ≡ []) [
       | true ↦ λ h. refl
-      | false ↦ λ h. begun_rows past (neither (has_begun past) (begins_notice past i) h).0
+      | false ↦ λ h. begun_rows past (or_parts (has_begun past) (begins_notice past i) h).0
     ] e
 begun_rows (Ended count ∷ past) e = ap (λ t. cond t (rows past ++ row_at_hand past ∷ []) []) e
 

@@ -1,10 +1,10 @@
 -- Frames of a notice, and the rows of identifiers heard in them with C/N 1, cut into three parts.
-use Rattle.std.proofs.Common.{◌≡◌, ℕ, zero, suc, ◌<◌, ◌≤◌, true, List, [], ◌∷◌, ◌++◌, length, Contains, Some, refl, sym, ap, ◌∙◌, subst, arith, inl, inr, ◌⊎◌}
+use Rattle.std.proofs.Common.{◌≡◌, ℕ, zero, suc, ◌≤◌, true, List, [], ◌∷◌, ◌++◌, length, Contains, Some, refl, sym, ap, ◌∙◌, subst, arith, inl, inr, ◌⊎◌}
 use Rattle.std.specs.Prelude.{slice_get}
 use Rattle.std.specs.List.{AllByRecursion, concat}
 use Rattle.std.proofs.lemmas.List.{append_assoc, length-append}
 use Rattle.std.proofs.lemmas.List.Elements.{Contains-append_left, Contains-append_right, Contains-append_cases}
-use Rattle.mux_types.proofs.Elements.{contains_cases, contains_none, each_contains}
+use Rattle.mux_types.proofs.Elements.{contains_cases, contains_none, each_contains, contains_first}
 use Rattle.mux_config.specs.Configuration.{Configuration}
 use Rattle.mux_types.specs.Facts.{Marked, facts_of}
 use Rattle.fib_codec.specs.Heard.{IsHeardInRow}
@@ -13,6 +13,7 @@ use Rattle.stream_check.specs.Pictures.{key_of}
 use Rattle.stream_check.specs.Cutting.{HasAll, IsPart, IsCutInThree}
 use Rattle.plan_runs.specs.Announced.{IsHeardInSome, IsHeardWhole, HasHeader, HasThreeHeaders, IsAnnounced}
 use Rattle.stream_laws.proofs.NoticeRows.{SaysNothing, HasNext, AreRows, IsRowed}
+use Rattle.plan_runs.proofs.Lookups.{get_below}
 
 -- ---- frames and rows
 
@@ -153,11 +154,6 @@ three_parts n wanted x some keys marks missing first second third rows later cut
 
 -- ---- a configuration without entries: any three rows are enough
 
-below_length : {X : Type 0} (xs : List X) (place : ℕ) (x : X) → slice_get xs place ≡ Some x → place < length xs
-below_length [] place x e = absurd cc
-below_length (y ∷ ys) zero x e = omega arith
-below_length (y ∷ ys) (suc place) x e = let later = below_length ys place x e in omega (arith, later)
-
 -- FIG 0/0 is in none of the first frames
 header_late : (missing later : List (List ℕ)) (place : ℕ) (frame : List ℕ) → AllByRecursion SaysNothing missing → slice_get (missing ++ later) place ≡ Some frame → HasHeader frame → length missing ≤ place
 header_late [] later place frame silent got header = omega arith
@@ -175,7 +171,7 @@ as_many (f ∷ fs) (r ∷ rs) all = let rest = as_many fs rs all.1 in omega (ari
 three_rows : (missing later rows : List (List ℕ)) → AllByRecursion SaysNothing missing → AreRows later rows → HasThreeHeaders (missing ++ later) → 3 ≤ length rows
 three_rows missing later rows silent are h =
     let late = header_late missing later h.first h.in_first.0 silent h.in_first.1 h.in_first.2 in
-    let below = below_length (missing ++ later) h.third h.in_third.0 h.in_third.1 in
+    let below = get_below (missing ++ later) h.third h.in_third.0 h.in_third.1 in
     let both = length-append missing later in
     let many = as_many later rows are in
     let second = h.before_second in
@@ -206,7 +202,4 @@ pub announced_thrice : (now next : Configuration) (count : ℕ) (heard rows : Li
 announced_thrice now next count heard rows [] a h keys marks =
     cut_rows rows (three_rows h.missing h.later rows h.silent h.are (subst HasThreeHeaders h.whole a.headers))
 announced_thrice now next count heard rows (w ∷ ws) a h keys marks =
-    three_parts next (w ∷ ws) w (contains_front w ws) keys marks h.missing a.first a.second a.third rows h.later (sym h.whole ∙ a.cut) h.silent h.are a.whole_in_first a.whole_in_second a.whole_in_third
-  where
-    contains_front : (x : ℕ) (xs : List ℕ) → Contains (x ∷ xs) x
-    contains_front x xs = (0, omega arith, refl)
+    three_parts next (w ∷ ws) w (contains_first w ws) keys marks h.missing a.first a.second a.third rows h.later (sym h.whole ∙ a.cut) h.silent h.are a.whole_in_first a.whole_in_second a.whole_in_third

@@ -32,7 +32,7 @@ use Rattle.stream_laws.specs.Sorts.{is_of_word, is_of_period, IsFreeOf, IsFreeUn
 use Rattle.stream_laws.specs.Faultless.{IsNoFault}
 use Rattle.stream_laws.specs.Faults.{RunsAreFaultless}
 use Rattle.stream_laws.proofs.Rows.{HasNone}
-use Rattle.stream_laws.proofs.Framing.{all_append, read_frame, right_after}
+use Rattle.stream_laws.proofs.Framing.{read_frame, right_after}
 use Rattle.stream_laws.proofs.OpenFrames.{frame_open}
 use Rattle.stream_laws.proofs.Sending.{IsHeadOf, frame_said}
 use Rattle.stream_laws.proofs.Findings.{Each, each_other, IsNoticeFine, IsWellNoticed, items_room, IsFrameFree, found_free}
@@ -49,6 +49,7 @@ use Rattle.stream_laws.proofs.Repeating.{repeated}
 use Rattle.stream_laws.proofs.Ages.{FrameLaws, AreAged, ages}
 use Rattle.stream_laws.proofs.Silence.{none_silent, ages_contact}
 use Rattle.stream_laws.proofs.Appearing.{Settles, settles_contact, settled_step}
+use Rattle.stream_check.proofs.Framing.{all_append}
 
 -- ---- what the checker has noted
 

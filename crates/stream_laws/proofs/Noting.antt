@@ -2,7 +2,7 @@
 use Rattle.std.proofs.Common.{◌≡◌, ℕ, zero, suc, ◌+◌, ◌%◌, ◌<◌, ◌==◌, ◌&&◌, ◌||◌, Bool, true, false, cond, not, List, [], ◌∷◌, ◌++◌, Option, Some, None, refl, sym, ap, ◌∙◌, subst, arith}
 use Rattle.std.specs.Prelude.{unwrap_or, get_or}
 use Rattle.std.specs.List.{AllByRecursion}
-use Rattle.std.proofs.lemmas.Bool.{false≢true, eqb-true}
+use Rattle.std.proofs.lemmas.Bool.{false≢true, eqb-true, not-false, or_parts, not-true}
 use Rattle.std.proofs.lemmas.List.{append-nil}
 use Rattle.mux_types.specs.Entries.{EnsembleInformation}
 use Rattle.fib_reader.specs.Raw.{Raw}
@@ -17,7 +17,7 @@ use Rattle.stream_check.proofs.Ensembles.{heard_as, heard_is}
 use Rattle.stream_check.proofs.Members.{or_false, ensemble_no_member, ensemble_heard, member_heard, member_entry, after_is}
 use Rattle.stream_laws.specs.Faultless.{IsNoFault}
 use Rattle.stream_laws.proofs.Clean.{all_left, all_right, IsClean}
-use Rattle.stream_laws.proofs.Kept.{no_fault, first_holds, is_not, member_room}
+use Rattle.stream_laws.proofs.Kept.{no_fault, first_holds, member_room}
 use Rattle.stream_laws.proofs.Pictures.{picture_with, taken_in}
 
 -- ---- what a listener knows after it
@@ -133,10 +133,6 @@ pub record IsPlainEnsemble (k : Known) (first : Bool) (e : EnsembleInformation) 
   pub flagged : k.began_early ≡ true → has_flags e ≡ true
   pub swap : makes_swap k e ≡ true → AllByRecursion IsNoFault (swap_findings k e)
 
-not_false : (b : Bool) → not b ≡ false → b ≡ true
-not_false true h = refl
-not_false false h = absurd (false≢true (sym h))
-
 flags_where : (f b : Bool) → (not f && b) ≡ false → b ≡ true → f ≡ true
 flags_where true b h is = refl
 flags_where false b h is = absurd (false≢true (sym h ∙ is))
@@ -150,7 +146,7 @@ plain_rules k first e all =
     let last = all_right IsNoFault (announcement k e) _ later in
     let second = all_right IsNoFault (when (is_of_other_ensemble k first e) (faults.OtherEnsemble e.eid)) _ place in
     let third = all_right IsNoFault (when (has_other_count k first e) (faults.Count (unwrap_or k.due 0))) _ second in
-    let placed : is_placed k first e ≡ true = not_false (is_placed k first e) (no_fault (not (is_placed k first e)) faults.OutOfPlace third) in
+    let placed : is_placed k first e ≡ true = not-false (is_placed k first e) (no_fault (not (is_placed k first e)) faults.OutOfPlace third) in
     record {
       first_one = first_holds first (e.count % k.step == 0) placed;
       again = λ not_so.
@@ -172,11 +168,7 @@ some_flags (suc n) h = omega arith
 
 -- flags come with an occurrence change
 pub occurrence_is : (i : Item) → has_flags (ensemble_of i) ≡ true → (ensemble_of i).occurrence ≡ Some (get_or i.raw.bytes 4 0)
-occurrence_is i f = ap (λ t. cond t None (Some (get_or i.raw.bytes 4 0))) (is_not ((ensemble_of i).change == 0) f)
-
-neither : (a b : Bool) → (a || b) ≡ false → (a ≡ false) × (b ≡ false)
-neither true b h = absurd (false≢true (sym h))
-neither false b h = (refl, h)
+occurrence_is i f = ap (λ t. cond t None (Some (get_or i.raw.bytes 4 0))) (not-true ((ensemble_of i).change == 0) f)
 
 -- an awaited swap is announced again with the same values
 pub not_another : (aw : Option ℕ) (low change flags occurrence : ℕ) → aw ≡ Some low
@@ -184,12 +176,12 @@ pub not_another : (aw : Option ℕ) (low change flags occurrence : ℕ) → aw �
 not_another None low change flags occurrence e h = absurd cc
 not_another (Some a) low change flags occurrence e h =
     let same : a ≡ low = cc in
-    let both = neither (not (change == flags)) (not (occurrence == a)) h in
-    (eqb-true change flags (not_false (change == flags) both.0), eqb-true occurrence a (not_false (occurrence == a) both.1) ∙ same)
+    let both = or_parts (not (change == flags)) (not (occurrence == a)) h in
+    (eqb-true change flags (not-false (change == flags) both.0), eqb-true occurrence a (not-false (occurrence == a) both.1) ∙ same)
 
 -- no swap is awaited where a FIG 0/0 without flags makes none
 pub nothing_awaited : (aw : Option ℕ) (e : EnsembleInformation) → is_made aw e ≡ false → has_flags e ≡ false → aw ≡ None
 nothing_awaited None e made none = refl
 nothing_awaited (Some low) e made none =
-    let zero_flags : (e.change == 0) ≡ true = not_false (e.change == 0) none in
+    let zero_flags : (e.change == 0) ≡ true = not-false (e.change == 0) none in
     absurd (false≢true (sym made ∙ ap (λ t. t || (e.count % 250 == low)) zero_flags))

@@ -25,8 +25,9 @@ use Rattle.plan_runs.specs.Listening.{fibs_from}
 use Rattle.plan_runs.proofs.Tracked.{Airs}
 use Rattle.plan_runs.proofs.Right.{pageable}
 use Rattle.plan_runs.proofs.Contents.{Laws}
-use Rattle.stream_laws.proofs.Framing.{is_read, first_of_fibs, read_frame}
+use Rattle.stream_laws.proofs.Framing.{first_of_fibs, read_frame}
 use Rattle.stream_laws.proofs.Sending.{later_count}
+use Rattle.stream_laws.proofs.Bytes.{is_read}
 
 abbrev pub IsOpenFib : Fib → Type 0
 IsOpenFib None = Unit {0}

@@ -2,7 +2,7 @@
 use Rattle.std.proofs.Common.{◌≡◌, ℕ, zero, suc, ◌<◌, ◌%◌, ◌==◌, ◌&&◌, Bool, true, false, cond, not, nat_lt, List, [], ◌∷◌, ◌++◌, Option, Some, None, refl, sym, ap, ◌∙◌, subst, arith, inl, inr}
 use Rattle.std.specs.Prelude.{slice_get}
 use Rattle.std.specs.List.{AllByRecursion}
-use Rattle.std.proofs.lemmas.Bool.{false≢true, lt-ltb, cases_lt}
+use Rattle.std.proofs.lemmas.Bool.{false≢true, lt-ltb, cases_lt, and_from}
 use Rattle.mux_types.proofs.Elements.{each_contains}
 use Rattle.fib_reader.specs.Raw.{Raw}
 use Rattle.fib_reader.specs.Listening.{Listening, is_made, identifier_of}
@@ -24,21 +24,16 @@ none_found : (o : Option Fault) → AllByRecursion IsNoFault (as_list o) → o �
 none_found None all = refl
 none_found (Some fault) all = absurd all.0
 
-all_true : (a b : Bool) → a ≡ true → b ≡ true → (a && b) ≡ true
-all_true true true x y = refl
-all_true true false x y = absurd (false≢true y)
-all_true false b x y = absurd (false≢true x)
-
 shared : (a b : Raw) (unit : ℕ) → IsUnitOf a unit → IsUnitOf b unit → share_unit a b ≡ true
 shared a b unit x y =
     let fa = x.from in
     let ta = x.to in
     let fb = y.from in
     let tb = y.to in
-    all_true (is_long_form a && is_long_form b) _ (all_true (is_long_form a) (is_long_form b) x.long_form y.long_form)
-    (all_true (nat_lt (first_unit a) (end_unit a)) _ (lt-ltb (first_unit a) (end_unit a) (omega (arith, fa, ta)))
-    (all_true (nat_lt (first_unit b) (end_unit b)) _ (lt-ltb (first_unit b) (end_unit b) (omega (arith, fb, tb)))
-    (all_true (nat_lt (first_unit a) (end_unit b)) _ (lt-ltb (first_unit a) (end_unit b) (omega (arith, fa, tb))) (lt-ltb (first_unit b) (end_unit a) (omega (arith, fb, ta))))))
+    and_from (is_long_form a && is_long_form b) _ (and_from (is_long_form a) (is_long_form b) x.long_form y.long_form)
+    (and_from (nat_lt (first_unit a) (end_unit a)) _ (lt-ltb (first_unit a) (end_unit a) (omega (arith, fa, ta)))
+    (and_from (nat_lt (first_unit b) (end_unit b)) _ (lt-ltb (first_unit b) (end_unit b) (omega (arith, fb, tb)))
+    (and_from (nat_lt (first_unit a) (end_unit b)) _ (lt-ltb (first_unit a) (end_unit b) (omega (arith, fa, tb))) (lt-ltb (first_unit b) (end_unit a) (omega (arith, fb, ta))))))
 
 abbrev SharesNone : Raw → Raw → Type 0
 SharesNone a b = share_unit a b ≡ false
@@ -89,7 +84,7 @@ none_past (r ∷ rs) e = elim (ends_past r) as (λ t. ends_past r ≡ t → cond
 
 within : (a : Raw) (unit : ℕ) → ends_past a ≡ false → IsUnitOf a unit → unit < 864
 within a unit e x = elim (cases_lt 864 (end_unit a)) [
-  | inl past ↦ absurd (false≢true (sym e ∙ all_true (is_long_form a) (nat_lt 864 (end_unit a)) x.long_form (lt-ltb 864 (end_unit a) past)))
+  | inl past ↦ absurd (false≢true (sym e ∙ and_from (is_long_form a) (nat_lt 864 (end_unit a)) x.long_form (lt-ltb 864 (end_unit a) past)))
   | inr le ↦ (let to = x.to in omega (arith, to, le))
 ]
 

@@ -1,6 +1,6 @@
 -- Lookup in a picture with one more entry.
-use Rattle.std.proofs.Common.{◌≡◌, ℕ, ◌==◌, ◌||◌, Bool, true, false, cond, nat_lt, List, [], ◌∷◌, length, Option, Some, None, refl, sym, ap, ◌∙◌}
-use Rattle.std.proofs.lemmas.Bool.{false≢true, eq-eqb, eqb-true}
+use Rattle.std.proofs.Common.{◌≡◌, ℕ, ◌==◌, ◌||◌, true, false, cond, nat_lt, List, [], ◌∷◌, length, Option, Some, None, refl, sym, ap, ◌∙◌}
+use Rattle.std.proofs.lemmas.Bool.{false≢true, eq-eqb, eqb-true, or_right}
 use Rattle.mux_config.specs.Tables.{entry_at, with_entry, with_entry_changed, has_entry}
 use Rattle.mux_config.proofs.Keeping.{present}
 use Rattle.fib_reader.specs.Raw.{Raw}
@@ -78,10 +78,6 @@ kept_stays raw y rs agrees found = elim (identifier_of raw == identifier_of y) a
 -- the picture with one more entry
 abbrev pub picture_with : Raw → Pictured → Pictured
 picture_with raw p = cond (raw.ext == 1) (record p { subs = kept raw p.subs }) (cond (raw.ext == 2) (record p { services = kept raw p.services }) (record p { packets = kept raw p.packets }))
-
-or_right : (a b : Bool) → b ≡ true → (a || b) ≡ true
-or_right true b h = refl
-or_right false b h = h
 
 room_by : (raw : Raw) (rs : List Raw) (found : Option Raw) → entry_at identifier_of (identifier_of raw) rs ≡ found → finds_no_room (lookup_among raw (length rs) found) ≡ false → has_room raw rs ≡ true
 room_by raw rs None e free = elim (nat_lt (length rs) 64) as (λ t. nat_lt (length rs) 64 ≡ t → finds_no_room (cond t standings.Absent standings.Full) ≡ false → has_room raw rs ≡ true) [

@@ -16,8 +16,8 @@ use Rattle.plan_runs.specs.Runs.{happens, run_frames}
 use Rattle.plan_runs.specs.RightBytes.{FramesAreRight}
 use Rattle.plan_runs.specs.Listening.{fibs_from, fibs_of}
 use Rattle.stream_laws.specs.Delivered.{IsPieceOf}
-use Rattle.stream_laws.proofs.Formed.{both_all}
 use Rattle.stream_check.proofs.Fronts.{none_more}
+use Rattle.stream_check.proofs.Framing.{all_append}
 
 abbrev AreWhole : List (List ℕ) → Type 0
 AreWhole fibs = AllByRecursion (λ fib. length fib ≡ 32) fibs
@@ -53,7 +53,7 @@ fibs_are p s (Frame ∷ es) all =
     let here = cut_from (frame_fibs p.plan.layout) 0 (frame_bytes p s) (omega (arith, size)) in
     let rest = fibs_are p (after_frame p s) es all.1 in
     record {
-      whole = both_all (λ fib. length fib ≡ 32) (fibs_from (frame_fibs p.plan.layout) 0 (frame_bytes p s)) (fibs_of p.plan.layout (run_frames p (after_frame p s) es)) here.whole rest.whole;
+      whole = all_append (λ fib. length fib ≡ 32) (fibs_from (frame_fibs p.plan.layout) 0 (frame_bytes p s)) (fibs_of p.plan.layout (run_frames p (after_frame p s) es)) here.whole rest.whole;
       bytes_are = concat-append (fibs_from (frame_fibs p.plan.layout) 0 (frame_bytes p s)) (fibs_of p.plan.layout (run_frames p (after_frame p s) es))
           ∙ ap (λ l. l ++ concat (fibs_of p.plan.layout (run_frames p (after_frame p s) es))) here.bytes_are ∙ ap (λ l. frame_bytes p s ++ l) rest.bytes_are;
     }

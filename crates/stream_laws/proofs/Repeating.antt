@@ -22,12 +22,12 @@ use Rattle.plan_runs.proofs.Pictures.{whole_of, IsPartial, entries_of, contains_
 use Rattle.plan_runs.proofs.Knowing.{KnowsPending, KnowsBy}
 use Rattle.plan_runs.proofs.HeardFrames.{Nothing}
 use Rattle.stream_laws.proofs.AgreeingRuns.{IsBetween}
-use Rattle.stream_laws.proofs.Bytes.{map_contains}
 use Rattle.stream_laws.proofs.NoticeFrames.{due_left}
 use Rattle.stream_laws.proofs.Ages.{FrameLaws}
 use Rattle.stream_laws.proofs.Silence.{entry_of}
 use Rattle.stream_laws.proofs.NextParts.{AreKeysOf, announced_thrice}
 use Rattle.stream_laws.proofs.NoticeRows.{IsNoticing}
+use Rattle.mux_types.proofs.Members.{mapped_to}
 
 -- ---- what is wanted in the frames of a notice
 
@@ -44,7 +44,7 @@ wanted_keys : (p : Program) (ts : List Known) → IsCode p ts → (s : State) �
 wanted_keys p ts c s past b due x inside =
     let same : listener_after past ≡ b.heard = after_is past b.heard b.is in
     let there : Contains (map key_of (all_entries b.heard.next)) x = subst (λ (l : Listening). Contains (map key_of (all_entries l.next)) x) same inside in
-    let raw = map_contains key_of (all_entries b.heard.next) x there in
+    let raw = mapped_to key_of (all_entries b.heard.next) x there in
     let it = entry_of s.next Nothing b.heard.next raw.0 (next_part p ts c s past b due) (contains_in (all_entries b.heard.next) raw.0 raw.1) in
     let m : Marked = marked true it.0 in
     (m, in_contains (facts_of s.next true) m (in_fact true (entries_of s.next) it.0 it.2), refl, ap key_of it.1 ∙ raw.2)

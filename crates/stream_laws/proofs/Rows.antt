@@ -1,12 +1,13 @@
 -- The entries of the frames of a notice.
-use Rattle.std.proofs.Common.{◌≡◌, ℕ, ◌+◌, Bool, true, false, cond, List, [], ◌∷◌, ◌++◌, length, refl, sym, ap, ◌∙◌, subst, inl, inr, ◌⊎◌, ◌||◌}
+use Rattle.std.proofs.Common.{◌≡◌, ℕ, ◌+◌, Bool, true, false, cond, List, [], ◌∷◌, ◌++◌, length, refl, sym, ap, ◌∙◌, subst, inl, inr, ◌⊎◌}
 use Rattle.std.specs.Prelude.{map}
 use Rattle.std.specs.List.{AllByRecursion}
-use Rattle.std.proofs.lemmas.Bool.{false≢true}
+use Rattle.std.proofs.lemmas.Bool.{or_parts}
 use Rattle.std.proofs.lemmas.List.{append_assoc, append-nil, length-append, map-append}
 use Rattle.stream_check.specs.Frames.{Fib}
 use Rattle.stream_check.specs.History.{Item, Moment, Said, Ended, said, frame_items, is_ensemble, is_swap, has_ensemble, has_begun, rows, row_at_hand}
 use Rattle.stream_check.specs.Stream.{after_frame, after_frames}
+use Rattle.mux_types.proofs.Tables.{each_pushed}
 
 -- the entries of the current frame
 abbrev pub at_hand : List Moment → List Item
@@ -37,19 +38,11 @@ as_many (Ended count ∷ past) = elim (has_begun past) as (λ t. length (cond t 
 abbrev pub HasNone : List Item → Type 0
 HasNone items = AllByRecursion (λ i. is_ensemble i ≡ false) items
 
-pub all_more : {X : Type 0} (P : X → Type 0) (xs : List X) (x : X) → AllByRecursion P xs → P x → AllByRecursion P (xs ++ x ∷ [])
-all_more P [] x all one = (one, tt)
-all_more P (y ∷ ys) x all one = (all.0, all_more P ys x all.1 one)
-
-or_none : (a b : Bool) → (a || b) ≡ false → (a ≡ false) × (b ≡ false)
-or_none true b h = absurd (false≢true (sym h))
-or_none false b h = (refl, h)
-
 pub none_at_hand : (past : List Moment) → has_ensemble past ≡ false → HasNone (at_hand past)
 none_at_hand [] e = tt
 none_at_hand (Said i ∷ past) e =
-    let both = or_none (is_ensemble i) (has_ensemble past) e in
-    all_more (λ (j : Item). is_ensemble j ≡ false) (at_hand past) i (none_at_hand past both.1) both.0
+    let both = or_parts (is_ensemble i) (has_ensemble past) e in
+    each_pushed (λ (j : Item). is_ensemble j ≡ false) (at_hand past) i (none_at_hand past both.1) both.0
 none_at_hand (Ended count ∷ past) e = tt
 
 -- ---- they are those of the last frames

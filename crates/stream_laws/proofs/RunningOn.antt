@@ -2,7 +2,7 @@
 use Rattle.std.specs.Prelude.{nat_lt, unwrap_or, ◌&&◌}
 use Rattle.std.proofs.Common.{◌≡◌, ℕ, ◌+◌, ◌%◌, ◌≤◌, ◌==◌, Bool, true, false, cond, not, List, [], ◌∷◌, ◌++◌, map, length, Contains, Option, Some, None, refl, sym, ap, ◌∙◌, subst, arith, inl, inr}
 use Rattle.std.specs.List.{AllByRecursion}
-use Rattle.std.proofs.lemmas.Bool.{false≢true, eqb-true, eq-eqb, ltb-false}
+use Rattle.std.proofs.lemmas.Bool.{false≢true, eqb-true, eq-eqb, ltb-false, not-false}
 use Rattle.std.proofs.lemmas.List.Elements.{Contains-append_left, Contains-append_right}
 use Rattle.mux_types.proofs.Elements.{contains_first, contains_cases, contains_none, each_contains}
 use Rattle.mux_types.specs.Entries.{EnsembleInformation}
@@ -25,11 +25,8 @@ use Rattle.stream_laws.proofs.Rows.{at_hand, HasNone}
 use Rattle.stream_laws.proofs.Tracking.{IsFormed, alone_first}
 use Rattle.stream_laws.proofs.Formed.{all_formed}
 use Rattle.stream_laws.proofs.Headers.{FibLaws, header_heard, header_said}
-use Rattle.stream_laws.proofs.Swapping.{not_false}
 use Rattle.stream_laws.proofs.Announced.{formed_handed}
-
-some_same : {X : Type 0} (x y : X) → Some x ≡ Some y → x ≡ y
-some_same x y e = cc
+use Rattle.plan_runs.proofs.Passing.{some_is}
 
 -- ---- a FIG 0/0, where nothing is at fault
 
@@ -50,7 +47,7 @@ plain_rules k first e all =
     let more = all_right IsNoFault (when (is_of_other_ensemble k first e) (faults.OtherEnsemble e.eid)) _ place in
     let two = all_left IsNoFault (when (has_other_count k first e) (faults.Count (unwrap_or k.due 0))) _ more in
     let three = all_right IsNoFault (when (has_other_count k first e) (faults.Count (unwrap_or k.due 0))) _ more in
-    let placed : is_placed k first e ≡ true = not_false (is_placed k first e) (no_fault (not (is_placed k first e)) faults.OutOfPlace three) in
+    let placed : is_placed k first e ≡ true = not-false (is_placed k first e) (no_fault (not (is_placed k first e)) faults.OutOfPlace three) in
     record {
       on_step = eqb-true (e.count % k.step) 0 (second_holds first (e.count % k.step == 0) placed);
       eid = and_false (is_placed k first e) (is_other e.eid k.eid) placed (no_fault (is_of_other_ensemble k first e) (faults.OtherEnsemble e.eid) one);
@@ -69,7 +66,7 @@ clean_here step period i is past c = before_said (IsClean step period) (clean_ha
 
 same_as : (n m : ℕ) (o : Option ℕ) → o ≡ Some m → is_other n o ≡ false → n ≡ m
 same_as n m None e h = absurd cc
-same_as n m (Some k) e h = eqb-true n k (not_false (n == k) h) ∙ some_same k m e
+same_as n m (Some k) e h = eqb-true n k (not-false (n == k) h) ∙ some_is k m e
 
 -- if the entry is a FIG 0/0, it has this count and this EId
 abbrev IsDue : ℕ → ℕ → ℕ → Item → Type 0
@@ -121,7 +118,7 @@ raws_said first next [] e h = absurd cc
 raws_said first next (raw ∷ raws) e h =
     let i : Item = record { first = first; next = next; raw = raw } in
     elim (raw.ext == 0) as (λ t. (raw.ext == 0) ≡ t → cond t (Some (ensemble_in raw)) (first_raw raws) ≡ Some e → IsSaid (i ∷ items_of first next raws) e) [
-      | true ↦ λ is g. record { item = i; inside = contains_first i (items_of first next raws); ensemble = is; says = some_same (ensemble_in raw) e g }
+      | true ↦ λ is g. record { item = i; inside = contains_first i (items_of first next raws); ensemble = is; says = some_is (ensemble_in raw) e g }
       | false ↦ λ is g. behind (i ∷ []) (items_of first next raws) e (raws_said first next raws e g)
     ] refl h
 

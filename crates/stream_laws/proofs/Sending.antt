@@ -34,7 +34,9 @@ use Rattle.plan_runs.proofs.Right.{pageable, sent_within}
 use Rattle.plan_runs.proofs.Tuned.{IsSentOf, AreSentOf}
 use Rattle.plan_runs.proofs.Hearing.{second_next, raw_is}
 use Rattle.plan_runs.proofs.Contents.{Laws, fib_sent}
-use Rattle.stream_laws.proofs.Framing.{is_read, all_append, first_of_fibs, read_frame}
+use Rattle.stream_laws.proofs.Framing.{first_of_fibs, read_frame}
+use Rattle.stream_check.proofs.Framing.{all_append}
+use Rattle.stream_laws.proofs.Bytes.{is_read}
 
 -- an entry that is sent of these configurations
 pub record IsSentItem (noticed : Bool) (c n : Configuration) (i : Item) : Type 0 where

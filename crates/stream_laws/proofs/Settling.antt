@@ -1,7 +1,7 @@
 -- Once the current configuration is settled, all its entries are known.
 use Rattle.std.proofs.Common.{◌≡◌, ℕ, ◌%◌, ◌==◌, ◌&&◌, Bool, true, false, cond, nat_le, List, [], ◌∷◌, ◌++◌, length, Option, Some, None, refl, sym, ap, ◌∙◌, subst, inl, inr, ◌+◌}
 use Rattle.std.specs.List.{AllByRecursion}
-use Rattle.std.proofs.lemmas.Bool.{false≢true, eq-eqb}
+use Rattle.std.proofs.lemmas.Bool.{false≢true, eq-eqb, and_right}
 use Rattle.fib_codec.specs.Layouts.{layout_mode}
 use Rattle.mux_config.specs.Configuration.{Configuration, IsConfiguration}
 use Rattle.mux_config.specs.Tables.{entry_at}
@@ -37,6 +37,7 @@ use Rattle.stream_laws.proofs.Named.{made_where_due}
 use Rattle.stream_laws.proofs.AgreeingFrames.{is_sent, not_sent}
 use Rattle.stream_laws.proofs.Findings.{Each, IsKnown}
 use Rattle.stream_laws.proofs.Ages.{FrameLaws}
+use Rattle.stream_laws.proofs.Clean.{said_ended}
 
 -- ---- a known entry is not absent
 
@@ -82,10 +83,6 @@ present_in full C raw p (inr (inr (ext, inside))) h c =
 
 -- ---- the entries of a frame
 
-and_false : (a b : Bool) → b ≡ false → (a && b) ≡ false
-and_false true b e = e
-and_false false b e = refl
-
 -- the current configuration is settled
 abbrev pub IsSettledAt : ℕ → List Moment → Type 0
 IsSettledAt period past = nat_le (settles_at period past) (frames_ended past) ≡ true
@@ -117,7 +114,7 @@ members_settled step period on c n is_c is_n C awaited (i ∷ items) past l is h
     by : (IsSettledAt period past → i.next ≡ false → is_absent (lookup_in i.raw (listener_after past).current) ≡ false) → i.next ≡ false → (b : Bool) → is_settled (known_of step period past) ≡ b
         → (is_absent (lookup_in i.raw (listener_after past).current) && is_settled (known_of step period past)) ≡ false
     by known current true settled = ap (λ t. t && is_settled (known_of step period past)) (known settled current)
-    by known current false settled = and_false (is_absent (lookup_in i.raw (listener_after past).current)) _ settled
+    by known current false settled = and_right (is_absent (lookup_in i.raw (listener_after past).current)) _ settled
 
 -- what a listener knows in the current frame: if settled, all entries
 pub record Enters (period : ℕ) (r : Reading) (p : Program) (s : State) (past : List Moment) (C N : Raw → Type 0) : Type 0 where
@@ -132,10 +129,6 @@ said_settles period on c n (i ∷ is) past all =
     let s = all.0 in
     let e : is_ensemble i ≡ false = ap (λ (x : Raw). x.ext == 0) s.raw ∙ sent_ext on c n s.m s.sent in
     said_settles period on c n is (Said i ∷ past) all.1 ∙ sym (member_settles period past i e)
-
-ended_same : (items : List Item) (past : List Moment) → frames_ended (said items past) ≡ frames_ended past
-ended_same [] past = refl
-ended_same (i ∷ is) past = ended_same is (Said i ∷ past)
 
 pub frame_settled : FrameLaws → (r : Reading) (period : ℕ) (p : Program) (ts : List Known) → IsCode p ts → (s : State) → Holds p ts s → (past : List Moment) (C N : Raw → Type 0) → Enters period r p s past C N
     → Each (IsKnown (count_step (layout_mode p.plan.layout)) period) past (frame_items (read_frame r p.plan.layout (frame_bytes p s)))
@@ -157,7 +150,7 @@ frame_settled laws r period p ts c s holds past C N en =
           let known = tuned_weaker on_it u.current u.next C C N Nothing f.awaited (at_ensemble (ensemble_of plan u) en.heard) (λ x y. y) (λ x no_entry. absurd no_entry) f.knows in
           let settles : settles_at period (said frame past) ≡ settles_at period (Said h ∷ past) = ap (λ is. settles_at period (said is past)) items ∙ said_settles period on_it u.current u.next fs.members (Said h ∷ past) fs.sent in
           let rest = members_settled step period on_it u.current u.next a.current a.next C f.awaited fs.members (Said h ∷ past) (at_ensemble (ensemble_of plan u) en.heard) is known fs.sent
-          (λ settled. en.whole (ap (λ t. nat_le t (frames_ended (said frame past))) settles ∙ ap (nat_le (settles_at period (Said h ∷ past))) (ended_same frame past) ∙ settled)) in
+          (λ settled. en.whole (ap (λ t. nat_le t (frames_ended (said frame past))) settles ∙ ap (nat_le (settles_at period (Said h ∷ past))) (said_ended frame past) ∙ settled)) in
           subst (λ (is : List Item). Each (IsKnown step period) past is) (sym items) ((λ other. absurd (false≢true (sym other ∙ head.2))), rest)
       | inr off ↦
           let bare : fs.heads ≡ [] = subst (λ (o : Option EnsembleInformation). IsHeadOf o fs.heads) (not_sent plan u off) fs.header in
@@ -167,7 +160,7 @@ frame_settled laws r period p ts c s holds past C N en =
           let settles : settles_at period (said frame past) ≡ settles_at period past = ap (λ is. settles_at period (said is past)) items ∙ said_settles period on_it u.current u.next fs.members past fs.sent in
           subst (λ (is : List Item). Each (IsKnown step period) past is) (sym items)
           (members_settled step period on_it u.current u.next a.current a.next C f.awaited fs.members past en.heard en.is known fs.sent
-          (λ settled. en.whole (ap (λ t. nat_le t (frames_ended (said frame past))) settles ∙ ap (nat_le (settles_at period past)) (ended_same frame past) ∙ settled)))
+          (λ settled. en.whole (ap (λ t. nat_le t (frames_ended (said frame past))) settles ∙ ap (nat_le (settles_at period past)) (said_ended frame past) ∙ settled)))
     ]
 
 -- ---- when the current configuration is settled, one frame later

@@ -2,7 +2,7 @@
 use Rattle.std.proofs.Common.{◌≡◌, ℕ, ◌+◌, ◌<◌, ◌≤◌, ◌&&◌, Bool, true, false, cond, not, List, [], ◌∷◌, ◌++◌, Contains, Some, refl, sym, ap, ◌∙◌, subst, arith, inl, inr}
 use Rattle.std.specs.Prelude.{map, IsTrue}
 use Rattle.std.specs.List.{AllByRecursion}
-use Rattle.std.proofs.lemmas.Bool.{false≢true, eq-eqb, ne_eqb}
+use Rattle.std.proofs.lemmas.Bool.{false≢true, eq-eqb, ne_eqb, and_from}
 use Rattle.std.proofs.lemmas.List.{append_assoc}
 use Rattle.std.proofs.lemmas.List.Elements.{Contains-append_cases}
 use Rattle.mux_types.proofs.Elements.{contains_cases, contains_none, each_contains}
@@ -29,18 +29,16 @@ use Rattle.stream_check.specs.Rules.{are_same, change_between}
 use Rattle.stream_check.proofs.Agreeing.{agree_self, agree_same}
 use Rattle.stream_laws.specs.Keeping.{entry_like}
 use Rattle.stream_laws.proofs.Clean.{all_left}
-use Rattle.stream_laws.proofs.Bytes.{map_contains}
 use Rattle.stream_laws.proofs.PictureKinds.{HasKinds}
+use Rattle.stream_check.proofs.Framing.{all_append}
+use Rattle.mux_types.proofs.Members.{mapped_to}
+use Rattle.stream_laws.proofs.Kept.{first_holds, second_holds}
 
 -- ---- the entries of each kind
 
 -- a sub-channel of a configuration has one of 64 identifiers
 abbrev IsSmall : Raw → Type 0
 IsSmall raw = raw.ext ≡ 1 → identifier_of raw < 64
-
-all_more : {X : Type 0} (P : X → Type 0) (xs ys : List X) → AllByRecursion P xs → AllByRecursion P ys → AllByRecursion P (xs ++ ys)
-all_more P [] ys a b = b
-all_more P (x ∷ xs) ys a b = (a.0, all_more P xs ys a.1 b)
 
 small_subs : (ss : List Sub) → AllByRecursion IsPlaced ss → AllByRecursion IsSmall (map raw_entry (map sub_entry ss))
 small_subs [] all = tt
@@ -57,9 +55,9 @@ maps (x ∷ xs) ys = ap (λ zs. raw_entry x ∷ zs) (maps xs ys)
 small_entries : (c : Configuration) → IsConfiguration c → AllByRecursion IsSmall (map raw_entry (sub_entries c ++ service_entries c))
 small_entries c is =
     subst (AllByRecursion IsSmall) (sym (maps (sub_entries c) (service_entries c)))
-    (all_more IsSmall (map raw_entry (sub_entries c)) (map raw_entry (service_entries c)) (small_subs c.subs is.subs_placed)
+    (all_append IsSmall (map raw_entry (sub_entries c)) (map raw_entry (service_entries c)) (small_subs c.subs is.subs_placed)
     (subst (AllByRecursion IsSmall) (sym (maps (map service_entry c.services) (map packet_entry c.packets)))
-    (all_more IsSmall (map raw_entry (map service_entry c.services)) (map raw_entry (map packet_entry c.packets))
+    (all_append IsSmall (map raw_entry (map service_entry c.services)) (map raw_entry (map packet_entry c.packets))
     (others service_entry c.services (λ x e. omega (arith, e))) (others packet_entry c.packets (λ x e. omega (arith, e))))))
 
 subs_of : (rs : List Raw) → AllByRecursion (λ r. r.ext ≡ 1) rs → AllByRecursion IsSmall rs → AllByRecursion IsSubOf rs
@@ -120,10 +118,10 @@ packet_shown p c is h s inside = record {
 
 pub entry_shown : (p : Pictured) (c : Configuration) → IsConfiguration c → ShowsEach p c → (e : Entry) → Contains (sub_entries c ++ service_entries c) e → IsEntryOf p e
 entry_shown p c is h e inside = elim (Contains-append_cases (sub_entries c) (service_entries c) e inside) [
-  | inl sub ↦ (let there = map_contains sub_entry c.subs e sub in subst (IsEntryOf p) there.2 (sub_shown p c is h there.0 there.1))
+  | inl sub ↦ (let there = mapped_to sub_entry c.subs e sub in subst (IsEntryOf p) there.2 (sub_shown p c is h there.0 there.1))
   | inr rest ↦ elim (Contains-append_cases (map service_entry c.services) (map packet_entry c.packets) e rest) [
-    | inl service ↦ (let there = map_contains service_entry c.services e service in subst (IsEntryOf p) there.2 (service_shown p c is h there.0 there.1))
-    | inr packet ↦ (let there = map_contains packet_entry c.packets e packet in subst (IsEntryOf p) there.2 (packet_shown p c is h there.0 there.1))
+    | inl service ↦ (let there = mapped_to service_entry c.services e service in subst (IsEntryOf p) there.2 (service_shown p c is h there.0 there.1))
+    | inr packet ↦ (let there = mapped_to packet_entry c.packets e packet in subst (IsEntryOf p) there.2 (packet_shown p c is h there.0 there.1))
   ]
 ]
 
@@ -134,17 +132,9 @@ same_lists [] [] e = refl
 same_lists [] (y ∷ ys) e = absurd (false≢true e)
 same_lists (x ∷ xs) [] e = absurd (false≢true e)
 same_lists (x ∷ xs) (y ∷ ys) e =
-    let head : x ≡ y = agree_same x y (first (agree x y) (are_same xs ys) e) in
-    let tail : xs ≡ ys = same_lists xs ys (second (agree x y) (are_same xs ys) e) in
+    let head : x ≡ y = agree_same x y (first_holds (agree x y) (are_same xs ys) e) in
+    let tail : xs ≡ ys = same_lists xs ys (second_holds (agree x y) (are_same xs ys) e) in
     ap (λ z. z ∷ xs) head ∙ ap (λ zs. y ∷ zs) tail
-  where
-    first : (a b : Bool) → (a && b) ≡ true → a ≡ true
-    first true b h = refl
-    first false b h = absurd (false≢true h)
-
-    second : (a b : Bool) → (a && b) ≡ true → b ≡ true
-    second true b h = h
-    second false b h = absurd (false≢true h)
 
 same_itself : (xs : List Raw) → are_same xs xs ≡ true
 same_itself [] = refl
@@ -176,18 +166,6 @@ is_no_other : {T : Type 0} (xs ys : List T) (b : Bool) → (IsTrue (not b) → (
 is_no_other xs ys true h e = refl
 is_no_other xs ys false h e = absurd (h refl (same_members e))
 
-both_true : (a b : Bool) → a ≡ true → b ≡ true → (a && b) ≡ true
-both_true true b x y = y
-both_true false b x y = absurd (false≢true x)
-
-first_true : (a b : Bool) → (a && b) ≡ true → a ≡ true
-first_true true b h = refl
-first_true false b h = absurd (false≢true h)
-
-second_true : (a b : Bool) → (a && b) ≡ true → b ≡ true
-second_true true b h = h
-second_true false b h = absurd (false≢true h)
-
 flipped : (b : Bool) (n : ℕ) → cond b 0 n ≡ cond (not b) n 0
 flipped true n = refl
 flipped false n = refl
@@ -207,14 +185,14 @@ services_same tells change p q c d is_c is_d h k =
     bools_equal (are_same p.services q.services && are_same p.packets q.packets) (has_same_services c d)
     (λ e.
     let one : map service_entry c.services ≡ map service_entry d.services = entries_told service_entry IsService c.services d.services tells service_within is_c.services_formed is_d.services_formed
-    (h.services ∙ same_lists p.services q.services (first_true (are_same p.services q.services) _ e) ∙ sym k.services) in
+    (h.services ∙ same_lists p.services q.services (first_holds (are_same p.services q.services) _ e) ∙ sym k.services) in
     let two : map packet_entry c.packets ≡ map packet_entry d.packets = entries_told packet_entry IsAddressed c.packets d.packets tells packet_within is_c.packets_addressed is_d.packets_addressed
-    (h.packets ∙ same_lists p.packets q.packets (second_true (are_same p.services q.services) _ e) ∙ sym k.packets) in
+    (h.packets ∙ same_lists p.packets q.packets (second_holds (are_same p.services q.services) _ e) ∙ sym k.packets) in
     is_no_other (service_entries c) (service_entries d) (has_same_services c d) right.services.0
     (ap (λ xs. xs ++ map packet_entry c.packets) one ∙ ap (λ ys. map service_entry d.services ++ ys) two))
-    (λ e. both_true (are_same p.services q.services) (are_same p.packets q.packets)
-    (same_equal p.services q.services (sym h.services ∙ ap (map (λ s. raw_entry (service_entry s))) (list_same is_same_service service_same c.services d.services (first_true (is_same_list is_same_service c.services d.services) _ e)) ∙ k.services))
-    (same_equal p.packets q.packets (sym h.packets ∙ ap (map (λ s. raw_entry (packet_entry s))) (list_same is_same_packet packet_same c.packets d.packets (second_true (is_same_list is_same_service c.services d.services) _ e)) ∙ k.packets)))
+    (λ e. and_from (are_same p.services q.services) (are_same p.packets q.packets)
+    (same_equal p.services q.services (sym h.services ∙ ap (map (λ s. raw_entry (service_entry s))) (list_same is_same_service service_same c.services d.services (first_holds (is_same_list is_same_service c.services d.services) _ e)) ∙ k.services))
+    (same_equal p.packets q.packets (sym h.packets ∙ ap (map (λ s. raw_entry (packet_entry s))) (list_same is_same_packet packet_same c.packets d.packets (second_holds (is_same_list is_same_service c.services d.services) _ e)) ∙ k.packets)))
 
 pub flags_of_change : SpellingIdentifies → ChangeIsUnique → (p q : Pictured) (c d : Configuration) → IsConfiguration c → IsConfiguration d → ShowsEach p c → ShowsEach q d → change_between p q ≡ bits_of (change_of c d)
 flags_of_change tells change p q c d is_c is_d h k =

@@ -1,5 +1,5 @@
 -- In the frames of a run no entry of the current configuration is silent.
-use Rattle.std.proofs.Common.{◌≡◌, ℕ, ◌+◌, ◌≤◌, Bool, true, false, cond, List, [], ◌∷◌, ◌++◌, Contains, ap, subst, arith, inl, inr}
+use Rattle.std.proofs.Common.{◌≡◌, ℕ, ◌+◌, ◌≤◌, Bool, false, List, ◌++◌, Contains, ap, subst, arith, inl, inr}
 use Rattle.std.specs.Prelude.{map}
 use Rattle.std.proofs.lemmas.Bool.{ne_eqb}
 use Rattle.mux_config.specs.Configuration.{Configuration}
@@ -7,7 +7,7 @@ use Rattle.mux_types.specs.declared.entry.Entry.{Entry}
 use Rattle.mux_types.specs.Facts.{Marked, marked, facts_of, sub_entry, sub_entries, service_entry, service_entries, packet_entry}
 use Rattle.fib_carousel.specs.Pages.{rounds}
 use Rattle.fib_reader.specs.Raw.{Raw, raw_entry}
-use Rattle.fib_reader.specs.Listening.{Pictured, Listening, identifier_of, all_entries}
+use Rattle.fib_reader.specs.Listening.{Pictured, Listening, all_entries}
 use Rattle.stream_check.specs.Frames.{Reading}
 use Rattle.stream_check.specs.Pictures.{key_of}
 use Rattle.stream_check.specs.History.{Moment, said, frame_items, frames_ended, listener_after, last_heard}
@@ -21,27 +21,19 @@ use Rattle.plan_runs.specs.declared.event.Event.TheVariants.{Contact}
 use Rattle.plan_runs.specs.Frames.{frame_bytes, after_frame}
 use Rattle.plan_runs.specs.Runs.{happens}
 use Rattle.plan_runs.proofs.Facts.{Holds, IsCode}
-use Rattle.plan_runs.proofs.Parts.{In, partly, IsPart}
+use Rattle.plan_runs.proofs.Parts.{In, IsPart}
 use Rattle.plan_runs.proofs.Pictures.{whole_of, IsPartial, entries_of, in_append, in_contains, in_fact, in_first, in_second, said_by}
 use Rattle.plan_runs.proofs.HeardFrames.{Nothing, current_part}
 use Rattle.stream_laws.specs.Sorts.{IsLongFor}
 use Rattle.stream_laws.proofs.Framing.{read_frame}
 use Rattle.stream_laws.proofs.AgreeingFrames.{agrees_by, before_of}
 use Rattle.stream_laws.proofs.Ages.{comes_in, FrameLaws, AreAged, IsAging, ages}
+use Rattle.stream_laws.proofs.LookedUp.{in_full}
 
 -- ---- the entries of a picture are those of the configuration
 
-in_chosen : (b : Bool) (x y : Raw) (ys more : List Raw) → (In x more → In x ys) → In x (cond b (y ∷ more) more) → In x (y ∷ ys)
-in_chosen true x y ys more f (inl same) = inl same
-in_chosen true x y ys more f (inr later) = inr (f later)
-in_chosen false x y ys more f later = inr (f later)
-
-in_partly : (known : ℕ → Bool) (xs : List Raw) (x : Raw) → In x (partly known xs) → In x xs
-in_partly known [] x h = absurd h
-in_partly known (y ∷ ys) x h = in_chosen (known (identifier_of y)) x y ys (partly known ys) (λ later. in_partly known ys x later) h
-
 in_part : (full : List Raw) (C : Raw → Type 0) (part : List Raw) (x : Raw) → IsPart full C part → In x part → In x full
-in_part full C part x h inside = in_partly h.known full x (subst (λ (xs : List Raw). In x xs) h.is inside)
+in_part full C part x h inside = in_full h.known full x (subst (λ (xs : List Raw). In x xs) h.is inside)
 
 pub entry_of : (c : Configuration) (C : Raw → Type 0) (p : Pictured) (x : Raw) → IsPartial (whole_of c) C p → In x (all_entries p) → (e : Entry) × (raw_entry e ≡ x) × In e (entries_of c)
 entry_of c C p x h inside = elim (in_append x (p.subs ++ p.services) p.packets inside) [

@@ -2,7 +2,7 @@
 use Rattle.std.proofs.Common.{◌≡◌, ℕ, ◌+◌, ◌<◌, ◌≤◌, ◌==◌, ◌&&◌, ◌||◌, Bool, true, false, cond, not, List, [], ◌∷◌, ◌++◌, length, Contains, Some, refl, sym, ap, ◌∙◌, subst, arith, inl, inr, ◌⊎◌}
 use Rattle.std.specs.Prelude.{map}
 use Rattle.std.specs.List.{AllByRecursion, filter}
-use Rattle.std.proofs.lemmas.Bool.{false≢true, eq-eqb, eqb-true, eqb-false}
+use Rattle.std.proofs.lemmas.Bool.{false≢true, eq-eqb, eqb-true, eqb-false, not-true}
 use Rattle.std.proofs.lemmas.List.{append_assoc, map-append, length-map}
 use Rattle.mux_types.proofs.Elements.{contains_cases, contains_none, contains_first, contains_later, each_contains}
 use Rattle.fib_reader.specs.Raw.{Raw}
@@ -23,18 +23,19 @@ use Rattle.stream_laws.specs.Keeping.{entry_like}
 use Rattle.stream_laws.specs.Notices.{AreFibBytes, read_frames, row_of}
 use Rattle.stream_laws.specs.Entries.{IsSent}
 use Rattle.stream_laws.specs.Staying.{last_swap, CurrentStays, CurrentIsSent}
-use Rattle.stream_laws.proofs.Clean.{all_left, all_right, IsClean, told_alone, all_clean, clean_handed, before_said, before_frames, frames_twice}
-use Rattle.stream_laws.proofs.Kept.{current_kept, first_holds, second_holds, is_not}
+use Rattle.stream_laws.proofs.Clean.{all_left, all_right, IsClean, told_alone, all_clean, clean_handed, before_said, before_frames, frames_twice, said_ended}
+use Rattle.stream_laws.proofs.Kept.{current_kept, first_holds, second_holds}
 use Rattle.stream_laws.proofs.Pictures.{picture_with, found_kept, found_again}
 use Rattle.stream_laws.proofs.Noting.{with_member, after_member, after_heard}
 use Rattle.stream_laws.proofs.Saying.{Grows, same_next}
-use Rattle.stream_laws.proofs.Formed.{both_all, all_formed}
-use Rattle.stream_laws.proofs.LastHeard.{last_at_most, said_ended, last_grows}
-use Rattle.stream_laws.proofs.Bytes.{map_contains, contains_map}
+use Rattle.stream_laws.proofs.Formed.{all_formed}
+use Rattle.stream_laws.proofs.LastHeard.{last_at_most, last_grows}
 use Rattle.stream_laws.proofs.PictureKinds.{HasKinds, all_kinds}
 use Rattle.stream_laws.proofs.Announced.{items_in, one_found, frames_counted}
 use Rattle.stream_laws.proofs.AnnouncedChange.{there, sent}
 use Rattle.stream_laws.proofs.Fronts.{faultless_before}
+use Rattle.stream_check.proofs.Framing.{all_append}
+use Rattle.mux_types.proofs.Members.{mapped_from, mapped_to}
 
 -- ---- at the end of each frame no entry is silent
 
@@ -184,7 +185,7 @@ all_fresh step period (Ended count ∷ past) c v =
 
 fresh_one : (period : ℕ) (past : List Moment) (p : Pictured) (raw : Raw) → AreFresh period past p → Contains (all_entries p) raw → IsFresh period past raw
 fresh_one period past p raw h inside =
-    each_contains (IsFresh period past) (all_entries p) raw (both_all (IsFresh period past) (p.subs ++ p.services) p.packets (both_all (IsFresh period past) p.subs p.services h.subs h.services) h.packets) inside
+    each_contains (IsFresh period past) (all_entries p) raw (all_append (IsFresh period past) (p.subs ++ p.services) p.packets (all_append (IsFresh period past) p.subs p.services h.subs h.services) h.packets) inside
 
 -- ---- frames without a swap
 
@@ -227,7 +228,7 @@ current_grows step period past i true d e now sw c =
     (ap (λ (l : Listening). l.current) (after_heard step period past i false (is_flagged i) c e sw refl) ∙ after_ensemble_is false (is_flagged i) i (listener_after past))
 current_grows step period past i false true e now sw c =
     let tuned = first_holds (listener_after past).tuned (not i.next) now in
-    let next = is_not i.next (second_holds (listener_after past).tuned (not i.next) now) in
+    let next = not-true i.next (second_holds (listener_after past).tuned (not i.next) now) in
     let k = current_kept step period past i e tuned next c in
     let same : (listener_after (Said i ∷ past)).current ≡ picture_with i.raw (listener_after past).current =
     ap (λ (l : Listening). l.current) (after_member step period past i c e) ∙ a_current (listener_after past).tuned i.next i.raw (listener_after past) now in
@@ -285,7 +286,7 @@ heard_at step period key past i false e sw c n h =
           inr (record {
             item = i;
             inside = contains_first i [];
-            next_is = is_not i.next bare;
+            next_is = not-true i.next bare;
             key_is = eqb-true (key_of i.raw) key (second_holds (not i.next) (key_of i.raw == key) both);
             found = ap (entry_like i.raw) same ∙ found_kept i.raw (listener_after past).current;
           })
@@ -389,13 +390,13 @@ current_is_sent r size step period before window after raw bytes some len faultl
     elim heard [
       | inl earlier ↦ (let most = last_between step (key_of raw) (read_frames r before) [] (omega arith) in absurd (omega (arith, earlier, most, ended)))
       | inr here ↦
-          let fibs = map_contains (map r.read) window here.0 here.1 in
+          let fibs = mapped_to (map r.read) window here.0 here.1 in
           let h = here.2 in
           let found : entry_like h.item.raw p ≡ Some h.item.raw = ap (λ past. entry_like h.item.raw (listener_after past).current) split ∙ h.found in
           let same : h.item.raw ≡ raw = one_found h.item.raw raw p (there p h.item.raw kinds found).small is.small h.key_is found known in
           let inside : Contains (items_in r fibs.0) h.item = subst (λ fs. Contains (frame_items fs) h.item) (sym fibs.2) h.inside in (
             row_of fibs.0,
-            contains_map row_of window fibs.0 fibs.1,
+            mapped_from row_of window fibs.0 fibs.1,
             subst (IsSent false (row_of fibs.0)) same (sent r false fibs.0 h.item (each_contains AreFibBytes window fibs.0 bytes fibs.1) inside h.next_is),
           )
     ]

@@ -2,7 +2,7 @@
 use Rattle.std.proofs.Common.{◌≡◌, ℕ, zero, suc, ◌+◌, ◌≤◌, ◌%◌, ◌==◌, ◌&&◌, Bool, true, false, cond, not, nat_lt, List, [], ◌∷◌, ◌++◌, drop, Contains, Option, Some, None, refl, sym, ap, ◌∙◌, arith, inl, inr}
 use Rattle.std.specs.Prelude.{map, slice_get, unwrap_or}
 use Rattle.std.specs.List.{AllByRecursion, list_any, concat}
-use Rattle.std.proofs.lemmas.Bool.{false≢true, cases_lt, eqb-true, lt-ltb}
+use Rattle.std.proofs.lemmas.Bool.{false≢true, cases_lt, eqb-true, lt-ltb, not-false}
 use Rattle.std.proofs.lemmas.List.Elements.{Contains-append_cases}
 use Rattle.mux_types.proofs.Elements.{contains_first, contains_later, contains_none}
 use Rattle.mux_types.specs.Entries.{EnsembleInformation}
@@ -21,10 +21,6 @@ use Rattle.stream_laws.proofs.Noting.{ensemble_made, plain_ensemble}
 use Rattle.stream_laws.proofs.Rows.{at_hand, notice_rows}
 use Rattle.stream_laws.proofs.Tracking.{IsFormed, AllAnnounce, has_flagged, flagged_rows, alone_first, all_tracked, all_counted}
 use Rattle.stream_laws.proofs.Saying.{IsSaidAmong, RowsAreSaid, all_said}
-
-pub not_false : (b : Bool) → not b ≡ false → b ≡ true
-not_false true h = refl
-not_false false h = absurd (false≢true (sym h))
 
 other_false : (c b : Bool) → c ≡ false → (not c && b) ≡ false → b ≡ false
 other_false true b e h = absurd (false≢true (sym e))
@@ -55,7 +51,7 @@ swap_rules : IsTheMost → (step period : ℕ) (past : List Moment) (e : Ensembl
 swap_rules most step period past e all whole made =
     let k : Known = known_of step period past in
     let rest = all_left IsNoFault (when (not (e.count % 250 == awaited_low k)) (faults.AnnouncedFor (awaited_low k))) (notice_faults k ++ unit_faults k) all.1 in
-    let low : (e.count % 250 == awaited_low k) ≡ true = not_false (e.count % 250 == awaited_low k) (no_fault (not (e.count % 250 == awaited_low k)) (faults.AnnouncedFor (awaited_low k)) rest) in
+    let low : (e.count % 250 == awaited_low k) ≡ true = not-false (e.count % 250 == awaited_low k) (no_fault (not (e.count % 250 == awaited_low k)) (faults.AnnouncedFor (awaited_low k)) rest) in
     let later = all_left IsNoFault (notice_faults k) (unit_faults k) (all_right IsNoFault (when (not (e.count % 250 == awaited_low k)) (faults.AnnouncedFor (awaited_low k))) (notice_faults k ++ unit_faults k) all.1) in
     let one = all_left IsNoFault (when (not k.is_cut_off && nat_lt k.times 3) (faults.AnnouncedTimes k.times)) _ later in
     let more = all_right IsNoFault (when (not k.is_cut_off && nat_lt k.times 3) (faults.AnnouncedTimes k.times)) _ later in
@@ -63,7 +59,7 @@ swap_rules most step period past e all whole made =
     let three = all_right IsNoFault (when (not k.is_cut_off && nat_lt k.heard 3) (faults.NextHeard k.heard)) _ more in
     let times : nat_lt (at_most 3 (times_announced past)) 3 ≡ false = other_false (is_cut_off past) _ whole (no_fault (not k.is_cut_off && nat_lt k.times 3) (faults.AnnouncedTimes k.times) one) in
     let heard : nat_lt (times_heard past) 3 ≡ false = other_false (is_cut_off past) _ whole (no_fault (not k.is_cut_off && nat_lt k.heard 3) (faults.NextHeard k.heard) two) in
-    let flags : (last_flags past == changes k) ≡ true = not_false (last_flags past == changes k) (other_false (is_cut_off past) _ whole (no_fault (not k.is_cut_off && not (k.flags == changes k)) (faults.Flags k.flags (changes k)) three)) in
+    let flags : (last_flags past == changes k) ≡ true = not-false (last_flags past == changes k) (other_false (is_cut_off past) _ whole (no_fault (not k.is_cut_off && not (k.flags == changes k)) (faults.Flags k.flags (changes k)) three)) in
     record {
       awaited = awaited_is (listener_after past).awaited e (e.count % 250) made (eqb-true (e.count % 250) (awaited_low k) low);
       times = three_times (times_announced past) times;

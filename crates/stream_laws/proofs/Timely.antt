@@ -35,6 +35,7 @@ use Rattle.stream_laws.proofs.Sending.{IsHeadOf, frame_said}
 use Rattle.stream_laws.proofs.AgreeingRuns.{IsBetween, on_air, flags_on}
 use Rattle.stream_laws.proofs.AgreeingFrames.{is_sent, not_sent, SinceFirst}
 use Rattle.stream_laws.proofs.Named.{none_of, made_where_due}
+use Rattle.plan_runs.proofs.Passing.{some_is}
 
 -- ---- the number of announcements
 
@@ -82,11 +83,8 @@ whole_notice IV w t k from to = omega (arith, from, to)
 
 -- ---- a frame
 
-no_counts : {X : Type 0} (k : ℕ) → None ≡ Some k → X
+pub no_counts : {X : Type 0} (k : ℕ) → None ≡ Some k → X
 no_counts k e = absurd cc
-
-inner : (a b : ℕ) → Some a ≡ Some b → a ≡ b
-inner a b e = cc
 
 pub tuned_by : (plan : Plan) (left : Option ℕ) (c n : Configuration) (count : ℕ) (l : Listening) → KnowsBy plan left c n count Nothing Nothing l → l.tuned ≡ true
 tuned_by plan None c n count l h = h.is_tuned
@@ -95,7 +93,7 @@ tuned_by plan (Some k) c n count l h = elim (split_le plan.notice k) [ inl late 
 newly_whole : (plan : Plan) (count : ℕ) (left : Option ℕ) (k t : ℕ) → IsNewly plan count left → left ≡ Some k → k ≤ plan.notice → plan.notice / count_step (layout_mode plan.layout) ≤ t + k / count_step (layout_mode plan.layout)
 newly_whole plan count None k t new is to = no_counts k is
 newly_whole plan count (Some j) k t new is to =
-    let same : j ≡ k = inner j k is in
+    let same : j ≡ k = some_is j k is in
     whole_notice (layout_mode plan.layout) plan.notice t k (omega (arith, new.0, same)) to
 
 -- in a frame of the notice, where no swap is due
@@ -103,7 +101,7 @@ counted_at : (plan : Plan) (s u : State) (past : List Moment) (left : Option ℕ
     → IsCountedAt plan past k
 counted_at plan s u past None k is by h cut at to = newly_whole plan s.count u.left k (times_announced past) by at to
 counted_at plan s u past (Some j) k is by h cut at to =
-    let same : j ≡ k = inner j k (sym by.0 ∙ at) in
+    let same : j ≡ k = some_is j k (sym by.0 ∙ at) in
     elim (split_le plan.notice k) [
       | inl from ↦ whole_notice (layout_mode plan.layout) plan.notice (times_announced past) k from to
       | inr below ↦ h cut k (is ∙ ap Some same) below
@@ -112,7 +110,7 @@ counted_at plan s u past (Some j) k is by h cut at to =
 -- after a frame
 after_left : (left : Option ℕ) (k : ℕ) → left_after_frame left ≡ Some k → IsAhead left → (j : ℕ) × (left ≡ Some j) × (1 ≤ j) × (k ≡ j - 1)
 after_left None k e ahead = no_counts k e
-after_left (Some j) k e ahead = (j, refl, ahead, inner k (j - 1) (sym e))
+after_left (Some j) k e ahead = (j, refl, ahead, some_is k (j - 1) (sym e))
 
 pub cut_is : (past : List Moment) (i : Item) (b : Bool) → is_ensemble i ≡ true → is_swap past i ≡ b → is_cut_off (Said i ∷ past) ≡ cond b false (cond (not (listener_after past).tuned) (is_flagged i) (is_cut_off past))
 cut_is past i b e sw =

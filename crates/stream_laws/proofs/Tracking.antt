@@ -2,7 +2,7 @@
 use Rattle.std.proofs.Common.{◌≡◌, ℕ, ◌+◌, ◌<◌, ◌≤◌, ◌&&◌, ◌||◌, Bool, true, false, cond, not, List, [], ◌∷◌, ◌++◌, Option, Some, None, refl, sym, ap, ◌∙◌, subst, arith}
 use Rattle.std.specs.Prelude.{get_or, unwrap_or}
 use Rattle.std.specs.List.{AllByRecursion, list_any}
-use Rattle.std.proofs.lemmas.Bool.{false≢true}
+use Rattle.std.proofs.lemmas.Bool.{false≢true, and_from}
 use Rattle.std.proofs.lemmas.List.Folds.{list_any-append}
 use Rattle.fib_reader.specs.Listening.{Listening}
 use Rattle.stream_check.specs.History.{Item, Moment, Said, Ended, is_ensemble, ensemble_of, is_flagged, is_swap, listener_after, has_ensemble, has_begun, began_early, times_announced, last_flags}
@@ -11,7 +11,9 @@ use Rattle.stream_check.proofs.Members.{no_swap, member_has_begun, member_began_
 use Rattle.stream_laws.proofs.Clean.{IsClean}
 use Rattle.stream_laws.proofs.Kept.{first_holds, second_holds, next_kept}
 use Rattle.stream_laws.proofs.Noting.{awaited_member, after_heard, ensemble_made, ensemble_flags, begun_is, times_are, flags_are, IsPlainEnsemble, plain_ensemble, some_flags, occurrence_is, not_another, nothing_awaited}
-use Rattle.stream_laws.proofs.Rows.{at_hand, notice_rows, HasNone, all_more, none_at_hand}
+use Rattle.stream_laws.proofs.Rows.{at_hand, notice_rows, HasNone, none_at_hand}
+use Rattle.mux_types.proofs.Tables.{each_pushed}
+use Rattle.plan_runs.proofs.Passing.{some_is}
 
 -- the form of entries in FIBs: FIG 0/0 to 0/3, and a FIG 0/0 in the first FIG is the first entry of its frame
 abbrev pub IsFormed : List Moment → Type 0
@@ -48,7 +50,7 @@ pub record IsTracked (past : List Moment) : Type 0 where
   pub alone : has_begun past ≡ true → (listener_after past).awaited ≡ None → HasBegunAlone past
   pub announcing : (low : ℕ) → (listener_after past).awaited ≡ Some low → IsAnnouncing past low
 
-no_some : {X : Type 0} (low : ℕ) (o : Option ℕ) → o ≡ None → o ≡ Some low → X
+pub no_some : {X : Type 0} (low : ℕ) (o : Option ℕ) → o ≡ None → o ≡ Some low → X
 no_some low o none some = absurd cc
 
 -- ---- an entry of FIG 0/1 to 0/3
@@ -73,7 +75,7 @@ begun_alone step period past i c e t is none true was =
           ∙ ap (λ b. cond (((listener_after past).tuned && i.next) && not b) (not (has_ensemble past)) (began_early past)) was
           ∙ not_begun ((listener_after past).tuned && i.next) (not (has_ensemble past)) (began_early past) ∙ before.early;
       rows = subst (AllByRecursion HasNone) (sym (same_rows past i e)) before.rows;
-      hand = all_more (λ (j : Item). is_ensemble j ≡ false) (at_hand past) i before.hand e;
+      hand = each_pushed (λ (j : Item). is_ensemble j ≡ false) (at_hand past) i before.hand e;
     }
   where
     not_begun : (a x y : Bool) → cond (a && false) x y ≡ y
@@ -91,7 +93,7 @@ begun_alone step period past i c e t is none false was =
           ∙ ap (λ b. cond (true && not b) (not (has_ensemble past)) (began_early past)) was
           ∙ ap not alone;
       rows = subst (AllByRecursion HasNone) (sym (same_rows past i e ∙ (t.before was).rows)) tt;
-      hand = all_more (λ (j : Item). is_ensemble j ≡ false) (at_hand past) i (none_at_hand past alone) e;
+      hand = each_pushed (λ (j : Item). is_ensemble j ≡ false) (at_hand past) i (none_at_hand past alone) e;
     }
 
 member_tracked : (step period : ℕ) (past : List Moment) (i : Item) → IsClean step period (Said i ∷ past) → is_ensemble i ≡ false → IsTracked past → IsTracked (Said i ∷ past)
@@ -110,7 +112,7 @@ member_tracked step period past i c e t =
             rows = subst (λ (n : ℕ). AllByRecursion (AllAnnounce n low) (notice_rows (Said i ∷ past))) (member_flags past i e)
                 (subst (AllByRecursion (AllAnnounce (last_flags past) low)) (sym (same_rows past i e)) a.rows);
             hand = subst (λ (n : ℕ). AllAnnounce n low (at_hand (Said i ∷ past))) (member_flags past i e)
-                (all_more (Announces (last_flags past) low) (at_hand past) i a.hand (λ is_one. absurd (false≢true (sym e ∙ is_one))));
+                (each_pushed (Announces (last_flags past) low) (at_hand past) i a.hand (λ is_one. absurd (false≢true (sym e ∙ is_one))));
           };
     }
 
@@ -154,7 +156,7 @@ flagged_tracked step period past i b c e hand sw fl t =
       before = λ is. absurd (false≢true (sym is ∙ begun));
       alone = λ is none. no_some low (listener_after (Said i ∷ past)).awaited none awaits;
       announcing = λ n is.
-          let same : low ≡ n = inner low n (sym awaits ∙ is) in
+          let same : low ≡ n = some_is low n (sym awaits ∙ is) in
           record {
             begun = begun;
             flags = subst (λ (m : ℕ). 0 < m) (sym flags) (some_flags (ensemble_of i).change f);
@@ -171,9 +173,6 @@ flagged_tracked step period past i b c e hand sw fl t =
     now true x = refl
     now false true = refl
     now false false = refl
-
-    inner : (a n : ℕ) → Some a ≡ Some n → a ≡ n
-    inner a n s = cc
 
     either : (d : Bool) → is_swap past i ≡ d → has_flags (ensemble_of i) ≡ true → IsPlainEnsemble (known_of step period past) i.first (ensemble_of i)
         → AllByRecursion (AllAnnounce (ensemble_of i).change (get_or i.raw.bytes 4 0)) (cond d [] (notice_rows past))
@@ -218,11 +217,7 @@ ensemble_tracked step period past i true false c e hand sw fl t = swap_tracked s
 ensemble_tracked step period past i false false c e hand sw fl t = quiet_tracked step period past i c e sw fl t
 
 pub alone_first : (step period : ℕ) (past : List Moment) (i : Item) → IsClean step period (Said i ∷ past) → IsFormed (Said i ∷ past) → is_ensemble i ≡ true → at_hand past ≡ []
-alone_first step period past i c w e = w.1 (both i.first (is_ensemble i) (plain_ensemble step period past i c e).first_one e)
-  where
-    both : (a b : Bool) → a ≡ true → b ≡ true → (a && b) ≡ true
-    both true b x y = y
-    both false b x y = absurd (false≢true x)
+alone_first step period past i c w e = w.1 (and_from i.first (is_ensemble i) (plain_ensemble step period past i c e).first_one e)
 
 -- ---- along the past
 
@@ -246,13 +241,13 @@ all_tracked step period (Ended count ∷ past) c w =
       before = λ is. let b = t.before is in record { awaited = b.awaited; times = b.times; rows = ended_rows count past false is };
       alone = λ is none.
           let a = t.alone is none in
-          record { early = a.early; rows = subst (AllByRecursion HasNone) (sym (ended_rows count past true is)) (all_more HasNone (notice_rows past) (at_hand past) a.rows a.hand); hand = tt };
+          record { early = a.early; rows = subst (AllByRecursion HasNone) (sym (ended_rows count past true is)) (each_pushed HasNone (notice_rows past) (at_hand past) a.rows a.hand); hand = tt };
       announcing = λ low is.
           let a = t.announcing low is in
           record {
             begun = a.begun;
             flags = a.flags;
-            rows = subst (AllByRecursion (AllAnnounce (last_flags past) low)) (sym (ended_rows count past true a.begun)) (all_more (AllAnnounce (last_flags past) low) (notice_rows past) (at_hand past) a.rows a.hand);
+            rows = subst (AllByRecursion (AllAnnounce (last_flags past) low)) (sym (ended_rows count past true a.begun)) (each_pushed (AllAnnounce (last_flags past) low) (notice_rows past) (at_hand past) a.rows a.hand);
             hand = tt;
           };
     }

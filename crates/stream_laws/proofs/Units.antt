@@ -2,7 +2,7 @@
 use Rattle.std.proofs.Common.{◌≡◌, ℕ, ◌+◌, ◌-◌, ◌*◌, ◌/◌, ◌%◌, ◌<◌, ◌≤◌, ◌&&◌, Bool, true, false, cond, nat_lt, List, [], ◌∷◌, Contains, Some, None, refl, sym, ap, ◌∙◌, subst, arith, inl, inr}
 use Rattle.std.specs.Prelude.{map}
 use Rattle.std.specs.List.{AllByRecursion}
-use Rattle.std.proofs.lemmas.Bool.{false≢true, cases_lt, ltb-true, le-ltb}
+use Rattle.std.proofs.lemmas.Bool.{false≢true, cases_lt, ltb-true, le-ltb, false_from_ne_true, and_right}
 use Rattle.mux_eep.specs.declared.sizes.EepSet.{EepSet}
 use Rattle.mux_eep.specs.declared.sizes.EepSet.TheVariants.{A, B}
 use Rattle.mux_types.specs.declared.parts.Sub.{Sub}
@@ -61,10 +61,6 @@ parts : (t : Bool) (a b : Bool) → t ≡ (a && b) → t ≡ true → (a ≡ tru
 parts t true b e is = (refl, sym e ∙ is)
 parts t false b e is = absurd (false≢true (sym e ∙ is))
 
-decided : (b : Bool) → (b ≡ true → ⊥) → b ≡ false
-decided true h = absurd (h refl)
-decided false h = refl
-
 shared : (c : Configuration) → IsSound c → IsConfiguration c → (a b : Raw) → IsSubRaw c a → IsSubRaw c b → share_unit a b ≡ true → identifier_of a ≡ identifier_of b
 shared c sound is a b x y shares =
     let one = parts (share_unit a b) (is_long_form a && is_long_form b) _ refl shares in
@@ -91,7 +87,7 @@ no_partner : (c : Configuration) → IsSound c → IsConfiguration c → (a : Ra
 no_partner c sound is a [] x all up = refl
 no_partner c sound is a (b ∷ bs) x all up =
     let less : identifier_of a < identifier_of b = up.0 in
-    let apart : share_unit a b ≡ false = decided (share_unit a b) (λ shares. (let same = shared c sound is a b x all.0 shares in omega (arith, less, same))) in
+    let apart : share_unit a b ≡ false = false_from_ne_true (share_unit a b) (λ shares. (let same = shared c sound is a b x all.0 shares in omega (arith, less, same))) in
     ap (λ t. cond t (Some (identifier_of b)) (partner a bs)) apart ∙ no_partner c sound is a bs x all.1 up.1
 
 no_overlap : (c : Configuration) → IsSound c → IsConfiguration c → (rs : List Raw) → AllByRecursion (IsSubRaw c) rs → IsAscending identifier_of rs → overlap rs ≡ None
@@ -106,11 +102,7 @@ none_past c is (r ∷ rs) all =
     let last : end_unit r ≡ x.sub.start + size_of_sub x.sub = ap end_unit (sym x.is) ∙ ends_at x.sub placed in
     let ends = placed.ends in
     let within : nat_lt 864 (end_unit r) ≡ false = le-ltb 864 (end_unit r) (omega (arith, last, ends)) in
-    ap (λ t. cond t (Some (faults.PastEnd (identifier_of r))) (past_end rs)) (and_not (is_long_form r) _ within) ∙ none_past c is rs all.1
-  where
-    and_not : (a b : Bool) → b ≡ false → (a && b) ≡ false
-    and_not true b e = e
-    and_not false b e = refl
+    ap (λ t. cond t (Some (faults.PastEnd (identifier_of r))) (past_end rs)) (and_right (is_long_form r) _ within) ∙ none_past c is rs all.1
 
 -- ---- a part of them
 

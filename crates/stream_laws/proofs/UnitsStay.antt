@@ -1,7 +1,7 @@
 -- Without a fault, the capacity units of the current configuration stay as the swap left them.
 use Rattle.std.proofs.Common.{◌≡◌, ℕ, suc, ◌+◌, ◌≤◌, ◌==◌, ◌&&◌, Bool, true, false, cond, not, List, [], ◌∷◌, Option, Some, None, refl, sym, ap, ◌∙◌, subst, arith}
 use Rattle.std.specs.Prelude.{slice_get}
-use Rattle.std.proofs.lemmas.Bool.{false≢true}
+use Rattle.std.proofs.lemmas.Bool.{false≢true, not-true}
 use Rattle.mux_config.specs.Configuration.{IsAscending}
 use Rattle.mux_config.specs.Tables.{entry_at, with_entry, with_entry_changed}
 use Rattle.mux_config.proofs.Keeping.{present}
@@ -15,7 +15,7 @@ use Rattle.stream_check.proofs.Members.{member_settles}
 use Rattle.stream_laws.specs.Keeping.{entry_like}
 use Rattle.stream_laws.specs.Units.{HaveOwnUnits, UnitsStayOwn}
 use Rattle.stream_laws.proofs.Clean.{IsClean, entry_clean}
-use Rattle.stream_laws.proofs.Kept.{current_kept, first_holds, second_holds, is_not}
+use Rattle.stream_laws.proofs.Kept.{current_kept, first_holds, second_holds}
 use Rattle.stream_laws.proofs.Pictures.{picture_with}
 use Rattle.stream_laws.proofs.Noting.{with_member, after_member, after_heard}
 use Rattle.stream_laws.proofs.Staying.{no_current, a_current, after_ensemble_is}
@@ -99,7 +99,7 @@ stays step period past i true false e is sw now c settled before =
 stays step period past i false d true is sw now c settled before =
     let l : Listening = listener_after past in
     let none : settles_at period past ≡ 0 = member_settles period past i is ∙ settled in
-    let k = current_kept step period past i is (first_holds l.tuned (not i.next) now) (is_not i.next (second_holds l.tuned (not i.next) now)) c in
+    let k = current_kept step period past i is (first_holds l.tuned (not i.next) now) (not-true i.next (second_holds l.tuned (not i.next) now)) c in
     let there : entry_like i.raw l.current ≡ Some i.raw = k.there (omega (arith, none)) in
     let same : (listener_after (Said i ∷ past)).current ≡ picture_with i.raw l.current =
     ap (λ (x : Listening). x.current) (after_member step period past i c is) ∙ a_current l.tuned i.next i.raw l now in

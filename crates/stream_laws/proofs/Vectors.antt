@@ -1,16 +1,22 @@
 -- Small streams, computed by the checker from the definitions: for each, examples that hold and examples that fail.
-use Rattle.std.proofs.Common.{◌≡◌, ℕ, true, false, List, [], ◌∷◌, length, get_or, Some, refl, ap, arith}
+use Rattle.std.proofs.Common.{◌≡◌, ℕ, true, false, List, [], ◌∷◌, get_or, Some, refl, ap, arith, None, sym}
 use Rattle.fib_codec.specs.Grammar.{Fig, Open}
 use Rattle.fib_reader.specs.Raw.{Raw}
 use Rattle.stream_check.specs.declared.finding.Fault.TheVariants as faults
 use Rattle.stream_check.specs.declared.finding.StreamEvent.TheVariants as events
 use Rattle.stream_check.specs.declared.finding.What.TheVariants as whats
 use Rattle.stream_check.specs.Frames.{Fib}
-use Rattle.stream_check.specs.History.{Item, Moment, is_swap, is_cut_off, rows}
+use Rattle.stream_check.specs.History.{Item, Moment}
 use Rattle.stream_check.specs.Stream.{after_frames}
 use Rattle.stream_laws.specs.Faultless.{IsNoFault, IsFaultless, IsSaidIn}
 use Rattle.stream_laws.specs.Keeping.{IsKept}
-use Rattle.stream_laws.specs.Notices.{IsFibBytes, last_of, notice_frames}
+use Rattle.stream_laws.specs.Notices.{last_of, notice_frames}
+use Rattle.mux_types.specs.Entries.{EnsembleInformation}
+use Rattle.stream_check.specs.Rules.{first_unit, end_unit}
+use Rattle.stream_laws.specs.Staying.{last_swap, MakeNoSwap, IsCurrentAfter}
+use Rattle.stream_laws.specs.Units.{IsUnitOf, HaveOwnUnits}
+use Rattle.stream_laws.specs.Held.{BeginsUnflagged}
+use Rattle.stream_laws.proofs.OwnUnits.{own_units}
 
 event_is_none : IsNoFault (whats.Event events.Swap)
 event_is_none = tt
@@ -28,43 +34,33 @@ abbrev flagged : ℕ → Fig
 flagged count = Open 0 ((225 ∷ 197 ∷ 64 ∷ count ∷ 4 ∷ []) ∷ [])
 
 -- with 96 capacity units, and with 72
-abbrev pub before : List ℕ
+abbrev before : List ℕ
 before = 4 ∷ 0 ∷ 136 ∷ 96 ∷ []
 
-abbrev pub after : List ℕ
+abbrev after : List ℕ
 after = 4 ∷ 0 ∷ 136 ∷ 72 ∷ []
 
 abbrev frame_of : List Fig → List Fib
 frame_of figs = Some figs ∷ Some [] ∷ Some [] ∷ []
 
-abbrev pub first : List Fib
+abbrev first : List Fib
 first = frame_of (header 0 ∷ Open 1 (before ∷ []) ∷ [])
 
-abbrev pub noticed : ℕ → List Fib
+abbrev noticed : ℕ → List Fib
 noticed count = frame_of (flagged count ∷ Open 1 (before ∷ []) ∷ Open 129 (after ∷ []) ∷ [])
 
-abbrev pub swapped : List Fib
+abbrev swapped : List Fib
 swapped = frame_of (header 4 ∷ Open 1 (after ∷ []) ∷ [])
 
-abbrev pub stream : List (List Fib)
+abbrev stream : List (List Fib)
 stream = first ∷ noticed 1 ∷ noticed 2 ∷ noticed 3 ∷ swapped ∷ []
 
 faultless : IsFaultless 3 1 250 stream
 faultless = record { room = refl; plain = (tt, (tt, (tt, tt))) }
 
--- a frame with a missing FIB, and an entry that changes without a notice
-short_frame : IsFaultless 3 1 250 ((Some (header 0 ∷ []) ∷ Some [] ∷ []) ∷ []) → ⊥
-short_frame h = h.plain.1.0
-
+-- an entry that changes without a notice
 silent_change : IsFaultless 3 1 250 (first ∷ frame_of (header 1 ∷ Open 1 (after ∷ []) ∷ []) ∷ []) → ⊥
 silent_change h = h.plain.1.0
-
--- a notice of three frames, one of which lacks the entry of the next configuration
-abbrev announced : ℕ → List Fib
-announced count = frame_of (flagged count ∷ Open 1 (before ∷ []) ∷ [])
-
-heard_twice : IsFaultless 3 1 250 (first ∷ noticed 1 ∷ announced 2 ∷ noticed 3 ∷ swapped ∷ []) → ⊥
-heard_twice h = h.plain.1.1.1.0
 
 -- ---- the swap of this stream
 
@@ -85,16 +81,6 @@ said_there = record {
   items_are = refl;
   past_is = refl;
 }
-
-makes_the_swap : is_swap past swap_header ≡ true
-makes_the_swap = refl
-
-was_heard_whole : is_cut_off past ≡ false
-was_heard_whole = refl
-
--- its notice has the three frames before it
-has_three : length (rows past) ≡ 3
-has_three = refl
 
 its_frames : notice_frames past (((10 ∷ []) ∷ []) ∷ ((11 ∷ []) ∷ (12 ∷ []) ∷ []) ∷ ((20 ∷ []) ∷ []) ∷ ((30 ∷ []) ∷ []) ∷ ((40 ∷ []) ∷ []) ∷ []) ≡ (11 ∷ 12 ∷ []) ∷ (20 ∷ []) ∷ (30 ∷ []) ∷ []
 its_frames = refl
@@ -119,17 +105,80 @@ otherwise h =
     let wrong : 96 ≡ 72 = same in
     omega (arith, wrong)
 
--- sub-channel 2 is not there, which is allowed until the current configuration is settled
-abbrev new : List ℕ
-new = 8 ∷ 96 ∷ 136 ∷ 72 ∷ []
+-- ---- swaps
 
-new_at_first : IsKept 250 heard (now new)
-new_at_first = record { agrees = λ known e. cc; there = λ settled. absurd (omega (arith, settled)) }
+in_the_fifth : last_swap (after_frames 1 [] stream) ≡ 5
+in_the_fifth = refl
 
-new_later : IsKept 1 heard (now new) → ⊥
-new_later h = (let found = h.there (omega arith) in cc)
+not_yet : last_swap (after_frames 1 [] (first ∷ noticed 1 ∷ [])) ≡ 0
+not_yet = refl
 
--- ---- FIBs
+none_in_the_notice : MakeNoSwap 1 (first ∷ []) (noticed 1 ∷ noticed 2 ∷ noticed 3 ∷ [])
+none_in_the_notice = (let none : last_swap (after_frames 1 [] (first ∷ noticed 1 ∷ noticed 2 ∷ noticed 3 ∷ [])) ≡ 0 = refl in omega (arith, none))
 
-no_fib : IsFibBytes (1 ∷ 2 ∷ []) → ⊥
-no_fib h = (let size : 2 ≡ 32 = h.0 in omega (arith, size))
+one_after_it : MakeNoSwap 1 (first ∷ []) (noticed 1 ∷ noticed 2 ∷ noticed 3 ∷ swapped ∷ []) → ⊥
+one_after_it h = (let fifth : last_swap (after_frames 1 [] stream) ≡ 5 = refl in omega (arith, fifth, h))
+
+-- ---- the current configuration
+
+abbrev sub : List ℕ → Raw
+sub bytes = record { ext = 1; long = false; bytes = bytes }
+
+is_current : IsCurrentAfter 1 (first ∷ []) (sub before)
+is_current = refl
+
+not_any_more : IsCurrentAfter 1 stream (sub before) → ⊥
+not_any_more h =
+    let some : Some (sub after) ≡ Some (sub before) = h in
+    let same : sub after ≡ sub before = cc in
+    let wrong : 72 ≡ 96 = ap (λ (r : Raw). get_or r.bytes 3 0) same in
+    omega (arith, wrong)
+
+-- ---- capacity units: 96 from 0 on, then 72, and 72 from 0 on
+
+abbrev beside : List ℕ
+beside = 8 ∷ 96 ∷ 136 ∷ 72 ∷ []
+
+abbrev within_it : List ℕ
+within_it = 8 ∷ 0 ∷ 136 ∷ 72 ∷ []
+
+last_unit : IsUnitOf (sub before) 95
+last_unit =
+    let from : first_unit (sub before) ≡ 0 = refl in
+    let to : end_unit (sub before) ≡ 96 = refl in
+    record { long_form = refl; from = omega (arith, from); to = omega (arith, to) }
+
+one_too_far : IsUnitOf (sub before) 96 → ⊥
+one_too_far h = (let end : end_unit (sub before) ≡ 96 = refl in let to = h.to in omega (arith, end, to))
+
+unit_of_the_other : IsUnitOf (sub within_it) 5
+unit_of_the_other =
+    let from : first_unit (sub within_it) ≡ 0 = refl in
+    let to : end_unit (sub within_it) ≡ 72 = refl in
+    record { long_form = refl; from = omega (arith, from); to = omega (arith, to) }
+
+unit_of_both : IsUnitOf (sub before) 5
+unit_of_both =
+    let from : first_unit (sub before) ≡ 0 = refl in
+    let to : end_unit (sub before) ≡ 96 = refl in
+    record { long_form = refl; from = omega (arith, from); to = omega (arith, to) }
+
+side_by_side : HaveOwnUnits (sub before ∷ sub beside ∷ [])
+side_by_side = own_units (sub before ∷ sub beside ∷ []) tt
+
+one_in_the_other : HaveOwnUnits (sub before ∷ sub within_it ∷ []) → ⊥
+one_in_the_other h = (let same : 0 ≡ 1 = h.apart 0 1 (sub before) (sub within_it) 5 refl refl unit_of_both unit_of_the_other in omega (arith, same))
+
+-- ---- the first FIG 0/0
+
+abbrev bare : EnsembleInformation
+bare = record { eid = 57797; change = 0; al = false; count = 0; occurrence = None }
+
+begins_bare : BeginsUnflagged stream
+begins_bare e is = by e is
+  where
+    by : (x : EnsembleInformation) → Some bare ≡ Some x → x.change ≡ 0
+    by x k = (let same : bare ≡ x = cc in sym (ap (λ (y : EnsembleInformation). y.change) same))
+
+begins_flagged : BeginsUnflagged (noticed 1 ∷ []) → ⊥
+begins_flagged h = (let none : 1 ≡ 0 = h _ refl in omega (arith, none))

@@ -1,12 +1,30 @@
 -- The terms of the laws in small cases, computed by the checker from the definitions: examples that hold and that fail.
-use Rattle.std.proofs.Common.{◌≡◌, ℕ, zero, suc, ◌<◌, true, false, List, [], ◌∷◌, ◌++◌, length, replicate, flat_map, Some, refl, sym, ap, ◌∙◌, arith}
-use Rattle.std.specs.Prelude.{map, slice_get, take, drop, cond, ◌*◌, ◌==◌}
+use Rattle.std.proofs.Common.{◌≡◌, ℕ, zero, suc, ◌%◌, Bool, false, List, [], ◌∷◌, ◌++◌, length, flat_map, replicate, refl, sym, ap, ◌∙◌, subst, arith, ◌<◌, true, Some}
+use Rattle.std.specs.Prelude.{map, take, drop, ◌*◌, slice_get, cond, ◌==◌}
+use Rattle.std.specs.List.{AllByRecursion}
+use Rattle.std.proofs.lemmas.Bool.{false≢true}
+use Rattle.fib_codec.specs.Heard.{fib_at, IsEnsembleHeardInRow}
+use Rattle.fib_codec.specs.Laws.{FibHas32Bytes, IsByte}
+use Rattle.fib_codec.specs.Modes.{fib_count, count_step}
+use Rattle.fib_codec.specs.declared.modes.Mode.{Mode}
+use Rattle.mux_types.specs.Entries.{EnsembleInformation}
+use Rattle.stream_check.specs.declared.finding.Fault.{Fault}
+use Rattle.stream_check.specs.declared.finding.Finding.{Finding}
+use Rattle.stream_check.specs.declared.finding.What.TheVariants as whats
+use Rattle.stream_check.specs.Frames.{Fib, Reading, AreFrames}
+use Rattle.stream_check.specs.Stream.{findings_of, frames_full}
+use Rattle.stream_check.specs.Following.{Checking, Follows}
+use Rattle.stream_check.specs.Reported.{All}
+use Rattle.plan_code.specs.Program.{Program}
+use Rattle.plan_code.specs.Machine.{State}
+use Rattle.stream_laws.specs.Faultless.{IsNoFault, IsSaidIn}
+use Rattle.stream_laws.specs.Counting.{IsCounted, AreCounted}
+use Rattle.stream_laws.specs.RunningOn.{IsAtCount, RunOn}
+use Rattle.stream_laws.specs.Delivered.{IsCleared, IsPieceOf, IsHeardOut}
+use Rattle.stream_check.proofs.Fronts.{no_flat}
 use Rattle.fib_codec.specs.declared.frame_layout.FrameLayout.TheVariants.{Whole}
 use Rattle.mux_config.specs.Tables.{entry_at}
 use Rattle.stream_laws.specs.Keeping.{entry_like}
-use Rattle.std.specs.List.{AllByRecursion}
-use Rattle.fib_codec.specs.Heard.{fib_at}
-use Rattle.fib_codec.specs.Laws.{IsByte, FibHas32Bytes}
 use Rattle.fib_codec.specs.declared.modes.Mode.TheVariants.{II}
 use Rattle.fib_reader.specs.Raw.{Raw}
 use Rattle.fib_reader.specs.Listening.{blank, identifier_of}
@@ -14,21 +32,99 @@ use Rattle.stream_check.specs.declared.contradiction.Contradiction.TheVariants.{
 use Rattle.stream_check.specs.declared.finding.EntryName.TheVariants as names
 use Rattle.stream_check.specs.declared.finding.Fault.TheVariants as faults
 use Rattle.stream_check.specs.declared.finding.StreamEvent.TheVariants as named_events
-use Rattle.stream_check.specs.declared.finding.What.TheVariants as whats
-use Rattle.stream_check.specs.declared.finding.Finding.{Finding}
-use Rattle.stream_check.specs.Frames.{Fib, Reading}
 use Rattle.stream_check.specs.History.{Item, Moment}
-use Rattle.plan_code.specs.Program.{Program}
-use Rattle.plan_code.specs.Machine.{State}
 use Rattle.plan_runs.specs.declared.event.Event.TheVariants.{Frame}
 use Rattle.plan_runs.specs.Frames.{is_due}
-use Rattle.stream_laws.specs.Faultless.{IsSaidIn}
 use Rattle.stream_laws.specs.Notices.{IsFibBytes, AreFibBytes, IsCutOf}
 use Rattle.stream_laws.specs.Entries.{IsSent, IsSentWhole, AnnouncesChange}
 use Rattle.stream_laws.specs.Framing.{frames_of}
 use Rattle.stream_laws.specs.Sorts.{is_of_frame, is_of_word, is_of_times, is_of_flags, is_of_mention, is_of_silence, is_of_appearance, is_of_repetition, is_of_period, IsFreeOf, IsFreeUnlessShort, IsLongFor, RunIsFree}
 use Rattle.stream_laws.specs.Naming.{swap_frames, due_frames, due_after_first}
-use Rattle.stream_laws.proofs.NoticeRows.{AreRows}
+use Rattle.stream_laws.proofs.Delivered.{all_of}
+
+-- ---- counts
+
+heard_nowhere : FibHas32Bytes → (next : Bool) (e : EnsembleInformation) → IsEnsembleHeardInRow [] next e → ⊥
+heard_nowhere size next e h =
+    let bytes : fib_at [] h.0 ≡ [] = ap (λ (bs : List ℕ). take 32 bs) (none (32 * h.0)) in
+    let wrong : 0 ≡ 32 = sym (ap length bytes) ∙ size (fib_at [] h.0) h.1.0 h.1.2 in
+    omega (arith, wrong)
+  where
+    none : (n : ℕ) → drop {A = ℕ} n [] ≡ []
+    none zero = refl
+    none (suc n) = refl
+
+-- a frame of no bytes has no FIG 0/0: as it has to be at count 1, and not at count 4
+off_the_step : FibHas32Bytes → IsCounted 4 7 1 []
+off_the_step size = record { there = λ on. absurd (omega (arith, on)); only = λ next e h. absurd (heard_nowhere size next e h) }
+
+on_the_step : FibHas32Bytes → IsCounted 4 7 4 [] → ⊥
+on_the_step size c = (let header = c.there refl in heard_nowhere size false header.0 header.1)
+
+three_frames : FibHas32Bytes → AreCounted 4 7 4997 ([] ∷ [] ∷ [] ∷ [])
+three_frames size = (off 4997 (λ on. omega (arith, on)), (off 4998 (λ on. omega (arith, on)), (off 4999 (λ on. omega (arith, on)), tt)))
+  where
+    off : (count : ℕ) → (count % 4 ≡ 0 → ⊥) → IsCounted 4 7 count []
+    off count never = record { there = λ on. absurd (never on); only = λ next e h. absurd (heard_nowhere size next e h) }
+
+-- after 4999 comes 0
+the_next_is_zero : FibHas32Bytes → AreCounted 4 7 4999 ([] ∷ [] ∷ []) → ⊥
+the_next_is_zero size c = (let header = c.1.0.there refl in heard_nowhere size false header.0 header.1)
+
+-- in a stream, too
+no_header : FibHas32Bytes → (eid count : ℕ) → (count % 4 ≡ 0 → ⊥) → IsAtCount 4 eid count []
+no_header size eid count never = record { there = λ on. absurd (never on); only = λ next e h. absurd (heard_nowhere size next e h) }
+
+a_header_is_due : FibHas32Bytes → IsAtCount 4 7 4 [] → ⊥
+a_header_is_due size c = (let header = c.there refl in heard_nowhere size header.0 header.1 header.2)
+
+two_run_on : FibHas32Bytes → RunOn 4 7 4998 ([] ∷ [] ∷ [])
+two_run_on size = (no_header size 7 4998 (λ on. omega (arith, on)), (no_header size 7 4999 (λ on. omega (arith, on)), tt))
+
+zero_follows : FibHas32Bytes → RunOn 4 7 4999 ([] ∷ [] ∷ []) → ⊥
+zero_follows size c = (let header = c.1.0.there refl in heard_nowhere size header.0 header.1 header.2)
+
+-- ---- pieces
+
+first_fib : IsPieceOf (replicate 32 0 ++ replicate 32 1) (replicate 32 0 ∷ [])
+first_fib = record { before = []; after = replicate 32 1; whole = refl; starts = refl; sizes = (refl, tt) }
+
+no_fib : IsPieceOf (1 ∷ []) ((1 ∷ []) ∷ []) → ⊥
+no_fib p = (let wrong : 1 ≡ 32 = p.sizes.0 in omega (arith, wrong))
+
+-- ---- what is reported
+
+nothing_given : (r : Reading) (mode : Mode) (period : ℕ) → IsCleared r mode period []
+nothing_given r mode period = record {
+  room = λ start reported e.
+      let none = no_frames e.skipped e.frames e.rest e.framed.cut (sym e.framed.whole) in
+      false≢true (sym (ap (frames_full (count_step mode) period []) none) ∙ e.full);
+  events = λ start reported c f. no_faults f.skipped f.frames (map r.read c.held) f.framed.cut (sym f.framed.whole);
+  plain = λ found c f. subst (AllByRecursion (λ (one : Finding). IsNoFault one.what)) (sym (all_of found _ f.findings)) (no_faults f.skipped f.frames (map r.read c.held) f.framed.cut (sym f.framed.whole));
+}
+  where
+    no_frames : (skipped : List Fib) (frames : List (List Fib)) (rest : List Fib) → AreFrames (fib_count mode) frames rest → skipped ++ (flat_map (λ f. f) frames ++ rest) ≡ [] → frames ≡ []
+    no_frames [] frames rest cut e = no_flat (fib_count mode) frames rest cut e
+    no_frames (x ∷ xs) frames rest cut e = absurd cc
+
+    no_faults : (skipped : List Fib) (frames : List (List Fib)) (rest : List Fib) → AreFrames (fib_count mode) frames rest → skipped ++ (flat_map (λ f. f) frames ++ rest) ≡ []
+        → AllByRecursion (λ (one : Finding). IsNoFault one.what) (findings_of (fib_count mode) (count_step mode) period [] frames)
+    no_faults skipped frames rest cut e = subst (λ fs. AllByRecursion (λ (one : Finding). IsNoFault one.what) (findings_of (fib_count mode) (count_step mode) period [] fs)) (sym (no_frames skipped frames rest cut e)) tt
+
+a_fault_reported : (r : Reading) (mode : Mode) (period : ℕ) (fibs : List (List ℕ)) (frame count : ℕ) (fault : Fault) (c : Checking)
+    → Follows r mode period (map r.read fibs) (All []) (All (record { frame = frame; count = count; what = whats.Fault fault } ∷ [])) c
+    → IsCleared r mode period fibs → ⊥
+a_fault_reported r mode period fibs frame count fault c f cleared = (cleared.plain (record { frame = frame; count = count; what = whats.Fault fault } ∷ []) c f).0
+
+-- without events nothing is skipped, heard or left over
+nothing_heard : (r : Reading) (p : Program) (s : State) → IsHeardOut r p s [] [] [] [] []
+nothing_heard r p s = record { skips = refl; frames_are = refl; undamaged = refl; none_left = refl }
+
+one_left : (r : Reading) (p : Program) (s : State) → IsHeardOut r p s [] [] [] [] ([] ∷ []) → ⊥
+one_left r p s h = no_list h.none_left
+  where
+    no_list : ◌≡◌ {A = List (List ℕ)} ([] ∷ []) [] → ⊥
+    no_list e = absurd cc
 
 -- ---- entries, FIBs and frames
 
@@ -98,13 +194,6 @@ not_announced a = none a.headers.first a.headers.in_first.1
     none zero e = absurd cc
     none (suc n) e = absurd cc
 
--- without frames there are no rows
-rows_of_none : AreRows [] []
-rows_of_none = tt
-
-row_of_none : AreRows [] ((7 ∷ []) ∷ []) → ⊥
-row_of_none h = h
-
 -- ---- faults and names
 
 out_of_place : is_of_frame faults.OutOfPlace ≡ true
@@ -113,23 +202,11 @@ out_of_place = refl
 not_of_frames : is_of_frame (faults.Flags 1 2) ≡ false
 not_of_frames = refl
 
-in_place : IsFreeOf is_of_frame (whats.Event named_events.Swap)
-in_place = tt
-
-not_in_place : IsFreeOf is_of_frame (whats.Fault (faults.Count 7)) → ⊥
-not_in_place h = absurd cc
-
 of_words : is_of_word (faults.AnnouncedAgain 1 2) ≡ true
 of_words = refl
 
 not_of_words : is_of_word (faults.ShortFrame 2) ≡ false
 not_of_words = refl
-
-kept : IsFreeOf is_of_word (whats.Event named_events.Swap)
-kept = tt
-
-not_kept : IsFreeOf is_of_word (whats.Fault (faults.AnnouncedFor 7)) → ⊥
-not_kept h = absurd cc
 
 too_soon : is_of_times (faults.AnnouncedTimes 2) ≡ true
 too_soon = refl
@@ -155,26 +232,11 @@ absent_is_of_mention = refl
 silence_is_not_of_mention : is_of_mention (faults.Silent (names.Sub 1)) ≡ false
 silence_is_not_of_mention = refl
 
-mention_is_of_no_period : is_of_period (faults.Contradicts (NotWhole 5)) ≡ false
-mention_is_of_no_period = refl
-
-free_of_flags : IsFreeOf is_of_flags (whats.Fault (faults.NextHeard 2))
-free_of_flags = refl
-
-swap_is_free : IsFreeOf is_of_flags (whats.Event named_events.Swap)
-swap_is_free = tt
-
-not_free_of_flags : IsFreeOf is_of_flags (whats.Fault (faults.Flags 1 2)) → ⊥
-not_free_of_flags h = absurd cc
-
 silent : is_of_silence (faults.Silent (names.Sub 3)) ≡ true
 silent = refl
 
 not_silent : is_of_silence (faults.Appeared (names.Sub 3)) ≡ false
 not_silent = refl
-
-not_free_of_silence : IsFreeOf is_of_silence (whats.Fault (faults.Silent (names.Sub 3))) → ⊥
-not_free_of_silence h = absurd cc
 
 appeared : is_of_appearance (faults.Appeared (names.Sub 3)) ≡ true
 appeared = refl
@@ -182,20 +244,11 @@ appeared = refl
 not_appeared : is_of_appearance (faults.Silent (names.Sub 3)) ≡ false
 not_appeared = refl
 
-not_free_of_appearances : IsFreeOf is_of_appearance (whats.Fault (faults.Appeared (names.Sub 3))) → ⊥
-not_free_of_appearances h = absurd cc
-
 too_seldom : is_of_repetition (faults.NextHeard 2) ≡ true
 too_seldom = refl
 
 not_too_seldom : is_of_repetition (faults.AnnouncedTimes 2) ≡ false
 not_too_seldom = refl
-
-free_of_repetition : IsFreeOf is_of_repetition (whats.Fault (faults.NextChanged (names.Sub 3)))
-free_of_repetition = refl
-
-not_free_of_repetition : IsFreeOf is_of_repetition (whats.Fault (faults.NextHeard 2)) → ⊥
-not_free_of_repetition h = absurd cc
 
 of_period : is_of_period (faults.Silent (names.Sub 3)) ≡ true
 of_period = refl
@@ -221,9 +274,6 @@ silent_if_short = (refl, λ long. long)
 not_silent_if_long : IsFreeUnlessShort (Unit {0}) (whats.Fault (faults.Silent (names.Sub 3))) → ⊥
 not_silent_if_long h = h.1 tt
 
-no_other_fault : IsFreeUnlessShort ⊥ (whats.Fault (faults.Count 7)) → ⊥
-no_other_fault h = absurd cc
-
 abbrev swap_in : ℕ → Finding
 swap_in frame = record { frame = frame; count = 0; what = whats.Event named_events.Swap }
 
@@ -232,9 +282,6 @@ announced_in frame = record { frame = frame; count = 0; what = whats.Event (name
 
 two_swaps : swap_frames (announced_in 1 ∷ swap_in 5 ∷ announced_in 5 ∷ swap_in 9 ∷ []) ≡ 5 ∷ 9 ∷ []
 two_swaps = refl
-
-no_swaps : swap_frames (announced_in 1 ∷ []) ≡ []
-no_swaps = refl
 
 due_now : (p : Program) (s : State) → is_due s.left ≡ true → due_frames p 3 s (Frame ∷ []) ≡ 3 ∷ []
 due_now p s e = ap (λ t. cond t (3 ∷ []) []) e

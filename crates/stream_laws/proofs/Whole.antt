@@ -1,7 +1,6 @@
 -- What a checker knows that has been given all bytes of a run.
 use Rattle.std.proofs.Common.{◌≡◌, ℕ, ◌%◌, Bool, false, cond, List, [], ◌∷◌, ◌++◌, length, flat_map, refl, sym, ap, ◌∙◌, subst, arith, inl, inr}
 use Rattle.std.specs.Prelude.{map}
-use Rattle.std.specs.List.{AllByRecursion}
 use Rattle.std.proofs.lemmas.Bool.Decides.{eqb_tells}
 use Rattle.std.proofs.lemmas.List.{append-nil, append_cancel_left, append_cancel_right, length-map}
 use Rattle.fib_codec.specs.Grammar.{OneList}
@@ -23,9 +22,10 @@ use Rattle.plan_runs.specs.Listening.{fibs_of}
 use Rattle.stream_laws.specs.Framing.{frames_of, RunsAreFramed}
 use Rattle.stream_laws.specs.Notices.{read_frames}
 use Rattle.stream_laws.specs.Delivered.{RunsAreHeardOut}
-use Rattle.stream_laws.proofs.Framing.{IsQuiet, read_frame, later_fibs, first_of_fibs, later_quiet, quiet_fib, heading_fib, right_after}
+use Rattle.stream_laws.proofs.Framing.{read_frame, later_fibs, first_of_fibs, later_quiet, quiet_fib, heading_fib, right_after}
 use Rattle.stream_check.proofs.Fronts.{front_framing, same_skipped, none_more}
 use Rattle.stream_laws.proofs.Pieces.{all_of_run}
+use Rattle.stream_laws.proofs.InPlace.{none_damaged}
 
 -- ---- a stream is cut in one way
 
@@ -52,13 +52,6 @@ one_framing size stream skipped later f g r s a b =
 abbrev one_if : Bool → ℕ
 one_if b = cond b 1 0
 
-quiet_whole : (fibs : List Fib) → AllByRecursion IsQuiet fibs → damaged_in fibs ≡ 0
-quiet_whole [] all = refl
-quiet_whole (fib ∷ fibs) all =
-    let here : one_if (is_damaged fib) ≡ 0 = ap one_if all.0.whole in
-    let rest = quiet_whole fibs all.1 in
-    omega (arith, here, rest)
-
 whole_more : (xs ys : List Fib) → damaged_in xs ≡ 0 → damaged_in ys ≡ 0 → damaged_in (xs ++ ys) ≡ 0
 whole_more [] ys a b = b
 whole_more (x ∷ xs) ys a b = (let rest = whole_more xs ys (omega (arith, a)) b in omega (arith, a, rest))
@@ -72,7 +65,7 @@ first_whole one heard r plan u frame right = elim (eqb_tells (u.count % count_st
 frame_whole : OneList → EnsembleIsHeard → (r : Reading) (plan : Plan) (u : State) (frame : List ℕ) → IsRight plan u frame → damaged_in (read_frame r plan.layout frame) ≡ 0
 frame_whole one heard r plan u frame right =
     let first : one_if (is_damaged (r.read (fib_at frame 0))) ≡ 0 = ap one_if (first_whole one heard r plan u frame right) in
-    let later = quiet_whole (map r.read (later_fibs plan.layout frame)) (later_quiet one r plan u frame right) in
+    let later = none_damaged (map r.read (later_fibs plan.layout frame)) (later_quiet one r plan u frame right) in
     ap (λ fs. damaged_in (map r.read fs)) (first_of_fibs plan.layout frame) ∙ omega (arith, first, later)
 
 run_whole : OneList → EnsembleIsHeard → (r : Reading) (p : Program) (s : State) (events : List Event) → FramesAreRight p s events
