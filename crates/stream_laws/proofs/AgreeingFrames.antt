@@ -30,7 +30,7 @@ use Rattle.plan_runs.proofs.Contents.{Laws}
 use Rattle.plan_runs.proofs.Knowing.{InFrame, knows_after}
 use Rattle.plan_runs.proofs.HeardFrame.{zero_or_not, enters_untuned}
 use Rattle.plan_runs.proofs.HeardFrames.{Nothing, enters_known}
-use Rattle.stream_laws.proofs.Noting.{ensemble_flags, begun_is, flags_are}
+use Rattle.stream_laws.proofs.Noting.{ensemble_flags, flags_are, begun_flagged}
 use Rattle.stream_laws.proofs.Framing.{read_frame}
 use Rattle.stream_laws.proofs.Sending.{IsHeadOf, IsFrameSaid, frame_said}
 use Rattle.stream_laws.proofs.Agreeing.{IsInside, members_fine}
@@ -88,13 +88,8 @@ head_step period plan u a past l i is ens says h f =
     flagged : is_noticed plan.notice u.left ≡ true → is_flagged i ≡ true
     flagged on = ensemble_flags i ens ∙ ap has_flags says ∙ flags_on plan u a on
 
-    now : (b x : Bool) → cond b true (x || true) ≡ true
-    now true x = refl
-    now false true = refl
-    now false false = refl
-
     begun : is_noticed plan.notice u.left ≡ true → has_begun (Said i ∷ past) ≡ true
-    begun on = begun_is past i (is_swap past i) true ens refl (flagged on) ∙ now (is_swap past i) (has_begun past)
+    begun on = begun_flagged past i (is_swap past i) ens refl (flagged on)
 
     on_awaited : (low : ℕ) → f.awaited ≡ Some low → (b : Bool) → is_noticed plan.notice u.left ≡ b → is_noticed plan.notice u.left ≡ true
     on_awaited low some true on = on

@@ -31,7 +31,7 @@ use Rattle.stream_laws.proofs.Agreeing.{none_or_some}
 use Rattle.stream_laws.proofs.AgreeingRuns.{IsBetween}
 use Rattle.stream_laws.proofs.NoticeFrames.{due_left, current_whole, next_whole}
 use Rattle.stream_laws.proofs.Following.{Had, Follows}
-use Rattle.stream_laws.proofs.Named.{none_made}
+use Rattle.stream_laws.proofs.Opening.{none_made}
 
 -- the laws that are used
 pub record SwapLaws : Type 0 where

@@ -27,12 +27,14 @@ pub mod Units
 pub mod Agreeing
 pub mod AgreeingRuns
 pub mod AgreeingFrames
+pub mod Opening
 pub mod Named
 pub mod Timely
 pub mod NoticeFrames
 pub mod Following
 pub mod Flagging
 pub mod LastHeard
+pub mod Turning
 pub mod Ages
 pub mod Silence
 pub mod Staying

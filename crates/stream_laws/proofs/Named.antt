@@ -1,15 +1,14 @@
 -- The swaps that are reported in the frames of a run are those of the run.
-use Rattle.std.proofs.Common.{◌≡◌, ◌≢◌, ℕ, zero, suc, ◌+◌, ◌<◌, ◌≤◌, ◌%◌, ◌==◌, ◌&&◌, ◌||◌, Bool, true, false, cond, not, nat_lt, List, [], ◌∷◌, ◌++◌, length, Option, Some, None, refl, sym, ap, ◌∙◌, subst, arith, inl, inr, ◌⊎◌}
+use Rattle.std.proofs.Common.{◌≡◌, ℕ, ◌+◌, ◌%◌, ◌==◌, ◌&&◌, Bool, true, false, cond, not, nat_lt, List, [], ◌∷◌, ◌++◌, length, Option, Some, None, refl, sym, ap, ◌∙◌, subst, inl, inr}
 use Rattle.std.specs.Prelude.{map, unwrap_or}
 use Rattle.std.specs.List.{AllByRecursion}
-use Rattle.std.proofs.lemmas.Bool.{false≢true, eq-eqb, ne_eqb, or_right}
 use Rattle.std.proofs.lemmas.List.{append-nil}
 use Rattle.fib_codec.specs.Layouts.{layout_mode, frame_fibs}
 use Rattle.mux_types.specs.Entries.{EnsembleInformation}
 use Rattle.fib_codec.specs.Grammar.{OneList}
 use Rattle.fib_codec.specs.Modes.{count_step}
 use Rattle.fib_reader.specs.Raw.{Raw}
-use Rattle.fib_reader.specs.Listening.{Listening, is_made}
+use Rattle.fib_reader.specs.Listening.{is_made}
 use Rattle.stream_check.specs.declared.contradiction.Contradiction.{Contradiction}
 use Rattle.stream_check.specs.Contradictions.{contradicts, new_among, new_findings, noted_with}
 use Rattle.stream_check.specs.Sent.{Sent, EntrySent, FigSent, frame_sent, items_in, contradictions_at, noted_at}
@@ -25,34 +24,28 @@ use Rattle.stream_check.specs.Lookup.{lookup_in}
 use Rattle.stream_check.specs.History.{Item, Moment, Said, said, frame_items, is_ensemble, ensemble_of as said_ensemble, frames_ended, listener_after, due}
 use Rattle.stream_check.specs.Rules.{Known as Knowledge, known_of, name_of, overlap, past_end, place_faults, is_of_other_ensemble, has_other_count, is_placed, makes_swap, notice_faults, unit_faults, swap_findings, swap_or_another, announces_another, occurrence_of, announces_first, announcement, ensemble_findings, current_findings, next_findings, member_findings, is_other_one, finds_no_room, has_no_room, findings_at, silence, silent_findings, awaited_low, changes}
 use Rattle.stream_check.specs.Stream.{count_due, first_line, frame_findings, findings_at_items, findings_at_sent, runs_full, frame_at, last_findings, findings_in, noted_in, after_frame as after_read, findings_from, findings_of}
-use Rattle.stream_check.proofs.Members.{after_is}
 use Rattle.plan_code.specs.declared.plan.Plan.{Plan}
 use Rattle.plan_code.specs.Program.{Program}
 use Rattle.plan_code.specs.Machine.{State}
 use Rattle.plan_verifier.specs.Typing.{Known}
 use Rattle.plan_runs.specs.declared.event.Event.{Event}
 use Rattle.plan_runs.specs.declared.event.Event.TheVariants.{Contact, Frame}
-use Rattle.plan_runs.specs.Frames.{is_due, shown, frame_bytes, ensemble_of, after_frame}
+use Rattle.plan_runs.specs.Frames.{is_due, shown, frame_bytes, after_frame}
 use Rattle.plan_runs.specs.Runs.{happens, run, run_frames}
-use Rattle.plan_runs.proofs.Tracked.{SwapsOn}
-use Rattle.plan_runs.proofs.Facts.{Holds, IsCode, airs, frame_holds, happens_holds, run_holds, code_of, played_holds}
-use Rattle.plan_runs.proofs.Notice.{links}
-use Rattle.plan_runs.proofs.Right.{ensemble_right}
+use Rattle.plan_runs.proofs.Facts.{Holds, IsCode, frame_holds, happens_holds, run_holds, code_of, played_holds}
 use Rattle.plan_runs.proofs.Contents.{Laws}
-use Rattle.plan_runs.proofs.HeardFrame.{zero_or_not}
 use Rattle.stream_laws.specs.Notices.{read_frames}
 use Rattle.stream_laws.specs.Framing.{frames_of}
 use Rattle.stream_laws.specs.Naming.{names_swap, swap_frames, due_frames, due_after_first, SwapsAreNamed}
 use Rattle.stream_laws.proofs.Rows.{HasNone}
 use Rattle.stream_laws.proofs.Framing.{read_frame}
-use Rattle.stream_laws.proofs.Sending.{IsSentItem, IsHeadOf, frame_said}
-use Rattle.stream_laws.proofs.Agreeing.{sent_ext, none_or_some}
-use Rattle.stream_laws.proofs.AgreeingRuns.{IsBetween, on_air, flags_on, still, on_by, zero_or_some, awaits_by, due_awaits, due_low}
-use Rattle.stream_laws.proofs.AgreeingFrames.{agrees_by, is_sent, not_sent, before_contact}
+use Rattle.stream_laws.proofs.AgreeingRuns.{IsBetween}
+use Rattle.stream_laws.proofs.AgreeingFrames.{agrees_by, before_contact}
 use Rattle.stream_laws.proofs.Findings.{items_room}
 use Rattle.stream_check.proofs.Framing.{all_append}
 use Rattle.stream_laws.proofs.Clean.{said_ended}
-use Rattle.plan_runs.proofs.Passing.{some_is}
+use Rattle.stream_laws.proofs.Opening.{IsOpened, next_opened, first_opened}
+use Rattle.stream_laws.proofs.Noting.{ensemble_made}
 
 -- ---- findings other than a swap
 
@@ -208,10 +201,6 @@ frame_named size step period past noted frame =
 
 -- ---- a frame of a run
 
-pub none_of : (on : Bool) (u : State) (items : List Item) → AllByRecursion (IsSentItem on u.current u.next) items → HasNone items
-none_of on u [] all = tt
-none_of on u (i ∷ is) all = (ap (λ (x : Raw). x.ext == 0) all.0.raw ∙ sent_ext on u.current u.next all.0.m all.0.sent, none_of on u is all.1)
-
 with_head : (n step period : ℕ) (past : List Moment) (h : Item) (items : List Item) → is_ensemble h ≡ true → HasNone items
     → named n (findings_at_items step period past (h ∷ items)) ≡ cond (is_made (listener_after past).awaited (said_ensemble h)) (n ∷ []) []
 with_head n step period past h items ens none =
@@ -222,94 +211,17 @@ with_head n step period past h items ens none =
     ∙ named_first n (findings_at k h) _ (items_quiet step period items (Said h ∷ past) none)
     ∙ ap (named n) found ∙ at_head n k h.first (said_ensemble h)
 
-not_now : (count low k : ℕ) → count < 5000 → 1 ≤ k → k < 250 → low ≡ (count + k) % 5000 % 250 → count % 250 ≢ low
-not_now count low k below some short is e = omega (arith, below, some, short, is, e)
-
--- a swap is made exactly where it is due
-pub made_where_due : (p : Program) (ts : List Known) → IsCode p ts → (s : State) → Holds p ts s → (past : List Moment) → (h : IsBetween p.plan past s) → is_made h.heard.awaited (ensemble_of p.plan (shown p s)) ≡ is_due s.left
-made_where_due p ts c s holds past h = by (none_or_some h.heard.awaited) (due_or_not s.left)
-  where
-    due_or_not : (left : Option ℕ) → (left ≡ Some 0) ⊎ (is_due left ≡ false)
-    due_or_not None = inr refl
-    due_or_not (Some zero) = inl refl
-    due_or_not (Some (suc k)) = inr (ne_eqb (suc k) 0 (λ e. omega (arith, e)))
-
-    made_low : (low : ℕ) → h.heard.awaited ≡ Some low → is_made h.heard.awaited (ensemble_of p.plan (shown p s)) ≡ ((ensemble_of p.plan (shown p s)).change == 0 || (ensemble_of p.plan (shown p s)).count % 250 == low)
-    made_low low some = ap (λ o. is_made o (ensemble_of p.plan (shown p s))) some
-
-    count : (ensemble_of p.plan (shown p s)).count ≡ s.count
-    count = (ensemble_right p.plan (shown p s)).count ∙ (links p ts c s holds).count
-
-    both_false : (a b : Bool) → not a ≡ true → b ≡ false → (a || b) ≡ false
-    both_false true b x y = absurd (false≢true x)
-    both_false false b x y = y
-
-    by : (h.heard.awaited ≡ None) ⊎ ((low : ℕ) × (h.heard.awaited ≡ Some low)) → (s.left ≡ Some 0) ⊎ (is_due s.left ≡ false) → is_made h.heard.awaited (ensemble_of p.plan (shown p s)) ≡ is_due s.left
-    by (inl none) (inl now) = absurd (due_awaits p.plan s.left s.current s.next s.count h.heard (omega (arith, c.program.planned.notice_from)) now h.knows none)
-    by (inl none) (inr apart) = ap (λ o. is_made o (ensemble_of p.plan (shown p s))) none ∙ sym apart
-    by (inr (low, some)) (inl now) =
-        let w = awaits_by p.plan s.left s.current s.next s.count h.heard low h.knows some in
-        let zero_left : w.k ≡ 0 = some_is w.k 0 (sym w.is ∙ now) in
-        let at : s.count % 250 ≡ low = due_low s.count low w.k holds.tracked.count zero_left w.low_is in
-        made_low low some ∙ or_right ((ensemble_of p.plan (shown p s)).change == 0) _ (eq-eqb ((ensemble_of p.plan (shown p s)).count % 250) low (ap (λ n. n % 250) count ∙ at)) ∙ sym (ap is_due now)
-    by (inr (low, some)) (inr apart) =
-        let w = awaits_by p.plan s.left s.current s.next s.count h.heard low h.knows some in
-        let more : 1 ≤ w.k = elim (zero_or_some w.k) [
-          | inl none ↦ absurd (false≢true (sym (sym (ap is_due w.is ∙ eq-eqb w.k 0 none) ∙ apart)))
-          | inr some_left ↦ some_left
-        ] in
-        let on = on_by p.plan (shown p s) w.k (still p.plan s (shown p s) w.k (links p ts c s holds) w.is more).left more (omega (arith, w.below)) in
-        let flags = flags_on p.plan (shown p s) (airs p ts c s holds) on in
-        let short : w.k < 250 = omega (arith, w.below, c.program.planned.notice_to) in
-        let other : s.count % 250 ≢ low = not_now s.count low w.k holds.tracked.count more short w.low_is in
-        made_low low some ∙ both_false ((ensemble_of p.plan (shown p s)).change == 0) _ flags (ne_eqb ((ensemble_of p.plan (shown p s)).count % 250) low (λ e. other (sym (ap (λ n. n % 250) count) ∙ e))) ∙ sym apart
-
--- a swap that is made was due
-pub made_due : (p : Program) (ts : List Known) → IsCode p ts → (s : State) → Holds p ts s → (past : List Moment) → IsBetween p.plan past s → (e : EnsembleInformation) → e ≡ ensemble_of p.plan (shown p s)
-    → is_made (listener_after past).awaited e ≡ true → is_due s.left ≡ true
-made_due p ts c s holds past h e says made =
-    let same : listener_after past ≡ h.heard = after_is past h.heard h.is in
-    sym (made_where_due p ts c s holds past h) ∙ sym (ap (is_made h.heard.awaited) says) ∙ sym (ap (λ (x : Listening). is_made x.awaited e) same) ∙ made
-
--- where none is awaited, none is made
-pub none_made : {X : Type 0} (e : EnsembleInformation) (o : Option ℕ) → o ≡ None → is_made o e ≡ true → X
-none_made e o none made = absurd (false≢true (sym (ap (λ x. is_made x e) none) ∙ made))
-
 -- the swaps reported in a frame
-items_named : OneList → Laws → (r : Reading) (n period : ℕ) (p : Program) (ts : List Known) → IsCode p ts → (s : State) → Holds p ts s → (past : List Moment) → IsBetween p.plan past s
-    → named n (findings_at_items (count_step (layout_mode p.plan.layout)) period past (frame_items (read_frame r p.plan.layout (frame_bytes p s)))) ≡ cond (is_due s.left) (n ∷ []) []
-items_named one laws r n period p ts c s holds past h =
-    let plan : Plan = p.plan in
-    let u : State = shown p s in
-    let step : ℕ = count_step (layout_mode plan.layout) in
-    let a = airs p ts c s holds in
-    let link = links p ts c s holds in
-    let fs = frame_said one laws r plan u a in
-    let none = none_of (on_air plan u) u fs.members fs.sent in
-    elim (zero_or_not (u.count % step)) [
-      | inl on ↦
-          let head = subst (λ (o : Option EnsembleInformation). IsHeadOf o fs.heads) (is_sent plan u on) fs.header in
-          let items : frame_items (read_frame r plan.layout (frame_bytes p s)) ≡ head.0 ∷ fs.members = fs.are ∙ ap (λ hs. hs ++ fs.members) head.1 in
-          ap (λ is. named n (findings_at_items step period past is)) items
-          ∙ with_head n step period past head.0 fs.members head.2 none
-          ∙ ap (λ (x : Listening). cond (is_made x.awaited (said_ensemble head.0)) (n ∷ []) []) (after_is past h.heard h.is)
-          ∙ ap (λ e. cond (is_made h.heard.awaited e) (n ∷ []) []) head.3
-          ∙ ap (λ b. cond b (n ∷ []) []) (made_where_due p ts c s holds past h)
-      | inr off ↦
-          let bare : fs.heads ≡ [] = subst (λ (o : Option EnsembleInformation). IsHeadOf o fs.heads) (not_sent plan u off) fs.header in
-          let items : frame_items (read_frame r plan.layout (frame_bytes p s)) ≡ fs.members = fs.are ∙ ap (λ hs. hs ++ fs.members) bare in
-          let apart : s.count % step ≢ 0 = λ e. off (ap (λ k. k % step) link.count ∙ e) in
-          ap (λ is. named n (findings_at_items step period past is)) items
-          ∙ quiet_named n _ (items_quiet step period fs.members past none)
-          ∙ ap (λ b. cond b (n ∷ []) []) (sym (not_due s.left apart holds.tracked.swaps))
-    ]
-  where
-    not_due : (left : Option ℕ) → s.count % count_step (layout_mode p.plan.layout) ≢ 0 → SwapsOn p.plan s.count left → is_due left ≡ false
-    not_due None apart swaps = refl
-    not_due (Some k) apart swaps = ne_eqb k 0 (λ none. apart (ap (λ n. n % count_step (layout_mode p.plan.layout)) (plus k none) ∙ swaps))
-      where
-        plus : (j : ℕ) → j ≡ 0 → s.count ≡ s.count + j
-        plus j none = omega (arith, none)
+opened_named : (n step period : ℕ) (plan : Plan) (u : State) (made : Bool) (past : List Moment) (items : List Item) → IsOpened plan u made past items
+    → named n (findings_at_items step period past items) ≡ cond made (n ∷ []) []
+opened_named n step period plan u made past items o = ap (λ is. named n (findings_at_items step period past is)) o.list ∙ elim o.head [
+  | inl none ↦
+      ap (λ hs. named n (findings_at_items step period past (hs ++ o.members))) none.0
+      ∙ quiet_named n _ (items_quiet step period o.members past o.none) ∙ ap (λ b. cond b (n ∷ []) []) (sym none.1)
+  | inr (i, are, ens, says, made_is) ↦
+      ap (λ hs. named n (findings_at_items step period past (hs ++ o.members))) are
+      ∙ with_head n step period past i o.members ens o.none ∙ ap (λ b. cond b (n ∷ []) []) (sym (ensemble_made past i ens) ∙ made_is)
+]
 
 -- ---- along a run
 
@@ -326,7 +238,7 @@ along one laws r period p ts c s (Frame ∷ es) holds past noted h =
     let now = agrees_by one laws r period p ts c s holds past (inr h) in
     let rest = along one laws r period p ts c (after_frame p s) es (frame_holds p ts c s holds) (after_read step past frame) (noted_in period past noted frame) now.after in
     let here : swap_frames (findings_in size step period past noted frame) ≡ cond (is_due s.left) (frames_ended past ∷ []) [] =
-    frame_named size step period past noted frame ∙ items_named one laws r (frames_ended past) period p ts c s holds past h in
+    frame_named size step period past noted frame ∙ opened_named (frames_ended past) step period p.plan (shown p s) (is_due s.left) past (frame_items frame) (next_opened one laws r p ts c s holds past h (is_due s.left) refl) in
     let number : frames_ended (after_read step past frame) ≡ frames_ended past + 1 = ap (λ n. n + 1) (said_ended (frame_items frame) past) in
     frames_both (findings_in size step period past noted frame) _
     ∙ ap (λ b. swap_frames (findings_in size step period past noted frame) ++ swap_frames (cond b [] later)) (items_room step period (frame_items frame) past now.word)
@@ -339,22 +251,6 @@ along one laws r period p ts c s (Frame ∷ es) holds past noted h =
     joined true = refl
     joined false = refl
 
--- in the first frame no swap is awaited
-first_named : OneList → Laws → (r : Reading) (period : ℕ) (p : Program) (ts : List Known) → IsCode p ts → (s : State) → Holds p ts s → s.count % count_step (layout_mode p.plan.layout) ≡ 0
-    → named 0 (findings_at_items (count_step (layout_mode p.plan.layout)) period [] (frame_items (read_frame r p.plan.layout (frame_bytes p s)))) ≡ []
-first_named one laws r period p ts c s holds on =
-    let plan : Plan = p.plan in
-    let u : State = shown p s in
-    let step : ℕ = count_step (layout_mode plan.layout) in
-    let a = airs p ts c s holds in
-    let link = links p ts c s holds in
-    let fs = frame_said one laws r plan u a in
-    let none = none_of (on_air plan u) u fs.members fs.sent in
-    let here : u.count % step ≡ 0 = ap (λ n. n % step) link.count ∙ on in
-    let head = subst (λ (o : Option EnsembleInformation). IsHeadOf o fs.heads) (is_sent plan u here) fs.header in
-    let items : frame_items (read_frame r plan.layout (frame_bytes p s)) ≡ head.0 ∷ fs.members = fs.are ∙ ap (λ hs. hs ++ fs.members) head.1 in
-    ap (λ is. named 0 (findings_at_items step period [] is)) items ∙ with_head 0 step period [] head.0 fs.members head.2 none
-
 from_first : OneList → Laws → (r : Reading) (period : ℕ) (p : Program) (ts : List Known) → IsCode p ts → (s : State) (events : List Event) → Holds p ts s → s.count % count_step (layout_mode p.plan.layout) ≡ 0
     → swap_frames (findings_of (frame_fibs p.plan.layout) (count_step (layout_mode p.plan.layout)) period [] (read_frames r (frames_of p.plan.layout (run_frames p s events)))) ≡ due_after_first p s events
 from_first one laws r period p ts c s [] holds on = refl
@@ -366,7 +262,7 @@ from_first one laws r period p ts c s (Frame ∷ es) holds on =
     let later : List Finding = findings_from size step period (after_read step [] frame) (noted_in period [] [] frame) (read_frames r (frames_of p.plan.layout (run_frames p (after_frame p s) es))) in
     let now = agrees_by one laws r period p ts c s holds [] (inl (refl, on)) in
     let rest = along one laws r period p ts c (after_frame p s) es (frame_holds p ts c s holds) (after_read step [] frame) (noted_in period [] [] frame) now.after in
-    let here : swap_frames (findings_in size step period [] [] frame) ≡ [] = frame_named size step period [] [] frame ∙ first_named one laws r period p ts c s holds on in
+    let here : swap_frames (findings_in size step period [] [] frame) ≡ [] = frame_named size step period [] [] frame ∙ opened_named 0 step period p.plan (shown p s) false [] (frame_items frame) (first_opened one laws r p ts c s holds on) in
     let number : frames_ended (after_read step [] frame) ≡ 1 = ap (λ n. n + 1) (said_ended (frame_items frame) []) in
     frames_both (findings_in size step period [] [] frame) _
     ∙ ap (λ b. swap_frames (findings_in size step period [] [] frame) ++ swap_frames (cond b [] later)) (items_room step period (frame_items frame) [] now.word)

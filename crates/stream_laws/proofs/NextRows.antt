@@ -6,7 +6,6 @@ use Rattle.fib_codec.specs.Modes.{count_step}
 use Rattle.fib_reader.specs.Listening.{Listening}
 use Rattle.stream_check.specs.Frames.{Reading}
 use Rattle.stream_check.specs.History.{Item, Moment, Ended, said, frame_items, listening, has_begun, is_cut_off, row_at_hand, rows}
-use Rattle.stream_check.specs.Stream.{after_frame as after_read}
 use Rattle.plan_code.specs.declared.plan.Plan.{Plan}
 use Rattle.plan_code.specs.Program.{Program}
 use Rattle.plan_code.specs.Machine.{State}
@@ -17,17 +16,16 @@ use Rattle.plan_runs.specs.Runs.{happens}
 use Rattle.plan_runs.specs.Announced.{heard_of}
 use Rattle.plan_runs.proofs.Tracked.{Airs}
 use Rattle.plan_runs.proofs.Facts.{Holds, IsCode, airs}
-use Rattle.plan_runs.proofs.Notice.{links}
 use Rattle.plan_runs.proofs.Announcing.{heard_contacts}
 use Rattle.stream_laws.proofs.Framing.{read_frame}
 use Rattle.stream_laws.proofs.AgreeingRuns.{IsBetween, on_air}
 use Rattle.stream_laws.proofs.AgreeingFrames.{agrees_by, before_of}
-use Rattle.stream_laws.proofs.Following.{more_heard, heard_then, quiet_heard, cut_still, cut_first}
-use Rattle.stream_laws.proofs.Ages.{FrameLaws}
+use Rattle.stream_laws.proofs.Following.{more_heard, heard_then, quiet_heard, cut_first}
 use Rattle.stream_laws.proofs.NoticeRows.{IsRowed, IsNoticing, IsReading}
 use Rattle.stream_laws.proofs.NextHeard.{begun_rows}
 use Rattle.stream_laws.proofs.NextParts.{none_rowed, rowed_more, rowed_silent}
-use Rattle.stream_laws.proofs.NextFrames.{IsOpened, next_opened, first_opened, still_quiet, rows_after, frame_next, frame_silent}
+use Rattle.stream_laws.proofs.Opening.{FrameLaws, items_at, past_after, IsOpened, next_opened, first_opened, cut_still}
+use Rattle.stream_laws.proofs.NextFrames.{still_quiet, rows_after, frame_next, frame_silent}
 
 some_frames : (frames : List (List ℕ)) (frame : List ℕ) → frames ++ frame ∷ [] ≡ [] → ⊥
 some_frames [] frame e = cc e
@@ -35,13 +33,13 @@ some_frames (f ∷ fs) frame e = cc e
 
 -- one more frame, given its entries after FIG 0/0
 after_opened : FrameLaws → (r : Reading) (p : Program) (s : State) → Airs p.plan (shown p s) → (due : Bool) (past : List Moment) (count : ℕ) (heard : List (List ℕ))
-    → IsOpened p.plan (shown p s) due past (frame_items (read_frame r p.plan.layout (frame_bytes p s)))
-    → (after : Listening) → listening (said (frame_items (read_frame r p.plan.layout (frame_bytes p s))) past) ≡ Some after
+    → IsOpened p.plan (shown p s) due past (items_at r p s)
+    → (after : Listening) → listening (said (items_at r p s) past) ≡ Some after
     → heard_of p.plan (after_frame p s) ≡ more_heard (on_air p.plan (shown p s)) due heard (frame_bytes p s)
     → (heard ≡ [] → has_begun past ≡ false)
-    → (on_air p.plan (shown p s) ≡ true → is_cut_off (said (frame_items (read_frame r p.plan.layout (frame_bytes p s))) past) ≡ false → IsRowed (cond due [] heard) (cond due [] (rows past)))
+    → (on_air p.plan (shown p s) ≡ true → is_cut_off (said (items_at r p s) past) ≡ false → IsRowed (cond due [] heard) (cond due [] (rows past)))
     → (b : Bool) → on_air p.plan (shown p s) ≡ b
-    → IsNoticing p.plan (Ended count ∷ said (frame_items (read_frame r p.plan.layout (frame_bytes p s))) past) (after_frame p s)
+    → IsNoticing p.plan (Ended count ∷ said (items_at r p s) past) (after_frame p s)
 after_opened laws r p s a due past count heard o after all more fresh old false off =
     let plan : Plan = p.plan in
     let u : State = shown p s in
@@ -70,49 +68,48 @@ after_opened laws r p s a due past count heard o after all more fresh old true o
           subst (λ (hs : List (List ℕ)). IsRowed hs (rows (Ended count ∷ said items past))) (sym now) (grow before (has_begun (said items past)) refl);
     }
   where
-    grow : IsRowed (cond due [] heard) (rows (said (frame_items (read_frame r p.plan.layout (frame_bytes p s))) past))
-        → (b : Bool) → has_begun (said (frame_items (read_frame r p.plan.layout (frame_bytes p s))) past) ≡ b
-        → IsRowed (cond due [] heard ++ frame_bytes p s ∷ []) (rows (Ended count ∷ said (frame_items (read_frame r p.plan.layout (frame_bytes p s))) past))
+    grow : IsRowed (cond due [] heard) (rows (said (items_at r p s) past))
+        → (b : Bool) → has_begun (said (items_at r p s) past) ≡ b
+        → IsRowed (cond due [] heard ++ frame_bytes p s ∷ []) (rows (Ended count ∷ said (items_at r p s) past))
     grow before true begun =
-        let later : List Moment = said (frame_items (read_frame r p.plan.layout (frame_bytes p s))) past in
+        let later : List Moment = said (items_at r p s) past in
         subst (IsRowed (cond due [] heard ++ frame_bytes p s ∷ [])) (sym (ap (λ t. cond t (rows later ++ row_at_hand later ∷ []) []) begun))
         (rowed_more (cond due [] heard) (rows later) (frame_bytes p s) (row_at_hand later) before (frame_next laws r p.plan (shown p s) a due past o after all))
     grow before false quiet =
-        let later : List Moment = said (frame_items (read_frame r p.plan.layout (frame_bytes p s))) past in
+        let later : List Moment = said (items_at r p s) past in
         subst (IsRowed (cond due [] heard ++ frame_bytes p s ∷ [])) (sym (ap (λ t. cond t (rows later ++ row_at_hand later ∷ []) []) quiet))
         (rowed_silent (cond due [] heard) (rows later) (frame_bytes p s) before (begun_rows later quiet) (frame_silent laws r p.plan (shown p s) a due past o after all on quiet))
 
 next_noticing : FrameLaws → (r : Reading) (p : Program) (ts : List Known) → IsCode p ts → (s : State) → Holds p ts s → (past : List Moment) → IsBetween p.plan past s → IsNoticing p.plan past s → (count : ℕ) (after : Listening)
-    → listening (said (frame_items (read_frame r p.plan.layout (frame_bytes p s))) past) ≡ Some after
-    → IsNoticing p.plan (Ended count ∷ said (frame_items (read_frame r p.plan.layout (frame_bytes p s))) past) (after_frame p s)
+    → listening (said (items_at r p s) past) ≡ Some after
+    → IsNoticing p.plan (Ended count ∷ said (items_at r p s) past) (after_frame p s)
 next_noticing laws r p ts c s holds past b g count after all =
-    after_opened laws r p s (airs p ts c s holds) (is_due s.left) past count (heard_of p.plan s) (next_opened laws r p ts c s holds past b) after all (heard_then p ts c s holds) g.fresh
+    after_opened laws r p s (airs p ts c s holds) (is_due s.left) past count (heard_of p.plan s) (next_opened laws.one laws.heard r p ts c s holds past b (is_due s.left) refl) after all (heard_then p ts c s holds) g.fresh
     (λ on cut. by (is_due s.left) refl cut) (on_air p.plan (shown p s)) refl
   where
-    by : (d : Bool) → is_due s.left ≡ d → is_cut_off (said (frame_items (read_frame r p.plan.layout (frame_bytes p s))) past) ≡ false → IsRowed (cond d [] (heard_of p.plan s)) (cond d [] (rows past))
+    by : (d : Bool) → is_due s.left ≡ d → is_cut_off (said (items_at r p s) past) ≡ false → IsRowed (cond d [] (heard_of p.plan s)) (cond d [] (rows past))
     by true due cut = none_rowed
-    by false due cut = g.rowed (sym (cut_still laws.one laws.heard r p ts c s holds past b due) ∙ cut)
+    by false due cut = g.rowed (sym (cut_still p.plan s (shown p s) past (items_at r p s) b (next_opened laws.one laws.heard r p ts c s holds past b false due)) ∙ cut)
 
 first_noticing : FrameLaws → (r : Reading) (p : Program) (ts : List Known) → IsCode p ts → (s : State) → Holds p ts s → s.count % count_step (layout_mode p.plan.layout) ≡ 0 → (count : ℕ) (after : Listening)
-    → listening (said (frame_items (read_frame r p.plan.layout (frame_bytes p s))) []) ≡ Some after
-    → IsNoticing p.plan (Ended count ∷ said (frame_items (read_frame r p.plan.layout (frame_bytes p s))) []) (after_frame p s)
+    → listening (said (items_at r p s) []) ≡ Some after
+    → IsNoticing p.plan (Ended count ∷ said (items_at r p s) []) (after_frame p s)
 first_noticing laws r p ts c s holds whole count after all =
     let plan : Plan = p.plan in
-    let here : (shown p s).count % count_step (layout_mode plan.layout) ≡ 0 = ap (λ n. n % count_step (layout_mode plan.layout)) (links p ts c s holds).count ∙ whole in
-    after_opened laws r p s (airs p ts c s holds) false [] count (cond (is_due s.left) [] (heard_of plan s)) (first_opened laws r p ts c s holds whole) after all (heard_then p ts c s holds) (λ e. refl)
-    (λ on cut. absurd (false≢true (sym cut ∙ cut_first laws.one laws.heard r p ts c s holds here on))) (on_air plan (shown p s)) refl
+    after_opened laws r p s (airs p ts c s holds) false [] count (cond (is_due s.left) [] (heard_of plan s)) (first_opened laws.one laws.heard r p ts c s holds whole) after all (heard_then p ts c s holds) (λ e. refl)
+    (λ on cut. absurd (false≢true (sym cut ∙ cut_first p.plan (shown p s) (items_at r p s) (first_opened laws.one laws.heard r p ts c s holds whole) on))) (on_air plan (shown p s)) refl
 
 pub noticing : FrameLaws → (r : Reading) (period : ℕ) (p : Program) (ts : List Known) → IsCode p ts → (s : State) → Holds p ts s → (past : List Moment) → IsReading p.plan past s
-    → IsNoticing p.plan (after_read (count_step (layout_mode p.plan.layout)) past (read_frame r p.plan.layout (frame_bytes p s))) (after_frame p s)
+    → IsNoticing p.plan (past_after r p s past) (after_frame p s)
 noticing laws r period p ts c s holds past reading =
     let now = agrees_by laws.one laws.heard r period p ts c s holds past (before_of p.plan past s reading) in
     by reading now.after.heard now.after.is
   where
-    by : IsReading p.plan past s → (after : Listening) → listening (said (frame_items (read_frame r p.plan.layout (frame_bytes p s))) past) ≡ Some after
-        → IsNoticing p.plan (after_read (count_step (layout_mode p.plan.layout)) past (read_frame r p.plan.layout (frame_bytes p s))) (after_frame p s)
+    by : IsReading p.plan past s → (after : Listening) → listening (said (items_at r p s) past) ≡ Some after
+        → IsNoticing p.plan (past_after r p s past) (after_frame p s)
     by (inl (none, on)) after all =
-        subst (λ (l : List Moment). listening (said (frame_items (read_frame r p.plan.layout (frame_bytes p s))) l) ≡ Some after
-        → IsNoticing p.plan (after_read (count_step (layout_mode p.plan.layout)) l (read_frame r p.plan.layout (frame_bytes p s))) (after_frame p s))
+        subst (λ (l : List Moment). listening (said (items_at r p s) l) ≡ Some after
+        → IsNoticing p.plan (past_after r p s l) (after_frame p s))
         (sym none) (λ heard. first_noticing laws r p ts c s holds on _ after heard) all
     by (inr (b, g)) after all = next_noticing laws r p ts c s holds past b g _ after all
 

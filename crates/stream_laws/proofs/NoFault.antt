@@ -1,5 +1,5 @@
 -- No fault is found in the frames of a run, since what the checker has noted is what the run did.
-use Rattle.std.proofs.Common.{◌≡◌, ℕ, ◌%◌, Bool, true, false, cond, List, [], ◌∷◌, ◌++◌, Option, Some, refl, sym, ap, ◌∙◌, subst, inl, inr, ◌⊎◌}
+use Rattle.std.proofs.Common.{◌≡◌, ℕ, ◌%◌, Bool, true, false, cond, List, [], ◌∷◌, ◌++◌, Some, refl, sym, ap, ◌∙◌, subst, inl, inr, ◌⊎◌, None}
 use Rattle.std.specs.List.{AllByRecursion}
 use Rattle.std.proofs.lemmas.Bool.{false≢true}
 use Rattle.fib_codec.specs.Layouts.{frame_fibs}
@@ -13,7 +13,7 @@ use Rattle.stream_check.specs.declared.finding.What.TheVariants as whats
 use Rattle.stream_check.specs.declared.finding.Finding.{Finding}
 use Rattle.stream_check.specs.Parts.{IsTheMost}
 use Rattle.stream_check.specs.Frames.{Fib, Reading}
-use Rattle.stream_check.specs.History.{Item, Moment, Said, frame_items, ensemble_of as said_ensemble, listener_after, due, last_eid}
+use Rattle.stream_check.specs.History.{Item, Moment, frame_items, ensemble_of as said_ensemble, due, last_eid, said}
 use Rattle.stream_check.specs.Rules.{known_of, makes_swap}
 use Rattle.stream_check.specs.Stream.{runs_full, findings_in, noted_in, after_frame as after_read, findings_from, frames_full}
 use Rattle.plan_code.specs.declared.plan.Plan.{Plan}
@@ -22,34 +22,31 @@ use Rattle.plan_code.specs.Machine.{State}
 use Rattle.plan_verifier.specs.Typing.{Known}
 use Rattle.plan_runs.specs.declared.event.Event.{Event}
 use Rattle.plan_runs.specs.declared.event.Event.TheVariants.{Contact, Frame}
-use Rattle.plan_runs.specs.Frames.{shown, frame_bytes, ensemble_of, after_frame}
+use Rattle.plan_runs.specs.Frames.{shown, frame_bytes, ensemble_of, after_frame, is_due}
 use Rattle.plan_runs.specs.Runs.{happens, run}
 use Rattle.plan_runs.specs.RightBytes.{FrameIsRight, FramesAreRight}
 use Rattle.plan_runs.specs.Headline.{HeadlineHolds}
 use Rattle.plan_runs.proofs.Facts.{Holds, IsCode, airs, frame_holds, happens_holds, run_holds, code_of, played_holds}
-use Rattle.plan_runs.proofs.HeardFrame.{zero_or_not}
 use Rattle.stream_laws.specs.Sorts.{is_of_word, is_of_period, IsFreeOf, IsFreeUnlessShort, step_of, run_read, RunIsFreeOf, IsLongFor, HoldsOfRuns, RunsAreFree, RunsAgree}
 use Rattle.stream_laws.specs.Faultless.{IsNoFault}
 use Rattle.stream_laws.specs.Faults.{RunsAreFaultless}
 use Rattle.stream_laws.proofs.Rows.{HasNone}
 use Rattle.stream_laws.proofs.Framing.{read_frame, right_after}
 use Rattle.stream_laws.proofs.OpenFrames.{frame_open}
-use Rattle.stream_laws.proofs.Sending.{IsHeadOf, frame_said}
 use Rattle.stream_laws.proofs.Findings.{Each, each_other, IsNoticeFine, IsWellNoticed, items_room, IsFrameFree, found_free}
 use Rattle.stream_laws.proofs.InPlace.{IsBegun, frame_right, begun_after}
-use Rattle.stream_laws.proofs.AgreeingRuns.{IsBetween, on_air}
-use Rattle.stream_laws.proofs.AgreeingFrames.{agrees_by, is_sent, not_sent, before_contact}
-use Rattle.stream_laws.proofs.Named.{none_of, made_due, none_made}
-use Rattle.stream_laws.proofs.Timely.{IsCounted, not_too_soon, counted_after}
-use Rattle.stream_laws.proofs.Following.{Follows, follows}
+use Rattle.stream_laws.proofs.AgreeingRuns.{IsBetween}
+use Rattle.stream_laws.proofs.AgreeingFrames.{agrees_by, before_contact}
 use Rattle.stream_laws.proofs.Flagging.{SwapLaws, follows_contact, flags_change}
 use Rattle.stream_laws.proofs.NoticeRows.{IsNoticing}
 use Rattle.stream_laws.proofs.NextRows.{noticing, noticing_contact}
 use Rattle.stream_laws.proofs.Repeating.{repeated}
-use Rattle.stream_laws.proofs.Ages.{FrameLaws, AreAged, ages}
-use Rattle.stream_laws.proofs.Silence.{none_silent, ages_contact}
-use Rattle.stream_laws.proofs.Appearing.{Settles, settles_contact, settled_step}
 use Rattle.stream_check.proofs.Framing.{all_append}
+use Rattle.stream_laws.proofs.Opening.{FrameLaws, items_at, made_due, none_made, IsOpened, next_opened, first_opened, each_opened}
+use Rattle.stream_laws.proofs.Appearing.{IsTurning, turning_contact, turning}
+use Rattle.stream_laws.proofs.Silence.{none_silent}
+use Rattle.stream_laws.proofs.Timely.{IsCounted, not_too_soon, counted_after}
+use Rattle.stream_laws.proofs.Following.{Follows, follows}
 
 -- ---- what the checker has noted
 
@@ -65,10 +62,8 @@ pub record Noted (period : ℕ) (p : Program) (past : List Moment) (s : State) :
   -- its entries are those of its frames, and each frame has a row of them
   pub heard : Follows p.plan past s
   pub rows : IsNoticing p.plan past s
-  -- each entry was heard when its page was in turn
-  pub aged : AreAged p.plan past s
-  -- each entry is known, or will be before the current configuration is settled
-  pub settles : IsLongFor p period → Settles p.plan period past s
+  -- each entry was heard when its page was in turn, and is known, or will be before the current configuration is settled
+  pub turning : IsTurning period p.plan past s
 
 -- nothing was heard, and the next frame has FIG 0/0; or frames were heard
 abbrev pub IsNoted : ℕ → Program → List Moment → State → Type 0
@@ -92,47 +87,33 @@ noted_contact period p past s d closed (inr h) =
       counted = h.counted;
       heard = follows_contact p past s d closed h.heard;
       rows = noticing_contact p past s d closed h.rows;
-      aged = ages_contact p past s d closed h.aged;
-      settles = λ long. settles_contact period p past s d closed (h.settles long);
+      turning = turning_contact period p past s d closed h.turning;
     })
 
 -- ---- the notice of a swap
-
-notice_fine : IsTheMost → SwapLaws → FrameLaws → (period : ℕ) (p : Program) (ts : List Known) → IsCode p ts → (s : State) → Holds p ts s → (past : List Moment) → IsNoted period p past s
-    → (e : EnsembleInformation) → e ≡ ensemble_of p.plan (shown p s) → makes_swap (known_of (step_of p) period past) e ≡ true → IsNoticeFine (known_of (step_of p) period past)
-notice_fine most swap laws period p ts c s holds past (inl (none, on)) e says made =
-    none_made e (listener_after past).awaited (ap (λ (l : List Moment). (listener_after l).awaited) none) made
-notice_fine most swap laws period p ts c s holds past (inr h) e says made =
-    let due = made_due p ts c s holds past h.between e says made in
-    record {
-      times = not_too_soon p ts c s past h.counted due;
-      heard = repeated most laws p ts c s holds past h.between h.rows due;
-      flags = flags_change swap p ts c s holds past h.between h.heard due e made;
-    }
 
 none_noticed : (step period : ℕ) (items : List Item) (past : List Moment) → HasNone items → Each (IsWellNoticed step period) past items
 none_noticed step period items past none =
     each_other (IsWellNoticed step period) (λ before i other ens. absurd (false≢true (sym other ∙ ens))) items past none
 
+noticed_by : (step period : ℕ) (plan : Plan) (u : State) (made : Bool) (past : List Moment) (items : List Item) → IsOpened plan u made past items
+    → ((e : EnsembleInformation) → e ≡ ensemble_of plan u → makes_swap (known_of step period past) e ≡ true → IsNoticeFine (known_of step period past)) → Each (IsWellNoticed step period) past items
+noticed_by step period plan u made past items o f =
+    each_opened (IsWellNoticed step period) plan u made past items o (λ i ens says is. f (said_ensemble i) says) (none_noticed step period o.members (said o.heads past) o.none)
+
 well_noticed : IsTheMost → SwapLaws → FrameLaws → (r : Reading) (period : ℕ) (p : Program) (ts : List Known) → IsCode p ts → (s : State) → Holds p ts s → (past : List Moment) → IsNoted period p past s
-    → Each (IsWellNoticed (step_of p) period) past (frame_items (read_frame r p.plan.layout (frame_bytes p s)))
-well_noticed most swap laws r period p ts c s holds past n =
-    let plan : Plan = p.plan in
-    let u : State = shown p s in
-    let fs = frame_said laws.one laws.heard r plan u (airs p ts c s holds) in
-    let none = none_of (on_air plan u) u fs.members fs.sent in
-    elim (zero_or_not (u.count % step_of p)) [
-      | inl on ↦
-          let head = subst (λ (o : Option EnsembleInformation). IsHeadOf o fs.heads) (is_sent plan u on) fs.header in
-          subst (λ (is : List Item). Each (IsWellNoticed (step_of p) period) past is) (sym (fs.are ∙ ap (λ hs. hs ++ fs.members) head.1)) (
-            (λ ens made. notice_fine most swap laws period p ts c s holds past n (said_ensemble head.0) head.3 made),
-            none_noticed (step_of p) period fs.members (Said head.0 ∷ past) none,
-          )
-      | inr off ↦
-          let bare : fs.heads ≡ [] = subst (λ (o : Option EnsembleInformation). IsHeadOf o fs.heads) (not_sent plan u off) fs.header in
-          subst (λ (is : List Item). Each (IsWellNoticed (step_of p) period) past is) (sym (fs.are ∙ ap (λ hs. hs ++ fs.members) bare))
-          (none_noticed (step_of p) period fs.members past none)
-    ]
+    → Each (IsWellNoticed (step_of p) period) past (items_at r p s)
+well_noticed most swap laws r period p ts c s holds past (inl (none, on)) =
+    subst (λ (l : List Moment). Each (IsWellNoticed (step_of p) period) l (items_at r p s)) (sym none)
+    (noticed_by (step_of p) period p.plan (shown p s) false [] (items_at r p s) (first_opened laws.one laws.heard r p ts c s holds on) (λ e says made. none_made e None refl made))
+well_noticed most swap laws r period p ts c s holds past (inr h) =
+    noticed_by (step_of p) period p.plan (shown p s) (is_due s.left) past (items_at r p s) (next_opened laws.one laws.heard r p ts c s holds past h.between (is_due s.left) refl) (λ e says made.
+    let due = made_due p ts c s holds past h.between e says made in
+    record {
+      times = not_too_soon p ts c s past h.counted due;
+      heard = repeated most laws p ts c s holds past h.between h.rows due;
+      flags = flags_change swap p ts c s holds past h.between h.heard due e made;
+    })
 
 -- ---- one frame
 
@@ -147,16 +128,15 @@ next_noted most swap laws r period p ts c s holds past right n =
     let place = frame_right laws.one laws.heard.ensemble r p s period past right (begun period p past s n) in
     let later = begun_after p s (frame_fibs p.plan.layout) period past (read_frame r p.plan.layout (frame_bytes p s)) place in
     let agrees = agrees_by laws.one laws.heard r period p ts c s holds past (or_noted period p past s n (λ h. h.between)) in
-    let aging = or_noted period p past s n (λ h. (h.between, h.aged)) in
-    let known = λ (long : IsLongFor p period). settled_step laws r period p ts c s holds past (or_noted period p past s n (λ h. (h.between, (h.heard, h.settles long)))) long in
+    let turns = turning laws r period p ts c s holds past (or_noted period p past s n (λ h. (h.between, (h.heard, h.turning)))) in
     record {
       free = record {
         whole = place.whole;
         place = place.place;
         word = agrees.word;
         notice = well_noticed most swap laws r period p ts c s holds past n;
-        known = λ long. (known long).known;
-        sent = λ long x inside. none_silent laws r period p ts c s holds past aging long x inside;
+        known = turns.known;
+        sent = λ long x inside. none_silent laws r period p s past agrees.after turns.after.turns turns.after.aged long x inside;
         own = frame_open laws.one laws.heard r p.plan (shown p s) (airs p ts c s holds);
       };
       after = record {
@@ -166,8 +146,7 @@ next_noted most swap laws r period p ts c s holds past right n =
         counted = counted_after laws.one laws.heard r p ts c s holds past (or_noted period p past s n (λ h. (h.between, h.counted)));
         heard = follows laws.one laws.heard r p ts c s holds past (or_noted period p past s n (λ h. (h.between, h.heard)));
         rows = noticing laws r period p ts c s holds past (or_noted period p past s n (λ h. (h.between, h.rows)));
-        aged = ages laws r period p ts c s holds past aging;
-        settles = λ long. (known long).after;
+        turning = turns.after;
       };
     }
 

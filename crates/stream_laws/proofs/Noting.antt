@@ -14,7 +14,7 @@ use Rattle.stream_check.specs.Lookup.{lookup_in}
 use Rattle.stream_check.specs.History.{Item, Moment, Said, Ended, is_ensemble, ensemble_of, is_flagged, is_swap, is_member, listening, listener_after, begins_notice, has_begun, flag_count, times_announced, last_flags, next_key, row_at_hand, rows}
 use Rattle.stream_check.specs.Rules.{Known, known_of, finds_no_room, has_no_room, ensemble_findings, member_findings, place_faults, is_placed, is_of_other_ensemble, has_other_count, swap_or_another, announces_another, announcement, swap_findings, occurrence_of, has_low, has_flags, makes_swap}
 use Rattle.stream_check.proofs.Ensembles.{heard_as, heard_is}
-use Rattle.stream_check.proofs.Members.{or_false, ensemble_no_member, ensemble_heard, member_heard, member_entry, after_is}
+use Rattle.stream_check.proofs.Members.{or_false, ensemble_no_member, ensemble_heard, member_heard, member_entry, after_is, or_true}
 use Rattle.stream_laws.specs.Faultless.{IsNoFault}
 use Rattle.stream_laws.proofs.Clean.{all_left, all_right, IsClean}
 use Rattle.stream_laws.proofs.Kept.{no_fault, first_holds, member_room}
@@ -101,6 +101,13 @@ begun_is past i b f e sw fl =
     ap (λ t. cond t (is_flagged i) (has_begun past || begins_notice past i)) sw
     ∙ ap (λ t. cond b t (has_begun past || begins_notice past i)) fl
     ∙ ap (λ t. cond b f (has_begun past || t)) (begins_is past i f e fl)
+
+pub begun_flagged : (past : List Moment) (i : Item) (b : Bool) → is_ensemble i ≡ true → is_swap past i ≡ b → is_flagged i ≡ true → has_begun (Said i ∷ past) ≡ true
+begun_flagged past i b e sw fl = begun_is past i b true e sw fl ∙ by b
+  where
+    by : (t : Bool) → cond t true (has_begun past || true) ≡ true
+    by true = refl
+    by false = or_true (has_begun past)
 
 pub times_are : (past : List Moment) (i : Item) (b f : Bool) → is_swap past i ≡ b → is_flagged i ≡ f → times_announced (Said i ∷ past) ≡ cond b (cond f 1 0) (times_announced past + cond f 1 0)
 times_are past i b f sw fl =

@@ -23,11 +23,11 @@ use Rattle.plan_runs.proofs.Knowing.{KnowsPending, KnowsBy}
 use Rattle.plan_runs.proofs.HeardFrames.{Nothing}
 use Rattle.stream_laws.proofs.AgreeingRuns.{IsBetween}
 use Rattle.stream_laws.proofs.NoticeFrames.{due_left}
-use Rattle.stream_laws.proofs.Ages.{FrameLaws}
 use Rattle.stream_laws.proofs.Silence.{entry_of}
 use Rattle.stream_laws.proofs.NextParts.{AreKeysOf, announced_thrice}
 use Rattle.stream_laws.proofs.NoticeRows.{IsNoticing}
 use Rattle.mux_types.proofs.Members.{mapped_to}
+use Rattle.stream_laws.proofs.Opening.{FrameLaws}
 
 -- ---- what is wanted in the frames of a notice
 

@@ -15,21 +15,21 @@ use Rattle.fib_codec.specs.declared.head.Head.{Head}
 use Rattle.fib_codec.specs.declared.modes.Mode.TheVariants.{I, II, III, IV}
 use Rattle.fib_codec.specs.Ranges.{IsEnsembleInformation}
 use Rattle.fib_codec.specs.Spelling.{Written, head_of, head_byte, entry_bytes}
-use Rattle.fib_codec.specs.Grammar.{OneList, fig_of, is_next, is_long}
+use Rattle.fib_codec.specs.Grammar.{OneList, fig_of, is_next, is_long, Fig, Open, Other}
 use Rattle.fib_codec.specs.Heard.{fib_at}
 use Rattle.fib_carousel.specs.Packing.{same_head}
 use Rattle.fib_carousel.specs.Pages.{fib_entries, first_fib, later_fibs}
 use Rattle.fib_carousel.specs.Bytes.{AreFibs, with_entry_first, figs_of, ensemble_figs}
 use Rattle.fib_carousel.proofs.Sharing.{same_head_is}
-use Rattle.fib_reader.specs.Raw.{Raw, raw_of, raw_entry, ensemble_in}
+use Rattle.fib_reader.specs.Raw.{Raw, raw_of, raw_entry, ensemble_in, entries_in}
 use Rattle.fib_reader.specs.Laws.{EnsembleIsHeard}
 use Rattle.stream_check.specs.Frames.{Fib, Reading}
-use Rattle.stream_check.specs.History.{Item, fig_items, figs_items, fib_items, fibs_items, frame_items, is_ensemble, ensemble_of as said_ensemble}
+use Rattle.stream_check.specs.History.{Item, fig_items, figs_items, fib_items, fibs_items, frame_items, is_ensemble, ensemble_of as said_ensemble, Moment, Said, said, items_of, listening}
 use Rattle.plan_code.specs.declared.plan.Plan.{Plan}
 use Rattle.plan_code.specs.Machine.{State}
 use Rattle.plan_runs.specs.Frames.{is_noticed, sent_entries, ensemble_sent, shown_bytes}
-use Rattle.plan_runs.specs.Listening.{fibs_from}
-use Rattle.plan_runs.proofs.Tracked.{Airs}
+use Rattle.plan_runs.specs.Listening.{fibs_from, HearsAll}
+use Rattle.plan_runs.proofs.Tracked.{Airs, noticed}
 use Rattle.plan_runs.proofs.Right.{pageable, sent_within}
 use Rattle.plan_runs.proofs.Tuned.{IsSentOf, AreSentOf}
 use Rattle.plan_runs.proofs.Hearing.{second_next, raw_is}
@@ -37,6 +37,8 @@ use Rattle.plan_runs.proofs.Contents.{Laws, fib_sent}
 use Rattle.stream_laws.proofs.Framing.{first_of_fibs, read_frame}
 use Rattle.stream_check.proofs.Framing.{all_append}
 use Rattle.stream_laws.proofs.Bytes.{is_read}
+use Rattle.fib_reader.specs.Listening.{Listening, where_heard, hear_entry, hear_entries, hear_fig, hear_figs}
+use Rattle.stream_check.proofs.Saying.{said_append}
 
 -- an entry that is sent of these configurations
 pub record IsSentItem (noticed : Bool) (c n : Configuration) (i : Item) : Type 0 where
@@ -172,3 +174,45 @@ frame_said one laws r plan u a =
           (items_sent on u.current u.next (figs_of first) head.1 (figs_sent on u.current u.next first (fib_sent plan u (first_fib layout u.page_index))))
           (fibs_later one r on u.current u.next layout es ns reserved 1 frame are.1 (fibs_sent plan u ns));
     }
+
+-- ---- hearing the entries of FIBs one after another
+
+nothing_more : (o : Option Listening) (f : Listening → Option Listening) → ((l : Listening) → f l ≡ Some l) → o ≡ where_heard o f
+nothing_more None f h = refl
+nothing_more (Some l) f h = sym (h l)
+
+then_joined : (o : Option Listening) (f g h : Listening → Option Listening) → ((l : Listening) → where_heard (f l) g ≡ h l) → where_heard (where_heard o f) g ≡ where_heard o h
+then_joined None f g h e = refl
+then_joined (Some l) f g h e = e l
+
+raws_heard : (first next : Bool) (raws : List Raw) (past : List Moment) → listening (said (items_of first next raws) past) ≡ where_heard (listening past) (hear_entries next raws)
+raws_heard first next [] past = nothing_more (listening past) (hear_entries next []) (λ l. refl)
+raws_heard first next (raw ∷ raws) past =
+    let i : Item = record { first = first; next = next; raw = raw } in
+    raws_heard first next raws (Said i ∷ past) ∙ then_joined (listening past) (hear_entry next raw) (hear_entries next raws) (hear_entries next (raw ∷ raws)) (λ l. refl)
+
+fig_heard : (first : Bool) (f : Fig) (past : List Moment) → listening (said (fig_items first f) past) ≡ where_heard (listening past) (hear_fig f)
+fig_heard first (Open second es) past = raws_heard first (is_next second) (entries_in (Open second es)) past ∙ same (listening past)
+  where
+    same : (o : Option Listening) → where_heard o (hear_entries (is_next second) (entries_in (Open second es))) ≡ where_heard o (hear_fig (Open second es))
+    same None = refl
+    same (Some l) = refl
+fig_heard first (Other given) past = nothing_more (listening past) (hear_fig (Other given)) (λ l. refl)
+
+figs_heard : (first : Bool) (figs : List Fig) (past : List Moment) → listening (said (figs_items first figs) past) ≡ where_heard (listening past) (hear_figs figs)
+figs_heard first [] past = nothing_more (listening past) (hear_figs []) (λ l. refl)
+figs_heard first (f ∷ fs) past =
+    ap listening (said_append (fig_items first f) (figs_items false fs) past)
+    ∙ figs_heard false fs (said (fig_items first f) past)
+    ∙ ap (λ o. where_heard o (hear_figs fs)) (fig_heard first f past)
+    ∙ then_joined (listening past) (hear_fig f) (hear_figs fs) (hear_figs (f ∷ fs)) (λ l. refl)
+
+pub fibs_heard : OneList → (r : Reading) (first : Bool) (fibs : List (List ℕ)) (past : List Moment) (l after : Listening) → HearsAll fibs l after → listening past ≡ Some l
+    → listening (said (fibs_items first (map r.read fibs)) past) ≡ Some after
+fibs_heard one r first [] past l after h is = is ∙ ap Some (sym h)
+fibs_heard one r first (f ∷ fs) past l after (between, here, rest) is =
+    let read : r.read f ≡ Some here.0 = is_read one r f here.0 here.1 in
+    let now : listening (said (fib_items first (r.read f)) past) ≡ Some between =
+    ap (λ (fib : Fib). listening (said (fib_items first fib) past)) read ∙ figs_heard first here.0 past ∙ ap (λ o. where_heard o (hear_figs here.0)) is ∙ here.2 in
+    ap listening (said_append (fib_items first (r.read f)) (fibs_items false (map r.read fs)) past)
+    ∙ fibs_heard one r false fs (said (fib_items first (r.read f)) past) between after rest now

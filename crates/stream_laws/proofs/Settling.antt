@@ -1,43 +1,35 @@
 -- Once the current configuration is settled, all its entries are known.
-use Rattle.std.proofs.Common.{◌≡◌, ℕ, ◌%◌, ◌==◌, ◌&&◌, Bool, true, false, cond, nat_le, List, [], ◌∷◌, ◌++◌, length, Option, Some, None, refl, sym, ap, ◌∙◌, subst, inl, inr, ◌+◌}
+use Rattle.std.proofs.Common.{◌≡◌, ℕ, ◌==◌, ◌&&◌, Bool, true, false, cond, nat_le, List, [], ◌∷◌, length, Option, Some, None, refl, sym, ap, ◌∙◌, subst, inl, inr}
 use Rattle.std.specs.List.{AllByRecursion}
 use Rattle.std.proofs.lemmas.Bool.{false≢true, eq-eqb, and_right}
 use Rattle.fib_codec.specs.Layouts.{layout_mode}
 use Rattle.mux_config.specs.Configuration.{Configuration, IsConfiguration}
 use Rattle.mux_config.specs.Tables.{entry_at}
-use Rattle.mux_types.specs.Entries.{EnsembleInformation}
 use Rattle.fib_codec.specs.Modes.{count_step}
 use Rattle.fib_reader.specs.Raw.{Raw, raw_entry}
-use Rattle.fib_reader.specs.Listening.{Pictured, Listening, identifier_of, hear_entry, at_ensemble, is_made}
+use Rattle.fib_reader.specs.Listening.{Pictured, Listening, identifier_of, hear_entry}
 use Rattle.stream_check.specs.declared.heard_table.Lookup.TheVariants as standings
-use Rattle.stream_check.specs.Frames.{Reading}
 use Rattle.stream_check.specs.Lookup.{agree, lookup_among, lookup, lookup_in}
-use Rattle.stream_check.specs.History.{Item, Moment, Said, said, frame_items, is_ensemble, ensemble_of as said_ensemble, frames_ended, listening, listener_after, settles_at, is_swap, is_cut_off}
+use Rattle.stream_check.specs.History.{Item, Moment, Said, said, is_ensemble, frames_ended, listening, listener_after, settles_at}
 use Rattle.stream_check.specs.Rules.{known_of, is_absent, is_settled}
-use Rattle.stream_check.proofs.Members.{after_is, ensemble_heard, member_heard, member_settles}
+use Rattle.stream_check.proofs.Members.{after_is, member_heard, member_settles}
 use Rattle.plan_code.specs.declared.plan.Plan.{Plan}
 use Rattle.plan_code.specs.Program.{Program}
 use Rattle.plan_code.specs.Machine.{State}
 use Rattle.plan_verifier.specs.Typing.{Known}
-use Rattle.plan_runs.specs.Frames.{shown, frame_bytes, ensemble_of, ensemble_sent, is_due}
+use Rattle.plan_runs.specs.Frames.{shown, ensemble_sent}
 use Rattle.plan_runs.proofs.Facts.{Holds, IsCode, airs}
 use Rattle.plan_runs.proofs.Hearing.{headed}
-use Rattle.plan_runs.proofs.Knowing.{InFrame}
-use Rattle.plan_runs.proofs.HeardFrame.{zero_or_not}
 use Rattle.plan_runs.proofs.Parts.{In, partly, IsPart}
 use Rattle.plan_runs.proofs.Pictures.{whole_of, IsOf, IsPartial, HasAll, entry_is_of, whole_is_set}
 use Rattle.plan_runs.proofs.Tuned.{Tuned, Or, SaidIn, hears_entries, tuned_weaker}
 use Rattle.plan_runs.proofs.HeardFrames.{Nothing}
-use Rattle.stream_laws.proofs.Framing.{read_frame}
-use Rattle.stream_laws.proofs.Sending.{IsSentItem, IsHeadOf, frame_said}
+use Rattle.stream_laws.proofs.Sending.{IsSentItem}
 use Rattle.stream_laws.proofs.Agreeing.{sent_ext, one_heard}
-use Rattle.stream_laws.proofs.AgreeingRuns.{IsBetween, on_air}
-use Rattle.stream_laws.proofs.Noting.{ensemble_made}
-use Rattle.stream_laws.proofs.Named.{made_where_due}
-use Rattle.stream_laws.proofs.AgreeingFrames.{is_sent, not_sent}
+use Rattle.stream_laws.proofs.AgreeingRuns.{on_air}
 use Rattle.stream_laws.proofs.Findings.{Each, IsKnown}
-use Rattle.stream_laws.proofs.Ages.{FrameLaws}
 use Rattle.stream_laws.proofs.Clean.{said_ended}
+use Rattle.stream_laws.proofs.Opening.{said_settles, IsOpened, each_opened, Enters}
 
 -- ---- a known entry is not absent
 
@@ -116,83 +108,22 @@ members_settled step period on c n is_c is_n C awaited (i ∷ items) past l is h
     by known current true settled = ap (λ t. t && is_settled (known_of step period past)) (known settled current)
     by known current false settled = and_right (is_absent (lookup_in i.raw (listener_after past).current)) _ settled
 
--- what a listener knows in the current frame: if settled, all entries
-pub record Enters (period : ℕ) (r : Reading) (p : Program) (s : State) (past : List Moment) (C N : Raw → Type 0) : Type 0 where
-  pub heard : Listening
-  pub is : listening past ≡ Some heard
-  pub entered : InFrame p.plan (shown p s) C N (headed (ensemble_sent p.plan (shown p s)) heard)
-  pub whole : IsSettledAt period (said (frame_items (read_frame r p.plan.layout (frame_bytes p s))) past) → HasAll (shown p s).current C
-
-pub said_settles : (period : ℕ) (on : Bool) (c n : Configuration) (items : List Item) (past : List Moment) → AllByRecursion (IsSentItem on c n) items → settles_at period (said items past) ≡ settles_at period past
-said_settles period on c n [] past all = refl
-said_settles period on c n (i ∷ is) past all =
-    let s = all.0 in
-    let e : is_ensemble i ≡ false = ap (λ (x : Raw). x.ext == 0) s.raw ∙ sent_ext on c n s.m s.sent in
-    said_settles period on c n is (Said i ∷ past) all.1 ∙ sym (member_settles period past i e)
-
-pub frame_settled : FrameLaws → (r : Reading) (period : ℕ) (p : Program) (ts : List Known) → IsCode p ts → (s : State) → Holds p ts s → (past : List Moment) (C N : Raw → Type 0) → Enters period r p s past C N
-    → Each (IsKnown (count_step (layout_mode p.plan.layout)) period) past (frame_items (read_frame r p.plan.layout (frame_bytes p s)))
-frame_settled laws r period p ts c s holds past C N en =
+pub frame_settled : (period : ℕ) (p : Program) (ts : List Known) → IsCode p ts → (s : State) → Holds p ts s → (past : List Moment) (C N : Raw → Type 0) (made : Bool) (items : List Item) → IsOpened p.plan (shown p s) made past items
+    → Enters p s past C N → (IsSettledAt period (said items past) → HasAll (shown p s).current C) → Each (IsKnown (count_step (layout_mode p.plan.layout)) period) past items
+frame_settled period p ts c s holds past C N made items o en whole =
     let plan : Plan = p.plan in
     let u : State = shown p s in
     let step : ℕ = count_step (layout_mode plan.layout) in
-    let on_it : Bool = on_air plan u in
+    let on : Bool = on_air plan u in
     let a = airs p ts c s holds in
-    let fs = frame_said laws.one laws.heard r plan u a in
-    let frame : List Item = frame_items (read_frame r plan.layout (frame_bytes p s)) in
-    elim (zero_or_not (u.count % step)) [
-      | inl on ↦
-          let head = subst (λ (o : Option EnsembleInformation). IsHeadOf o fs.heads) (is_sent plan u on) fs.header in
-          let h : Item = head.0 in
-          let items : frame ≡ h ∷ fs.members = fs.are ∙ ap (λ hs. hs ++ fs.members) head.1 in
-          let f : InFrame plan u C N (at_ensemble (ensemble_of plan u) en.heard) = subst (λ (o : Option EnsembleInformation). InFrame plan u C N (headed o en.heard)) (is_sent plan u on) en.entered in
-          let is : listening (Said h ∷ past) ≡ Some (at_ensemble (ensemble_of plan u) en.heard) = ensemble_heard past h en.heard head.2 en.is ∙ ap (λ x. Some (at_ensemble x en.heard)) head.3 in
-          let known = tuned_weaker on_it u.current u.next C C N Nothing f.awaited (at_ensemble (ensemble_of plan u) en.heard) (λ x y. y) (λ x no_entry. absurd no_entry) f.knows in
-          let settles : settles_at period (said frame past) ≡ settles_at period (Said h ∷ past) = ap (λ is. settles_at period (said is past)) items ∙ said_settles period on_it u.current u.next fs.members (Said h ∷ past) fs.sent in
-          let rest = members_settled step period on_it u.current u.next a.current a.next C f.awaited fs.members (Said h ∷ past) (at_ensemble (ensemble_of plan u) en.heard) is known fs.sent
-          (λ settled. en.whole (ap (λ t. nat_le t (frames_ended (said frame past))) settles ∙ ap (nat_le (settles_at period (Said h ∷ past))) (said_ended frame past) ∙ settled)) in
-          subst (λ (is : List Item). Each (IsKnown step period) past is) (sym items) ((λ other. absurd (false≢true (sym other ∙ head.2))), rest)
-      | inr off ↦
-          let bare : fs.heads ≡ [] = subst (λ (o : Option EnsembleInformation). IsHeadOf o fs.heads) (not_sent plan u off) fs.header in
-          let items : frame ≡ fs.members = fs.are ∙ ap (λ hs. hs ++ fs.members) bare in
-          let f : InFrame plan u C N en.heard = subst (λ (o : Option EnsembleInformation). InFrame plan u C N (headed o en.heard)) (not_sent plan u off) en.entered in
-          let known = tuned_weaker on_it u.current u.next C C N Nothing f.awaited en.heard (λ x y. y) (λ x no_entry. absurd no_entry) f.knows in
-          let settles : settles_at period (said frame past) ≡ settles_at period past = ap (λ is. settles_at period (said is past)) items ∙ said_settles period on_it u.current u.next fs.members past fs.sent in
-          subst (λ (is : List Item). Each (IsKnown step period) past is) (sym items)
-          (members_settled step period on_it u.current u.next a.current a.next C f.awaited fs.members past en.heard en.is known fs.sent
-          (λ settled. en.whole (ap (λ t. nat_le t (frames_ended (said frame past))) settles ∙ ap (nat_le (settles_at period past)) (said_ended frame past) ∙ settled)))
-    ]
-
--- ---- when the current configuration is settled, one frame later
-
-pub headed_settles : FrameLaws → (r : Reading) (period : ℕ) (p : Program) (ts : List Known) → IsCode p ts → (s : State) → Holds p ts s → (past : List Moment) → (shown p s).count % count_step (layout_mode p.plan.layout) ≡ 0 → (b : Bool)
-    → ((h : Item) → is_ensemble h ≡ true → said_ensemble h ≡ ensemble_of p.plan (shown p s) → is_swap past h ≡ b)
-    → settles_at period (said (frame_items (read_frame r p.plan.layout (frame_bytes p s))) past) ≡ cond b (cond (is_cut_off past) (frames_ended past + period) 0) (settles_at period past)
-headed_settles laws r period p ts c s holds past on b swap =
-    let plan : Plan = p.plan in
-    let u : State = shown p s in
-    let fs = frame_said laws.one laws.heard r plan u (airs p ts c s holds) in
-    let head = subst (λ (o : Option EnsembleInformation). IsHeadOf o fs.heads) (is_sent plan u on) fs.header in
-    let items : frame_items (read_frame r plan.layout (frame_bytes p s)) ≡ head.0 ∷ fs.members = fs.are ∙ ap (λ hs. hs ++ fs.members) head.1 in
-    ap (λ is. settles_at period (said is past)) items
-    ∙ said_settles period (on_air plan u) u.current u.next fs.members (Said head.0 ∷ past) fs.sent
-    ∙ ap (λ t. cond t (cond (is_cut_off past) (frames_ended past + period) 0) (settles_at period past)) (swap head.0 head.2 head.3)
-
-pub swap_where_due : (p : Program) (ts : List Known) → IsCode p ts → (s : State) → Holds p ts s → (past : List Moment) → IsBetween p.plan past s → (b : Bool) → is_due s.left ≡ b → (h : Item) → is_ensemble h ≡ true
-    → said_ensemble h ≡ ensemble_of p.plan (shown p s) → is_swap past h ≡ b
-swap_where_due p ts c s holds past between b due h ens says =
-    ensemble_made past h ens ∙ ap (λ (x : Listening). is_made x.awaited (said_ensemble h)) (after_is past between.heard between.is) ∙ ap (is_made between.heard.awaited) says
-    ∙ made_where_due p ts c s holds past between ∙ due
-
-pub still_settles : FrameLaws → (r : Reading) (period : ℕ) (p : Program) (ts : List Known) → IsCode p ts → (s : State) → Holds p ts s → (past : List Moment) → IsBetween p.plan past s → is_due s.left ≡ false
-    → settles_at period (said (frame_items (read_frame r p.plan.layout (frame_bytes p s))) past) ≡ settles_at period past
-still_settles laws r period p ts c s holds past between due =
-    let plan : Plan = p.plan in
-    let u : State = shown p s in
-    let fs = frame_said laws.one laws.heard r plan u (airs p ts c s holds) in
-    elim (zero_or_not (u.count % count_step (layout_mode plan.layout))) [
-      | inl on ↦ headed_settles laws r period p ts c s holds past on false (swap_where_due p ts c s holds past between false due)
-      | inr off ↦
-          let bare : fs.heads ≡ [] = subst (λ (o : Option EnsembleInformation). IsHeadOf o fs.heads) (not_sent plan u off) fs.header in
-          ap (λ is. settles_at period (said is past)) (fs.are ∙ ap (λ hs. hs ++ fs.members) bare) ∙ said_settles period (on_air plan u) u.current u.next fs.members past fs.sent
-    ]
+    let f = en.entered in
+    let l : Listening = headed (ensemble_sent plan u) en.heard in
+    let known = tuned_weaker on u.current u.next C C N Nothing f.awaited l (λ x y. y) (λ x no_entry. absurd no_entry) f.knows in
+    each_opened (IsKnown step period) plan u made past items o (λ i ens says other. absurd (false≢true (sym other ∙ ens)))
+    (members_settled step period on u.current u.next a.current a.next C f.awaited o.members (said o.heads past) l (o.hears en.heard en.is).0 known o.sent
+    (λ settled. whole (subst (IsSettledAt period) (sym o.are) (stays settled))))
+  where
+    stays : IsSettledAt period (said o.heads past) → IsSettledAt period (said o.members (said o.heads past))
+    stays settled =
+        ap (λ t. nat_le t (frames_ended (said o.members (said o.heads past)))) (said_settles period o.members (said o.heads past) o.none)
+        ∙ ap (nat_le (settles_at period (said o.heads past))) (said_ended o.members (said o.heads past)) ∙ settled

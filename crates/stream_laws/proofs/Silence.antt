@@ -1,34 +1,30 @@
 -- In the frames of a run no entry of the current configuration is silent.
-use Rattle.std.proofs.Common.{◌≡◌, ℕ, ◌+◌, ◌≤◌, Bool, false, List, ◌++◌, Contains, ap, subst, arith, inl, inr}
+use Rattle.std.proofs.Common.{◌≡◌, ℕ, ◌+◌, ◌≤◌, false, List, ◌++◌, Contains, ap, subst, arith, inl, inr}
 use Rattle.std.specs.Prelude.{map}
 use Rattle.std.proofs.lemmas.Bool.{ne_eqb}
 use Rattle.mux_config.specs.Configuration.{Configuration}
 use Rattle.mux_types.specs.declared.entry.Entry.{Entry}
 use Rattle.mux_types.specs.Facts.{Marked, marked, facts_of, sub_entry, sub_entries, service_entry, service_entries, packet_entry}
-use Rattle.fib_carousel.specs.Pages.{rounds}
 use Rattle.fib_reader.specs.Raw.{Raw, raw_entry}
 use Rattle.fib_reader.specs.Listening.{Pictured, Listening, all_entries}
 use Rattle.stream_check.specs.Frames.{Reading}
 use Rattle.stream_check.specs.Pictures.{key_of}
-use Rattle.stream_check.specs.History.{Moment, said, frame_items, frames_ended, listener_after, last_heard}
+use Rattle.stream_check.specs.History.{Moment, said, frames_ended, listener_after, last_heard}
 use Rattle.stream_check.specs.Rules.{is_silent}
 use Rattle.stream_check.proofs.Members.{after_is}
 use Rattle.plan_code.specs.declared.plan.Plan.{Plan}
 use Rattle.plan_code.specs.Program.{Program}
 use Rattle.plan_code.specs.Machine.{State}
-use Rattle.plan_verifier.specs.Typing.{Known}
-use Rattle.plan_runs.specs.declared.event.Event.TheVariants.{Contact}
-use Rattle.plan_runs.specs.Frames.{frame_bytes, after_frame}
-use Rattle.plan_runs.specs.Runs.{happens}
-use Rattle.plan_runs.proofs.Facts.{Holds, IsCode}
+use Rattle.plan_runs.specs.Frames.{after_frame}
 use Rattle.plan_runs.proofs.Parts.{In, IsPart}
 use Rattle.plan_runs.proofs.Pictures.{whole_of, IsPartial, entries_of, in_append, in_contains, in_fact, in_first, in_second, said_by}
 use Rattle.plan_runs.proofs.HeardFrames.{Nothing, current_part}
 use Rattle.stream_laws.specs.Sorts.{IsLongFor}
-use Rattle.stream_laws.proofs.Framing.{read_frame}
-use Rattle.stream_laws.proofs.AgreeingFrames.{agrees_by, before_of}
-use Rattle.stream_laws.proofs.Ages.{comes_in, FrameLaws, AreAged, IsAging, ages}
 use Rattle.stream_laws.proofs.LookedUp.{in_full}
+use Rattle.stream_laws.proofs.Opening.{FrameLaws, items_at, past_after}
+use Rattle.stream_laws.proofs.Turning.{comes_some, Turns}
+use Rattle.stream_laws.proofs.Ages.{IsAged}
+use Rattle.stream_laws.proofs.AgreeingRuns.{IsBetween}
 
 -- ---- the entries of a picture are those of the configuration
 
@@ -50,40 +46,20 @@ entry_of c C p x h inside = elim (in_append x (p.subs ++ p.services) p.packets i
 -- ---- none is silent
 
 -- at the end of a frame, given the ages after it
-pub none_silent : FrameLaws → (r : Reading) (period : ℕ) (p : Program) (ts : List Known) → IsCode p ts → (s : State) → Holds p ts s → (past : List Moment) → IsAging p.plan past s → IsLongFor p period → (x : Raw)
-    → In x (all_entries (listener_after (said (frame_items (read_frame r p.plan.layout (frame_bytes p s))) past)).current)
-    → is_silent period (said (frame_items (read_frame r p.plan.layout (frame_bytes p s))) past) x ≡ false
-none_silent laws r period p ts c s holds past aging long x inside =
+pub none_silent : FrameLaws → (r : Reading) (period : ℕ) (p : Program) (s : State) (past : List Moment) → IsBetween p.plan (past_after r p s past) (after_frame p s)
+    → (g : Turns p.plan (after_frame p s)) → IsAged p.plan (past_after r p s past) (after_frame p s) g → IsLongFor p period → (x : Raw) → In x (all_entries (listener_after (said (items_at r p s) past)).current)
+    → is_silent period (said (items_at r p s) past) x ≡ false
+none_silent laws r period p s past b g aged long x inside =
     let plan : Plan = p.plan in
     let t : State = after_frame p s in
-    let later : List Moment = said (frame_items (read_frame r plan.layout (frame_bytes p s))) past in
-    let b = (agrees_by laws.one laws.heard r period p ts c s holds past (before_of plan past s aging)).after in
-    let g = ages laws r period p ts c s holds past aging in
-    let same : listener_after later ≡ b.heard = after_is later b.heard b.is in
+    let later : List Moment = said (items_at r p s) past in
     let part : IsPartial (whole_of t.current) Nothing b.heard.current = current_part plan t.left t.current t.next t.count Nothing Nothing b.heard b.knows in
-    let here : In x (all_entries b.heard.current) = subst (λ (l : Listening). In x (all_entries l.current)) same inside in
+    let here : In x (all_entries b.heard.current) = subst (λ (l : Listening). In x (all_entries l.current)) (after_is later b.heard b.is) inside in
     let it = entry_of t.current Nothing b.heard.current x part here in
     let m : Marked = marked false it.0 in
     let mine : Contains (facts_of t.current false) m = in_contains (facts_of t.current false) m (in_fact false (entries_of t.current) it.0 it.2) in
-    let there = laws.heard.pages.each plan.layout g.ms m (g.has m mine) in
-    let way = comes_in (rounds plan.layout g.ms) g.page_index there.0 g.below there.1 in
-    let aged : frames_ended later + 1 + way.0 ≤ last_heard (key_of (raw_entry it.0)) later + g.bound = g.aged m mine there.0 there.1 there.2 way.0 way.1 in
+    let way = comes_some laws.heard.pages plan t.current g.ms g.page_index g.below m mine (g.has m mine) in
+    let since : frames_ended later + 1 + way.0 ≤ last_heard (key_of (raw_entry it.0)) later + g.bound = aged.1 m way.0 way.1 in
     let bound = g.to in
     let keys : last_heard (key_of (raw_entry it.0)) later ≡ last_heard (key_of x) later = ap (λ (y : Raw). last_heard (key_of y) later) it.1 in
-    ne_eqb (last_heard (key_of x) later + period) (frames_ended later + 1) (λ e. omega (arith, e, keys, aged, bound, long))
-
--- contacts between two frames change no age
-pub ages_contact : (p : Program) (past : List Moment) (s : State) (d : ℕ) (closed : Bool) → AreAged p.plan past s → AreAged p.plan past (happens p s (Contact d closed))
-ages_contact p past s d closed g = record {
-  ms = g.ms;
-  page_index = g.page_index;
-  bound = g.bound;
-  goes = record { sent = g.goes.sent; turn_is = g.goes.turn_is };
-  few = g.few;
-  below = g.below;
-  has = g.has;
-  from = g.from;
-  to = g.to;
-  outside = g.outside;
-  aged = g.aged;
-}
+    ne_eqb (last_heard (key_of x) later + period) (frames_ended later + 1) (λ e. omega (arith, e, keys, since, bound, long))

@@ -10,7 +10,7 @@ use Rattle.stream_check.specs.Rules.{known_of, occurrence_of, has_flags, announc
 use Rattle.stream_check.proofs.Members.{no_swap, member_has_begun, member_began_early, member_flags, member_times}
 use Rattle.stream_laws.proofs.Clean.{IsClean}
 use Rattle.stream_laws.proofs.Kept.{first_holds, second_holds, next_kept}
-use Rattle.stream_laws.proofs.Noting.{awaited_member, after_heard, ensemble_made, ensemble_flags, begun_is, times_are, flags_are, IsPlainEnsemble, plain_ensemble, some_flags, occurrence_is, not_another, nothing_awaited}
+use Rattle.stream_laws.proofs.Noting.{awaited_member, after_heard, ensemble_made, ensemble_flags, begun_is, times_are, flags_are, IsPlainEnsemble, plain_ensemble, some_flags, occurrence_is, not_another, nothing_awaited, begun_flagged}
 use Rattle.stream_laws.proofs.Rows.{at_hand, notice_rows, HasNone, none_at_hand}
 use Rattle.mux_types.proofs.Tables.{each_pushed}
 use Rattle.plan_runs.proofs.Passing.{some_is}
@@ -149,7 +149,7 @@ flagged_tracked step period past i b c e hand sw fl t =
     let f : has_flags (ensemble_of i) ≡ true = sym (ensemble_flags i e) ∙ fl in
     let low : ℕ = get_or i.raw.bytes 4 0 in
     let rules = plain_ensemble step period past i c e in
-    let begun : has_begun (Said i ∷ past) ≡ true = begun_is past i b true e sw fl ∙ now b (has_begun past) in
+    let begun : has_begun (Said i ∷ past) ≡ true = begun_flagged past i b e sw fl in
     let awaits : (listener_after (Said i ∷ past)).awaited ≡ Some low = ap (λ (l : Listening). l.awaited) (after_heard step period past i b true c e sw fl) ∙ occurrence_is i f in
     let flags : last_flags (Said i ∷ past) ≡ (ensemble_of i).change = flags_are past i true fl in
     record {
@@ -169,11 +169,6 @@ flagged_tracked step period past i b c e hand sw fl t =
           };
     }
   where
-    now : (b x : Bool) → cond b true (x || true) ≡ true
-    now true x = refl
-    now false true = refl
-    now false false = refl
-
     either : (d : Bool) → is_swap past i ≡ d → has_flags (ensemble_of i) ≡ true → IsPlainEnsemble (known_of step period past) i.first (ensemble_of i)
         → AllByRecursion (AllAnnounce (ensemble_of i).change (get_or i.raw.bytes 4 0)) (cond d [] (notice_rows past))
     either true s f rules = tt
